@@ -1,5 +1,5 @@
 -- A log is a list of exchanges, the oldest first. What an exchange of it is.
-use Rattle.std.specs.Prelude.{Bool, true, false, ◌||◌, ◌&&◌, Option, None, Some}
+use Rattle.std.specs.Prelude.{Bool, true, false, ◌||◌, ◌&&◌, if◌then◌else◌, Option, None, Some, is_some}
 use Rattle.vdcp_words.specs.declared.command.Command.{Command}
 use Rattle.vdcp_words.specs.declared.reply.Reply.{Reply}
 use Rattle.vdcp_auto.specs.declared.exchange.Exchange.{Exchange}
@@ -15,9 +15,16 @@ abbrev pub hears : (Reply → Bool) → Option Heard → Bool
 hears kind (Some (heard.Reply r)) = kind r
 hears kind _ = false
 
--- answered: NAK 01 came, or a reply that fits the command
+-- the reply that answers a command: NAK 01, or one that fits the command
+abbrev pub answer_to : Command → Option Heard → Option Reply
+answer_to c (Some (heard.Reply r)) = if is_refusal r || fits c r then Some r else None
+answer_to c _ = None
+
+abbrev pub answer_in : Exchange → Option Reply
+answer_in e = answer_to e.command e.heard
+
 abbrev pub is_answered : Exchange → Bool
-is_answered e = hears (λ r. is_refusal r || fits e.command r) e.heard
+is_answered e = is_some (answer_in e)
 
 -- heard ACK
 abbrev pub is_acked : Exchange → Bool

@@ -2,6 +2,7 @@
 use Rattle.std.specs.Prelude.{ℕ, ◌+◌, Bool, true, false, not, ◌&&◌, nat_le, if◌then◌else◌, Option, None, Some}
 use Rattle.std.specs.Option.{option_map_or}
 use Rattle.vdcp_words.specs.declared.command.Command.{Command}
+use Rattle.vdcp_words.specs.declared.reply.Reply.{Reply}
 use Rattle.vdcp_auto.specs.declared.exchange.Exchange.{Exchange}
 use Rattle.vdcp_auto.specs.declared.exchange.Heard.{Heard}
 use Rattle.vdcp_auto.specs.declared.exchange.Heard.TheVariants as heard
@@ -18,7 +19,7 @@ use Rattle.vdcp_auto.specs.declared.phase.Turn.{Turn}
 use Rattle.vdcp_auto.specs.declared.phase.Turn.TheVariants.{Goes, Settles, Retries, Ends}
 use Rattle.vdcp_auto.specs.Replies.{is_receipt, is_refusal}
 use Rattle.vdcp_auto.specs.Commands.{is_sense}
-use Rattle.vdcp_auto.specs.Log.{is_answered, is_counted}
+use Rattle.vdcp_auto.specs.Log.{answer_in, is_answered, is_counted}
 use Rattle.vdcp_auto.specs.Plan.{Plan}
 use Rattle.vdcp_auto.specs.Table.{command_in, on_reply, on_refusal, on_silence, can_stop}
 
@@ -80,18 +81,21 @@ is_end Confirming c None = true
 is_end Confirming c (Some heard.Other) = is_sense c
 is_end Confirming c (Some (heard.Reply r)) = is_sense c && not (is_receipt r)
 
-abbrev pub on_answer : Plan → Bool → ℕ → Phase → Option Heard → Turn
-on_answer plan take tries p (Some (heard.Reply r)) = if is_refusal r then on_refusal plan p else on_reply plan take tries p r
-on_answer plan take tries p _ = on_silence plan.mode p
+-- where the reply that answers an exchange leads
+abbrev pub on_answer : Plan → Bool → ℕ → Phase → Reply → Turn
+on_answer plan take tries p r = if is_refusal r then on_refusal plan p else on_reply plan take tries p r
 
--- one more in a row: the limit goes before what the phase does
-abbrev pub on_unanswered : Plan → ℕ → Phase → Bool → Turn
-on_unanswered plan unanswered p counts = if counts && nat_le plan.limit (unanswered + 1) then Ends Lost else on_silence plan.mode p
+-- where an unanswered exchange leads, one more in a row if it counts: the limit goes first
+abbrev pub on_unanswered : Plan → ℕ → Bool → Phase → Turn
+on_unanswered plan unanswered counts p = if counts && nat_le plan.limit (unanswered + 1) then Ends Lost else on_silence plan.mode p
+
+abbrev pub turn_on : Plan → Bool → ℕ → ℕ → Bool → Phase → Option Reply → Turn
+turn_on plan take tries unanswered counts p (Some r) = on_answer plan take tries p r
+turn_on plan take tries unanswered counts p None = on_unanswered plan unanswered counts p
 
 -- where an exchange leads
-abbrev pub turn_of : Plan → Bool → ℕ → ℕ → Phase → Exchange → Turn
-turn_of plan take tries unanswered p e =
-    if is_answered e then on_answer plan take tries p e.heard else on_unanswered plan unanswered p (is_counted plan.mode e)
+abbrev pub turn_of : Plan → State → Phase → Exchange → Turn
+turn_of plan state p e = turn_on plan state.take state.tries state.unanswered (is_counted plan.mode e) p (answer_in e)
 
 abbrev pub stage_after : Turn → Stage
 stage_after (Goes p) = Running p
@@ -125,8 +129,7 @@ turned turn unanswered state =
     }
 
 abbrev pub ended_in : Plan → Stage → Exchange → State → State
-ended_in plan (Running p) e state =
-    turned (turn_of plan state.take state.tries state.unanswered p e) (unanswered_after plan.mode e state.unanswered) state
+ended_in plan (Running p) e state = turned (turn_of plan state p e) (unanswered_after plan.mode e state.unanswered) state
 ended_in plan (Ended outcome) e state = state
 
 abbrev pub exchange_of : Mode → Option Heard → Option Command → Option Exchange

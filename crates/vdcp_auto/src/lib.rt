@@ -7,12 +7,14 @@
 //! `stop`. `rehearse` runs a controller over a list of inputs.
 #![tactic(auto)]
 
+mod controller;
 mod exchange;
 mod outcome;
 mod phase;
 mod source;
 mod words;
 
+pub use controller::Controller;
 pub use exchange::{Exchange, Heard, Input};
 pub use outcome::Outcome;
 pub use source::Source;
