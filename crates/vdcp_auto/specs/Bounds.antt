@@ -24,7 +24,7 @@ IsTurnOf n limit tries (Settles k) = k < n
 IsTurnOf n limit tries (Retries k) = (k < n) × (tries + 1 < limit)
 IsTurnOf n limit tries (Ends outcome) = Unit {0}
 
--- a controller that goes on is in such a phase, and its counts are below the limit
-abbrev pub IsStageOf : ℕ → ℕ → ℕ → ℕ → Stage → Type 0
-IsStageOf n limit unanswered tries (Running p) = IsPhaseOf n p × (unanswered < limit) × (tries < limit)
-IsStageOf n limit unanswered tries (Ended outcome) = Unit {0}
+-- a controller that goes on is in such a phase, and fewer exchanges in a row than the limit are unanswered
+abbrev pub IsStageOf : ℕ → ℕ → ℕ → Stage → Type 0
+IsStageOf n limit unanswered (Running p) = IsPhaseOf n p × (unanswered < limit)
+IsStageOf n limit unanswered (Ended outcome) = Unit {0}

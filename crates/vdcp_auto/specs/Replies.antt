@@ -40,6 +40,10 @@ has_off weight _ = false
 abbrev pub is_done : Reply → Bool
 is_done r = has_on 128 r
 
+-- bit 1: something is being cued
+abbrev pub is_cueing : Reply → Bool
+is_cueing r = has_on 2 r
+
 -- bit 2: a clip plays
 abbrev pub is_playing : Reply → Bool
 is_playing r = has_on 4 r

@@ -16,7 +16,7 @@ use Rattle.vdcp_auto.specs.declared.phase.Phase.{Phase}
 use Rattle.vdcp_auto.specs.declared.phase.Phase.TheVariants as phase
 use Rattle.vdcp_auto.specs.declared.phase.Turn.{Turn}
 use Rattle.vdcp_auto.specs.declared.phase.Turn.TheVariants.{Goes, Settles, Retries, Ends}
-use Rattle.vdcp_auto.specs.Replies.{is_granted, is_present, is_done, is_playing, is_empty, has_on}
+use Rattle.vdcp_auto.specs.Replies.{is_granted, is_present, is_cueing, is_done, is_playing, is_empty}
 use Rattle.vdcp_auto.specs.Commands.{cue_of}
 use Rattle.vdcp_auto.specs.Plan.{Plan}
 
@@ -70,7 +70,7 @@ on_reply plan take tries (phase.Probe k) r =
 on_reply plan take tries (phase.Check k) r =
     if names_other (slice_get plan.list k) r then Ends (Foreign k) else Goes (next plan.list (k + 1))
 on_reply plan take tries phase.Drain r =
-    if has_on 2 r || has_on 128 r then Ends (Strange (length plan.list))
+    if is_cueing r || is_done r then Ends (Strange (length plan.list))
     else (if is_playing r then Goes phase.Drain else Goes phase.Close)
 on_reply plan take tries phase.Close r = Ends Done
 on_reply plan take tries phase.Halt r = Goes phase.HaltClose

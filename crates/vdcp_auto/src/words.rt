@@ -74,6 +74,12 @@ pub fn is_playing(reply: &Reply) -> bool
     has_on(PLAYING, reply)
 }
 
+pub fn is_cueing(reply: &Reply) -> bool
+    ensures { result ≡ replies.is_cueing reply.now }
+{
+    has_on(CUEING, reply)
+}
+
 /// Nothing is cued, nor being cued.
 pub fn is_empty(reply: &Reply) -> bool
     ensures { result ≡ replies.is_empty reply.now }
