@@ -313,15 +313,25 @@ impl<S: Source> Controller<S> {
             None if counts => self.state.unanswered + 1,
             Some(_) | None => self.state.unanswered,
         };
-        self.state = State {
-            stage: stage_after(turn),
-            awaiting: false,
-            take: self.state.take,
-            stop: self.state.stop,
-            unanswered,
-            settled: settled_after(turn, self.state.settled),
-            tries: tries_after(turn, self.state.tries),
-        };
+        self.state.awaiting = false;
+        self.state.unanswered = unanswered;
+        match turn {
+            Turn::Goes(next) => {
+                self.state.stage = Stage::Running(next);
+                if let Phase::Exists(_) = next {
+                    self.state.tries = 0;
+                }
+            }
+            Turn::Settles(k) => {
+                self.state.stage = Stage::Running(Phase::Check(k));
+                self.state.settled = k + 1;
+            }
+            Turn::Retries(k) => {
+                self.state.stage = Stage::Running(Phase::Cue(k));
+                self.state.tries += 1;
+            }
+            Turn::Ends(outcome) => self.state.stage = Stage::Ended(outcome),
+        }
     }
 
     /// Takes what came, or None for a time-out, and gives the exchange that it ended. Nothing changes
@@ -392,15 +402,12 @@ impl<S: Source> Controller<S> {
         }
         let phase = if self.state.stop { Phase::Halt } else { current };
         let command = self.command_in(phase);
-        self.state = State {
-            stage: Stage::Running(phase),
-            awaiting: true,
-            take: take_after_sending(phase, self.state.take),
-            stop: false,
-            unanswered: self.state.unanswered,
-            settled: self.state.settled,
-            tries: self.state.tries,
-        };
+        self.state.stage = Stage::Running(phase);
+        self.state.awaiting = true;
+        self.state.stop = false;
+        if let Phase::Play(_) = phase {
+            self.state.take = false;
+        }
         Some(command)
     }
 }
@@ -464,46 +471,5 @@ fn can_stop(phase: Phase) -> bool
         | Phase::Probe(_)
         | Phase::Check(_)
         | Phase::Drain => true,
-    }
-}
-
-/// Sending PLAY clears the wish to take.
-fn take_after_sending(phase: Phase, take: bool) -> bool
-    ensures { result ≡ turns.take_after_sending phase take }
-{
-    take && !matches!(phase, Phase::Play(_))
-}
-
-fn stage_after(turn: Turn) -> Stage
-    ensures { result ≡ turns.stage_after turn }
-{
-    match turn {
-        Turn::Goes(phase) => Stage::Running(phase),
-        Turn::Settles(k) => Stage::Running(Phase::Check(k)),
-        Turn::Retries(k) => Stage::Running(Phase::Cue(k)),
-        Turn::Ends(outcome) => Stage::Ended(outcome),
-    }
-}
-
-/// How many events are settled after the turns.
-fn settled_after(turn: Turn, settled: usize) -> usize
-    requires { IsTurnOf (2 ^ 64 - 1) (2 ^ 32) 0 turn }
-    ensures { result ≡ turns.settled_after turn settled }
-{
-    match turn {
-        Turn::Settles(k) => k + 1,
-        Turn::Goes(_) | Turn::Retries(_) | Turn::Ends(_) => settled,
-    }
-}
-
-/// How often this event's cue was lost, after the turns.
-fn tries_after(turn: Turn, tries: u32) -> u32
-    requires { IsTurnOf (2 ^ 64 - 1) (2 ^ 32) tries turn }
-    ensures { result ≡ turns.tries_after turn tries }
-{
-    match turn {
-        Turn::Goes(Phase::Exists(_)) => 0,
-        Turn::Retries(_) => tries + 1,
-        Turn::Goes(_) | Turn::Settles(_) | Turn::Ends(_) => tries,
     }
 }

@@ -11,10 +11,12 @@ mod controller;
 mod exchange;
 mod outcome;
 mod phase;
+mod rehearsal;
 mod source;
 mod words;
 
 pub use controller::Controller;
 pub use exchange::{Exchange, Heard, Input};
 pub use outcome::Outcome;
+pub use rehearsal::{rehearse, rehearse_confirming};
 pub use source::Source;
