@@ -18,23 +18,22 @@ use Rattle.vdcp_auto.specs.declared.phase.Turn.{Turn}
 use Rattle.vdcp_auto.specs.declared.phase.Turn.TheVariants.{Goes, Settles, Retries, Ends}
 use Rattle.vdcp_auto.specs.Replies.{is_granted, is_present, is_cueing, is_done, is_playing, is_empty}
 use Rattle.vdcp_auto.specs.Commands.{cue_of}
-use Rattle.vdcp_auto.specs.Plan.{Plan}
 
 -- what a phase sends; nothing for an event that the list doesn't have
-abbrev pub command_in : Plan → Phase → Option Command
-command_in plan phase.Open = Some (command.Open plan.port 1)
-command_in plan phase.Select = Some (command.Select plan.port)
-command_in plan phase.Seen = Some (command.Status 1)
-command_in plan (phase.Exists k) = option_map (λ item. command.IdRequest item.id) (slice_get plan.list k)
-command_in plan (phase.Cue k) = option_map cue_of (slice_get plan.list k)
-command_in plan (phase.Wait k) = Some (command.Status 1)
-command_in plan (phase.Play k) = Some command.Play
-command_in plan (phase.Probe k) = Some (command.Status 1)
-command_in plan (phase.Check k) = Some command.ActiveId
-command_in plan phase.Drain = Some (command.Status 1)
-command_in plan phase.Close = Some (command.Close plan.port)
-command_in plan phase.Halt = Some command.Stop
-command_in plan phase.HaltClose = Some (command.Close plan.port)
+abbrev pub command_in : List Item → ℕ → Phase → Option Command
+command_in list port phase.Open = Some (command.Open port 1)
+command_in list port phase.Select = Some (command.Select port)
+command_in list port phase.Seen = Some (command.Status 1)
+command_in list port (phase.Exists k) = option_map (λ item. command.IdRequest item.id) (slice_get list k)
+command_in list port (phase.Cue k) = option_map cue_of (slice_get list k)
+command_in list port (phase.Wait k) = Some (command.Status 1)
+command_in list port (phase.Play k) = Some command.Play
+command_in list port (phase.Probe k) = Some (command.Status 1)
+command_in list port (phase.Check k) = Some command.ActiveId
+command_in list port phase.Drain = Some (command.Status 1)
+command_in list port phase.Close = Some (command.Close port)
+command_in list port phase.Halt = Some command.Stop
+command_in list port phase.HaltClose = Some (command.Close port)
 
 -- the phase for event k, or Drain where there is none
 abbrev pub next : List Item → ℕ → Phase
@@ -55,42 +54,42 @@ on_lost_cue Plain limit tries k = Ends (Strange k)
 on_lost_cue Confirming limit tries k = if nat_lt (tries + 1) limit then Retries k else Ends (Refused k)
 
 -- where a reply leads that fits the phase's command. The wish to take and the tries count in Wait
-abbrev pub on_reply : Plan → Bool → ℕ → Phase → Reply → Turn
-on_reply plan take tries phase.Open r = if is_granted r then Goes phase.Select else Ends Denied
-on_reply plan take tries phase.Select r = Goes (next plan.list 0)
-on_reply plan take tries phase.Seen r = Goes (next plan.list 0)
-on_reply plan take tries (phase.Exists k) r = if is_present r then Goes (phase.Cue k) else Ends (Missing k)
-on_reply plan take tries (phase.Cue k) r = Goes (phase.Wait k)
-on_reply plan take tries (phase.Wait k) r =
+abbrev pub on_reply : Mode → List Item → ℕ → Bool → ℕ → Phase → Reply → Turn
+on_reply mode list limit take tries phase.Open r = if is_granted r then Goes phase.Select else Ends Denied
+on_reply mode list limit take tries phase.Select r = Goes (next list 0)
+on_reply mode list limit take tries phase.Seen r = Goes (next list 0)
+on_reply mode list limit take tries (phase.Exists k) r = if is_present r then Goes (phase.Cue k) else Ends (Missing k)
+on_reply mode list limit take tries (phase.Cue k) r = Goes (phase.Wait k)
+on_reply mode list limit take tries (phase.Wait k) r =
     if is_done r && (not (is_playing r) || take) then Goes (phase.Play k)
-    else (if is_empty r then on_lost_cue plan.mode plan.limit tries k else Goes (phase.Wait k))
-on_reply plan take tries (phase.Play k) r = Settles k
-on_reply plan take tries (phase.Probe k) r =
+    else (if is_empty r then on_lost_cue mode limit tries k else Goes (phase.Wait k))
+on_reply mode list limit take tries (phase.Play k) r = Settles k
+on_reply mode list limit take tries (phase.Probe k) r =
     if is_done r then Goes (phase.Play k) else (if is_empty r then Settles k else Goes (phase.Probe k))
-on_reply plan take tries (phase.Check k) r =
-    if names_other (slice_get plan.list k) r then Ends (Foreign k) else Goes (next plan.list (k + 1))
-on_reply plan take tries phase.Drain r =
-    if is_cueing r || is_done r then Ends (Strange (length plan.list))
+on_reply mode list limit take tries (phase.Check k) r =
+    if names_other (slice_get list k) r then Ends (Foreign k) else Goes (next list (k + 1))
+on_reply mode list limit take tries phase.Drain r =
+    if is_cueing r || is_done r then Ends (Strange (length list))
     else (if is_playing r then Goes phase.Drain else Goes phase.Close)
-on_reply plan take tries phase.Close r = Ends Done
-on_reply plan take tries phase.Halt r = Goes phase.HaltClose
-on_reply plan take tries phase.HaltClose r = Ends Stopped
+on_reply mode list limit take tries phase.Close r = Ends Done
+on_reply mode list limit take tries phase.Halt r = Goes phase.HaltClose
+on_reply mode list limit take tries phase.HaltClose r = Ends Stopped
 
--- where NAK 01 leads
-abbrev pub on_refusal : Plan → Phase → Turn
-on_refusal plan phase.Open = Ends Denied
-on_refusal plan phase.Select = Ends Denied
-on_refusal plan phase.Seen = Ends Denied
-on_refusal plan (phase.Exists k) = Ends (Refused k)
-on_refusal plan (phase.Cue k) = Ends (Refused k)
-on_refusal plan (phase.Wait k) = Ends (Refused k)
-on_refusal plan (phase.Play k) = Ends (Refused k)
-on_refusal plan (phase.Probe k) = Ends (Refused k)
-on_refusal plan (phase.Check k) = Ends (Refused k)
-on_refusal plan phase.Drain = Ends (Refused (length plan.list))
-on_refusal plan phase.Close = Ends Done
-on_refusal plan phase.Halt = Goes phase.HaltClose
-on_refusal plan phase.HaltClose = Ends Stopped
+-- where NAK 01 leads, for a list of n items
+abbrev pub on_refusal : ℕ → Phase → Turn
+on_refusal n phase.Open = Ends Denied
+on_refusal n phase.Select = Ends Denied
+on_refusal n phase.Seen = Ends Denied
+on_refusal n (phase.Exists k) = Ends (Refused k)
+on_refusal n (phase.Cue k) = Ends (Refused k)
+on_refusal n (phase.Wait k) = Ends (Refused k)
+on_refusal n (phase.Play k) = Ends (Refused k)
+on_refusal n (phase.Probe k) = Ends (Refused k)
+on_refusal n (phase.Check k) = Ends (Refused k)
+on_refusal n phase.Drain = Ends (Refused n)
+on_refusal n phase.Close = Ends Done
+on_refusal n phase.Halt = Goes phase.HaltClose
+on_refusal n phase.HaltClose = Ends Stopped
 
 -- where an unanswered exchange leads, short of the limit. In confirm mode the time-out is the end of
 -- each command that only a receipt answers

@@ -1,6 +1,7 @@
 -- The controller's turn: what each call does to a controller.
-use Rattle.std.specs.Prelude.{ℕ, ◌+◌, Bool, true, false, not, ◌&&◌, nat_le, if◌then◌else◌, Option, None, Some}
+use Rattle.std.specs.Prelude.{ℕ, ◌+◌, Bool, true, false, not, ◌&&◌, nat_le, if◌then◌else◌, Option, None, Some, List, length}
 use Rattle.std.specs.Option.{option_map_or}
+use Rattle.vdcp_value.specs.declared.part.Item.{Item}
 use Rattle.vdcp_words.specs.declared.command.Command.{Command}
 use Rattle.vdcp_words.specs.declared.reply.Reply.{Reply}
 use Rattle.vdcp_auto.specs.declared.exchange.Exchange.{Exchange}
@@ -59,7 +60,7 @@ abbrev pub ticked : State → State
 ticked state = tick_in state.awaiting state.stage state
 
 abbrev pub awaited_in : Plan → Bool → Stage → Option Command
-awaited_in plan true (Running p) = command_in plan p
+awaited_in plan true (Running p) = command_in plan.list plan.port p
 awaited_in plan true (Ended outcome) = None
 awaited_in plan false stage = None
 
@@ -82,16 +83,16 @@ is_end Confirming c (Some heard.Other) = is_sense c
 is_end Confirming c (Some (heard.Reply r)) = is_sense c && not (is_receipt r)
 
 -- where the reply that answers an exchange leads
-abbrev pub on_answer : Plan → Bool → ℕ → Phase → Reply → Turn
-on_answer plan take tries p r = if is_refusal r then on_refusal plan p else on_reply plan take tries p r
+abbrev pub on_answer : Mode → List Item → ℕ → Bool → ℕ → Phase → Reply → Turn
+on_answer mode list limit take tries p r = if is_refusal r then on_refusal (length list) p else on_reply mode list limit take tries p r
 
 -- where an unanswered exchange leads, one more in a row if it counts: the limit goes first
-abbrev pub on_unanswered : Plan → ℕ → Bool → Phase → Turn
-on_unanswered plan unanswered counts p = if counts && nat_le plan.limit (unanswered + 1) then Ends Lost else on_silence plan.mode p
+abbrev pub on_unanswered : Mode → ℕ → ℕ → Bool → Phase → Turn
+on_unanswered mode limit unanswered counts p = if counts && nat_le limit (unanswered + 1) then Ends Lost else on_silence mode p
 
 abbrev pub turn_on : Plan → Bool → ℕ → ℕ → Bool → Phase → Option Reply → Turn
-turn_on plan take tries unanswered counts p (Some r) = on_answer plan take tries p r
-turn_on plan take tries unanswered counts p None = on_unanswered plan unanswered counts p
+turn_on plan take tries unanswered counts p (Some r) = on_answer plan.mode plan.list plan.limit take tries p r
+turn_on plan take tries unanswered counts p None = on_unanswered plan.mode plan.limit unanswered counts p
 
 -- where an exchange leads
 abbrev pub turn_of : Plan → State → Phase → Exchange → Turn

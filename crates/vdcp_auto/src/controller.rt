@@ -146,7 +146,7 @@ impl<S: Source> Controller<S> {
     /// What the phase sends.
     fn command_in(&self, phase: Phase) -> Command
         requires { IsPhaseOf (length (S.items self.now.source)) phase }
-        ensures { table.command_in (plan_of S.items self.now) phase ≡ Some result }
+        ensures { table.command_in (S.items self.now.source) self.now.port phase ≡ Some result }
     {
         match phase {
             Phase::Open => Command::Open(self.port, LOCK),
@@ -193,7 +193,7 @@ impl<S: Source> Controller<S> {
     /// Where a state leads in Wait(k).
     fn on_state_in_wait(&self, k: usize, reply: &Reply) -> Turn
         requires { k < length (S.items self.now.source) }
-        ensures turn { result ≡ table.on_reply (plan_of S.items self.now) self.now.state.take self.now.state.tries (Phase.Wait k) reply.now }
+        ensures turn { result ≡ table.on_reply self.now.mode (S.items self.now.source) self.now.limit self.now.state.take self.now.state.tries (Phase.Wait k) reply.now }
         ensures within { IsTurnOf (length (S.items self.now.source)) self.now.limit self.now.state.tries result }
     {
         if words::is_done(reply) && (!words::is_playing(reply) || self.state.take) {
@@ -207,7 +207,7 @@ impl<S: Source> Controller<S> {
 
     /// Where a state leads in Drain.
     fn on_state_in_drain(&self, reply: &Reply) -> Turn
-        ensures turn { result ≡ table.on_reply (plan_of S.items self.now) self.now.state.take self.now.state.tries Phase.Drain reply.now }
+        ensures turn { result ≡ table.on_reply self.now.mode (S.items self.now.source) self.now.limit self.now.state.take self.now.state.tries Phase.Drain reply.now }
         ensures within { IsTurnOf (length (S.items self.now.source)) self.now.limit self.now.state.tries result }
     {
         if words::is_cueing(reply) || words::is_done(reply) {
@@ -222,7 +222,7 @@ impl<S: Source> Controller<S> {
     /// Where a reply leads that fits the phase's command.
     fn on_reply(&self, phase: Phase, reply: &Reply) -> Turn
         requires { IsPhaseOf (length (S.items self.now.source)) phase }
-        ensures turn { result ≡ table.on_reply (plan_of S.items self.now) self.now.state.take self.now.state.tries phase reply.now }
+        ensures turn { result ≡ table.on_reply self.now.mode (S.items self.now.source) self.now.limit self.now.state.take self.now.state.tries phase reply.now }
         ensures within { IsTurnOf (length (S.items self.now.source)) self.now.limit self.now.state.tries result }
     {
         match phase {
@@ -252,7 +252,7 @@ impl<S: Source> Controller<S> {
     /// Where NAK 01 leads.
     fn on_refusal(&self, phase: Phase) -> Turn
         requires { IsPhaseOf (length (S.items self.now.source)) phase }
-        ensures turn { result ≡ table.on_refusal (plan_of S.items self.now) phase }
+        ensures turn { result ≡ table.on_refusal (length (S.items self.now.source)) phase }
         ensures within { IsTurnOf (length (S.items self.now.source)) self.now.limit self.now.state.tries result }
     {
         match phase {
