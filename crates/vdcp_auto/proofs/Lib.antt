@@ -1,5 +1,8 @@
 mod WorkedRows
+pub mod Lists
 pub mod Memo
+pub mod LookBacks
+pub mod Runs
 pub mod Keeps
 pub mod Steps
 pub mod Rows

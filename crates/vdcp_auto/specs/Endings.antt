@@ -1,5 +1,6 @@
 -- What the log says where a controller has ended Lost or, in confirm mode, Refused.
-use Rattle.std.specs.Prelude.{◌≡◌, ◌≢◌, ℕ, ◌-◌, ◌≤◌, false, List, [], ◌∷◌, ◌++◌, length, drop, filter, count_by, All}
+use Rattle.std.specs.Prelude.{◌≡◌, ◌≢◌, ℕ, ◌-◌, ◌≤◌, false, List, [], ◌∷◌, ◌++◌, length, drop, filter, count_by}
+use Rattle.std.specs.List.{list_any}
 use Rattle.vdcp_value.specs.declared.part.Item.{Item}
 use Rattle.vdcp_auto.specs.declared.exchange.Exchange.{Exchange}
 use Rattle.vdcp_auto.specs.declared.phase.Mode.{Mode}
@@ -12,10 +13,10 @@ use Rattle.vdcp_auto.specs.RuleBook.{CuesItemAt}
 abbrev pub counted : Mode → List Exchange → List Exchange
 counted mode log = filter (is_counted mode) log
 
--- the last limit of them are unanswered
+-- there are limit of them at least, and none of the last limit is answered
 abbrev pub EndsUnanswered : Mode → ℕ → List Exchange → Type 0
 EndsUnanswered mode limit log =
-    (limit ≤ length (counted mode log)) × All (λ e. is_answered e ≡ false) (drop (length (counted mode log) - limit) (counted mode log))
+    (limit ≤ length (counted mode log)) × (list_any is_answered (drop (length (counted mode log) - limit) (counted mode log)) ≡ false)
 
 -- so ends the log, and no shorter front of it
 pub record IsLost (mode : Mode) (limit : ℕ) (log : List Exchange) : Type 0 where
