@@ -7,3 +7,4 @@ pub mod Keeps
 pub mod Steps
 pub mod Rows
 pub mod Calls
+pub mod Law

@@ -109,7 +109,7 @@ in_order_push : (log before : List Exchange) (cue : Exchange) (after : List Exch
     → log ++ e ∷ [] ≡ before ++ (cue ∷ (after ++ e ∷ []))
 in_order_push log before cue after e is = ap (λ xs. xs ++ e ∷ []) is ∙ append_assoc before (cue ∷ after) (e ∷ [])
 
-any_push : (p : Exchange → Bool) (log : List Exchange) (e : Exchange) (b : Bool) → list_any p log ≡ b → list_any p (log ++ e ∷ []) ≡ (b || p e)
+pub any_push : (p : Exchange → Bool) (log : List Exchange) (e : Exchange) (b : Bool) → list_any p log ≡ b → list_any p (log ++ e ∷ []) ≡ (b || p e)
 any_push p log e b is = list_any-append p log (e ∷ []) ∙ grind arith
 
 done_push : (after : List Exchange) (e : Exchange) (done : Bool) → (done ≡ true → HasDone after) → is_play e ≡ false
@@ -135,7 +135,7 @@ one_more true h = omega arith
 one_more false h = omega arith
 
 -- what the last cue is after one more exchange that doesn't settle
-last_push : (mode : Mode) (log : List Exchange) (opened : Bool) (e : Exchange) (command : Command) (acked done : Bool)
+pub last_push : (mode : Mode) (log : List Exchange) (opened : Bool) (e : Exchange) (command : Command) (acked done : Bool)
     → has_open_play log ≡ opened → settles_now mode opened e ≡ false
     → (cues : Bool) → is_cue e ≡ cues → (cued : Bool) → (cues || cued) ≡ true → (cued ≡ true → LastCue mode log command acked done)
     → LastCue mode (log ++ e ∷ []) (if cues then e.command else command) (if cues then is_acked e else acked) (not (cues || is_play e) && (is_done_status e || done))
@@ -155,7 +155,7 @@ last_push mode log opened e command acked done open_is none false is cued some h
       is_done = λ now. done_push h.after e done h.is_done (no_play_in (is_play e) (is_done_status e || done) now) (is_done_status e) refl (done_in (is_play e) (is_done_status e || done) now);
     }
 
-first_push : (mode : Mode) (log : List Exchange) (opened : Bool) (e : Exchange) (command : Command) (empties : ℕ)
+pub first_push : (mode : Mode) (log : List Exchange) (opened : Bool) (e : Exchange) (command : Command) (empties : ℕ)
     → has_open_play log ≡ opened → settles_now mode opened e ≡ false
     → (cued : Bool) → (is_cue e || cued) ≡ true → (cued ≡ true → FirstCue mode log command empties)
     → FirstCue mode (log ++ e ∷ []) (if cued then command else e.command) (if cued then (if is_empty_status e then empties + 1 else empties) else 0)

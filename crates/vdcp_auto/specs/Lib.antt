@@ -9,3 +9,4 @@ pub mod Bounds
 pub mod Table
 pub mod Turn
 pub mod Course
+pub mod Law
