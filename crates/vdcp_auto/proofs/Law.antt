@@ -23,14 +23,14 @@ use Rattle.vdcp_auto.specs.RuleBook.{CuesItemAt, IsTaken, MayPlay, Row, May, Kee
 use Rattle.vdcp_auto.specs.Endings.{counted, EndsUnanswered, IsLost, IsRefused}
 use Rattle.vdcp_auto.specs.Plan.{Plan}
 use Rattle.vdcp_auto.specs.Table.{command_in}
-use Rattle.vdcp_auto.specs.Turn.{start, ticked, awaited, is_end, exchange_of, ended_by, came_to, taken, stopped, outcome_of}
+use Rattle.vdcp_auto.specs.Turn.{start, ticked, awaited_in, awaited, is_end, exchange_of, ended_by, came_to, taken, stopped, outcome_of}
 use Rattle.vdcp_auto.specs.Course.{Call, Tick, Hear, Timeout, Take, Stop, Reached, begun, called}
 use Rattle.vdcp_auto.specs.Law.{IsLawful}
 use Rattle.vdcp_auto.proofs.Lists.{Cut, cut}
 use Rattle.vdcp_auto.proofs.Memo.{Memo, blank, opens, settles_now, remember}
 use Rattle.vdcp_auto.proofs.LookBacks.{has_open_play-push, settled-push, LastCue, FirstCue, HasDone, any_push, last_push, first_push}
 use Rattle.vdcp_auto.proofs.Runs.{Run, no_run, run_more, run_is, run_has, IsFirst, first_none, first_push as still_first}
-use Rattle.vdcp_auto.proofs.Keeps.{InPhase, CueIs, TrialIs, IsGoing, RowIs, AtStage, Holds}
+use Rattle.vdcp_auto.proofs.Keeps.{InPhase, CueIs, TrialIs, IsGoing, RowIs, AtEnd, AtStage, Holds}
 use Rattle.vdcp_auto.proofs.Steps.{Sends, sends_open, sends_select, sends_seen, sends_exists, sends_whole, sends_part, sends_wait, sends_play, sends_probe, sends_check, sends_drain, sends_close, sends_halt, sends_halt_close}
 use Rattle.vdcp_auto.proofs.Calls.{sends_of, begun_holds, ticked_holds, stopped_holds, taken_holds, remembered, came_holds}
 
@@ -148,3 +148,144 @@ may_send mode list limit port log m stop tries sends_halt a holds = record {
   row = tt; after_stop = λ h. refl; after_close = λ h. absurd (closed_both (list_any is_close log) m.closed a.closes holds.0 h) }
 may_send mode list limit port log m stop tries sends_halt_close a holds = record {
   row = inl (a.stops ∙ holds.0); after_stop = λ h. refl; after_close = λ h. refl }
+
+may_await : (plan : Plan) (log : List Exchange) (m : Memo) (awaiting stop : Bool) (unanswered tries : ℕ) (stage : Stage) (c : Command)
+    → Agrees plan.mode plan.limit log m → AtStage plan.mode plan.list plan.limit m awaiting stop tries stage
+    → awaited_in plan awaiting stage ≡ Some c → May plan.mode plan.list log c
+may_await plan log m false stop unanswered tries stage c a holds is = cc
+may_await plan log m true stop unanswered tries (Ended outcome) c a holds is = cc
+may_await plan log m true stop unanswered tries (Running p) c a holds is =
+    may_send plan.mode plan.list plan.limit plan.port log m stop tries (sends_of plan.list plan.port p c is) a holds
+
+-- Every reached controller.
+
+-- what is known of a controller and its log
+record Known (plan : Plan) (state : State) (log : List Exchange) : Type 0 where
+  pub memo : Memo
+  pub agrees : Agrees plan.mode plan.limit log memo
+  pub holds : Holds plan memo state
+  pub rules : KeepsRules plan.mode plan.list log
+
+may_next : (plan : Plan) (state : State) (log : List Exchange) (c : Command) → Known plan state log → awaited plan state ≡ Some c → May plan.mode plan.list log c
+may_next plan state log c known is =
+    may_await plan log known.memo state.awaiting state.stop state.unanswered state.tries state.stage c known.agrees known.holds.stage is
+
+-- the exchange that ends is that of the awaited command
+ended_if : (came : Option Heard) (c : Command) (e : Exchange) (ends : Bool) → (if ends then Some (record { command = c; heard = came }) else None) ≡ Some e → c ≡ e.command
+ended_if came c e true is = let same : record { command = c; heard = came } ≡ e = cc in ap (λ x. x.command) same
+ended_if came c e false is = cc
+
+ended_command : (mode : Mode) (came : Option Heard) (c : Option Command) (e : Exchange) → exchange_of mode came c ≡ Some e → c ≡ Some e.command
+ended_command mode came None e is = cc
+ended_command mode came (Some c) e is = ap Some (ended_if came c e (is_end mode c came) is)
+
+rules_nil : (mode : Mode) (list : List Item) → KeepsRules mode list []
+rules_nil mode list [] e after is = cc
+rules_nil mode list (x ∷ before) e after is = cc
+
+rules_within : (mode : Mode) (list : List Item) (log before : List Exchange) (x : Exchange) (after : List Exchange) (e : Exchange) → KeepsRules mode list log
+    → (last : List Exchange) → last ≢ [] → log ≡ before ++ last → x ∷ after ≡ last ++ e ∷ [] → May mode list before x.command
+rules_within mode list log before x after e rules [] some is order = absurd (some refl)
+rules_within mode list log before x after e rules (y ∷ last) some is order =
+    let same : y ≡ x = cc in rules before x last (is ∙ ap (λ z. before ++ (z ∷ last)) same)
+
+rules_push : (mode : Mode) (list : List Item) (log : List Exchange) (e : Exchange) → KeepsRules mode list log → May mode list log e.command → KeepsRules mode list (log ++ e ∷ [])
+rules_push mode list log e rules may before x after is =
+    elim (cut log before (x ∷ after) e (λ h. cc) is) [
+      inl w ↦ (let same : x ≡ e = (let both = w.1 in cc) in rw (w.0, same) may)
+    | inr w ↦ rules_within mode list log before x after e rules w.last w.some w.before w.after
+    ]
+
+known_more : (plan : Plan) (state : State) (log : List Exchange) (came : Option Heard) → Known plan state log → (o : Option Exchange) → ended_by plan came state ≡ o
+    → Known plan (came_to plan came state) (log ++ option_to_list o)
+known_more plan state log came known None is =
+    let next = came_holds plan known.memo state came known.holds in
+    subst (Known plan (came_to plan came state)) (sym (append-nil log)) (record {
+      memo = known.memo; agrees = known.agrees; rules = known.rules;
+      holds = subst (λ o. Holds plan (remembered plan known.memo o) (came_to plan came state)) is next })
+known_more plan state log came known (Some e) is =
+    let next = came_holds plan known.memo state came known.holds in
+    record {
+      memo = remember plan.mode plan.limit known.memo e;
+      agrees = agrees_push plan.mode plan.limit log known.memo e known.agrees;
+      rules = rules_push plan.mode plan.list log e known.rules (may_next plan state log e.command known (ended_command plan.mode came (awaited plan state) e is));
+      holds = subst (λ o. Holds plan (remembered plan known.memo o) (came_to plan came state)) is next;
+    }
+
+known_came : (plan : Plan) (state : State) (log : List Exchange) (came : Option Heard) → Known plan state log
+    → Known plan (came_to plan came state) (log ++ option_to_list (ended_by plan came state))
+known_came plan state log came known = known_more plan state log came known (ended_by plan came state) refl
+
+known_quiet : (plan : Plan) (old new : State) (log : List Exchange) → Known plan old log → ((m : Memo) → Holds plan m old → Holds plan m new) → Known plan new (log ++ [])
+known_quiet plan old new log known keeps =
+    subst (Known plan new) (sym (append-nil log)) (record { memo = known.memo; agrees = known.agrees; rules = known.rules; holds = keeps known.memo known.holds })
+
+known : (plan : Plan) {state : State} {log : List Exchange} → Reached plan state log → Known plan state log
+known plan (begun some few) = record {
+  memo = blank; agrees = agrees_nil plan.mode plan.limit; holds = begun_holds plan some; rules = rules_nil plan.mode plan.list }
+known plan (called {state} {log} r Tick) = known_quiet plan state (ticked state) log (known plan r) (λ m h. ticked_holds plan m state h)
+known plan (called {state} {log} r (Hear h)) = known_came plan state log (Some h) (known plan r)
+known plan (called {state} {log} r Timeout) = known_came plan state log None (known plan r)
+known plan (called {state} {log} r Take) = known_quiet plan state (taken state) log (known plan r) (λ m h. taken_holds plan m state h)
+known plan (called {state} {log} r Stop) = known_quiet plan state (stopped state) log (known plan r) (λ m h. stopped_holds plan m state h)
+
+-- The ends.
+
+lost_row : (limit row unanswered : ℕ) (stage : Stage) → RowIs limit row unanswered stage → outcome_of stage ≡ Some Lost → limit ≤ row
+lost_row limit row unanswered (Running p) is lost = cc
+lost_row limit row unanswered (Ended Lost) is lost = is
+lost_row limit row unanswered (Ended Done) is lost = cc
+lost_row limit row unanswered (Ended Stopped) is lost = cc
+lost_row limit row unanswered (Ended Denied) is lost = cc
+lost_row limit row unanswered (Ended (Missing k)) is lost = cc
+lost_row limit row unanswered (Ended (Refused k)) is lost = cc
+lost_row limit row unanswered (Ended (Foreign k)) is lost = cc
+lost_row limit row unanswered (Ended (Strange k)) is lost = cc
+
+row_lost : (limit row unanswered : ℕ) (stage : Stage) → RowIs limit row unanswered stage → (row < limit → ⊥) → outcome_of stage ≡ Some Lost
+row_lost limit row unanswered (Running p) is long = absurd (long is.1)
+row_lost limit row unanswered (Ended Lost) is long = refl
+row_lost limit row unanswered (Ended Done) is long = absurd (long is)
+row_lost limit row unanswered (Ended Stopped) is long = absurd (long is)
+row_lost limit row unanswered (Ended Denied) is long = absurd (long is)
+row_lost limit row unanswered (Ended (Missing k)) is long = absurd (long is)
+row_lost limit row unanswered (Ended (Refused k)) is long = absurd (long is)
+row_lost limit row unanswered (Ended (Foreign k)) is long = absurd (long is)
+row_lost limit row unanswered (Ended (Strange k)) is long = absurd (long is)
+
+at_outcome : (mode : Mode) (list : List Item) (limit : ℕ) (m : Memo) (awaiting stop : Bool) (tries : ℕ) (stage : Stage) (outcome : Outcome)
+    → AtStage mode list limit m awaiting stop tries stage → outcome_of stage ≡ Some outcome → AtEnd mode list limit m outcome
+at_outcome mode list limit m awaiting stop tries (Running p) outcome holds is = cc
+at_outcome mode list limit m awaiting stop tries (Ended end) outcome holds is = let same : end ≡ outcome = cc in subst (AtEnd mode list limit m) same holds
+
+refused : (plan : Plan) (log : List Exchange) (m : Memo) (k : ℕ) → plan.mode ≡ Confirming → Agrees plan.mode plan.limit log m
+    → TrialIs plan.list k plan.limit m → IsRefused plan.list plan.limit log k
+refused plan log m k mode a trial =
+    let f = a.first trial.0 in
+    record {
+      before = f.before; cue = f.cue; after = f.after; in_order = f.in_order;
+      cues = rw f.is_command trial.1;
+      none_settles = subst (λ x. settled x f.before ≡ settled x log) mode f.none_settles;
+      empties = omega (arith, trial.2, f.is_count);
+    }
+
+pub lawful : (plan : Plan) (state : State) (log : List Exchange) → Reached plan state log → IsLawful plan state log
+lawful plan state log reached =
+    let k = known plan reached in
+    let a = k.agrees in
+    let h = k.holds in
+    let end : (outcome : Outcome) → outcome_of state.stage ≡ Some outcome → AtEnd plan.mode plan.list plan.limit k.memo outcome =
+      λ outcome is. at_outcome plan.mode plan.list plan.limit k.memo state.awaiting state.stop state.tries state.stage outcome h.stage is in
+    record {
+      keeps_rules = k.rules;
+      may_await = λ c is. may_next plan state log c k is;
+      is_settled = h.settled ∙ sym a.count;
+      is_lost =
+        (λ lost. record {
+          now = run_is plan.mode plan.limit log k.memo.row a.run (lost_row plan.limit k.memo.row state.unanswered state.stage h.row lost);
+          not_before = a.is_first h.not_early },
+        λ lost. row_lost plan.limit k.memo.row state.unanswered state.stage h.row (λ short. run_has plan.mode plan.limit log k.memo.row a.run short lost.now));
+      is_refused = λ confirming place is. refused plan log k.memo place confirming a (end (Refused place) is confirming);
+      is_done = λ is. a.count ∙ end Done is;
+      is_missing = λ place is. a.count ∙ end (Missing place) is;
+    }
