@@ -1,6 +1,6 @@
 -- The law of a controller that calls have led to.
-use Rattle.std.proofs.Common.{◌≡◌, ◌≢◌, ℕ, ◌+◌, ◌≤◌, ◌<◌, Bool, true, false, cond, not, ◌||◌, ◌&&◌, IsTrue, Option, None, Some, List, [], ◌∷◌, ◌++◌, length, refl, arith, sym, ap, subst, ◌∙◌, ◌⊎◌, inl, inr}
-use Rattle.std.specs.Prelude.{if◌then◌else◌, nat_le, ◌↔◌}
+use Rattle.std.proofs.Common.{◌≡◌, ◌≢◌, ℕ, ◌+◌, ◌≤◌, ◌<◌, Bool, true, false, cond, not, ◌||◌, ◌&&◌, IsTrue, Option, None, Some, List, [], ◌∷◌, ◌++◌, length, refl, arith, sym, ap, subst, ◌∙◌, ◌⊎◌, inl, inr, append_assoc}
+use Rattle.std.specs.Prelude.{if◌then◌else◌, nat_le, is_some, ◌↔◌}
 use Rattle.std.specs.Option.{option_to_list}
 use Rattle.std.specs.List.{list_any}
 use Rattle.std.proofs.lemmas.List.{append-nil}
@@ -8,6 +8,8 @@ use Rattle.vdcp_value.specs.declared.part.Item.{Item}
 use Rattle.vdcp_words.specs.declared.command.Command.{Command}
 use Rattle.vdcp_auto.specs.declared.exchange.Exchange.{Exchange}
 use Rattle.vdcp_auto.specs.declared.exchange.Heard.{Heard}
+use Rattle.vdcp_auto.specs.declared.exchange.Input.{Input}
+use Rattle.vdcp_auto.specs.declared.exchange.Input.TheVariants as input
 use Rattle.vdcp_auto.specs.declared.outcome.Outcome.{Outcome}
 use Rattle.vdcp_auto.specs.declared.outcome.Outcome.TheVariants.{Done, Stopped, Lost, Denied, Missing, Refused, Foreign, Strange}
 use Rattle.vdcp_auto.specs.declared.phase.Mode.{Mode}
@@ -24,7 +26,7 @@ use Rattle.vdcp_auto.specs.Endings.{counted, EndsUnanswered, IsLost, IsRefused}
 use Rattle.vdcp_auto.specs.Plan.{Plan}
 use Rattle.vdcp_auto.specs.Table.{command_in}
 use Rattle.vdcp_auto.specs.Turn.{start, ticked, awaited_in, awaited, is_end, exchange_of, ended_by, came_to, taken, stopped, outcome_of}
-use Rattle.vdcp_auto.specs.Course.{Call, Tick, Hear, Timeout, Take, Stop, Reached, begun, called}
+use Rattle.vdcp_auto.specs.Course.{course_from, course, Call, Tick, Hear, Timeout, Take, Stop, logged, Reached, begun, called}
 use Rattle.vdcp_auto.specs.Law.{IsLawful}
 use Rattle.vdcp_auto.proofs.Lists.{Cut, cut}
 use Rattle.vdcp_auto.proofs.Memo.{Memo, blank, opens, settles_now, remember}
@@ -197,12 +199,13 @@ rules_push mode list log e rules may before x after is =
     ]
 
 known_more : (plan : Plan) (state : State) (log : List Exchange) (came : Option Heard) → Known plan state log → (o : Option Exchange) → ended_by plan came state ≡ o
-    → Known plan (came_to plan came state) (log ++ option_to_list o)
+    → Known plan (came_to plan came state) (logged log o)
 known_more plan state log came known None is =
     let next = came_holds plan known.memo state came known.holds in
-    subst (Known plan (came_to plan came state)) (sym (append-nil log)) (record {
+    record {
       memo = known.memo; agrees = known.agrees; rules = known.rules;
-      holds = subst (λ o. Holds plan (remembered plan known.memo o) (came_to plan came state)) is next })
+      holds = subst (λ o. Holds plan (remembered plan known.memo o) (came_to plan came state)) is next;
+    }
 known_more plan state log came known (Some e) is =
     let next = came_holds plan known.memo state came known.holds in
     record {
@@ -213,12 +216,11 @@ known_more plan state log came known (Some e) is =
     }
 
 known_came : (plan : Plan) (state : State) (log : List Exchange) (came : Option Heard) → Known plan state log
-    → Known plan (came_to plan came state) (log ++ option_to_list (ended_by plan came state))
+    → Known plan (came_to plan came state) (logged log (ended_by plan came state))
 known_came plan state log came known = known_more plan state log came known (ended_by plan came state) refl
 
-known_quiet : (plan : Plan) (old new : State) (log : List Exchange) → Known plan old log → ((m : Memo) → Holds plan m old → Holds plan m new) → Known plan new (log ++ [])
-known_quiet plan old new log known keeps =
-    subst (Known plan new) (sym (append-nil log)) (record { memo = known.memo; agrees = known.agrees; rules = known.rules; holds = keeps known.memo known.holds })
+known_quiet : (plan : Plan) (old new : State) (log : List Exchange) → Known plan old log → ((m : Memo) → Holds plan m old → Holds plan m new) → Known plan new log
+known_quiet plan old new log known keeps = record { memo = known.memo; agrees = known.agrees; rules = known.rules; holds = keeps known.memo known.holds }
 
 known : (plan : Plan) {state : State} {log : List Exchange} → Reached plan state log → Known plan state log
 known plan (begun some few) = record {
@@ -289,3 +291,35 @@ lawful plan state log reached =
       is_done = λ is. a.count ∙ end Done is;
       is_missing = λ place is. a.count ∙ end (Missing place) is;
     }
+
+-- Courses.
+
+-- the course's first exchange, if there is one, joins the log
+logged_first : (log : List Exchange) (o : Option Exchange) (rest : List Exchange) → logged log o ++ rest ≡ log ++ (option_to_list o ++ rest)
+logged_first log None rest = refl
+logged_first log (Some e) rest = append_assoc log (e ∷ []) rest
+
+course_if : (plan : Plan) (log : List Exchange) (o : Option Exchange) (rest : List Exchange) (goes : Bool)
+    → KeepsRules plan.mode plan.list log → KeepsRules plan.mode plan.list (logged log o ++ rest)
+    → KeepsRules plan.mode plan.list (log ++ (if goes then option_to_list o ++ rest else []))
+course_if plan log o rest true now later = subst (KeepsRules plan.mode plan.list) (logged_first log o rest) later
+course_if plan log o rest false now later = subst (KeepsRules plan.mode plan.list) (sym (append-nil log)) now
+
+course_keeps : (plan : Plan) (inputs : List Input) (state : State) (log : List Exchange) → Reached plan state log
+    → KeepsRules plan.mode plan.list (log ++ course_from plan state inputs)
+course_keeps plan [] state log reached = subst (KeepsRules plan.mode plan.list) (sym (append-nil log)) (lawful plan state log reached).keeps_rules
+course_keeps plan (input.Take ∷ inputs) state log reached = course_keeps plan inputs (taken state) log (called reached Take)
+course_keeps plan (input.Stop ∷ inputs) state log reached = course_keeps plan inputs (stopped state) log (called reached Stop)
+course_keeps plan (input.Heard h ∷ inputs) state log reached =
+    let next = ended_by plan (Some h) (ticked state) in
+    course_if plan log next (course_from plan (came_to plan (Some h) (ticked state)) inputs) (is_some (awaited plan (ticked state)))
+    (lawful plan state log reached).keeps_rules
+    (course_keeps plan inputs (came_to plan (Some h) (ticked state)) (logged log next) (called (called reached Tick) (Hear h)))
+course_keeps plan (input.Silence ∷ inputs) state log reached =
+    let next = ended_by plan None (ticked state) in
+    course_if plan log next (course_from plan (came_to plan None (ticked state)) inputs) (is_some (awaited plan (ticked state)))
+    (lawful plan state log reached).keeps_rules
+    (course_keeps plan inputs (came_to plan None (ticked state)) (logged log next) (called (called reached Tick) Timeout))
+
+pub KeepsRules-course : (plan : Plan) (inputs : List Input) → 1 ≤ plan.limit → plan.limit ≤ 1000 → KeepsRules plan.mode plan.list (course plan inputs)
+KeepsRules-course plan inputs some few = course_keeps plan inputs start [] (begun some few)

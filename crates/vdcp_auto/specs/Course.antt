@@ -52,7 +52,12 @@ ended_by_call plan Timeout state = ended_by plan None state
 ended_by_call plan Take state = None
 ended_by_call plan Stop state = None
 
+-- the log with the exchange that ended, if one did
+abbrev pub logged : List Exchange → Option Exchange → List Exchange
+logged log None = log
+logged log (Some e) = log ++ e ∷ []
+
 -- calls in any order lead from a new controller to this one, and the log is the exchanges that they ended
 pub data Reached (plan : Plan) : State → List Exchange → Type 0 where
   begun : 1 ≤ plan.limit → plan.limit ≤ 1000 → Reached plan start []
-  called : {state : State} {log : List Exchange} → Reached plan state log → (call : Call) → Reached plan (after_call plan call state) (log ++ option_to_list (ended_by_call plan call state))
+  called : {state : State} {log : List Exchange} → Reached plan state log → (call : Call) → Reached plan (after_call plan call state) (logged log (ended_by_call plan call state))

@@ -9,6 +9,7 @@
 
 mod controller;
 mod exchange;
+pub mod laws;
 mod outcome;
 mod phase;
 mod rehearsal;

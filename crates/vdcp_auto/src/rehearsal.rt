@@ -1,5 +1,6 @@
 ghost use Rattle.std.specs.Prelude.{◌≡◌, ◌≤◌, IfOk};
 ghost use Rattle.vdcp_auto.specs.Plan.{plan_of};
+ghost use Rattle.vdcp_auto.specs.RuleBook.{KeepsRules};
 ghost use Rattle.vdcp_auto.specs.declared.phase.Mode.TheVariants.{Plain, Confirming};
 ghost use Rattle.vdcp_auto.specs.Course.{course, course_from};
 
@@ -24,6 +25,7 @@ pub fn rehearse<S: Source + Drop, A: Allocator>(
     requires few { limit ≤ 1000 }
     ensures course { IfOk result (λ log. log.items
         ≡ course (record { mode = Plain; list = S.items source; port = port; limit = limit }) inputs.now) }
+    ensures allowed { IfOk result (λ log. KeepsRules Plain (S.items source) log.items) }
 {
     run(alloc, Controller::new(source, port, limit), inputs)
 }
@@ -40,6 +42,7 @@ pub fn rehearse_confirming<S: Source + Drop, A: Allocator>(
     requires few { limit ≤ 1000 }
     ensures course { IfOk result (λ log. log.items
         ≡ course (record { mode = Confirming; list = S.items source; port = port; limit = limit }) inputs.now) }
+    ensures allowed { IfOk result (λ log. KeepsRules Confirming (S.items source) log.items) }
 {
     run(alloc, Controller::confirming(source, port, limit), inputs)
 }
