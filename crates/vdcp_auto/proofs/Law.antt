@@ -1,6 +1,6 @@
 -- The law of a controller that calls have led to.
 use Rattle.std.proofs.Common.{◌≡◌, ◌≢◌, ℕ, ◌+◌, ◌≤◌, ◌<◌, Bool, true, false, cond, not, ◌||◌, ◌&&◌, IsTrue, Option, None, Some, List, [], ◌∷◌, ◌++◌, length, refl, arith, sym, ap, subst, ◌∙◌, ◌⊎◌, inl, inr, append_assoc}
-use Rattle.std.specs.Prelude.{if◌then◌else◌, nat_le, is_some, ◌↔◌}
+use Rattle.std.specs.Prelude.{if◌then◌else◌, nat_le, is_some, IfSome, ◌↔◌}
 use Rattle.std.specs.Option.{option_to_list}
 use Rattle.std.specs.List.{list_any}
 use Rattle.std.proofs.lemmas.List.{append-nil}
@@ -25,8 +25,8 @@ use Rattle.vdcp_auto.specs.RuleBook.{CuesItemAt, IsTaken, MayPlay, Row, May, Kee
 use Rattle.vdcp_auto.specs.Endings.{counted, EndsUnanswered, IsLost, IsRefused}
 use Rattle.vdcp_auto.specs.Plan.{Plan}
 use Rattle.vdcp_auto.specs.Table.{command_in}
-use Rattle.vdcp_auto.specs.Turn.{start, ticked, awaited_in, awaited, is_end, exchange_of, ended_by, came_to, taken, stopped, outcome_of}
-use Rattle.vdcp_auto.specs.Course.{course_from, course, Call, Tick, Hear, Timeout, Take, Stop, logged, Reached, begun, called}
+use Rattle.vdcp_auto.specs.Turn.{start, ticked, awaited_in, awaited, given, is_end, exchange_of, ended_by, came_to, taken, stopped, outcome_of}
+use Rattle.vdcp_auto.specs.Course.{course_from, course, Call, Tick, Receive, Take, Stop, logged, Reached, begun, called}
 use Rattle.vdcp_auto.specs.Law.{IsLawful}
 use Rattle.vdcp_auto.proofs.Lists.{Cut, cut}
 use Rattle.vdcp_auto.proofs.Memo.{Memo, blank, opens, settles_now, remember}
@@ -226,8 +226,7 @@ known : (plan : Plan) {state : State} {log : List Exchange} → Reached plan sta
 known plan (begun some few) = record {
   memo = blank; agrees = agrees_nil plan.mode plan.limit; holds = begun_holds plan some; rules = rules_nil plan.mode plan.list }
 known plan (called {state} {log} r Tick) = known_quiet plan state (ticked state) log (known plan r) (λ m h. ticked_holds plan m state h)
-known plan (called {state} {log} r (Hear h)) = known_came plan state log (Some h) (known plan r)
-known plan (called {state} {log} r Timeout) = known_came plan state log None (known plan r)
+known plan (called {state} {log} r (Receive came)) = known_came plan state log came (known plan r)
 known plan (called {state} {log} r Take) = known_quiet plan state (taken state) log (known plan r) (λ m h. taken_holds plan m state h)
 known plan (called {state} {log} r Stop) = known_quiet plan state (stopped state) log (known plan r) (λ m h. stopped_holds plan m state h)
 
@@ -271,6 +270,14 @@ refused plan log m k mode a trial =
       empties = omega (arith, trial.2, f.is_count);
     }
 
+each : (o : Option Command) (P : Command → Type 0) → ((c : Command) → o ≡ Some c → P c) → IfSome o P
+each None P h = tt
+each (Some c) P h = h c refl
+
+given_awaited : (awaiting : Bool) (next : Option Command) (c : Command) → (if awaiting then None else next) ≡ Some c → next ≡ Some c
+given_awaited true next c is = cc
+given_awaited false next c is = is
+
 pub lawful : (plan : Plan) (state : State) (log : List Exchange) → Reached plan state log → IsLawful plan state log
 lawful plan state log reached =
     let k = known plan reached in
@@ -280,7 +287,8 @@ lawful plan state log reached =
       λ outcome is. at_outcome plan.mode plan.list plan.limit k.memo state.awaiting state.stop state.tries state.stage outcome h.stage is in
     record {
       keeps_rules = k.rules;
-      may_await = λ c is. may_next plan state log c k is;
+      may_await = each (awaited plan state) _ (λ c is. may_next plan state log c k is);
+      may_give = each (given plan state) _ (λ c is. may_next plan (ticked state) log c (known plan (called reached Tick)) (given_awaited state.awaiting (awaited plan (ticked state)) c is));
       is_settled = h.settled ∙ sym a.count;
       is_lost =
         (λ lost. record {
@@ -314,12 +322,12 @@ course_keeps plan (input.Heard h ∷ inputs) state log reached =
     let next = ended_by plan (Some h) (ticked state) in
     course_if plan log next (course_from plan (came_to plan (Some h) (ticked state)) inputs) (is_some (awaited plan (ticked state)))
     (lawful plan state log reached).keeps_rules
-    (course_keeps plan inputs (came_to plan (Some h) (ticked state)) (logged log next) (called (called reached Tick) (Hear h)))
+    (course_keeps plan inputs (came_to plan (Some h) (ticked state)) (logged log next) (called (called reached Tick) (Receive (Some h))))
 course_keeps plan (input.Silence ∷ inputs) state log reached =
     let next = ended_by plan None (ticked state) in
     course_if plan log next (course_from plan (came_to plan None (ticked state)) inputs) (is_some (awaited plan (ticked state)))
     (lawful plan state log reached).keeps_rules
-    (course_keeps plan inputs (came_to plan None (ticked state)) (logged log next) (called (called reached Tick) Timeout))
+    (course_keeps plan inputs (came_to plan None (ticked state)) (logged log next) (called (called reached Tick) (Receive None)))
 
 pub KeepsRules-course : (plan : Plan) (inputs : List Input) → 1 ≤ plan.limit → plan.limit ≤ 1000 → KeepsRules plan.mode plan.list (course plan inputs)
 KeepsRules-course plan inputs some few = course_keeps plan inputs start [] (begun some few)

@@ -31,24 +31,22 @@ course plan inputs = course_from plan start inputs
 -- a call of a controller that can change it
 pub data Call : Type 0 where
   Tick : Call
-  Hear : Heard → Call
-  Timeout : Call
+  -- something comes, or nothing does in time
+  Receive : Option Heard → Call
   Take : Call
   Stop : Call
 
 -- the controller after the call
 abbrev pub after_call : Plan → Call → State → State
 after_call plan Tick state = ticked state
-after_call plan (Hear h) state = came_to plan (Some h) state
-after_call plan Timeout state = came_to plan None state
+after_call plan (Receive came) state = came_to plan came state
 after_call plan Take state = taken state
 after_call plan Stop state = stopped state
 
 -- the exchange that the call ends
 abbrev pub ended_by_call : Plan → Call → State → Option Exchange
 ended_by_call plan Tick state = None
-ended_by_call plan (Hear h) state = ended_by plan (Some h) state
-ended_by_call plan Timeout state = ended_by plan None state
+ended_by_call plan (Receive came) state = ended_by plan came state
 ended_by_call plan Take state = None
 ended_by_call plan Stop state = None
 

@@ -1,6 +1,5 @@
 -- The law of a controller that calls in any order have led to, with the exchanges that they ended.
-use Rattle.std.specs.Prelude.{◌≡◌, ℕ, ◌↔◌, Option, Some, List, length}
-use Rattle.vdcp_words.specs.declared.command.Command.{Command}
+use Rattle.std.specs.Prelude.{◌≡◌, ℕ, ◌↔◌, Some, IfSome, List, length}
 use Rattle.vdcp_auto.specs.declared.exchange.Exchange.{Exchange}
 use Rattle.vdcp_auto.specs.declared.outcome.Outcome.TheVariants.{Done, Lost, Missing, Refused}
 use Rattle.vdcp_auto.specs.declared.phase.Mode.TheVariants.{Confirming}
@@ -9,13 +8,15 @@ use Rattle.vdcp_auto.specs.Settled.{settled}
 use Rattle.vdcp_auto.specs.RuleBook.{May, KeepsRules}
 use Rattle.vdcp_auto.specs.Endings.{IsLost, IsRefused}
 use Rattle.vdcp_auto.specs.Plan.{Plan}
-use Rattle.vdcp_auto.specs.Turn.{awaited, outcome_of}
+use Rattle.vdcp_auto.specs.Turn.{awaited, given, outcome_of}
 
 pub record IsLawful (plan : Plan) (state : State) (log : List Exchange) : Type 0 where
   -- each command of the log is allowed by the rule book after the exchanges before it
   pub keeps_rules : KeepsRules plan.mode plan.list log
   -- and so is the one that is awaited
-  pub may_await : (c : Command) → awaited plan state ≡ Some c → May plan.mode plan.list log c
+  pub may_await : IfSome (awaited plan state) (λ c. May plan.mode plan.list log c)
+  -- and the one that the next tick gives
+  pub may_give : IfSome (given plan state) (λ c. May plan.mode plan.list log c)
   -- the controller's count is what the log shows to be settled
   pub is_settled : state.settled ≡ settled plan.mode log
   -- it has ended Lost exactly where the last limit exchanges are unanswered, and no shorter front of
