@@ -80,14 +80,26 @@ tick_holds : (plan : Plan) (m : Memo) (stage : Stage) (awaiting take stop : Bool
 tick_holds plan m stage true take stop unanswered settled tries holds = holds
 tick_holds plan m (Ended outcome) false take stop unanswered settled tries holds = holds
 tick_holds plan m (Running p) false take stop unanswered settled tries holds = record {
-  settled = holds.settled; not_early = holds.not_early; row = holds.row; stage = tick_phase plan.mode plan.list m tries stop p holds.stage }
+  settled = holds.settled;
+  not_early = holds.not_early;
+  row = holds.row;
+  stage = tick_phase plan.mode plan.list m tries stop p holds.stage;
+}
 
 stop_holds : (plan : Plan) (m : Memo) (stage : Stage) (awaiting take stop : Bool) (unanswered settled tries : ℕ)
     → Holds plan m (state stage awaiting take stop unanswered settled tries) → Holds plan m (stopped (state stage awaiting take stop unanswered settled tries))
 stop_holds plan m (Ended outcome) awaiting take stop unanswered settled tries holds = record {
-  settled = holds.settled; not_early = holds.not_early; row = holds.row; stage = holds.stage }
+  settled = holds.settled;
+  not_early = holds.not_early;
+  row = holds.row;
+  stage = holds.stage;
+}
 stop_holds plan m (Running p) awaiting take stop unanswered settled tries holds = record {
-  settled = holds.settled; not_early = holds.not_early; row = holds.row; stage = stop_phase plan.mode plan.list m awaiting stop tries p holds.stage }
+  settled = holds.settled;
+  not_early = holds.not_early;
+  row = holds.row;
+  stage = stop_phase plan.mode plan.list m awaiting stop tries p holds.stage;
+}
 
 pub ticked_holds : (plan : Plan) (m : Memo) (s : State) → Holds plan m s → Holds plan m (ticked s)
 ticked_holds plan m s holds = tick_holds plan m s.stage s.awaiting s.take s.stop s.unanswered s.settled s.tries holds
@@ -127,14 +139,14 @@ end_holds plan m p take stop tries c came s ends holds =
 come_if : (plan : Plan) (m : Memo) (p : Phase) (take stop : Bool) (tries : ℕ) (c : Command) (came : Option Heard)
     → Sends plan.list plan.port p c → Holds plan m (waiting plan m p take stop tries) → (ends : Bool) → is_end plan.mode c came ≡ ends
     → Holds plan (remembered plan m (if ends then Some (exchange c came) else None))
-      (option_map_or (λ e. ended_in plan (Running p) e (waiting plan m p take stop tries)) (if ends then Some (exchange c came) else None) (waiting plan m p take stop tries))
+    (option_map_or (λ e. ended_in plan (Running p) e (waiting plan m p take stop tries)) (if ends then Some (exchange c came) else None) (waiting plan m p take stop tries))
 come_if plan m p take stop tries c came s holds true is = end_holds plan m p take stop tries c came s is holds
 come_if plan m p take stop tries c came s holds false is = holds
 
 come_for : (plan : Plan) (m : Memo) (p : Phase) (take stop : Bool) (tries : ℕ) (came : Option Heard) (c : Option Command)
     → command_in plan.list plan.port p ≡ c → Holds plan m (waiting plan m p take stop tries)
     → Holds plan (remembered plan m (exchange_of plan.mode came c))
-      (option_map_or (λ e. ended_in plan (Running p) e (waiting plan m p take stop tries)) (exchange_of plan.mode came c) (waiting plan m p take stop tries))
+    (option_map_or (λ e. ended_in plan (Running p) e (waiting plan m p take stop tries)) (exchange_of plan.mode came c) (waiting plan m p take stop tries))
 come_for plan m p take stop tries came None is holds = holds
 come_for plan m p take stop tries came (Some c) is holds =
     come_if plan m p take stop tries c came (sends_of plan.list plan.port p c is) holds (is_end plan.mode c came) refl
@@ -145,8 +157,8 @@ come_waiting : (plan : Plan) (m : Memo) (p : Phase) (take stop : Bool) (unanswer
     → Holds plan (remembered plan m (ended_by plan came (state (Running p) true take stop unanswered settled tries))) (came_to plan came (state (Running p) true take stop unanswered settled tries))
 come_waiting plan m p take stop unanswered settled tries came row count holds =
     let P : ℕ → ℕ → Type 0 =
-      λ u n. Holds plan m (state (Running p) true take stop u n tries)
-        → Holds plan (remembered plan m (ended_by plan came (state (Running p) true take stop u n tries))) (came_to plan came (state (Running p) true take stop u n tries)) in
+    λ u n. Holds plan m (state (Running p) true take stop u n tries)
+    → Holds plan (remembered plan m (ended_by plan came (state (Running p) true take stop u n tries))) (came_to plan came (state (Running p) true take stop u n tries)) in
     let here : P m.row m.count = come_for plan m p take stop tries came (command_in plan.list plan.port p) refl in
     subst (λ n. P unanswered n) (sym count) (subst (λ u. P u m.count) (sym row) here) holds
 

@@ -71,21 +71,29 @@ run_nil Confirming = no_run
 
 agrees_nil : (mode : Mode) (limit : ℕ) → Agrees mode limit [] blank
 agrees_nil mode limit = record {
-  opened = refl; count = refl; stops = refl; closes = refl; grants = refl;
-  last = λ h. cc; first = λ h. cc; run = run_nil mode; is_first = λ h. first_none mode limit }
+  opened = refl;
+  count = refl;
+  stops = refl;
+  closes = refl;
+  grants = refl;
+  last = λ h. cc;
+  first = λ h. cc;
+  run = run_nil mode;
+  is_first = λ h. first_none mode limit;
+}
 
 agrees_push : (mode : Mode) (limit : ℕ) (log : List Exchange) (m : Memo) (e : Exchange) → Agrees mode limit log m → Agrees mode limit (log ++ e ∷ []) (remember mode limit m e)
 agrees_push mode limit log m e a = record {
   opened = has_open_play-push log e ∙ ap (λ o. opens o e) a.opened;
   count = settled-push mode log e ∙ ap (λ o. settled mode log + cond {A = ℕ} (settles_now mode o e) 1 0) a.opened
-    ∙ ap (λ n. n + cond {A = ℕ} (settles_now mode m.opened e) 1 0) a.count ∙ one_settles (settles_now mode m.opened e) m.count;
+      ∙ ap (λ n. n + cond {A = ℕ} (settles_now mode m.opened e) 1 0) a.count ∙ one_settles (settles_now mode m.opened e) m.count;
   stops = any_push is_stop log e m.stopped a.stops;
   closes = any_push is_close log e m.closed a.closes;
   grants = any_push is_grant log e m.granted a.grants;
   last = λ h. last_push mode log m.opened e m.cue m.acked m.done a.opened (none_left (settles_now mode m.opened e) (is_cue e || m.cued) h)
-    (is_cue e) refl m.cued (none_right (settles_now mode m.opened e) (is_cue e || m.cued) h) a.last;
+      (is_cue e) refl m.cued (none_right (settles_now mode m.opened e) (is_cue e || m.cued) h) a.last;
   first = λ h. first_push mode log m.opened e m.first m.empties a.opened (none_left (settles_now mode m.opened e) (is_cue e || m.cued) h)
-    m.cued (none_right (settles_now mode m.opened e) (is_cue e || m.cued) h) a.first;
+      m.cued (none_right (settles_now mode m.opened e) (is_cue e || m.cued) h) a.first;
   run = run_more mode log m.row e a.run;
   is_first = λ h. still_first mode limit log e (a.is_first (early_left limit m.row m.early h)) (run_has mode limit log m.row a.run (early_right limit m.row m.early h));
 }
@@ -117,7 +125,11 @@ may_play : (mode : Mode) (list : List Item) (log : List Exchange) (m : Memo) (k 
 may_play mode list log m k here is last =
     let d = last.is_done refl in
     record {
-      before = last.before; cue = last.cue; between = d.between; status = d.status; after = d.rest;
+      before = last.before;
+      cue = last.cue;
+      between = d.between;
+      status = d.status;
+      after = d.rest;
       in_order = last.in_order ∙ ap (λ xs. last.before ++ (last.cue ∷ xs)) d.in_order;
       cues_next = rw (here, last.is_command) (cue_named mode list k m is);
       taken = taken_cue mode list k m last.cue last.is_taken is;
@@ -145,11 +157,20 @@ may_send mode list limit port log m stop tries sends_probe a holds = may_going m
 may_send mode list limit port log m stop tries sends_check a holds = may_going mode list log _ (nothing_ends mode limit log m a holds.0) tt
 may_send mode list limit port log m stop tries sends_drain a holds = may_going mode list log _ (nothing_ends mode limit log m a holds.0) tt
 may_send mode list limit port log m stop tries sends_close a holds = record {
-  row = inr (a.count ∙ holds.0, a.opened ∙ holds.1); after_stop = λ h. refl; after_close = λ h. refl }
+  row = inr (a.count ∙ holds.0, a.opened ∙ holds.1);
+  after_stop = λ h. refl;
+  after_close = λ h. refl;
+}
 may_send mode list limit port log m stop tries sends_halt a holds = record {
-  row = tt; after_stop = λ h. refl; after_close = λ h. absurd (closed_both (list_any is_close log) m.closed a.closes holds.0 h) }
+  row = tt;
+  after_stop = λ h. refl;
+  after_close = λ h. absurd (closed_both (list_any is_close log) m.closed a.closes holds.0 h);
+}
 may_send mode list limit port log m stop tries sends_halt_close a holds = record {
-  row = inl (a.stops ∙ holds.0); after_stop = λ h. refl; after_close = λ h. refl }
+  row = inl (a.stops ∙ holds.0);
+  after_stop = λ h. refl;
+  after_close = λ h. refl;
+}
 
 may_await : (plan : Plan) (log : List Exchange) (m : Memo) (awaiting stop : Bool) (unanswered tries : ℕ) (stage : Stage) (c : Command)
     → Agrees plan.mode plan.limit log m → AtStage plan.mode plan.list plan.limit m awaiting stop tries stage
@@ -194,8 +215,8 @@ rules_within mode list log before x after e rules (y ∷ last) some is order =
 rules_push : (mode : Mode) (list : List Item) (log : List Exchange) (e : Exchange) → KeepsRules mode list log → May mode list log e.command → KeepsRules mode list (log ++ e ∷ [])
 rules_push mode list log e rules may before x after is =
     elim (cut log before (x ∷ after) e (λ h. cc) is) [
-      inl w ↦ (let same : x ≡ e = (let both = w.1 in cc) in rw (w.0, same) may)
-    | inr w ↦ rules_within mode list log before x after e rules w.last w.some w.before w.after
+      | inl w ↦ (let same : x ≡ e = (let both = w.1 in cc) in rw (w.0, same) may)
+      | inr w ↦ rules_within mode list log before x after e rules w.last w.some w.before w.after
     ]
 
 known_more : (plan : Plan) (state : State) (log : List Exchange) (came : Option Heard) → Known plan state log → (o : Option Exchange) → ended_by plan came state ≡ o
@@ -203,7 +224,9 @@ known_more : (plan : Plan) (state : State) (log : List Exchange) (came : Option 
 known_more plan state log came known None is =
     let next = came_holds plan known.memo state came known.holds in
     record {
-      memo = known.memo; agrees = known.agrees; rules = known.rules;
+      memo = known.memo;
+      agrees = known.agrees;
+      rules = known.rules;
       holds = subst (λ o. Holds plan (remembered plan known.memo o) (came_to plan came state)) is next;
     }
 known_more plan state log came known (Some e) is =
@@ -224,7 +247,11 @@ known_quiet plan old new log known keeps = record { memo = known.memo; agrees = 
 
 known : (plan : Plan) {state : State} {log : List Exchange} → Reached plan state log → Known plan state log
 known plan (begun some few) = record {
-  memo = blank; agrees = agrees_nil plan.mode plan.limit; holds = begun_holds plan some; rules = rules_nil plan.mode plan.list }
+  memo = blank;
+  agrees = agrees_nil plan.mode plan.limit;
+  holds = begun_holds plan some;
+  rules = rules_nil plan.mode plan.list;
+}
 known plan (called {state} {log} r Tick) = known_quiet plan state (ticked state) log (known plan r) (λ m h. ticked_holds plan m state h)
 known plan (called {state} {log} r (Receive came)) = known_came plan state log came (known plan r)
 known plan (called {state} {log} r Take) = known_quiet plan state (taken state) log (known plan r) (λ m h. taken_holds plan m state h)
@@ -264,7 +291,10 @@ refused : (plan : Plan) (log : List Exchange) (m : Memo) (k : ℕ) → plan.mode
 refused plan log m k mode a trial =
     let f = a.first trial.0 in
     record {
-      before = f.before; cue = f.cue; after = f.after; in_order = f.in_order;
+      before = f.before;
+      cue = f.cue;
+      after = f.after;
+      in_order = f.in_order;
       cues = rw f.is_command trial.1;
       none_settles = subst (λ x. settled x f.before ≡ settled x log) mode f.none_settles;
       empties = omega (arith, trial.2, f.is_count);
@@ -284,17 +314,19 @@ lawful plan state log reached =
     let a = k.agrees in
     let h = k.holds in
     let end : (outcome : Outcome) → outcome_of state.stage ≡ Some outcome → AtEnd plan.mode plan.list plan.limit k.memo outcome =
-      λ outcome is. at_outcome plan.mode plan.list plan.limit k.memo state.awaiting state.stop state.tries state.stage outcome h.stage is in
+    λ outcome is. at_outcome plan.mode plan.list plan.limit k.memo state.awaiting state.stop state.tries state.stage outcome h.stage is in
     record {
       keeps_rules = k.rules;
       may_await = each (awaited plan state) _ (λ c is. may_next plan state log c k is);
       may_give = each (given plan state) _ (λ c is. may_next plan (ticked state) log c (known plan (called reached Tick)) (given_awaited state.awaiting (awaited plan (ticked state)) c is));
       is_settled = h.settled ∙ sym a.count;
-      is_lost =
-        (λ lost. record {
+      is_lost = (
+        λ lost. record {
           now = run_is plan.mode plan.limit log k.memo.row a.run (lost_row plan.limit k.memo.row state.unanswered state.stage h.row lost);
-          not_before = a.is_first h.not_early },
-        λ lost. row_lost plan.limit k.memo.row state.unanswered state.stage h.row (λ short. run_has plan.mode plan.limit log k.memo.row a.run short lost.now));
+          not_before = a.is_first h.not_early;
+        },
+        λ lost. row_lost plan.limit k.memo.row state.unanswered state.stage h.row (λ short. run_has plan.mode plan.limit log k.memo.row a.run short lost.now),
+      );
       is_refused = λ confirming place is. refused plan log k.memo place confirming a (end (Refused place) is confirming);
       is_done = λ is. a.count ∙ end Done is;
       is_missing = λ place is. a.count ∙ end (Missing place) is;

@@ -21,8 +21,8 @@ cut (x ∷ xs) (f ∷ fs) rest e some is =
     let head : x ≡ f = cc in
     let tail : xs ++ e ∷ [] ≡ fs ++ rest = cc in
     elim (cut xs fs rest e some tail) [
-      inl w ↦ inl (let front : fs ≡ xs = w.0 in let all : f ∷ fs ≡ x ∷ xs = cc in all, w.1)
-    | inr w ↦ inr (record { last = w.last; some = w.some; before = (let b : xs ≡ fs ++ w.last = w.before in let all : x ∷ xs ≡ f ∷ (fs ++ w.last) = cc in all); after = w.after })
+      | inl w ↦ inl (let front : fs ≡ xs = w.0 in let all : f ∷ fs ≡ x ∷ xs = cc in all, w.1)
+      | inr w ↦ inr (record { last = w.last; some = w.some; before = (let b : xs ≡ fs ++ w.last = w.before in let all : x ∷ xs ≡ f ∷ (fs ++ w.last) = cc in all); after = w.after })
     ]
 
 pub last_or-push : {X : Type 0} (o : Option X) (xs : List X) (x : X) → last_or o (xs ++ x ∷ []) ≡ Some x
@@ -50,6 +50,10 @@ pub count_by-range_same : (p q : ℕ → Bool) (a n : ℕ) → ((k : ℕ) → k 
 count_by-range_same p q a zero same = refl
 count_by-range_same p q a (suc n) same =
     let here : p a ≡ q a = same a (omega arith) in
-    omega (arith, count_by-range_same p q (a + 1) n (λ k below. same k (omega arith)),
-      sum_by-cons (λ k. cond (p k) 1 0) a (range_with_len (a + 1) n), sum_by-cons (λ k. cond (q k) 1 0) a (range_with_len (a + 1) n),
-      ap (λ b. cond {A = ℕ} b 1 0) here)
+    omega (
+      arith,
+      count_by-range_same p q (a + 1) n (λ k below. same k (omega arith)),
+      sum_by-cons (λ k. cond (p k) 1 0) a (range_with_len (a + 1) n),
+      sum_by-cons (λ k. cond (q k) 1 0) a (range_with_len (a + 1) n),
+      ap (λ b. cond {A = ℕ} b 1 0) here,
+    )

@@ -118,7 +118,9 @@ done_push after e done had no_play true is now = record { between = after; statu
 done_push after e done had no_play false is now =
     let h = had now in
     record {
-      between = h.between; status = h.status; rest = h.rest ++ e ∷ [];
+      between = h.between;
+      status = h.status;
+      rest = h.rest ++ e ∷ [];
       in_order = in_order_push after h.between h.status h.rest e h.in_order;
       done = h.done;
       no_play = any_push is_play h.rest e false h.no_play ∙ no_play;
@@ -140,16 +142,25 @@ pub last_push : (mode : Mode) (log : List Exchange) (opened : Bool) (e : Exchang
     → (cues : Bool) → is_cue e ≡ cues → (cued : Bool) → (cues || cued) ≡ true → (cued ≡ true → LastCue mode log command acked done)
     → LastCue mode (log ++ e ∷ []) (if cues then e.command else command) (if cues then is_acked e else acked) (not (cues || is_play e) && (is_done_status e || done))
 last_push mode log opened e command acked done open_is none true is cued some had = record {
-  before = log; cue = e; after = []; in_order = refl; is_command = refl; is_taken = refl; last = refl;
+  before = log;
+  cue = e;
+  after = [];
+  in_order = refl;
+  is_command = refl;
+  is_taken = refl;
+  last = refl;
   none_settles = sym (settled_stays mode log opened e open_is none);
   is_done = λ h. cc;
 }
 last_push mode log opened e command acked done open_is none false is cued some had =
     let h = had some in
     record {
-      before = h.before; cue = h.cue; after = h.after ++ e ∷ [];
+      before = h.before;
+      cue = h.cue;
+      after = h.after ++ e ∷ [];
       in_order = in_order_push log h.before h.cue h.after e h.in_order;
-      is_command = h.is_command; is_taken = h.is_taken;
+      is_command = h.is_command;
+      is_taken = h.is_taken;
       last = any_push is_cue h.after e false h.last ∙ is;
       none_settles = h.none_settles ∙ sym (settled_stays mode log opened e open_is none);
       is_done = λ now. done_push h.after e done h.is_done (no_play_in (is_play e) (is_done_status e || done) now) (is_done_status e) refl (done_in (is_play e) (is_done_status e || done) now);
@@ -162,14 +173,20 @@ pub first_push : (mode : Mode) (log : List Exchange) (opened : Bool) (e : Exchan
 first_push mode log opened e command empties open_is none true some had =
     let h = had refl in
     record {
-      before = h.before; cue = h.cue; after = h.after ++ e ∷ [];
+      before = h.before;
+      cue = h.cue;
+      after = h.after ++ e ∷ [];
       in_order = in_order_push log h.before h.cue h.after e h.in_order;
       is_command = h.is_command;
       none_settles = h.none_settles ∙ sym (settled_stays mode log opened e open_is none);
       is_count = rw (sum_by_push (λ x. cond {A = ℕ} (is_empty_status x) 1 0) h.after e) (one_more (is_empty_status e) h.is_count);
     }
 first_push mode log opened e command empties open_is none false some had = record {
-  before = log; cue = e; after = []; in_order = refl; is_command = refl;
+  before = log;
+  cue = e;
+  after = [];
+  in_order = refl;
+  is_command = refl;
   none_settles = sym (settled_stays mode log opened e open_is none);
   is_count = omega arith;
 }

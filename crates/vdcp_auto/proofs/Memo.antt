@@ -32,8 +32,19 @@ pub record Memo : Type 0 where
 
 abbrev pub blank : Memo
 blank = record {
-  opened = false; count = 0; cued = false; cue = command.Stop; acked = false; done = false; first = command.Stop; empties = 0;
-  row = 0; early = false; stopped = false; closed = false; granted = false;
+  opened = false;
+  count = 0;
+  cued = false;
+  cue = command.Stop;
+  acked = false;
+  done = false;
+  first = command.Stop;
+  empties = 0;
+  row = 0;
+  early = false;
+  stopped = false;
+  closed = false;
+  granted = false;
 }
 
 abbrev pub opens : Bool → Exchange → Bool

@@ -33,7 +33,8 @@ run_push : (log : List Exchange) (row : ℕ) (e : Exchange) (answered : Bool) �
     → Run (log ++ e ∷ []) (if answered then 0 else row + 1)
 run_push log row e true is run = record { front = log ++ e ∷ []; rest = []; in_order = sym (append-nil (log ++ e ∷ [])); is_row = refl; unanswered = refl; answered = ends log e is }
 run_push log row e false is run = record {
-  front = run.front; rest = run.rest ++ e ∷ [];
+  front = run.front;
+  rest = run.rest ++ e ∷ [];
   in_order = ap (λ xs. xs ++ e ∷ []) run.in_order ∙ append_assoc run.front run.rest (e ∷ []);
   is_row = rw length-append (omega (arith, run.is_row));
   unanswered = list_any-append is_answered run.rest (e ∷ []) ∙ (let before = run.unanswered in grind arith);
@@ -65,7 +66,7 @@ run_long log row limit run long =
     let size : length log ≡ length run.front + row = ap length run.in_order ∙ length-append run.front run.rest ∙ ap (λ n. length run.front + n) run.is_row in
     let place : length log - limit ≡ length run.front + (row - limit) = omega arith in
     let tail : drop (length log - limit) log ≡ drop (row - limit) run.rest =
-      ap (drop (length log - limit)) run.in_order ∙ drop_past run.front run.rest (row - limit) (length log - limit) place in
+    ap (drop (length log - limit)) run.in_order ∙ drop_past run.front run.rest (row - limit) (length log - limit) place in
     (omega arith, ap (list_any is_answered) tail ∙ drop_any is_answered (row - limit) run.rest run.unanswered)
 
 -- an answered exchange among the last ones
@@ -74,7 +75,7 @@ found : (before rest : List Exchange) (e : Exchange) (k : ℕ) → k ≤ length 
 found before rest e k within is quiet =
     let split : drop k (before ++ (e ∷ rest)) ≡ drop k before ++ (e ∷ rest) = drop-append-le k before (e ∷ rest) within in
     let parts : list_any is_answered (drop k (before ++ (e ∷ rest))) ≡ (list_any is_answered (drop k before) || list_any is_answered (e ∷ rest)) =
-      ap (list_any is_answered) split ∙ list_any-append is_answered (drop k before) (e ∷ rest) in
+    ap (list_any is_answered) split ∙ list_any-append is_answered (drop k before) (e ∷ rest) in
     grind arith
 
 run_short : (log front rest : List Exchange) (limit : ℕ) → log ≡ front ++ rest → IsAnsweredLast front → limit ≤ length log
@@ -104,6 +105,6 @@ pub first_push : (mode : Mode) (limit : ℕ) (log : List Exchange) (e : Exchange
     → IsFirst mode limit (log ++ e ∷ [])
 first_push mode limit log e before now front rest some is quiet =
     elim (cut log front rest e some is) [
-      inl w ↦ now (subst (EndsUnanswered mode limit) w.0 quiet)
-    | inr w ↦ before front w.last w.some w.before quiet
+      | inl w ↦ now (subst (EndsUnanswered mode limit) w.0 quiet)
+      | inr w ↦ before front w.last w.some w.before quiet
     ]

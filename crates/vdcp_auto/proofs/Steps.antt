@@ -154,7 +154,6 @@ replied Confirming list limit port m take stop tries sends_check sense (reply.Ac
 replied Confirming list limit port m take stop tries sends_drain sense (reply.State g (Some b)) fit holds = grind arith
 replied mode list limit port m take stop tries _ sense r fit holds = cc
 
-
 -- ACK, in plain mode
 acked_plain : (list : List Item) (limit port : ℕ) (m : Memo) (take stop : Bool) (tries : ℕ) {p : Phase} {c : Command}
     → Sends list port p c → is_sense c ≡ false → (r : Reply) → fits c r ≡ true
@@ -168,7 +167,6 @@ acked_plain list limit port m take stop tries sends_close control reply.Ack fit 
 acked_plain list limit port m take stop tries sends_halt control reply.Ack fit holds = grind arith
 acked_plain list limit port m take stop tries sends_halt_close control reply.Ack fit holds = grind arith
 acked_plain list limit port m take stop tries _ control r fit holds = cc
-
 
 -- Together.
 

@@ -46,8 +46,13 @@ take_after_sending _ take = take
 abbrev pub sent : Phase → State → State
 sent p state =
     record {
-      stage = Running p; awaiting = true; take = take_after_sending p state.take; stop = false;
-      unanswered = state.unanswered; settled = state.settled; tries = state.tries;
+      stage = Running p;
+      awaiting = true;
+      take = take_after_sending p state.take;
+      stop = false;
+      unanswered = state.unanswered;
+      settled = state.settled;
+      tries = state.tries;
     }
 
 abbrev pub tick_in : Bool → Stage → State → State
@@ -125,8 +130,13 @@ unanswered_after mode e n = if is_counted mode e then (if is_answered e then 0 e
 abbrev pub turned : Turn → ℕ → State → State
 turned turn unanswered state =
     record {
-      stage = stage_after turn; awaiting = false; take = state.take; stop = state.stop;
-      unanswered = unanswered; settled = settled_after turn state.settled; tries = tries_after turn state.tries;
+      stage = stage_after turn;
+      awaiting = false;
+      take = state.take;
+      stop = state.stop;
+      unanswered = unanswered;
+      settled = settled_after turn state.settled;
+      tries = tries_after turn state.tries;
     }
 
 abbrev pub ended_in : Plan → Stage → Exchange → State → State

@@ -5,13 +5,12 @@ ghost use Rattle.vdcp_auto.specs.Log as log;
 ghost use Rattle.vdcp_auto.specs.Table as table;
 ghost use Rattle.vdcp_auto.specs.Turn as turns;
 
-use std::marker::Model;
-
 use crate::exchange::{Exchange, Heard};
 use crate::outcome::Outcome;
 use crate::phase::{Mode, Phase, Stage, State, Turn};
 use crate::source::Source;
 use crate::words;
+use std::marker::Model;
 use vdcp_words::{Command, Reply};
 
 /// The lock byte of OPEN PORT.
@@ -292,11 +291,9 @@ impl<S: Source> Controller<S> {
         match words::answer_in(exchange) {
             Some(reply) if words::is_refusal(&reply) => self.on_refusal(phase),
             Some(reply) => self.on_reply(phase, &reply),
-            None if words::is_counted(self.mode, exchange)
-                && self.state.unanswered + 1 >= self.limit =>
-            {
-                Turn::Ends(Outcome::Lost)
-            }
+            None
+                if words::is_counted(self.mode, exchange)
+                    && self.state.unanswered + 1 >= self.limit => { Turn::Ends(Outcome::Lost) }
             None => self.on_silence(phase),
         }
     }
@@ -400,7 +397,11 @@ impl<S: Source> Controller<S> {
         if self.state.awaiting {
             return None;
         }
-        let phase = if self.state.stop { Phase::Halt } else { current };
+        let phase = if self.state.stop {
+            Phase::Halt
+        } else {
+            current
+        };
         let command = self.command_in(phase);
         self.state.stage = Stage::Running(phase);
         self.state.awaiting = true;

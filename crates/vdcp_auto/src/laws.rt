@@ -21,5 +21,4 @@ ghost use Rattle.vdcp_auto.specs.Law.{IsLawful};
 /// - Done means that every event is settled, and Missing(k) that the events before k are.
 pub fn reached_is_lawful()
     ensures { (plan : Plan) (state : State) (log : List Exchange) → Reached plan state log → IsLawful plan state log }
-{
-}
+{}

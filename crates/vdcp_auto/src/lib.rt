@@ -21,3 +21,6 @@ pub use exchange::{Exchange, Heard, Input};
 pub use outcome::Outcome;
 pub use rehearsal::{rehearse, rehearse_confirming};
 pub use source::Source;
+
+#[cfg(test)]
+mod tests;

@@ -4,11 +4,10 @@ ghost use Rattle.vdcp_auto.specs.RuleBook.{KeepsRules};
 ghost use Rattle.vdcp_auto.specs.declared.phase.Mode.TheVariants.{Plain, Confirming};
 ghost use Rattle.vdcp_auto.specs.Course.{course, course_from};
 
-use std::alloc::{AllocError, Allocator};
-
 use crate::controller::Controller;
 use crate::exchange::{Exchange, Input};
 use crate::source::Source;
+use std::alloc::{AllocError, Allocator};
 
 /// The exchanges of a new controller in plain mode to which these inputs happen, in order.
 ///

@@ -6,5 +6,5 @@ use Rattle.vdcp_auto.proofs.rehearsal.run.Given as goal
 abbrev pub invariant-loop-input : goal.invariant-loop-input
 invariant-loop-input g l =
     (l.log.items ++ course_from (plan_of g.S.Source.items l.controller) l.controller.state (drop l.input-index l.inputs)
-        ≡ course_from (plan_of g.S.Source.items l.initial.controller) l.initial.controller.state l.inputs)
+    ≡ course_from (plan_of g.S.Source.items l.initial.controller) l.initial.controller.state l.inputs)
     × (l.controller ≡ record l.initial.controller { state = l.controller.state })

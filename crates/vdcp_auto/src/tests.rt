@@ -1,0 +1,4 @@
+//! The worked courses of a controller, over a small source.
+mod clips;
+mod courses;
+mod wishes;
