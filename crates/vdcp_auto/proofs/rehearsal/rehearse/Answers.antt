@@ -1,6 +1,5 @@
-use Rattle.std.proofs.Common.{◌≡◌, List, ◌∙◌, ap, subst, sym}
+use Rattle.std.proofs.Common.{◌≡◌, subst, sym}
 use Rattle.std.proofs.lemmas.Result.{IfOk-weaker}
-use Rattle.vdcp_auto.specs.declared.exchange.Exchange.{Exchange}
 use Rattle.vdcp_auto.specs.declared.phase.Mode.TheVariants.{Plain}
 use Rattle.vdcp_auto.specs.Plan.{Plan, plan_of}
 use Rattle.vdcp_auto.specs.RuleBook.{KeepsRules}
@@ -16,6 +15,6 @@ returns-clause-allowed g c =
     (λ log. log.items ≡ course_from (plan_of g.S.Source.items c.new.result) c.new.result.state inputs)
     (λ log. KeepsRules Plain plan.list log.items)
     (λ log is.
-    let same : log.items ≡ course plan inputs = is ∙ ap (λ view. course_from (plan_of g.S.Source.items view) view.state inputs) c.new.ensures in
-    subst (KeepsRules Plain plan.list) (sym same) (KeepsRules-course plan inputs c.requires.some c.requires.few))
+      let same : log.items ≡ course plan inputs = rw c.new.ensures at is in
+      subst (KeepsRules Plain plan.list) (sym same) (KeepsRules-course plan inputs c.requires.some c.requires.few))
     c.run.ensures
