@@ -21,12 +21,16 @@ use Rattle.vdcp_auto.specs.declared.phase.Turn.TheVariants.{Goes, Settles, Retri
 use Rattle.vdcp_auto.specs.Replies.{is_receipt, is_refusal}
 use Rattle.vdcp_auto.specs.Commands.{is_sense}
 use Rattle.vdcp_auto.specs.Log.{answer_in, is_answered, is_counted}
-use Rattle.vdcp_auto.specs.Plan.{Plan}
+use Rattle.vdcp_auto.specs.Plan.{Plan, View}
 use Rattle.vdcp_auto.specs.Table.{command_in, on_reply, on_refusal, on_silence, can_stop}
 
--- a new controller
+-- where each controller begins
 abbrev pub start : State
 start = record { stage = Running phase.Open; awaiting = false; take = false; stop = false; unanswered = 0; settled = 0; tries = 0 }
+
+-- a new controller
+abbrev pub new_controller : {S : Type 0} → S → Mode → ℕ → ℕ → View S
+new_controller source mode port limit = record { source = source; mode = mode; port = port; limit = limit; state = start }
 
 abbrev pub outcome_of : Stage → Option Outcome
 outcome_of (Running p) = None

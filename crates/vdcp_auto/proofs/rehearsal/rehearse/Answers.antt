@@ -15,6 +15,6 @@ returns-clause-allowed g c =
     (λ log. log.items ≡ course_from (plan_of g.S.Source.items c.new.result) c.new.result.state inputs)
     (λ log. KeepsRules Plain plan.list log.items)
     (λ log is.
-      let same : log.items ≡ course plan inputs = rw c.new.ensures at is in
-      subst (KeepsRules Plain plan.list) (sym same) (KeepsRules-course plan inputs c.requires.some c.requires.few))
+    let same : log.items ≡ course plan inputs = rw c.new.ensures at is in
+    subst (KeepsRules Plain plan.list) (sym same) (KeepsRules-course plan inputs c.requires.some c.requires.few))
     c.run.ensures

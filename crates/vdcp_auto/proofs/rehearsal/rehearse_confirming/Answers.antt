@@ -15,6 +15,6 @@ returns-clause-allowed g c =
     (λ log. log.items ≡ course_from (plan_of g.S.Source.items c.confirming.result) c.confirming.result.state inputs)
     (λ log. KeepsRules Confirming plan.list log.items)
     (λ log is.
-      let same : log.items ≡ course plan inputs = rw c.confirming.ensures at is in
-      subst (KeepsRules Confirming plan.list) (sym same) (KeepsRules-course plan inputs c.requires.some c.requires.few))
+    let same : log.items ≡ course plan inputs = rw c.confirming.ensures at is in
+    subst (KeepsRules Confirming plan.list) (sym same) (KeepsRules-course plan inputs c.requires.some c.requires.few))
     c.run.ensures

@@ -10,5 +10,5 @@ invariant_of-self-in-Some g c =
     let view = c.self.inside.controller in
     let kept : c.keep.new.log.items ≡ log ++ c.in-Some.exchange ∷ [] = search rules in
     let more : c.keep.new.log.items ≡ logged log (ended_by (plan_of g.S.Source.items view) c.args.came view.state) =
-      kept ∙ ap (logged log) c.in-Some.ensures.exchange in
+    kept ∙ ap (logged log) c.in-Some.ensures.exchange in
     rw (c.receive.ensures.after, more) (called c.self.invariant (Receive c.args.came))
