@@ -1,4 +1,4 @@
-ghost use Rattle.std.specs.Prelude.{◌≡◌, ◌↔◌, ◌≤◌, Some, None, IsTrue};
+ghost use Rattle.std.specs.Prelude.{◌≡◌, ◌↔◌, ◌<◌, ◌≤◌, ◌^◌, Some, None, IsTrue};
 ghost use Rattle.vdcp_auto.specs.Plan.{plan_of};
 ghost use Rattle.vdcp_auto.specs.Turn as turns;
 
@@ -109,7 +109,7 @@ impl<S: Source> Controller<S> {
         ensures { result ≡ turns.awaited (plan_of S.items self.now) self.now.state }
     {
         match self.state.stage {
-            Stage::Running(phase) if self.state.awaiting => Some(self.command_in(phase)),
+            Stage::Running(phase) if self.awaiting() => Some(self.command_in(phase)),
             Stage::Running(_) | Stage::Ended(_) => None,
         }
     }
@@ -207,7 +207,7 @@ impl<S: Source> Controller<S> {
         let Stage::Running(current) = self.state.stage else {
             return None;
         };
-        if self.state.awaiting {
+        if self.awaiting() {
             return None;
         }
         let phase = if self.state.stop {
@@ -216,12 +216,13 @@ impl<S: Source> Controller<S> {
             current
         };
         let command = self.command_in(phase);
-        self.state.stage = Stage::Running(phase);
-        self.state.awaiting = true;
-        self.state.stop = false;
-        if let Phase::Play(_) = phase {
-            self.state.take = false;
-        }
+        self.state = State {
+            stage: Stage::Running(phase),
+            awaiting: true,
+            take: self.state.take && !matches!(phase, Phase::Play(_)),
+            stop: false,
+            ..self.state
+        };
         Some(command)
     }
 
@@ -234,28 +235,52 @@ impl<S: Source> Controller<S> {
     {
         let turn = self.turn_of(phase, exchange);
         let counts = words::is_counted(self.mode, exchange);
-        self.state.unanswered = match words::answer_in(exchange) {
+        let unanswered = match words::answer_in(exchange) {
             Some(_) if counts => 0,
             None if counts => self.state.unanswered + 1,
             Some(_) | None => self.state.unanswered,
         };
-        self.state.awaiting = false;
-        match turn {
-            Turn::Goes(next) => {
-                self.state.stage = Stage::Running(next);
-                if let Phase::Exists(_) = next {
-                    self.state.tries = 0;
-                }
-            }
-            Turn::Settles(k) => {
-                self.state.stage = Stage::Running(Phase::Check(k));
-                self.state.settled = k + 1;
-            }
-            Turn::Retries(k) => {
-                self.state.stage = Stage::Running(Phase::Cue(k));
-                self.state.tries += 1;
-            }
-            Turn::Ends(outcome) => self.state.stage = Stage::Ended(outcome),
-        }
+        self.state = State {
+            awaiting: false,
+            unanswered,
+            ..state_after(turn, self.state)
+        };
+    }
+}
+
+/// The state as the turn leaves it.
+fn state_after(turn: Turn, state: State) -> State
+    requires counted { turns.settled_after turn state.settled < 2 ^ 64 }
+    requires tried { turns.tries_after turn state.tries < 2 ^ 32 }
+    ensures { result ≡ record state {
+      stage = turns.stage_after turn;
+      settled = turns.settled_after turn state.settled;
+      tries = turns.tries_after turn state.tries;
+    } }
+{
+    match turn {
+        Turn::Goes(Phase::Exists(k)) => State {
+            stage: Stage::Running(Phase::Exists(k)),
+            tries: 0,
+            ..state
+        },
+        Turn::Goes(phase) => State {
+            stage: Stage::Running(phase),
+            ..state
+        },
+        Turn::Settles(k) => State {
+            stage: Stage::Running(Phase::Check(k)),
+            settled: k + 1,
+            ..state
+        },
+        Turn::Retries(k) => State {
+            stage: Stage::Running(Phase::Cue(k)),
+            tries: state.tries + 1,
+            ..state
+        },
+        Turn::Ends(outcome) => State {
+            stage: Stage::Ended(outcome),
+            ..state
+        },
     }
 }

@@ -187,7 +187,7 @@ fn on_silence_in_plain(phase: Phase) -> Turn
     ensures { result ≡ table.on_silence Mode.Plain phase }
 {
     match phase {
-        Phase::Play(k) => Turn::Goes(Phase::Probe(k)),
+        Phase::Play(sent) => Turn::Goes(Phase::Probe(sent)),
         Phase::Open
         | Phase::Select
         | Phase::Seen
