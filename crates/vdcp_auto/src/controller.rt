@@ -78,15 +78,7 @@ impl<S: Source> Controller<S> {
             mode,
             port,
             limit,
-            state: State {
-                stage: Stage::Running(Phase::Open),
-                awaiting: false,
-                take: false,
-                stop: false,
-                unanswered: 0,
-                settled: 0,
-                tries: 0,
-            },
+            state: State::start(),
         }
     }
 

@@ -125,3 +125,22 @@ pub struct State {
     /// How often the event's cue was lost (confirm mode).
     pub tries: u32,
 }
+
+impl State {
+    ghost use Rattle.vdcp_auto.specs.Turn.{start};
+
+    /// Where each controller begins.
+    pub fn start() -> State
+        ensures { result ≡ start }
+    {
+        State {
+            stage: Stage::Running(Phase::Open),
+            awaiting: false,
+            take: false,
+            stop: false,
+            unanswered: 0,
+            settled: 0,
+            tries: 0,
+        }
+    }
+}
