@@ -1,12 +1,8 @@
 -- What holds of a controller and its log, and that each call keeps it.
-use Rattle.std.proofs.Common.{◌≡◌, ℕ, ◌+◌, ◌≤◌, ◌<◌, Bool, true, false, not, ◌||◌, ◌&&◌, IsTrue, nat_le, Option, None, Some, List, length, refl, arith, sym, ap}
-use Rattle.std.specs.Prelude.{IsSomeAnd, slice_get}
+use Rattle.std.proofs.Common.{◌≡◌, ℕ, ◌+◌, ◌≤◌, ◌<◌, Bool, true, false, List, length}
 use Rattle.vdcp_value.specs.declared.part.Item.{Item}
-use Rattle.vdcp_words.specs.declared.command.Command.{Command}
-use Rattle.vdcp_auto.specs.declared.exchange.Exchange.{Exchange}
-use Rattle.vdcp_auto.specs.declared.exchange.Heard.{Heard}
 use Rattle.vdcp_auto.specs.declared.outcome.Outcome.{Outcome}
-use Rattle.vdcp_auto.specs.declared.outcome.Outcome.TheVariants.{Done, Stopped, Lost, Denied, Missing, Refused, Foreign, Strange}
+use Rattle.vdcp_auto.specs.declared.outcome.Outcome.TheVariants.{Done, Lost, Missing, Refused}
 use Rattle.vdcp_auto.specs.declared.phase.Mode.{Mode}
 use Rattle.vdcp_auto.specs.declared.phase.Mode.TheVariants.{Plain, Confirming}
 use Rattle.vdcp_auto.specs.declared.phase.Phase.{Phase}
@@ -14,14 +10,9 @@ use Rattle.vdcp_auto.specs.declared.phase.Phase.TheVariants as phase
 use Rattle.vdcp_auto.specs.declared.phase.Stage.{Stage}
 use Rattle.vdcp_auto.specs.declared.phase.Stage.TheVariants.{Running, Ended}
 use Rattle.vdcp_auto.specs.declared.phase.State.{State}
-use Rattle.vdcp_auto.specs.declared.phase.Turn.{Turn}
-use Rattle.vdcp_auto.specs.Commands.{cue_of}
-use Rattle.vdcp_auto.specs.Log.{answer_in, is_answered, is_counted}
 use Rattle.vdcp_auto.specs.RuleBook.{CuesItemAt}
 use Rattle.vdcp_auto.specs.Plan.{Plan}
-use Rattle.vdcp_auto.specs.Table.{command_in, on_reply, on_refusal, on_silence}
-use Rattle.vdcp_auto.specs.Turn.{start, ticked, awaited, is_end, on_answer, on_unanswered, turn_of, stage_after, settled_after, tries_after, unanswered_after, ended_in, ended_by, came_to, taken, stopped}
-use Rattle.vdcp_auto.proofs.Memo.{Memo, blank, remember}
+use Rattle.vdcp_auto.proofs.Memo.{Memo}
 
 -- the last cue is one of item k, and taken
 abbrev pub CueIs : Mode → List Item → ℕ → Memo → Type 0

@@ -1,6 +1,6 @@
 -- The law of a controller that calls have led to.
-use Rattle.std.proofs.Common.{◌≡◌, ◌≢◌, ℕ, ◌+◌, ◌≤◌, ◌<◌, Bool, true, false, cond, not, ◌||◌, ◌&&◌, IsTrue, Option, None, Some, List, [], ◌∷◌, ◌++◌, length, refl, arith, sym, ap, subst, ◌∙◌, ◌⊎◌, inl, inr, append_assoc}
-use Rattle.std.specs.Prelude.{if◌then◌else◌, nat_le, is_some, IfSome, ◌↔◌}
+use Rattle.std.proofs.Common.{◌≡◌, ◌≢◌, ℕ, ◌+◌, ◌≤◌, ◌<◌, Bool, true, false, cond, not, ◌||◌, ◌&&◌, Option, None, Some, List, [], ◌∷◌, ◌++◌, refl, arith, sym, ap, subst, ◌∙◌, inl, inr, append_assoc}
+use Rattle.std.specs.Prelude.{if◌then◌else◌, nat_le, is_some, IfSome}
 use Rattle.std.specs.Option.{option_to_list}
 use Rattle.std.specs.List.{list_any}
 use Rattle.std.proofs.lemmas.List.{append-nil}
@@ -18,19 +18,17 @@ use Rattle.vdcp_auto.specs.declared.phase.Phase.{Phase}
 use Rattle.vdcp_auto.specs.declared.phase.Stage.{Stage}
 use Rattle.vdcp_auto.specs.declared.phase.Stage.TheVariants.{Running, Ended}
 use Rattle.vdcp_auto.specs.declared.phase.State.{State}
-use Rattle.vdcp_auto.specs.Commands.{is_stop_command, is_close_command}
-use Rattle.vdcp_auto.specs.Log.{is_cue, is_play, is_stop, is_close, is_grant, is_acked}
+use Rattle.vdcp_auto.specs.Log.{is_cue, is_stop, is_close, is_grant, is_acked}
 use Rattle.vdcp_auto.specs.Settled.{has_open_play, settled}
 use Rattle.vdcp_auto.specs.RuleBook.{CuesItemAt, IsTaken, MayPlay, Row, May, KeepsRules}
-use Rattle.vdcp_auto.specs.Endings.{counted, EndsUnanswered, IsLost, IsRefused}
+use Rattle.vdcp_auto.specs.Endings.{counted, IsRefused}
 use Rattle.vdcp_auto.specs.Plan.{Plan}
-use Rattle.vdcp_auto.specs.Table.{command_in}
 use Rattle.vdcp_auto.specs.Turn.{start, ticked, awaited_in, awaited, given, is_end, exchange_of, ended_by, came_to, taken, stopped, outcome_of}
-use Rattle.vdcp_auto.specs.Course.{course_from, course, Call, Tick, Receive, Take, Stop, logged, Reached, begun, called}
+use Rattle.vdcp_auto.specs.Course.{course_from, course, Tick, Receive, Take, Stop, logged, Reached, begun, called}
 use Rattle.vdcp_auto.specs.Law.{IsLawful}
-use Rattle.vdcp_auto.proofs.Lists.{Cut, cut}
+use Rattle.vdcp_auto.proofs.Lists.{cut}
 use Rattle.vdcp_auto.proofs.Memo.{Memo, blank, opens, settles_now, remember}
-use Rattle.vdcp_auto.proofs.LookBacks.{has_open_play-push, settled-push, LastCue, FirstCue, HasDone, any_push, last_push, first_push}
+use Rattle.vdcp_auto.proofs.LookBacks.{has_open_play-push, settled-push, LastCue, FirstCue, any_push, last_push, first_push}
 use Rattle.vdcp_auto.proofs.Runs.{Run, no_run, run_more, run_is, run_has, IsFirst, first_none, first_push as still_first}
 use Rattle.vdcp_auto.proofs.Keeps.{InPhase, CueIs, TrialIs, IsGoing, RowIs, AtEnd, AtStage, Holds}
 use Rattle.vdcp_auto.proofs.Steps.{Sends, sends_open, sends_select, sends_seen, sends_exists, sends_whole, sends_part, sends_wait, sends_play, sends_probe, sends_check, sends_drain, sends_close, sends_halt, sends_halt_close}

@@ -1,7 +1,7 @@
 -- Lists that grow at their end.
-use Rattle.std.proofs.Common.{◌≡◌, ◌≢◌, ℕ, zero, suc, ◌+◌, ◌-◌, ◌≤◌, ◌<◌, Bool, true, false, cond, ◌||◌, Option, None, Some, List, [], ◌∷◌, ◌++◌, length, take, drop, refl, arith, sym, ap, subst, ◌∙◌, ◌⊎◌, inl, inr, append_assoc, add-one, add-zero}
-use Rattle.std.specs.Prelude.{slice_get, count_by, filter}
-use Rattle.std.specs.List.{last_or, range_with_len, list_any}
+use Rattle.std.proofs.Common.{◌≡◌, ◌≢◌, ℕ, zero, suc, ◌+◌, ◌<◌, Bool, cond, Option, Some, List, [], ◌∷◌, ◌++◌, length, refl, arith, sym, ap, ◌∙◌, ◌⊎◌, inl, inr, add-zero}
+use Rattle.std.specs.Prelude.{slice_get, count_by}
+use Rattle.std.specs.List.{last_or, range_with_len}
 use Rattle.std.proofs.lemmas.List.Sums.{sum_by-cons}
 
 -- where a list that has grown by one is cut before its end

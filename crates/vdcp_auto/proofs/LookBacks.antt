@@ -1,10 +1,10 @@
 -- The look-backs of specs/ over a log that has grown by one exchange, and what a log leaves behind.
-use Rattle.std.proofs.Common.{◌≡◌, ◌≢◌, ℕ, zero, suc, ◌+◌, ◌-◌, ◌≤◌, ◌<◌, Bool, true, false, cond, not, ◌||◌, ◌&&◌, IsTrue, Option, None, Some, List, [], ◌∷◌, ◌++◌, length, take, drop, refl, arith, sym, ap, subst, ◌∙◌, ◌⊎◌, inl, inr, append_assoc}
-use Rattle.std.specs.Prelude.{if◌then◌else◌, nat_le, slice_get, count_by, filter, ◌↔◌}
+use Rattle.std.proofs.Common.{◌≡◌, ℕ, suc, ◌+◌, ◌≤◌, ◌<◌, Bool, true, false, cond, not, ◌||◌, ◌&&◌, None, List, [], ◌∷◌, ◌++◌, length, take, refl, arith, sym, ap, ◌∙◌, append_assoc}
+use Rattle.std.specs.Prelude.{if◌then◌else◌, slice_get, count_by, filter}
 use Rattle.std.specs.Option.{option_map_or}
 use Rattle.std.specs.List.{last_or, range_with_len, list_any}
 use Rattle.std.proofs.Math.Seq.{take-append_seam}
-use Rattle.std.proofs.lemmas.List.{append-nil, take-append-le, drop-append-le, length-append}
+use Rattle.std.proofs.lemmas.List.{append-nil, take-append-le, length-append}
 use Rattle.std.proofs.lemmas.List.Elements.{filter-append}
 use Rattle.std.proofs.lemmas.List.Folds.{list_any-append}
 use Rattle.std.proofs.lemmas.List.Sums.{sum_by_push}
@@ -12,11 +12,10 @@ use Rattle.vdcp_words.specs.declared.command.Command.{Command}
 use Rattle.vdcp_auto.specs.declared.exchange.Exchange.{Exchange}
 use Rattle.vdcp_auto.specs.declared.phase.Mode.{Mode}
 use Rattle.vdcp_auto.specs.declared.phase.Mode.TheVariants.{Plain, Confirming}
-use Rattle.vdcp_auto.specs.Log.{is_play, is_stop, is_close, is_cue, is_grant, is_acked, is_answered, is_done_status, is_empty_status, is_counted}
+use Rattle.vdcp_auto.specs.Log.{is_play, is_stop, is_cue, is_acked, is_answered, is_done_status, is_empty_status}
 use Rattle.vdcp_auto.specs.Settled.{tells_of_play, has_open_play, settles, settles_at, settled}
-use Rattle.vdcp_auto.specs.Endings.{counted, EndsUnanswered}
-use Rattle.vdcp_auto.proofs.Lists.{Cut, cut, last_or-push, slice_get-append, slice_get-push, count_by-range_more, count_by-range_same}
-use Rattle.vdcp_auto.proofs.Memo.{Memo, blank, opens, settles_now, row_after, remember}
+use Rattle.vdcp_auto.proofs.Lists.{last_or-push, slice_get-append, slice_get-push, count_by-range_more, count_by-range_same}
+use Rattle.vdcp_auto.proofs.Memo.{opens, settles_now}
 
 -- Open PLAYs.
 

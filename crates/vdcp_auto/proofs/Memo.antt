@@ -1,6 +1,6 @@
 -- What a log leaves behind, exchange by exchange. The look-backs of specs/ equal this (LookBacks), and
 -- the induction over a controller's calls speaks of this alone.
-use Rattle.std.specs.Prelude.{ℕ, ◌+◌, Bool, true, false, not, ◌||◌, ◌&&◌, if◌then◌else◌, nat_le, Option, None, Some, List, fold}
+use Rattle.std.specs.Prelude.{ℕ, ◌+◌, Bool, false, not, ◌||◌, ◌&&◌, if◌then◌else◌, nat_le, List, fold}
 use Rattle.vdcp_words.specs.declared.command.Command.{Command}
 use Rattle.vdcp_words.specs.declared.command.Command.TheVariants as command
 use Rattle.vdcp_auto.specs.declared.exchange.Exchange.{Exchange}

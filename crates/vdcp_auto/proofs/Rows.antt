@@ -1,21 +1,18 @@
 -- The count of unanswered exchanges in a row, and the end that it brings.
-use Rattle.std.proofs.Common.{◌≡◌, ℕ, ◌+◌, ◌≤◌, ◌<◌, Bool, true, false, cond, not, ◌||◌, ◌&&◌, nat_le, Option, None, Some, List, length, refl, arith, sym, ap, subst}
+use Rattle.std.proofs.Common.{◌≡◌, ℕ, ◌+◌, ◌<◌, Bool, true, false, cond, ◌&&◌, nat_le, Option, None, Some, List, length, refl, arith}
 use Rattle.std.specs.Prelude.{if◌then◌else◌, is_some}
 use Rattle.vdcp_value.specs.declared.part.Item.{Item}
 use Rattle.vdcp_words.specs.declared.reply.Reply.{Reply}
 use Rattle.vdcp_auto.specs.declared.exchange.Exchange.{Exchange}
-use Rattle.vdcp_auto.specs.declared.outcome.Outcome.{Outcome}
 use Rattle.vdcp_auto.specs.declared.outcome.Outcome.TheVariants.{Done, Stopped, Lost, Denied, Missing, Refused, Foreign, Strange}
 use Rattle.vdcp_auto.specs.declared.phase.Mode.{Mode}
-use Rattle.vdcp_auto.specs.declared.phase.Mode.TheVariants.{Plain, Confirming}
 use Rattle.vdcp_auto.specs.declared.phase.Phase.{Phase}
-use Rattle.vdcp_auto.specs.declared.phase.Phase.TheVariants as phase
 use Rattle.vdcp_auto.specs.declared.phase.Turn.{Turn}
 use Rattle.vdcp_auto.specs.declared.phase.Turn.TheVariants.{Goes, Settles, Retries, Ends}
 use Rattle.vdcp_auto.specs.Replies.{is_refusal}
 use Rattle.vdcp_auto.specs.Log.{answer_in, is_counted}
 use Rattle.vdcp_auto.specs.Plan.{Plan}
-use Rattle.vdcp_auto.specs.Table.{next, on_lost_cue, on_reply, on_refusal, on_silence}
+use Rattle.vdcp_auto.specs.Table.{on_lost_cue, on_reply, on_refusal, on_silence}
 use Rattle.vdcp_auto.specs.Turn.{turn_on, stage_after, unanswered_after}
 use Rattle.vdcp_auto.proofs.Memo.{row_after}
 use Rattle.vdcp_auto.proofs.Keeps.{RowIs}

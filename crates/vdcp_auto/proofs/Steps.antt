@@ -1,6 +1,5 @@
 -- Each end of an exchange keeps what holds.
-use Rattle.std.proofs.Common.{◌≡◌, ℕ, ◌+◌, ◌≤◌, ◌<◌, Bool, true, false, cond, not, ◌||◌, ◌&&◌, IsTrue, nat_le, Option, None, Some, List, length, refl, arith, sym, ap, subst, rules}
-use Rattle.std.specs.Prelude.{IsSomeAnd, slice_get, ◌==◌, nat_eq, nat_lt, is_some}
+use Rattle.std.proofs.Common.{◌≡◌, ℕ, ◌+◌, Bool, true, false, cond, ◌&&◌, nat_le, Option, None, Some, List, length, refl, arith, sym, subst}
 use Rattle.vdcp_value.specs.declared.clip_id.ClipId.{ClipId}
 use Rattle.vdcp_value.specs.declared.part.Item.{Item}
 use Rattle.vdcp_words.specs.declared.command.Command.{Command}
@@ -10,22 +9,20 @@ use Rattle.vdcp_words.specs.declared.reply.Reply.TheVariants as reply
 use Rattle.vdcp_auto.specs.declared.exchange.Exchange.{Exchange}
 use Rattle.vdcp_auto.specs.declared.exchange.Heard.{Heard}
 use Rattle.vdcp_auto.specs.declared.exchange.Heard.TheVariants as heard
-use Rattle.vdcp_auto.specs.declared.outcome.Outcome.{Outcome}
-use Rattle.vdcp_auto.specs.declared.outcome.Outcome.TheVariants.{Done, Stopped, Lost, Denied, Missing, Refused, Foreign, Strange}
+use Rattle.vdcp_auto.specs.declared.outcome.Outcome.TheVariants.{Lost}
 use Rattle.vdcp_auto.specs.declared.phase.Mode.{Mode}
 use Rattle.vdcp_auto.specs.declared.phase.Mode.TheVariants.{Plain, Confirming}
 use Rattle.vdcp_auto.specs.declared.phase.Phase.{Phase}
 use Rattle.vdcp_auto.specs.declared.phase.Phase.TheVariants as phase
 use Rattle.vdcp_auto.specs.declared.phase.Turn.{Turn}
 use Rattle.vdcp_auto.specs.declared.phase.Turn.TheVariants.{Ends}
-use Rattle.vdcp_auto.specs.Replies.{is_refusal, is_ack, is_done, is_empty, is_granted}
-use Rattle.vdcp_auto.specs.Commands.{fits, is_state, is_opened, is_sense}
-use Rattle.vdcp_auto.specs.Log.{answer_to, answer_in, is_answered, is_counted, hears, is_grant, is_done_status, is_empty_status, is_play, is_acked}
+use Rattle.vdcp_auto.specs.Replies.{is_refusal, is_done, is_empty}
+use Rattle.vdcp_auto.specs.Commands.{fits, is_state, is_sense}
+use Rattle.vdcp_auto.specs.Log.{answer_in, is_answered, is_counted, is_grant, is_done_status, is_empty_status, is_play, is_acked}
 use Rattle.vdcp_auto.specs.RuleBook.{CuesItemAt}
-use Rattle.vdcp_auto.specs.Plan.{Plan}
-use Rattle.vdcp_auto.specs.Table.{command_in, on_reply, on_refusal, on_silence}
-use Rattle.vdcp_auto.specs.Turn.{is_end, turn_on, stage_after, settled_after, tries_after, unanswered_after}
-use Rattle.vdcp_auto.proofs.Memo.{Memo, blank, remember}
+use Rattle.vdcp_auto.specs.Table.{on_reply, on_refusal, on_silence}
+use Rattle.vdcp_auto.specs.Turn.{is_end, turn_on, stage_after, settled_after, tries_after}
+use Rattle.vdcp_auto.proofs.Memo.{Memo, remember}
 use Rattle.vdcp_auto.proofs.Keeps.{InPhase, AtStage}
 
 abbrev pub exchange : Command → Option Heard → Exchange

@@ -1,5 +1,5 @@
 -- What a command is, and which replies answer it.
-use Rattle.std.specs.Prelude.{Bool, true, false, ◌||◌, Option, None, Some}
+use Rattle.std.specs.Prelude.{Bool, true, false, Option, None, Some}
 use Rattle.vdcp_value.specs.declared.clip_id.ClipId.{ClipId}
 use Rattle.vdcp_value.specs.declared.part.Item.{Item}
 use Rattle.vdcp_value.specs.declared.part.Part.{Part}
@@ -7,7 +7,7 @@ use Rattle.vdcp_words.specs.declared.command.Command.{Command}
 use Rattle.vdcp_words.specs.declared.command.Command.TheVariants as command
 use Rattle.vdcp_words.specs.declared.reply.Reply.{Reply}
 use Rattle.vdcp_words.specs.declared.reply.Reply.TheVariants as reply
-use Rattle.vdcp_auto.specs.Replies.{is_ack, is_refusal}
+use Rattle.vdcp_auto.specs.Replies.{is_ack}
 
 abbrev pub cue_for : ClipId → Option Part → Command
 cue_for id None = command.PlayCue id

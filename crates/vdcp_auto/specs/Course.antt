@@ -1,5 +1,5 @@
 -- Whole courses of a controller.
-use Rattle.std.specs.Prelude.{ℕ, ◌≤◌, if◌then◌else◌, Option, None, Some, List, [], ◌∷◌, ◌++◌, is_some}
+use Rattle.std.specs.Prelude.{◌≤◌, if◌then◌else◌, Option, None, Some, List, [], ◌∷◌, ◌++◌, is_some}
 use Rattle.std.specs.Option.{option_to_list}
 use Rattle.vdcp_auto.specs.declared.exchange.Exchange.{Exchange}
 use Rattle.vdcp_auto.specs.declared.exchange.Heard.{Heard}

@@ -1,5 +1,5 @@
 -- Which command may follow a log. The rule book looks back over the log, and knows no phase.
-use Rattle.std.specs.Prelude.{◌≡◌, ℕ, Bool, false, IsTrue, ◌||◌, ◌⊎◌, Option, Some, List, ◌∷◌, ◌++◌, length, slice_get, IsSomeAnd}
+use Rattle.std.specs.Prelude.{◌≡◌, ℕ, false, IsTrue, ◌||◌, ◌⊎◌, List, ◌∷◌, ◌++◌, length, slice_get, IsSomeAnd}
 use Rattle.std.specs.List.{list_any}
 use Rattle.vdcp_value.specs.declared.part.Item.{Item}
 use Rattle.vdcp_words.specs.declared.command.Command.{Command}

@@ -1,5 +1,5 @@
 -- Which events a log shows to be aired.
-use Rattle.std.specs.Prelude.{ℕ, Bool, true, false, not, ◌||◌, ◌&&◌, Option, None, Some, List, length, take, filter, count_by, slice_get}
+use Rattle.std.specs.Prelude.{ℕ, Bool, false, not, ◌||◌, ◌&&◌, None, List, length, take, filter, count_by, slice_get}
 use Rattle.std.specs.List.{last_or, range_with_len}
 use Rattle.std.specs.Option.{option_map_or}
 use Rattle.vdcp_auto.specs.declared.exchange.Exchange.{Exchange}

@@ -1,4 +1,4 @@
-use Rattle.std.proofs.Common.{◌≡◌, List, ◌∷◌, [], ◌++◌, ap, ◌∙◌, rules}
+use Rattle.std.proofs.Common.{◌≡◌, ◌∷◌, [], ◌++◌, ap, ◌∙◌, rules}
 use Rattle.vdcp_auto.specs.Plan.{plan_of}
 use Rattle.vdcp_auto.specs.Turn.{ended_by}
 use Rattle.vdcp_auto.specs.Course.{called, Receive, logged}
