@@ -9,19 +9,21 @@ use Rattle.vdcp_auto.specs.declared.phase.State.{State}
 use Rattle.vdcp_auto.specs.Plan.{Plan}
 use Rattle.vdcp_auto.specs.Turn.{start, ticked, awaited, ended_by, came_to, taken, stopped}
 
--- the exchanges that these inputs end. Before something comes, or silence, the controller is ticked;
--- where it has ended the course is over
+-- the exchanges that these inputs end. Before something comes, or silence, the controller is
+-- ticked; where it has ended the course is over
 abbrev pub course_from : Plan → State → List Input → List Exchange
 course_from plan state [] = []
 course_from plan state (input.Take ∷ inputs) = course_from plan (taken state) inputs
 course_from plan state (input.Stop ∷ inputs) = course_from plan (stopped state) inputs
 course_from plan state (input.Heard h ∷ inputs) =
     if is_some (awaited plan (ticked state))
-    then option_to_list (ended_by plan (Some h) (ticked state)) ++ course_from plan (came_to plan (Some h) (ticked state)) inputs
+    then option_to_list (ended_by plan (Some h) (ticked state))
+    ++ course_from plan (came_to plan (Some h) (ticked state)) inputs
     else []
 course_from plan state (input.Silence ∷ inputs) =
     if is_some (awaited plan (ticked state))
-    then option_to_list (ended_by plan None (ticked state)) ++ course_from plan (came_to plan None (ticked state)) inputs
+    then option_to_list (ended_by plan None (ticked state))
+    ++ course_from plan (came_to plan None (ticked state)) inputs
     else []
 
 -- the course of a new controller
@@ -55,7 +57,9 @@ abbrev pub logged : List Exchange → Option Exchange → List Exchange
 logged log None = log
 logged log (Some e) = log ++ e ∷ []
 
--- calls in any order lead from a new controller to this one, and the log is the exchanges that they ended
+-- calls in any order lead from a new controller to this one, and the log is the exchanges that they
+-- ended
 pub data Reached (plan : Plan) : State → List Exchange → Type 0 where
   begun : 1 ≤ plan.limit → plan.limit ≤ 1000 → Reached plan start []
-  called : {state : State} {log : List Exchange} → Reached plan state log → (call : Call) → Reached plan (after_call plan call state) (logged log (ended_by_call plan call state))
+  called : {state : State} {log : List Exchange} → Reached plan state log → (call : Call)
+      → Reached plan (after_call plan call state) (logged log (ended_by_call plan call state))

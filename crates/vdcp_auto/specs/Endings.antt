@@ -16,12 +16,14 @@ counted mode log = filter (is_counted mode) log
 -- there are limit of them at least, and none of the last limit is answered
 abbrev pub EndsUnanswered : Mode → ℕ → List Exchange → Type 0
 EndsUnanswered mode limit log =
-    (limit ≤ length (counted mode log)) × (list_any is_answered (drop (length (counted mode log) - limit) (counted mode log)) ≡ false)
+    (limit ≤ length (counted mode log))
+    × (list_any is_answered (drop (length (counted mode log) - limit) (counted mode log)) ≡ false)
 
 -- so ends the log, and no shorter front of it
 pub record IsLost (mode : Mode) (limit : ℕ) (log : List Exchange) : Type 0 where
   pub now : EndsUnanswered mode limit log
-  pub not_before : (front rest : List Exchange) → rest ≢ [] → log ≡ front ++ rest → ¬ EndsUnanswered mode limit front
+  pub not_before : (front rest : List Exchange) → rest ≢ [] → log ≡ front ++ rest
+      → ¬ EndsUnanswered mode limit front
 
 -- nothing from a cue of the item at this place on settles, and at least limit empty statuses stand
 -- after it

@@ -19,11 +19,12 @@ pub record IsLawful (plan : Plan) (state : State) (log : List Exchange) : Type 0
   pub may_give : IfSome (given plan state) (λ c. May plan.mode plan.list log c)
   -- the controller's count is what the log shows to be settled
   pub is_settled : state.settled ≡ settled plan.mode log
-  -- it has ended Lost exactly where the last limit exchanges are unanswered, and no shorter front of
-  -- the log ends so
+  -- it has ended Lost exactly where the last limit exchanges are unanswered, and no shorter front
+  -- of the log ends so
   pub is_lost : (outcome_of state.stage ≡ Some Lost) ↔ IsLost plan.mode plan.limit log
   -- in confirm mode Refused(k) means that item k was cued, and limit empty statuses came since
-  pub is_refused : plan.mode ≡ Confirming → (k : ℕ) → outcome_of state.stage ≡ Some (Refused k) → IsRefused plan.list plan.limit log k
+  pub is_refused : plan.mode ≡ Confirming → (k : ℕ) → outcome_of state.stage ≡ Some (Refused k)
+      → IsRefused plan.list plan.limit log k
   -- Done means that every item is settled
   pub is_done : outcome_of state.stage ≡ Some Done → settled plan.mode log ≡ length plan.list
   -- Missing(k) means that the items before k are

@@ -55,8 +55,8 @@ is_done_status e = is_status_command e.command && hears is_done e.heard
 abbrev pub is_empty_status : Exchange → Bool
 is_empty_status e = is_status_command e.command && hears is_empty e.heard
 
--- the exchanges among which unanswered ones in a row are counted: in confirm mode those that ask for
--- a reply
+-- the exchanges among which unanswered ones in a row are counted: in confirm mode those that ask
+-- for a reply
 abbrev pub is_counted : Mode → Exchange → Bool
 is_counted Plain e = true
 is_counted Confirming e = is_sense e.command

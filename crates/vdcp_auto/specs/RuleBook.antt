@@ -25,8 +25,8 @@ pub record MayCue (mode : Mode) (list : List Item) (log : List Exchange) (c : Co
   pub cues_next : CuesItemAt list (settled mode log) c
   pub no_open_play : has_open_play log ≡ false
 
--- the log's last cue is one of the next item and was taken, nothing from it on settles, and after it
--- stands a done status with no PLAY behind that
+-- the log's last cue is one of the next item and was taken, nothing from it on settles, and a done
+-- status stands after it, with no PLAY behind that
 pub record MayPlay (mode : Mode) (list : List Item) (log : List Exchange) : Type 0 where
   pub before : List Exchange
   pub cue : Exchange
@@ -43,7 +43,8 @@ pub record MayPlay (mode : Mode) (list : List Item) (log : List Exchange) : Type
 
 -- a STOP stands before, or every item is settled and no PLAY is open
 abbrev pub MayClose : Mode → List Item → List Exchange → Type 0
-MayClose mode list log = IsTrue (list_any is_stop log) ⊎ ((settled mode log ≡ length list) × (has_open_play log ≡ false))
+MayClose mode list log =
+    IsTrue (list_any is_stop log) ⊎ ((settled mode log ≡ length list) × (has_open_play log ≡ false))
 
 -- the row of each command
 abbrev pub Row : Mode → List Item → List Exchange → Command → Type 0
@@ -69,4 +70,6 @@ pub record May (mode : Mode) (list : List Item) (log : List Exchange) (c : Comma
 
 -- each command of the log is allowed after the exchanges before it
 abbrev pub KeepsRules : Mode → List Item → List Exchange → Type 0
-KeepsRules mode list log = (before : List Exchange) (e : Exchange) (after : List Exchange) → log ≡ before ++ (e ∷ after) → May mode list before e.command
+KeepsRules mode list log =
+    (before : List Exchange) (e : Exchange) (after : List Exchange)
+    → log ≡ before ++ (e ∷ after) → May mode list before e.command

@@ -13,9 +13,11 @@ tells_of_play e = is_play e || is_stop e || is_empty_status e
 
 -- the last exchange among the log's PLAYs, STOPs and empty statuses is an unanswered PLAY
 abbrev pub has_open_play : List Exchange → Bool
-has_open_play log = option_map_or (λ e. is_play e && not (is_answered e)) (last_or None (filter tells_of_play log)) false
+has_open_play log =
+    option_map_or (λ e. is_play e && not (is_answered e)) (last_or None (filter tells_of_play log)) false
 
--- an exchange settles, after these: it is a PLAY that heard ACK, or an empty status after an open PLAY
+-- an exchange settles, after these: it is a PLAY that heard ACK, or an empty status after an open
+-- PLAY
 abbrev pub settles : Mode → List Exchange → Exchange → Bool
 settles Plain before e = is_play e && is_acked e || is_empty_status e && has_open_play before
 settles Confirming before e = is_empty_status e && has_open_play before

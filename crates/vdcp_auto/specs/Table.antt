@@ -24,7 +24,8 @@ abbrev pub command_in : List Item → ℕ → Phase → Option Command
 command_in list port phase.Open = Some (command.Open port 1)
 command_in list port phase.Select = Some (command.Select port)
 command_in list port phase.Seen = Some (command.Status 1)
-command_in list port (phase.Exists k) = option_map (λ item. command.IdRequest item.id) (slice_get list k)
+command_in list port (phase.Exists k) =
+    option_map (λ item. command.IdRequest item.id) (slice_get list k)
 command_in list port (phase.Cue k) = option_map cue_of (slice_get list k)
 command_in list port (phase.Wait k) = Some (command.Status 1)
 command_in list port (phase.Play k) = Some command.Play
@@ -47,18 +48,21 @@ abbrev pub names_other : Option Item → Reply → Bool
 names_other (Some item) (reply.Active (Some id)) = not (is_same_id id item.id)
 names_other _ _ = false
 
--- a state in Wait(k) with nothing cued: strange in plain mode; in confirm mode the cue was lost, and
--- is tried until the limit
+-- a state in Wait(k) with nothing cued: strange in plain mode; in confirm mode the cue was lost,
+-- and is tried until the limit
 abbrev pub on_lost_cue : Mode → ℕ → ℕ → ℕ → Turn
 on_lost_cue Plain limit tries k = Ends (Strange k)
-on_lost_cue Confirming limit tries k = if nat_lt (tries + 1) limit then Retries k else Ends (Refused k)
+on_lost_cue Confirming limit tries k =
+    if nat_lt (tries + 1) limit then Retries k else Ends (Refused k)
 
 -- where a reply leads that fits the phase's command. The wish to take and the tries count in Wait
 abbrev pub on_reply : Mode → List Item → ℕ → Bool → ℕ → Phase → Reply → Turn
-on_reply mode list limit take tries phase.Open r = if is_granted r then Goes phase.Select else Ends Denied
+on_reply mode list limit take tries phase.Open r =
+    if is_granted r then Goes phase.Select else Ends Denied
 on_reply mode list limit take tries phase.Select r = Goes (next list 0)
 on_reply mode list limit take tries phase.Seen r = Goes (next list 0)
-on_reply mode list limit take tries (phase.Exists k) r = if is_present r then Goes (phase.Cue k) else Ends (Missing k)
+on_reply mode list limit take tries (phase.Exists k) r =
+    if is_present r then Goes (phase.Cue k) else Ends (Missing k)
 on_reply mode list limit take tries (phase.Cue k) r = Goes (phase.Wait k)
 on_reply mode list limit take tries (phase.Wait k) r =
     if is_done r && (not (is_playing r) || take) then Goes (phase.Play k)
@@ -91,8 +95,8 @@ on_refusal n phase.Close = Ends Done
 on_refusal n phase.Halt = Goes phase.HaltClose
 on_refusal n phase.HaltClose = Ends Stopped
 
--- where an unanswered exchange leads, short of the limit. In confirm mode the time-out is the end of
--- each command that only a receipt answers
+-- where an unanswered exchange leads, short of the limit. In confirm mode the time-out is the end
+-- of each command that only a receipt answers
 abbrev pub on_silence : Mode → Phase → Turn
 on_silence Plain (phase.Play k) = Goes (phase.Probe k)
 on_silence Plain p = Goes p

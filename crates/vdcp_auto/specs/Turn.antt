@@ -26,11 +26,21 @@ use Rattle.vdcp_auto.specs.Table.{command_in, on_reply, on_refusal, on_silence, 
 
 -- where each controller begins
 abbrev pub start : State
-start = record { stage = Running phase.Open; awaiting = false; take = false; stop = false; unanswered = 0; settled = 0; tries = 0 }
+start =
+    record {
+      stage = Running phase.Open;
+      awaiting = false;
+      take = false;
+      stop = false;
+      unanswered = 0;
+      settled = 0;
+      tries = 0;
+    }
 
 -- a new controller
 abbrev pub new_controller : {S : Type 0} → S → Mode → ℕ → ℕ → View S
-new_controller source mode port limit = record { source = source; mode = mode; port = port; limit = limit; state = start }
+new_controller source mode port limit =
+    record { source = source; mode = mode; port = port; limit = limit; state = start }
 
 abbrev pub outcome_of : Stage → Option Outcome
 outcome_of (Running p) = None
@@ -93,19 +103,24 @@ is_end Confirming c (Some (heard.Reply r)) = is_sense c && not (is_receipt r)
 
 -- where the reply that answers an exchange leads
 abbrev pub on_answer : Mode → List Item → ℕ → Bool → ℕ → Phase → Reply → Turn
-on_answer mode list limit take tries p r = if is_refusal r then on_refusal (length list) p else on_reply mode list limit take tries p r
+on_answer mode list limit take tries p r =
+    if is_refusal r then on_refusal (length list) p else on_reply mode list limit take tries p r
 
 -- where an unanswered exchange leads, one more in a row if it counts: the limit goes first
 abbrev pub on_unanswered : Mode → ℕ → ℕ → Bool → Phase → Turn
-on_unanswered mode limit unanswered counts p = if counts && nat_le limit (unanswered + 1) then Ends Lost else on_silence mode p
+on_unanswered mode limit unanswered counts p =
+    if counts && nat_le limit (unanswered + 1) then Ends Lost else on_silence mode p
 
 abbrev pub turn_on : Plan → Bool → ℕ → ℕ → Bool → Phase → Option Reply → Turn
-turn_on plan take tries unanswered counts p (Some r) = on_answer plan.mode plan.list plan.limit take tries p r
-turn_on plan take tries unanswered counts p None = on_unanswered plan.mode plan.limit unanswered counts p
+turn_on plan take tries unanswered counts p (Some r) =
+    on_answer plan.mode plan.list plan.limit take tries p r
+turn_on plan take tries unanswered counts p None =
+    on_unanswered plan.mode plan.limit unanswered counts p
 
 -- where an exchange leads
 abbrev pub turn_of : Plan → State → Phase → Exchange → Turn
-turn_of plan state p e = turn_on plan state.take state.tries state.unanswered (is_counted plan.mode e) p (answer_in e)
+turn_of plan state p e =
+    turn_on plan state.take state.tries state.unanswered (is_counted plan.mode e) p (answer_in e)
 
 abbrev pub stage_after : Turn → Stage
 stage_after (Goes p) = Running p
@@ -144,12 +159,14 @@ turned turn unanswered state =
     }
 
 abbrev pub ended_in : Plan → Stage → Exchange → State → State
-ended_in plan (Running p) e state = turned (turn_of plan state p e) (unanswered_after plan.mode e state.unanswered) state
+ended_in plan (Running p) e state =
+    turned (turn_of plan state p e) (unanswered_after plan.mode e state.unanswered) state
 ended_in plan (Ended outcome) e state = state
 
 abbrev pub exchange_of : Mode → Option Heard → Option Command → Option Exchange
 exchange_of mode came None = None
-exchange_of mode came (Some c) = if is_end mode c came then Some (record { command = c; heard = came }) else None
+exchange_of mode came (Some c) =
+    if is_end mode c came then Some (record { command = c; heard = came }) else None
 
 -- the exchange that what came, or silence, ends
 abbrev pub ended_by : Plan → Option Heard → State → Option Exchange
@@ -157,7 +174,8 @@ ended_by plan came state = exchange_of plan.mode came (awaited plan state)
 
 -- the controller after something came, or silence
 abbrev pub came_to : Plan → Option Heard → State → State
-came_to plan came state = option_map_or (λ e. ended_in plan state.stage e state) (ended_by plan came state) state
+came_to plan came state =
+    option_map_or (λ e. ended_in plan state.stage e state) (ended_by plan came state) state
 
 -- The operator.
 
