@@ -19,7 +19,8 @@
 #![tactic(auto)]
 
 mod burst;
+mod head;
 mod message;
 
-pub use burst::{Step, read_at};
+pub use burst::{LIMIT, Step, read_at};
 pub use message::{Fault, Message};
