@@ -6,10 +6,10 @@ use Rattle.std.proofs.lemmas.List.{take_at, drop_at, take-append-drop, length-ta
 use Rattle.std.proofs.lemmas.List.Elements.{All-take, All-drop}
 use Rattle.vdcp_frame.specs.declared.message.Fault.{Fault}
 use Rattle.vdcp_frame.specs.declared.message.Fault.TheVariants.{BadStart, BadCount, BadSum, Long}
-use Rattle.vdcp_frame.specs.Message.{Content, ack, nak, framed, AreBytes, Spells}
+use Rattle.vdcp_frame.specs.Message.{Content, ack, nak, framed, AreBytes, Fits, Spells, SpellsFrame, check_byte, spelling}
 use Rattle.vdcp_frame.specs.Reading.{SpellsAll, Begins, HasNoFront, IsFirstWrong, End, clean, cut, fault, fault_of, Ends, ReadsShort, long_end, ReadsUpTo, Reads}
 use Rattle.vdcp_frame.specs.Head.{Head, nothing, part, wrong, found, head_of, IsPart, IsWrong, IsFound, HeadIs}
-use Rattle.vdcp_frame.proofs.HeadLemmas.{head_of-spelt, head_is, Begins-take, Begins-nil}
+use Rattle.vdcp_frame.proofs.HeadLemmas.{head_of-spelt, head_is, Begins-take, Begins-nil, check_byte-fits, check_byte-adds_up}
 use Rattle.std.proofs.Math.Seq.{take-add}
 
 -- ---- one message
@@ -34,6 +34,14 @@ one_spelling (framed kind unit code rest) a b s t =
     let total : ℕ = 16 * kind + unit + code + sum rest in
     let same : s.check ≡ t.check = one_check total s.check t.check s.byte t.byte s.adds_up t.adds_up in
     s.spelt ∙ ap (λ (c : ℕ). 2 ∷ (length rest + 2) ∷ (16 * kind + unit) ∷ code ∷ (rest ++ c ∷ [])) same ∙ sym t.spelt
+
+-- what fits is spelt by its spelling
+pub Spells-spelling : (m : Content) → Fits m → Spells m (spelling m)
+Spells-spelling ack fits = refl
+Spells-spelling (nak byte) fits = (fits, refl)
+Spells-spelling (framed kind unit code rest) fits =
+    let total : ℕ = 16 * kind + unit + code + sum rest in
+    record { fits = fits; check = check_byte total; byte = check_byte-fits total; adds_up = check_byte-adds_up total; spelt = refl }
 
 -- a spelling has a byte
 pub spelt_some : (m : Content) (bytes : List ℕ) → Spells m bytes → 0 < length bytes

@@ -21,6 +21,8 @@
 mod burst;
 mod head;
 mod message;
+mod spelling;
 
 pub use burst::{LIMIT, Step, read_at};
 pub use message::{Fault, Message};
+pub use spelling::{Full, write};
