@@ -39,7 +39,7 @@ goes_on (m ∷ ms) [] a b more rest p q none e =
     absurd (none m p.0 (p.1 ++ more) p.2 (sym (ap (λ (f : List ℕ). f ++ rest) q) ∙ sym e ∙ ap (λ (f : List ℕ). f ++ more) p.4 ∙ append_assoc p.0 p.1 more))
 goes_on (m ∷ ms) (n ∷ ns) a b more rest p q none e =
     let joined : p.0 ++ (p.1 ++ more) ≡ q.0 ++ (q.1 ++ rest) =
-        sym (ap (λ (f : List ℕ). f ++ more) p.4 ∙ append_assoc p.0 p.1 more) ∙ e ∙ ap (λ (f : List ℕ). f ++ rest) q.4 ∙ append_assoc q.0 q.1 rest in
+    sym (ap (λ (f : List ℕ). f ++ more) p.4 ∙ append_assoc p.0 p.1 more) ∙ e ∙ ap (λ (f : List ℕ). f ++ rest) q.4 ∙ append_assoc q.0 q.1 rest in
     let first = one_front m n p.0 q.0 (p.1 ++ more) (q.1 ++ rest) p.2 q.2 joined in
     let tail = goes_on ms ns p.1 q.1 more rest p.3 q.3 none first.2 in
     (tail.0, cc (first.0, tail.1))
@@ -52,7 +52,7 @@ front_up_to limit bytes more fits =
 pub read_again : (limit : ℕ) (ms ns : List Content) (bytes more : List ℕ) (end : End) → SpellsAll ms bytes → length bytes ≤ limit → ReadsUpTo limit (bytes ++ more) ns end → (others : List Content) × (ns ≡ ms ++ others)
 read_again limit ms ns bytes more end all fits reads =
     goes_on ms ns bytes reads.front.whole (take (limit - length bytes) more) reads.front.rest all reads.front.spelt reads.front.no_front
-        (sym (front_up_to limit bytes more fits) ∙ reads.front.parts)
+    (sym (front_up_to limit bytes more fits) ∙ reads.front.parts)
 
 pub read_alone : (limit : ℕ) (ms : List Content) (bytes : List ℕ) → SpellsAll ms bytes → length bytes ≤ limit → ReadsUpTo limit bytes ms clean
 read_alone limit ms bytes all fits =
@@ -72,11 +72,11 @@ frame_bad n (x ∷ []) more size bad = absurd (omega arith)
 frame_bad n (x ∷ code ∷ tail) more size bad =
     let long : n < length tail = omega arith in
     let whole : tail ≡ take n tail ++ get_or tail n 0 ∷ [] =
-        let last : n + 1 ≡ length tail = omega arith in
-        sym (take_all (n + 1) tail (omega arith)) ∙ take_more tail n 0 long in
+    let last : n + 1 ≡ length tail = omega arith in
+    sym (take_all (n + 1) tail (omega arith)) ∙ take_more tail n 0 long in
     let front : length (take n tail) ≡ n = omega (arith, length-take n tail) in
     let total : x + code + sum (take n tail) + get_or tail n 0 ≡ sum (x ∷ code ∷ tail) =
-        omega (arith, sum_by-cons (λ (y : ℕ). y) x (code ∷ tail), sum_by-cons (λ (y : ℕ). y) code tail, ap sum whole, sum_by_push (λ (y : ℕ). y) (take n tail) (get_or tail n 0)) in
+    omega (arith, sum_by-cons (λ (y : ℕ). y) x (code ∷ tail), sum_by-cons (λ (y : ℕ). y) code tail, ap sum whole, sum_by_push (λ (y : ℕ). y) (take n tail) (get_or tail n 0)) in
     ap (λ (t : List ℕ). data_head n x code (t ++ more)) whole ∙ data_bad n x code (take n tail) (get_or tail n 0) more front (subst (λ (s : ℕ). s % 256 ≡ 0 → ⊥) (sym total) bad)
 
 same_part : (a b x y : ℕ) → x < 256 → y < 256 → b + y ≡ a + x → a % 256 ≡ 0 → b % 256 ≡ 0 → x ≡ y
@@ -92,7 +92,7 @@ sum_changed body i byte lt fits was ne p q =
 body_bytes : (x code : ℕ) (rest : List ℕ) (check : ℕ) → x < 256 → code < 256 → check < 256 → AreBytes rest → AreBytes (x ∷ code ∷ (rest ++ check ∷ []))
 body_bytes x code rest check x_fits code_fits check_fits fits =
     All-cons (λ b. b < 256) x (code ∷ (rest ++ check ∷ [])) x_fits
-        (All-cons (λ b. b < 256) code (rest ++ check ∷ []) code_fits (All-push (λ b. b < 256) rest check fits check_fits))
+    (All-cons (λ b. b < 256) code (rest ++ check ∷ []) code_fits (All-push (λ b. b < 256) rest check fits check_fits))
 
 body_sum : (x code : ℕ) (rest : List ℕ) (check : ℕ) → sum (x ∷ code ∷ (rest ++ check ∷ [])) ≡ x + code + sum rest + check
 body_sum x code rest check =
@@ -108,7 +108,7 @@ changed_wrong n body j byte more small size adds_up fits lt byte_fits ne more_fi
     let is = frame_bad n (set body j byte) more new_size bad in
     let body_fits = All-append (λ b. b < 256) (set body j byte) more (All-set (λ b. b < 256) body j byte byte_fits fits) more_fits in
     let all_fits : AreBytes (2 ∷ suc (suc n) ∷ (set body j byte ++ more)) =
-        All-cons (λ b. b < 256) 2 (suc (suc n) ∷ (set body j byte ++ more)) (omega arith) (All-cons (λ b. b < 256) (suc (suc n)) (set body j byte ++ more) (omega arith) body_fits) in
+    All-cons (λ b. b < 256) 2 (suc (suc n) ∷ (set body j byte ++ more)) (omega arith) (All-cons (λ b. b < 256) (suc (suc n)) (set body j byte ++ more) (omega arith) body_fits) in
     subst (HeadIs (2 ∷ suc (suc n) ∷ (set body j byte ++ more))) is (head_is (2 ∷ suc (suc n) ∷ (set body j byte ++ more)) all_fits)
 
 -- what is left behind whole messages
@@ -125,16 +125,16 @@ wrong_behind limit ms before bytes more kind size all fits more_fits is_wrong =
     let less : length before ≤ limit = omega arith in
     let room : length bytes ≤ limit - length before = omega arith in
     let rest : left limit burst (length before) ≡ bytes ++ take (limit - length before - length bytes) more =
-        left_behind limit before (bytes ++ more) less ∙ front_up_to (limit - length before) bytes more room in
+    left_behind limit before (bytes ++ more) less ∙ front_up_to (limit - length before) bytes more room in
     let wrong_there = is_wrong (take (limit - length before - length bytes) more) (All-take (λ b. b < 256) (limit - length before - length bytes) more more_fits) in
     reads_wrong limit burst (length before) less ms kind size (omega (arith, length-append before (bytes ++ more)))
-        (subst (SpellsAll ms) (sym front) all) (subst (λ (r : List ℕ). IsWrong r kind size) (sym rest) wrong_there)
+    (subst (SpellsAll ms) (sym front) all) (subst (λ (r : List ℕ). IsWrong r kind size) (sym rest) wrong_there)
 
 changed_reads : (limit n : ℕ) (body : List ℕ) (j byte : ℕ) (ms : List Content) (before more : List ℕ) → n ≤ 253 → length body ≡ n + 3 → sum body % 256 ≡ 0 → AreBytes body → j < length body → byte < 256 → byte ≢ get_or body j 0 →
     SpellsAll ms before → AreBytes more → length before + (n + 5) ≤ limit → ReadsUpTo limit (before ++ ((2 ∷ suc (suc n) ∷ set body j byte) ++ more)) ms (fault BadSum (length before + (n + 5)))
 changed_reads limit n body j byte ms before more small size adds_up fits lt byte_fits ne all more_fits room =
     wrong_behind limit ms before (2 ∷ suc (suc n) ∷ set body j byte) more BadSum (n + 5) all (omega (arith, length-set body j byte)) more_fits
-        (λ tail tail_fits. changed_wrong n body j byte tail small size adds_up fits lt byte_fits ne tail_fits)
+    (λ tail tail_fits. changed_wrong n body j byte tail small size adds_up fits lt byte_fits ne tail_fits)
 
 pub changed_byte : (limit kind unit code : ℕ) (rest frame : List ℕ) (i byte : ℕ) (ms : List Content) (before more : List ℕ) → Spells (framed kind unit code rest) frame → 2 ≤ i → i < length frame → byte < 256 → byte ≢ get_or frame i 0 →
     SpellsAll ms before → AreBytes more → length before + length frame ≤ limit → ReadsUpTo limit (before ++ (set frame i byte ++ more)) ms (fault BadSum (length before + length frame))
@@ -152,4 +152,4 @@ changed_byte limit kind unit code rest frame i byte ms before more s two lt byte
     let new : set frame i byte ≡ 2 ∷ suc (suc n) ∷ set body (i - 2) byte = ap (λ (f : List ℕ). set f i byte) is ∙ ap (λ (k : ℕ). set (2 ∷ suc (suc n) ∷ body) k byte) place in
     let reads = changed_reads limit n body (i - 2) byte ms before more s.fits.rest_size size adds_up fits (omega arith) byte_fits (λ e. ne (e ∙ sym old)) all more_fits (omega arith) in
     subst (λ (l : ℕ). ReadsUpTo limit (before ++ (set frame i byte ++ more)) ms (fault BadSum (length before + l))) (sym whole)
-        (subst (λ (f : List ℕ). ReadsUpTo limit (before ++ (f ++ more)) ms (fault BadSum (length before + (n + 5)))) (sym new) reads)
+    (subst (λ (f : List ℕ). ReadsUpTo limit (before ++ (f ++ more)) ms (fault BadSum (length before + (n + 5)))) (sym new) reads)

@@ -10,23 +10,20 @@ ghost use Rattle.vdcp_frame.specs.declared.message.Fault.TheVariants.{BadSum};
 pub fn no_spelling_begins_another()
     ensures { (m n : Content) (a b more : List ℕ) → Spells m a → Spells n b → b ≡ a ++ more →
         (m ≡ n) × (more ≡ []) }
-{
-}
+{}
 
 /// A message that fits has exactly one spelling, and no other message has one.
 pub fn one_spelling()
     ensures spelt { (m : Content) → Fits m → Spells m (spelling m) }
     ensures only { (m : Content) (bytes : List ℕ) → Spells m bytes → Fits m × (bytes ≡ spelling m) }
-{
-}
+{}
 
 /// Each burst has exactly one reading: that of `messages_of` and `end_of`.
 pub fn one_reading()
     ensures some { (burst : List ℕ) → AreBytes burst → Reads burst (messages_of burst) (end_of burst) }
     ensures only { (burst : List ℕ) (ms ns : List Content) (e f : End) →
         Reads burst ms e → Reads burst ns f → (ms ≡ ns) × (e ≡ f) }
-{
-}
+{}
 
 /// A framed message of which exactly one byte from CMD-1 to the checksum is changed reads as a bad
 /// sum at the place of the checksum, whatever whole messages come before and whatever follows.
@@ -36,8 +33,7 @@ pub fn one_changed_byte()
         2 ≤ i → i < length frame → byte < 256 → byte ≢ slice_index frame i →
         SpellsAll ms before → AreBytes more → length before + length frame ≤ 4096 →
         Reads (before ++ (slice_set frame i byte ++ more)) ms (fault BadSum (length before + length frame)) }
-{
-}
+{}
 
 /// What was written is read again, where it ends within a burst's first 4,096 bytes, whatever
 /// follows it.
@@ -47,5 +43,4 @@ pub fn written_is_read()
         (others : List Content) × (ns ≡ ms ++ others) }
     ensures alone { (ms : List Content) (bytes : List ℕ) →
         SpellsAll ms bytes → length bytes ≤ 4096 → Reads bytes ms clean }
-{
-}
+{}

@@ -27,3 +27,6 @@ mod spelling;
 pub use burst::{LIMIT, Step, read_at};
 pub use message::{Fault, Message};
 pub use spelling::{Full, write};
+
+#[cfg(test)]
+mod tests;
