@@ -4,3 +4,6 @@ pub mod Head
 pub mod Seen
 pub mod Step
 pub mod Burst
+pub mod Progress
+pub mod Reader
+pub mod Pieces
