@@ -54,6 +54,5 @@ pub fn pieces_are_read_as_one()
     ensures { (pieces : List (List ℕ)) (calls : List (List Call)) (new : Progress) →
         FeedsAll (reading 0 []) pieces calls new →
         Reads (flat_map (λ p. p) pieces) (messages_given (flat_map (λ c. c) calls))
-            (end_given (flat_map (λ c. c) calls) (ended_of new)) }
-{
-}
+        (end_given (flat_map (λ c. c) calls) (ended_of new)) }
+{}

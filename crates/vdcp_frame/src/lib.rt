@@ -21,6 +21,7 @@
 mod burst;
 mod got;
 mod head;
+mod held;
 pub mod laws;
 mod message;
 mod spelling;
