@@ -26,7 +26,6 @@ frame_bad n (x ∷ code ∷ tail) more size bad =
     let total = whole_sum n x code tail long (omega arith) in
     ap (λ (t : List ℕ). data_head n x code (t ++ more)) whole ∙ data_bad n x code (take n tail) (get_or tail n 0) more front (subst (λ (s : ℕ). s % 256 ≡ 0 → ⊥) (sym total) bad)
 
-
 -- and one whose bytes do is a message
 pub frame_found : (n : ℕ) (body : List ℕ) → length body ≡ n + 3 → sum body % 256 ≡ 0 →
     head_of (2 ∷ suc (suc n) ∷ body) ≡ found (framed (get_or body 0 0 / 16) (get_or body 0 0 % 16) (get_or body 1 0) (take n (drop 2 body))) (n + 5)

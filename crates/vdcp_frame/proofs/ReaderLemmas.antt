@@ -56,7 +56,7 @@ joined whole held piece = append_assoc whole held piece
 grown : (burst piece : List ℕ) (taken n : ℕ) → length burst ≡ taken → n ≤ length piece → length (burst ++ take n piece) ≡ taken + n
 grown burst piece taken n size within = omega (arith, length-append burst (take n piece), length-take n piece)
 
-unfinished_nil : IsUnfinished []
+pub unfinished_nil : IsUnfinished []
 unfinished_nil = record { begins = Begins-nil; no_front = nil_no_front }
 
 pub follows_message : (burst : List ℕ) (ms : List Content) (taken : ℕ) (held piece : List ℕ) (n : ℕ) (m : Content) → FollowsReading burst ms taken held → TakesMessage taken held piece n m → FollowsReading (burst ++ take n piece) (ms ++ m ∷ []) (taken + n) []

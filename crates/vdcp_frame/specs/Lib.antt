@@ -5,6 +5,6 @@ pub mod Seen
 pub mod Step
 pub mod Burst
 pub mod Progress
-pub mod Held
 pub mod Reader
+pub mod Held
 pub mod Pieces

@@ -1,8 +1,9 @@
-ghost use Rattle.std.specs.Prelude.{◌≡◌, ◌+◌, ◌<◌, ◌≤◌, ◌++◌, [], ◌∷◌, length, take, sum};
-ghost use Rattle.vdcp_frame.specs.Held.{bytes_of, held_bytes, IsBegun, IsPartial, Brings};
+ghost use Rattle.std.specs.Prelude.{◌≡◌, ◌+◌, ◌≤◌, ◌++◌, [], ◌∷◌, length, take};
+ghost use Rattle.vdcp_frame.specs.Message.{content_of};
+ghost use Rattle.vdcp_frame.specs.Held.{held_bytes, frame_in, IsBegun, IsPartial, Brings, Yields};
 
 use crate::head::{ACK, FRAME, NAK, total_of};
-use crate::message::Fault;
+use crate::message::{Fault, Message};
 
 /// The bytes of the longest message behind its count.
 pub(crate) const BODY: usize = 256;
@@ -43,8 +44,7 @@ impl Partial {
     pub(crate) fn advance(&mut self, bytes: &[u8]) -> (usize, Found)
         requires partial { IsPartial self.old }
         ensures within { result.0 ≤ length bytes.now }
-        ensures some { result.1 ≡ Found.Nothing → result.0 ≡ length bytes.now }
-        ensures brings { Brings (held_bytes self.old) bytes.now result.0 result.1 self.new }
+        ensures yields { Yields (held_bytes self.old) bytes.now result.0 result.1 self.new }
         ensures partial { IsPartial self.new }
     {
         let held = self.held;
@@ -54,6 +54,32 @@ impl Partial {
             Held::Nak => self.finish_nak(bytes),
             Held::Frame => self.count(bytes),
             Held::Body { count, len, total } => self.body(count, len, total, bytes),
+        }
+    }
+
+    /// How many bytes are held.
+    pub(crate) fn len(&self) -> usize
+        requires { IsPartial self.now }
+        ensures { result ≡ length (held_bytes self.now) }
+    {
+        match self.held {
+            Held::Nothing => 0,
+            Held::Nak | Held::Frame => 1,
+            Held::Body { len, .. } => len + 2,
+        }
+    }
+
+    /// The frame that lies in the buffer with so many bytes behind its count.
+    pub(crate) fn frame(&self, len: usize) -> Message<'_>
+        requires least { 3 ≤ len }
+        requires most { len ≤ 256 }
+        ensures { content_of result ≡ frame_in len self.now.buffer }
+    {
+        Message::Framed {
+            kind: self.buffer[0] / 16,
+            unit: self.buffer[0] % 16,
+            code: self.buffer[1],
+            rest: &self.buffer[2..len - 1],
         }
     }
 

@@ -24,11 +24,13 @@ mod head;
 mod held;
 pub mod laws;
 mod message;
+mod reader;
 mod spelling;
 
 pub use burst::{LIMIT, Step, read_at};
 pub use got::{Ended, Got};
 pub use message::{Fault, Message};
+pub use reader::Reader;
 pub use spelling::{Full, write};
 
 #[cfg(test)]
