@@ -8,7 +8,7 @@ use Rattle.vdcp_frame.specs.Message.{Content, Spells}
 use Rattle.vdcp_frame.specs.Reading.{fault_of}
 use Rattle.vdcp_frame.specs.Head.{IsWrong}
 use Rattle.vdcp_frame.specs.Progress.{Progress, reading, failed}
-use Rattle.vdcp_frame.specs.Reader.{message, more, wrong, IsUnfinished, TakesMessage, TakesAll, TakesWrong, TakesLong, TakesFault, Gives, fed}
+use Rattle.vdcp_frame.specs.Reader.{Answer, message, more, wrong, IsUnfinished, TakesMessage, TakesAll, TakesWrong, TakesLong, TakesFault, Gives, fed}
 use Rattle.vdcp_frame.specs.Held.{held_bytes, BringsMessage, BringsWrong, BringsAll}
 
 not_long : (front : List ℕ) → Long ≡ fault_of front → ⊥
@@ -94,3 +94,18 @@ module _ (now : Progress) (f : Bool) (t : ℕ) (p new : Partial) (piece : List �
 
   pub fault_after : (m : ℕ) (kind : Fault) (place : ℕ) → failed ≡ fed now piece m (wrong kind place)
   fault_after m kind place = ap (λ (o : Progress). fed o piece m (wrong kind place)) (sym now_is)
+
+fault_some : (taken : ℕ) (held piece : List ℕ) (n : ℕ) (kind : Fault) → TakesFault taken held piece n kind → 0 < n
+fault_some taken held piece n BadStart t = t.some
+fault_some taken held piece n (BadCount count) t = t.some
+fault_some taken held piece n BadSum t = t.some
+fault_some taken held piece n Long t = t.some
+
+-- something is taken of a piece that has a byte
+pub gives_some : (old : Progress) (piece : List ℕ) (n : ℕ) (answer : Answer) → Gives old piece n answer → 0 < length piece → 0 < n
+gives_some (reading taken held) piece n (message m) g some = g.some
+gives_some (reading taken held) piece n more g some = omega (arith, g.all)
+gives_some (reading taken held) piece n (wrong kind place) g some = fault_some taken held piece n kind g.0
+gives_some failed piece n (message m) g some = absurd g
+gives_some failed piece n more g some = omega arith
+gives_some failed piece n (wrong kind place) g some = absurd g

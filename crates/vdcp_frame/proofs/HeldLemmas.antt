@@ -96,7 +96,7 @@ whole_is frame len buffer w =
     let split : len ≡ 2 + (len - 2) = omega (arith, w.least) in
     let less : n ≤ len - 2 = omega (arith, w.least) in
     let rest : take n (drop 2 body) ≡ take n (drop 2 buffer) =
-        ap (λ (k : ℕ). take n (drop 2 (take k buffer))) split ∙ ap (λ (b : List ℕ). take n b) (drop-take 2 (len - 2) buffer) ∙ take-take n (len - 2) (drop 2 buffer) less in
+    ap (λ (k : ℕ). take n (drop 2 (take k buffer))) split ∙ ap (λ (b : List ℕ). take n b) (drop-take 2 (len - 2) buffer) ∙ take-take n (len - 2) (drop 2 buffer) less in
     let total : n + 5 ≡ length frame = omega (arith, size, ap (length {A = ℕ}) is) in
     ap head_of is ∙ frame_found n body size w.adds_up
     ∙ ap (λ (x : ℕ). head.found (framed (x / 16) (x % 16) (get_or body 1 0) (take n (drop 2 body))) (n + 5)) first
@@ -142,7 +142,7 @@ yields old bytes n (found.Wrong kind) new o fits p b = yields_wrong old bytes n 
 pub yields_from : (h : Held) (buffer bytes : List ℕ) (n : ℕ) (f : Found) (new : Partial) → AreBegun h buffer → AreBytes bytes → IsPartial new → Brings (bytes_of h buffer) bytes n f new → Yields (bytes_of h buffer) bytes n f new
 yields_from h buffer bytes n f new b fits p brings =
     yields (bytes_of h buffer) bytes n f new (begun_open h buffer b)
-        (All-append (λ x. x < 256) (bytes_of h buffer) (take n bytes) (begun_bytes h buffer b) (All-take (λ x. x < 256) n bytes fits)) p brings
+    (All-append (λ x. x < 256) (bytes_of h buffer) (take n bytes) (begun_bytes h buffer b) (All-take (λ x. x < 256) n bytes fits)) p brings
 
 -- a piece that doesn't fill the frame leaves it begun
 pub begun_more : (count len total : ℕ) (old new piece : List ℕ) (n extra : ℕ) → IsBegun count len total old → n ≡ length piece → take (len + n) new ≡ take len old ++ piece → AreBytes piece → extra ≡ sum piece → extra ≤ 255 * length piece → len + n ≤ count →

@@ -34,4 +34,6 @@ pub use reader::Reader;
 pub use spelling::{Full, write};
 
 #[cfg(test)]
+mod reader_tests;
+#[cfg(test)]
 mod tests;

@@ -1,4 +1,4 @@
-ghost use Rattle.std.specs.Prelude.{◌≡◌, ◌≤◌, ◌++◌, [], List, ℕ, length, take};
+ghost use Rattle.std.specs.Prelude.{◌≡◌, ◌<◌, ◌≤◌, ◌++◌, [], List, ℕ, length, take};
 ghost use Rattle.vdcp_frame.specs.Message.{Content};
 ghost use Rattle.vdcp_frame.specs.Progress.{Progress, reading};
 ghost use Rattle.vdcp_frame.specs.Reader.{answer_of, Gives, fed, ended_of, Follows, FollowsNext, ReadsAs};
@@ -57,6 +57,7 @@ impl Reader {
     /// says how many it took. After a fault it takes all and reads nothing.
     pub fn feed(&mut self, piece: &[u8]) -> (usize, Got<'_>)
         ensures within { result.0 ≤ length piece.now }
+        ensures some { 0 < length piece.now → 0 < result.0 }
         // Which bytes are taken, and what they are with those held.
         ensures gives { Gives self.old piece.now result.0 (answer_of result.1) }
         // What the burst's messages are with it, and where the reader is then.

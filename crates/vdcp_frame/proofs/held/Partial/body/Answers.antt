@@ -25,4 +25,4 @@ returns-then-size-missing-clause-partial c =
     let size : c.min-size.result ≡ length piece = omega (arith, length-take c.min-size.result c.args.bytes.now) in
     let fits : AreBytes piece = All-take (λ b. b < 256) c.min-size.result c.args.bytes.now (All-from_get_or (λ b. b < 256) c.args.bytes.now 0 (λ i h. omega (arith, c.type_inv.bytes i))) in
     begun_more c.args.count c.args.len c.args.total c.args.self.now.buffer c.put.new.buffer piece c.min-size.result c.total_of.result c.requires.begun size
-        (ap (λ (n : ℕ). take (c.args.len + n) c.put.new.buffer) size ∙ c.put.ensures) fits c.total_of.ensures.total c.total_of.ensures.bound (omega (arith, c.from.ensures))
+    (ap (λ (n : ℕ). take (c.args.len + n) c.put.new.buffer) size ∙ c.put.ensures) fits c.total_of.ensures.total c.total_of.ensures.bound (omega (arith, c.from.ensures))
