@@ -1,3 +1,10 @@
 pub mod Message
 pub mod Reading
+pub mod Head
+pub mod Seen
 pub mod Step
+pub mod Burst
+pub mod Progress
+pub mod Reader
+pub mod Held
+pub mod Pieces

@@ -8,6 +8,10 @@ abbrev pub SpellsAll : List Content → List ℕ → Type 0
 SpellsAll [] bytes = bytes ≡ []
 SpellsAll (m ∷ ms) bytes = (first rest : List ℕ) × Spells m first × SpellsAll ms rest × (bytes ≡ first ++ rest)
 
+-- the bytes are whole messages, one after another
+abbrev pub AreMessages : List ℕ → Type 0
+AreMessages bytes = (ms : List Content) × SpellsAll ms bytes
+
 -- some spelling begins with these bytes
 pub record Begins (bytes : List ℕ) : Type 0 where
   pub message : Content
@@ -43,7 +47,7 @@ Ends before rest clean = rest ≡ []
 Ends before rest (cut count) = (rest ≢ []) × Begins rest × (count ≡ length rest)
 Ends before rest (fault kind place) = (n : ℕ) × IsFirstWrong rest n × (place ≡ before + n) × (kind ≡ fault_of (take n rest))
 
--- the bytes are the spellings of the messages, and then a rest with this end of which no front is a spelling
+-- the messages' spellings, then a rest that begins with no spelling, and what end the rest makes
 pub record ReadsShort (bytes : List ℕ) (ms : List Content) (end : End) : Type 0 where
   pub whole : List ℕ
   pub rest : List ℕ
