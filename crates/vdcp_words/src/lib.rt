@@ -2,6 +2,7 @@
 #![tactic(auto)]
 
 mod command;
+mod data;
 mod fault;
 mod reply;
 

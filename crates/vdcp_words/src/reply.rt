@@ -1,3 +1,10 @@
+ghost use Rattle.std.specs.Prelude.{ℕ};
+ghost use Rattle.vdcp_frame.specs.Message.{content_of, framed};
+ghost use Rattle.vdcp_words.specs.Replies.{ReadsReply};
+
+use crate::data;
+use crate::fault::WordFault;
+use vdcp_frame::Message;
 use vdcp_value::ClipId;
 
 /// What the server answers.
@@ -18,4 +25,103 @@ pub enum Reply {
     /// To ID SIZE REQUEST: the clip's length as a packed BCD time code in the order frames, seconds,
     /// minutes, hours.
     Size([u8; 4]),
+}
+
+impl Reply {
+    /// The reply that the message carries, from whatever unit.
+    pub fn read(message: &Message) -> Result<Reply, WordFault>
+        ensures { ReadsReply (content_of message.now) result }
+    {
+        match *message {
+            Message::Ack => Ok(Reply::Ack),
+            Message::Nak(byte) => Ok(Reply::Nak(byte)),
+            Message::Framed {
+                kind,
+                code,
+                rest,
+                ..
+            } => match kind {
+                3 => sense_reply(code, rest),
+                _ => Err(WordFault::Unknown),
+            },
+        }
+    }
+}
+
+/// The replies to sense requests.
+fn sense_reply(code: u8, rest: &[u8]) -> Result<Reply, WordFault>
+    ensures { (unit : ℕ) → ReadsReply (framed 3 unit code rest.now) result }
+{
+    match code {
+        0x81 => opened(rest),
+        0x85 => state(rest),
+        0x87 => active(rest),
+        0x94 => size(rest),
+        0x96 => present(rest),
+        _ => Err(WordFault::Unknown),
+    }
+}
+
+#[tactic(auto, using(crate::proofs::ReplyLemmas::shorts))]
+fn opened(rest: &[u8]) -> Result<Reply, WordFault>
+    ensures { (unit : ℕ) → ReadsReply (framed 3 unit 0x81 rest.now) result }
+{
+    match rest {
+        [first, ..] => Ok(Reply::Opened(*first != 0x00)),
+        [] => Err(WordFault::Length),
+    }
+}
+
+#[tactic(auto, using(crate::proofs::ReplyLemmas::shorts))]
+fn state(rest: &[u8]) -> Result<Reply, WordFault>
+    ensures { (unit : ℕ) → ReadsReply (framed 3 unit 0x85 rest.now) result }
+{
+    match rest {
+        [bitmap, more @ ..] => {
+            if *bitmap & 1 != 1 {
+                return Ok(Reply::State(*bitmap, None));
+            }
+            match more {
+                [byte, ..] => Ok(Reply::State(*bitmap, Some(*byte))),
+                [] => Err(WordFault::Length),
+            }
+        }
+        [] => Err(WordFault::Length),
+    }
+}
+
+#[tactic(auto, using(crate::proofs::ReplyLemmas::shorts))]
+fn active(rest: &[u8]) -> Result<Reply, WordFault>
+    ensures { (unit : ℕ) → ReadsReply (framed 3 unit 0x87 rest.now) result }
+{
+    match rest {
+        [0x00, ..] => Ok(Reply::Active(None)),
+        [_, more @ ..] => {
+            if more.len() < 8 {
+                return Err(WordFault::Length);
+            }
+            Ok(Reply::Active(Some(data::id(&more[..8])?)))
+        }
+        [] => Err(WordFault::Length),
+    }
+}
+
+#[tactic(auto, using(crate::proofs::ReplyLemmas::shorts))]
+fn size(rest: &[u8]) -> Result<Reply, WordFault>
+    ensures { (unit : ℕ) → ReadsReply (framed 3 unit 0x94 rest.now) result }
+{
+    if rest.len() < 4 {
+        return Err(WordFault::Length);
+    }
+    Ok(Reply::Size(data::time(&rest[..4])?))
+}
+
+#[tactic(auto, using(crate::proofs::ReplyLemmas::shorts))]
+fn present(rest: &[u8]) -> Result<Reply, WordFault>
+    ensures { (unit : ℕ) → ReadsReply (framed 3 unit 0x96 rest.now) result }
+{
+    match rest {
+        [first, ..] => Ok(Reply::Present(*first & 1 == 1)),
+        [] => Err(WordFault::Length),
+    }
 }
