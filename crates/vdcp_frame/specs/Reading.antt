@@ -8,6 +8,10 @@ abbrev pub SpellsAll : List Content → List ℕ → Type 0
 SpellsAll [] bytes = bytes ≡ []
 SpellsAll (m ∷ ms) bytes = (first rest : List ℕ) × Spells m first × SpellsAll ms rest × (bytes ≡ first ++ rest)
 
+-- the bytes are whole messages, one after another
+abbrev pub AreMessages : List ℕ → Type 0
+AreMessages bytes = (ms : List Content) × SpellsAll ms bytes
+
 -- some spelling begins with these bytes
 pub record Begins (bytes : List ℕ) : Type 0 where
   pub message : Content

@@ -19,7 +19,10 @@
 #![tactic(auto)]
 
 mod burst;
+mod head;
 mod message;
+mod spelling;
 
-pub use burst::{Step, read_at};
+pub use burst::{LIMIT, Step, read_at};
 pub use message::{Fault, Message};
+pub use spelling::{Full, write};
