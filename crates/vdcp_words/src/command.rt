@@ -1,9 +1,10 @@
-ghost use Rattle.std.specs.Prelude.{ℕ};
-ghost use Rattle.vdcp_frame.specs.Message.{content_of, framed};
-ghost use Rattle.vdcp_words.specs.Commands.{ReadsCommand};
+ghost use Rattle.std.specs.Prelude.{◌≡◌, ◌≤◌, ℕ};
+ghost use Rattle.vdcp_frame.specs.Message.{content_of, framed, IsWritable};
+ghost use Rattle.vdcp_words.specs.Commands.{command_message, ReadsCommand};
 
 use crate::data;
 use crate::fault::WordFault;
+use crate::room::{joined, message, put};
 use vdcp_frame::Message;
 use vdcp_value::ClipId;
 
@@ -55,6 +56,30 @@ impl Command {
                 3 => sense_request(code, rest),
                 _ => Err(WordFault::Unknown),
             },
+        }
+    }
+
+    /// The message that carries the command to the unit, which is at most 15. The data of the
+    /// message lies in `room`.
+    pub fn to_message<'a>(&self, unit: u8, room: &'a mut [u8; 16]) -> Message<'a>
+        requires { unit ≤ 15 }
+        ensures message { content_of result ≡ command_message unit self.now }
+        ensures writable { IsWritable (content_of result) }
+    {
+        match self {
+            Command::Stop => message(1, unit, 0x00, &[]),
+            Command::Play => message(1, unit, 0x01, &[]),
+            Command::Close(port) => message(2, unit, 0x21, put(room, &[*port])),
+            Command::Select(port) => message(2, unit, 0x22, put(room, &[*port])),
+            Command::PlayCue(id) => message(2, unit, 0x24, put(room, &id.bytes())),
+            Command::CueData(id, start, duration) => {
+                message(2, unit, 0x25, put(room, &joined(id, start, duration)))
+            }
+            Command::Open(port, lock) => message(3, unit, 0x01, put(room, &[*port, *lock])),
+            Command::Status(bitmap) => message(3, unit, 0x05, put(room, &[*bitmap])),
+            Command::ActiveId => message(3, unit, 0x07, &[]),
+            Command::IdSize(id) => message(3, unit, 0x14, put(room, &id.bytes())),
+            Command::IdRequest(id) => message(3, unit, 0x16, put(room, &id.bytes())),
         }
     }
 }

@@ -5,6 +5,7 @@ mod command;
 mod data;
 mod fault;
 mod reply;
+mod room;
 
 pub use command::Command;
 pub use fault::WordFault;

@@ -1,9 +1,10 @@
-ghost use Rattle.std.specs.Prelude.{ℕ};
-ghost use Rattle.vdcp_frame.specs.Message.{content_of, framed};
-ghost use Rattle.vdcp_words.specs.Replies.{ReadsReply};
+ghost use Rattle.std.specs.Prelude.{◌≡◌, ◌≤◌, ℕ};
+ghost use Rattle.vdcp_frame.specs.Message.{content_of, framed, IsWritable};
+ghost use Rattle.vdcp_words.specs.Replies.{reply_message, ReadsReply};
 
 use crate::data;
 use crate::fault::WordFault;
+use crate::room::{marked, message, put};
 use vdcp_frame::Message;
 use vdcp_value::ClipId;
 
@@ -44,6 +45,29 @@ impl Reply {
                 3 => sense_reply(code, rest),
                 _ => Err(WordFault::Unknown),
             },
+        }
+    }
+
+    /// The message that carries the reply from the unit, which is at most 15. The data of the
+    /// message lies in `room`. A state is written with its bitmap as it is, and with a state byte
+    /// exactly where it has one.
+    pub fn to_message<'a>(&self, unit: u8, room: &'a mut [u8; 16]) -> Message<'a>
+        requires { unit ≤ 15 }
+        ensures message { content_of result ≡ reply_message unit self.now }
+        ensures writable { IsWritable (content_of result) }
+    {
+        match self {
+            Reply::Ack => Message::Ack,
+            Reply::Nak(byte) => Message::Nak(*byte),
+            Reply::Opened(granted) => message(3, unit, 0x81, put(room, &[u8::from(*granted)])),
+            Reply::State(bitmap, None) => message(3, unit, 0x85, put(room, &[*bitmap])),
+            Reply::State(bitmap, Some(state)) => {
+                message(3, unit, 0x85, put(room, &[*bitmap, *state]))
+            }
+            Reply::Active(None) => message(3, unit, 0x87, put(room, &[0x00])),
+            Reply::Active(Some(id)) => message(3, unit, 0x87, put(room, &marked(id))),
+            Reply::Size(time) => message(3, unit, 0x94, put(room, time)),
+            Reply::Present(there) => message(3, unit, 0x96, put(room, &[u8::from(*there)])),
         }
     }
 }
