@@ -1,3 +1,4 @@
 pub mod Joining
 pub mod CommandLemmas
 pub mod ReplyLemmas
+pub mod CommandLaws

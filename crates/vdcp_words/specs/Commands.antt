@@ -1,26 +1,30 @@
 use Rattle.std.specs.Prelude.{ℕ, ◌≡◌, ◌≢◌, ◌<◌, [], ◌∷◌, ◌++◌, length, Result, Ok, Err}
 use Rattle.vdcp_value.specs.Bytes.{AreBytes}
 use Rattle.vdcp_value.specs.Ids.{id_bytes}
-use Rattle.vdcp_frame.specs.Message.{Content, framed}
+use Rattle.vdcp_frame.specs.Message.{Content}
 use Rattle.vdcp_words.specs.declared.command.Command.{Command}
 use Rattle.vdcp_words.specs.declared.command.Command.TheVariants.{Open, Close, Select, PlayCue, CueData, Play, Stop, Status, ActiveId, IdRequest, IdSize}
 use Rattle.vdcp_words.specs.declared.fault.WordFault.{WordFault}
 use Rattle.vdcp_words.specs.declared.fault.WordFault.TheVariants.{NotCommand, Unknown, Length}
-use Rattle.vdcp_words.specs.Messages.{unit_of, rest_of, IsReceipt, IsFramed, SameCode}
+use Rattle.vdcp_words.specs.Messages.{Form, form, framed_form, unit_of, rest_of, IsReceipt, IsFramed, SameCode}
 
--- the message of each command to a unit: its type, the unit, its code and its data
+-- the type, the code and the data of each command
+abbrev pub command_form : Command → Form
+command_form Stop = form 1 0x00 []
+command_form Play = form 1 0x01 []
+command_form (Close port) = form 2 0x21 (port ∷ [])
+command_form (Select port) = form 2 0x22 (port ∷ [])
+command_form (PlayCue id) = form 2 0x24 (id_bytes id)
+command_form (CueData id start duration) = form 2 0x25 (id_bytes id ++ start ++ duration)
+command_form (Open port lock) = form 3 0x01 (port ∷ lock ∷ [])
+command_form (Status bitmap) = form 3 0x05 (bitmap ∷ [])
+command_form ActiveId = form 3 0x07 []
+command_form (IdSize id) = form 3 0x14 (id_bytes id)
+command_form (IdRequest id) = form 3 0x16 (id_bytes id)
+
+-- the message that carries a command to a unit
 abbrev pub command_message : ℕ → Command → Content
-command_message unit Stop = framed 1 unit 0x00 []
-command_message unit Play = framed 1 unit 0x01 []
-command_message unit (Close port) = framed 2 unit 0x21 (port ∷ [])
-command_message unit (Select port) = framed 2 unit 0x22 (port ∷ [])
-command_message unit (PlayCue id) = framed 2 unit 0x24 (id_bytes id)
-command_message unit (CueData id start duration) = framed 2 unit 0x25 (id_bytes id ++ start ++ duration)
-command_message unit (Open port lock) = framed 3 unit 0x01 (port ∷ lock ∷ [])
-command_message unit (Status bitmap) = framed 3 unit 0x05 (bitmap ∷ [])
-command_message unit ActiveId = framed 3 unit 0x07 []
-command_message unit (IdSize id) = framed 3 unit 0x14 (id_bytes id)
-command_message unit (IdRequest id) = framed 3 unit 0x16 (id_bytes id)
+command_message unit command = framed_form unit (command_form command)
 
 -- the command's numbers are bytes, and its time codes four of them
 abbrev pub IsWritableCommand : Command → Type 0

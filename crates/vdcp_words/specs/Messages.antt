@@ -1,6 +1,19 @@
 use Rattle.std.specs.Prelude.{ℕ, ◌≡◌, List, []}
 use Rattle.vdcp_frame.specs.Message.{Content, ack, nak, framed}
 
+-- a type, a code and data
+pub record Form : Type 0 where
+  pub kind : ℕ
+  pub code : ℕ
+  pub rest : List ℕ
+
+abbrev pub form : ℕ → ℕ → List ℕ → Form
+form kind code rest = record { kind = kind; code = code; rest = rest }
+
+-- the framed message of that type, code and data to or from a unit
+abbrev pub framed_form : ℕ → Form → Content
+framed_form unit f = framed f.kind unit f.code f.rest
+
 -- the unit that a framed message is addressed to
 abbrev pub unit_of : Content → ℕ
 unit_of ack = 0
