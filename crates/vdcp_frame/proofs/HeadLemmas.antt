@@ -34,7 +34,7 @@ data_found kind unit code rest check more h adds_up =
     rw (long, front_of_data rest check more, at_check rest check more, adds_up, quotient kind unit h, remainder kind unit h) refl
 
 -- a frame whose bytes don't add up is wrong, whatever follows
-data_bad : (n x code : ℕ) (rest : List ℕ) (check : ℕ) (more : List ℕ) → length rest ≡ n → ((x + code + sum rest + check) % 256 ≡ 0 → ⊥) →
+pub data_bad : (n x code : ℕ) (rest : List ℕ) (check : ℕ) (more : List ℕ) → length rest ≡ n → ((x + code + sum rest + check) % 256 ≡ 0 → ⊥) →
     data_head n x code ((rest ++ check ∷ []) ++ more) ≡ wrong BadSum (n + 5)
 data_bad n x code rest check more size bad =
     let long : ltb (length rest) (length ((rest ++ check ∷ []) ++ more)) ≡ true = lt-ltb _ _ (omega (arith, length-append (rest ++ check ∷ []) more, length-append rest (check ∷ []))) in

@@ -1,2 +1,4 @@
 pub mod HeadLemmas
 pub mod ReadingLemmas
+pub mod BurstLemmas
+pub mod LawLemmas

@@ -63,7 +63,7 @@ SpellsAll-append (m ∷ ms) ns a b p q =
 
 -- ---- one reading
 
-nil_no_front : HasNoFront []
+pub nil_no_front : HasNoFront []
 nil_no_front m front more s e = absurd (omega (arith, spelt_some m front s, ap (length {A = ℕ}) e, length-append front more))
 
 same_whole : (ms ns : List Content) (a b x y : List ℕ) → SpellsAll ms a → SpellsAll ns b → HasNoFront x → HasNoFront y → a ++ x ≡ b ++ y → (ms ≡ ns) × (a ≡ b) × (x ≡ y)

@@ -3,3 +3,4 @@ pub mod Reading
 pub mod Head
 pub mod Seen
 pub mod Step
+pub mod Burst

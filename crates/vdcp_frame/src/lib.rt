@@ -20,6 +20,7 @@
 
 mod burst;
 mod head;
+pub mod laws;
 mod message;
 mod spelling;
 
