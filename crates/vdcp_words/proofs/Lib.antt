@@ -2,3 +2,4 @@ pub mod Joining
 pub mod CommandLemmas
 pub mod ReplyLemmas
 pub mod CommandLaws
+pub mod ReplyLaws
