@@ -3,3 +3,4 @@ pub mod CommandLemmas
 pub mod ReplyLemmas
 pub mod CommandLaws
 pub mod ReplyLaws
+pub mod WordBytes

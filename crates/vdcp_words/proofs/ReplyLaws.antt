@@ -1,6 +1,6 @@
 -- A message is read as one reply, or has one fault, and what was written is read.
-use Rattle.std.proofs.Common.{◌≡◌, ◌≢◌, ◌∙◌, ℕ, ◌+◌, ◌*◌, ◌<◌, ◌≤◌, Bool, true, false, List, [], ◌∷◌, ◌++◌, length, take, drop, refl, sym, ap, subst, arith, length-append}
-use Rattle.std.specs.Prelude.{Option, Some, None, Result, Ok, Err}
+use Rattle.std.proofs.Common.{◌≡◌, ◌∙◌, ℕ, true, false, List, [], ◌∷◌, take, refl, sym, ap, arith}
+use Rattle.std.specs.Prelude.{Some, None, Result, Ok, Err}
 use Rattle.std.proofs.lemmas.List.{take_all}
 use Rattle.vdcp_value.specs.Ids.{id_bytes}
 use Rattle.vdcp_value.specs.declared.clip_id.ClipId.{ClipId}
@@ -11,8 +11,8 @@ use Rattle.vdcp_words.specs.declared.reply.Reply.{Reply}
 use Rattle.vdcp_words.specs.declared.reply.Reply.TheVariants.{Ack, Nak, Opened, State, Active, Present, Size}
 use Rattle.vdcp_words.specs.declared.fault.WordFault.{WordFault}
 use Rattle.vdcp_words.specs.declared.fault.WordFault.TheVariants.{NotCommand, Unknown, Length}
-use Rattle.vdcp_words.specs.Messages.{unit_of, rest_of, IsFramed, SameCode}
-use Rattle.vdcp_words.specs.Replies.{has_bit_0, reply_message, IsReadFrom, IsReply, IsWritableReply, IsUnknownReply, IsShortReply, ReadsReply}
+use Rattle.vdcp_words.specs.Messages.{unit_of, IsFramed, SameCode}
+use Rattle.vdcp_words.specs.Replies.{reply_message, IsReadFrom, IsReply, IsWritableReply, IsUnknownReply, ReadsReply}
 
 -- a reply is read from its own message
 pub reply_written : (unit : ℕ) (reply : Reply) → IsWritableReply reply → IsReply (reply_message unit reply) reply
@@ -114,3 +114,15 @@ one_reply_reading m (Err Length) (Ok b) p q = absurd (p.ends b q)
 one_reply_reading m (Err Length) (Err NotCommand) p q = absurd q
 one_reply_reading m (Err Length) (Err Unknown) p q = absurd (q.no_code p.reply p.code)
 one_reply_reading m (Err Length) (Err Length) p q = refl
+
+-- a framed reply names the unit that it was written from
+pub unit_of-reply : (unit : ℕ) (reply : Reply) → IsFramed (reply_message unit reply) → unit_of (reply_message unit reply) ≡ unit
+unit_of-reply unit Ack h = absurd h
+unit_of-reply unit (Nak byte) h = absurd h
+unit_of-reply unit (Opened granted) h = refl
+unit_of-reply unit (State bitmap None) h = refl
+unit_of-reply unit (State bitmap (Some state)) h = refl
+unit_of-reply unit (Active None) h = refl
+unit_of-reply unit (Active (Some id)) h = refl
+unit_of-reply unit (Size time) h = refl
+unit_of-reply unit (Present there) h = refl
