@@ -4,3 +4,5 @@ pub mod ReplyLemmas
 pub mod CommandLaws
 pub mod ReplyLaws
 pub mod WordBytes
+pub mod CommandReading
+pub mod ReplyReading

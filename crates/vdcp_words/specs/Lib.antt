@@ -2,3 +2,4 @@ pub mod Messages
 pub mod Commands
 pub mod Replies
 pub mod Texts
+pub mod Computed
