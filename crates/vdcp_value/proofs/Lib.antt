@@ -5,3 +5,5 @@ pub mod Day
 pub mod Numbers
 pub mod FrameNumbers
 pub mod Examples
+pub mod Places
+pub mod Bcd
