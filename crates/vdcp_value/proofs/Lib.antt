@@ -7,3 +7,4 @@ pub mod FrameNumbers
 pub mod Examples
 pub mod Places
 pub mod Bcd
+pub mod LabelText
