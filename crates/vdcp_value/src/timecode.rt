@@ -2,7 +2,7 @@ ghost use Rattle.std.specs.Prelude.{IsTrue, ◌≡◌, ◌<◌, ◌↔◌, lengt
 ghost use Rattle.vdcp_value.specs.Bcd.{is_bcd, bcd_byte, bcd_value, bcd_fault};
 ghost use Rattle.arrayvec.specs.ArrayString.{array_string_len};
 ghost use Rattle.vdcp_value.specs.LabelText.{Writes, IsTextFault, two_digits, frames_mark};
-ghost use Rattle.vdcp_value.specs.Day.{lawful_labels};
+ghost use Rattle.vdcp_value.specs.Day.{lawful_labels, frames_of_day};
 ghost use Rattle.vdcp_value.specs.Labels.{is_lawful};
 ghost use Rattle.vdcp_value.specs.declared.label.Label.{Label};
 ghost use Rattle.vdcp_value.specs.declared.faults.TcFault.TheVariants.{NotBcd};
@@ -39,11 +39,12 @@ impl Timecode {
         Some(Timecode { rate, label })
     }
 
-    #[tactic(auto, using(crate::proofs::FrameNumbers::length_of_day, crate::proofs::Timecodes::frames_below))]
+    #[tactic(auto, using(crate::proofs::Timecodes::frames_below))]
     /// The frame number: how many lawful time codes of the day stand before this one.
     pub fn frames(&self) -> u32
         ensures number { result ≡ frames_of self.now }
-        ensures within { result < length (lawful_labels (rate_of self.now)) }
+        ensures within { result < frames_of_day (rate_of self.now) }
+        ensures bound { result < 2_592_000 }
     {
         self.label.frame(self.rate)
     }
