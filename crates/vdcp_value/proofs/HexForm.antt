@@ -1,7 +1,7 @@
-use Rattle.std.proofs.Common.{ℕ, zero, suc, List, [], ◌∷◌, ◌++◌, ◌+◌, ◌-◌, ◌*◌, ◌/◌, ◌%◌, ◌<◌, ◌≤◌, ◌≡◌, ◌≢◌, ◌⊎◌, inl, inr, Bool, true, false, not, ◌&&◌, ◌||◌, nat_eq, nat_lt, nat_le, length, take, drop, get_or, arith, refl, sym, ap, ap₂, ◌∙◌, subst, if◌then◌else◌, All}
+use Rattle.std.proofs.Common.{ℕ, List, [], ◌∷◌, ◌*◌, ◌/◌, ◌%◌, ◌<◌, ◌≡◌, Bool, true, nat_eq, nat_lt, length, drop, get_or, arith, refl, sym, ap, ap₂, ◌∙◌}
 use Rattle.std.specs.List.{flat_map, list_all}
-use Rattle.vdcp_value.proofs.Bytes.{both_hold, length_of_bytes}
-use Rattle.vdcp_value.specs.Bytes.{AreBytes, are_bytes}
+use Rattle.vdcp_value.proofs.Bytes.{both_hold}
+use Rattle.vdcp_value.specs.Bytes.{AreBytes}
 use Rattle.vdcp_value.specs.IdText.{hex_digit, hex_pair, hex_form, is_hex_digit, is_hex_long}
 
 -- each byte is below 256
@@ -27,9 +27,9 @@ one_byte m n below below' high low =
     let l = one_half (m % 16) (n % 16) (omega arith) (omega arith) low in
     omega (arith, h, l)
 
-pub length-pairs : (bytes : List ℕ) → length (flat_map hex_pair bytes) ≡ 2 * length bytes
-length-pairs [] = refl
-length-pairs (byte ∷ rest) = omega (arith, length-pairs rest)
+pub length_of_pairs : (bytes : List ℕ) → length (flat_map hex_pair bytes) ≡ 2 * length bytes
+length_of_pairs [] = refl
+length_of_pairs (byte ∷ rest) = omega (arith, length_of_pairs rest)
 
 pub pairs_are_hex : (bytes : List ℕ) → all_below bytes ≡ true → list_all is_hex_digit (flat_map hex_pair bytes) ≡ true
 pairs_are_hex [] below = refl
@@ -55,4 +55,13 @@ pub one_hex_form : (a b : List ℕ) → all_below a ≡ true → all_below b ≡
 one_hex_form a b p q e = one_pairs a b p q (ap (drop 2) e)
 
 pub hex_form_long : (bytes : List ℕ) → length bytes ≡ 8 → is_hex_long (hex_form bytes) ≡ true
-hex_form_long bytes eight = grind (arith, eight, length-pairs bytes)
+hex_form_long bytes eight = grind (arith, eight, length_of_pairs bytes)
+
+-- what the digits of eight bytes behind 0x are
+pub hex_read : (text bytes : List ℕ) → is_hex_long text ≡ true → flat_map hex_pair bytes ≡ drop 2 text → text ≡ hex_form bytes
+hex_read (a ∷ b ∷ rest) bytes long e =
+    let first : a ≡ 48 = grind (arith, long) in
+    let second : b ≡ 120 = grind (arith, long) in
+    ap₂ (λ x y. x ∷ y ∷ rest) first second ∙ ap (λ t. 48 ∷ 120 ∷ t) (sym e)
+hex_read (a ∷ []) bytes long e = absurd (grind (arith, long))
+hex_read [] bytes long e = absurd (grind (arith, long))

@@ -1,10 +1,8 @@
-use Rattle.std.proofs.Common.{ℕ, zero, suc, List, [], ◌∷◌, ◌++◌, ◌+◌, ◌-◌, ◌*◌, ◌/◌, ◌%◌, ◌<◌, ◌≤◌, ◌≡◌, ◌≢◌, ◌⊎◌, inl, inr, Bool, true, false, not, ◌&&◌, ◌||◌, nat_eq, nat_lt, nat_le, length, take, drop, replicate, get_or, arith, refl, sym, ap, ◌∙◌, subst, IsTrue, IsFalse, if◌then◌else◌, length-append, append-nil, sub-one, add-one, true≢false}
-use Rattle.std.specs.List.{flat_map, list_all}
-use Rattle.std.proofs.lemmas.Grind.{common_steps}
-use Rattle.std.proofs.lemmas.List.{length-replicate}
-use Rattle.vdcp_value.proofs.Bytes.{both_hold}
+use Rattle.std.proofs.Common.{ℕ, zero, suc, List, [], ◌∷◌, ◌++◌, ◌+◌, ◌-◌, ◌≤◌, ◌≡◌, inl, inr, true, false, nat_eq, length, take, drop, replicate, get_or, arith, refl, sym, ap, ◌∙◌, subst, if◌then◌else◌, length-append, append-nil, take_all, true≢false}
+use Rattle.std.specs.List.{list_all}
+use Rattle.std.proofs.lemmas.List.{length-replicate, take_more}
 use Rattle.vdcp_value.proofs.Day.{both_ways}
-use Rattle.vdcp_value.specs.IdText.{is_plain, is_plain_byte, has_edge_space, padded, IsPlainForm, HasPlain, hex_digit, hex_pair, hex_form, IsTextOf, without_end_spaces, kept_before, text_of_bytes, is_hex_digit, is_hex_long}
+use Rattle.vdcp_value.specs.IdText.{is_plain, is_plain_byte, has_edge_space, padded, IsPlainForm, HasPlain, hex_form, IsTextOf, without_end_spaces, kept_before, text_of_bytes}
 
 -- spaces alone leave nothing
 trim-spaces : (n : ℕ) → without_end_spaces (replicate n 32) ≡ []
@@ -100,3 +98,27 @@ one_text text bytes eight (inr (none, e)) =
       | inl plain ↦ absurd (none (has_plain bytes eight plain))
       | inr not_plain ↦ e ∙ ap (λ b. if b then without_end_spaces bytes else hex_form bytes) (sym not_plain)
     ]
+
+-- a space at the end goes
+pub trim-last : (xs : List ℕ) (n : ℕ) → n + 1 ≡ length xs → get_or xs n 0 ≡ 32
+    → without_end_spaces (take n xs) ≡ without_end_spaces xs
+trim-last xs n len last =
+    let whole : xs ≡ take n xs ++ 32 ∷ [] =
+    sym (take_all (n + 1) xs (omega (arith, len))) ∙ take_more xs n 0 (omega (arith, len)) ∙ ap (λ x. take n xs ++ x ∷ []) last in
+    sym (ap without_end_spaces whole ∙ trim-push (take n xs))
+
+-- and where there is none nothing goes
+pub trim-none : (xs : List ℕ) → 1 ≤ length xs → nat_eq (get_or xs (length xs - 1) 0) 32 ≡ false → without_end_spaces xs ≡ xs
+trim-none [] some last = absurd (omega (arith, some))
+trim-none (x ∷ xs) some last =
+    let one : length (x ∷ xs) - 1 ≡ length xs = omega arith in
+    ap without_end_spaces (sym (append-nil (x ∷ xs)))
+    ∙ trim-padded x xs 0 (subst (λ n. nat_eq (get_or (x ∷ xs) n 0) 32 ≡ false) one last)
+
+-- spaces without the first n of them
+pub drop-spaces : (n m : ℕ) → drop n (replicate {A = ℕ} m 32) ≡ replicate (m - n) 32
+drop-spaces zero m = let e : m ≡ m - 0 = omega arith in ap (λ k. replicate k 32) e
+drop-spaces (suc n) zero = let e : 0 ≡ 0 - suc n = omega arith in ap (λ k. replicate k 32) e
+drop-spaces (suc n) (suc m) =
+    let e : m - n ≡ suc m - suc n = omega arith in
+    drop-spaces n m ∙ ap (λ k. replicate k 32) e

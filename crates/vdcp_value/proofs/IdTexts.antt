@@ -1,13 +1,12 @@
-use Rattle.std.proofs.Common.{ℕ, List, [], ◌∷◌, ◌++◌, ◌+◌, ◌-◌, ◌*◌, ◌<◌, ◌≤◌, ◌≡◌, inl, inr, Bool, true, false, length, take, drop, get_or, replicate, slice_index, arith, refl, sym, ap, ◌∙◌, subst, true≢false, Ok, Err, Result, EachIndex, length-append}
-use Rattle.std.specs.List.{flat_map, list_all}
-use Rattle.std.proofs.lemmas.List.{length-replicate}
+use Rattle.std.proofs.Common.{ℕ, List, ◌-◌, ◌≤◌, ◌≡◌, inl, inr, true, length, drop, arith, sym, ap, ◌∙◌, subst, true≢false, Ok, Err, Result, IfOk, IfErr}
+use Rattle.std.specs.List.{list_all}
 use Rattle.std.proofs.lemmas.List.Folds.{list_all_at}
 use Rattle.vdcp_value.proofs.Bytes.{length_of_bytes}
-use Rattle.vdcp_value.proofs.HexForm.{all_below_of, one_hex_form, hex_form_long, pairs_are_hex, length-pairs}
-use Rattle.vdcp_value.proofs.IdText.{Plain, plain_parts, plain_form, one_text, text_is_text}
+use Rattle.vdcp_value.proofs.HexForm.{all_below_of, one_hex_form, hex_form_long, pairs_are_hex, length_of_pairs}
+use Rattle.vdcp_value.proofs.IdText.{plain_parts, one_text, text_is_text}
 use Rattle.vdcp_value.proofs.Ids.{same_id, length_of_id}
 use Rattle.vdcp_value.specs.Bytes.{AreBytes}
-use Rattle.vdcp_value.specs.IdText.{IsTextOf, IsPlainForm, HasPlain, IsIdFault, is_plain, is_plain_byte, hex_form, hex_pair, is_hex_long, is_hex_digit, has_edge_space, padded, text_of_bytes}
+use Rattle.vdcp_value.specs.IdText.{IsTextOf, IsPlainForm, HasPlain, IsIdFault, is_plain_byte, hex_form, is_hex_long, is_hex_digit}
 use Rattle.vdcp_value.specs.Ids.{id_bytes, text_of_id}
 use Rattle.vdcp_value.specs.declared.clip_id.ClipId.{ClipId}
 use Rattle.vdcp_value.specs.declared.faults.IdFault.TheVariants.{Empty, TooLong, BadByte, EdgeSpace, BadHex, HasPlainForm}
@@ -18,7 +17,7 @@ short_form : (text bytes : List ℕ) → IsPlainForm text bytes → length text 
 short_form text bytes form = (plain_parts text form.0).short
 
 long_form : (text bytes : List ℕ) → length bytes ≡ 8 → text ≡ hex_form bytes → length text ≡ 18
-long_form text bytes eight e = ap length e ∙ omega (arith, length-pairs bytes)
+long_form text bytes eight e = ap length e ∙ omega (arith, length_of_pairs bytes)
 
 long_length : (text : List ℕ) → is_hex_long text ≡ true → length text ≡ 18
 long_length text e = grind (arith, e)
@@ -71,11 +70,9 @@ pub not_both : (text bytes : List ℕ) (fault : IdFault) → AreBytes 8 bytes �
 not_both text bytes fault b h (inl form) = plain_refused text bytes fault h form
 not_both text bytes fault b h (inr (none, e)) = hex_refused text bytes fault b h none e
 
--- what a result that reads the text is, where the text is an ID's
-pub accepted : (text : List ℕ) (read : ClipId) → IsTextOf text (id_bytes read)
-    → (id : ClipId) → IsTextOf text (id_bytes id) → ◌≡◌ {A = Result ClipId IdFault} (Ok read) (Ok id)
-accepted text read h id k = ap Ok (one_id text read id h k)
-
-pub refused : (text : List ℕ) (fault : IdFault) → IsIdFault text fault
-    → (id : ClipId) → IsTextOf text (id_bytes id) → ◌≡◌ {A = Result ClipId IdFault} (Err fault) (Ok id)
-refused text fault h id k = absurd (not_both text (id_bytes id) fault id.eight h k)
+-- a reading of a text that gives its ID or its fault
+pub only_accepted : (text : List ℕ) (result : Result ClipId IdFault)
+    → IfOk result (λ id. IsTextOf text (id_bytes id)) → IfErr result (IsIdFault text)
+    → (id : ClipId) → IsTextOf text (id_bytes id) → result ≡ Ok id
+only_accepted text (Ok read) h k id t = ap Ok (one_id text read id h t)
+only_accepted text (Err fault) h k id t = absurd (not_both text (id_bytes id) fault id.eight k t)
