@@ -1,6 +1,6 @@
 use Rattle.std.specs.List.{flat_map, range_with_len}
-use Rattle.std.specs.Prelude.{ℕ, suc, List, [], ◌∷◌, ◌&&◌, map, filter, nat_eq, Bool, if◌then◌else◌}
-use Rattle.vdcp_value.specs.Labels.{frames_per_second, is_lawful}
+use Rattle.std.specs.Prelude.{ℕ, suc, List, [], ◌∷◌, ◌&&◌, map, filter, not, nat_eq, Bool, if◌then◌else◌}
+use Rattle.vdcp_value.specs.Labels.{frames_per_second, is_dropped}
 use Rattle.vdcp_value.specs.declared.label.Label.{Label}
 use Rattle.vdcp_value.specs.declared.rate.Rate.{Rate}
 use Rattle.vdcp_value.specs.declared.rate.Rate.TheVariants.{F24, F25, F30, D30}
@@ -22,9 +22,9 @@ labels_of_hour rate hours = flat_map (labels_of_minute rate hours) (range_with_l
 unfoldable pub labels_of_day : Rate → List Label
 labels_of_day rate = flat_map (labels_of_hour rate) (range_with_len 0 24)
 
--- the lawful labels of the day, in this order
+-- the lawful labels of the day, in this order: all but those that drop frame leaves out
 unfoldable pub lawful_labels : Rate → List Label
-lawful_labels rate = filter (is_lawful rate) (labels_of_day rate)
+lawful_labels rate = filter (λ label. not (is_dropped rate label)) (labels_of_day rate)
 
 abbrev pub is_same : Label → Label → Bool
 is_same a b =
