@@ -1,21 +1,17 @@
 -- What is computed of a message as a command is what the table of commands says.
-use Rattle.std.proofs.Common.{◌≡◌, ◌≢◌, ◌∙◌, ◌⊎◌, inl, inr, ℕ, ◌<◌, ◌≤◌, Bool, true, false, cond, nat_eq, nat_lt, List, [], ◌∷◌, ◌++◌, length, take, drop, refl, sym, ap, subst, arith, eqb}
-use Rattle.std.specs.Prelude.{All, Option, Some, None, Result, Ok, Err}
+use Rattle.std.proofs.Common.{◌≡◌, ◌≢◌, ◌∙◌, inl, inr, ℕ, ◌<◌, Bool, true, false, nat_eq, nat_lt, List, [], ◌∷◌, ◌++◌, length, take, drop, refl, sym, ap, arith}
+use Rattle.std.specs.Prelude.{All}
 use Rattle.std.proofs.lemmas.Bool.{cases_eq, ne_eqb, eq-eqb, lt-ltb}
 use Rattle.std.proofs.lemmas.List.{length-take, length-drop, take-append-drop, append_assoc, drop-drop}
 use Rattle.std.proofs.lemmas.List.Elements.{All-head, All-tail, All-take, All-drop}
 use Rattle.std.specs.List.{list_all}
 use Rattle.vdcp_value.specs.Bytes.{are_bytes, AreBytes}
-use Rattle.vdcp_value.specs.Ids.{id_bytes}
-use Rattle.vdcp_value.specs.declared.clip_id.ClipId.{ClipId}
 use Rattle.vdcp_frame.specs.Message.{Content, ack, nak, framed}
 use Rattle.vdcp_words.specs.declared.command.Command.{Command}
 use Rattle.vdcp_words.specs.declared.command.Command.TheVariants.{Open, Close, Select, PlayCue, CueData, Play, Stop, Status, ActiveId, IdRequest, IdSize}
-use Rattle.vdcp_words.specs.declared.fault.WordFault.{WordFault}
-use Rattle.vdcp_words.specs.declared.fault.WordFault.TheVariants.{NotCommand, Unknown, Length}
 use Rattle.vdcp_words.specs.Messages.{rest_of, SameCode}
-use Rattle.vdcp_words.specs.Commands.{command_message, IsCommand, IsUnknownCommand, HasOtherLength, ReadsCommand}
-use Rattle.vdcp_words.specs.Computed.{id_when, id_of, no_data, one_byte, two_bytes, with_id, cue_data_of, immediate_of, preset_of, sense_request_of, command_of}
+use Rattle.vdcp_words.specs.Commands.{command_message, ReadsCommand}
+use Rattle.vdcp_words.specs.Computed.{id_when, no_data, one_byte, two_bytes, with_id, cue_data_of, immediate_of, preset_of, sense_request_of, command_of}
 use Rattle.vdcp_words.proofs.CommandLemmas.{stop_length, play_length, close_length, select_length, play_cue_length, cue_data_length, open_length, status_length, active_id_length, id_size_length, id_request_length}
 
 -- ---- no command has the code
@@ -135,7 +131,7 @@ module _ (unit : ℕ) (rest : List ℕ) (fits : All (λ b. b < 256) rest) where
       record {
         writable = (
           bytes_are 4 (take 4 (drop 8 rest)) (omega (arith, length-take 4 (drop 8 rest), length-drop 8 rest)) (All-take (λ b. b < 256) 4 (drop 8 rest) (All-drop (λ b. b < 256) 8 rest fits)),
-          bytes_are 4 (drop 12 rest) (omega (arith, length-drop 12 rest)) (All-drop (λ b. b < 256) 12 rest fits)
+          bytes_are 4 (drop 12 rest) (omega (arith, length-drop 12 rest)) (All-drop (λ b. b < 256) 12 rest fits),
         );
         says = ap (λ (r : List ℕ). framed 2 unit 0x25 r) (parts rest);
       }

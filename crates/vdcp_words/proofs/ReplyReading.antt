@@ -1,20 +1,16 @@
 -- What is computed of a message as a reply is what the table of replies says.
-use Rattle.std.proofs.Common.{◌≡◌, ◌≢◌, ◌∙◌, ◌⊎◌, inl, inr, ℕ, ◌<◌, ◌≤◌, Bool, true, false, cond, nat_eq, nat_lt, List, [], ◌∷◌, ◌++◌, length, take, drop, refl, sym, ap, subst, arith}
-use Rattle.std.specs.Prelude.{All, Option, Some, None, Result, Ok, Err, not}
-use Rattle.std.proofs.lemmas.Bool.{cases_eq, cases_lt, ne_eqb, eq-eqb, lt-ltb, le-ltb}
+use Rattle.std.proofs.Common.{◌≡◌, ◌≢◌, inl, inr, ℕ, ◌<◌, Bool, true, false, cond, List, [], ◌∷◌, length, take, refl, sym, arith}
+use Rattle.std.specs.Prelude.{All, Some, None, Ok}
+use Rattle.std.proofs.lemmas.Bool.{cases_eq, cases_lt, ne_eqb, lt-ltb, le-ltb}
 use Rattle.std.proofs.lemmas.List.{length-take}
 use Rattle.std.proofs.lemmas.List.Elements.{All-tail, All-take}
-use Rattle.vdcp_value.specs.Bytes.{are_bytes, AreBytes}
-use Rattle.vdcp_value.specs.Ids.{id_bytes}
-use Rattle.vdcp_value.specs.declared.clip_id.ClipId.{ClipId}
+use Rattle.vdcp_value.specs.Bytes.{are_bytes}
 use Rattle.vdcp_frame.specs.Message.{Content, ack, nak, framed}
 use Rattle.vdcp_words.specs.declared.reply.Reply.{Reply}
 use Rattle.vdcp_words.specs.declared.reply.Reply.TheVariants.{Ack, Nak, Opened, State, Active, Present, Size}
-use Rattle.vdcp_words.specs.declared.fault.WordFault.{WordFault}
-use Rattle.vdcp_words.specs.declared.fault.WordFault.TheVariants.{NotCommand, Unknown, Length}
 use Rattle.vdcp_words.specs.Messages.{rest_of, SameCode}
-use Rattle.vdcp_words.specs.Replies.{has_bit_0, reply_message, IsReadFrom, IsReply, IsUnknownReply, IsShortReply, ReadsReply}
-use Rattle.vdcp_words.specs.Computed.{id_when, id_of, with_id, opened_of, state_byte_of, state_of, active_of, size_of, present_of, sense_reply_of, reply_of}
+use Rattle.vdcp_words.specs.Replies.{has_bit_0, reply_message, ReadsReply}
+use Rattle.vdcp_words.specs.Computed.{id_when, with_id, opened_of, state_byte_of, state_of, active_of, size_of, present_of, sense_reply_of, reply_of}
 use Rattle.vdcp_words.proofs.CommandReading.{not_eight}
 use Rattle.vdcp_words.proofs.ReplyLemmas.{opened_short, state_short, state_byte_short, active_short, active_id_short, size_short, present_short}
 
@@ -39,10 +35,10 @@ id_reads : (unit first : ℕ) (more : List ℕ) → first ≢ 0 → All (λ b. b
 id_reads unit first more other fits true e = ((refl, refl), (other, refl))
 id_reads unit first more other fits false e =
     let short : length more < 8 =
-        elim (cases_lt (length more) 8) [
-          | inl lt ↦ lt
-          | inr le ↦ absurd (not_eight (take 8 more) (All-take (λ b. b < 256) 8 more fits) e (omega (arith, length-take 8 more)))
-        ] in
+    elim (cases_lt (length more) 8) [
+      | inl lt ↦ lt
+      | inr le ↦ absurd (not_eight (take 8 more) (All-take (λ b. b < 256) 8 more fits) e (omega (arith, length-take 8 more)))
+    ] in
     active_id_short unit first more other short
 
 active_reads : (unit : ℕ) (rest : List ℕ) → All (λ b. b < 256) rest → ReadsReply (framed 3 unit 0x87 rest) (active_of rest)

@@ -12,3 +12,6 @@ mod text;
 pub use command::Command;
 pub use fault::WordFault;
 pub use reply::Reply;
+
+#[cfg(test)]
+mod tests;

@@ -1,11 +1,14 @@
 ghost use Rattle.std.specs.Prelude.{◌≡◌, ◌<◌, ◌≤◌, ℕ, All};
 ghost use Rattle.vdcp_frame.specs.Message.{content_of, framed, IsWritable};
 ghost use Rattle.vdcp_words.specs.Computed.{reply_of};
+ghost use Rattle.vdcp_words.specs.Texts.{reply_text};
 ghost use Rattle.vdcp_words.specs.Replies.{reply_message, ReadsReply};
 
 use crate::data;
 use crate::fault::WordFault;
 use crate::room::{marked, message, put};
+use crate::text::{push_byte, push_id, push_time};
+use arrayvec::ArrayString;
 use vdcp_frame::Message;
 use vdcp_value::ClipId;
 
@@ -70,6 +73,38 @@ impl Reply {
             Reply::Active(Some(id)) => message(3, unit, 0x87, put(room, &marked(id))),
             Reply::Size(time) => message(3, unit, 0x94, put(room, time)),
             Reply::Present(there) => message(3, unit, 0x96, put(room, &[u8::from(*there)])),
+        }
+    }
+
+    /// Replaces the text by the reply's as it is heard, as `granted` or `state 84`.
+    pub fn show(&self, text: &mut ArrayString<64>)
+        ensures { text.new.bytes ≡ reply_text self.now }
+    {
+        text.clear();
+        match self {
+            Reply::Ack => text.push_str("ack"),
+            Reply::Nak(byte) => {
+                text.push_str("nak ");
+                push_byte(text, *byte);
+            }
+            Reply::Opened(true) => text.push_str("granted"),
+            Reply::Opened(false) => text.push_str("denied"),
+            Reply::State(_, Some(state)) => {
+                text.push_str("state ");
+                push_byte(text, *state);
+            }
+            Reply::State(_, None) => text.push_str("state none"),
+            Reply::Active(Some(id)) => {
+                text.push_str("active ");
+                push_id(text, id);
+            }
+            Reply::Active(None) => text.push_str("active none"),
+            Reply::Present(true) => text.push_str("present"),
+            Reply::Present(false) => text.push_str("absent"),
+            Reply::Size(time) => {
+                text.push_str("size ");
+                push_time(text, time);
+            }
         }
     }
 }
