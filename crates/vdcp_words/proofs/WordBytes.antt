@@ -1,5 +1,5 @@
 -- Words on the line: their messages fit, and their bytes read as them first.
-use Rattle.std.proofs.Common.{◌≡◌, ℕ, ◌<◌, ◌≤◌, Bool, true, false, List, [], ◌∷◌, ◌++◌, length, refl, sym, ap, arith, length-append}
+use Rattle.std.proofs.Common.{◌≡◌, ℕ, ◌<◌, ◌≤◌, Bool, true, false, List, [], ◌∷◌, ◌++◌, length, refl, sym, ap, subst, arith, length-append, Ok}
 use Rattle.std.specs.Prelude.{All, Some, None}
 use Rattle.std.proofs.lemmas.List.{append-nil}
 use Rattle.std.proofs.lemmas.List.Elements.{All-nil, All-cons, All-append}
@@ -15,6 +15,12 @@ use Rattle.vdcp_words.specs.declared.command.Command.TheVariants as commands
 use Rattle.vdcp_words.specs.declared.reply.Reply.{Reply}
 use Rattle.vdcp_words.specs.declared.reply.Reply.TheVariants as replies
 use Rattle.vdcp_words.specs.Commands.{command_message, IsWritableCommand}
+use Rattle.vdcp_words.specs.Messages.{rest_of}
+use Rattle.vdcp_words.specs.Computed.{command_of, reply_of}
+use Rattle.vdcp_words.proofs.CommandLaws.{command_written, one_command_reading}
+use Rattle.vdcp_words.proofs.CommandReading.{command_computed}
+use Rattle.vdcp_words.proofs.ReplyLaws.{reply_written, one_reply_reading}
+use Rattle.vdcp_words.proofs.ReplyReading.{reply_computed}
 use Rattle.vdcp_words.specs.Replies.{flag, reply_message, IsWritableReply}
 
 none : All (λ b. b < 256) []
@@ -74,6 +80,37 @@ reply_fits unit (replies.Size time) u w =
     frame 3 unit 0x94 time (omega arith) u (omega arith) (bytes_below 4 time w) (omega (arith, length_of_bytes 4 time w))
 reply_fits unit (replies.Present there) u w =
     frame 3 unit 0x96 (flag there ∷ []) (omega arith) u (omega arith) (one (flag there) (flag_fits there)) (omega arith)
+
+-- ---- what was written is computed
+
+-- the data of a message that fits is of bytes
+pub rest_fits : (m : Content) → Fits m → All (λ b. b < 256) (rest_of m)
+rest_fits ack fits = none
+rest_fits (nak byte) fits = none
+rest_fits (framed kind unit code rest) fits = fits.rest_fits
+
+pub command_of-written : (unit : ℕ) (command : Command) → IsWritableCommand command → command_of (command_message unit command) ≡ Ok command
+command_of-written unit command writable =
+    let fits : All (λ b. b < 256) (rest_of (command_message unit command)) = rest_fits (command_message 0 command) (command_fits 0 command (omega arith) writable) in
+    one_command_reading (command_message unit command) (command_of (command_message unit command)) (Ok command)
+    (command_computed (command_message unit command) fits) (command_written unit command writable)
+
+rest_of-reply : (unit : ℕ) (reply : Reply) → rest_of (reply_message 0 reply) ≡ rest_of (reply_message unit reply)
+rest_of-reply unit replies.Ack = refl
+rest_of-reply unit (replies.Nak byte) = refl
+rest_of-reply unit (replies.Opened granted) = refl
+rest_of-reply unit (replies.State bitmap None) = refl
+rest_of-reply unit (replies.State bitmap (Some state)) = refl
+rest_of-reply unit (replies.Active None) = refl
+rest_of-reply unit (replies.Active (Some id)) = refl
+rest_of-reply unit (replies.Size time) = refl
+rest_of-reply unit (replies.Present there) = refl
+
+pub reply_of-written : (unit : ℕ) (reply : Reply) → IsWritableReply reply → reply_of (reply_message unit reply) ≡ Ok reply
+reply_of-written unit reply writable =
+    let fits = subst (All (λ b. b < 256)) (rest_of-reply unit reply) (rest_fits (reply_message 0 reply) (reply_fits 0 reply (omega arith) writable)) in
+    one_reply_reading (reply_message unit reply) (reply_of (reply_message unit reply)) (Ok reply)
+    (reply_computed (reply_message unit reply) fits) (reply_written unit reply writable)
 
 -- ---- what is read first
 

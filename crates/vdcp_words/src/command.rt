@@ -43,7 +43,11 @@ pub enum Command {
 }
 
 impl Command {
-    /// The command that the message carries, to whatever unit.
+    /// The command that the message carries, to whatever unit. It has exactly the data that the
+    /// command names (VDCP, and this profile for which commands there are).
+    ///
+    /// `NotCommand` for ACK and NAK; `Unknown` where no command has the message's type and code;
+    /// `Length` where one has, but with another number of data bytes.
     pub fn read(message: &Message) -> Result<Command, WordFault>
         ensures table { ReadsCommand (content_of message.now) result }
         ensures exact { result ≡ command_of (content_of message.now) }
@@ -88,7 +92,8 @@ impl Command {
         }
     }
 
-    /// Replaces the text by the command's, as `open 01 01` or `cue CLIP0001`.
+    /// Replaces the buffer's text by the command's (this profile), as `open 01 01`, `cue CLIP0001`
+    /// or `cue-data CLIP0001 00020000 00030000`. Bytes are two lower-case hexadecimal digits each.
     pub fn show(&self, text: &mut ArrayString<64>)
         ensures { text.new.bytes ≡ command_text self.now }
     {

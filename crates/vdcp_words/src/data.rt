@@ -32,18 +32,13 @@ pub(crate) fn byte(rest: &[u8]) -> Result<u8, WordFault>
 pub(crate) fn id(rest: &[u8]) -> Result<ClipId, WordFault>
     ensures { MatchResult result (λ id. rest.now ≡ id_bytes id) (λ e. (e ≡ WordFault.Length) × (length rest.now ≢ 8)) }
 {
-    match rest {
-        [a, b, c, d, e, f, g, h] => Ok(ClipId::new([*a, *b, *c, *d, *e, *f, *g, *h])),
-        _ => Err(WordFault::Length),
-    }
+    let bytes = <[u8; 8]>::try_from(rest).map_err(|_| WordFault::Length)?;
+    Ok(ClipId::new(bytes))
 }
 
 /// The four bytes of the time code that the data is.
 pub(crate) fn time(rest: &[u8]) -> Result<[u8; 4], WordFault>
     ensures { MatchResult result (λ t. (rest.now ≡ t) × AreBytes 4 t) (λ e. (e ≡ WordFault.Length) × (length rest.now ≢ 4)) }
 {
-    match rest {
-        [frames, seconds, minutes, hours] => Ok([*frames, *seconds, *minutes, *hours]),
-        _ => Err(WordFault::Length),
-    }
+    <[u8; 4]>::try_from(rest).map_err(|_| WordFault::Length)
 }

@@ -33,7 +33,12 @@ pub enum Reply {
 }
 
 impl Reply {
-    /// The reply that the message carries, from whatever unit.
+    /// The reply that the message carries, from whatever unit (VDCP, and this profile for what each
+    /// byte means). Data behind the bytes that a reply names is ignored. A state is read with a
+    /// state byte exactly where bit 0 of its bitmap is set.
+    ///
+    /// `Unknown` where no reply has the message's type and code; `Length` where one has, but the
+    /// data ends too early. `NotCommand` never comes.
     pub fn read(message: &Message) -> Result<Reply, WordFault>
         ensures table { ReadsReply (content_of message.now) result }
         ensures exact { result ≡ reply_of (content_of message.now) }
@@ -76,7 +81,8 @@ impl Reply {
         }
     }
 
-    /// Replaces the text by the reply's as it is heard, as `granted` or `state 84`.
+    /// Replaces the buffer's text by that of the reply as it is heard (this profile), as `granted`,
+    /// `state 84` or `size 00100000`. Bytes are two lower-case hexadecimal digits each.
     pub fn show(&self, text: &mut ArrayString<64>)
         ensures { text.new.bytes ≡ reply_text self.now }
     {
