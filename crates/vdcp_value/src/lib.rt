@@ -5,6 +5,7 @@ mod clip_id;
 mod faults;
 mod id_text;
 mod label;
+pub mod laws;
 mod part;
 mod rate;
 mod timecode;

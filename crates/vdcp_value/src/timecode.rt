@@ -31,6 +31,7 @@ impl Timecode {
         ensures within { IsSome result ↔ (frames < length (lawful_labels rate)) }
         ensures same_rate { IfSome result (λ timecode. rate_of timecode ≡ rate) }
         ensures number { IfSome result (λ timecode. frames_of timecode ≡ frames) }
+        ensures accepts { (timecode : Timecode) → rate_of timecode ≡ rate → frames_of timecode ≡ frames → result ≡ Some timecode }
     {
         if frames >= rate.frames_of_day() {
             return None;
