@@ -13,3 +13,4 @@ pub mod HexForm
 pub mod IdTexts
 pub mod Lawful
 pub mod OneFault
+pub mod Ascii

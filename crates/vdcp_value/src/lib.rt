@@ -8,6 +8,8 @@ mod label;
 pub mod laws;
 mod part;
 mod rate;
+#[cfg(test)]
+mod tests;
 mod timecode;
 
 pub use clip_id::ClipId;
