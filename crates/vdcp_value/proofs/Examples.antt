@@ -142,16 +142,19 @@ part_at seconds = record
     { start = 0x00 ∷ seconds ∷ 0x00 ∷ 0x00 ∷ []; duration = 0x00 ∷ 0x03 ∷ 0x00 ∷ 0x00 ∷ [] }
 
 fits_first : part_fits (part_at 0x02) ten_seconds ≡ true
+unfolding part_fits
 fits_first =
     ap₂ (λ a b. nat_le 1 b && nat_le (a + b) (frames_of ten_seconds)) (frame_number_is F25 (hms 0 0 2 0) refl) (frame_number_is F25 (hms 0 0 3 0) refl)
     ∙ ap (nat_le 125) (frame_number_is F25 (hms 0 0 10 0) refl)
 
 fits_last : part_fits (part_at 0x07) ten_seconds ≡ true
+unfolding part_fits
 fits_last =
     ap₂ (λ a b. nat_le 1 b && nat_le (a + b) (frames_of ten_seconds)) (frame_number_is F25 (hms 0 0 7 0) refl) (frame_number_is F25 (hms 0 0 3 0) refl)
     ∙ ap (nat_le 250) (frame_number_is F25 (hms 0 0 10 0) refl)
 
 ends_past : part_fits (part_at 0x08) ten_seconds ≡ false
+unfolding part_fits
 ends_past =
     ap₂ (λ a b. nat_le 1 b && nat_le (a + b) (frames_of ten_seconds)) (frame_number_is F25 (hms 0 0 8 0) refl) (frame_number_is F25 (hms 0 0 3 0) refl)
     ∙ ap (nat_le 275) (frame_number_is F25 (hms 0 0 10 0) refl)

@@ -14,3 +14,4 @@ pub mod IdTexts
 pub mod Lawful
 pub mod OneFault
 pub mod Ascii
+pub mod Parts
