@@ -1,4 +1,5 @@
 mod WorkedRows
+mod LogRows
 pub mod Lists
 pub mod Memo
 pub mod LookBacks
