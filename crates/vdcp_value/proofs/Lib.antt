@@ -1,0 +1,17 @@
+pub mod Bytes
+pub mod Ids
+pub mod Timecodes
+pub mod Day
+pub mod Numbers
+pub mod FrameNumbers
+pub mod Examples
+pub mod Places
+pub mod Bcd
+pub mod LabelText
+pub mod IdText
+pub mod HexForm
+pub mod IdTexts
+pub mod Lawful
+pub mod OneFault
+pub mod Ascii
+pub mod Parts
