@@ -8,3 +8,4 @@ pub mod Steps
 pub mod Rows
 pub mod Calls
 pub mod Law
+mod Forbidden
