@@ -1,0 +1,11 @@
+mod WorkedRows
+pub mod Lists
+pub mod Memo
+pub mod LookBacks
+pub mod Runs
+pub mod Keeps
+pub mod Steps
+pub mod Rows
+pub mod Calls
+pub mod Law
+mod Forbidden
