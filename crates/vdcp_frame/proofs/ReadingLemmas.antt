@@ -1,0 +1,200 @@
+-- Each burst has exactly one reading, and a step along it is a step of the reading.
+use Rattle.std.proofs.Common.{◌≡◌, ◌≢◌, ◌⊎◌, ℕ, zero, suc, ◌+◌, ◌-◌, ◌*◌, ◌%◌, ◌<◌, ◌≤◌, Bool, true, false, cond, ltb, List, [], ◌∷◌, ◌++◌, length, take, drop, sum, refl, sym, ap, subst, ◌∙◌, append_assoc, arith, inl, inr, length-append}
+use Rattle.std.specs.Prelude.{All}
+use Rattle.std.proofs.lemmas.Bool.{cases_lt, lt-ltb, le-ltb}
+use Rattle.std.proofs.lemmas.List.{take_at, drop_at, take-append-drop, length-take, length-drop, append-nil, append_cancel_left, take_all, take-take, take-append-le, drop-take}
+use Rattle.std.proofs.lemmas.List.Elements.{All-take, All-drop}
+use Rattle.vdcp_frame.specs.declared.message.Fault.{Fault}
+use Rattle.vdcp_frame.specs.declared.message.Fault.TheVariants.{BadStart, BadCount, BadSum, Long}
+use Rattle.vdcp_frame.specs.Message.{Content, ack, nak, framed, AreBytes, Spells}
+use Rattle.vdcp_frame.specs.Reading.{SpellsAll, Begins, HasNoFront, IsFirstWrong, End, clean, cut, fault, fault_of, Ends, ReadsShort, long_end, ReadsUpTo, Reads}
+use Rattle.vdcp_frame.specs.Head.{Head, nothing, part, wrong, found, head_of, IsPart, IsWrong, IsFound, HeadIs}
+use Rattle.vdcp_frame.proofs.HeadLemmas.{head_of-spelt, head_is, Begins-take, Begins-nil}
+use Rattle.std.proofs.Math.Seq.{take-add}
+
+-- ---- one message
+
+-- where two spellings begin one list of bytes, they are one
+pub one_front : (m n : Content) (a b x y : List ℕ) → Spells m a → Spells n b → a ++ x ≡ b ++ y → (m ≡ n) × (a ≡ b) × (x ≡ y)
+one_front m n a b x y s t e =
+    let same : found m (length a) ≡ found n (length b) = sym (head_of-spelt m a x s) ∙ ap head_of e ∙ head_of-spelt n b y t in
+    let m_is : m ≡ n = cc in
+    let size : length a ≡ length b = cc in
+    let a_is : a ≡ b = sym (take_at a x (length a) refl) ∙ ap (take (length a)) e ∙ take_at b y (length a) (sym size) in
+    (m_is, a_is, append_cancel_left a x y (e ∙ ap (λ (f : List ℕ). f ++ y) (sym a_is)))
+
+one_check : (total a b : ℕ) → a < 256 → b < 256 → (total + a) % 256 ≡ 0 → (total + b) % 256 ≡ 0 → a ≡ b
+one_check total a b a_fits b_fits p q = omega arith
+
+-- a message has one spelling
+pub one_spelling : (m : Content) (a b : List ℕ) → Spells m a → Spells m b → a ≡ b
+one_spelling ack a b s t = s ∙ sym t
+one_spelling (nak byte) a b s t = s.1 ∙ sym t.1
+one_spelling (framed kind unit code rest) a b s t =
+    let total : ℕ = 16 * kind + unit + code + sum rest in
+    let same : s.check ≡ t.check = one_check total s.check t.check s.byte t.byte s.adds_up t.adds_up in
+    s.spelt ∙ ap (λ (c : ℕ). 2 ∷ (length rest + 2) ∷ (16 * kind + unit) ∷ code ∷ (rest ++ c ∷ [])) same ∙ sym t.spelt
+
+-- a spelling has a byte
+pub spelt_some : (m : Content) (bytes : List ℕ) → Spells m bytes → 0 < length bytes
+spelt_some ack bytes s = rw s (omega arith)
+spelt_some (nak byte) bytes s = rw s.1 (omega arith)
+spelt_some (framed kind unit code rest) bytes s = rw s.spelt (omega arith)
+
+-- ---- messages one after another
+
+pub SpellsAll-push : (ms : List Content) (m : Content) (front bytes : List ℕ) → SpellsAll ms front → Spells m bytes → SpellsAll (ms ++ m ∷ []) (front ++ bytes)
+SpellsAll-push [] m front bytes all s = (bytes, [], s, refl, ap (λ (f : List ℕ). f ++ bytes) all ∙ sym (append-nil bytes))
+SpellsAll-push (first ∷ ms) m front bytes all s =
+    (all.0, all.1 ++ bytes, all.2, SpellsAll-push ms m all.1 bytes all.3 s, ap (λ (f : List ℕ). f ++ bytes) all.4 ∙ append_assoc all.0 all.1 bytes)
+
+pub SpellsAll-append : (ms ns : List Content) (a b : List ℕ) → SpellsAll ms a → SpellsAll ns b → SpellsAll (ms ++ ns) (a ++ b)
+SpellsAll-append [] ns a b p q = subst (SpellsAll ns) (ap (λ (f : List ℕ). f ++ b) (sym p)) q
+SpellsAll-append (m ∷ ms) ns a b p q =
+    (p.0, p.1 ++ b, p.2, SpellsAll-append ms ns p.1 b p.3 q, ap (λ (f : List ℕ). f ++ b) p.4 ∙ append_assoc p.0 p.1 b)
+
+-- ---- one reading
+
+nil_no_front : HasNoFront []
+nil_no_front m front more s e = absurd (omega (arith, spelt_some m front s, ap (length {A = ℕ}) e, length-append front more))
+
+same_whole : (ms ns : List Content) (a b x y : List ℕ) → SpellsAll ms a → SpellsAll ns b → HasNoFront x → HasNoFront y → a ++ x ≡ b ++ y → (ms ≡ ns) × (a ≡ b) × (x ≡ y)
+same_whole [] [] a b x y p q no_x no_y e =
+    (refl, p ∙ sym q, sym (ap (λ (f : List ℕ). f ++ x) p) ∙ e ∙ ap (λ (f : List ℕ). f ++ y) q)
+same_whole [] (n ∷ ns) a b x y p q no_x no_y e =
+    absurd (no_x n q.0 (q.1 ++ y) q.2 (sym (ap (λ (f : List ℕ). f ++ x) p) ∙ e ∙ ap (λ (f : List ℕ). f ++ y) q.4 ∙ append_assoc q.0 q.1 y))
+same_whole (m ∷ ms) [] a b x y p q no_x no_y e =
+    absurd (no_y m p.0 (p.1 ++ x) p.2 (sym (ap (λ (f : List ℕ). f ++ y) q) ∙ sym e ∙ ap (λ (f : List ℕ). f ++ x) p.4 ∙ append_assoc p.0 p.1 x))
+same_whole (m ∷ ms) (n ∷ ns) a b x y p q no_x no_y e =
+    let joined : p.0 ++ (p.1 ++ x) ≡ q.0 ++ (q.1 ++ y) =
+    sym (ap (λ (f : List ℕ). f ++ x) p.4 ∙ append_assoc p.0 p.1 x) ∙ e ∙ ap (λ (f : List ℕ). f ++ y) q.4 ∙ append_assoc q.0 q.1 y in
+    let first = one_front m n p.0 q.0 (p.1 ++ x) (q.1 ++ y) p.2 q.2 joined in
+    let more = same_whole ms ns p.1 q.1 x y p.3 q.3 no_x no_y first.2 in
+    (cc, cc, more.2)
+
+one_first_wrong : (bytes : List ℕ) (n m : ℕ) → IsFirstWrong bytes n → IsFirstWrong bytes m → n ≡ m
+one_first_wrong bytes n m p q =
+    elim (cases_lt n m) [
+      | inl lt ↦ absurd (p.wrong (q.shorter n lt))
+      | inr le ↦ elim (cases_lt m n) [
+        | inl lt ↦ absurd (q.wrong (p.shorter m lt))
+        | inr ge ↦ omega arith
+      ]
+    ]
+
+-- a front that begins no spelling is part of nothing that begins one
+no_wrong_part : (bytes : List ℕ) (n : ℕ) → IsFirstWrong bytes n → Begins bytes → ⊥
+no_wrong_part bytes n w b = w.wrong (Begins-take n bytes b)
+
+no_wrong_nil : (bytes : List ℕ) (n : ℕ) → IsFirstWrong bytes n → bytes ≡ [] → ⊥
+no_wrong_nil bytes n w e =
+    let none : take n bytes ≡ [] = ap (λ (b : List ℕ). take n b) e ∙ take_all n [] (omega arith) in
+    w.wrong (subst Begins (sym none) Begins-nil)
+
+one_end : (before : ℕ) (rest : List ℕ) (e f : End) → Ends before rest e → Ends before rest f → e ≡ f
+one_end before rest clean clean p q = refl
+one_end before rest clean (cut count) p q = absurd (q.0 p)
+one_end before rest clean (fault kind place) p q = absurd (no_wrong_nil rest q.0 q.1 p)
+one_end before rest (cut count) clean p q = absurd (p.0 q)
+one_end before rest (cut count) (cut other) p q = ap cut (p.2 ∙ sym q.2)
+one_end before rest (cut count) (fault kind place) p q = absurd (no_wrong_part rest q.0 q.1 p.1)
+one_end before rest (fault kind place) clean p q = absurd (no_wrong_nil rest p.0 p.1 q)
+one_end before rest (fault kind place) (cut count) p q = absurd (no_wrong_part rest p.0 p.1 q.1)
+one_end before rest (fault kind place) (fault other there) p q =
+    let n_is : p.0 ≡ q.0 = one_first_wrong rest p.0 q.0 p.1 q.1 in
+    let kinds : kind ≡ other = p.3 ∙ ap (λ (n : ℕ). fault_of (take n rest)) n_is ∙ sym q.3 in
+    let places : place ≡ there = p.2 ∙ ap (λ (n : ℕ). before + n) n_is ∙ sym q.2 in
+    cc
+
+one_short : (bytes : List ℕ) (ms ns : List Content) (e f : End) → ReadsShort bytes ms e → ReadsShort bytes ns f → (ms ≡ ns) × (e ≡ f)
+one_short bytes ms ns e f p q =
+    let same = same_whole ms ns p.whole q.whole p.rest q.rest p.spelt q.spelt p.no_front q.no_front (sym p.parts ∙ q.parts) in
+    let there : Ends (length p.whole) p.rest f =
+    subst (λ (w : List ℕ). Ends (length w) p.rest f) (sym same.1) (subst (λ (r : List ℕ). Ends (length q.whole) r f) (sym same.2) q.ends) in
+    (same.0, one_end (length p.whole) p.rest e f p.ends there)
+
+-- a burst has one reading at most
+pub one_reading : (limit : ℕ) (burst : List ℕ) (ms ns : List Content) (e f : End) → ReadsUpTo limit burst ms e → ReadsUpTo limit burst ns f → (ms ≡ ns) × (e ≡ f)
+one_reading limit burst ms ns e f p q =
+    let same = one_short (take limit burst) ms ns p.short q.short p.front q.front in
+    (same.0, p.long ∙ ap (λ (s : End). cond (ltb limit (length burst)) (long_end limit s) s) same.1 ∙ sym q.long)
+
+-- ---- a step along a burst
+
+either_way : (b : Bool) (end : End) → cond b end end ≡ end
+either_way true end = refl
+either_way false end = refl
+
+-- the bytes that are left to read
+abbrev pub left : ℕ → List ℕ → ℕ → List ℕ
+left limit burst from = drop from (take limit burst)
+
+module _ (limit : ℕ) (burst : List ℕ) (from : ℕ) (within : from ≤ limit) where
+  front_of : take from (take limit burst) ≡ take from burst
+  front_of = take-take from limit burst within
+
+  pub left_parts : take limit burst ≡ take from burst ++ left limit burst from
+  left_parts = sym (take-append-drop from (take limit burst)) ∙ ap (λ (f : List ℕ). f ++ left limit burst from) front_of
+
+  found_within : (m : Content) (size : ℕ) → IsFound (left limit burst from) m size → from + size ≤ limit
+  found_within m size f = omega (arith, f.some, f.within, length-drop from (take limit burst), length-take limit burst)
+
+  -- a message that is found in what is left goes on the messages of the front
+  pub next_front : (ms : List Content) (m : Content) (size : ℕ) → IsFound (left limit burst from) m size → SpellsAll ms (take from burst) → SpellsAll (ms ++ m ∷ []) (take (from + size) burst)
+  next_front ms m size f all =
+      let whole : take (from + size) burst ≡ take from burst ++ take size (left limit burst from) =
+      sym (take-take (from + size) limit burst (found_within m size f)) ∙ take-add from size (take limit burst) ∙ ap (λ (b : List ℕ). b ++ take size (left limit burst from)) front_of in
+      subst (SpellsAll (ms ++ m ∷ [])) (sym whole) (SpellsAll-push ms m (take from burst) (take size (left limit burst from)) all f.spelt)
+
+  reads_left : (ms : List Content) (end : End) → SpellsAll ms (take from burst) → HasNoFront (left limit burst from) → Ends (length (take from burst)) (left limit burst from) end → ReadsShort (take limit burst) ms end
+  reads_left ms end all none ends = record { whole = take from burst; rest = left limit burst from; parts = left_parts; spelt = all; no_front = none; ends = ends }
+
+  reads_end : (ms : List Content) (end : End) → SpellsAll ms (take from burst) → HasNoFront (left limit burst from) → Ends (length (take from burst)) (left limit burst from) end →
+      ReadsUpTo limit burst ms (cond (ltb limit (length burst)) (long_end limit end) end)
+  reads_end ms end all none ends = record { short = end; front = reads_left ms end all none ends; long = refl }
+
+  -- nothing is left
+  pub reads_nothing : (ms : List Content) → SpellsAll ms (take from burst) → left limit burst from ≡ [] → ReadsUpTo limit burst ms (cond (ltb limit (length burst)) (fault Long (limit + 1)) clean)
+  reads_nothing ms all none = reads_end ms clean all (subst HasNoFront (sym none) nil_no_front) none
+
+  -- part of a message is left
+  pub reads_part : (ms : List Content) → SpellsAll ms (take from burst) → IsPart (left limit burst from) →
+      ReadsUpTo limit burst ms (cond (ltb limit (length burst)) (fault Long (limit + 1)) (cut (length (left limit burst from))))
+  reads_part ms all p = reads_end ms (cut (length (left limit burst from))) all p.no_front (p.some, p.begins, refl)
+
+  -- what is left begins with a fault
+  pub reads_wrong : (ms : List Content) (kind : Fault) (size : ℕ) → from ≤ length burst → SpellsAll ms (take from burst) → IsWrong (left limit burst from) kind size → ReadsUpTo limit burst ms (fault kind (from + size))
+  reads_wrong ms kind size fits all w =
+      let before : length (take from burst) ≡ from = omega (arith, length-take from burst) in
+      let ends : Ends (length (take from burst)) (left limit burst from) (fault kind (from + size)) = (size, w.first, ap (λ (n : ℕ). n + size) (sym before), w.which) in
+      subst (ReadsUpTo limit burst ms) (either_way (ltb limit (length burst)) (fault kind (from + size))) (reads_end ms (fault kind (from + size)) all w.no_front ends)
+
+  -- a burst that isn't too long ends behind a whole message
+  pub reads_clean : (ms : List Content) → length burst ≤ limit → left limit burst from ≡ [] → SpellsAll ms (take from burst) → ReadsUpTo limit burst ms clean
+  reads_clean ms short none all = subst (λ (b : Bool). ReadsUpTo limit burst ms (cond b (fault Long (limit + 1)) clean)) (le-ltb limit (length burst) short) (reads_nothing ms all none)
+
+  -- or inside a message
+  pub reads_cut : (ms : List Content) → from ≤ length burst → length burst ≤ limit → IsPart (left limit burst from) → SpellsAll ms (take from burst) → ReadsUpTo limit burst ms (cut (length burst - from))
+  reads_cut ms fits short p all =
+      let size : length (left limit burst from) ≡ length burst - from = omega (arith, length-drop from (take limit burst), length-take limit burst) in
+      subst (λ (n : ℕ). ReadsUpTo limit burst ms (cut n)) size
+      (subst (λ (b : Bool). ReadsUpTo limit burst ms (cond b (fault Long (limit + 1)) (cut (length (left limit burst from))))) (le-ltb limit (length burst) short) (reads_part ms all p))
+
+  -- and a longer one is a fault, where there was none before
+  pub reads_long : (ms : List Content) → limit < length burst → (left limit burst from ≡ []) ⊎ IsPart (left limit burst from) → SpellsAll ms (take from burst) → ReadsUpTo limit burst ms (fault Long (limit + 1))
+  reads_long ms long (inl none) all = subst (λ (b : Bool). ReadsUpTo limit burst ms (cond b (fault Long (limit + 1)) clean)) (lt-ltb limit (length burst) long) (reads_nothing ms all none)
+  reads_long ms long (inr p) all = subst (λ (b : Bool). ReadsUpTo limit burst ms (cond b (fault Long (limit + 1)) (cut (length (left limit burst from))))) (lt-ltb limit (length burst) long) (reads_part ms all p)
+
+  -- where the message that is found lies in the burst
+  pub found_spelt : (m : Content) (size : ℕ) → IsFound (left limit burst from) m size → Spells m (take (from + size - from) (drop from burst))
+  found_spelt m size f =
+      let fits : from + size ≤ limit = found_within m size f in
+      let whole : limit ≡ from + (limit - from) = omega arith in
+      let less : size ≤ limit - from = omega arith in
+      let same : left limit burst from ≡ take (limit - from) (drop from burst) = ap (λ (n : ℕ). drop from (take n burst)) whole ∙ drop-take from (limit - from) burst in
+      let there : take size (left limit burst from) ≡ take size (drop from burst) = ap (λ (b : List ℕ). take size b) same ∙ take-take size (limit - from) (drop from burst) less in
+      let count : size ≡ from + size - from = omega arith in
+      subst (λ (n : ℕ). Spells m (take n (drop from burst))) count (subst (Spells m) there f.spelt)
+
+  pub found_further : (m : Content) (size : ℕ) → IsFound (left limit burst from) m size → (from < from + size) × (from + size ≤ limit) × (from + size ≤ length burst)
+  found_further m size f = (omega (arith, f.some), found_within m size f, omega (arith, f.some, f.within, length-drop from (take limit burst), length-take limit burst))

@@ -1,0 +1,70 @@
+use Rattle.std.specs.Prelude.{ℕ, zero, suc, ◌≡◌, ◌≢◌, ◌+◌, ◌/◌, ◌%◌, ◌<◌, ◌≤◌, ◌==◌, List, [], ◌∷◌, length, take, sum, nat_lt, slice_index, if◌then◌else◌}
+use Rattle.vdcp_frame.specs.declared.message.Fault.{Fault}
+use Rattle.vdcp_frame.specs.declared.message.Fault.TheVariants.{BadStart, BadCount, BadSum}
+use Rattle.vdcp_frame.specs.Message.{Content, ack, nak, framed, Spells}
+use Rattle.vdcp_frame.specs.Reading.{Begins, HasNoFront, IsFirstWrong, fault_of}
+
+-- what stands at the front of some bytes: nothing, part of a message, the shortest front that begins
+-- no spelling, or a message with its length
+pub data Head : Type 0 where
+  nothing : Head
+  part : Head
+  wrong : (kind : Fault) (size : ℕ) → Head
+  found : (message : Content) (size : ℕ) → Head
+
+-- the frame with n bytes of data, from its first data byte on
+abbrev pub data_head : ℕ → ℕ → ℕ → List ℕ → Head
+data_head n x code tail =
+    if nat_lt n (length tail)
+    then (if (x + code + sum (take n tail) + slice_index tail n) % 256 == 0
+    then found (framed (x / 16) (x % 16) code (take n tail)) (n + 5)
+    else wrong BadSum (n + 5))
+    else part
+
+-- the frame with n bytes of data, from CMD-1 on
+abbrev pub body_head : ℕ → List ℕ → Head
+body_head n [] = part
+body_head n (x ∷ []) = part
+body_head n (x ∷ code ∷ tail) = data_head n x code tail
+
+-- a frame from its count on
+abbrev pub frame_head : List ℕ → Head
+frame_head [] = part
+frame_head (zero ∷ body) = wrong (BadCount 0) 2
+frame_head (suc zero ∷ body) = wrong (BadCount 1) 2
+frame_head (suc (suc n) ∷ body) = body_head n body
+
+abbrev pub nak_head : List ℕ → Head
+nak_head [] = part
+nak_head (byte ∷ bytes) = found (nak byte) 2
+
+-- what stands at the front of the bytes
+abbrev pub head_of : List ℕ → Head
+head_of [] = nothing
+head_of (start ∷ bytes) =
+    if start == 4 then found ack 1
+    else (if start == 5 then nak_head bytes
+    else (if start == 2 then frame_head bytes
+    else wrong BadStart 1))
+
+-- what each answer means
+pub record IsPart (bytes : List ℕ) : Type 0 where
+  pub some : bytes ≢ []
+  pub begins : Begins bytes
+  pub no_front : HasNoFront bytes
+
+pub record IsWrong (bytes : List ℕ) (kind : Fault) (size : ℕ) : Type 0 where
+  pub first : IsFirstWrong bytes size
+  pub no_front : HasNoFront bytes
+  pub which : kind ≡ fault_of (take size bytes)
+
+pub record IsFound (bytes : List ℕ) (message : Content) (size : ℕ) : Type 0 where
+  pub some : 0 < size
+  pub within : size ≤ length bytes
+  pub spelt : Spells message (take size bytes)
+
+abbrev pub HeadIs : List ℕ → Head → Type 0
+HeadIs bytes nothing = bytes ≡ []
+HeadIs bytes part = IsPart bytes
+HeadIs bytes (wrong kind size) = IsWrong bytes kind size
+HeadIs bytes (found message size) = IsFound bytes message size

@@ -1,0 +1,20 @@
+use Rattle.std.specs.Prelude.{ℕ, ◌≡◌, List, []}
+use Rattle.vdcp_frame.specs.declared.head.Head.{Head}
+use Rattle.vdcp_frame.specs.declared.head.Head.TheVariants as head
+use Rattle.vdcp_frame.specs.Message.{content_of}
+use Rattle.vdcp_frame.specs.Head as spec
+use Rattle.vdcp_frame.specs.Head.{IsPart, IsWrong, IsFound}
+
+-- a head of the code, without where its data lies in memory
+abbrev pub seen : Head → spec.Head
+seen head.Nothing = spec.nothing
+seen head.Part = spec.part
+seen (head.Wrong kind size) = spec.wrong kind size
+seen (head.Found message size) = spec.found (content_of message) size
+
+-- what a head of the code says of the bytes
+abbrev pub Means : List ℕ → Head → Type 0
+Means bytes head.Nothing = bytes ≡ []
+Means bytes head.Part = IsPart bytes
+Means bytes (head.Wrong kind size) = IsWrong bytes kind size
+Means bytes (head.Found message size) = IsFound bytes (content_of message) size

@@ -1,0 +1,59 @@
+ghost use Rattle.std.specs.Prelude.{◌≡◌, ◌<◌, ◌≤◌, ◌++◌, ◌∷◌, [], List, length, take, drop, slice_range};
+ghost use Rattle.vdcp_frame.specs.Message.{Content, Spells};
+ghost use Rattle.vdcp_frame.specs.Reading.{SpellsAll, AreMessages, Reads};
+ghost use Rattle.vdcp_frame.specs.Step.{IfMessage, IfEnd};
+
+use crate::head::Head;
+use crate::message::{Fault, Message};
+
+/// The bytes of a burst that are read: a longer burst is a fault.
+pub const LIMIT: usize = 4096;
+
+/// What stands at a place of a burst.
+#[derive(Clone, Copy, Debug, PartialEq, Eq)]
+pub enum Step<'a> {
+    /// A message, and the place behind it, at which the next one is read.
+    Message(Message<'a>, usize),
+    /// The burst ends behind a whole message, or has no byte.
+    Clean,
+    /// The burst ends inside a message, of which it has so many bytes.
+    Cut(usize),
+    /// A fault, and its place, counted from 1 at the burst's first byte.
+    Fault(Fault, usize),
+}
+
+/// Reads the message that begins behind the first `from` bytes of a burst, or how the burst
+/// ends there. The bytes before `from`, 4,096 at most, are whole messages, as they are for 0
+/// and for each place that came with a message.
+pub fn read_at(burst: &[u8], from: usize) -> Step<'_>
+    requires limit { from ≤ LIMIT }
+    requires within { from ≤ length burst.now }
+    requires whole { AreMessages (take from burst.now) }
+
+    // The message is spelt by the bytes from here to the next place.
+    ensures message { IfMessage result (λ m next. Spells m (slice_range burst.now from next)) }
+    ensures further { IfMessage result (λ m next. (from < next) × (next ≤ LIMIT) × (next ≤ length burst.now)) }
+    // Whatever messages stand before it, it comes behind them.
+    ensures next { IfMessage result (λ m next. (ms : List Content) →
+        SpellsAll ms (take from burst.now) → SpellsAll (ms ++ m ∷ []) (take next burst.now)) }
+    // Whatever messages stand before it, the burst has these and this end.
+    ensures end { IfEnd result (λ end. (ms : List Content) →
+        SpellsAll ms (take from burst.now) → Reads burst.now ms end) }
+{
+    match Head::at(left(burst, from)) {
+        Head::Found(message, size) => Step::Message(message, from + size),
+        Head::Wrong(fault, size) => Step::Fault(fault, from + size),
+        Head::Nothing if burst.len() <= LIMIT => Step::Clean,
+        Head::Part if burst.len() <= LIMIT => Step::Cut(burst.len() - from),
+        Head::Nothing | Head::Part => Step::Fault(Fault::Long, LIMIT + 1),
+    }
+}
+
+// What is left to read behind the first `from` bytes.
+fn left(burst: &[u8], from: usize) -> &[u8]
+    requires limit { from ≤ LIMIT }
+    requires within { from ≤ length burst.now }
+    ensures { result.now ≡ drop from (take 4096 burst.now) }
+{
+    &burst[from..burst.len().min(LIMIT)]
+}
