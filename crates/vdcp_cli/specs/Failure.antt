@@ -1,0 +1,10 @@
+use Rattle.std.specs.Prelude.{ℕ}
+use Rattle.vdcp_cli.specs.declared.failure.Failure.{Failure}
+use Rattle.vdcp_cli.specs.declared.failure.Failure.TheVariants.{Hex, Words, Memory, Writer}
+
+-- the exit status of a failure that was told
+abbrev pub status_of : Failure → ℕ
+status_of Hex = 1
+status_of Words = 2
+status_of Memory = 3
+status_of Writer = 3

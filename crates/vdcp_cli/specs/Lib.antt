@@ -1,0 +1,4 @@
+pub mod Text
+pub mod End
+pub mod Failure
+pub mod Show
