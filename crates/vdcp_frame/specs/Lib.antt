@@ -3,3 +3,7 @@ pub mod Reading
 pub mod Head
 pub mod Seen
 pub mod Step
+pub mod Burst
+pub mod Progress
+pub mod Reader
+pub mod Pieces

@@ -48,9 +48,19 @@ Spells (framed kind unit code rest) bytes = SpellsFrame kind unit code rest byte
 abbrev pub check_byte : ℕ → ℕ
 check_byte total = (256 - total % 256) % 256
 
+-- a frame with these bytes CMD-1 and CMD-2 and this data
+abbrev pub frame_spelling : ℕ → ℕ → List ℕ → List ℕ
+frame_spelling address code rest =
+    2 ∷ (length rest + 2) ∷ address ∷ code ∷ (rest ++ check_byte (address + code + sum rest) ∷ [])
+
 -- the one list that spells a message which fits
 abbrev pub spelling : Content → List ℕ
 spelling ack = 4 ∷ []
 spelling (nak byte) = 5 ∷ byte ∷ []
-spelling (framed kind unit code rest) =
-    2 ∷ (length rest + 2) ∷ (16 * kind + unit) ∷ code ∷ (rest ++ check_byte (16 * kind + unit + code + sum rest) ∷ [])
+spelling (framed kind unit code rest) = frame_spelling (16 * kind + unit) code rest
+
+-- what a caller sees to, since the types say the rest: a type and a unit of four bits, and at most 253 bytes of data
+abbrev pub IsWritable : Content → Type 0
+IsWritable ack = Unit {0}
+IsWritable (nak byte) = Unit {0}
+IsWritable (framed kind unit code rest) = (kind < 16) × (unit < 16) × (length rest ≤ 253)

@@ -86,7 +86,7 @@ impl Head<'_> {
 }
 
 // The sum of at most 253 bytes.
-fn total_of(bytes: &[u8]) -> u32
+pub(crate) fn total_of(bytes: &[u8]) -> u32
     requires { length bytes.now ≤ 253 }
     ensures total { result ≡ sum bytes.now }
     ensures bound { result < 2 ^ 16 }

@@ -19,8 +19,16 @@
 #![tactic(auto)]
 
 mod burst;
+mod got;
 mod head;
+pub mod laws;
 mod message;
+mod spelling;
 
 pub use burst::{LIMIT, Step, read_at};
+pub use got::{Ended, Got};
 pub use message::{Fault, Message};
+pub use spelling::{Full, write};
+
+#[cfg(test)]
+mod tests;

@@ -1,5 +1,5 @@
-use Rattle.std.proofs.Common.{◌≡◌, ℕ, List, [], inl, inr, subst, ◌∙◌, sym}
-use Rattle.vdcp_frame.specs.Message.{Content, content_of}
+use Rattle.std.proofs.Common.{ℕ, List, inl, inr, subst, ◌∙◌, sym}
+use Rattle.vdcp_frame.specs.Message.{content_of}
 use Rattle.vdcp_frame.specs.Head.{IsPart, IsWrong, IsFound}
 use Rattle.vdcp_frame.proofs.ReadingLemmas.{left, next_front, found_spelt, found_further, reads_clean, reads_cut, reads_long, reads_wrong}
 use Rattle.vdcp_frame.proofs.burst.read_at.Goals as goal

@@ -1,7 +1,7 @@
-use Rattle.std.proofs.Common.{arith, ◌<◌, get_or, List, ℕ, ◌≡◌, subst, refl, sym}
+use Rattle.std.proofs.Common.{arith, ◌<◌, List, ℕ, subst, sym}
 use Rattle.std.proofs.lemmas.List.Elements.{All-from_get_or}
 use Rattle.vdcp_frame.specs.Message.{AreBytes}
-use Rattle.vdcp_frame.specs.Head.{HeadIs, head_of}
+use Rattle.vdcp_frame.specs.Head.{HeadIs}
 use Rattle.vdcp_frame.specs.declared.head.Head.{Head}
 use Rattle.vdcp_frame.specs.declared.head.Head.TheVariants as head
 use Rattle.vdcp_frame.specs.Seen.{seen, Means}

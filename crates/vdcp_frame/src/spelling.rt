@@ -1,0 +1,62 @@
+ghost use Rattle.std.specs.Prelude.{◌≡◌, ◌+◌, ◌*◌, ◌<◌, ◌≤◌, ◌↔◌, ◌++◌, length, IsOk, OnOk, OnErr};
+ghost use Rattle.arrayvec.specs.ArrayVec.{array_vec_len};
+ghost use Rattle.vdcp_frame.specs.Message.{content_of, FitsFrame, IsWritable, Spells, spelling, frame_spelling};
+
+use crate::head::{ACK, FRAME, NAK, total_of};
+use crate::message::Message;
+use arrayvec::ArrayVec;
+use thiserror::Error;
+
+/// The message does not fit behind what the buffer holds.
+#[derive(Clone, Copy, Debug, PartialEq, Eq, Error)]
+#[error("no room for the message")]
+pub struct Full;
+
+/// Appends a message's spelling. Kind and unit are at most 15, and the data at most 253 bytes. It
+/// is refused only where the bytes don't fit, and then changes nothing.
+pub fn write(message: &Message, out: &mut ArrayVec<u8, 512>) -> Result<(), Full>
+    requires { IsWritable (content_of message.now) }
+    ensures spelt { Spells (content_of message.now) (spelling (content_of message.now)) }
+    ensures ok { OnOk result (out.new.items ≡ out.old.items ++ spelling (content_of message.now)) }
+    ensures full { IsOk result ↔ (array_vec_len out.old + length (spelling (content_of message.now)) ≤ 512) }
+    ensures err { OnErr result (out.new ≡ out.old) }
+{
+    match message {
+        Message::Ack => out.try_extend_from_slice(&[ACK]).map_err(|_| Full),
+        Message::Nak(byte) => out.try_extend_from_slice(&[NAK, *byte]).map_err(|_| Full),
+        Message::Framed {
+            kind,
+            unit,
+            code,
+            rest,
+        } => write_frame(*kind, *unit, *code, rest, out),
+    }
+}
+
+fn write_frame(
+    kind: u8,
+    unit: u8,
+    code: u8,
+    rest: &[u8],
+    out: &mut ArrayVec<u8, 512>,
+) -> Result<(), Full>
+    requires kind { kind < 16 }
+    requires unit { unit < 16 }
+    requires size { length rest.now ≤ 253 }
+    ensures fits { FitsFrame kind unit code rest.now }
+    ensures ok { OnOk result (out.new.items ≡ out.old.items ++ frame_spelling (16 * kind + unit) code rest.now) }
+    ensures full { IsOk result ↔ (array_vec_len out.old + (length rest.now + 5) ≤ 512) }
+    ensures err { OnErr result (out.new ≡ out.old) }
+{
+    if out.remaining_capacity() < rest.len() + 5 {
+        return Err(Full);
+    }
+    let address = 16 * kind + unit;
+    let total = u32::from(address) + u32::from(code) + total_of(rest);
+    let check = (256 - total % 256) % 256;
+    out.try_extend_from_slice(&[FRAME, rest.len() as u8 + 2, address, code])
+        .unwrap();
+    out.try_extend_from_slice(rest).unwrap();
+    out.push(check as u8);
+    Ok(())
+}
