@@ -1,4 +1,4 @@
-use Rattle.std.proofs.Common.{◌<◌, length, rules, arith, take, get_or, refl}
+use Rattle.std.proofs.Common.{◌<◌, length, rules, arith, take, get_or, refl, true}
 use Rattle.std.proofs.Output.{has_written_append, has_written_of_eq}
 use Rattle.hex.specs.Hex.{encode_lower, encode_with}
 use Rattle.vdcp_cli.specs.Text.{byte_text}
@@ -17,4 +17,4 @@ loop-byte-preserved g c = λ plain.
     let before = c.loop-byte.invariant plain in
     has_written_of_eq _ _ _ _ _ (encode_lower-take bytes i lt)
     (has_written_append _ _ (encode_lower (take i bytes)) _ (byte_text (get_or bytes i 0)) _ before
-    (c.in_ok-write.ensures.writes before.plain refl))
+    (c.in_ok-write.ensures.writes before.plain (refl {a = true})))
