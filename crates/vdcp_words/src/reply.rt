@@ -1,0 +1,195 @@
+ghost use Rattle.std.specs.Prelude.{◌≡◌, ◌<◌, ◌≤◌, ℕ, All};
+ghost use Rattle.vdcp_frame.specs.Message.{content_of, framed, IsWritable};
+ghost use Rattle.vdcp_words.specs.Computed.{reply_of};
+ghost use Rattle.vdcp_words.specs.Texts.{reply_text};
+ghost use Rattle.vdcp_words.specs.Replies.{reply_message, ReadsReply};
+
+use crate::data;
+use crate::fault::WordFault;
+use crate::room::{marked, message, put};
+use crate::text::{push_byte, push_id, push_time};
+use arrayvec::ArrayString;
+use vdcp_frame::Message;
+use vdcp_value::ClipId;
+
+/// What the server answers.
+#[derive(Clone, Copy, Debug, PartialEq, Eq)]
+pub enum Reply {
+    /// The command was executed.
+    Ack,
+    /// The command was refused, or the burst couldn't be read: the error byte.
+    Nak(u8),
+    /// To OPEN PORT: whether the port was granted.
+    Opened(bool),
+    /// To PORT STATUS REQUEST: the bitmap of the status groups that follow, and the state byte.
+    State(u8, Option<u8>),
+    /// To ACTIVE ID REQUEST: the clip that plays.
+    Active(Option<ClipId>),
+    /// To ID REQUEST: whether the server has the clip.
+    Present(bool),
+    /// To ID SIZE REQUEST: the clip's length as a packed BCD time code in the order frames, seconds,
+    /// minutes, hours.
+    Size([u8; 4]),
+}
+
+impl Reply {
+    /// The reply that the message carries, from whatever unit (VDCP, and this profile for what each
+    /// byte means). Data behind the bytes that a reply names is ignored. A state is read with a
+    /// state byte exactly where bit 0 of its bitmap is set.
+    ///
+    /// `Unknown` where no reply has the message's type and code; `Length` where one has, but the
+    /// data ends too early. `NotCommand` never comes.
+    pub fn read(message: &Message) -> Result<Reply, WordFault>
+        ensures table { ReadsReply (content_of message.now) result }
+        ensures exact { result ≡ reply_of (content_of message.now) }
+    {
+        match *message {
+            Message::Ack => Ok(Reply::Ack),
+            Message::Nak(byte) => Ok(Reply::Nak(byte)),
+            Message::Framed {
+                kind,
+                code,
+                rest,
+                ..
+            } => match kind {
+                3 => sense_reply(code, rest),
+                _ => Err(WordFault::Unknown),
+            },
+        }
+    }
+
+    /// The message that carries the reply from the unit, which is at most 15. The data of the
+    /// message lies in `room`. A state is written with its bitmap as it is, and with a state byte
+    /// exactly where it has one.
+    pub fn to_message<'a>(&self, unit: u8, room: &'a mut [u8; 16]) -> Message<'a>
+        requires { unit ≤ 15 }
+        ensures message { content_of result ≡ reply_message unit self.now }
+        ensures writable { IsWritable (content_of result) }
+    {
+        match self {
+            Reply::Ack => Message::Ack,
+            Reply::Nak(byte) => Message::Nak(*byte),
+            Reply::Opened(granted) => message(3, unit, 0x81, put(room, &[u8::from(*granted)])),
+            Reply::State(bitmap, None) => message(3, unit, 0x85, put(room, &[*bitmap])),
+            Reply::State(bitmap, Some(state)) => {
+                message(3, unit, 0x85, put(room, &[*bitmap, *state]))
+            }
+            Reply::Active(None) => message(3, unit, 0x87, put(room, &[0x00])),
+            Reply::Active(Some(id)) => message(3, unit, 0x87, put(room, &marked(id))),
+            Reply::Size(time) => message(3, unit, 0x94, put(room, time)),
+            Reply::Present(there) => message(3, unit, 0x96, put(room, &[u8::from(*there)])),
+        }
+    }
+
+    /// Replaces the buffer's text by that of the reply as it is heard (this profile), as `granted`,
+    /// `state 84` or `size 00100000`. Bytes are two lower-case hexadecimal digits each.
+    pub fn show(&self, text: &mut ArrayString<64>)
+        ensures { text.new.bytes ≡ reply_text self.now }
+    {
+        text.clear();
+        match self {
+            Reply::Ack => text.push_str("ack"),
+            Reply::Nak(byte) => {
+                text.push_str("nak ");
+                push_byte(text, *byte);
+            }
+            Reply::Opened(true) => text.push_str("granted"),
+            Reply::Opened(false) => text.push_str("denied"),
+            Reply::State(_, Some(state)) => {
+                text.push_str("state ");
+                push_byte(text, *state);
+            }
+            Reply::State(_, None) => text.push_str("state none"),
+            Reply::Active(Some(id)) => {
+                text.push_str("active ");
+                push_id(text, id);
+            }
+            Reply::Active(None) => text.push_str("active none"),
+            Reply::Present(true) => text.push_str("present"),
+            Reply::Present(false) => text.push_str("absent"),
+            Reply::Size(time) => {
+                text.push_str("size ");
+                push_time(text, time);
+            }
+        }
+    }
+}
+
+/// The replies to sense requests.
+fn sense_reply(code: u8, rest: &[u8]) -> Result<Reply, WordFault>
+    ensures table { (unit : ℕ) → ReadsReply (framed 3 unit code rest.now) result }
+    ensures bytes { All (λ b. b < 256) rest.now }
+{
+    match code {
+        0x81 => opened(rest),
+        0x85 => state(rest),
+        0x87 => active(rest),
+        0x94 => size(rest),
+        0x96 => present(rest),
+        _ => Err(WordFault::Unknown),
+    }
+}
+
+#[tactic(auto, using(crate::proofs::ReplyLemmas::shorts))]
+fn opened(rest: &[u8]) -> Result<Reply, WordFault>
+    ensures { (unit : ℕ) → ReadsReply (framed 3 unit 0x81 rest.now) result }
+{
+    match rest {
+        [first, ..] => Ok(Reply::Opened(*first != 0x00)),
+        [] => Err(WordFault::Length),
+    }
+}
+
+#[tactic(auto, using(crate::proofs::ReplyLemmas::shorts))]
+fn state(rest: &[u8]) -> Result<Reply, WordFault>
+    ensures { (unit : ℕ) → ReadsReply (framed 3 unit 0x85 rest.now) result }
+{
+    match rest {
+        [bitmap, more @ ..] => {
+            if *bitmap & 1 != 1 {
+                return Ok(Reply::State(*bitmap, None));
+            }
+            match more {
+                [byte, ..] => Ok(Reply::State(*bitmap, Some(*byte))),
+                [] => Err(WordFault::Length),
+            }
+        }
+        [] => Err(WordFault::Length),
+    }
+}
+
+#[tactic(auto, using(crate::proofs::ReplyLemmas::shorts))]
+fn active(rest: &[u8]) -> Result<Reply, WordFault>
+    ensures { (unit : ℕ) → ReadsReply (framed 3 unit 0x87 rest.now) result }
+{
+    match rest {
+        [0x00, ..] => Ok(Reply::Active(None)),
+        [_, more @ ..] => {
+            if more.len() < 8 {
+                return Err(WordFault::Length);
+            }
+            Ok(Reply::Active(Some(data::id(&more[..8])?)))
+        }
+        [] => Err(WordFault::Length),
+    }
+}
+
+#[tactic(auto, using(crate::proofs::ReplyLemmas::shorts))]
+fn size(rest: &[u8]) -> Result<Reply, WordFault>
+    ensures { (unit : ℕ) → ReadsReply (framed 3 unit 0x94 rest.now) result }
+{
+    if rest.len() < 4 {
+        return Err(WordFault::Length);
+    }
+    Ok(Reply::Size(data::time(&rest[..4])?))
+}
+
+#[tactic(auto, using(crate::proofs::ReplyLemmas::shorts))]
+fn present(rest: &[u8]) -> Result<Reply, WordFault>
+    ensures { (unit : ℕ) → ReadsReply (framed 3 unit 0x96 rest.now) result }
+{
+    match rest {
+        [first, ..] => Ok(Reply::Present(*first & 1 == 1)),
+        [] => Err(WordFault::Length),
+    }
+}
