@@ -1,15 +1,10 @@
 -- Example bytes and texts of the words, computed from the tables.
-use Rattle.std.proofs.Common.{◌≡◌, ℕ, true, false, List, [], ◌∷◌, refl, Ok, Err, Some, None}
-use Rattle.std.specs.Prelude.{codes, Result}
+use Rattle.std.proofs.Common.{◌≡◌, ℕ, true, false, List, [], ◌∷◌, refl, Ok, Some, None}
+use Rattle.std.specs.Prelude.{codes}
 use Rattle.vdcp_value.specs.declared.clip_id.ClipId.{ClipId}
-use Rattle.vdcp_frame.specs.Message.{framed, nak, spelling}
-use Rattle.vdcp_frame.specs.Burst.{messages_of}
-use Rattle.vdcp_words.specs.declared.command.Command.{Command}
+use Rattle.vdcp_frame.specs.Message.{spelling}
 use Rattle.vdcp_words.specs.declared.command.Command.TheVariants.{Open, Close, Select, PlayCue, CueData, Play, Stop, Status, ActiveId, IdRequest, IdSize}
-use Rattle.vdcp_words.specs.declared.reply.Reply.{Reply}
 use Rattle.vdcp_words.specs.declared.reply.Reply.TheVariants.{Ack, Nak, Opened, State, Active, Present, Size}
-use Rattle.vdcp_words.specs.declared.fault.WordFault.{WordFault}
-use Rattle.vdcp_words.specs.declared.fault.WordFault.TheVariants.{NotCommand, Unknown, Length}
 use Rattle.vdcp_words.specs.Commands.{command_message}
 use Rattle.vdcp_words.specs.Replies.{reply_message}
 use Rattle.vdcp_words.specs.Computed.{command_of, reply_of}

@@ -1,4 +1,5 @@
-use Rattle.std.proofs.Common.{◌≡◌, ◌≢◌, ℕ, ◌<◌, true, List, [], ◌∷◌, length, refl, arith, ap, length-take}
+use Rattle.std.proofs.Common.{◌≡◌, ◌≢◌, ℕ, ◌<◌, true, List, [], ◌∷◌, length, get_or, bit_and, refl, arith, ap, length-take}
+use Rattle.std.proofs.lemmas.Bool.{eq-eqb}
 use Rattle.std.specs.Prelude.{Some, None}
 use Rattle.vdcp_value.proofs.Ids.{length_of_id}
 use Rattle.vdcp_frame.specs.Message.{framed}
@@ -63,10 +64,15 @@ state_short unit [] empty =
     record { reply = State 0 None; code = (refl, refl); ends = λ reply h. nothing_read reply h.1 }
 state_short unit (first ∷ more) empty = absurd (omega (arith, empty))
 
-pub state_byte_short : (unit bitmap : ℕ) (more : List ℕ) → has_bit_0 bitmap ≡ true → length more ≡ 0 → IsShortReply (framed 3 unit 0x85 (bitmap ∷ more))
-state_byte_short unit bitmap [] set empty =
-    record { reply = State 0 None; code = (refl, refl); ends = λ reply h. no_second unit bitmap reply set h }
-state_byte_short unit bitmap (byte ∷ more) set empty = absurd (omega (arith, empty))
+pub state_byte_short : (unit : ℕ) (rest : List ℕ) → length rest < 2 → bit_and (get_or rest 0 0) 1 ≡ 1 → IsShortReply (framed 3 unit 0x85 rest)
+state_byte_short unit [] short set = state_short unit [] refl
+state_byte_short unit (bitmap ∷ []) short set =
+    record {
+      reply = State 0 None;
+      code = (refl, refl);
+      ends = λ reply h. no_second unit bitmap reply (eq-eqb (bit_and bitmap 1) 1 set) h;
+    }
+state_byte_short unit (bitmap ∷ byte ∷ more) short set = absurd (omega (arith, short))
 
 pub active_short : (unit : ℕ) (rest : List ℕ) → length rest ≡ 0 → IsShortReply (framed 3 unit 0x87 rest)
 active_short unit [] empty =

@@ -1,7 +1,7 @@
 -- What is computed of a message as a reply is what the table of replies says.
-use Rattle.std.proofs.Common.{◌≡◌, ◌≢◌, inl, inr, ℕ, ◌<◌, Bool, true, false, cond, List, [], ◌∷◌, length, take, refl, sym, arith}
+use Rattle.std.proofs.Common.{◌≡◌, ◌≢◌, inl, inr, ℕ, ◌<◌, bit_and, Bool, true, false, cond, List, [], ◌∷◌, length, take, refl, sym, arith}
 use Rattle.std.specs.Prelude.{All, Some, None, Ok}
-use Rattle.std.proofs.lemmas.Bool.{cases_eq, cases_lt, ne_eqb, lt-ltb, le-ltb}
+use Rattle.std.proofs.lemmas.Bool.{cases_eq, cases_lt, ne_eqb, lt-ltb, le-ltb, eqb-true}
 use Rattle.std.proofs.lemmas.List.{length-take}
 use Rattle.std.proofs.lemmas.List.Elements.{All-tail, All-take}
 use Rattle.vdcp_value.specs.Bytes.{are_bytes}
@@ -19,7 +19,7 @@ opened_reads unit [] = opened_short unit [] refl
 opened_reads unit (first ∷ more) = ((refl, refl), refl)
 
 state_byte_reads : (unit bitmap : ℕ) (more : List ℕ) → has_bit_0 bitmap ≡ true → ReadsReply (framed 3 unit 0x85 (bitmap ∷ more)) (state_byte_of bitmap more)
-state_byte_reads unit bitmap [] set = state_byte_short unit bitmap [] set refl
+state_byte_reads unit bitmap [] set = state_byte_short unit (bitmap ∷ []) (omega arith) (eqb-true (bit_and bitmap 1) 1 set)
 state_byte_reads unit bitmap (byte ∷ more) set = ((refl, refl), (refl, set, refl))
 
 state_when : (unit bitmap : ℕ) (more : List ℕ) (test : Bool) → has_bit_0 bitmap ≡ test → ReadsReply (framed 3 unit 0x85 (bitmap ∷ more)) (cond test (state_byte_of bitmap more) (Ok (State bitmap None)))

@@ -145,16 +145,9 @@ fn state(rest: &[u8]) -> Result<Reply, WordFault>
     ensures { (unit : ℕ) → ReadsReply (framed 3 unit 0x85 rest.now) result }
 {
     match rest {
-        [bitmap, more @ ..] => {
-            if *bitmap & 1 != 1 {
-                return Ok(Reply::State(*bitmap, None));
-            }
-            match more {
-                [byte, ..] => Ok(Reply::State(*bitmap, Some(*byte))),
-                [] => Err(WordFault::Length),
-            }
-        }
-        [] => Err(WordFault::Length),
+        [bitmap, ..] if *bitmap & 1 != 1 => Ok(Reply::State(*bitmap, None)),
+        [bitmap, byte, ..] => Ok(Reply::State(*bitmap, Some(*byte))),
+        [] | [_] => Err(WordFault::Length),
     }
 }
 
