@@ -1,4 +1,5 @@
 pub mod Text
 pub mod End
+pub mod Meaning
 pub mod Failure
 pub mod Show

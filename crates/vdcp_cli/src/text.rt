@@ -17,6 +17,25 @@ impl fmt::Display for ByteText {
     }
 }
 
+/// Bytes as lower-case hexadecimal digits, two for each.
+#[derive(Clone, Copy)]
+pub struct HexText<'a>(pub &'a [u8]);
+
+impl fmt::Display for HexText<'_> {
+    ghost use Rattle.std.specs.Prelude.{Some};
+    ghost use Rattle.hex.specs.Hex.{encode_lower};
+
+    ghost output = { λ h. Some (encode_lower h.0.now) };
+
+    fn fmt<W: fmt::Write>(&self, f: &mut fmt::Formatter<W>) -> fmt::Result {
+        for byte in self.0 {
+            let byte = ByteText(*byte);
+            write!(f, "{byte}")?;
+        }
+        Ok(())
+    }
+}
+
 /// Data as lower-case hexadecimal digits, or a dash where there is none.
 #[derive(Clone, Copy)]
 pub struct DataText<'a>(pub &'a [u8]);
@@ -28,14 +47,13 @@ impl fmt::Display for DataText<'_> {
     ghost output = { λ d. Some (data_text d.0.now) };
 
     fn fmt<W: fmt::Write>(&self, f: &mut fmt::Formatter<W>) -> fmt::Result {
-        if self.0.is_empty() {
-            return write!(f, "-");
+        match self.0 {
+            [] => write!(f, "-"),
+            bytes => {
+                let bytes = HexText(bytes);
+                write!(f, "{bytes}")
+            }
         }
-        for byte in self.0 {
-            let byte = ByteText(*byte);
-            write!(f, "{byte}")?;
-        }
-        Ok(())
     }
 }
 
@@ -68,6 +86,35 @@ impl fmt::Display for MessageText<'_> {
                 write!(f, "unit {unit} type {kind} code {code} data {rest}")
             }
         }
+    }
+}
+
+/// What a message says: ` = ` and the text of the command or reply that it carries. It is empty
+/// where it carries neither, and for ACK and NAK.
+#[derive(Clone, Copy)]
+pub struct MeaningText<'a>(pub Message<'a>);
+
+impl fmt::Display for MeaningText<'_> {
+    ghost use Rattle.std.specs.Prelude.{Some};
+    ghost use Rattle.vdcp_frame.specs.Message.{content_of};
+    ghost use Rattle.vdcp_cli.specs.Meaning.{meaning_text};
+
+    ghost output = { λ m. Some (meaning_text (content_of m.0)) };
+
+    fn fmt<W: fmt::Write>(&self, f: &mut fmt::Formatter<W>) -> fmt::Result {
+        if let Message::Ack | Message::Nak(_) = self.0 {
+            return Ok(());
+        }
+        let mut text = ArrayString::<64>::new();
+        if let Ok(command) = Command::read(&self.0) {
+            command.show(&mut text);
+        } else if let Ok(reply) = Reply::read(&self.0) {
+            reply.show(&mut text);
+        } else {
+            return Ok(());
+        }
+        let text = text.as_str();
+        write!(f, " = {text}")
     }
 }
 

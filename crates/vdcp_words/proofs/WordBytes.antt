@@ -8,8 +8,7 @@ use Rattle.vdcp_value.proofs.Bytes.{length_of_bytes, bytes_below}
 use Rattle.vdcp_value.proofs.Ids.{length_of_id, id_below}
 use Rattle.vdcp_frame.specs.Message.{Content, ack, nak, framed, FitsFrame, Fits, Spells}
 use Rattle.vdcp_frame.specs.Reading.{Reads, End, clean}
-use Rattle.vdcp_frame.proofs.LawLemmas.{read_again, read_alone}
-use Rattle.vdcp_frame.proofs.ReadingLemmas.{one_reading}
+use Rattle.vdcp_frame.proofs.ReadingLemmas.{one_reading, read_again, read_alone}
 use Rattle.vdcp_words.specs.declared.command.Command.{Command}
 use Rattle.vdcp_words.specs.declared.command.Command.TheVariants as commands
 use Rattle.vdcp_words.specs.declared.reply.Reply.{Reply}

@@ -1,7 +1,7 @@
 use Rattle.std.proofs.Common.{take}
 use Rattle.std.specs.Fmt.{HasWritten, IsPlainFormatter}
 use Rattle.hex.specs.Hex.{encode_lower}
-use Rattle.vdcp_cli.proofs.text.DataTextDisplay.fmt.Given as goal
+use Rattle.vdcp_cli.proofs.text.HexTextDisplay.fmt.Given as goal
 
 -- the digits of the bytes so far are written
 abbrev pub invariant-loop-byte : goal.invariant-loop-byte

@@ -3,7 +3,7 @@ use Rattle.std.proofs.Output.{has_written_append, has_written_of_eq}
 use Rattle.hex.specs.Hex.{encode_lower, encode_with}
 use Rattle.vdcp_cli.specs.Text.{byte_text}
 use Rattle.vdcp_cli.proofs.TextLemmas.{encode_lower-take}
-use Rattle.vdcp_cli.proofs.text.DataTextDisplay.fmt.Goals as goal
+use Rattle.vdcp_cli.proofs.text.HexTextDisplay.fmt.Goals as goal
 
 pub loop-byte-init : goal.loop-byte-init
 unfolding encode_with
