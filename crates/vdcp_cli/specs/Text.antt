@@ -1,9 +1,10 @@
-use Rattle.std.specs.Prelude.{ℕ, List, [], ◌∷◌, ◌++◌, codes, decimal}
+use Rattle.std.specs.Prelude.{ℕ, Bool, true, false, List, [], ◌∷◌, ◌++◌, codes, decimal}
 use Rattle.std.specs.List.{flat_map}
 use Rattle.hex.specs.Hex.{encode_lower}
 use Rattle.vdcp_frame.specs.declared.message.Fault.TheVariants.{BadStart, BadCount, BadSum, Long}
 use Rattle.vdcp_frame.specs.Message.{Content, ack, nak, framed}
 use Rattle.vdcp_frame.specs.Reading.{End, clean, cut, fault}
+use Rattle.vdcp_cli.specs.Meaning.{meaning_text}
 
 -- a byte as two lower-case hexadecimal digits
 abbrev pub byte_text : ℕ → List ℕ
@@ -34,10 +35,15 @@ end_text (fault Long place) = codes "fault long " ++ decimal place
 abbrev pub line : List ℕ → List ℕ
 line text = text ++ 10 ∷ []
 
+-- a message as it is shown with its meaning, or without
+abbrev pub shown_text : Bool → Content → List ℕ
+shown_text true m = message_text m ++ meaning_text m
+shown_text false m = message_text m
+
 -- the lines of messages, in order
-abbrev pub messages_text : List Content → List ℕ
-messages_text ms = flat_map (λ m. line (message_text m)) ms
+abbrev pub messages_text : Bool → List Content → List ℕ
+messages_text words ms = flat_map (λ m. line (shown_text words m)) ms
 
 -- a reading as text: a line for each message, and then a line for the end
-abbrev pub reading_text : List Content → End → List ℕ
-reading_text ms end = messages_text ms ++ line (end_text end)
+abbrev pub reading_text : Bool → List Content → End → List ℕ
+reading_text words ms end = messages_text words ms ++ line (end_text end)

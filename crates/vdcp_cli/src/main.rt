@@ -1,15 +1,18 @@
-// vdcp: shows messages of the Video Disk Communications Protocol.
+// vdcp: shows and makes messages of the Video Disk Communications Protocol.
 #![tactic(auto)]
 
+mod args;
+#[cfg(test)]
+mod failing;
 mod failure;
+mod make;
 mod show;
 mod text;
 
 use crate::failure::Failure;
+use crate::make::do_make;
 use crate::show::do_show;
 use clap::error::ErrorKind;
-use clap::{Arg, ArgMatches, Command};
-use std::alloc::{AllocError, Global};
 use std::io::BufWriter;
 use std::process::ExitCode;
 use std::{env, io};
@@ -28,39 +31,31 @@ fn run(rt: &HostRuntime) -> Result<u8, Failure> {
     let words: Vec<String> = match env::args(rt) {
         Ok(words) => words.collect(alloc)?,
         Err(error) if error.kind() == io::ErrorKind::OutOfMemory => return Err(Failure::Memory),
-        Err(_) => return Err(Failure::Words),
+        Err(_) => return Err(Failure::Text),
     };
-    let matches = match command(alloc)?.try_get_matches_from(words.as_slice()) {
+    let matches = match args::command(alloc)?.try_get_matches_from(words.as_slice()) {
         Ok(matches) => matches,
         Err(error) => return shown(rt, &error),
     };
-    let mut out = match BufWriter::new(alloc, rt.stdout()) {
-        Ok(out) => out,
-        Err(_) => return Err(Failure::Memory),
+    let Ok(mut out) = BufWriter::new(alloc, rt.stdout()) else {
+        return Err(Failure::Memory);
     };
+    let mut err = rt.stderr();
     match matches.subcommand() {
         Some(("show", words)) => {
             let hex = words.get_str("HEX").unwrap_or("");
-            Ok(do_show(alloc, hex, &mut out, &mut rt.stderr()))
+            let meaning = words.get_flag("words");
+            Ok(do_show(alloc, hex, meaning, &mut out, &mut err))
         }
-        _ => Err(Failure::Words),
+        Some(("make", words)) => {
+            let word = words.get_str("COMMAND").unwrap_or("");
+            let arguments = words.get_strs("ARG").unwrap_or(&[]);
+            let unit = args::unit_of(words);
+            Ok(do_make(word, arguments, unit, &mut out, &mut err))
+        }
+        // (`clap` lets no other words through)
+        _ => Ok(2),
     }
-}
-
-// What the command line may be.
-fn command<'a>(alloc: Global) -> Result<Command<'a>, AllocError> {
-    let show = Command::new(alloc, "show")
-        .about("Shows a burst: its messages, and how it ends")
-        .arg(
-            Arg::new(alloc, "HEX")
-                .required(true)
-                .help("The burst's bytes in hexadecimal digits"),
-        )?;
-    Command::new(alloc, "vdcp")
-        .bin_name("vdcp")?
-        .about("One playout channel of the Video Disk Communications Protocol")
-        .subcommand_required(true)
-        .subcommand(show)
 }
 
 // Prints what `clap` says of the words: help, or why it refuses them.

@@ -1,5 +1,7 @@
+use arrayvec::ArrayString;
 use std::fmt;
 use vdcp_frame::{Fault, Message};
+use vdcp_words::{Command, Reply};
 
 /// A byte as two lower-case hexadecimal digits.
 #[derive(Clone, Copy)]

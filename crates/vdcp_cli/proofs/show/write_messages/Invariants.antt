@@ -12,7 +12,7 @@ invariant-loop-message g l = record {
   within : l.from ≤ length l.burst;
   messages : List Content;
   spelt : SpellsAll messages (take l.from l.burst);
-  written : Appends (g.W.Write.contents l.initial.out) (g.W.Write.contents l.out) (messages_text messages);
+  written : Appends (g.W.Write.contents l.initial.out) (g.W.Write.contents l.out) (messages_text l.words messages);
 }
 
 abbrev pub decreases-loop-message : goal.decreases-loop-message
