@@ -1,30 +1,15 @@
 -- One changed byte of a frame is a bad sum.
-use Rattle.std.proofs.Common.{◌≡◌, ◌≢◌, ℕ, suc, ◌+◌, ◌-◌, ◌*◌, ◌%◌, ◌<◌, ◌≤◌, List, [], ◌∷◌, ◌++◌, length, take, set, get_or, sum, sym, ap, subst, ◌∙◌, arith, length-append}
-use Rattle.std.proofs.lemmas.List.{length-take, take_all, take_more, length-set, append-nil}
+use Rattle.std.proofs.Common.{◌≡◌, ◌≢◌, ℕ, suc, ◌+◌, ◌-◌, ◌*◌, ◌%◌, ◌<◌, ◌≤◌, List, [], ◌∷◌, ◌++◌, length, set, get_or, sum, sym, ap, subst, ◌∙◌, arith, length-append}
+use Rattle.std.proofs.lemmas.List.{length-set, append-nil}
 use Rattle.std.proofs.lemmas.List.Elements.{All-push, All-set, All-cons, All-get_or}
 use Rattle.std.proofs.lemmas.List.Sums.{sum_by-cons, sum_by_push, sum_by-set}
 use Rattle.vdcp_frame.specs.declared.message.Fault.TheVariants.{BadSum}
 use Rattle.vdcp_frame.specs.Message.{Content, framed, AreBytes, Spells}
 use Rattle.vdcp_frame.specs.Reading.{SpellsAll, fault, ReadsUpTo}
-use Rattle.vdcp_frame.specs.Head.{wrong, data_head, head_of, IsWrong, HeadIs}
-use Rattle.vdcp_frame.proofs.HeadLemmas.{head_is, data_bad, spelt_list}
+use Rattle.vdcp_frame.specs.Head.{wrong, head_of, IsWrong, HeadIs}
+use Rattle.vdcp_frame.proofs.HeadLemmas.{head_is, spelt_list}
+use Rattle.vdcp_frame.proofs.FrameLemmas.{frame_bad}
 use Rattle.vdcp_frame.proofs.ReadingLemmas.{wrong_reads}
-
--- ---- a changed byte
-
--- a frame of n bytes of data whose bytes from CMD-1 on don't add up
-frame_bad : (n : ℕ) (body more : List ℕ) → length body ≡ n + 3 → (sum body % 256 ≡ 0 → ⊥) → head_of (2 ∷ suc (suc n) ∷ (body ++ more)) ≡ wrong BadSum (n + 5)
-frame_bad n [] more size bad = absurd (omega arith)
-frame_bad n (x ∷ []) more size bad = absurd (omega arith)
-frame_bad n (x ∷ code ∷ tail) more size bad =
-    let long : n < length tail = omega arith in
-    let whole : tail ≡ take n tail ++ get_or tail n 0 ∷ [] =
-    let last : n + 1 ≡ length tail = omega arith in
-    sym (take_all (n + 1) tail (omega arith)) ∙ take_more tail n 0 long in
-    let front : length (take n tail) ≡ n = omega (arith, length-take n tail) in
-    let total : x + code + sum (take n tail) + get_or tail n 0 ≡ sum (x ∷ code ∷ tail) =
-    omega (arith, sum_by-cons (λ (y : ℕ). y) x (code ∷ tail), sum_by-cons (λ (y : ℕ). y) code tail, ap sum whole, sum_by_push (λ (y : ℕ). y) (take n tail) (get_or tail n 0)) in
-    ap (λ (t : List ℕ). data_head n x code (t ++ more)) whole ∙ data_bad n x code (take n tail) (get_or tail n 0) more front (subst (λ (s : ℕ). s % 256 ≡ 0 → ⊥) (sym total) bad)
 
 same_part : (a b x y : ℕ) → x < 256 → y < 256 → b + y ≡ a + x → a % 256 ≡ 0 → b % 256 ≡ 0 → x ≡ y
 same_part a b x y x_fits y_fits e p q = omega arith
@@ -53,10 +38,10 @@ changed_wrong n body j byte small size adds_up fits lt byte_fits ne =
     let bad = sum_changed body j byte lt byte_fits was ne adds_up in
     let new_size : length (set body j byte) ≡ n + 3 = length-set body j byte ∙ size in
     let is : head_of (2 ∷ suc (suc n) ∷ set body j byte) ≡ wrong BadSum (n + 5) =
-        ap (λ (b : List ℕ). head_of (2 ∷ suc (suc n) ∷ b)) (sym (append-nil (set body j byte))) ∙ frame_bad n (set body j byte) [] new_size bad in
+    ap (λ (b : List ℕ). head_of (2 ∷ suc (suc n) ∷ b)) (sym (append-nil (set body j byte))) ∙ frame_bad n (set body j byte) [] new_size bad in
     let all_fits : AreBytes (2 ∷ suc (suc n) ∷ set body j byte) =
-        All-cons (λ b. b < 256) 2 (suc (suc n) ∷ set body j byte) (omega arith)
-            (All-cons (λ b. b < 256) (suc (suc n)) (set body j byte) (omega arith) (All-set (λ b. b < 256) body j byte byte_fits fits)) in
+    All-cons (λ b. b < 256) 2 (suc (suc n) ∷ set body j byte) (omega arith)
+    (All-cons (λ b. b < 256) (suc (suc n)) (set body j byte) (omega arith) (All-set (λ b. b < 256) body j byte byte_fits fits)) in
     subst (HeadIs (2 ∷ suc (suc n) ∷ set body j byte)) is (head_is (2 ∷ suc (suc n) ∷ set body j byte) all_fits)
 
 pub changed_byte : (limit kind unit code : ℕ) (rest frame : List ℕ) (i byte : ℕ) (ms : List Content) (before more : List ℕ) → Spells (framed kind unit code rest) frame → 2 ≤ i → i < length frame → byte < 256 → byte ≢ get_or frame i 0 →
@@ -76,7 +61,7 @@ changed_byte limit kind unit code rest frame i byte ms before more s two lt byte
     let bad = changed_wrong n body (i - 2) byte s.fits.rest_size size adds_up fits (omega arith) byte_fits (λ e. ne (e ∙ sym old)) in
     let same_size : n + 5 ≡ length (set frame i byte) = sym whole ∙ sym (length-set frame i byte) in
     let there : IsWrong (set frame i byte) BadSum (length (set frame i byte)) =
-        subst (λ (f : List ℕ). IsWrong f BadSum (length (set frame i byte))) (sym new)
-            (subst (IsWrong (2 ∷ suc (suc n) ∷ set body (i - 2) byte) BadSum) same_size bad) in
+    subst (λ (f : List ℕ). IsWrong f BadSum (length (set frame i byte))) (sym new)
+    (subst (IsWrong (2 ∷ suc (suc n) ∷ set body (i - 2) byte) BadSum) same_size bad) in
     subst (λ (l : ℕ). ReadsUpTo limit ((before ++ set frame i byte) ++ more) ms (fault BadSum (length before + l))) (length-set frame i byte)
-        (wrong_reads limit ms before (set frame i byte) more BadSum all there (omega (arith, length-set frame i byte)))
+    (wrong_reads limit ms before (set frame i byte) more BadSum all there (omega (arith, length-set frame i byte)))

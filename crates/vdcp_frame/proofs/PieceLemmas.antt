@@ -27,13 +27,13 @@ tracks_call burst ms None (reading taken held) piece n (message m) g t = follows
 tracks_call burst ms None (reading taken held) piece n more g t = subst (λ (l : List Content). FollowsReading (burst ++ take n piece) l (taken + n) (held ++ take n piece)) (sym (append-nil ms)) (follows_more burst ms taken held piece n t g)
 tracks_call burst ms None (reading taken held) piece n (wrong kind place) g t = λ rest.
     subst (λ (l : List Content). Reads ((burst ++ take n piece) ++ rest) l (fault kind place)) (sym (append-nil ms))
-        (subst (λ (p : ℕ). Reads ((burst ++ take n piece) ++ rest) ms (fault kind p)) (sym g.1) (follows_fault burst ms taken held piece n kind t g.0 rest))
+    (subst (λ (p : ℕ). Reads ((burst ++ take n piece) ++ rest) ms (fault kind p)) (sym g.1) (follows_fault burst ms taken held piece n kind t g.0 rest))
 tracks_call burst ms None failed piece n answer g t = absurd t
 tracks_call burst ms (Some end) (reading taken held) piece n answer g t = absurd t
 tracks_call burst ms (Some end) failed piece n (message m) g t = absurd g
 tracks_call burst ms (Some end) failed piece n more g t = λ rest.
     subst (λ (l : List Content). Reads ((burst ++ take n piece) ++ rest) l end) (sym (append-nil ms))
-        (subst (λ (b : List ℕ). Reads b ms end) (sym (append_assoc burst (take n piece) rest)) (t (take n piece ++ rest)))
+    (subst (λ (b : List ℕ). Reads b ms end) (sym (append_assoc burst (take n piece) rest)) (t (take n piece ++ rest)))
 tracks_call burst ms (Some end) failed piece n (wrong kind place) g t = absurd g
 
 with_message-append : (answer : Answer) (ms : List Content) → with_message answer [] ++ ms ≡ with_message answer ms
@@ -66,10 +66,10 @@ tracks_piece burst ms e old piece (call ∷ calls) new f t =
     let first = tracks_call burst ms e old piece call.count call.answer f.0 t in
     let rest = tracks_piece (burst ++ take call.count piece) (ms ++ given) (or_else e (or_fault call.answer None)) (fed old piece call.count call.answer) (drop call.count piece) calls new f.1 first in
     moved new
-        (append_assoc burst (take call.count piece) (drop call.count piece) ∙ ap (λ (p : List ℕ). burst ++ p) (take-append-drop call.count piece))
-        (append_assoc ms given (messages_given calls) ∙ ap (λ (l : List Content). ms ++ l) (with_message-append call.answer (messages_given calls)))
-        (or_else-fault e call.answer (fault_given calls))
-        rest
+    (append_assoc burst (take call.count piece) (drop call.count piece) ∙ ap (λ (p : List ℕ). burst ++ p) (take-append-drop call.count piece))
+    (append_assoc ms given (messages_given calls) ∙ ap (λ (l : List Content). ms ++ l) (with_message-append call.answer (messages_given calls)))
+    (or_else-fault e call.answer (fault_given calls))
+    rest
 
 messages_given-append : (calls others : List Call) → messages_given (calls ++ others) ≡ messages_given calls ++ messages_given others
 messages_given-append [] others = refl
@@ -105,10 +105,10 @@ tracks_all burst ms e old (piece ∷ pieces) (calls ∷ others) new f t =
     let first = tracks_piece burst ms e old piece calls f.0 f.1 t in
     let rest = tracks_all (burst ++ piece) (ms ++ messages_given calls) (or_else e (fault_given calls)) f.0 pieces others new f.2 first in
     moved new
-        (append_assoc burst piece (flat_map (λ p. p) pieces))
-        (append_assoc ms (messages_given calls) (messages_given later) ∙ ap (λ (l : List Content). ms ++ l) (sym (messages_given-append calls later)))
-        (or_else-assoc e (fault_given calls) (fault_given later) ∙ ap (or_else e) (sym (fault_given-append calls later)))
-        rest
+    (append_assoc burst piece (flat_map (λ p. p) pieces))
+    (append_assoc ms (messages_given calls) (messages_given later) ∙ ap (λ (l : List Content). ms ++ l) (sym (messages_given-append calls later)))
+    (or_else-assoc e (fault_given calls) (fault_given later) ∙ ap (or_else e) (sym (fault_given-append calls later)))
+    rest
 
 reads_tracked : (burst : List ℕ) (ms : List Content) (e : Option End) (new : Progress) → Tracks burst ms e new → Reads burst ms (unwrap_or e (silent_end (ended_of new)))
 reads_tracked burst ms None (reading taken []) t = ends_follows burst ms taken [] t
@@ -122,4 +122,4 @@ pub pieces_read : (pieces : List (List ℕ)) (calls : List (List Call)) (new : P
     Reads (flat_map (λ p. p) pieces) (messages_given (flat_map (λ c. c) calls)) (end_given (flat_map (λ c. c) calls) (ended_of new))
 pieces_read pieces calls new f =
     reads_tracked (flat_map (λ p. p) pieces) (messages_given (flat_map (λ c. c) calls)) (fault_given (flat_map (λ c. c) calls)) new
-        (tracks_all [] [] None (reading 0 []) pieces calls new f follows_none)
+    (tracks_all [] [] None (reading 0 []) pieces calls new f follows_none)

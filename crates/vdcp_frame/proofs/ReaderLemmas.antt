@@ -37,7 +37,7 @@ unfinished_reads limit burst ms whole held parts all h = record {
 pub short_reads : (limit : ℕ) (ms : List Content) (whole held : List ℕ) → SpellsAll ms whole → IsUnfinished held → length (whole ++ held) ≤ limit → ReadsUpTo limit (whole ++ held) ms (unfinished_end held)
 short_reads limit ms whole held all h room =
     subst (λ (b : Bool). ReadsUpTo limit (whole ++ held) ms (cond b (long_end limit (unfinished_end held)) (unfinished_end held))) (le-ltb limit (length (whole ++ held)) room)
-        (unfinished_reads limit (whole ++ held) ms whole held (take_all limit (whole ++ held) room) all h)
+    (unfinished_reads limit (whole ++ held) ms whole held (take_all limit (whole ++ held) room) all h)
 
 -- a burst past it
 pub long_reads : (limit : ℕ) (ms : List Content) (whole held rest : List ℕ) → SpellsAll ms whole → IsUnfinished held → length (whole ++ held) ≡ limit → 0 < length rest → ReadsUpTo limit ((whole ++ held) ++ rest) ms (fault Long (limit + 1))
@@ -45,8 +45,8 @@ long_reads limit ms whole held rest all h size some =
     let burst : List ℕ = (whole ++ held) ++ rest in
     let past : limit < length burst = omega (arith, length-append (whole ++ held) rest) in
     subst (ReadsUpTo limit burst ms) (long_unfinished limit held)
-        (subst (λ (b : Bool). ReadsUpTo limit burst ms (cond b (long_end limit (unfinished_end held)) (unfinished_end held))) (lt-ltb limit (length burst) past)
-            (unfinished_reads limit burst ms whole held (take_at (whole ++ held) rest limit size) all h))
+    (subst (λ (b : Bool). ReadsUpTo limit burst ms (cond b (long_end limit (unfinished_end held)) (unfinished_end held))) (lt-ltb limit (length burst) past)
+    (unfinished_reads limit burst ms whole held (take_at (whole ++ held) rest limit size) all h))
 
 -- ---- one call of feed
 
@@ -56,7 +56,7 @@ joined whole held piece = append_assoc whole held piece
 grown : (burst piece : List ℕ) (taken n : ℕ) → length burst ≡ taken → n ≤ length piece → length (burst ++ take n piece) ≡ taken + n
 grown burst piece taken n size within = omega (arith, length-append burst (take n piece), length-take n piece)
 
-unfinished_nil : IsUnfinished []
+pub unfinished_nil : IsUnfinished []
 unfinished_nil = record { begins = Begins-nil; no_front = nil_no_front }
 
 pub follows_message : (burst : List ℕ) (ms : List Content) (taken : ℕ) (held piece : List ℕ) (n : ℕ) (m : Content) → FollowsReading burst ms taken held → TakesMessage taken held piece n m → FollowsReading (burst ++ take n piece) (ms ++ m ∷ []) (taken + n) []
@@ -87,24 +87,24 @@ follows_wrong burst ms taken held piece n kind f t rest =
     let front : burst ++ take n piece ≡ f.whole ++ w = ap (λ (b : List ℕ). b ++ take n piece) f.parts ∙ joined f.whole held (take n piece) in
     let size : length f.whole + length w ≡ taken + n = omega (arith, grown burst piece taken n f.count t.within, ap (length {A = ℕ}) front, length-append f.whole w) in
     subst (λ (p : ℕ). Reads ((burst ++ take n piece) ++ rest) ms (fault kind p)) size
-        (subst (λ (b : List ℕ). Reads (b ++ rest) ms (fault kind (length f.whole + length w))) (sym front)
-            (wrong_reads 4096 ms f.whole w rest kind f.spelt t.first (omega (arith, t.limit))))
+    (subst (λ (b : List ℕ). Reads (b ++ rest) ms (fault kind (length f.whole + length w))) (sym front)
+    (wrong_reads 4096 ms f.whole w rest kind f.spelt t.first (omega (arith, t.limit))))
 
 follows_long : (burst : List ℕ) (ms : List Content) (taken : ℕ) (held piece : List ℕ) (n : ℕ) → FollowsReading burst ms taken held → TakesLong taken held piece n → FollowsFault (burst ++ take n piece) ms Long (taken + n)
 follows_long burst ms taken held piece n f t rest =
     let w : List ℕ = held ++ take (n - 1) piece in
     let last : List ℕ = drop (n - 1) (take n piece) in
     let split : take n piece ≡ take (n - 1) piece ++ last =
-        sym (take-append-drop (n - 1) (take n piece)) ∙ ap (λ (p : List ℕ). p ++ last) (take-take (n - 1) n piece (omega arith)) in
+    sym (take-append-drop (n - 1) (take n piece)) ∙ ap (λ (p : List ℕ). p ++ last) (take-take (n - 1) n piece (omega arith)) in
     let front : burst ++ take n piece ≡ (f.whole ++ w) ++ last =
-        ap (λ (b : List ℕ). b ++ take n piece) f.parts ∙ ap (λ (p : List ℕ). (f.whole ++ held) ++ p) split
-        ∙ sym (append_assoc (f.whole ++ held) (take (n - 1) piece) last) ∙ ap (λ (b : List ℕ). b ++ last) (joined f.whole held (take (n - 1) piece)) in
+    ap (λ (b : List ℕ). b ++ take n piece) f.parts ∙ ap (λ (p : List ℕ). (f.whole ++ held) ++ p) split
+    ∙ sym (append_assoc (f.whole ++ held) (take (n - 1) piece) last) ∙ ap (λ (b : List ℕ). b ++ last) (joined f.whole held (take (n - 1) piece)) in
     let size : length (f.whole ++ w) ≡ 4096 =
-        omega (arith, f.count, t.past, t.some, t.within, ap (length {A = ℕ}) f.parts, length-append f.whole held, length-append f.whole w, length-append held (take (n - 1) piece), length-take (n - 1) piece) in
+    omega (arith, f.count, t.past, t.some, t.within, ap (length {A = ℕ}) f.parts, length-append f.whole held, length-append f.whole w, length-append held (take (n - 1) piece), length-take (n - 1) piece) in
     let some : 0 < length (last ++ rest) = omega (arith, t.some, t.within, length-append last rest, length-drop (n - 1) (take n piece), length-take n piece) in
     let long : Reads ((f.whole ++ w) ++ (last ++ rest)) ms (fault Long 4097) = long_reads 4096 ms f.whole w (last ++ rest) f.spelt t.unfinished size some in
     subst (λ (p : ℕ). Reads ((burst ++ take n piece) ++ rest) ms (fault Long p)) (sym t.past)
-        (subst (λ (b : List ℕ). Reads b ms (fault Long 4097)) (sym (ap (λ (b : List ℕ). b ++ rest) front ∙ append_assoc (f.whole ++ w) last rest)) long)
+    (subst (λ (b : List ℕ). Reads b ms (fault Long 4097)) (sym (ap (λ (b : List ℕ). b ++ rest) front ∙ append_assoc (f.whole ++ w) last rest)) long)
 
 pub follows_fault : (burst : List ℕ) (ms : List Content) (taken : ℕ) (held piece : List ℕ) (n : ℕ) (kind : Fault) → FollowsReading burst ms taken held → TakesFault taken held piece n kind → FollowsFault (burst ++ take n piece) ms kind (taken + n)
 follows_fault burst ms taken held piece n BadStart f t = follows_wrong burst ms taken held piece n BadStart f t

@@ -270,13 +270,13 @@ IsWrong-more w rest kind h =
       no_front = λ m front tail s e. elim (cases_lt (length w) (length front)) [
         | inl longer ↦
             let front_is : front ≡ w ++ drop (length w) front =
-                sym (take-append-drop (length w) front)
-                ∙ ap (λ (f : List ℕ). f ++ drop (length w) front) (sym (take-append-le (length w) front tail (omega arith)) ∙ ap (λ (f : List ℕ). take (length w) f) (sym e) ∙ take_at w rest (length w) refl) in
+            sym (take-append-drop (length w) front)
+            ∙ ap (λ (f : List ℕ). f ++ drop (length w) front) (sym (take-append-le (length w) front tail (omega arith)) ∙ ap (λ (f : List ℕ). take (length w) f) (sym e) ∙ take_at w rest (length w) refl) in
             let begins : Begins w = record { message = m; more = drop (length w) front; spelt = subst (Spells m) front_is s } in
             h.first.wrong (subst Begins (sym (take_all (length w) w (omega arith))) begins)
         | inr fits ↦
             let front_is : front ≡ take (length front) w =
-                sym (take_at front tail (length front) refl) ∙ ap (λ (f : List ℕ). take (length front) f) (sym e) ∙ take-append-le (length front) w rest fits in
+            sym (take_at front tail (length front) refl) ∙ ap (λ (f : List ℕ). take (length front) f) (sym e) ∙ take-append-le (length front) w rest fits in
             h.no_front m front (drop (length front) w) s (sym (take-append-drop (length front) w) ∙ ap (λ (f : List ℕ). f ++ drop (length front) w) (sym front_is))
       ];
       which = h.which ∙ ap fault_of (sym at_end);

@@ -6,4 +6,5 @@ pub mod Step
 pub mod Burst
 pub mod Progress
 pub mod Reader
+pub mod Held
 pub mod Pieces

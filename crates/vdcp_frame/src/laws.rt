@@ -9,7 +9,7 @@ ghost use Rattle.vdcp_frame.specs.Reader.{ended_of};
 ghost use Rattle.vdcp_frame.specs.Pieces.{Call, FeedsAll, messages_given, end_given};
 ghost use Rattle.vdcp_frame.specs.declared.message.Fault.TheVariants.{BadSum};
 
-/// No spelling begins another one, and no bytes spell two messages.
+/// Where one spelling begins with another, the two are the same, and of the same message.
 pub fn no_spelling_begins_another()
     ensures { (m n : Content) (a b more : List ℕ) → Spells m a → Spells n b → b ≡ a ++ more →
         (m ≡ n) × (more ≡ []) }
@@ -38,8 +38,8 @@ pub fn one_changed_byte()
         Reads ((before ++ slice_set frame i byte) ++ more) ms (fault BadSum (length before + length frame)) }
 {}
 
-/// What was written is read again, where it ends within a burst's first 4,096 bytes, whatever
-/// follows it.
+/// Messages that were written one after another into the first 4,096 bytes of a burst are the first
+/// ones read from it, with anything behind them; with nothing behind them they are all of it.
 pub fn written_is_read()
     ensures first { (ms ns : List Content) (bytes more : List ℕ) (end : End) →
         SpellsAll ms bytes → length bytes ≤ 4096 → Reads (bytes ++ more) ns end →
@@ -54,6 +54,5 @@ pub fn pieces_are_read_as_one()
     ensures { (pieces : List (List ℕ)) (calls : List (List Call)) (new : Progress) →
         FeedsAll (reading 0 []) pieces calls new →
         Reads (flat_map (λ p. p) pieces) (messages_given (flat_map (λ c. c) calls))
-            (end_given (flat_map (λ c. c) calls) (ended_of new)) }
-{
-}
+        (end_given (flat_map (λ c. c) calls) (ended_of new)) }
+{}
