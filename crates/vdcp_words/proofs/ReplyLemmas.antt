@@ -19,7 +19,8 @@ nothing_read (Active (Some id)) h = h
 nothing_read (Size time) h = absurd (omega (arith, h.0))
 nothing_read (Present there) h = h
 
-no_second : (unit bitmap : ℕ) (reply : Reply) → has_bit_0 bitmap ≡ true → IsReply (framed 3 unit 0x85 (bitmap ∷ [])) reply → ⊥
+no_second : (unit bitmap : ℕ) (reply : Reply) → has_bit_0 bitmap ≡ true →
+    IsReply (framed 3 unit 0x85 (bitmap ∷ [])) reply → ⊥
 no_second unit bitmap Ack set h = h.0
 no_second unit bitmap (Nak byte) set h = h.0
 no_second unit bitmap (Opened granted) set h = omega (arith, h.0.1)
@@ -30,7 +31,8 @@ no_second unit bitmap (Active (Some id)) set h = omega (arith, h.0.1)
 no_second unit bitmap (Size time) set h = omega (arith, h.0.1)
 no_second unit bitmap (Present there) set h = omega (arith, h.0.1)
 
-no_id : (unit first : ℕ) (more : List ℕ) (reply : Reply) → first ≢ 0 → length more < 8 → IsReply (framed 3 unit 0x87 (first ∷ more)) reply → ⊥
+no_id : (unit first : ℕ) (more : List ℕ) (reply : Reply) → first ≢ 0 → length more < 8 →
+    IsReply (framed 3 unit 0x87 (first ∷ more)) reply → ⊥
 no_id unit first more Ack other short h = h.0
 no_id unit first more (Nak byte) other short h = h.0
 no_id unit first more (Opened granted) other short h = omega (arith, h.0.1)
@@ -42,7 +44,8 @@ no_id unit first more (Active (Some id)) other short h =
 no_id unit first more (Size time) other short h = omega (arith, h.0.1)
 no_id unit first more (Present there) other short h = omega (arith, h.0.1)
 
-no_time : (unit : ℕ) (rest : List ℕ) (reply : Reply) → length rest < 4 → IsReply (framed 3 unit 0x94 rest) reply → ⊥
+no_time : (unit : ℕ) (rest : List ℕ) (reply : Reply) → length rest < 4 →
+    IsReply (framed 3 unit 0x94 rest) reply → ⊥
 no_time unit rest Ack short h = h.0
 no_time unit rest (Nak byte) short h = h.0
 no_time unit rest (Opened granted) short h = omega (arith, h.0.1)
@@ -64,7 +67,8 @@ state_short unit [] empty =
     record { reply = State 0 None; code = (refl, refl); ends = λ reply h. nothing_read reply h.1 }
 state_short unit (first ∷ more) empty = absurd (omega (arith, empty))
 
-pub state_byte_short : (unit : ℕ) (rest : List ℕ) → length rest < 2 → bit_and (get_or rest 0 0) 1 ≡ 1 → IsShortReply (framed 3 unit 0x85 rest)
+pub state_byte_short : (unit : ℕ) (rest : List ℕ) → length rest < 2 → bit_and (get_or rest 0 0) 1 ≡ 1 →
+    IsShortReply (framed 3 unit 0x85 rest)
 state_byte_short unit [] short set = state_short unit [] refl
 state_byte_short unit (bitmap ∷ []) short set =
     record {
@@ -79,7 +83,8 @@ active_short unit [] empty =
     record { reply = Active None; code = (refl, refl); ends = λ reply h. nothing_read reply h.1 }
 active_short unit (first ∷ more) empty = absurd (omega (arith, empty))
 
-pub active_id_short : (unit first : ℕ) (more : List ℕ) → first ≢ 0 → length more < 8 → IsShortReply (framed 3 unit 0x87 (first ∷ more))
+pub active_id_short : (unit first : ℕ) (more : List ℕ) → first ≢ 0 → length more < 8 →
+    IsShortReply (framed 3 unit 0x87 (first ∷ more))
 active_id_short unit first more other short =
     record { reply = Active None; code = (refl, refl); ends = λ reply h. no_id unit first more reply other short h }
 

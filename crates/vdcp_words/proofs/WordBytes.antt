@@ -25,18 +25,21 @@ use Rattle.vdcp_words.specs.Replies.{flag, reply_message, IsWritableReply}
 none : All (λ b. b < 256) []
 none = All-nil (λ b. b < 256)
 
-one_more : (byte : ℕ) (bytes : List ℕ) → byte < 256 → All (λ b. b < 256) bytes → All (λ b. b < 256) (byte ∷ bytes)
+one_more : (byte : ℕ) (bytes : List ℕ) → byte < 256 → All (λ b. b < 256) bytes →
+    All (λ b. b < 256) (byte ∷ bytes)
 one_more byte bytes fits all = All-cons (λ b. b < 256) byte bytes fits all
 
 one : (byte : ℕ) → byte < 256 → All (λ b. b < 256) (byte ∷ [])
 one byte fits = one_more byte [] fits none
 
-frame : (kind unit code : ℕ) (rest : List ℕ) → kind < 16 → unit < 16 → code < 256 → All (λ b. b < 256) rest → length rest ≤ 253 → FitsFrame kind unit code rest
+frame : (kind unit code : ℕ) (rest : List ℕ) → kind < 16 → unit < 16 → code < 256 →
+    All (λ b. b < 256) rest → length rest ≤ 253 → FitsFrame kind unit code rest
 frame kind unit code rest kind_fits unit_fits code_fits rest_fits rest_size =
     record { kind_fits = kind_fits; unit_fits = unit_fits; code_fits = code_fits; rest_fits = rest_fits; rest_size = rest_size }
 
 -- a command's message fits
-pub command_fits : (unit : ℕ) (command : Command) → unit < 16 → IsWritableCommand command → Fits (command_message unit command)
+pub command_fits : (unit : ℕ) (command : Command) → unit < 16 → IsWritableCommand command →
+    Fits (command_message unit command)
 command_fits unit commands.Stop u w = frame 1 unit 0x00 [] (omega arith) u (omega arith) none (omega arith)
 command_fits unit commands.Play u w = frame 1 unit 0x01 [] (omega arith) u (omega arith) none (omega arith)
 command_fits unit (commands.Close port) u w = frame 2 unit 0x21 (port ∷ []) (omega arith) u (omega arith) (one port w) (omega arith)
@@ -62,7 +65,8 @@ flag_fits true = omega arith
 flag_fits false = omega arith
 
 -- so does a reply's
-pub reply_fits : (unit : ℕ) (reply : Reply) → unit < 16 → IsWritableReply reply → Fits (reply_message unit reply)
+pub reply_fits : (unit : ℕ) (reply : Reply) → unit < 16 → IsWritableReply reply →
+    Fits (reply_message unit reply)
 reply_fits unit replies.Ack u w = tt
 reply_fits unit (replies.Nak byte) u w = w
 reply_fits unit (replies.Opened granted) u w =
@@ -88,13 +92,15 @@ rest_fits ack fits = none
 rest_fits (nak byte) fits = none
 rest_fits (framed kind unit code rest) fits = fits.rest_fits
 
-pub command_of-written : (unit : ℕ) (command : Command) → IsWritableCommand command → command_of (command_message unit command) ≡ Ok command
+pub command_of-written : (unit : ℕ) (command : Command) → IsWritableCommand command →
+    command_of (command_message unit command) ≡ Ok command
 command_of-written unit command writable =
     let fits : All (λ b. b < 256) (rest_of (command_message unit command)) = rest_fits (command_message 0 command) (command_fits 0 command (omega arith) writable) in
     one_command_reading (command_message unit command) (command_of (command_message unit command)) (Ok command)
     (command_computed (command_message unit command) fits) (command_written unit command writable)
 
-rest_of-reply : (unit : ℕ) (reply : Reply) → rest_of (reply_message 0 reply) ≡ rest_of (reply_message unit reply)
+rest_of-reply : (unit : ℕ) (reply : Reply) →
+    rest_of (reply_message 0 reply) ≡ rest_of (reply_message unit reply)
 rest_of-reply unit replies.Ack = refl
 rest_of-reply unit (replies.Nak byte) = refl
 rest_of-reply unit (replies.Opened granted) = refl
@@ -105,7 +111,8 @@ rest_of-reply unit (replies.Active (Some id)) = refl
 rest_of-reply unit (replies.Size time) = refl
 rest_of-reply unit (replies.Present there) = refl
 
-pub reply_of-written : (unit : ℕ) (reply : Reply) → IsWritableReply reply → reply_of (reply_message unit reply) ≡ Ok reply
+pub reply_of-written : (unit : ℕ) (reply : Reply) → IsWritableReply reply →
+    reply_of (reply_message unit reply) ≡ Ok reply
 reply_of-written unit reply writable =
     let fits = subst (All (λ b. b < 256)) (rest_of-reply unit reply) (rest_fits (reply_message 0 reply) (reply_fits 0 reply (omega arith) writable)) in
     one_reply_reading (reply_message unit reply) (reply_of (reply_message unit reply)) (Ok reply)
@@ -120,13 +127,15 @@ spelling_size (framed kind unit code rest) bytes s =
     omega (arith, ap length s.spelt, length-append rest (s.check ∷ []), s.fits.rest_size)
 
 -- a message that is spelt is read first, whatever follows it
-pub first_read : (m : Content) (bytes more : List ℕ) (ms : List Content) (end : End) → Spells m bytes → Reads (bytes ++ more) ms end → (others : List Content) × (ms ≡ m ∷ others)
+pub first_read : (m : Content) (bytes more : List ℕ) (ms : List Content) (end : End) → Spells m bytes →
+    Reads (bytes ++ more) ms end → (others : List Content) × (ms ≡ m ∷ others)
 first_read m bytes more ms end spelt reads =
     let size = spelling_size m bytes spelt in
     read_again 4096 (m ∷ []) ms bytes more end (bytes, [], spelt, refl, sym (append-nil bytes)) (omega (arith, size)) reads
 
 -- and alone, where nothing does
-pub read_only : (m : Content) (bytes : List ℕ) (ms : List Content) (end : End) → Spells m bytes → Reads bytes ms end → (ms ≡ m ∷ []) × (end ≡ clean)
+pub read_only : (m : Content) (bytes : List ℕ) (ms : List Content) (end : End) → Spells m bytes →
+    Reads bytes ms end → (ms ≡ m ∷ []) × (end ≡ clean)
 read_only m bytes ms end spelt reads =
     let size = spelling_size m bytes spelt in
     one_reading 4096 bytes ms (m ∷ []) end clean reads
@@ -136,5 +145,6 @@ read_only m bytes ms end spelt reads =
 pub nothing_read : (ms : List Content) (end : End) → Reads [] ms end → (ms ≡ []) × (end ≡ clean)
 nothing_read ms end reads = one_reading 4096 [] ms [] end clean reads (read_alone 4096 [] [] refl (omega arith))
 
-pub nak_read : (byte : ℕ) → byte < 256 → (ms : List Content) (end : End) → Reads (5 ∷ byte ∷ []) ms end → (ms ≡ nak byte ∷ []) × (end ≡ clean)
+pub nak_read : (byte : ℕ) → byte < 256 → (ms : List Content) (end : End) → Reads (5 ∷ byte ∷ []) ms end →
+    (ms ≡ nak byte ∷ []) × (end ≡ clean)
 nak_read byte fits ms end reads = read_only (nak byte) (5 ∷ byte ∷ []) ms end (fits, refl) reads
