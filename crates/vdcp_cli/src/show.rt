@@ -1,4 +1,4 @@
-ghost use Rattle.std.specs.Prelude.{◌≡◌, ◌⊎◌, ◌<◌, List, ◌≤◌, take, length, IfOk, IfErr, OnErr, IsErr, IsOkAnd};
+ghost use Rattle.std.specs.Prelude.{◌≡◌, ◌⊎◌, ◌<◌, List, IfOk, IfErr, OnErr, IsErr, IsOkAnd};
 ghost use Rattle.std.specs.Io.KnownBytes.{Appends, Keeps};
 ghost use Rattle.hex.specs.Hex.{decode_of};
 ghost use Rattle.vdcp_frame.specs.Message.{Content};
@@ -19,7 +19,8 @@ use vdcp_frame::{Step, read_at};
 ///
 /// The status is 0 where the end is clean, and 1 where it isn't. It is 1 too where `hex` isn't an
 /// even number of hexadecimal digits, and 3 where memory was refused; `err` is told of both. It
-/// is 3 where a writer failed, to which nothing more is written.
+/// is 3 where a writer failed, to which nothing more is written; `out` is flushed behind the last
+/// line.
 pub fn do_show<A: Allocator, W: io::Write, E: io::Write>(
     alloc: A,
     hex: &str,
