@@ -18,6 +18,7 @@ impl Part {
 
     /// Whether a clip of this length has the part: start and duration are lawful time codes at the
     /// length's rate, the duration has at least one frame, and the part ends within the clip.
+    #[tactic(auto, unfolding(crate::specs::Parts::part_fits))]
     pub fn fits(&self, length: &Timecode) -> bool
         ensures { result ≡ part_fits self.now length.now }
     {
