@@ -1,0 +1,4 @@
+pub mod Joining
+pub mod CommandLemmas
+pub mod ReplyLemmas
+pub mod CommandLaws

@@ -1,0 +1,12 @@
+//! The words of the Video Disk Communications Protocol in this profile: commands and replies.
+#![tactic(auto)]
+
+mod command;
+mod data;
+mod fault;
+mod reply;
+mod room;
+
+pub use command::Command;
+pub use fault::WordFault;
+pub use reply::Reply;
