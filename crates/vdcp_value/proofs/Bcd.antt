@@ -1,9 +1,8 @@
-use Rattle.std.proofs.Common.{ℕ, ◌+◌, ◌*◌, ◌/◌, ◌%◌, ◌<◌, ◌≡◌, true, arith, refl, sym, ap, ◌∙◌, is_none, None, [], ◌∷◌}
+use Rattle.std.proofs.Common.{ℕ, ◌<◌, ◌≡◌, true, arith, refl, sym, ap, ap₂, ◌∙◌, List, is_none, None, [], ◌∷◌}
 use Rattle.vdcp_value.proofs.Timecodes.{same_timecode}
-use Rattle.vdcp_value.specs.Bcd.{bcd_byte, bcd_value, is_bcd, bcd_of_label, label_of_bcd, bcd_fault, label_fault, is_time}
+use Rattle.vdcp_value.specs.Bcd.{bcd_byte, bcd_value, is_bcd, bcd_of_label, label_of_bcd, bcd_fault, label_fault, is_time, frames_in}
 use Rattle.vdcp_value.specs.LabelText.{has_two_digits}
 use Rattle.vdcp_value.specs.Labels.{is_lawful}
-use Rattle.vdcp_value.specs.Parts.{frames_in}
 use Rattle.vdcp_value.specs.Day.{frame_number}
 use Rattle.vdcp_value.specs.Timecodes.{rate_of, label_of, bcd_of, frames_of}
 use Rattle.vdcp_value.specs.declared.label.Label.{Label}
@@ -87,3 +86,12 @@ own_bcd timecode =
 -- so they are the bytes of a lawful label
 pub own_is_time : (timecode : Timecode) → is_time (rate_of timecode) (bcd_of timecode) ≡ true
 own_is_time timecode = ap is_none (own_bcd timecode)
+
+-- what is known of bytes that were read as a time code
+pub read_is_time : (rate : Rate) (bytes : List ℕ) (timecode : Timecode) → rate_of timecode ≡ rate → bcd_of timecode ≡ bytes
+    → is_time rate bytes ≡ true
+read_is_time rate bytes timecode r b = ap₂ is_time (sym r) (sym b) ∙ own_is_time timecode
+
+pub read_frames : (rate : Rate) (bytes : List ℕ) (timecode : Timecode) → rate_of timecode ≡ rate → bcd_of timecode ≡ bytes
+    → frames_in rate bytes ≡ frames_of timecode
+read_frames rate bytes timecode r b = ap₂ frames_in (sym r) (sym b) ∙ frames_in_own timecode

@@ -7,3 +7,7 @@ pub mod FrameNumbers
 pub mod Examples
 pub mod Places
 pub mod Bcd
+pub mod LabelText
+pub mod IdText
+pub mod HexForm
+pub mod IdTexts

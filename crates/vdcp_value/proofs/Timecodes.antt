@@ -1,6 +1,6 @@
-use Rattle.std.proofs.Common.{◌≡◌, ◌<◌, length, true, arith}
-use Rattle.vdcp_value.proofs.FrameNumbers.{frame_number_below, length_of_day}
-use Rattle.vdcp_value.specs.Day.{lawful_labels}
+use Rattle.std.proofs.Common.{◌≡◌, ◌<◌, true}
+use Rattle.vdcp_value.proofs.FrameNumbers.{frame_number_below}
+use Rattle.vdcp_value.specs.Day.{frames_of_day}
 use Rattle.vdcp_value.specs.Labels.{is_lawful}
 use Rattle.vdcp_value.specs.Timecodes.{rate_of, label_of, frames_of}
 use Rattle.vdcp_value.specs.declared.timecode.Timecode.{Timecode}
@@ -27,10 +27,5 @@ pub lawful_label : (timecode : Timecode) → is_lawful (rate_of timecode) (label
 lawful_label timecode = timecode.lawful
 
 -- and its frame number is below the day's
-pub frames_below : (timecode : Timecode) → frames_of timecode < length (lawful_labels (rate_of timecode))
-frames_below timecode =
-    omega (
-      arith,
-      frame_number_below (rate_of timecode) (label_of timecode) timecode.lawful,
-      length_of_day (rate_of timecode),
-    )
+pub frames_below : (timecode : Timecode) → frames_of timecode < frames_of_day (rate_of timecode)
+frames_below timecode = frame_number_below (rate_of timecode) (label_of timecode) timecode.lawful

@@ -1,4 +1,5 @@
 use Rattle.std.specs.Prelude.{ℕ, ◌+◌, ◌*◌, ◌/◌, ◌%◌, Bool, ◌&&◌, not, nat_lt, List, [], ◌∷◌, Option, Some, None, is_none, slice_index, if◌then◌else◌}
+use Rattle.vdcp_value.specs.Day.{frame_number}
 use Rattle.vdcp_value.specs.Labels.{frames_per_second, is_dropped}
 use Rattle.vdcp_value.specs.declared.faults.Field.TheVariants.{Frames, Seconds, Minutes, Hours}
 use Rattle.vdcp_value.specs.declared.faults.TcFault.TheVariants.{NotBcd, OutOfRange, Dropped}
@@ -51,3 +52,7 @@ bcd_fault rate bytes =
 -- the bytes are those of a lawful label
 abbrev pub is_time : Rate → List ℕ → Bool
 is_time rate bytes = is_none (bcd_fault rate bytes)
+
+-- the frame number of the label that four bytes write
+abbrev pub frames_in : Rate → List ℕ → ℕ
+frames_in rate bytes = frame_number rate (label_of_bcd bytes)

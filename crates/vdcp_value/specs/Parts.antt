@@ -1,11 +1,9 @@
-use Rattle.std.specs.Prelude.{ℕ, ◌+◌, Bool, ◌&&◌, nat_le, List, MatchOption}
-use Rattle.vdcp_value.specs.Bcd.{is_time, label_of_bcd}
+use Rattle.std.specs.Prelude.{◌+◌, Bool, ◌&&◌, nat_le, MatchOption}
+use Rattle.vdcp_value.specs.Bcd.{is_time, frames_in}
 use Rattle.vdcp_value.specs.Bytes.{AreBytes}
-use Rattle.vdcp_value.specs.Day.{frame_number}
 use Rattle.vdcp_value.specs.Timecodes.{frames_of, rate_of}
 use Rattle.vdcp_value.specs.declared.part.Item.{Item}
 use Rattle.vdcp_value.specs.declared.part.Part.{Part}
-use Rattle.vdcp_value.specs.declared.rate.Rate.{Rate}
 use Rattle.vdcp_value.specs.declared.timecode.Timecode.{Timecode}
 
 -- start and duration are four bytes each
@@ -15,10 +13,6 @@ IsPart part = AreBytes 4 part.start × AreBytes 4 part.duration
 -- the part of an item, where it has one, is of bytes
 abbrev pub IsItem : Item → Type 0
 IsItem item = MatchOption item.part (Unit {0}) IsPart
-
--- the frame number of the label that four bytes write
-abbrev pub frames_in : Rate → List ℕ → ℕ
-frames_in rate bytes = frame_number rate (label_of_bcd bytes)
 
 -- a part fits a clip of this length: two lawful labels at its rate, one frame at least, and its end
 -- not past the clip's
