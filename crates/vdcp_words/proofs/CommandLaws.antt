@@ -1,5 +1,5 @@
 -- A command is what its message says: a message is read as one command, or has one fault.
-use Rattle.std.proofs.Common.{◌≡◌, ◌≢◌, ◌∙◌, ℕ, ◌+◌, ◌*◌, ◌<◌, ◌≤◌, List, [], ◌∷◌, ◌++◌, length, take, drop, refl, sym, ap, subst, arith, length-append}
+use Rattle.std.proofs.Common.{◌≡◌, ◌∙◌, ℕ, ◌+◌, ◌*◌, List, ◌++◌, length, take, refl, sym, ap, subst, arith, length-append}
 use Rattle.std.specs.Prelude.{Result, Ok, Err}
 use Rattle.std.proofs.lemmas.List.{take_at, append_cancel_left}
 use Rattle.vdcp_value.specs.Bytes.{AreBytes}
@@ -12,7 +12,7 @@ use Rattle.vdcp_words.specs.declared.command.Command.{Command}
 use Rattle.vdcp_words.specs.declared.command.Command.TheVariants.{Open, Close, Select, PlayCue, CueData, Play, Stop, Status, ActiveId, IdRequest, IdSize}
 use Rattle.vdcp_words.specs.declared.fault.WordFault.{WordFault}
 use Rattle.vdcp_words.specs.declared.fault.WordFault.TheVariants.{NotCommand, Unknown, Length}
-use Rattle.vdcp_words.specs.Messages.{unit_of, rest_of, IsReceipt, IsFramed, HasCode, SameCode}
+use Rattle.vdcp_words.specs.Messages.{unit_of, rest_of, IsReceipt, IsFramed, SameCode}
 use Rattle.vdcp_words.specs.Commands.{command_message, IsWritableCommand, IsCommand, IsUnknownCommand, HasOtherLength, ReadsCommand}
 
 -- type and code as one number

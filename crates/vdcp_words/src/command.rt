@@ -1,6 +1,7 @@
-ghost use Rattle.std.specs.Prelude.{◌≡◌, ◌≤◌, ℕ};
+ghost use Rattle.std.specs.Prelude.{◌≡◌, ◌<◌, ◌≤◌, ℕ, All};
 ghost use Rattle.vdcp_frame.specs.Message.{content_of, framed, IsWritable};
 ghost use Rattle.vdcp_words.specs.Commands.{command_message, ReadsCommand};
+ghost use Rattle.vdcp_words.specs.Computed.{command_of};
 
 use crate::data;
 use crate::fault::WordFault;
@@ -41,7 +42,8 @@ pub enum Command {
 impl Command {
     /// The command that the message carries, to whatever unit.
     pub fn read(message: &Message) -> Result<Command, WordFault>
-        ensures { ReadsCommand (content_of message.now) result }
+        ensures table { ReadsCommand (content_of message.now) result }
+        ensures exact { result ≡ command_of (content_of message.now) }
     {
         match *message {
             Message::Ack | Message::Nak(_) => Err(WordFault::NotCommand),
@@ -87,7 +89,8 @@ impl Command {
 /// The commands of type 1, which act at once.
 #[tactic(auto, using(crate::proofs::CommandLemmas::other_lengths))]
 fn immediate(code: u8, rest: &[u8]) -> Result<Command, WordFault>
-    ensures { (unit : ℕ) → ReadsCommand (framed 1 unit code rest.now) result }
+    ensures table { (unit : ℕ) → ReadsCommand (framed 1 unit code rest.now) result }
+    ensures bytes { All (λ b. b < 256) rest.now }
 {
     match code {
         0x00 => data::nothing(rest, Command::Stop),
@@ -99,7 +102,8 @@ fn immediate(code: u8, rest: &[u8]) -> Result<Command, WordFault>
 /// The commands of type 2, which prepare what is to be aired.
 #[tactic(auto, using(crate::proofs::CommandLemmas::other_lengths))]
 fn preset(code: u8, rest: &[u8]) -> Result<Command, WordFault>
-    ensures { (unit : ℕ) → ReadsCommand (framed 2 unit code rest.now) result }
+    ensures table { (unit : ℕ) → ReadsCommand (framed 2 unit code rest.now) result }
+    ensures bytes { All (λ b. b < 256) rest.now }
 {
     match code {
         0x21 => Ok(Command::Close(data::byte(rest)?)),
@@ -113,7 +117,8 @@ fn preset(code: u8, rest: &[u8]) -> Result<Command, WordFault>
 /// The commands of type 3, which ask for a reply.
 #[tactic(auto, using(crate::proofs::CommandLemmas::other_lengths))]
 fn sense_request(code: u8, rest: &[u8]) -> Result<Command, WordFault>
-    ensures { (unit : ℕ) → ReadsCommand (framed 3 unit code rest.now) result }
+    ensures table { (unit : ℕ) → ReadsCommand (framed 3 unit code rest.now) result }
+    ensures bytes { All (λ b. b < 256) rest.now }
 {
     match code {
         0x01 => open(rest),

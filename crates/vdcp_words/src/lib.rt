@@ -4,8 +4,10 @@
 mod command;
 mod data;
 mod fault;
+pub mod laws;
 mod reply;
 mod room;
+mod text;
 
 pub use command::Command;
 pub use fault::WordFault;

@@ -1,5 +1,6 @@
-ghost use Rattle.std.specs.Prelude.{◌≡◌, ◌≤◌, ℕ};
+ghost use Rattle.std.specs.Prelude.{◌≡◌, ◌<◌, ◌≤◌, ℕ, All};
 ghost use Rattle.vdcp_frame.specs.Message.{content_of, framed, IsWritable};
+ghost use Rattle.vdcp_words.specs.Computed.{reply_of};
 ghost use Rattle.vdcp_words.specs.Replies.{reply_message, ReadsReply};
 
 use crate::data;
@@ -31,7 +32,8 @@ pub enum Reply {
 impl Reply {
     /// The reply that the message carries, from whatever unit.
     pub fn read(message: &Message) -> Result<Reply, WordFault>
-        ensures { ReadsReply (content_of message.now) result }
+        ensures table { ReadsReply (content_of message.now) result }
+        ensures exact { result ≡ reply_of (content_of message.now) }
     {
         match *message {
             Message::Ack => Ok(Reply::Ack),
@@ -74,7 +76,8 @@ impl Reply {
 
 /// The replies to sense requests.
 fn sense_reply(code: u8, rest: &[u8]) -> Result<Reply, WordFault>
-    ensures { (unit : ℕ) → ReadsReply (framed 3 unit code rest.now) result }
+    ensures table { (unit : ℕ) → ReadsReply (framed 3 unit code rest.now) result }
+    ensures bytes { All (λ b. b < 256) rest.now }
 {
     match code {
         0x81 => opened(rest),
