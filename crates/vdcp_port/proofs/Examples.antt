@@ -1,14 +1,19 @@
 -- What the table gives for some bursts.
-use Rattle.std.proofs.Common.{◌≡◌, ℕ, true, List, [], ◌∷◌, refl}
-use Rattle.std.specs.Prelude.{Option, None, Some, replicate, ◌++◌}
+use Rattle.std.proofs.Common.{◌≡◌, ℕ, Bool, true, false, List, [], ◌∷◌, ◌++◌, refl, ap, if◌then◌else◌}
+use Rattle.std.specs.Prelude.{Option, None, Some, replicate}
 use Rattle.std.specs.List.{flat_map, range_with_len}
+use Rattle.vdcp_value.proofs.FrameNumbers.{frame_number_is}
+use Rattle.vdcp_value.specs.Day.{frame_number}
 use Rattle.vdcp_value.specs.declared.clip_id.ClipId.{ClipId}
 use Rattle.vdcp_value.specs.declared.label.Label.{Label}
 use Rattle.vdcp_value.specs.declared.part.Item.{Item}
 use Rattle.vdcp_value.specs.declared.rate.Rate.TheVariants.{F25}
 use Rattle.vdcp_value.specs.declared.timecode.Timecode.{Timecode}
-use Rattle.vdcp_port.specs.Answers.{sent_for, aired_for, after_burst}
-use Rattle.vdcp_port.specs.Clips.{whole}
+use Rattle.std.specs.Option.{option_to_list}
+use Rattle.vdcp_words.specs.declared.reply.Reply.TheVariants.{Ack}
+use Rattle.vdcp_port.specs.Row.{Change, cues, row, refused}
+use Rattle.vdcp_port.specs.Answers.{answer_bytes, sent_for, aired_for, after_burst}
+use Rattle.vdcp_port.specs.Clips.{whole, part_of, is_playable}
 use Rattle.vdcp_port.specs.Clock.{ClockedPort, new_port, after_ready, after_ended, after_frame, completes_cue, ends_clip}
 use Rattle.vdcp_port.specs.Port.{Cued, empty, cueing, done, state_byte}
 
@@ -261,10 +266,70 @@ three_frames_on = refl
 three_frames_are_ready : after_frame slow_2 ≡ after_ready slow
 three_frames_are_ready = refl
 
--- ---- trial
+-- ---- the largest burst
 
-many_plays : ◌≡◌ {A = List ℕ} (sent_for (selected two_clips) (flat_map (λ (k : ℕ). play_bytes) (range_with_len 0 820))) (replicate 819 0x04 ++ 0x05 ∷ 0x04 ∷ [])
-many_plays = refl
+plays_past_the_limit : ◌≡◌ {A = List ℕ} (sent_for (selected two_clips) (flat_map (λ (k : ℕ). play_bytes) (range_with_len 0 820))) (replicate 819 0x04 ++ 0x05 ∷ 0x04 ∷ [])
+plays_past_the_limit = refl
 
-wrong_row : sent_for (selected two_clips) play_bytes ≡ 0x05 ∷ 0x04 ∷ []
-wrong_row = refl
+-- ---- parts of the first clip: three seconds from 2, 7 and 8 seconds on
+
+abbrev seconds : ℕ → Label
+seconds n = record { hours = 0; minutes = 0; seconds = n; frames = 0 }
+
+frames_2 : frame_number F25 (seconds 2) ≡ 50
+frames_2 = frame_number_is F25 (seconds 2) refl
+
+frames_3 : frame_number F25 (seconds 3) ≡ 75
+frames_3 = frame_number_is F25 (seconds 3) refl
+
+frames_7 : frame_number F25 (seconds 7) ≡ 175
+frames_7 = frame_number_is F25 (seconds 7) refl
+
+frames_8 : frame_number F25 (seconds 8) ≡ 200
+frames_8 = frame_number_is F25 (seconds 8) refl
+
+frames_10 : frame_number F25 (seconds 10) ≡ 250
+frames_10 = frame_number_is F25 (seconds 10) refl
+
+abbrev part_2_bytes : List ℕ
+part_2_bytes = 0x02 ∷ 0x12 ∷ 0x20 ∷ 0x25 ∷ 0x43 ∷ 0x4C ∷ 0x49 ∷ 0x50 ∷ 0x30 ∷ 0x30 ∷ 0x30 ∷ 0x31 ∷ 0x00 ∷ 0x02 ∷ 0x00 ∷ 0x00 ∷ 0x00 ∷ 0x03 ∷ 0x00 ∷ 0x00 ∷ 0xCD ∷ []
+
+abbrev part_7_bytes : List ℕ
+part_7_bytes = 0x02 ∷ 0x12 ∷ 0x20 ∷ 0x25 ∷ 0x43 ∷ 0x4C ∷ 0x49 ∷ 0x50 ∷ 0x30 ∷ 0x30 ∷ 0x30 ∷ 0x31 ∷ 0x00 ∷ 0x07 ∷ 0x00 ∷ 0x00 ∷ 0x00 ∷ 0x03 ∷ 0x00 ∷ 0x00 ∷ 0xC8 ∷ []
+
+abbrev part_8_bytes : List ℕ
+part_8_bytes = 0x02 ∷ 0x12 ∷ 0x20 ∷ 0x25 ∷ 0x43 ∷ 0x4C ∷ 0x49 ∷ 0x50 ∷ 0x30 ∷ 0x30 ∷ 0x30 ∷ 0x31 ∷ 0x00 ∷ 0x08 ∷ 0x00 ∷ 0x00 ∷ 0x00 ∷ 0x03 ∷ 0x00 ∷ 0x00 ∷ 0xC7 ∷ []
+
+-- what is judged of the three
+abbrev judged : List ℕ → Bool
+judged start = is_playable two_clips (part_of clip_1 start (0x00 ∷ 0x03 ∷ 0x00 ∷ 0x00 ∷ []))
+
+within : judged (0x00 ∷ 0x02 ∷ 0x00 ∷ 0x00 ∷ []) ≡ true
+within = rw (frames_3, frames_2, frames_10) refl
+
+up_to_the_end : judged (0x00 ∷ 0x07 ∷ 0x00 ∷ 0x00 ∷ []) ≡ true
+up_to_the_end = rw (frames_3, frames_7, frames_10) refl
+
+past_the_end : judged (0x00 ∷ 0x08 ∷ 0x00 ∷ 0x00 ∷ []) ≡ false
+past_the_end = rw (frames_3, frames_8, frames_10) refl
+
+-- what goes out where a part is accepted, and where it isn't
+abbrev sent_if : List ℕ → Bool → List ℕ
+sent_if start accepted =
+    let change : Change = cues (part_of clip_1 start (0x00 ∷ 0x03 ∷ 0x00 ∷ 0x00 ∷ [])) in
+    answer_bytes 0 (option_to_list (if accepted then row Ack change else refused).answer ++ [] ++ [])
+
+part_within_the_clip : sent_for (selected two_clips) part_2_bytes ≡ 0x04 ∷ []
+part_within_the_clip = ap (sent_if (0x00 ∷ 0x02 ∷ 0x00 ∷ 0x00 ∷ [])) within
+
+part_within_the_clip_is_cued : byte_of (after_burst (selected two_clips) part_2_bytes) ≡ 0x02
+part_within_the_clip_is_cued = rw within refl
+
+part_up_to_the_clips_end : sent_for (selected two_clips) part_7_bytes ≡ 0x04 ∷ []
+part_up_to_the_clips_end = ap (sent_if (0x00 ∷ 0x07 ∷ 0x00 ∷ 0x00 ∷ [])) up_to_the_end
+
+part_past_the_clips_end : sent_for (selected two_clips) part_8_bytes ≡ 0x05 ∷ 0x01 ∷ []
+part_past_the_clips_end = ap (sent_if (0x00 ∷ 0x08 ∷ 0x00 ∷ 0x00 ∷ [])) past_the_end
+
+part_past_the_clips_end_changes_nothing : after_burst (selected two_clips) part_8_bytes ≡ selected two_clips
+part_past_the_clips_end_changes_nothing = rw past_the_end refl

@@ -2,7 +2,8 @@ use Rattle.std.specs.Cmp.Lexicographic.{pointwise}
 use Rattle.std.specs.Map.{lookup}
 use Rattle.std.specs.Prelude.{ℕ, Bool, true, false, nat_eq, max, List, Option, None, Some, is_some}
 use Rattle.vdcp_value.specs.Ids.{id_bytes}
-use Rattle.vdcp_value.specs.Parts.{part_fits, frames_in}
+use Rattle.vdcp_value.specs.Bcd.{frames_in}
+use Rattle.vdcp_value.specs.Parts.{part_fits}
 use Rattle.vdcp_value.specs.Timecodes.{frames_of, rate_of}
 use Rattle.vdcp_value.specs.declared.clip_id.ClipId.{ClipId}
 use Rattle.vdcp_value.specs.declared.part.Item.{Item}
