@@ -4,3 +4,4 @@ pub mod Port
 pub mod Row
 pub mod Clock
 pub mod Answers
+pub mod Seen

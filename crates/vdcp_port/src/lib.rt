@@ -2,9 +2,13 @@
 #![tactic(auto)]
 
 mod access;
+mod asked;
 mod catalogue;
+mod port;
+mod slots;
 
 pub use catalogue::Catalogue;
+pub use port::Port;
 
 #[cfg(test)]
 mod tests;
