@@ -1,7 +1,10 @@
 ghost use Rattle.std.specs.Prelude.{◌≡◌, ◌<◌, IsTrue, IsSome, IfSome, ◌↔◌};
+ghost use Rattle.vdcp_value.specs.Bcd.{frames_in};
+ghost use Rattle.vdcp_value.specs.Parts.{part_fits};
+ghost use Rattle.vdcp_value.specs.Timecodes.{rate_of};
 ghost use Rattle.vdcp_port.specs.Clips.{is_playable, frames_on_air};
 
-use vdcp_value::{ClipId, Item, Timecode};
+use vdcp_value::{ClipId, Item, Part, Timecode};
 
 /// What clips a server has, and how long each of them is: one finite map, which no call changes.
 pub trait Catalogue {
@@ -27,12 +30,24 @@ pub(crate) fn frames_on_air<C: Catalogue>(catalogue: &C, item: &Item) -> Option<
     let length = catalogue.length(&item.id)?;
     match &item.part {
         None => Some(length.frames().max(1)),
-        Some(part) => {
-            if !part.fits(&length) {
-                return None;
+        Some(part) => Some(frames_of_part(part, &length)?.max(1)),
+    }
+}
+
+/// How many frames a part of a clip of this length has; `None` where it doesn't fit.
+#[tactic(auto, using(vdcp_value::proofs::Bcd::read_frames))]
+fn frames_of_part(part: &Part, length: &Timecode) -> Option<u32>
+    ensures fits { IsSome result ↔ IsTrue (part_fits part.now length.now) }
+    ensures frames { IfSome result (λ frames. frames ≡ frames_in (rate_of length.now) part.now.duration) }
+{
+    match Timecode::from_bcd(length.rate(), part.duration) {
+        Ok(duration) => {
+            if part.fits(length) {
+                Some(duration.frames())
+            } else {
+                None
             }
-            let duration = Timecode::from_bcd(length.rate(), part.duration).ok()?;
-            Some(duration.frames().max(1))
         }
+        Err(_) => None,
     }
 }

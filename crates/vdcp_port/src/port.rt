@@ -143,7 +143,7 @@ impl<C: Catalogue> Port<C> {
     }
 
     fn execute(&mut self, command: &Command) -> (Reply, Option<Item>)
-        ensures follows { Follows (command_row self.old.clips self.old.state command.now) self.old result.0 result.1 self.new }
+        ensures { Follows (command_row self.old.clips self.old.state command.now) self.old result.0 result.1 self.new }
     {
         match *command {
             Command::Open(number, _) => (self.open(number), None),
