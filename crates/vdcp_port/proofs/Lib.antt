@@ -1,2 +1,4 @@
 mod Examples
+pub mod Answering
 pub mod Readable
+pub mod Sizes

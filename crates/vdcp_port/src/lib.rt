@@ -3,6 +3,7 @@
 
 mod access;
 mod asked;
+mod burst;
 mod catalogue;
 mod port;
 mod slots;

@@ -30,10 +30,10 @@ impl<C: Catalogue> Model for Port<C> {
     ghost use Rattle.vdcp_port.specs.Seen.{seen_state, seen_counts, IsKept};
 
     ghost view = { λ p. record {
-        clips = C.clips p.catalogue;
-        cue_frames = p.cue_frames;
-        state = seen_state p.unit p.number p.access p.cued p.playing;
-        counts = seen_counts p.cued p.playing;
+      clips = C.clips p.catalogue;
+      cue_frames = p.cue_frames;
+      state = seen_state p.unit p.number p.access p.cued p.playing;
+      counts = seen_counts p.cued p.playing;
     } };
 
     ghost invariant = { λ p. IsKept (C.clips p.catalogue) p.cue_frames p.unit p.cued p.playing };
@@ -74,6 +74,14 @@ impl<C: Catalogue> Port<C> {
         }
     }
 
+    /// The unit address.
+    pub(crate) fn unit(&self) -> u8
+        ensures unit { result ≡ self.now.state.unit }
+        ensures fits { result ≤ 15 }
+    {
+        self.unit
+    }
+
     /// Bit 0: idle, both slots are empty; bit 1: cueing; bit 2: playing; bit 7: the cue is done.
     pub fn status_byte(&self) -> u8
         ensures { result ≡ state_byte self.now.state }
@@ -81,20 +89,8 @@ impl<C: Catalogue> Port<C> {
         match (self.cued, self.playing) {
             (None, None) => 0x01,
             (None, Some(_)) => 0x04,
-            (Some(cue), None) => {
-                if cue.left == 0 {
-                    0x80
-                } else {
-                    0x02
-                }
-            }
-            (Some(cue), Some(_)) => {
-                if cue.left == 0 {
-                    0x84
-                } else {
-                    0x06
-                }
-            }
+            (Some(cue), None) => { if cue.left == 0 { 0x80 } else { 0x02 } }
+            (Some(cue), Some(_)) => { if cue.left == 0 { 0x84 } else { 0x06 } }
         }
     }
 
