@@ -2,7 +2,6 @@
 use Rattle.std.proofs.Common.{ℕ, ◌<◌, ◌≡◌, get_or, List, [], ◌∷◌, ◌++◌, refl, sym, ap, ap₂, ◌∙◌, append_assoc, append-nil}
 use Rattle.std.proofs.lemmas.Grind.{flat_map-append}
 use Rattle.std.proofs.lemmas.List.Elements.{All-from_get_or}
-use Rattle.std.specs.List.{flat_map}
 use Rattle.std.specs.Option.{option_to_list}
 use Rattle.vdcp_value.specs.declared.part.Item.{Item}
 use Rattle.vdcp_frame.specs.Message.{Content}
@@ -12,11 +11,11 @@ use Rattle.vdcp_frame.specs.Burst.{messages_of, end_of}
 use Rattle.vdcp_frame.specs.Reading.{SpellsAll, Reads}
 use Rattle.vdcp_words.specs.declared.reply.Reply.{Reply}
 use Rattle.vdcp_port.specs.Answers.{answers_to, aired_on_way, after_messages, end_answers, reply_bytes, answer_bytes, sent_bytes, sent_for, aired_for, after_burst, HasAnswered, HasAnsweredAll}
-use Rattle.vdcp_port.specs.Clock.{ClockedPort, answer_to, after_message, aired_by, after_change, row_at}
+use Rattle.vdcp_port.specs.Clock.{ClockedPort, answer_to, after_message, aired_by, row_at}
 use Rattle.vdcp_port.specs.Port.{PortState}
 use Rattle.vdcp_port.specs.Row.{Change, keeps, opens, closes, selects, cues, airs, stops, changed}
 
-unit_of_changed : (change : Change) (p : PortState) → (changed change p).unit ≡ p.unit
+pub unit_of_changed : (change : Change) (p : PortState) → (changed change p).unit ≡ p.unit
 unit_of_changed keeps p = refl
 unit_of_changed opens p = refl
 unit_of_changed closes p = refl

@@ -1,12 +1,11 @@
 -- What the table gives for some bursts.
 use Rattle.std.proofs.Common.{◌≡◌, ℕ, Bool, true, false, List, [], ◌∷◌, ◌++◌, refl, ap, if◌then◌else◌}
-use Rattle.std.specs.Prelude.{Option, None, Some, replicate}
+use Rattle.std.specs.Prelude.{replicate}
 use Rattle.std.specs.List.{flat_map, range_with_len}
 use Rattle.vdcp_value.proofs.FrameNumbers.{frame_number_is}
 use Rattle.vdcp_value.specs.Day.{frame_number}
 use Rattle.vdcp_value.specs.declared.clip_id.ClipId.{ClipId}
 use Rattle.vdcp_value.specs.declared.label.Label.{Label}
-use Rattle.vdcp_value.specs.declared.part.Item.{Item}
 use Rattle.vdcp_value.specs.declared.rate.Rate.TheVariants.{F25}
 use Rattle.vdcp_value.specs.declared.timecode.Timecode.{Timecode}
 use Rattle.std.specs.Option.{option_to_list}
@@ -14,8 +13,8 @@ use Rattle.vdcp_words.specs.declared.reply.Reply.TheVariants.{Ack}
 use Rattle.vdcp_port.specs.Row.{Change, cues, row, refused}
 use Rattle.vdcp_port.specs.Answers.{answer_bytes, sent_for, aired_for, after_burst}
 use Rattle.vdcp_port.specs.Clips.{whole, part_of, is_playable}
-use Rattle.vdcp_port.specs.Clock.{ClockedPort, new_port, after_ready, after_ended, after_frame, completes_cue, ends_clip}
-use Rattle.vdcp_port.specs.Port.{Cued, empty, cueing, done, state_byte}
+use Rattle.vdcp_port.specs.Clock.{ClockedPort, new_port, after_ready, after_ended, after_frame, completes_cue}
+use Rattle.vdcp_port.specs.Port.{state_byte}
 
 -- CLIP0001 and CLIP0002, ten seconds each at 25 frames a second
 

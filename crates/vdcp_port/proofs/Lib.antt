@@ -2,3 +2,9 @@ mod Examples
 pub mod Answering
 pub mod Readable
 pub mod Sizes
+pub mod Bursts
+pub mod Keeping
+pub mod Reading
+pub mod Refusals
+mod StateByte
+pub mod TableLaws

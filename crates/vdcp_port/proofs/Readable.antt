@@ -1,6 +1,6 @@
 -- Each answer of the table is read back.
 use Rattle.std.proofs.Common.{ℕ, ◌≡◌, ◌<◌, ◌&&◌, Bool, true, false, nat_eq, arith, refl, List, lit<}
-use Rattle.std.specs.Prelude.{Option, None, Some, IfSome, option_map, if◌then◌else◌}
+use Rattle.std.specs.Prelude.{Option, None, Some, IfSome, if◌then◌else◌}
 use Rattle.vdcp_value.proofs.Bcd.{lawful_two_digits}
 use Rattle.vdcp_value.specs.Bcd.{bcd_byte, bcd_of_label}
 use Rattle.vdcp_value.specs.Bytes.{AreBytes}
@@ -16,7 +16,7 @@ use Rattle.vdcp_words.specs.declared.command.Command.TheVariants.{Open, Close, S
 use Rattle.vdcp_words.specs.declared.reply.Reply.TheVariants as reply
 use Rattle.vdcp_port.specs.Clips.{length_of, is_playable, whole, part_of}
 use Rattle.vdcp_port.specs.Port.{Cued, empty, cueing, done, PortState, is_open, is_selected, state_byte_of, state_byte}
-use Rattle.vdcp_port.specs.Row.{Row, Change, row, refused, keeps, cues, play_row, size_row, cue_row, state_reply, command_row}
+use Rattle.vdcp_port.specs.Row.{Row, refused, play_row, size_row, state_reply, command_row}
 
 bcd_below : (n : ℕ) → n < 100 → bcd_byte n < 256
 bcd_below n below = omega arith

@@ -1,19 +1,15 @@
 -- How long the answer to a message is at most.
-use Rattle.std.proofs.Common.{ℕ, sum, ◌≡◌, ◌+◌, ◌*◌, ◌-◌, ◌<◌, ◌≤◌, drop, slice_range, List, [], ◌∷◌, ◌++◌, length, arith, refl, lit≤, length-append, ap}
+use Rattle.std.proofs.Common.{ℕ, sum, ◌≡◌, ◌+◌, ◌*◌, ◌-◌, ◌<◌, ◌≤◌, drop, slice_range, List, [], ◌∷◌, ◌++◌, length, arith, lit≤, length-append, ap}
 use Rattle.std.proofs.lemmas.List.{length-take-le, length-drop}
 use Rattle.std.specs.Option.{option_to_list}
-use Rattle.std.specs.Prelude.{Option, None, Some, IfSome, Result, Ok, Err, if◌then◌else◌}
+use Rattle.std.specs.Prelude.{Option, None, Some, IfSome}
 use Rattle.vdcp_value.proofs.Bytes.{length_of_bytes}
 use Rattle.vdcp_value.proofs.Ids.{length_of_id}
 use Rattle.vdcp_value.specs.Ids.{id_bytes}
 use Rattle.vdcp_value.specs.declared.clip_id.ClipId.{ClipId}
-use Rattle.vdcp_value.specs.declared.part.Item.{Item}
 use Rattle.vdcp_value.specs.declared.timecode.Timecode.{Timecode}
 use Rattle.vdcp_frame.specs.Message.{Content, ack, nak, framed, Spells, check_byte}
-use Rattle.vdcp_words.specs.Computed.{command_of}
 use Rattle.vdcp_words.specs.Replies.{IsWritableReply}
-use Rattle.vdcp_words.specs.declared.command.Command.{Command}
-use Rattle.vdcp_words.specs.declared.fault.WordFault.{WordFault}
 use Rattle.vdcp_words.specs.declared.reply.Reply.{Reply}
 use Rattle.vdcp_words.specs.declared.reply.Reply.TheVariants.{Ack, Nak, Opened, State, Active, Present, Size}
 use Rattle.vdcp_port.specs.Answers.{reply_bytes, answer_bytes}

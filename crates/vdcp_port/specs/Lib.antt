@@ -5,3 +5,4 @@ pub mod Row
 pub mod Clock
 pub mod Answers
 pub mod Seen
+pub mod Kept

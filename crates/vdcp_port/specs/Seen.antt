@@ -43,7 +43,7 @@ abbrev pub IsKeptClip : List (ClipId × Timecode) → Option Clip → Type 0
 IsKeptClip clips None = Unit {0}
 IsKeptClip clips (Some clip) = IsTrue (is_playable clips clip.item) × (0 < clip.left)
 
-pub record IsKept (clips : List (ClipId × Timecode)) (cue_frames unit : ℕ) (cue : Option Cue) (clip : Option Clip) : Type 0 where
+pub record IsHeld (clips : List (ClipId × Timecode)) (cue_frames unit : ℕ) (cue : Option Cue) (clip : Option Clip) : Type 0 where
   pub unit_fits : unit ≤ 15
   pub cue_takes : 0 < cue_frames
   pub at_most : cue_frames ≤ 1000

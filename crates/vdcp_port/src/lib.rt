@@ -5,6 +5,7 @@ mod access;
 mod asked;
 mod burst;
 mod catalogue;
+pub mod laws;
 mod port;
 mod slots;
 

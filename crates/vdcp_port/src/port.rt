@@ -27,7 +27,7 @@ impl<C: Catalogue> Model for Port<C> {
 
     ghost Value = { ClockedPort };
 
-    ghost use Rattle.vdcp_port.specs.Seen.{seen_state, seen_counts, IsKept};
+    ghost use Rattle.vdcp_port.specs.Seen.{seen_state, seen_counts, IsHeld};
 
     ghost view = { λ p. record {
       clips = C.clips p.catalogue;
@@ -36,7 +36,7 @@ impl<C: Catalogue> Model for Port<C> {
       counts = seen_counts p.cued p.playing;
     } };
 
-    ghost invariant = { λ p. IsKept (C.clips p.catalogue) p.cue_frames p.unit p.cued p.playing };
+    ghost invariant = { λ p. IsHeld (C.clips p.catalogue) p.cue_frames p.unit p.cued p.playing };
 }
 
 impl<C: Catalogue> Port<C> {

@@ -1,8 +1,5 @@
-use Rattle.std.proofs.Common.{arith, length, take, ◌≡◌, ◌+◌, ◌-◌, ◌*◌, ◌≤◌, ℕ, min, slice_range}
-use Rattle.std.specs.Option.{option_to_list}
+use Rattle.std.proofs.Common.{arith}
 use Rattle.vdcp_frame.specs.Message.{content_of}
-use Rattle.vdcp_port.specs.Answers.{answer_bytes}
-use Rattle.vdcp_port.specs.Clock.{answer_to, aired_by}
 use Rattle.vdcp_port.proofs.Answering.{answers_more}
 use Rattle.vdcp_port.proofs.Sizes.{short_for_message, one_item_for_five, size_of_range}
 use Rattle.vdcp_port.proofs.port.Port.answer_messages.Goals as goal

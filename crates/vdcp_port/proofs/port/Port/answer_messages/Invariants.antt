@@ -1,6 +1,5 @@
 use Rattle.std.proofs.Common.{◌≤◌, ◌+◌, ◌*◌, ◌-◌, ◌/◌, length, take, min}
 use Rattle.std.specs.Vec.{vec_len, vec_capacity}
-use Rattle.vdcp_frame.specs.Message.{Content}
 use Rattle.vdcp_port.proofs.Answering.{Walked}
 use Rattle.vdcp_port.proofs.port.Port.answer_messages.Given as goal
 

@@ -1,4 +1,4 @@
-use Rattle.std.proofs.Common.{ℕ, ◌<◌, List, ◌++◌, ◌∙◌, arith, ap}
+use Rattle.std.proofs.Common.{ℕ, List, ◌++◌, ◌∙◌, arith, ap}
 use Rattle.std.specs.Option.{option_to_list}
 use Rattle.vdcp_value.specs.declared.part.Item.{Item}
 use Rattle.vdcp_port.specs.Answers.{answer_bytes, sent_for, aired_for}
