@@ -75,7 +75,7 @@ impl<C: Catalogue> Port<C> {
     }
 
     /// The unit address.
-    pub(crate) fn unit(&self) -> u8
+    pub fn unit(&self) -> u8
         ensures unit { result ≡ self.now.state.unit }
         ensures fits { result ≤ 15 }
     {
