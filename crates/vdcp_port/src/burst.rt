@@ -13,22 +13,27 @@ use vdcp_frame::{LIMIT, Message, Step, read_at, write};
 use vdcp_value::Item;
 use vdcp_words::Reply;
 
-/// The answer to a burst that ends inside a message.
+/// NAK 80h, behind the other answers to a burst that ends inside a message (this profile).
 const CUT: Reply = Reply::Nak(0x80);
-/// The answer to a burst with a fault.
+/// NAK 04h, behind the other answers to a burst with a fault (this profile).
 const FAULTY: Reply = Reply::Nak(0x04);
 
 impl<C: Catalogue> Port<C> {
     ghost use Rattle.vdcp_port.specs.Clock.{answer_to, after_message, aired_by};
     ghost use Rattle.vdcp_port.specs.Answers.{answer_bytes, sent_for, aired_for, after_burst, most_sent, most_aired, HasAnsweredAll};
 
-    /// Answers a whole burst.
+    /// Takes a whole burst. Appends the bytes of all answers to `out`, in order, and then a NAK where the
+    /// burst has a fault or ends inside a message; and the items that go to air on the way to `aired`.
+    ///
+    /// All room is made first: three bytes for each byte that is read and two more, and an item for each
+    /// five bytes. Where it is refused the answer is `AllocError`, and nothing has changed.
     pub fn burst_answer<A: Allocator, B: Allocator>(
         &mut self,
         burst: &[u8],
         out: &mut Vec<u8, A>,
         aired: &mut Vec<Item, B>,
     ) -> Result<(), AllocError>
+        // The burst reads as these messages and this end; the next three clauses speak of them.
         ensures read { OnOk result (Reads burst.now (messages_of burst.now) (end_of burst.now)) }
         ensures sent { OnOk result (out.new.items ≡ out.old.items ++ sent_for self.old burst.now) }
         ensures aired { OnOk result (aired.new.items ≡ aired.old.items ++ aired_for self.old burst.now) }

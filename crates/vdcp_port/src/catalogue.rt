@@ -6,7 +6,8 @@ ghost use Rattle.vdcp_port.specs.Clips.{is_playable, frames_on_air};
 
 use vdcp_value::{ClipId, Item, Part, Timecode};
 
-/// What clips a server has, and how long each of them is: one finite map, which no call changes.
+/// What clips a server has, and how long each of them is: one finite map from IDs to lengths, which no
+/// call changes. A length may be any time code, at any rate; parts of a clip are judged at its rate.
 pub trait Catalogue {
     ghost use Rattle.std.specs.Prelude.{◌≡◌, List};
     ghost use Rattle.vdcp_value.specs.declared.clip_id.ClipId.{ClipId};

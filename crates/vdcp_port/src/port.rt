@@ -7,14 +7,26 @@ use vdcp_frame::Message;
 use vdcp_value::{ClipId, Item, Part};
 use vdcp_words::{Command, Reply};
 
-/// The answer to what is unknown, refused or of a wrong length.
+/// NAK 01h: the command is unknown or refused, or its data has a wrong length (this profile).
 const REFUSED: Reply = Reply::Nak(0x01);
 
-/// The port of a server.
+/// The server's end of one playout channel: a port that is opened, selected and then told what to cue
+/// and play. It speaks only in answer.
+///
+/// `answer` and `burst_answer` bring in what the controller sends. `ready` and `ended`, or `frame` at
+/// each frame, bring in what the clips do. `status_byte` and `unit` only look.
+///
+/// ```text
+///        OPEN          SELECT
+/// closed ----> open ------------> selected: PLAY CUE and CUE WITH DATA fill the cued slot,
+///   ^                                |      PLAY moves it to the playing slot once its cue is
+///   +--------------------------------+      done, STOP empties both
+///      CLOSE, which empties both slots
+/// ```
 #[derive(Drop)]
 pub struct Port<C: Catalogue> {
     catalogue: C,
-    unit: u8,
+    address: u8,
     number: u8,
     cue_frames: u32,
     access: Access,
@@ -32,11 +44,11 @@ impl<C: Catalogue> Model for Port<C> {
     ghost view = { λ p. record {
       clips = C.clips p.catalogue;
       cue_frames = p.cue_frames;
-      state = seen_state p.unit p.number p.access p.cued p.playing;
+      state = seen_state p.address p.number p.access p.cued p.playing;
       counts = seen_counts p.cued p.playing;
     } };
 
-    ghost invariant = { λ p. IsHeld (C.clips p.catalogue) p.cue_frames p.unit p.cued p.playing };
+    ghost invariant = { λ p. IsHeld (C.clips p.catalogue) p.cue_frames p.address p.cued p.playing };
 }
 
 impl<C: Catalogue> Port<C> {
@@ -48,7 +60,8 @@ impl<C: Catalogue> Port<C> {
     ghost use Rattle.vdcp_port.specs.Port.{is_selected, state_byte};
     ghost use Rattle.vdcp_port.specs.Row.{command_row, cue_row};
 
-    /// A closed port without a frame clock: a cue takes one frame. The unit address is at most 15.
+    /// A new port, closed and with empty slots, at which a cue takes one frame. It serves the clips of the
+    /// catalogue, answers what is sent to the unit address, 0 to 15, and has this port number.
     pub fn new(catalogue: C, unit: u8, number: u8) -> Port<C>
         requires { unit ≤ 15 }
         ensures { result ≡ new_port (C.clips catalogue) unit number 1 }
@@ -56,7 +69,7 @@ impl<C: Catalogue> Port<C> {
         Port::with_clock(catalogue, unit, number, 1)
     }
 
-    /// A closed port at which a cue takes so many frames, 1 to 1,000. The unit address is at most 15.
+    /// A new port at which a cue takes so many frames, 1 to 1,000.
     pub fn with_clock(catalogue: C, unit: u8, number: u8, cue_frames: u32) -> Port<C>
         requires unit { unit ≤ 15 }
         requires some { 0 < cue_frames }
@@ -65,7 +78,7 @@ impl<C: Catalogue> Port<C> {
     {
         Port {
             catalogue,
-            unit,
+            address: unit,
             number,
             cue_frames,
             access: Access::Closed,
@@ -74,15 +87,16 @@ impl<C: Catalogue> Port<C> {
         }
     }
 
-    /// The unit address.
+    /// The unit address, 0 to 15: answers go out from it.
     pub fn unit(&self) -> u8
         ensures unit { result ≡ self.now.state.unit }
         ensures fits { result ≤ 15 }
     {
-        self.unit
+        self.address
     }
 
-    /// Bit 0: idle, both slots are empty; bit 1: cueing; bit 2: playing; bit 7: the cue is done.
+    /// The state byte of VDCP's port status, of which this profile sets four bits. Bit 0: idle, both slots
+    /// are empty; bit 1: cueing; bit 2: playing; bit 7: the cue is done.
     pub fn status_byte(&self) -> u8
         ensures { result ≡ state_byte self.now.state }
     {
@@ -94,21 +108,22 @@ impl<C: Catalogue> Port<C> {
         }
     }
 
-    /// The cue is done.
+    /// What is cueing is done at once: PLAY airs it from now on. Otherwise nothing changes.
     pub fn ready(&mut self)
         ensures { self.new ≡ after_ready self.old }
     {
         self.cued = finish_cue(self.cued);
     }
 
-    /// The clip has ended.
+    /// What plays has ended: the playing slot is empty from now on.
     pub fn ended(&mut self)
         ensures { self.new ≡ after_ended self.old }
     {
         self.playing = None;
     }
 
-    /// A frame has passed: whether it completed the cue, and whether it ended the clip.
+    /// One frame passes at both slots. The answer is whether it was the last of the cue, which is then
+    /// done as by `ready`, and whether it was the last of the clip, which then has ended as by `ended`.
     pub fn frame(&mut self) -> (bool, bool)
         ensures cue { result.0 ≡ completes_cue self.old }
         ensures clip { result.1 ≡ ends_clip self.old }
@@ -121,14 +136,16 @@ impl<C: Catalogue> Port<C> {
         (is_done, has_ended)
     }
 
-    /// Answers a message, or doesn't, and says which item goes to air.
+    /// Takes a message, and gives the answer to it and the item that goes to air by it. ACK, NAK and what
+    /// is for another unit have no answer. The rows of the answers are this profile's, over VDCP's
+    /// commands; `docs/PROTOCOL.md` has their table.
     pub fn answer(&mut self, message: &Message) -> (Option<Reply>, Option<Item>)
         ensures answer { result.0 ≡ answer_to self.old (content_of message.now) }
         ensures aired { result.1 ≡ aired_by self.old (content_of message.now) }
         ensures next { self.new ≡ after_message self.old (content_of message.now) }
         ensures readable { IfSome result.0 IsWritableReply }
     {
-        match Asked::of(message, self.unit) {
+        match Asked::of(message, self.unit()) {
             Asked::Nothing => (None, None),
             Asked::NoCommand => (Some(REFUSED), None),
             Asked::Command(command) => {
@@ -183,8 +200,7 @@ impl<C: Catalogue> Port<C> {
             return REFUSED;
         }
         self.access = Access::Closed;
-        self.cued = None;
-        self.playing = None;
+        (self.cued, self.playing) = (None, None);
         Reply::Ack
     }
 
@@ -254,8 +270,7 @@ impl<C: Catalogue> Port<C> {
         if !self.is_selected() {
             return REFUSED;
         }
-        self.cued = None;
-        self.playing = None;
+        (self.cued, self.playing) = (None, None);
         Reply::Ack
     }
 
