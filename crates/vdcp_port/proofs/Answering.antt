@@ -10,7 +10,7 @@ use Rattle.vdcp_frame.proofs.ReadingLemmas.{one_reading}
 use Rattle.vdcp_frame.specs.Burst.{messages_of, end_of}
 use Rattle.vdcp_frame.specs.Reading.{SpellsAll, Reads}
 use Rattle.vdcp_words.specs.declared.reply.Reply.{Reply}
-use Rattle.vdcp_port.specs.Answers.{answers_to, aired_on_way, after_messages, end_answers, reply_bytes, answer_bytes, sent_bytes, sent_for, aired_for, after_burst, HasAnswered, HasAnsweredAll}
+use Rattle.vdcp_port.specs.Answers.{answers_to, aired_on_way, after_messages, end_answers, reply_bytes, answer_bytes, sent_bytes, sent_for, aired_for, after_burst, HasAnsweredAll}
 use Rattle.vdcp_port.specs.Clock.{ClockedPort, answer_to, after_message, aired_by, row_at}
 use Rattle.vdcp_port.specs.Port.{PortState}
 use Rattle.vdcp_port.specs.Row.{Change, keeps, opens, closes, selects, cues, airs, stops, changed}
@@ -46,6 +46,13 @@ aired_push p (n ∷ ms) m =
 after_push : (p : ClockedPort) (ms : List Content) (m : Content) → after_messages p (ms ++ m ∷ []) ≡ after_message (after_messages p ms) m
 after_push p [] m = refl
 after_push p (n ∷ ms) m = after_push (after_message p n) ms m
+
+-- a port has answered the messages that some bytes spell, and appended the answers and what went to air
+pub record HasAnswered (old now : ClockedPort) (front : List ℕ) (out_old out_new : List ℕ) (aired_old aired_new : List Item) (ms : List Content) : Type 0 where
+  pub spelt : SpellsAll ms front
+  pub sent : out_new ≡ out_old ++ answer_bytes old.state.unit (answers_to old ms)
+  pub airs : aired_new ≡ aired_old ++ aired_on_way old ms
+  pub leaves : now ≡ after_messages old ms
 
 -- one more message is answered
 pub answers_more : (old now next : ClockedPort) (front longer out_0 out_1 out_2 : List ℕ) (aired_0 aired_1 aired_2 : List Item) (ms : List Content) (m : Content)
@@ -101,7 +108,7 @@ burst_answered old now burst out_0 out_1 aired_0 aired_1 last bytes h =
     let unit = old.state.unit in
     record {
       reads = reads;
-      sent = ap₂ (λ (a b : List ℕ). a ++ b) h.sent (ap (answer_bytes unit) h.rest)
+      sent = ap₂ (λ (a b : List ℕ). a ++ b) h.sent (ap (answer_bytes unit) h.at_end)
           ∙ append_assoc out_0 (answer_bytes unit (answers_to old h.messages)) (answer_bytes unit (end_answers h.end))
           ∙ ap (λ (bytes : List ℕ). out_0 ++ bytes) (sym (flat_map-append (reply_bytes unit) (answers_to old h.messages) (end_answers h.end)))
           ∙ ap₂ (λ m e. out_0 ++ sent_bytes old m e) one.0 one.1;

@@ -5,7 +5,7 @@ use Rattle.std.specs.Prelude.{ℕ, ◌+◌, ◌*◌, ◌/◌, ◌≡◌, min, Li
 use Rattle.vdcp_value.specs.declared.part.Item.{Item}
 use Rattle.vdcp_frame.specs.Burst.{messages_of, end_of}
 use Rattle.vdcp_frame.specs.Message.{Content, spelling}
-use Rattle.vdcp_frame.specs.Reading.{End, clean, cut, fault, SpellsAll, Reads}
+use Rattle.vdcp_frame.specs.Reading.{End, clean, cut, fault, Reads}
 use Rattle.vdcp_words.specs.Replies.{reply_message}
 use Rattle.vdcp_words.specs.declared.reply.Reply.{Reply}
 use Rattle.vdcp_words.specs.declared.reply.Reply.TheVariants.{Nak}
@@ -60,14 +60,8 @@ most_sent burst = 3 * min (length burst) 4096 + 2
 abbrev pub most_aired : List ℕ → ℕ
 most_aired burst = min (length burst) 4096 / 5
 
--- a port has answered the messages that some bytes spell, and appended the answers and what went to air
-pub record HasAnswered (old now : ClockedPort) (front : List ℕ) (out_old out_new : List ℕ) (aired_old aired_new : List Item) (ms : List Content) : Type 0 where
-  pub spelt : SpellsAll ms front
-  pub sent : out_new ≡ out_old ++ answer_bytes old.state.unit (answers_to old ms)
-  pub airs : aired_new ≡ aired_old ++ aired_on_way old ms
-  pub leaves : now ≡ after_messages old ms
-
--- it has answered the burst's messages, and this is left to be answered to the burst's end
+-- a port has answered a burst's messages, and appended the answers and what went to air; this is left to be
+-- answered to the burst's end
 pub record HasAnsweredAll (old now : ClockedPort) (burst out_old out_new : List ℕ) (aired_old aired_new : List Item) (last : List Reply) : Type 0 where
   pub messages : List Content
   pub end : End
@@ -75,4 +69,4 @@ pub record HasAnsweredAll (old now : ClockedPort) (burst out_old out_new : List 
   pub sent : out_new ≡ out_old ++ answer_bytes old.state.unit (answers_to old messages)
   pub airs : aired_new ≡ aired_old ++ aired_on_way old messages
   pub leaves : now ≡ after_messages old messages
-  pub rest : last ≡ end_answers end
+  pub at_end : last ≡ end_answers end

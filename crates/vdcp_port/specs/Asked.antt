@@ -12,7 +12,7 @@ abbrev pub asked_by : Result Command WordFault → Asked
 asked_by (Ok command) = asked.Command command
 asked_by (Err fault) = asked.NoCommand
 
--- what a message asks of the port at a unit address: answers, and what is for another unit, ask nothing
+-- what a message asks of the port at a unit address: ACK, NAK and what is framed to another unit ask nothing
 abbrev pub asked_of : ℕ → Content → Asked
 asked_of unit ack = asked.Nothing
 asked_of unit (nak byte) = asked.Nothing

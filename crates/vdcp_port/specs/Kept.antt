@@ -24,3 +24,14 @@ pub record IsKept (p : ClockedPort) : Type 0 where
   pub playing : IsPlayableClip p.clips p.state.playing
   pub cue_count : nat_lt 0 p.counts.cue ≡ is_cueing p.state.cued
   pub playing_count : nat_lt 0 p.counts.playing ≡ is_some p.state.playing
+
+-- the port with an item in its cued slot, the count at its start, and all else as it was
+abbrev pub cueing_from_now : ClockedPort → Item → ClockedPort
+cueing_from_now p item = record p {
+  state = record p.state { cued = cueing item };
+  counts = record { cue = p.cue_frames; playing = p.counts.playing };
+}
+
+-- the port with the cue's count at its start, and all else as it was
+abbrev pub counting_from_now : ClockedPort → ClockedPort
+counting_from_now p = record p { counts = record { cue = p.cue_frames; playing = p.counts.playing } }

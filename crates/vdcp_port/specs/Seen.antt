@@ -34,18 +34,18 @@ abbrev pub seen_counts : Option Cue → Option Clip → Counts
 seen_counts cue clip = record { cue = cue_left cue; playing = clip_left clip }
 
 -- the cued item is playable, and its frames are known
-abbrev pub IsKeptCue : List (ClipId × Timecode) → Option Cue → Type 0
-IsKeptCue clips None = Unit {0}
-IsKeptCue clips (Some cue) = IsTrue (is_playable clips cue.item) × (cue.frames ≡ frames_on_air clips cue.item)
+abbrev pub IsSoundCue : List (ClipId × Timecode) → Option Cue → Type 0
+IsSoundCue clips None = Unit {0}
+IsSoundCue clips (Some cue) = IsTrue (is_playable clips cue.item) × (cue.frames ≡ frames_on_air clips cue.item)
 
 -- what plays is playable, and has a frame to go
-abbrev pub IsKeptClip : List (ClipId × Timecode) → Option Clip → Type 0
-IsKeptClip clips None = Unit {0}
-IsKeptClip clips (Some clip) = IsTrue (is_playable clips clip.item) × (0 < clip.left)
+abbrev pub IsSoundClip : List (ClipId × Timecode) → Option Clip → Type 0
+IsSoundClip clips None = Unit {0}
+IsSoundClip clips (Some clip) = IsTrue (is_playable clips clip.item) × (0 < clip.left)
 
-pub record IsHeld (clips : List (ClipId × Timecode)) (cue_frames unit : ℕ) (cue : Option Cue) (clip : Option Clip) : Type 0 where
+pub record IsSound (clips : List (ClipId × Timecode)) (cue_frames unit : ℕ) (cue : Option Cue) (clip : Option Clip) : Type 0 where
   pub unit_fits : unit ≤ 15
   pub cue_takes : 0 < cue_frames
   pub at_most : cue_frames ≤ 1000
-  pub cued : IsKeptCue clips cue
-  pub playing : IsKeptClip clips clip
+  pub cued : IsSoundCue clips cue
+  pub playing : IsSoundClip clips clip

@@ -8,9 +8,9 @@ use vdcp_words::Command;
 /// What a message asks of a port.
 #[derive(Clone, Copy, Debug, PartialEq, Eq)]
 pub(crate) enum Asked {
-    /// It is an answer, or for another unit.
+    /// It is ACK or NAK, or a framed message to another unit.
     Nothing,
-    /// No command has its type and code, or the command has other data.
+    /// No command has its type and code, or its command has another number of data bytes.
     NoCommand,
     Command(Command),
 }

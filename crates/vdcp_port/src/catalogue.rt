@@ -23,7 +23,7 @@ pub trait Catalogue {
 }
 
 /// How many frames an item plays; `None` where the clip isn't known, or the part doesn't fit it.
-pub(crate) fn frames_on_air<C: Catalogue>(catalogue: &C, item: &Item) -> Option<u32>
+pub(crate) fn frames_if_playable<C: Catalogue>(catalogue: &C, item: &Item) -> Option<u32>
     ensures playable { IsSome result ↔ IsTrue (is_playable (C.clips catalogue.now) item.now) }
     ensures frames { IfSome result (λ frames. frames ≡ frames_on_air (C.clips catalogue.now) item.now) }
     ensures some { IfSome result (λ frames. 0 < frames) }

@@ -17,7 +17,7 @@ ghost use Rattle.vdcp_port.specs.Port.{PortState, cueing, done, empty, is_select
 ghost use Rattle.vdcp_port.specs.Row.{cues};
 ghost use Rattle.vdcp_port.specs.Clock.{ClockedPort, new_port, row_at, answer_to, after_message, aired_by, after_ready, after_ended, after_frame};
 ghost use Rattle.vdcp_port.specs.Answers.{answers_to, aired_on_way, end_answers};
-ghost use Rattle.vdcp_port.specs.Kept.{IsKept};
+ghost use Rattle.vdcp_port.specs.Kept.{IsKept, cueing_from_now, counting_from_now};
 
 /// A message that comes again is answered as before, leaves what it left, and airs nothing.
 pub fn a_copy_changes_nothing()
@@ -26,10 +26,13 @@ pub fn a_copy_changes_nothing()
     ensures air { (p : ClockedPort) (m : Content) → aired_by (after_message p m) m ≡ None }
 {}
 
-/// An item that is cued once more while it is cueing only starts its count again.
-pub fn cueing_again_only_starts_the_count()
-    ensures { (p : ClockedPort) (m : Content) (item : Item) →
-        (row_at p m).change ≡ cues item → p.state.cued ≡ cueing item → (after_message p m).state ≡ p.state }
+/// A cue that is accepted fills the cued slot, whatever was in it, and starts its count; all else stays.
+/// So an item that is cued once more while it is cueing only starts its count again.
+pub fn a_cue_fills_the_cued_slot()
+    ensures fills { (p : ClockedPort) (m : Content) (item : Item) → (row_at p m).change ≡ cues item →
+        after_message p m ≡ cueing_from_now p item }
+    ensures again { (p : ClockedPort) (m : Content) (item : Item) → (row_at p m).change ≡ cues item →
+        p.state.cued ≡ cueing item → after_message p m ≡ counting_from_now p }
 {}
 
 /// What is refused, denied or not answered changes nothing.

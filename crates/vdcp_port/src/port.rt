@@ -1,6 +1,6 @@
 use crate::access::Access;
 use crate::asked::Asked;
-use crate::catalogue::{Catalogue, frames_on_air};
+use crate::catalogue::{Catalogue, frames_if_playable};
 use crate::slots::{Clip, Cue, count_clip, count_cue, finish_cue};
 use std::marker::Model;
 use vdcp_frame::Message;
@@ -19,9 +19,9 @@ const REFUSED: Reply = Reply::Nak(0x01);
 /// ```text
 ///        OPEN          SELECT
 /// closed ----> open ------------> selected: PLAY CUE and CUE WITH DATA fill the cued slot,
-///   ^                                |      PLAY moves it to the playing slot once its cue is
-///   +--------------------------------+      done, STOP empties both
-///      CLOSE, which empties both slots
+///   ^           |                    |      PLAY moves it to the playing slot once its cue is
+///   +-----------+--------------------+      done, STOP empties both
+///         CLOSE, which empties both slots
 /// ```
 #[derive(Drop)]
 pub struct Port<C: Catalogue> {
@@ -39,7 +39,7 @@ impl<C: Catalogue> Model for Port<C> {
 
     ghost Value = { ClockedPort };
 
-    ghost use Rattle.vdcp_port.specs.Seen.{seen_state, seen_counts, IsHeld};
+    ghost use Rattle.vdcp_port.specs.Seen.{seen_state, seen_counts, IsSound};
 
     ghost view = { λ p. record {
       clips = C.clips p.catalogue;
@@ -48,7 +48,7 @@ impl<C: Catalogue> Model for Port<C> {
       counts = seen_counts p.cued p.playing;
     } };
 
-    ghost invariant = { λ p. IsHeld (C.clips p.catalogue) p.cue_frames p.address p.cued p.playing };
+    ghost invariant = { λ p. IsSound (C.clips p.catalogue) p.cue_frames p.address p.cued p.playing };
 }
 
 impl<C: Catalogue> Port<C> {
@@ -229,7 +229,7 @@ impl<C: Catalogue> Port<C> {
         if !self.is_selected() {
             return REFUSED;
         }
-        match frames_on_air(&self.catalogue, &item) {
+        match frames_if_playable(&self.catalogue, &item) {
             None => REFUSED,
             Some(frames) => {
                 self.cued = Some(Cue {

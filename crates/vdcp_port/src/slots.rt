@@ -2,7 +2,7 @@ ghost use Rattle.std.specs.Prelude.{◌≡◌, ◌-◌, nat_eq, List, None, if�
 ghost use Rattle.vdcp_value.specs.declared.clip_id.ClipId.{ClipId};
 ghost use Rattle.vdcp_value.specs.declared.timecode.Timecode.{Timecode};
 ghost use Rattle.vdcp_port.specs.Port.{made_ready};
-ghost use Rattle.vdcp_port.specs.Seen.{seen_cue, seen_clip, cue_left, clip_left, IsKeptCue, IsKeptClip};
+ghost use Rattle.vdcp_port.specs.Seen.{seen_cue, seen_clip, cue_left, clip_left, IsSoundCue, IsSoundClip};
 
 use vdcp_value::Item;
 
@@ -28,7 +28,7 @@ pub(crate) struct Clip {
 pub(crate) fn finish_cue(cued: Option<Cue>) -> Option<Cue>
     ensures seen { seen_cue result ≡ made_ready (seen_cue cued) }
     ensures left { cue_left result ≡ 0 }
-    ensures kept { (clips : List (ClipId × Timecode)) → IsKeptCue clips cued → IsKeptCue clips result }
+    ensures kept { (clips : List (ClipId × Timecode)) → IsSoundCue clips cued → IsSoundCue clips result }
 {
     let cue = cued?;
     Some(Cue {
@@ -43,7 +43,7 @@ pub(crate) fn count_cue(cued: Option<Cue>) -> (Option<Cue>, bool)
     ensures last { result.1 ≡ nat_eq (cue_left cued) 1 }
     ensures seen { seen_cue result.0 ≡ (if nat_eq (cue_left cued) 1 then made_ready (seen_cue cued) else seen_cue cued) }
     ensures left { cue_left result.0 ≡ cue_left cued - 1 }
-    ensures kept { (clips : List (ClipId × Timecode)) → IsKeptCue clips cued → IsKeptCue clips result.0 }
+    ensures kept { (clips : List (ClipId × Timecode)) → IsSoundCue clips cued → IsSoundCue clips result.0 }
 {
     match cued {
         None => (None, false),
@@ -63,7 +63,7 @@ pub(crate) fn count_clip(playing: Option<Clip>) -> (Option<Clip>, bool)
     ensures last { result.1 ≡ nat_eq (clip_left playing) 1 }
     ensures seen { seen_clip result.0 ≡ (if nat_eq (clip_left playing) 1 then None else seen_clip playing) }
     ensures left { clip_left result.0 ≡ clip_left playing - 1 }
-    ensures kept { (clips : List (ClipId × Timecode)) → IsKeptClip clips playing → IsKeptClip clips result.0 }
+    ensures kept { (clips : List (ClipId × Timecode)) → IsSoundClip clips playing → IsSoundClip clips result.0 }
 {
     match playing {
         None => (None, false),

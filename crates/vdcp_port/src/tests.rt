@@ -349,7 +349,7 @@ fn the_largest_message_is_refused(rt: HostRuntime) -> Result<(), Fail> {
     Ok(())
 }
 
-/// A burst that is answered by one NAK, and changes nothing.
+/// A burst that is answered by one NAK, and leaves the second clip cueing while the first one plays.
 fn is_refused<C: Catalogue>(
     rt: &impl Abort,
     alloc: Global,
@@ -360,7 +360,7 @@ fn is_refused<C: Catalogue>(
     let (out, aired) = sent(alloc, port, burst)?;
     assert_eq!(rt; out.as_slice(), [0x05, byte].as_slice(), "to {burst:?}");
     assert!(rt; aired.is_empty(), "at {burst:?}");
-    assert_eq!(rt; port.status_byte(), 0x01, "after {burst:?}");
+    assert_eq!(rt; port.status_byte(), 0x06, "after {burst:?}");
     Ok(())
 }
 
@@ -368,6 +368,11 @@ fn is_refused<C: Catalogue>(
 fn hostile_bursts_change_nothing(rt: HostRuntime) -> Result<(), Fail> {
     let base = *b"\x02\x0A\x20\x24CLIP0001\xD3";
     let mut port = selected(rt.alloc(), two_clips()?)?;
+    let (_, _) = sent(rt.alloc(), &mut port, CUE_1)?;
+    port.ready();
+    for burst in [PLAY, CUE_2] {
+        let (_, _) = sent(rt.alloc(), &mut port, burst)?;
+    }
     for len in 1..13 {
         is_refused(&rt, rt.alloc(), &mut port, &base[..len], 0x80)?;
     }
