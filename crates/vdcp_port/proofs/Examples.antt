@@ -4,6 +4,7 @@ use Rattle.std.specs.Prelude.{replicate}
 use Rattle.std.specs.List.{flat_map, range_with_len}
 use Rattle.vdcp_value.proofs.FrameNumbers.{frame_number_is}
 use Rattle.vdcp_value.specs.Day.{frame_number}
+use Rattle.vdcp_value.specs.Parts.{part_fits}
 use Rattle.vdcp_value.specs.declared.clip_id.ClipId.{ClipId}
 use Rattle.vdcp_value.specs.declared.label.Label.{Label}
 use Rattle.vdcp_value.specs.declared.rate.Rate.TheVariants.{F25}
@@ -304,12 +305,15 @@ abbrev judged : List ℕ → Bool
 judged start = is_playable two_clips (part_of clip_1 start (0x00 ∷ 0x03 ∷ 0x00 ∷ 0x00 ∷ []))
 
 within : judged (0x00 ∷ 0x02 ∷ 0x00 ∷ 0x00 ∷ []) ≡ true
+unfolding part_fits
 within = rw (frames_3, frames_2, frames_10) refl
 
 up_to_the_end : judged (0x00 ∷ 0x07 ∷ 0x00 ∷ 0x00 ∷ []) ≡ true
+unfolding part_fits
 up_to_the_end = rw (frames_3, frames_7, frames_10) refl
 
 past_the_end : judged (0x00 ∷ 0x08 ∷ 0x00 ∷ 0x00 ∷ []) ≡ false
+unfolding part_fits
 past_the_end = rw (frames_3, frames_8, frames_10) refl
 
 -- what goes out where a part is accepted, and where it isn't

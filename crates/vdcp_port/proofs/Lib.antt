@@ -1,4 +1,6 @@
 mod Examples
+pub mod Frames
+pub mod OneMessage
 pub mod Answering
 pub mod Readable
 pub mod Sizes

@@ -36,7 +36,7 @@ pub(crate) fn frames_if_playable<C: Catalogue>(catalogue: &C, item: &Item) -> Op
 }
 
 /// How many frames a part of a clip of this length has; `None` where it doesn't fit.
-#[tactic(auto, using(vdcp_value::proofs::Bcd::read_frames))]
+#[tactic(auto, using(vdcp_value::proofs::Bcd::read_frames), unfolding(vdcp_value::specs::Parts::part_fits))]
 fn frames_of_part(part: &Part, length: &Timecode) -> Option<u32>
     ensures fits { IsSome result ↔ IsTrue (part_fits part.now length.now) }
     ensures frames { IfSome result (λ frames. frames ≡ frames_in (rate_of length.now) part.now.duration) }

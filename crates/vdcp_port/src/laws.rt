@@ -1,10 +1,11 @@
 //! Laws of the port's table. Each holds for all that it names; the functions do nothing.
 
-ghost use Rattle.std.specs.Prelude.{ℕ, ◌≡◌, ◌≢◌, ◌≤◌, ◌++◌, ◌==◌, ◌&&◌, ◌⊎◌, List, [], ◌∷◌, All, Contains, IsTrue, false, not, is_none, bit_and, Some, None};
+ghost use Rattle.std.specs.Prelude.{ℕ, ◌≡◌, ◌≢◌, ◌<◌, ◌≤◌, ◌++◌, ◌==◌, ◌&&◌, ◌⊎◌, List, [], ◌∷◌, All, Contains, IsTrue, false, not, is_none, bit_and, Some, None};
+ghost use Rattle.std.specs.Option.{option_to_list};
 ghost use Rattle.vdcp_value.specs.declared.part.Item.{Item};
 ghost use Rattle.vdcp_value.specs.declared.clip_id.ClipId.{ClipId};
 ghost use Rattle.vdcp_value.specs.declared.timecode.Timecode.{Timecode};
-ghost use Rattle.vdcp_frame.specs.Message.{Content, spelling};
+ghost use Rattle.vdcp_frame.specs.Message.{Content, Fits, spelling};
 ghost use Rattle.vdcp_frame.specs.Reading.{End};
 ghost use Rattle.vdcp_words.specs.Commands.{command_message, IsWritableCommand};
 ghost use Rattle.vdcp_words.specs.Replies.{IsWritableReply};
@@ -13,10 +14,10 @@ ghost use Rattle.vdcp_words.specs.declared.command.Command.TheVariants as comman
 ghost use Rattle.vdcp_words.specs.declared.reply.Reply.TheVariants as reply;
 ghost use Rattle.vdcp_port.specs.declared.asked.Asked.TheVariants as asked;
 ghost use Rattle.vdcp_port.specs.Asked.{asked_of};
-ghost use Rattle.vdcp_port.specs.Port.{PortState, cueing, done, empty, is_selected, state_byte, is_empty, is_cueing, is_done};
-ghost use Rattle.vdcp_port.specs.Row.{cues};
-ghost use Rattle.vdcp_port.specs.Clock.{ClockedPort, new_port, row_at, answer_to, after_message, aired_by, after_ready, after_ended, after_frame};
-ghost use Rattle.vdcp_port.specs.Answers.{answers_to, aired_on_way, end_answers};
+ghost use Rattle.vdcp_port.specs.Port.{PortState, cueing, done, empty, is_selected, state_byte, is_empty, is_cueing, is_done, made_ready};
+ghost use Rattle.vdcp_port.specs.Row.{cues, command_row};
+ghost use Rattle.vdcp_port.specs.Clock.{ClockedPort, new_port, row_at, answer_to, after_message, aired_by, after_ready, after_ended, after_frame, after_frames};
+ghost use Rattle.vdcp_port.specs.Answers.{answers_to, aired_on_way, end_answers, answer_bytes, sent_for, aired_for, after_burst};
 ghost use Rattle.vdcp_port.specs.Kept.{IsKept, cueing_from_now, counting_from_now};
 
 /// A message that comes again is answered as before, leaves what it left, and airs nothing.
@@ -97,4 +98,26 @@ pub fn what_a_port_holds()
 pub fn a_command_asks_its_own_unit()
     ensures own { (unit : ℕ) (c : Command) → IsWritableCommand c → asked_of unit (command_message unit c) ≡ asked.Command c }
     ensures other { (unit other : ℕ) (c : Command) → other ≢ unit → asked_of unit (command_message other c) ≡ asked.Nothing }
+{}
+
+/// Its row is that of the command.
+pub fn a_command_has_its_own_row()
+    ensures { (p : ClockedPort) (c : Command) → IsWritableCommand c →
+        row_at p (command_message p.state.unit c) ≡ command_row p.clips p.state c }
+{}
+
+/// A burst that is one message is answered as the message is.
+pub fn a_burst_of_one_message()
+    ensures sent { (p : ClockedPort) (m : Content) → Fits m →
+        sent_for p (spelling m) ≡ answer_bytes p.state.unit (option_to_list (answer_to p m)) }
+    ensures aired { (p : ClockedPort) (m : Content) → Fits m → aired_for p (spelling m) ≡ option_to_list (aired_by p m) }
+    ensures next { (p : ClockedPort) (m : Content) → Fits m → after_burst p (spelling m) ≡ after_message p m }
+{}
+
+/// A cue is done with the last frame of its count, and not before. So it is with a clip that ends.
+pub fn counts_are_frames()
+    ensures cueing { (p : ClockedPort) (n : ℕ) → n < p.counts.cue → (after_frames n p).state.cued ≡ p.state.cued }
+    ensures done { (p : ClockedPort) → 0 < p.counts.cue → (after_frames p.counts.cue p).state.cued ≡ made_ready p.state.cued }
+    ensures playing { (p : ClockedPort) (n : ℕ) → n < p.counts.playing → (after_frames n p).state.playing ≡ p.state.playing }
+    ensures ended { (p : ClockedPort) → 0 < p.counts.playing → (after_frames p.counts.playing p).state.playing ≡ None }
 {}
