@@ -39,6 +39,13 @@ reply_bytes unit reply = spelling (reply_message unit reply)
 abbrev pub answer_bytes : ℕ → List Reply → List ℕ
 answer_bytes unit replies = flat_map (reply_bytes unit) replies
 
+-- the bytes that go out for one message, and the items that go to air by it
+abbrev pub bytes_for : ClockedPort → Content → List ℕ
+bytes_for p m = answer_bytes p.state.unit (option_to_list (answer_to p m))
+
+abbrev pub items_for : ClockedPort → Content → List Item
+items_for p m = option_to_list (aired_by p m)
+
 -- the bytes that a port sends for a burst of these messages and this end
 abbrev pub sent_bytes : ClockedPort → List Content → End → List ℕ
 sent_bytes p ms end = answer_bytes p.state.unit (answers_to p ms ++ end_answers end)

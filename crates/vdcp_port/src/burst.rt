@@ -19,8 +19,8 @@ const CUT: Reply = Reply::Nak(0x80);
 const FAULTY: Reply = Reply::Nak(0x04);
 
 impl<C: Catalogue> Port<C> {
-    ghost use Rattle.vdcp_port.specs.Clock.{answer_to, after_message, aired_by};
-    ghost use Rattle.vdcp_port.specs.Answers.{answer_bytes, sent_for, aired_for, after_burst, most_sent, most_aired, HasAnsweredAll};
+    ghost use Rattle.vdcp_port.specs.Clock.{after_message};
+    ghost use Rattle.vdcp_port.specs.Answers.{bytes_for, items_for, sent_for, aired_for, after_burst, most_sent, most_aired, HasAnsweredAll};
 
     /// Takes a whole burst. Appends the bytes of all answers to `out`, in order, and then a NAK where the
     /// burst has a fault or ends inside a message; and the items that go to air on the way to `aired`.
@@ -85,15 +85,15 @@ impl<C: Catalogue> Port<C> {
         out: &mut Vec<u8, A>,
         aired: &mut Vec<Item, B>,
     )
-        requires room { vec_len out.old + length (answer_bytes self.old.state.unit (option_to_list (answer_to self.old (content_of message.now)))) ≤ vec_capacity out.old }
-        requires item_room { vec_len aired.old + length (option_to_list (aired_by self.old (content_of message.now))) ≤ vec_capacity aired.old }
-        ensures sent { out.new.items ≡ out.old.items ++ answer_bytes self.old.state.unit (option_to_list (answer_to self.old (content_of message.now))) }
-        ensures aired { aired.new.items ≡ aired.old.items ++ option_to_list (aired_by self.old (content_of message.now)) }
+        requires room { vec_len out.old + length (bytes_for self.old (content_of message.now)) ≤ vec_capacity out.old }
+        requires item_room { vec_len aired.old + length (items_for self.old (content_of message.now)) ≤ vec_capacity aired.old }
+        ensures sent { out.new.items ≡ out.old.items ++ bytes_for self.old (content_of message.now) }
+        ensures aired { aired.new.items ≡ aired.old.items ++ items_for self.old (content_of message.now) }
         ensures next { self.new ≡ after_message self.old (content_of message.now) }
         ensures capacity { vec_capacity out.old ≤ vec_capacity out.new }
         ensures item_capacity { vec_capacity aired.old ≤ vec_capacity aired.new }
-        ensures len { vec_len out.new ≡ vec_len out.old + length (answer_bytes self.old.state.unit (option_to_list (answer_to self.old (content_of message.now)))) }
-        ensures item_len { vec_len aired.new ≡ vec_len aired.old + length (option_to_list (aired_by self.old (content_of message.now))) }
+        ensures len { vec_len out.new ≡ vec_len out.old + length (bytes_for self.old (content_of message.now)) }
+        ensures item_len { vec_len aired.new ≡ vec_len aired.old + length (items_for self.old (content_of message.now)) }
     {
         let unit = self.unit();
         let (reply, item) = self.answer(message);

@@ -1,7 +1,6 @@
 //! Laws of the port's table. Each holds for all that it names; the functions do nothing.
 
 ghost use Rattle.std.specs.Prelude.{ℕ, ◌≡◌, ◌≢◌, ◌<◌, ◌≤◌, ◌++◌, ◌==◌, ◌&&◌, ◌⊎◌, List, [], ◌∷◌, All, Contains, IsTrue, false, not, is_none, bit_and, Some, None};
-ghost use Rattle.std.specs.Option.{option_to_list};
 ghost use Rattle.vdcp_value.specs.declared.part.Item.{Item};
 ghost use Rattle.vdcp_value.specs.declared.clip_id.ClipId.{ClipId};
 ghost use Rattle.vdcp_value.specs.declared.timecode.Timecode.{Timecode};
@@ -17,7 +16,7 @@ ghost use Rattle.vdcp_port.specs.Asked.{asked_of};
 ghost use Rattle.vdcp_port.specs.Port.{PortState, cueing, done, empty, is_selected, state_byte, is_empty, is_cueing, is_done, made_ready};
 ghost use Rattle.vdcp_port.specs.Row.{cues, command_row};
 ghost use Rattle.vdcp_port.specs.Clock.{ClockedPort, new_port, row_at, answer_to, after_message, aired_by, after_ready, after_ended, after_frame, after_frames};
-ghost use Rattle.vdcp_port.specs.Answers.{answers_to, aired_on_way, end_answers, answer_bytes, sent_for, aired_for, after_burst};
+ghost use Rattle.vdcp_port.specs.Answers.{answers_to, aired_on_way, end_answers, bytes_for, items_for, sent_for, aired_for, after_burst};
 ghost use Rattle.vdcp_port.specs.Kept.{IsKept, cueing_from_now, counting_from_now};
 
 /// A message that comes again is answered as before, leaves what it left, and airs nothing.
@@ -109,8 +108,8 @@ pub fn a_command_has_its_own_row()
 /// A burst that is one message is answered as the message is.
 pub fn a_burst_of_one_message()
     ensures sent { (p : ClockedPort) (m : Content) → Fits m →
-        sent_for p (spelling m) ≡ answer_bytes p.state.unit (option_to_list (answer_to p m)) }
-    ensures aired { (p : ClockedPort) (m : Content) → Fits m → aired_for p (spelling m) ≡ option_to_list (aired_by p m) }
+        sent_for p (spelling m) ≡ bytes_for p m }
+    ensures aired { (p : ClockedPort) (m : Content) → Fits m → aired_for p (spelling m) ≡ items_for p m }
     ensures next { (p : ClockedPort) (m : Content) → Fits m → after_burst p (spelling m) ≡ after_message p m }
 {}
 

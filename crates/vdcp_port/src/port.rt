@@ -103,8 +103,10 @@ impl<C: Catalogue> Port<C> {
         match (self.cued, self.playing) {
             (None, None) => 0x01,
             (None, Some(_)) => 0x04,
-            (Some(cue), None) => { if cue.left == 0 { 0x80 } else { 0x02 } }
-            (Some(cue), Some(_)) => { if cue.left == 0 { 0x84 } else { 0x06 } }
+            (Some(cue), None) if cue.left > 0 => 0x02,
+            (Some(_), None) => 0x80,
+            (Some(cue), Some(_)) if cue.left > 0 => 0x06,
+            (Some(_), Some(_)) => 0x84,
         }
     }
 
