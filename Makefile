@@ -1,3 +1,3 @@
 .PHONY: test
 test:
-	@rt ci
+	@tools/test

@@ -9,3 +9,4 @@ pub mod Steps
 pub mod Rows
 pub mod Calls
 pub mod Law
+mod Forbidden

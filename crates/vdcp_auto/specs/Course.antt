@@ -57,8 +57,8 @@ abbrev pub logged : List Exchange → Option Exchange → List Exchange
 logged log None = log
 logged log (Some e) = log ++ e ∷ []
 
--- calls in any order lead from a new controller to this one, and the log is the exchanges that they
--- ended
+-- whatever calls a new controller had, in whatever order, this is its state now, and the log has what
+-- they ended
 pub data Reached (plan : Plan) : State → List Exchange → Type 0 where
   begun : 1 ≤ plan.limit → plan.limit ≤ 1000 → Reached plan start []
   called : {state : State} {log : List Exchange} → Reached plan state log → (call : Call)

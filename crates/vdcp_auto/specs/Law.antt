@@ -1,4 +1,4 @@
--- The law of a controller that calls in any order have led to, with the exchanges that they ended.
+-- What holds of every controller and its log, whatever calls were made.
 use Rattle.std.specs.Prelude.{◌≡◌, ℕ, ◌↔◌, Some, IfSome, List, length}
 use Rattle.vdcp_auto.specs.declared.exchange.Exchange.{Exchange}
 use Rattle.vdcp_auto.specs.declared.outcome.Outcome.TheVariants.{Done, Lost, Missing, Refused}
@@ -11,7 +11,7 @@ use Rattle.vdcp_auto.specs.Plan.{Plan}
 use Rattle.vdcp_auto.specs.Turn.{awaited, given, outcome_of}
 
 pub record IsLawful (plan : Plan) (state : State) (log : List Exchange) : Type 0 where
-  -- each command of the log is allowed by the rule book after the exchanges before it
+  -- the rule book allows each command of the log where it stands
   pub keeps_rules : KeepsRules plan.mode plan.list log
   -- and so is the one that is awaited
   pub may_await : IfSome (awaited plan state) (λ c. May plan.mode plan.list log c)
@@ -19,8 +19,7 @@ pub record IsLawful (plan : Plan) (state : State) (log : List Exchange) : Type 0
   pub may_give : IfSome (given plan state) (λ c. May plan.mode plan.list log c)
   -- the controller's count is what the log shows to be settled
   pub is_settled : state.settled ≡ settled plan.mode log
-  -- it has ended Lost exactly where the last limit exchanges are unanswered, and no shorter front
-  -- of the log ends so
+  -- it has ended Lost exactly where the log shows it lost, and no sooner
   pub is_lost : (outcome_of state.stage ≡ Some Lost) ↔ IsLost plan.mode plan.limit log
   -- in confirm mode Refused(k) means that item k was cued, and limit empty statuses came since
   pub is_refused : plan.mode ≡ Confirming → (k : ℕ) → outcome_of state.stage ≡ Some (Refused k)

@@ -1,4 +1,4 @@
--- Which command may follow a log. The rule book looks back over the log, and knows no phase.
+-- Which command may follow a log. A row is decided by what stands where in the log alone.
 use Rattle.std.specs.Prelude.{◌≡◌, ℕ, false, IsTrue, ◌||◌, ◌⊎◌, List, ◌∷◌, ◌++◌, length, slice_get, IsSomeAnd}
 use Rattle.std.specs.List.{list_any}
 use Rattle.vdcp_value.specs.declared.part.Item.{Item}
@@ -63,12 +63,12 @@ Row mode list log (command.IdSize id) = Unit {0}
 -- the rule book: for a list and a log, the command may be sent next
 pub record May (mode : Mode) (list : List Item) (log : List Exchange) (c : Command) : Type 0 where
   pub row : Row mode list log c
-  -- after a STOP only STOP and CLOSE
+  -- once a STOP was sent: STOP or CLOSE
   pub after_stop : IsTrue (list_any is_stop log) → IsTrue (is_stop_command c || is_close_command c)
-  -- after a CLOSE only CLOSE
+  -- once a CLOSE was sent: CLOSE
   pub after_close : IsTrue (list_any is_close log) → IsTrue (is_close_command c)
 
--- each command of the log is allowed after the exchanges before it
+-- each command of the log may follow what stands before it
 abbrev pub KeepsRules : Mode → List Item → List Exchange → Type 0
 KeepsRules mode list log =
     (before : List Exchange) (e : Exchange) (after : List Exchange)

@@ -11,7 +11,7 @@ use Rattle.vdcp_auto.specs.Log.{is_play, is_stop, is_empty_status, is_answered, 
 abbrev pub tells_of_play : Exchange → Bool
 tells_of_play e = is_play e || is_stop e || is_empty_status e
 
--- the last exchange among the log's PLAYs, STOPs and empty statuses is an unanswered PLAY
+-- of all PLAYs, STOPs and empty statuses in the log, the last is a PLAY without an answer
 abbrev pub has_open_play : List Exchange → Bool
 has_open_play log =
     option_map_or (λ e. is_play e && not (is_answered e)) (last_or None (filter tells_of_play log)) false

@@ -5,7 +5,7 @@ use vdcp_words::{Command, Reply};
 pub enum Heard {
     /// A reply of the port that was asked.
     Reply(Reply),
-    /// A message that is no reply, or that comes from another unit.
+    /// Something else: no reply, or a message of another unit.
     Other,
 }
 

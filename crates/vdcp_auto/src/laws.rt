@@ -7,15 +7,14 @@ ghost use Rattle.vdcp_auto.specs.Plan.{Plan};
 ghost use Rattle.vdcp_auto.specs.Course.{Reached};
 ghost use Rattle.vdcp_auto.specs.Law.{IsLawful};
 
-/// Where calls of a controller in any order (ticks, replies of any kind, time-outs, takes and stops,
-/// also while an answer is awaited) lead from a new controller to this one, and the log is the
-/// exchanges that they ended, in either mode:
+/// Whatever calls a new controller had, in whatever order (ticks, replies of any kind, time-outs, takes
+/// and stops, also while an answer is awaited), in either mode, of the controller and of the log of the
+/// exchanges that these calls ended holds:
 ///
-/// - each command of the log, and the one that is awaited, is allowed by the rule book after the
-///   exchanges before it;
+/// - the rule book allows each command of the log where it stands, and the one that is awaited now;
 /// - the controller's count of settled events is what the log shows to be settled;
-/// - the controller has ended Lost exactly where the last `limit` exchanges (in confirm mode, requests)
-///   are unanswered, and no shorter front of the log ends so;
+/// - the controller has ended Lost exactly where the log's last `limit` exchanges (in confirm mode,
+///   requests) have no answer, and where that was true at no earlier point of the log;
 /// - in confirm mode, Refused(k) means that event k was cued, and since then, with nothing settled,
 ///   at least `limit` statuses had nothing cued;
 /// - Done means that every event is settled, and Missing(k) that the events before k are.

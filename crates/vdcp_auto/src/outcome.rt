@@ -1,20 +1,22 @@
 /// How a controller ended. Events are numbered from 0.
 #[derive(Clone, Copy, Debug, PartialEq, Eq)]
 pub enum Outcome {
-    /// Every event was played, and the port was closed.
+    /// Every event is settled, and CLOSE was sent last: it was answered, or in confirm mode timed out.
     Done,
-    /// The operator stopped it, and the port was closed.
+    /// The operator stopped it: STOP was sent, and then CLOSE.
     Stopped,
-    /// Too many commands in a row had no answer.
+    /// `limit` exchanges in a row were unanswered; in confirm mode as many requests in a row.
     Lost,
-    /// The port wasn't granted.
+    /// OPEN was denied or refused, or SELECT was refused.
     Denied,
     /// The server doesn't have the clip of this event.
     Missing(usize),
-    /// The server refused a command of this event.
+    /// NAK 01h came for a command of this event, or of the drain behind the last one, which counts as the
+    /// event past the end. In confirm mode: `limit` statuses showed nothing cued, though this event was.
     Refused(usize),
-    /// Another clip played than this event's.
+    /// The active clip isn't this event's.
     Foreign(usize),
-    /// The port's state doesn't fit this event.
+    /// A status doesn't fit: nothing is cued though the cue was answered; or, behind the last event, which
+    /// counts as the event past the end, something is.
     Strange(usize),
 }

@@ -41,6 +41,21 @@ impl<S: Source> Desk<S> {
         }
     }
 
+    fn confirming(alloc: Global, source: S) -> Self {
+        Desk {
+            controller: Controller::confirming(source, 0x01, 3),
+            log: Vec::new(alloc),
+        }
+    }
+
+    fn take(&mut self) {
+        self.controller.take();
+    }
+
+    fn stop(&mut self) {
+        self.controller.stop();
+    }
+
     /// What the log shows to be settled.
     fn settled(&self) -> usize
         ensures { result ≡ settled self.now.0.mode self.now.1 }
@@ -71,6 +86,23 @@ fn keep(log: &mut Vec<Exchange>, exchange: Exchange)
     ensures { log.new.items ≡ log.old.items ++ exchange ∷ [] }
 {
     log.push(exchange).unwrap();
+}
+
+#[test]
+fn a_desk_confirms_and_stops(rt: HostRuntime) -> Result<(), Fail> {
+    let mut desk = Desk::confirming(rt.alloc(), Clips::none());
+    desk.take();
+    for input in [Some(GRANTED), None] {
+        desk.tick();
+        match input {
+            Some(Input::Heard(heard)) => desk.receive(Some(heard))?,
+            _ => desk.receive(None)?,
+        }
+    }
+    desk.stop();
+    assert_eq!(rt; desk.tick(), Some(Command::Stop));
+    assert_eq!(rt; desk.log.len(), 2);
+    Ok(())
 }
 
 #[test]

@@ -1,0 +1,12 @@
+use Rattle.std.specs.Prelude.{ℕ}
+use Rattle.vdcp_cli.specs.declared.failure.Failure.{Failure}
+use Rattle.vdcp_cli.specs.declared.failure.Failure.TheVariants.{Hex, Word, Arguments, Text, Memory, Writer}
+
+-- the exit status of a failure that was told
+abbrev pub status_of : Failure → ℕ
+status_of Hex = 1
+status_of Word = 1
+status_of Arguments = 1
+status_of Text = 2
+status_of Memory = 3
+status_of Writer = 3
