@@ -1,0 +1,10 @@
+pub mod Bytes
+pub mod Ids
+pub mod Timecodes
+pub mod Day
+pub mod Numbers
+pub mod FrameNumbers
+pub mod Examples
+pub mod Places
+pub mod Bcd
+pub mod LabelText

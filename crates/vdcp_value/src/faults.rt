@@ -1,0 +1,60 @@
+use std::fmt;
+use thiserror::Error;
+
+/// Why a text is no ID's. Where several hold, the first that applies is given: `Empty`; for a text
+/// of 18 bytes that begins `0x`, `BadHex` and then `HasPlainForm`; for any other text `TooLong`,
+/// `BadByte` and then `EdgeSpace`.
+#[derive(Clone, Copy, Debug, PartialEq, Eq, Error)]
+pub enum IdFault {
+    #[error("the id is empty")]
+    Empty,
+    #[error("the id has more than eight bytes")]
+    TooLong,
+    /// The place, from 1, of the first byte outside 20h to 7Eh.
+    #[error("byte {0} of the id is no printable ascii character")]
+    BadByte(usize),
+    #[error("the id begins or ends with a space")]
+    EdgeSpace,
+    #[error("the id has a digit that is none of 0-9 and a-f")]
+    BadHex,
+    #[error("the id has a plain form")]
+    HasPlainForm,
+}
+
+/// A field of a time code.
+#[derive(Clone, Copy, Debug, PartialEq, Eq)]
+pub enum Field {
+    Frames,
+    Seconds,
+    Minutes,
+    Hours,
+}
+
+impl fmt::Display for Field {
+    fn fmt<W: fmt::Write>(&self, f: &mut fmt::Formatter<W>) -> fmt::Result {
+        match self {
+            Field::Frames => write!(f, "frames"),
+            Field::Seconds => write!(f, "seconds"),
+            Field::Minutes => write!(f, "minutes"),
+            Field::Hours => write!(f, "hours"),
+        }
+    }
+}
+
+/// Why bytes or a text are no time code at a rate. Where several hold, the first of `Shape`,
+/// `NotBcd`, `OutOfRange` and `Dropped` is given.
+#[derive(Clone, Copy, Debug, PartialEq, Eq, Error)]
+pub enum TcFault {
+    /// The place, from 1 to 4, of the first byte with a half above 9. Of bytes only.
+    #[error("byte {0} of the time code is no two decimal digits")]
+    NotBcd(usize),
+    /// The first field out of its range, in the order frames, seconds, minutes, hours.
+    #[error("the {0} of the time code are out of range")]
+    OutOfRange(Field),
+    /// A label that drop frame leaves out.
+    #[error("the time code is dropped at this rate")]
+    Dropped,
+    /// Not the eleven bytes of `hh:mm:ss:ff`, or at drop frame of `hh:mm:ss;ff`. Of a text only.
+    #[error("the time code has not the form of one")]
+    Shape,
+}
