@@ -1,0 +1,58 @@
+-- Whole courses of a controller.
+use Rattle.std.specs.Prelude.{ℕ, ◌≤◌, if◌then◌else◌, Option, None, Some, List, [], ◌∷◌, ◌++◌, is_some}
+use Rattle.std.specs.Option.{option_to_list}
+use Rattle.vdcp_auto.specs.declared.exchange.Exchange.{Exchange}
+use Rattle.vdcp_auto.specs.declared.exchange.Heard.{Heard}
+use Rattle.vdcp_auto.specs.declared.exchange.Input.{Input}
+use Rattle.vdcp_auto.specs.declared.exchange.Input.TheVariants as input
+use Rattle.vdcp_auto.specs.declared.phase.State.{State}
+use Rattle.vdcp_auto.specs.Plan.{Plan}
+use Rattle.vdcp_auto.specs.Turn.{start, ticked, awaited, ended_by, came_to, taken, stopped}
+
+-- the exchanges that these inputs end. Before something comes, or silence, the controller is ticked;
+-- where it has ended the course is over
+abbrev pub course_from : Plan → State → List Input → List Exchange
+course_from plan state [] = []
+course_from plan state (input.Take ∷ inputs) = course_from plan (taken state) inputs
+course_from plan state (input.Stop ∷ inputs) = course_from plan (stopped state) inputs
+course_from plan state (input.Heard h ∷ inputs) =
+    if is_some (awaited plan (ticked state))
+    then option_to_list (ended_by plan (Some h) (ticked state)) ++ course_from plan (came_to plan (Some h) (ticked state)) inputs
+    else []
+course_from plan state (input.Silence ∷ inputs) =
+    if is_some (awaited plan (ticked state))
+    then option_to_list (ended_by plan None (ticked state)) ++ course_from plan (came_to plan None (ticked state)) inputs
+    else []
+
+-- the course of a new controller
+abbrev pub course : Plan → List Input → List Exchange
+course plan inputs = course_from plan start inputs
+
+-- a call of a controller that can change it
+pub data Call : Type 0 where
+  Tick : Call
+  Hear : Heard → Call
+  Timeout : Call
+  Take : Call
+  Stop : Call
+
+-- the controller after the call
+abbrev pub after_call : Plan → Call → State → State
+after_call plan Tick state = ticked state
+after_call plan (Hear h) state = came_to plan (Some h) state
+after_call plan Timeout state = came_to plan None state
+after_call plan Take state = taken state
+after_call plan Stop state = stopped state
+
+-- the exchange that the call ends
+abbrev pub ended_by_call : Plan → Call → State → Option Exchange
+ended_by_call plan Tick state = None
+ended_by_call plan (Hear h) state = ended_by plan (Some h) state
+ended_by_call plan Timeout state = ended_by plan None state
+ended_by_call plan Take state = None
+ended_by_call plan Stop state = None
+
+-- calls in any order lead from a new controller to this one, and the log is the exchanges that they ended
+pub data Reached (plan : Plan) : State → List Exchange → Type 0 where
+  begun : 1 ≤ plan.limit → plan.limit ≤ 1000 → Reached plan start []
+  called : {state : State} {log : List Exchange} → Reached plan state log → (call : Call) → Reached plan (after_call plan call state) (log ++ option_to_list (ended_by_call plan call state))

@@ -1,0 +1,11 @@
+pub mod Replies
+pub mod Commands
+pub mod Log
+pub mod Settled
+pub mod RuleBook
+pub mod Endings
+pub mod Plan
+pub mod Bounds
+pub mod Table
+pub mod Turn
+pub mod Course

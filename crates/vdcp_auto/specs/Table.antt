@@ -1,0 +1,119 @@
+-- The controller's phase table: what each phase sends, and where it leads.
+use Rattle.std.specs.Prelude.{ℕ, ◌+◌, Bool, true, false, not, ◌||◌, ◌&&◌, nat_lt, nat_eq, if◌then◌else◌, Option, None, Some, List, length, slice_get}
+use Rattle.std.specs.Cmp.Lexicographic.{pointwise}
+use Rattle.std.specs.Option.{option_map}
+use Rattle.vdcp_value.specs.declared.clip_id.ClipId.{ClipId}
+use Rattle.vdcp_value.specs.declared.part.Item.{Item}
+use Rattle.vdcp_value.specs.Ids.{id_bytes}
+use Rattle.vdcp_words.specs.declared.command.Command.{Command}
+use Rattle.vdcp_words.specs.declared.command.Command.TheVariants as command
+use Rattle.vdcp_words.specs.declared.reply.Reply.{Reply}
+use Rattle.vdcp_words.specs.declared.reply.Reply.TheVariants as reply
+use Rattle.vdcp_auto.specs.declared.outcome.Outcome.TheVariants.{Done, Stopped, Denied, Missing, Refused, Foreign, Strange}
+use Rattle.vdcp_auto.specs.declared.phase.Mode.{Mode}
+use Rattle.vdcp_auto.specs.declared.phase.Mode.TheVariants.{Plain, Confirming}
+use Rattle.vdcp_auto.specs.declared.phase.Phase.{Phase}
+use Rattle.vdcp_auto.specs.declared.phase.Phase.TheVariants as phase
+use Rattle.vdcp_auto.specs.declared.phase.Turn.{Turn}
+use Rattle.vdcp_auto.specs.declared.phase.Turn.TheVariants.{Goes, Settles, Retries, Ends}
+use Rattle.vdcp_auto.specs.Replies.{is_granted, is_present, is_cueing, is_done, is_playing, is_empty}
+use Rattle.vdcp_auto.specs.Commands.{cue_of}
+use Rattle.vdcp_auto.specs.Plan.{Plan}
+
+-- what a phase sends; nothing for an event that the list doesn't have
+abbrev pub command_in : Plan → Phase → Option Command
+command_in plan phase.Open = Some (command.Open plan.port 1)
+command_in plan phase.Select = Some (command.Select plan.port)
+command_in plan phase.Seen = Some (command.Status 1)
+command_in plan (phase.Exists k) = option_map (λ item. command.IdRequest item.id) (slice_get plan.list k)
+command_in plan (phase.Cue k) = option_map cue_of (slice_get plan.list k)
+command_in plan (phase.Wait k) = Some (command.Status 1)
+command_in plan (phase.Play k) = Some command.Play
+command_in plan (phase.Probe k) = Some (command.Status 1)
+command_in plan (phase.Check k) = Some command.ActiveId
+command_in plan phase.Drain = Some (command.Status 1)
+command_in plan phase.Close = Some (command.Close plan.port)
+command_in plan phase.Halt = Some command.Stop
+command_in plan phase.HaltClose = Some (command.Close plan.port)
+
+-- the phase for event k, or Drain where there is none
+abbrev pub next : List Item → ℕ → Phase
+next list k = if nat_lt k (length list) then phase.Exists k else phase.Drain
+
+abbrev pub is_same_id : ClipId → ClipId → Bool
+is_same_id a b = pointwise nat_eq (id_bytes a) (id_bytes b)
+
+-- the reply names a clip, and not the item's
+abbrev pub names_other : Option Item → Reply → Bool
+names_other (Some item) (reply.Active (Some id)) = not (is_same_id id item.id)
+names_other _ _ = false
+
+-- a state in Wait(k) with nothing cued: strange in plain mode; in confirm mode the cue was lost, and
+-- is tried until the limit
+abbrev pub on_lost_cue : Mode → ℕ → ℕ → ℕ → Turn
+on_lost_cue Plain limit tries k = Ends (Strange k)
+on_lost_cue Confirming limit tries k = if nat_lt (tries + 1) limit then Retries k else Ends (Refused k)
+
+-- where a reply leads that fits the phase's command. The wish to take and the tries count in Wait
+abbrev pub on_reply : Plan → Bool → ℕ → Phase → Reply → Turn
+on_reply plan take tries phase.Open r = if is_granted r then Goes phase.Select else Ends Denied
+on_reply plan take tries phase.Select r = Goes (next plan.list 0)
+on_reply plan take tries phase.Seen r = Goes (next plan.list 0)
+on_reply plan take tries (phase.Exists k) r = if is_present r then Goes (phase.Cue k) else Ends (Missing k)
+on_reply plan take tries (phase.Cue k) r = Goes (phase.Wait k)
+on_reply plan take tries (phase.Wait k) r =
+    if is_done r && (not (is_playing r) || take) then Goes (phase.Play k)
+    else (if is_empty r then on_lost_cue plan.mode plan.limit tries k else Goes (phase.Wait k))
+on_reply plan take tries (phase.Play k) r = Settles k
+on_reply plan take tries (phase.Probe k) r =
+    if is_done r then Goes (phase.Play k) else (if is_empty r then Settles k else Goes (phase.Probe k))
+on_reply plan take tries (phase.Check k) r =
+    if names_other (slice_get plan.list k) r then Ends (Foreign k) else Goes (next plan.list (k + 1))
+on_reply plan take tries phase.Drain r =
+    if is_cueing r || is_done r then Ends (Strange (length plan.list))
+    else (if is_playing r then Goes phase.Drain else Goes phase.Close)
+on_reply plan take tries phase.Close r = Ends Done
+on_reply plan take tries phase.Halt r = Goes phase.HaltClose
+on_reply plan take tries phase.HaltClose r = Ends Stopped
+
+-- where NAK 01 leads
+abbrev pub on_refusal : Plan → Phase → Turn
+on_refusal plan phase.Open = Ends Denied
+on_refusal plan phase.Select = Ends Denied
+on_refusal plan phase.Seen = Ends Denied
+on_refusal plan (phase.Exists k) = Ends (Refused k)
+on_refusal plan (phase.Cue k) = Ends (Refused k)
+on_refusal plan (phase.Wait k) = Ends (Refused k)
+on_refusal plan (phase.Play k) = Ends (Refused k)
+on_refusal plan (phase.Probe k) = Ends (Refused k)
+on_refusal plan (phase.Check k) = Ends (Refused k)
+on_refusal plan phase.Drain = Ends (Refused (length plan.list))
+on_refusal plan phase.Close = Ends Done
+on_refusal plan phase.Halt = Goes phase.HaltClose
+on_refusal plan phase.HaltClose = Ends Stopped
+
+-- where an unanswered exchange leads, short of the limit. In confirm mode the time-out is the end of
+-- each command that only a receipt answers
+abbrev pub on_silence : Mode → Phase → Turn
+on_silence Plain (phase.Play k) = Goes (phase.Probe k)
+on_silence Plain p = Goes p
+on_silence Confirming phase.Open = Goes phase.Open
+on_silence Confirming phase.Select = Goes phase.Seen
+on_silence Confirming phase.Seen = Goes phase.Select
+on_silence Confirming (phase.Exists k) = Goes (phase.Exists k)
+on_silence Confirming (phase.Cue k) = Goes (phase.Wait k)
+on_silence Confirming (phase.Wait k) = Goes (phase.Wait k)
+on_silence Confirming (phase.Play k) = Goes (phase.Probe k)
+on_silence Confirming (phase.Probe k) = Goes (phase.Probe k)
+on_silence Confirming (phase.Check k) = Goes (phase.Check k)
+on_silence Confirming phase.Drain = Goes phase.Drain
+on_silence Confirming phase.Close = Ends Done
+on_silence Confirming phase.Halt = Goes phase.HaltClose
+on_silence Confirming phase.HaltClose = Ends Stopped
+
+-- whether the operator's stop counts in this phase
+abbrev pub can_stop : Phase → Bool
+can_stop phase.Close = false
+can_stop phase.Halt = false
+can_stop phase.HaltClose = false
+can_stop _ = true

@@ -1,0 +1,15 @@
+use thiserror::Error;
+
+/// Why a message is no word of this profile.
+#[derive(Clone, Copy, Debug, PartialEq, Eq, Error)]
+pub enum WordFault {
+    /// An ACK or a NAK was read as a command.
+    #[error("an answer and no command")]
+    NotCommand,
+    /// The type and code stand for no word of the table.
+    #[error("an unknown type and code")]
+    Unknown,
+    /// The type and code stand for a word that has other data.
+    #[error("a wrong number of data bytes")]
+    Length,
+}
