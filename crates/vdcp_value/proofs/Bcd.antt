@@ -1,4 +1,4 @@
-use Rattle.std.proofs.Common.{ℕ, ◌+◌, ◌*◌, ◌/◌, ◌%◌, ◌<◌, ◌≡◌, true, arith, refl, sym, ap, ap₂, ◌∙◌, List, is_none, None, [], ◌∷◌}
+use Rattle.std.proofs.Common.{ℕ, ◌<◌, ◌≡◌, true, arith, refl, sym, ap, ap₂, ◌∙◌, List, is_none, None, [], ◌∷◌}
 use Rattle.vdcp_value.proofs.Timecodes.{same_timecode}
 use Rattle.vdcp_value.specs.Bcd.{bcd_byte, bcd_value, is_bcd, bcd_of_label, label_of_bcd, bcd_fault, label_fault, is_time, frames_in}
 use Rattle.vdcp_value.specs.LabelText.{has_two_digits}

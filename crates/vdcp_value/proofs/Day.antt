@@ -1,13 +1,9 @@
-use Rattle.std.proofs.Common.{ℕ, zero, suc, List, [], ◌∷◌, ◌++◌, ◌+◌, ◌*◌, ◌/◌, ◌%◌, ◌<◌, ◌≤◌, ◌≡◌, Bool, true, false, not, ◌&&◌, nat_eq, nat_lt, length, map, filter, arith, refl, sym, ap, ◌∙◌, subst, length-append, if◌then◌else◌, add-one, eq-or-lt_of_le, ◌||◌, inl, inr, ◌⊎◌}
+use Rattle.std.proofs.Common.{ℕ, zero, suc, List, [], ◌∷◌, ◌++◌, ◌+◌, ◌<◌, ◌≤◌, ◌≡◌, Bool, true, false, length, map, filter, arith, refl, sym, ap, subst, length-append, eq-or-lt_of_le, inl, inr, ◌⊎◌}
 use Rattle.std.specs.List.{flat_map, range_with_len, list_any}
-use Rattle.std.proofs.lemmas.Grind.{common_steps}
 use Rattle.std.proofs.lemmas.List.Folds.{list_any-append}
 use Rattle.std.proofs.lemmas.List.Elements.{filter-append}
-use Rattle.vdcp_value.specs.Day.{labels_of_second, labels_of_minute, labels_of_hour, labels_of_day, lawful_labels, labels_before, frame_number, frames_of_day, is_same}
-use Rattle.vdcp_value.specs.Labels.{frames_per_second, is_dropped, is_in_range, is_lawful}
+use Rattle.vdcp_value.specs.Day.{labels_before, is_same}
 use Rattle.vdcp_value.specs.declared.label.Label.{Label}
-use Rattle.vdcp_value.specs.declared.rate.Rate.TheVariants.{F24, F25, F30, D30}
-use Rattle.vdcp_value.specs.declared.rate.Rate.{Rate}
 
 -- a test answers one or the other
 pub both_ways : (b : Bool) → (b ≡ true) ⊎ (b ≡ false)

@@ -1,12 +1,12 @@
-use Rattle.std.proofs.Common.{ℕ, ◌≡◌, ◌<◌, ◌≤◌, true, false, Some, None, refl, ◌∙◌, codes, List, [], ◌∷◌, lit<, lit≤}
+use Rattle.std.proofs.Common.{ℕ, ◌≡◌, Some, refl, codes, [], ◌∷◌, lit<, lit≤}
 use Rattle.vdcp_value.proofs.FrameNumbers.{frame_number_is}
-use Rattle.vdcp_value.specs.Bcd.{bcd_of_label, bcd_fault, label_of_bcd, label_fault, is_time}
+use Rattle.vdcp_value.specs.Bcd.{bcd_of_label, bcd_fault, label_fault}
 use Rattle.vdcp_value.specs.Day.{frame_number}
-use Rattle.vdcp_value.specs.IdText.{text_of_bytes, is_plain, padded, hex_form, IsIdFault}
+use Rattle.vdcp_value.specs.IdText.{text_of_bytes, IsIdFault}
 use Rattle.vdcp_value.specs.LabelText.{label_text}
-use Rattle.vdcp_value.specs.declared.faults.Field.TheVariants.{Frames, Seconds, Minutes, Hours}
+use Rattle.vdcp_value.specs.declared.faults.Field.TheVariants.{Frames}
 use Rattle.vdcp_value.specs.declared.faults.IdFault.TheVariants.{Empty, TooLong, BadByte, EdgeSpace, BadHex, HasPlainForm}
-use Rattle.vdcp_value.specs.declared.faults.TcFault.TheVariants.{NotBcd, OutOfRange, Dropped, Shape}
+use Rattle.vdcp_value.specs.declared.faults.TcFault.TheVariants.{NotBcd, OutOfRange, Dropped}
 use Rattle.vdcp_value.specs.declared.label.Label.{Label}
 use Rattle.vdcp_value.specs.declared.rate.Rate.TheVariants.{F24, F25, F30, D30}
 

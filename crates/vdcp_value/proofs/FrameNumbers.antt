@@ -1,9 +1,9 @@
-use Rattle.std.proofs.Common.{ℕ, zero, suc, List, [], ◌∷◌, ◌++◌, ◌+◌, ◌*◌, ◌/◌, ◌%◌, ◌<◌, ◌≤◌, ◌≡◌, Bool, true, false, not, ◌&&◌, ◌||◌, nat_eq, nat_lt, length, map, filter, arith, refl, sym, ap, ◌∙◌, subst, if◌then◌else◌, inl, inr, eq-or-lt_of_le}
-use Rattle.std.specs.List.{flat_map, range_with_len, list_any}
-use Rattle.vdcp_value.proofs.Day.{CountsFrom, among-blocks, among-filter, number_in}
+use Rattle.std.proofs.Common.{ℕ, zero, suc, ◌+◌, ◌<◌, ◌≤◌, ◌≡◌, Bool, true, length, map, arith, refl, sym, ap, ◌∙◌, subst, inl, inr, eq-or-lt_of_le}
+use Rattle.std.specs.List.{range_with_len, list_any}
+use Rattle.vdcp_value.proofs.Day.{among-blocks, among-filter, number_in}
 use Rattle.vdcp_value.proofs.Numbers.{number, keeps, at, fills_day}
 use Rattle.vdcp_value.specs.Day.{labels_of_second, labels_of_minute, labels_of_hour, labels_of_day, lawful_labels, frames_of_day, frame_number, is_same}
-use Rattle.vdcp_value.specs.Labels.{frames_per_second, is_dropped, is_in_range, is_lawful}
+use Rattle.vdcp_value.specs.Labels.{frames_per_second, is_in_range, is_lawful}
 use Rattle.vdcp_value.specs.declared.label.Label.{Label}
 use Rattle.vdcp_value.specs.declared.rate.Rate.TheVariants.{F24, F25, F30, D30}
 use Rattle.vdcp_value.specs.declared.rate.Rate.{Rate}

@@ -1,4 +1,4 @@
-use Rattle.std.proofs.Common.{ℕ, suc, ◌+◌, ◌*◌, ◌/◌, ◌%◌, ◌<◌, ◌≡◌, List, [], ◌∷◌, length, get_or, true, arith, refl, sym, ap, ◌∙◌}
+use Rattle.std.proofs.Common.{ℕ, ◌+◌, ◌/◌, ◌%◌, ◌<◌, ◌≡◌, List, [], ◌∷◌, length, get_or, true, arith, refl, sym, ap, ◌∙◌}
 use Rattle.vdcp_value.proofs.Bcd.{lawful_two_digits}
 use Rattle.vdcp_value.proofs.Timecodes.{same_timecode}
 use Rattle.vdcp_value.specs.LabelText.{two_digits, frames_mark, label_text, has_two_digits}

@@ -8,3 +8,6 @@ pub mod Examples
 pub mod Places
 pub mod Bcd
 pub mod LabelText
+pub mod IdText
+pub mod HexForm
+pub mod IdTexts

@@ -1,5 +1,5 @@
-use Rattle.std.proofs.Common.{ℕ, zero, suc, List, [], ◌∷◌, ◌++◌, ◌+◌, ◌*◌, ◌/◌, ◌%◌, ◌<◌, ◌≤◌, ◌≡◌, Bool, true, false, not, ◌&&◌, nat_eq, nat_lt, length, map, filter, arith, refl, sym, ap, ◌∙◌, subst, length-append, if◌then◌else◌, inl, inr, ◌⊎◌}
-use Rattle.std.specs.List.{flat_map, range_with_len, list_any}
+use Rattle.std.proofs.Common.{ℕ, zero, suc, List, ◌+◌, ◌*◌, ◌/◌, ◌%◌, ◌<◌, ◌≤◌, ◌≡◌, Bool, true, false, not, nat_eq, length, map, filter, arith, refl, sym, ◌∙◌, subst, if◌then◌else◌, inl, inr}
+use Rattle.std.specs.List.{flat_map, range_with_len}
 use Rattle.vdcp_value.proofs.Day.{CountsFrom, both_ways, counts-blocks, counts-frames, filter-frames, filter-blocks}
 use Rattle.vdcp_value.specs.Day.{labels_of_second, labels_of_minute, labels_of_hour, labels_of_day, lawful_labels, frames_of_day}
 use Rattle.vdcp_value.specs.Labels.{frames_per_second, is_dropped}

@@ -1,4 +1,4 @@
-use Rattle.std.proofs.Common.{◌≡◌, ◌<◌, length, true, arith}
+use Rattle.std.proofs.Common.{◌≡◌, ◌<◌, true}
 use Rattle.vdcp_value.proofs.FrameNumbers.{frame_number_below}
 use Rattle.vdcp_value.specs.Day.{frames_of_day}
 use Rattle.vdcp_value.specs.Labels.{is_lawful}

@@ -1,6 +1,5 @@
 use Rattle.std.specs.Prelude.{ℕ, ◌+◌, ◌/◌, ◌%◌, ◌≡◌, Bool, ◌&&◌, nat_lt, IsTrue, List, [], ◌∷◌, ◌++◌, Some}
 use Rattle.vdcp_value.specs.Bcd.{label_fault}
-use Rattle.vdcp_value.specs.declared.faults.Field.{Field}
 use Rattle.vdcp_value.specs.declared.faults.TcFault.TheVariants.{NotBcd, OutOfRange, Dropped, Shape}
 use Rattle.vdcp_value.specs.declared.faults.TcFault.{TcFault}
 use Rattle.vdcp_value.specs.declared.label.Label.{Label}

@@ -1,4 +1,4 @@
-use Rattle.std.specs.Prelude.{ℕ, ◌+◌, Bool, ◌&&◌, nat_le, List, MatchOption}
+use Rattle.std.specs.Prelude.{◌+◌, Bool, ◌&&◌, nat_le, MatchOption}
 use Rattle.vdcp_value.specs.Bcd.{is_time, frames_in}
 use Rattle.vdcp_value.specs.Bytes.{AreBytes}
 use Rattle.vdcp_value.specs.Timecodes.{frames_of, rate_of}

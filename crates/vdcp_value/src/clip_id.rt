@@ -1,7 +1,19 @@
-ghost use Rattle.std.specs.Prelude.{◌≡◌};
+ghost use Rattle.std.specs.Prelude.{◌≡◌, ◌≤◌, IfOk, IfErr, IsTrue, IsFalse, Ok, length, ◌∷◌};
 ghost use Rattle.vdcp_value.specs.Bytes.{AreBytes};
+ghost use Rattle.vdcp_value.specs.IdText.{IsTextOf, IsIdFault, is_plain, without_end_spaces, is_hex_long};
+
+use crate::faults::IdFault;
+use crate::id_text::{
+    bytes_of_hex, has_edge_space, is_hex_long, is_plain, is_plain_byte, push_hex, push_plain,
+    without_end_spaces,
+};
+use arrayvec::ArrayString;
 
 /// A clip's ID: eight bytes, of any values.
+///
+/// As text it is the bytes without the spaces at their end, where these are one to eight bytes of
+/// 20h to 7Eh and the first isn't a space; any other ID is `0x` and sixteen lower-case hexadecimal
+/// digits. So each ID has exactly one text (this profile).
 #[derive(Clone, Copy, Debug, PartialEq, Eq)]
 pub struct ClipId {
     bytes: [u8; 8],
@@ -9,7 +21,7 @@ pub struct ClipId {
 }
 
 impl ClipId {
-    ghost use Rattle.vdcp_value.specs.Ids.{id_bytes};
+    ghost use Rattle.vdcp_value.specs.Ids.{id_bytes, text_of_id};
 
     /// The ID of these bytes.
     pub fn new(bytes: [u8; 8]) -> ClipId
@@ -33,5 +45,83 @@ impl ClipId {
         ensures { result ≡ id_bytes self.now }
     {
         self.bytes
+    }
+
+    /// The ID of a text. The first fault that applies is given: `Empty`; for a text of 18 bytes that
+    /// begins `0x`, `BadHex` and then `HasPlainForm`; for any other text `TooLong`, `BadByte` and
+    /// then `EdgeSpace`.
+    pub fn parse(text: &str) -> Result<ClipId, IdFault>
+        ensures read { IfOk result (λ id. IsTextOf text.now (id_bytes id)) }
+        ensures accepts { (id : ClipId) → IsTextOf text.now (id_bytes id) → result ≡ Ok id }
+        ensures refused { IfErr result (IsIdFault text.now) }
+    {
+        let text = text.as_bytes();
+        if text.is_empty() {
+            Err(IdFault::Empty)
+        } else if is_hex_long(text) {
+            ClipId::from_hex(text)
+        } else {
+            ClipId::from_plain(text)
+        }
+    }
+
+    /// Writes the ID's text in place of the buffer's.
+    pub fn show(&self, text: &mut ArrayString<18>)
+        ensures text { IsTextOf text.new.bytes (id_bytes self.now) }
+        ensures same { text.new.bytes ≡ text_of_id self.now }
+    {
+        text.clear();
+        let plain = without_end_spaces(&self.bytes);
+        if is_plain(plain) {
+            push_plain(text, plain);
+        } else {
+            push_hex(text, &self.bytes);
+        }
+    }
+
+    /// Whether the text is the bytes without the spaces at their end.
+    fn has_plain_form(&self) -> bool
+        ensures { result ≡ is_plain (without_end_spaces (id_bytes self.now)) }
+    {
+        is_plain(without_end_spaces(&self.bytes))
+    }
+
+    /// The ID of a plain form.
+    fn from_plain(text: &[u8]) -> Result<ClipId, IdFault>
+        requires some { 1 ≤ length text.now }
+        requires plain { IsFalse (is_hex_long text.now) }
+        ensures read { IfOk result (λ id. IsTextOf text.now (id_bytes id)) }
+        ensures refused { IfErr result (IsIdFault text.now) }
+    {
+        if text.len() > 8 {
+            return Err(IdFault::TooLong);
+        }
+        for (k, byte) in text.iter().enumerate() {
+            if !is_plain_byte(*byte) {
+                return Err(IdFault::BadByte(k + 1));
+            }
+        }
+        if has_edge_space(text) {
+            return Err(IdFault::EdgeSpace);
+        }
+        let mut bytes = [b' '; 8];
+        bytes[..text.len()].copy_from_slice(text);
+        Ok(ClipId::new(bytes))
+    }
+
+    /// The ID of `0x` and sixteen digits.
+    fn from_hex(text: &[u8]) -> Result<ClipId, IdFault>
+        requires { IsTrue (is_hex_long text.now) }
+        ensures read { IfOk result (λ id. IsTextOf text.now (id_bytes id)) }
+        ensures refused { IfErr result (IsIdFault text.now) }
+    {
+        let Some(bytes) = bytes_of_hex(&text[2..]) else {
+            return Err(IdFault::BadHex);
+        };
+        let id = ClipId::new(bytes);
+        if id.has_plain_form() {
+            return Err(IdFault::HasPlainForm);
+        }
+        Ok(id)
     }
 }

@@ -3,6 +3,7 @@
 
 mod clip_id;
 mod faults;
+mod id_text;
 mod label;
 mod part;
 mod rate;

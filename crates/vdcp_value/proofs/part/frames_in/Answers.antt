@@ -1,4 +1,4 @@
-use Rattle.std.proofs.Common.{◌≡◌, sym, ◌∙◌, refl}
+use Rattle.std.proofs.Common.{sym, ◌∙◌, refl}
 use Rattle.vdcp_value.proofs.Bcd.{read_is_time, read_frames}
 use Rattle.vdcp_value.proofs.part.frames_in.Goals as goal
 

@@ -1,4 +1,4 @@
-use Rattle.std.proofs.Common.{◌≡◌, arith, length, sym, ◌∙◌}
+use Rattle.std.proofs.Common.{arith, ◌∙◌}
 use Rattle.vdcp_value.proofs.LabelText.{spelled}
 use Rattle.vdcp_value.proofs.timecode.label_in.Goals as goal
 

@@ -1,4 +1,4 @@
-use Rattle.std.proofs.Common.{◌≡◌, ap, Ok, sym, ◌∙◌}
+use Rattle.std.proofs.Common.{ap, Ok, sym, ◌∙◌}
 use Rattle.vdcp_value.proofs.Bcd.{label_of_own_bcd}
 use Rattle.vdcp_value.proofs.Timecodes.{same_timecode}
 use Rattle.vdcp_value.proofs.timecode.Timecode.from_bcd.Goals as goal

@@ -1,4 +1,4 @@
-use Rattle.std.proofs.Common.{◌≡◌, ap, Ok, sym, ◌∙◌}
+use Rattle.std.proofs.Common.{ap, Ok, sym, ◌∙◌}
 use Rattle.vdcp_value.proofs.LabelText.{one_timecode_text}
 use Rattle.vdcp_value.proofs.timecode.Timecode.parse.Goals as goal
 
