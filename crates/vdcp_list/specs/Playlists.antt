@@ -2,10 +2,10 @@ use Rattle.std.specs.Prelude.{ℕ, ◌+◌, ◌<◌, ◌≤◌, ◌≡◌, ◌�
 use Rattle.vdcp_list.specs.Rows.{Row, HasId, Reaches, most_rows}
 use Rattle.vdcp_list.specs.declared.faults.ListFault.TheVariants.{Columns, Id, Time, Twice, TooMany, Memory, Read}
 use Rattle.vdcp_list.specs.declared.faults.ListFault.{ListFault}
-use Rattle.vdcp_value.specs.Bcd.{is_time, label_of_bcd}
+use Rattle.vdcp_value.specs.Bcd.{is_time, label_of_bcd, frames_in}
 use Rattle.vdcp_value.specs.Ids.{text_of_id}
 use Rattle.vdcp_value.specs.LabelText.{label_text}
-use Rattle.vdcp_value.specs.Parts.{IsPart, frames_in}
+use Rattle.vdcp_value.specs.Parts.{IsPart}
 use Rattle.vdcp_value.specs.declared.part.Item.{Item}
 use Rattle.vdcp_value.specs.declared.part.Part.{Part}
 use Rattle.vdcp_value.specs.declared.rate.Rate.{Rate}
