@@ -1,0 +1,5 @@
+pub mod Messages
+pub mod Commands
+pub mod Replies
+pub mod Texts
+pub mod Computed

@@ -1,3 +1,12 @@
+ghost use Rattle.std.specs.Prelude.{◌≡◌, ◌<◌, ◌≤◌, ℕ, All};
+ghost use Rattle.vdcp_frame.specs.Message.{content_of, framed, IsWritable};
+ghost use Rattle.vdcp_words.specs.Commands.{command_message, ReadsCommand};
+ghost use Rattle.vdcp_words.specs.Computed.{command_of};
+
+use crate::data;
+use crate::fault::WordFault;
+use crate::room::{joined, message, put};
+use vdcp_frame::Message;
 use vdcp_value::ClipId;
 
 /// What the controller asks of the server's port.
@@ -28,4 +37,117 @@ pub enum Command {
     IdRequest(ClipId),
     /// ID SIZE REQUEST: how long the clip is.
     IdSize(ClipId),
+}
+
+impl Command {
+    /// The command that the message carries, to whatever unit.
+    pub fn read(message: &Message) -> Result<Command, WordFault>
+        ensures table { ReadsCommand (content_of message.now) result }
+        ensures exact { result ≡ command_of (content_of message.now) }
+    {
+        match *message {
+            Message::Ack | Message::Nak(_) => Err(WordFault::NotCommand),
+            Message::Framed {
+                kind,
+                code,
+                rest,
+                ..
+            } => match kind {
+                1 => immediate(code, rest),
+                2 => preset(code, rest),
+                3 => sense_request(code, rest),
+                _ => Err(WordFault::Unknown),
+            },
+        }
+    }
+
+    /// The message that carries the command to the unit, which is at most 15. The data of the
+    /// message lies in `room`.
+    pub fn to_message<'a>(&self, unit: u8, room: &'a mut [u8; 16]) -> Message<'a>
+        requires { unit ≤ 15 }
+        ensures message { content_of result ≡ command_message unit self.now }
+        ensures writable { IsWritable (content_of result) }
+    {
+        match self {
+            Command::Stop => message(1, unit, 0x00, &[]),
+            Command::Play => message(1, unit, 0x01, &[]),
+            Command::Close(port) => message(2, unit, 0x21, put(room, &[*port])),
+            Command::Select(port) => message(2, unit, 0x22, put(room, &[*port])),
+            Command::PlayCue(id) => message(2, unit, 0x24, put(room, &id.bytes())),
+            Command::CueData(id, start, duration) => {
+                message(2, unit, 0x25, put(room, &joined(id, start, duration)))
+            }
+            Command::Open(port, lock) => message(3, unit, 0x01, put(room, &[*port, *lock])),
+            Command::Status(bitmap) => message(3, unit, 0x05, put(room, &[*bitmap])),
+            Command::ActiveId => message(3, unit, 0x07, &[]),
+            Command::IdSize(id) => message(3, unit, 0x14, put(room, &id.bytes())),
+            Command::IdRequest(id) => message(3, unit, 0x16, put(room, &id.bytes())),
+        }
+    }
+}
+
+/// The commands of type 1, which act at once.
+#[tactic(auto, using(crate::proofs::CommandLemmas::other_lengths))]
+fn immediate(code: u8, rest: &[u8]) -> Result<Command, WordFault>
+    ensures table { (unit : ℕ) → ReadsCommand (framed 1 unit code rest.now) result }
+    ensures bytes { All (λ b. b < 256) rest.now }
+{
+    match code {
+        0x00 => data::nothing(rest, Command::Stop),
+        0x01 => data::nothing(rest, Command::Play),
+        _ => Err(WordFault::Unknown),
+    }
+}
+
+/// The commands of type 2, which prepare what is to be aired.
+#[tactic(auto, using(crate::proofs::CommandLemmas::other_lengths))]
+fn preset(code: u8, rest: &[u8]) -> Result<Command, WordFault>
+    ensures table { (unit : ℕ) → ReadsCommand (framed 2 unit code rest.now) result }
+    ensures bytes { All (λ b. b < 256) rest.now }
+{
+    match code {
+        0x21 => Ok(Command::Close(data::byte(rest)?)),
+        0x22 => Ok(Command::Select(data::byte(rest)?)),
+        0x24 => Ok(Command::PlayCue(data::id(rest)?)),
+        0x25 => cue_data(rest),
+        _ => Err(WordFault::Unknown),
+    }
+}
+
+/// The commands of type 3, which ask for a reply.
+#[tactic(auto, using(crate::proofs::CommandLemmas::other_lengths))]
+fn sense_request(code: u8, rest: &[u8]) -> Result<Command, WordFault>
+    ensures table { (unit : ℕ) → ReadsCommand (framed 3 unit code rest.now) result }
+    ensures bytes { All (λ b. b < 256) rest.now }
+{
+    match code {
+        0x01 => open(rest),
+        0x05 => Ok(Command::Status(data::byte(rest)?)),
+        0x07 => data::nothing(rest, Command::ActiveId),
+        0x14 => Ok(Command::IdSize(data::id(rest)?)),
+        0x16 => Ok(Command::IdRequest(data::id(rest)?)),
+        _ => Err(WordFault::Unknown),
+    }
+}
+
+#[tactic(auto, using(crate::proofs::CommandLemmas::other_lengths))]
+fn open(rest: &[u8]) -> Result<Command, WordFault>
+    ensures { (unit : ℕ) → ReadsCommand (framed 3 unit 0x01 rest.now) result }
+{
+    match rest {
+        [port, lock] => Ok(Command::Open(*port, *lock)),
+        _ => Err(WordFault::Length),
+    }
+}
+
+#[tactic(auto, using(crate::proofs::CommandLemmas::other_lengths))]
+fn cue_data(rest: &[u8]) -> Result<Command, WordFault>
+    ensures { (unit : ℕ) → ReadsCommand (framed 2 unit 0x25 rest.now) result }
+{
+    if rest.len() != 16 {
+        return Err(WordFault::Length);
+    }
+    let (id, times) = rest.split_at(8);
+    let (start, duration) = times.split_at(4);
+    Ok(Command::CueData(data::id(id)?, data::time(start)?, data::time(duration)?))
 }

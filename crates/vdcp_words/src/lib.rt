@@ -2,8 +2,12 @@
 #![tactic(auto)]
 
 mod command;
+mod data;
 mod fault;
+pub mod laws;
 mod reply;
+mod room;
+mod text;
 
 pub use command::Command;
 pub use fault::WordFault;

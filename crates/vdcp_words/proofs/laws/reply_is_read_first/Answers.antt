@@ -1,0 +1,15 @@
+use Rattle.std.proofs.Common.{arith}
+use Rattle.vdcp_frame.specs.Message.{spelling}
+use Rattle.vdcp_frame.proofs.ReadingLemmas.{Spells-spelling}
+use Rattle.vdcp_words.specs.Replies.{reply_message}
+use Rattle.vdcp_words.proofs.WordBytes.{reply_fits, first_read}
+use Rattle.vdcp_words.proofs.laws.reply_is_read_first.Goals as goal
+
+pub returns-clause-fits : goal.returns-clause-fits
+returns-clause-fits c unit reply within writable = reply_fits unit reply (omega arith) writable
+
+pub returns-clause-first : goal.returns-clause-first
+returns-clause-first c unit reply more ms end within writable reads =
+    let message = reply_message unit reply in
+    first_read message (spelling message) more ms end
+    (Spells-spelling message (reply_fits unit reply (omega arith) writable)) reads

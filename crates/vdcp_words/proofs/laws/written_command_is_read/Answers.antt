@@ -1,0 +1,11 @@
+use Rattle.vdcp_words.specs.Commands.{command_message}
+use Rattle.std.proofs.Common.{Ok}
+use Rattle.vdcp_words.proofs.CommandLaws.{command_written, one_command_reading}
+use Rattle.vdcp_words.proofs.laws.written_command_is_read.Goals as goal
+
+pub returns-clause-read : goal.returns-clause-read
+returns-clause-read c = command_written
+
+pub returns-clause-only : goal.returns-clause-only
+returns-clause-only c unit command outcome writable reads =
+    one_command_reading (command_message unit command) outcome (Ok command) reads (command_written unit command writable)

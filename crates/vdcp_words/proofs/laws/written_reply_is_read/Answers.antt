@@ -1,0 +1,14 @@
+use Rattle.std.proofs.Common.{Ok}
+use Rattle.vdcp_words.specs.Replies.{reply_message}
+use Rattle.vdcp_words.proofs.ReplyLaws.{reply_written, one_reply_reading, unit_of-reply}
+use Rattle.vdcp_words.proofs.laws.written_reply_is_read.Goals as goal
+
+pub returns-clause-read : goal.returns-clause-read
+returns-clause-read c = reply_written
+
+pub returns-clause-only : goal.returns-clause-only
+returns-clause-only c unit reply outcome writable reads =
+    one_reply_reading (reply_message unit reply) outcome (Ok reply) reads (reply_written unit reply writable)
+
+pub returns-clause-unit : goal.returns-clause-unit
+returns-clause-unit c = unit_of-reply

@@ -1,0 +1,76 @@
+//! Laws of the word tables, and what they make of bytes. Each holds for all that it names; the
+//! functions do nothing.
+
+ghost use Rattle.std.specs.Prelude.{◌≡◌, ◌≤◌, ℕ, List, [], ◌∷◌, ◌++◌, Result, Ok};
+ghost use Rattle.vdcp_frame.specs.Message.{Content, nak, Fits, spelling};
+ghost use Rattle.vdcp_frame.specs.Reading.{End, clean, Reads};
+ghost use Rattle.vdcp_words.specs.Messages.{unit_of, IsFramed};
+ghost use Rattle.vdcp_words.specs.Commands.{command_message, IsWritableCommand, ReadsCommand};
+ghost use Rattle.vdcp_words.specs.Replies.{reply_message, IsWritableReply, ReadsReply};
+ghost use Rattle.vdcp_words.specs.declared.command.Command.{Command};
+ghost use Rattle.vdcp_words.specs.declared.reply.Reply.{Reply};
+ghost use Rattle.vdcp_words.specs.declared.fault.WordFault.{WordFault};
+
+/// A message is read as one command, or has one fault.
+pub fn one_command()
+    ensures { (message : Content) (a b : Result Command WordFault) →
+        ReadsCommand message a → ReadsCommand message b → a ≡ b }
+{}
+
+/// A message is read as one reply, or has one fault.
+pub fn one_reply()
+    ensures { (message : Content) (a b : Result Reply WordFault) →
+        ReadsReply message a → ReadsReply message b → a ≡ b }
+{}
+
+/// The message of a command is read as that command and as no other, and names its unit.
+pub fn written_command_is_read()
+    ensures read { (unit : ℕ) (command : Command) → IsWritableCommand command →
+        ReadsCommand (command_message unit command) (Ok command) }
+    ensures only { (unit : ℕ) (command : Command) (outcome : Result Command WordFault) →
+        IsWritableCommand command → ReadsCommand (command_message unit command) outcome → outcome ≡ Ok command }
+    ensures unit { (unit : ℕ) (command : Command) → unit_of (command_message unit command) ≡ unit }
+{}
+
+/// The message of a reply whose state byte stands exactly where bit 0 of its bitmap is set is read
+/// as that reply and as no other. If it is framed it names its unit.
+pub fn written_reply_is_read()
+    ensures read { (unit : ℕ) (reply : Reply) → IsWritableReply reply →
+        ReadsReply (reply_message unit reply) (Ok reply) }
+    ensures only { (unit : ℕ) (reply : Reply) (outcome : Result Reply WordFault) →
+        IsWritableReply reply → ReadsReply (reply_message unit reply) outcome → outcome ≡ Ok reply }
+    ensures unit { (unit : ℕ) (reply : Reply) → IsFramed (reply_message unit reply) →
+        unit_of (reply_message unit reply) ≡ unit }
+{}
+
+/// The message of a command fits, and its bytes with anything behind them read first as it.
+pub fn command_is_read_first()
+    ensures fits { (unit : ℕ) (command : Command) → unit ≤ 15 → IsWritableCommand command →
+        Fits (command_message unit command) }
+    ensures first { (unit : ℕ) (command : Command) (more : List ℕ) (ms : List Content) (end : End) →
+        unit ≤ 15 → IsWritableCommand command → Reads (spelling (command_message unit command) ++ more) ms end →
+        (others : List Content) × (ms ≡ command_message unit command ∷ others) }
+{}
+
+/// The message of a reply fits, and its bytes with anything behind them read first as it.
+pub fn reply_is_read_first()
+    ensures fits { (unit : ℕ) (reply : Reply) → unit ≤ 15 → IsWritableReply reply →
+        Fits (reply_message unit reply) }
+    ensures first { (unit : ℕ) (reply : Reply) (more : List ℕ) (ms : List Content) (end : End) →
+        unit ≤ 15 → IsWritableReply reply → Reads (spelling (reply_message unit reply) ++ more) ms end →
+        (others : List Content) × (ms ≡ reply_message unit reply ∷ others) }
+{}
+
+/// No bytes read as no message.
+pub fn no_bytes_are_no_message()
+    ensures { (ms : List Content) (end : End) → Reads [] ms end → (ms ≡ []) × (end ≡ clean) }
+{}
+
+/// What the server writes at the end of a burst that it can't read to its end is one NAK: 04h for
+/// a fault, 80h for a burst that is cut short.
+pub fn naks_of_a_burst_end()
+    ensures fault { (ms : List Content) (end : End) → Reads (5 ∷ 0x04 ∷ []) ms end →
+        (ms ≡ nak 0x04 ∷ []) × (end ≡ clean) }
+    ensures cut { (ms : List Content) (end : End) → Reads (5 ∷ 0x80 ∷ []) ms end →
+        (ms ≡ nak 0x80 ∷ []) × (end ≡ clean) }
+{}
