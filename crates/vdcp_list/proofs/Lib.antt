@@ -1,1 +1,5 @@
-mod Rows
+mod RowsLeft
+mod Reading
+mod Texts
+mod Times
+mod Listings

@@ -2,5 +2,9 @@
 #![tactic(auto)]
 
 mod faults;
+mod fields;
+mod list;
+mod rows;
 
 pub use faults::{ListFault, SlotFault, WriteFault};
+pub use list::List;
