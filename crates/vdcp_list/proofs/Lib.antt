@@ -3,3 +3,6 @@ mod Reading
 mod Texts
 mod Times
 mod Listings
+mod Steps
+mod ItemRows
+mod PlaylistSteps

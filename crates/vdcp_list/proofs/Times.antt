@@ -27,13 +27,13 @@ mark_below F25 rest e = e
 mark_below F30 rest e = e
 mark_below D30 rest e = e
 
-record TwoDigits (label : Label) : Type 0 where
+pub record TwoDigits (label : Label) : Type 0 where
   pub hours : label.hours < 100
   pub minutes : label.minutes < 100
   pub seconds : label.seconds < 100
   pub frames : label.frames < 100
 
-two_digits_each : (label : Label) → has_two_digits label ≡ true → TwoDigits label
+pub two_digits_each : (label : Label) → has_two_digits label ≡ true → TwoDigits label
 two_digits_each label e =
     record { hours = grind (arith, e); minutes = grind (arith, e); seconds = grind (arith, e); frames = grind (arith, e) }
 

@@ -73,11 +73,15 @@ IsItemFault rate columns row k (TooMany j) = ⊥
 IsItemFault rate columns row k Memory = ⊥
 IsItemFault rate columns row k Read = ⊥
 
--- why the rows are no playlist, the first refusal row by row
+-- row k is the first that is refused, with this fault
+abbrev pub RefusesRow : Rate → List Row → ℕ → ListFault → Type 0
+RefusesRow rate rows k fault = (row : Row) × Follows rate rows k row × IsItemFault rate (columns_of rows) row k fault
+
+-- why the rows are no playlist: rows are tested one after another, and the first refusal counts
 abbrev pub IsPlaylistFault : Rate → List Row → ListFault → Type 0
-IsPlaylistFault rate rows (Columns k) = (row : Row) × Follows rate rows k row × IsItemFault rate (columns_of rows) row k (Columns k)
-IsPlaylistFault rate rows (Id k) = (row : Row) × Follows rate rows k row × IsItemFault rate (columns_of rows) row k (Id k)
-IsPlaylistFault rate rows (Time k) = (row : Row) × Follows rate rows k row × IsItemFault rate (columns_of rows) row k (Time k)
+IsPlaylistFault rate rows (Columns k) = RefusesRow rate rows k (Columns k)
+IsPlaylistFault rate rows (Id k) = RefusesRow rate rows k (Id k)
+IsPlaylistFault rate rows (Time k) = RefusesRow rate rows k (Time k)
 IsPlaylistFault rate rows (Twice k) = ⊥
 IsPlaylistFault rate rows (TooMany k) =
     (k ≡ most_rows + 1) × (most_rows < length rows)

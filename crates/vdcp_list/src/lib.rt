@@ -4,6 +4,7 @@
 mod faults;
 mod fields;
 mod list;
+mod playlist;
 mod rows;
 
 pub use faults::{ListFault, SlotFault, WriteFault};

@@ -9,6 +9,9 @@ use csv::{ByteRecord, Error, ErrorKind, Reader, ReaderBuilder};
 use std::alloc::Global;
 use std::io::Read;
 
+/// How many rows a file has at most.
+pub(crate) const MAX_ROWS: usize = 10_000;
+
 /// A reader of rows of any length, with commas, double quotes and no header row.
 pub(crate) fn rows_in<R: Read>(alloc: Global, source: R) -> Reader<R>
     ensures set { IsSet result }
