@@ -1,7 +1,7 @@
 use Rattle.std.proofs.Common.{◌≡◌, ℕ, ◌+◌, ◌-◌, ◌<◌, ◌≤◌, Bool, true, false, List, [], ◌∷◌, ◌++◌, length, take, drop, refl, sym, ap, subst, ◌∙◌, arith, zero, suc, add-one}
-use Rattle.std.specs.Prelude.{Option, None, Some, slice_get}
+use Rattle.std.specs.Prelude.{IfSome, Option, None, Some, option_map, slice_get}
 use Rattle.vdcp_list.specs.Reading.{TakesRow}
-use Rattle.vdcp_list.specs.Rows.{Row}
+use Rattle.vdcp_list.specs.Rows.{Row, rows_of}
 
 -- row n, counted from 0, is next, and these come after it
 record Next (rows : List Row) (n : ℕ) (row : Row) (rest : List Row) : Type 0 where
@@ -68,3 +68,8 @@ done rows left left' n row a t =
 -- a known reader's rows are left at first
 pub at_first : (rows : List Row) → AfterRows rows (Some rows) 0
 at_first rows = record { left_is = refl; within = omega arith }
+
+-- what holds of the rows holds of their bytes
+pub of_bytes : (bytes : Option (List ℕ)) (P : List Row → Type 0) → IfSome (option_map rows_of bytes) P → IfSome bytes (λ text. P (rows_of text))
+of_bytes None P h = tt
+of_bytes (Some text) P h = h
