@@ -128,7 +128,7 @@ part_read rate s d sb db start duration es ed rs rd ts td some =
     rw (es, ed, ts, td) (fields_of_times rate s d rs rd, part_of_times rate s d rs rd some)
 
 -- the row of an item
-first_of : (row : Row) (field : List ℕ) → slice_get row 0 ≡ Some field → row ≡ field ∷ drop 1 row
+pub first_of : (row : Row) (field : List ℕ) → slice_get row 0 ≡ Some field → row ≡ field ∷ drop 1 row
 first_of [] field e = cc e
 first_of (first ∷ row) field e = let same : first ≡ field = cc e in ap (λ f. f ∷ row) same
 

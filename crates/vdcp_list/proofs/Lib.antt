@@ -6,3 +6,6 @@ mod Listings
 mod Steps
 mod ItemRows
 mod PlaylistSteps
+mod ClipPlaces
+mod SlotClips
+mod CatalogueSteps

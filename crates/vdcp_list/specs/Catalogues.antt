@@ -54,11 +54,15 @@ IsClipFault rate row k Read = ⊥
 abbrev pub StandsIn : List Row → ClipId → Type 0
 StandsIn rows id = Contains (map (λ row. slice_get row 0) rows) (Some (text_of_id id))
 
--- why the rows are no catalogue, the first refusal row by row
+-- row k is the first that is refused, with this fault
+abbrev pub RefusesRow : Rate → List Row → ℕ → ListFault → Type 0
+RefusesRow rate rows k fault = (row : Row) × Follows rate rows k row × IsClipFault rate row k fault
+
+-- why the rows are no catalogue: rows are tested one after another, and the first refusal counts
 abbrev pub IsCatalogueFault : Rate → List Row → ListFault → Type 0
-IsCatalogueFault rate rows (Columns k) = (row : Row) × Follows rate rows k row × IsClipFault rate row k (Columns k)
-IsCatalogueFault rate rows (Id k) = (row : Row) × Follows rate rows k row × IsClipFault rate row k (Id k)
-IsCatalogueFault rate rows (Time k) = (row : Row) × Follows rate rows k row × IsClipFault rate row k (Time k)
+IsCatalogueFault rate rows (Columns k) = RefusesRow rate rows k (Columns k)
+IsCatalogueFault rate rows (Id k) = RefusesRow rate rows k (Id k)
+IsCatalogueFault rate rows (Time k) = RefusesRow rate rows k (Time k)
 IsCatalogueFault rate rows (Twice k) =
     (clip : ClipId × Timecode) × Follows rate rows k (clip_row clip) × CanLast rate clip.1
     × StandsIn (take (k - 1) rows) clip.0

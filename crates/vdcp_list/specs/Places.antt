@@ -6,7 +6,7 @@ use Rattle.vdcp_value.specs.declared.clip_id.ClipId.{ClipId}
 use Rattle.vdcp_value.specs.declared.timecode.Timecode.{Timecode}
 
 -- an ID as one number, which orders IDs as their bytes do
-abbrev pub key_of : ClipId → ℕ
+unfoldable pub key_of : ClipId → ℕ
 key_of id = from_be_bytes w64 (id_bytes id)
 
 -- the place of the first clip of an ID
