@@ -73,7 +73,7 @@ own_bytes time =
     bcd_below (label_of time).hours d.hours) refl
 
 -- and write its text
-own_text : (rate : Rate) (time : Timecode) → rate_of time ≡ rate → time_text rate (bcd_of time) ≡ text_of time
+pub own_text : (rate : Rate) (time : Timecode) → rate_of time ≡ rate → time_text rate (bcd_of time) ≡ text_of time
 own_text rate time e = ap (label_text rate) (label_of_own_bcd time) ∙ ap (λ r. label_text r (label_of time)) (sym e)
 
 own_is_lawful : (rate : Rate) (time : Timecode) → rate_of time ≡ rate → is_time rate (bcd_of time) ≡ true

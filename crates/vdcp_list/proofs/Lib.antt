@@ -9,3 +9,4 @@ mod PlaylistSteps
 mod ClipPlaces
 mod SlotClips
 mod CatalogueSteps
+mod Events

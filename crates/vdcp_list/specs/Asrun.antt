@@ -1,6 +1,6 @@
 use Rattle.csv.specs.Writing.{default_writer, row_text}
-use Rattle.std.specs.List.{list_any}
-use Rattle.std.specs.Prelude.{ℕ, suc, ◌<◌, ◌≡◌, Bool, IsFalse, IsTrue, true, List, [], ◌∷◌, ◌++◌, All, decimal, is_some, take, slice_get, Option, None, Some}
+use Rattle.std.specs.List.{list_all, list_any}
+use Rattle.std.specs.Prelude.{ℕ, suc, ◌<◌, ◌≡◌, Bool, IsFalse, IsTrue, true, List, [], ◌∷◌, ◌++◌, decimal, is_some, take, slice_get, Option, None, Some}
 use Rattle.vdcp_list.specs.Playlists.{is_lawful_part, item_row}
 use Rattle.vdcp_list.specs.Rows.{Row}
 use Rattle.vdcp_value.specs.declared.part.Item.{Item}
@@ -27,10 +27,13 @@ abbrev pub is_lawful_event : Rate → Option Part → Bool
 is_lawful_event rate None = true
 is_lawful_event rate (Some part) = is_lawful_part rate part
 
+abbrev pub are_lawful : Rate → List Item → Bool
+are_lawful rate items = list_all (λ item. is_lawful_event rate item.part) items
+
 -- event k is the first of those reported whose part isn't lawful at the rate
 pub record IsUnlawful (rate : Rate) (items : List Item) (reported k : ℕ) : Type 0 where
   pub reported_is : k < reported
-  pub before : All (λ item. IsTrue (is_lawful_event rate item.part)) (take k items)
+  pub before : IsTrue (are_lawful rate (take k items))
   pub item : Item
   pub at_k : slice_get items k ≡ Some item
   pub unlawful : IsFalse (is_lawful_event rate item.part)

@@ -1,15 +1,15 @@
 ghost use Rattle.csv.specs.Writing.{default_writer, fields_written, has_written, row_text, text_written, writer_setup};
 ghost use Rattle.std.specs.Io.KnownBytes.{Appends, Keeps};
-ghost use Rattle.std.specs.Prelude.{◌≡◌, ◌≢◌, ◌↔◌, ◌≤◌, ◌∷◌, All, Err, IfErr, IfOk, IsTrue, List, OnErr, OnOk, decimal, false, length, take, ℕ};
-ghost use Rattle.vdcp_list.specs.Asrun.{IsUnlawful, asrun_text, events_text, has_part, is_lawful_event};
-ghost use Rattle.vdcp_list.specs.Playlists.{item_row, time_text};
+ghost use Rattle.std.specs.Prelude.{◌≡◌, ◌≢◌, ◌↔◌, ◌≤◌, ◌∷◌, [], Err, IfErr, IfOk, IsTrue, OnErr, OnOk, decimal, false, length, string_bytes, take, ℕ};
+ghost use Rattle.vdcp_list.specs.Asrun.{IsUnlawful, are_lawful, asrun_text, has_part, is_lawful_event};
+ghost use Rattle.vdcp_list.specs.Playlists.{item_row, part_fields, time_text};
 ghost use Rattle.vdcp_list.specs.declared.faults.WriteFault.TheVariants.{Device, Time};
 ghost use Rattle.vdcp_value.specs.Bcd.{is_time};
 
 use crate::faults::WriteFault;
 use arrayvec::ArrayString;
-use csv::{Writer, WriterBuilder};
-use std::alloc::Global;
+use csv::{Error, Writer, WriterBuilder};
+use std::alloc::{AllocError, Global};
 use std::io::Write;
 use vdcp_auto::Source;
 use vdcp_value::{Item, Part, Rate, Timecode};
@@ -35,30 +35,42 @@ pub fn write_asrun<S: Source, W: Write>(
 {
     check_parts(source, rate, reported)?;
     let text = asrun_text(alloc, source, rate, reported)?;
-    match writer.write_all(text.as_slice()) {
-        Ok(()) => {}
-        Err(_) => return Err(WriteFault::Device),
+    write_out(writer, text.as_slice())
+}
+
+/// Writes a text and flushes the writer.
+fn write_out<W: Write>(writer: &mut W, text: &[u8]) -> Result<(), WriteFault>
+    ensures ok { OnOk result (Appends (W.contents writer.old) (W.contents writer.new) text.now) }
+    ensures device { IfErr result (λ fault. fault ≡ Device) }
+{
+    if writer.write_all(text).is_err() || writer.flush().is_err() {
+        return Err(WriteFault::Device);
     }
-    match writer.flush() {
-        Ok(()) => Ok(()),
-        Err(_) => Err(WriteFault::Device),
-    }
+    Ok(())
 }
 
 /// Refuses the first of these events whose part isn't lawful at the rate.
 fn check_parts<S: Source>(source: &S, rate: Rate, reported: usize) -> Result<(), WriteFault>
     requires { reported ≤ length (S.items source.now) }
-    ensures lawful { OnOk result (All (λ item. IsTrue (is_lawful_event rate item.part)) (take reported (S.items source.now))) }
+    ensures lawful { OnOk result (IsTrue (are_lawful rate (take reported (S.items source.now)))) }
     ensures unlawful { IfErr result (λ fault. (k : ℕ) × (fault ≡ Time k) × IsUnlawful rate (S.items source.now) reported k) }
 {
     for k in 0..reported {
-        if let Some(part) = source.at(k).part {
-            if !is_lawful(rate, part.start) || !is_lawful(rate, part.duration) {
-                return Err(WriteFault::Time(k));
-            }
+        if !is_lawful_event(rate, &source.at(k)) {
+            return Err(WriteFault::Time(k));
         }
     }
     Ok(())
+}
+
+/// Whether the part of an event, where it has one, is lawful at a rate.
+fn is_lawful_event(rate: Rate, item: &Item) -> bool
+    ensures { result ≡ is_lawful_event rate item.now.part }
+{
+    match item.part {
+        None => true,
+        Some(part) => is_lawful(rate, part.start) && is_lawful(rate, part.duration),
+    }
 }
 
 /// Whether four bytes are a lawful time code at a rate.
@@ -68,7 +80,7 @@ fn is_lawful(rate: Rate, bytes: [u8; 4]) -> bool
     Timecode::from_bcd(rate, bytes).is_ok()
 }
 
-/// The as-run list's text.
+/// The as-run list's text. It is written to memory, so that only want of memory can refuse it.
 fn asrun_text<S: Source>(
     alloc: Global,
     source: &S,
@@ -76,7 +88,7 @@ fn asrun_text<S: Source>(
     reported: usize,
 ) -> Result<Vec<u8>, WriteFault>
     requires within { reported ≤ length (S.items source.now) }
-    requires lawful { All (λ item. IsTrue (is_lawful_event rate item.part)) (take reported (S.items source.now)) }
+    requires lawful { IsTrue (are_lawful rate (take reported (S.items source.now))) }
     ensures text { IfOk result (λ text. text.items ≡ asrun_text rate (S.items source.now) reported) }
     ensures memory { IfErr result (λ fault. fault ≡ WriteFault.Memory) }
 {
@@ -84,17 +96,26 @@ fn asrun_text<S: Source>(
     let mut rows = WriterBuilder::new().from_writer(Vec::new(alloc));
     let mut number = String::new(alloc);
     for k in 0..reported {
-        number.clear();
-        if write!(number, "{k}").is_err() {
+        if show_number(k, &mut number).is_err() {
             return Err(WriteFault::Memory);
         }
-        write_event(&mut rows, number.as_str(), &source.at(k), rate, with_parts)?;
+        let item = source.at(k);
+        if write_event(&mut rows, number.as_str(), &item, rate, with_parts).is_err() {
+            return Err(WriteFault::Memory);
+        }
     }
-    // Rows of memory are refused only for want of memory.
     match rows.into_inner() {
         Ok(text) => Ok(text),
         Err(_) => Err(WriteFault::Memory),
     }
+}
+
+/// Writes a number in decimal in place of the text.
+fn show_number(number: usize, text: &mut String) -> Result<(), AllocError>
+    ensures { OnOk result (string_bytes text.new ≡ decimal number) }
+{
+    text.clear();
+    write!(text, "{number}")
 }
 
 /// Whether some event of a source has a part.
@@ -110,39 +131,57 @@ fn has_part<S: Source>(source: &S) -> bool
 }
 
 /// Writes the row of an event.
-fn write_event(
-    rows: &mut Writer<Vec<u8>>,
+fn write_event<W: Write + Drop>(
+    rows: &mut Writer<W>,
     number: &str,
     item: &Item,
     rate: Rate,
     with_parts: bool,
-) -> Result<(), WriteFault>
+) -> Result<(), Error>
     requires lawful { IsTrue (is_lawful_event rate item.now.part) }
     requires setup { writer_setup rows.old ≡ default_writer }
     requires ended { fields_written rows.old ≡ 0 }
     requires clean { has_written rows.old ≡ false }
-    ensures text { OnOk result (Appends (text_written Vec.contents rows.old) (text_written Vec.contents rows.new) (row_text default_writer (number.now ∷ item_row rate with_parts item.now))) }
+    ensures text { OnOk result (Appends (text_written W.contents rows.old) (text_written W.contents rows.new) (row_text default_writer (number.now ∷ item_row rate with_parts item.now))) }
     ensures setup { OnOk result (writer_setup rows.new ≡ default_writer) }
     ensures ended { OnOk result (fields_written rows.new ≡ 0) }
     ensures clean { OnOk result (has_written rows.new ≡ false) }
-    ensures memory { IfErr result (λ fault. fault ≡ WriteFault.Memory) }
 {
     let mut id = ArrayString::new();
     item.id.show(&mut id);
-    let written = if with_parts {
-        let mut start = ArrayString::new();
-        let mut duration = ArrayString::new();
-        if let Some(part) = item.part {
-            show_time(rate, part.start, &mut start);
-            show_time(rate, part.duration, &mut duration);
+    if !with_parts {
+        return rows.write_fields(&[number.as_bytes(), id.as_bytes()]);
+    }
+    let mut start = ArrayString::new();
+    let mut duration = ArrayString::new();
+    show_part(rate, item.part, &mut start, &mut duration);
+    rows.write_fields(&[
+        number.as_bytes(),
+        id.as_bytes(),
+        start.as_bytes(),
+        duration.as_bytes(),
+    ])
+}
+
+/// Writes the fields of a lawful part in place of the buffers' texts.
+fn show_part(
+    rate: Rate,
+    part: Option<Part>,
+    start: &mut ArrayString<11>,
+    duration: &mut ArrayString<11>,
+)
+    requires { IsTrue (is_lawful_event rate part) }
+    ensures { part_fields rate part ≡ start.new.bytes ∷ duration.new.bytes ∷ [] }
+{
+    match part {
+        None => {
+            start.clear();
+            duration.clear();
         }
-        rows.write_fields(&[number.as_bytes(), id.as_bytes(), start.as_bytes(), duration.as_bytes()])
-    } else {
-        rows.write_fields(&[number.as_bytes(), id.as_bytes()])
-    };
-    match written {
-        Ok(()) => Ok(()),
-        Err(_) => Err(WriteFault::Memory),
+        Some(part) => {
+            show_time(rate, part.start, start);
+            show_time(rate, part.duration, duration);
+        }
     }
 }
 
