@@ -1,11 +1,11 @@
 -- The computed reading is the reading.
-use Rattle.std.proofs.Common.{◌≡◌, ℕ, zero, suc, ◌+◌, ◌-◌, ◌<◌, ◌≤◌, cond, ltb, List, [], ◌∷◌, ◌++◌, length, take, drop, refl, sym, ap, subst, ◌∙◌, append_assoc, arith, length-append}
-use Rattle.std.proofs.lemmas.List.{take-append-drop, length-drop, append_cancel_left, nil_from_length}
+use Rattle.std.proofs.Common.{◌≡◌, ℕ, zero, suc, ◌-◌, ◌<◌, ◌≤◌, cond, ltb, List, [], ◌++◌, length, take, drop, refl, sym, ap, subst, ◌∙◌, append_assoc, arith, length-append}
+use Rattle.std.proofs.lemmas.List.{take-append-drop, length-drop, nil_from_length}
 use Rattle.std.proofs.lemmas.List.Elements.{All-take, All-drop}
-use Rattle.vdcp_frame.specs.Message.{Content, AreBytes, Spells}
-use Rattle.vdcp_frame.specs.Reading.{SpellsAll, HasNoFront, End, clean, cut, fault, Ends, long_end, ReadsShort, ReadsUpTo, Reads}
-use Rattle.vdcp_frame.specs.Head.{Head, nothing, part, wrong, found, head_of, IsPart, IsWrong, IsFound, HeadIs}
-use Rattle.vdcp_frame.specs.Burst.{messages_at, rest_at, messages_within, rest_within, end_at, short_end, messages_of, end_of}
+use Rattle.vdcp_frame.specs.Message.{Content, AreBytes}
+use Rattle.vdcp_frame.specs.Reading.{SpellsAll, HasNoFront, Ends, long_end, ReadsShort, ReadsUpTo}
+use Rattle.vdcp_frame.specs.Head.{Head, nothing, part, wrong, found, head_of, HeadIs}
+use Rattle.vdcp_frame.specs.Burst.{messages_at, rest_at, messages_within, rest_within, end_at, short_end}
 use Rattle.vdcp_frame.proofs.HeadLemmas.{head_is}
 use Rattle.vdcp_frame.proofs.ReadingLemmas.{nil_no_front}
 

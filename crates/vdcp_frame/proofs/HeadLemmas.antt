@@ -1,14 +1,13 @@
 -- What stands at the front of some bytes: the answer of head_of means what it says.
-use Rattle.std.proofs.Common.{◌≡◌, ◌≢◌, ℕ, zero, suc, ◌+◌, ◌-◌, ◌*◌, ◌/◌, ◌%◌, ◌<◌, ◌≤◌, ◌==◌, Bool, true, false, cond, eqb, ltb, List, [], ◌∷◌, ◌++◌, length, get_or, take, drop, sum, refl, sym, ap, subst, ◌∙◌, append_assoc, arith, inl, inr, ◌⊎◌, length-append, add-one, replicate}
-use Rattle.std.specs.Prelude.{All, slice_index}
+use Rattle.std.proofs.Common.{◌≡◌, ℕ, zero, suc, ◌+◌, ◌-◌, ◌*◌, ◌/◌, ◌%◌, ◌<◌, ◌≤◌, ◌==◌, true, false, ltb, List, [], ◌∷◌, ◌++◌, length, get_or, take, drop, sum, refl, sym, ap, subst, ◌∙◌, append_assoc, arith, inl, inr, length-append, replicate}
+use Rattle.std.specs.Prelude.{All}
 use Rattle.std.proofs.lemmas.Bool.{cases_lt, cases_eq, lt-ltb, le-ltb, eq-eqb, ne_eqb}
-use Rattle.std.proofs.lemmas.Bool.Decides.{nat_tests, eqb_tells}
-use Rattle.std.proofs.lemmas.List.{take_at, drop_at, take-append-drop, length-take, get_or-drop, get_or-take, get_or_past, append-nil, take_all, take-take, take_more, length-replicate}
-use Rattle.std.proofs.lemmas.List.Elements.{All-nil, All-replicate, All-append, All-take, All-drop, All-head, All-tail, All-get_or}
+use Rattle.std.proofs.lemmas.List.{take-append-drop, length-take, append-nil, take-take, take_more, length-replicate}
+use Rattle.std.proofs.lemmas.List.Elements.{All-nil, All-replicate, All-append, All-take, All-head, All-tail, All-get_or}
 use Rattle.vdcp_frame.specs.declared.message.Fault.{Fault}
 use Rattle.vdcp_frame.specs.declared.message.Fault.TheVariants.{BadStart, BadCount, BadSum}
-use Rattle.vdcp_frame.specs.Message.{Content, ack, nak, framed, AreBytes, FitsFrame, SpellsFrame, Spells, check_byte}
-use Rattle.vdcp_frame.specs.Reading.{Begins, HasNoFront, IsFirstWrong, fault_of}
+use Rattle.vdcp_frame.specs.Message.{Content, ack, nak, framed, AreBytes, SpellsFrame, Spells, check_byte}
+use Rattle.vdcp_frame.specs.Reading.{Begins, HasNoFront}
 use Rattle.vdcp_frame.specs.Head.{Head, nothing, part, wrong, found, data_head, body_head, frame_head, nak_head, head_of, IsPart, IsWrong, IsFound, HeadIs}
 
 -- ---- what is spelt is found, whatever follows

@@ -1,4 +1,9 @@
 pub mod HeadLemmas
 pub mod ReadingLemmas
 pub mod BurstLemmas
-pub mod LawLemmas
+pub mod FrameLemmas
+pub mod ChangedByteLemmas
+pub mod ReaderLemmas
+pub mod PieceLemmas
+pub mod HeldLemmas
+pub mod FeedLemmas

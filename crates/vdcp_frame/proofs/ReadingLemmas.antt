@@ -1,16 +1,14 @@
 -- Each burst has exactly one reading, and a step along it is a step of the reading.
-use Rattle.std.proofs.Common.{◌≡◌, ◌≢◌, ◌⊎◌, ℕ, zero, suc, ◌+◌, ◌-◌, ◌*◌, ◌%◌, ◌<◌, ◌≤◌, Bool, true, false, cond, ltb, List, [], ◌∷◌, ◌++◌, length, take, drop, sum, refl, sym, ap, subst, ◌∙◌, append_assoc, arith, inl, inr, length-append}
-use Rattle.std.specs.Prelude.{All}
+use Rattle.std.proofs.Common.{◌≡◌, ◌⊎◌, ℕ, ◌+◌, ◌-◌, ◌*◌, ◌%◌, ◌<◌, ◌≤◌, Bool, true, false, cond, ltb, List, [], ◌∷◌, ◌++◌, length, take, drop, sum, refl, sym, ap, subst, ◌∙◌, append_assoc, arith, inl, inr, length-append}
 use Rattle.std.proofs.lemmas.Bool.{cases_lt, lt-ltb, le-ltb}
-use Rattle.std.proofs.lemmas.List.{take_at, drop_at, take-append-drop, length-take, length-drop, append-nil, append_cancel_left, take_all, take-take, take-append-le, drop-take}
-use Rattle.std.proofs.lemmas.List.Elements.{All-take, All-drop}
+use Rattle.std.proofs.lemmas.List.{take_at, take-append-drop, length-take, length-drop, append-nil, append_cancel_left, take_all, take-take, take-append-le, drop-take}
 use Rattle.vdcp_frame.specs.declared.message.Fault.{Fault}
-use Rattle.vdcp_frame.specs.declared.message.Fault.TheVariants.{BadStart, BadCount, BadSum, Long}
-use Rattle.vdcp_frame.specs.Message.{Content, ack, nak, framed, AreBytes, Fits, Spells, SpellsFrame, check_byte, spelling}
-use Rattle.vdcp_frame.specs.Reading.{SpellsAll, Begins, HasNoFront, IsFirstWrong, End, clean, cut, fault, fault_of, Ends, ReadsShort, long_end, ReadsUpTo, Reads}
-use Rattle.vdcp_frame.specs.Head.{Head, nothing, part, wrong, found, head_of, IsPart, IsWrong, IsFound, HeadIs}
-use Rattle.vdcp_frame.proofs.HeadLemmas.{head_of-spelt, head_is, Begins-take, Begins-nil, check_byte-fits, check_byte-adds_up}
-use Rattle.std.proofs.Math.Seq.{take-add}
+use Rattle.vdcp_frame.specs.declared.message.Fault.TheVariants.{Long}
+use Rattle.vdcp_frame.specs.Message.{Content, ack, nak, framed, Fits, Spells, check_byte, spelling}
+use Rattle.vdcp_frame.specs.Reading.{SpellsAll, Begins, HasNoFront, IsFirstWrong, End, clean, cut, fault, fault_of, Ends, ReadsShort, long_end, ReadsUpTo}
+use Rattle.vdcp_frame.specs.Head.{found, head_of, IsPart, IsWrong, IsFound}
+use Rattle.vdcp_frame.proofs.HeadLemmas.{head_of-spelt, Begins-take, Begins-nil, check_byte-fits, check_byte-adds_up}
+use Rattle.std.proofs.Math.Seq.{take-add, take-append-add}
 
 -- ---- one message
 
@@ -129,7 +127,7 @@ one_reading limit burst ms ns e f p q =
 
 -- ---- a step along a burst
 
-either_way : (b : Bool) (end : End) → cond b end end ≡ end
+pub either_way : (b : Bool) (end : End) → cond b end end ≡ end
 either_way true end = refl
 either_way false end = refl
 
@@ -206,3 +204,95 @@ module _ (limit : ℕ) (burst : List ℕ) (from : ℕ) (within : from ≤ limit)
 
   pub found_further : (m : Content) (size : ℕ) → IsFound (left limit burst from) m size → (from < from + size) × (from + size ≤ limit) × (from + size ≤ length burst)
   found_further m size f = (omega (arith, f.some), found_within m size f, omega (arith, f.some, f.within, length-drop from (take limit burst), length-take limit burst))
+
+-- ---- spellings
+
+pub begins_no_other : (m n : Content) (a b more : List ℕ) → Spells m a → Spells n b → b ≡ a ++ more → (m ≡ n) × (more ≡ [])
+begins_no_other m n a b more s t e =
+    let same = one_front m n a b more [] s t (sym e ∙ sym (append-nil b)) in
+    (same.0, same.2)
+
+pub fits-from_spelt : (m : Content) (bytes : List ℕ) → Spells m bytes → Fits m
+fits-from_spelt ack bytes s = tt
+fits-from_spelt (nak byte) bytes s = s.0
+fits-from_spelt (framed kind unit code rest) bytes s = s.fits
+
+pub the_spelling : (m : Content) (bytes : List ℕ) → Spells m bytes → Fits m × (bytes ≡ spelling m)
+the_spelling m bytes s =
+    let fits = fits-from_spelt m bytes s in
+    (fits, one_spelling m bytes (spelling m) s (Spells-spelling m fits))
+
+-- ---- written messages are read again
+
+-- the messages of a longer list begin with those of a front
+goes_on : (ms ns : List Content) (a b more rest : List ℕ) → SpellsAll ms a → SpellsAll ns b → HasNoFront rest → a ++ more ≡ b ++ rest → (others : List Content) × (ns ≡ ms ++ others)
+goes_on [] ns a b more rest p q none e = (ns, refl)
+goes_on (m ∷ ms) [] a b more rest p q none e =
+    absurd (none m p.0 (p.1 ++ more) p.2 (sym (ap (λ (f : List ℕ). f ++ rest) q) ∙ sym e ∙ ap (λ (f : List ℕ). f ++ more) p.4 ∙ append_assoc p.0 p.1 more))
+goes_on (m ∷ ms) (n ∷ ns) a b more rest p q none e =
+    let joined : p.0 ++ (p.1 ++ more) ≡ q.0 ++ (q.1 ++ rest) =
+    sym (ap (λ (f : List ℕ). f ++ more) p.4 ∙ append_assoc p.0 p.1 more) ∙ e ∙ ap (λ (f : List ℕ). f ++ rest) q.4 ∙ append_assoc q.0 q.1 rest in
+    let first = one_front m n p.0 q.0 (p.1 ++ more) (q.1 ++ rest) p.2 q.2 joined in
+    let tail = goes_on ms ns p.1 q.1 more rest p.3 q.3 none first.2 in
+    (tail.0, cc (first.0, tail.1))
+
+pub front_up_to : (limit : ℕ) (bytes more : List ℕ) → length bytes ≤ limit → take limit (bytes ++ more) ≡ bytes ++ take (limit - length bytes) more
+front_up_to limit bytes more fits =
+    let whole : limit ≡ length bytes + (limit - length bytes) = omega arith in
+    ap (λ (n : ℕ). take n (bytes ++ more)) whole ∙ take-append-add bytes more (limit - length bytes)
+
+pub read_again : (limit : ℕ) (ms ns : List Content) (bytes more : List ℕ) (end : End) → SpellsAll ms bytes → length bytes ≤ limit → ReadsUpTo limit (bytes ++ more) ns end → (others : List Content) × (ns ≡ ms ++ others)
+read_again limit ms ns bytes more end all fits reads =
+    goes_on ms ns bytes reads.front.whole (take (limit - length bytes) more) reads.front.rest all reads.front.spelt reads.front.no_front
+    (sym (front_up_to limit bytes more fits) ∙ reads.front.parts)
+
+pub read_alone : (limit : ℕ) (ms : List Content) (bytes : List ℕ) → SpellsAll ms bytes → length bytes ≤ limit → ReadsUpTo limit bytes ms clean
+read_alone limit ms bytes all fits =
+    let short : take limit bytes ≡ bytes = take_all limit bytes fits in
+    record {
+      short = clean;
+      front = record { whole = bytes; rest = []; parts = short ∙ sym (append-nil bytes); spelt = all; no_front = nil_no_front; ends = refl };
+      long = ap (λ (b : Bool). cond b (long_end limit clean) clean) (sym (le-ltb limit (length bytes) fits));
+    }
+
+-- ---- bytes behind a fault change nothing
+
+pub IsWrong-more : (w rest : List ℕ) (kind : Fault) → IsWrong w kind (length w) → IsWrong (w ++ rest) kind (length w)
+IsWrong-more w rest kind h =
+    let same : (k : ℕ) → k ≤ length w → take k (w ++ rest) ≡ take k w = λ k le. take-append-le k w rest le in
+    let at_end = same (length w) (omega arith) in
+    record {
+      first = record {
+        within = omega (arith, length-append w rest);
+        wrong = λ b. h.first.wrong (subst Begins at_end b);
+        shorter = λ k lt. let le : k ≤ length w = omega arith in subst Begins (sym (same k le)) (h.first.shorter k lt);
+      };
+      no_front = λ m front tail s e. elim (cases_lt (length w) (length front)) [
+        | inl longer ↦
+            let front_is : front ≡ w ++ drop (length w) front =
+            sym (take-append-drop (length w) front)
+            ∙ ap (λ (f : List ℕ). f ++ drop (length w) front) (sym (take-append-le (length w) front tail (omega arith)) ∙ ap (λ (f : List ℕ). take (length w) f) (sym e) ∙ take_at w rest (length w) refl) in
+            let begins : Begins w = record { message = m; more = drop (length w) front; spelt = subst (Spells m) front_is s } in
+            h.first.wrong (subst Begins (sym (take_all (length w) w (omega arith))) begins)
+        | inr fits ↦
+            let front_is : front ≡ take (length front) w =
+            sym (take_at front tail (length front) refl) ∙ ap (λ (f : List ℕ). take (length front) f) (sym e) ∙ take-append-le (length front) w rest fits in
+            h.no_front m front (drop (length front) w) s (sym (take-append-drop (length front) w) ∙ ap (λ (f : List ℕ). f ++ drop (length front) w) (sym front_is))
+      ];
+      which = h.which ∙ ap fault_of (sym at_end);
+    }
+
+-- a burst that is wrong behind whole messages, whatever follows
+pub wrong_reads : (limit : ℕ) (ms : List Content) (whole w rest : List ℕ) (kind : Fault) → SpellsAll ms whole → IsWrong w kind (length w) → length whole + length w ≤ limit →
+    ReadsUpTo limit ((whole ++ w) ++ rest) ms (fault kind (length whole + length w))
+wrong_reads limit ms whole w rest kind all h room =
+    let front : List ℕ = whole ++ w in
+    let size : length front ≡ length whole + length w = length-append whole w in
+    let tail : List ℕ = take (limit - length front) rest in
+    let read : take limit (front ++ rest) ≡ whole ++ (w ++ tail) = front_up_to limit front rest (omega arith) ∙ append_assoc whole w tail in
+    let there = IsWrong-more w tail kind h in
+    record {
+      short = fault kind (length whole + length w);
+      front = record { whole = whole; rest = w ++ tail; parts = read; spelt = all; no_front = there.no_front; ends = (length w, there.first, refl, there.which) };
+      long = sym (either_way (ltb limit (length (front ++ rest))) (fault kind (length whole + length w)));
+    }

@@ -32,7 +32,7 @@ abbrev pub end_at : ℕ → List ℕ → Head → End
 end_at before rest nothing = clean
 end_at before rest part = cut (length rest)
 end_at before rest (wrong kind size) = fault kind (before + size)
-end_at before rest (found m size) = clean
+end_at before rest (found m size) = clean  -- which no rest is
 
 abbrev pub short_end : List ℕ → End
 short_end bytes =

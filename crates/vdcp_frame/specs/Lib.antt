@@ -4,3 +4,7 @@ pub mod Head
 pub mod Seen
 pub mod Step
 pub mod Burst
+pub mod Progress
+pub mod Reader
+pub mod Held
+pub mod Pieces

@@ -47,7 +47,7 @@ Ends before rest clean = rest ≡ []
 Ends before rest (cut count) = (rest ≢ []) × Begins rest × (count ≡ length rest)
 Ends before rest (fault kind place) = (n : ℕ) × IsFirstWrong rest n × (place ≡ before + n) × (kind ≡ fault_of (take n rest))
 
--- the bytes are the spellings of the messages, and then a rest with this end of which no front is a spelling
+-- the messages' spellings, then a rest that begins with no spelling, and what end the rest makes
 pub record ReadsShort (bytes : List ℕ) (ms : List Content) (end : End) : Type 0 where
   pub whole : List ℕ
   pub rest : List ℕ

@@ -1,9 +1,9 @@
-use Rattle.std.specs.Prelude.{ℕ, ◌≡◌, List, []}
+use Rattle.std.specs.Prelude.{ℕ, List}
 use Rattle.vdcp_frame.specs.declared.head.Head.{Head}
 use Rattle.vdcp_frame.specs.declared.head.Head.TheVariants as head
 use Rattle.vdcp_frame.specs.Message.{content_of}
 use Rattle.vdcp_frame.specs.Head as spec
-use Rattle.vdcp_frame.specs.Head.{IsPart, IsWrong, IsFound}
+use Rattle.vdcp_frame.specs.Head.{HeadIs}
 
 -- a head of the code, without where its data lies in memory
 abbrev pub seen : Head → spec.Head
@@ -14,7 +14,4 @@ seen (head.Found message size) = spec.found (content_of message) size
 
 -- what a head of the code says of the bytes
 abbrev pub Means : List ℕ → Head → Type 0
-Means bytes head.Nothing = bytes ≡ []
-Means bytes head.Part = IsPart bytes
-Means bytes (head.Wrong kind size) = IsWrong bytes kind size
-Means bytes (head.Found message size) = IsFound bytes (content_of message) size
+Means bytes h = HeadIs bytes (seen h)

@@ -6,25 +6,29 @@ ghost use Rattle.vdcp_frame.specs.Step.{IfMessage, IfEnd};
 use crate::head::Head;
 use crate::message::{Fault, Message};
 
-/// The bytes of a burst that are read: a longer burst is a fault.
+/// So many bytes of a burst are read. One that has more, and no fault among these, ends in the fault
+/// `Long`. The limit is this profile's.
 pub const LIMIT: usize = 4096;
 
 /// What stands at a place of a burst.
 #[derive(Clone, Copy, Debug, PartialEq, Eq)]
 pub enum Step<'a> {
-    /// A message, and the place behind it, at which the next one is read.
+    /// A message, and how many bytes of the burst end with it: the next `from`.
     Message(Message<'a>, usize),
-    /// The burst ends behind a whole message, or has no byte.
+    /// The burst ends behind a whole message, or is empty.
     Clean,
     /// The burst ends inside a message, of which it has so many bytes.
     Cut(usize),
-    /// A fault, and its place, counted from 1 at the burst's first byte.
+    /// A fault, and the place of the byte that shows it, counted from 1 at the burst's first byte:
+    /// the byte that begins no message, the count, the checksum, or byte 4,097. This profile reads
+    /// nothing behind it.
     Fault(Fault, usize),
 }
 
-/// Reads the message that begins behind the first `from` bytes of a burst, or how the burst
-/// ends there. The bytes before `from`, 4,096 at most, are whole messages, as they are for 0
-/// and for each place that came with a message.
+/// Reads the message that begins behind the first `from` bytes of a burst, in VDCP's message format,
+/// or how the burst ends there. Those bytes, 4,096 at most, are whole messages: so they are for 0,
+/// and for each number that came with a message. Any other bytes are read, and refused where they
+/// are no messages.
 pub fn read_at(burst: &[u8], from: usize) -> Step<'_>
     requires limit { from ≤ LIMIT }
     requires within { from ≤ length burst.now }
@@ -45,7 +49,8 @@ pub fn read_at(burst: &[u8], from: usize) -> Step<'_>
         Head::Wrong(fault, size) => Step::Fault(fault, from + size),
         Head::Nothing if burst.len() <= LIMIT => Step::Clean,
         Head::Part if burst.len() <= LIMIT => Step::Cut(burst.len() - from),
-        Head::Nothing | Head::Part => Step::Fault(Fault::Long, LIMIT + 1),
+        Head::Nothing => Step::Fault(Fault::Long, LIMIT + 1),
+        Head::Part => Step::Fault(Fault::Long, LIMIT + 1),
     }
 }
 

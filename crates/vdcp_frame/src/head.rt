@@ -1,4 +1,4 @@
-ghost use Rattle.std.specs.Prelude.{◌≡◌, ◌<◌, ◌≤◌, ◌^◌, length, sum};
+ghost use Rattle.std.specs.Prelude.{◌≡◌, ◌*◌, ◌<◌, ◌≤◌, length, sum};
 
 use crate::message::{Fault, Message};
 
@@ -85,11 +85,11 @@ impl Head<'_> {
     }
 }
 
-// The sum of at most 253 bytes.
+/// The sum of so few bytes that it can't overflow.
 pub(crate) fn total_of(bytes: &[u8]) -> u32
-    requires { length bytes.now ≤ 253 }
+    requires { length bytes.now ≤ 256 }
     ensures total { result ≡ sum bytes.now }
-    ensures bound { result < 2 ^ 16 }
+    ensures bound { result ≤ 255 * length bytes.now }
 {
     let mut total = 0;
     for byte in bytes {

@@ -1,4 +1,4 @@
-/// A message as it stands on the line.
+/// A message of VDCP's unextended form.
 #[derive(Clone, Copy, Debug, PartialEq, Eq)]
 pub enum Message<'a> {
     /// ACK: the byte 04h.
@@ -18,10 +18,10 @@ pub enum Message<'a> {
     },
 }
 
-/// What is wrong with a burst. Nothing behind a fault is read.
+/// What is wrong with a burst. This profile looks for no new start behind a fault.
 #[derive(Clone, Copy, Debug, PartialEq, Eq)]
 pub enum Fault {
-    /// A message's first byte is none of 02h, 04h and 05h.
+    /// A message begins with another byte than 02h, 04h or 05h.
     BadStart,
     /// The byte count is 0 or 1.
     BadCount(u8),

@@ -12,8 +12,9 @@ use thiserror::Error;
 #[error("no room for the message")]
 pub struct Full;
 
-/// Appends a message's spelling. Kind and unit are at most 15, and the data at most 253 bytes. It
-/// is refused only where the bytes don't fit, and then changes nothing.
+/// Appends a message's spelling in VDCP's message format. Kind and unit are at most 15, and the data
+/// at most 253 bytes. `Full` where the buffer's 512 bytes have no room for it; the buffer then stays
+/// as it was.
 pub fn write(message: &Message, out: &mut ArrayVec<u8, 512>) -> Result<(), Full>
     requires { IsWritable (content_of message.now) }
     ensures spelt { Spells (content_of message.now) (spelling (content_of message.now)) }

@@ -9,7 +9,10 @@ use std::alloc::{AllocError, Global};
 use std::test::Fail;
 
 // A caller's loop over a burst: it collects the reading's messages, and gives the step that ended it.
-fn reading_of(alloc: Global, burst: &[u8]) -> Result<(Vec<Message<'_>>, Step<'_>), AllocError>
+pub(crate) fn reading_of(
+    alloc: Global,
+    burst: &[u8],
+) -> Result<(Vec<Message<'_>>, Step<'_>), AllocError>
     ensures ended { IfOk result (λ r. IfMessage r.1 (λ m next. ⊥)) }
     ensures reads { IfOk result (λ r. IfEnd r.1 (λ end. Reads burst.now (map content_of r.0.items) end)) }
 {

@@ -1,5 +1,6 @@
-use Rattle.std.proofs.Common.{ℕ, ◌<◌, ◌≡◌, true, arith, refl, sym, ap, ap₂, ◌∙◌, List, is_none, None, [], ◌∷◌}
+use Rattle.std.proofs.Common.{ℕ, ◌<◌, ◌≡◌, true, arith, refl, nat_lt, sym, ap, ap₂, ◌∙◌, List, is_none, None, [], ◌∷◌}
 use Rattle.vdcp_value.proofs.Timecodes.{same_timecode}
+use Rattle.vdcp_value.specs.Bytes.{AreBytes}
 use Rattle.vdcp_value.specs.Bcd.{bcd_byte, bcd_value, is_bcd, bcd_of_label, label_of_bcd, bcd_fault, label_fault, is_time, frames_in}
 use Rattle.vdcp_value.specs.LabelText.{has_two_digits}
 use Rattle.vdcp_value.specs.Labels.{is_lawful}
@@ -95,3 +96,17 @@ read_is_time rate bytes timecode r b = ap₂ is_time (sym r) (sym b) ∙ own_is_
 pub read_frames : (rate : Rate) (bytes : List ℕ) (timecode : Timecode) → rate_of timecode ≡ rate → bcd_of timecode ≡ bytes
     → frames_in rate bytes ≡ frames_of timecode
 read_frames rate bytes timecode r b = ap₂ frames_in (sym r) (sym b) ∙ frames_in_own timecode
+
+byte_of : (n : ℕ) → n < 100 → nat_lt (bcd_byte n) 256 ≡ true
+byte_of n below = grind arith
+
+-- and they are four bytes
+pub own_bytes : (timecode : Timecode) → AreBytes 4 (bcd_of timecode)
+own_bytes timecode =
+    let e = lawful_two_digits (rate_of timecode) (label_of timecode) timecode.lawful in
+    let label = label_of timecode in
+    let h : label.hours < 100 = grind (arith, e) in
+    let m : label.minutes < 100 = grind (arith, e) in
+    let s : label.seconds < 100 = grind (arith, e) in
+    let f : label.frames < 100 = grind (arith, e) in
+    rw (byte_of label.frames f, byte_of label.seconds s, byte_of label.minutes m, byte_of label.hours h) refl

@@ -1,4 +1,4 @@
-use Rattle.std.proofs.Common.{ℕ, ◌≡◌, Some, refl, codes, [], ◌∷◌, lit<, lit≤}
+use Rattle.std.proofs.Common.{ℕ, ◌≡◌, Some, refl, codes, [], ◌∷◌, lit<, lit≤, ap, ap₂, ◌∙◌, ◌&&◌, nat_le, ◌+◌, true, false}
 use Rattle.vdcp_value.proofs.FrameNumbers.{frame_number_is}
 use Rattle.vdcp_value.specs.Bcd.{bcd_of_label, bcd_fault, label_fault}
 use Rattle.vdcp_value.specs.Day.{frame_number}
@@ -7,6 +7,10 @@ use Rattle.vdcp_value.specs.LabelText.{label_text}
 use Rattle.vdcp_value.specs.declared.faults.Field.TheVariants.{Frames}
 use Rattle.vdcp_value.specs.declared.faults.IdFault.TheVariants.{Empty, TooLong, BadByte, EdgeSpace, BadHex, HasPlainForm}
 use Rattle.vdcp_value.specs.declared.faults.TcFault.TheVariants.{NotBcd, OutOfRange, Dropped}
+use Rattle.vdcp_value.specs.Parts.{part_fits}
+use Rattle.vdcp_value.specs.Timecodes.{frames_of}
+use Rattle.vdcp_value.specs.declared.part.Part.{Part}
+use Rattle.vdcp_value.specs.declared.timecode.Timecode.{Timecode}
 use Rattle.vdcp_value.specs.declared.label.Label.{Label}
 use Rattle.vdcp_value.specs.declared.rate.Rate.TheVariants.{F24, F25, F30, D30}
 
@@ -128,3 +132,29 @@ has_plain_form = (codes "CLIP0001", refl, refl, (codes "CLIP0001", (refl, refl))
 
 bad_hex : IsIdFault (codes "0x434C495030303031") BadHex
 bad_hex = (refl, refl)
+
+-- parts of a clip of ten seconds at 25: 50 + 75, 175 + 75 and 200 + 75 frames of 250
+abbrev ten_seconds : Timecode
+ten_seconds = record { rate = F25; label = hms 0 0 10 0; lawful = refl }
+
+abbrev part_at : ℕ → Part
+part_at seconds = record
+    { start = 0x00 ∷ seconds ∷ 0x00 ∷ 0x00 ∷ []; duration = 0x00 ∷ 0x03 ∷ 0x00 ∷ 0x00 ∷ [] }
+
+fits_first : part_fits (part_at 0x02) ten_seconds ≡ true
+unfolding part_fits
+fits_first =
+    ap₂ (λ a b. nat_le 1 b && nat_le (a + b) (frames_of ten_seconds)) (frame_number_is F25 (hms 0 0 2 0) refl) (frame_number_is F25 (hms 0 0 3 0) refl)
+    ∙ ap (nat_le 125) (frame_number_is F25 (hms 0 0 10 0) refl)
+
+fits_last : part_fits (part_at 0x07) ten_seconds ≡ true
+unfolding part_fits
+fits_last =
+    ap₂ (λ a b. nat_le 1 b && nat_le (a + b) (frames_of ten_seconds)) (frame_number_is F25 (hms 0 0 7 0) refl) (frame_number_is F25 (hms 0 0 3 0) refl)
+    ∙ ap (nat_le 250) (frame_number_is F25 (hms 0 0 10 0) refl)
+
+ends_past : part_fits (part_at 0x08) ten_seconds ≡ false
+unfolding part_fits
+ends_past =
+    ap₂ (λ a b. nat_le 1 b && nat_le (a + b) (frames_of ten_seconds)) (frame_number_is F25 (hms 0 0 8 0) refl) (frame_number_is F25 (hms 0 0 3 0) refl)
+    ∙ ap (nat_le 275) (frame_number_is F25 (hms 0 0 10 0) refl)

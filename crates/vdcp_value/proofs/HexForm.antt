@@ -11,7 +11,7 @@ all_below bytes = list_all (λ byte. nat_lt byte 256) bytes
 pub all_below_of : (n : ℕ) (bytes : List ℕ) → AreBytes n bytes → all_below bytes ≡ true
 all_below_of n bytes h = (both_hold (nat_eq (length bytes) n) (all_below bytes) h).1
 
-below_is : (byte : ℕ) → nat_lt byte 256 ≡ true → byte < 256
+pub below_is : (byte : ℕ) → nat_lt byte 256 ≡ true → byte < 256
 below_is byte e = grind (arith, e)
 
 -- a digit of a half is a digit, and no other half's

@@ -11,3 +11,7 @@ pub mod LabelText
 pub mod IdText
 pub mod HexForm
 pub mod IdTexts
+pub mod Lawful
+pub mod OneFault
+pub mod Ascii
+pub mod Parts

@@ -1,5 +1,5 @@
-use Rattle.std.specs.List.{flat_map, range_with_len}
-use Rattle.std.specs.Prelude.{ℕ, suc, List, [], ◌∷◌, ◌&&◌, map, filter, not, nat_eq, Bool, if◌then◌else◌}
+use Rattle.std.specs.List.{flat_map, list_any, range_with_len}
+use Rattle.std.specs.Prelude.{ℕ, suc, List, [], ◌∷◌, ◌&&◌, map, filter, not, nat_eq, Bool, IsTrue, if◌then◌else◌}
 use Rattle.vdcp_value.specs.Labels.{frames_per_second, is_dropped}
 use Rattle.vdcp_value.specs.declared.label.Label.{Label}
 use Rattle.vdcp_value.specs.declared.rate.Rate.{Rate}
@@ -29,6 +29,10 @@ lawful_labels rate = filter (λ label. not (is_dropped rate label)) (labels_of_d
 abbrev pub is_same : Label → Label → Bool
 is_same a b =
     nat_eq a.hours b.hours && nat_eq a.minutes b.minutes && nat_eq a.seconds b.seconds && nat_eq a.frames b.frames
+
+-- the label stands in the list
+abbrev pub Stands : Label → List Label → Type 0
+Stands label labels = IsTrue (list_any (is_same label) labels)
 
 -- how many labels of a list stand before this one
 abbrev pub labels_before : Label → List Label → ℕ

@@ -16,7 +16,7 @@ IsItem item = MatchOption item.part (Unit {0}) IsPart
 
 -- a part fits a clip of this length: two lawful labels at its rate, one frame at least, and its end
 -- not past the clip's
-abbrev pub part_fits : Part → Timecode → Bool
+unfoldable pub part_fits : Part → Timecode → Bool
 part_fits part clip =
     let rate = rate_of clip in
     is_time rate part.start && is_time rate part.duration && nat_le 1 (frames_in rate part.duration)

@@ -27,6 +27,7 @@ impl ClipId {
     pub fn new(bytes: [u8; 8]) -> ClipId
         ensures { id_bytes result ≡ bytes }
     {
+        // Read one by one, so that the prover knows each of them to be a byte.
         let first = bytes[0];
         let second = bytes[1];
         let third = bytes[2];

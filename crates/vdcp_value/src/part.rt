@@ -5,11 +5,13 @@ use crate::clip_id::ClipId;
 use crate::rate::Rate;
 use crate::timecode::Timecode;
 
-/// A part of a clip: where it starts in the clip and how long it is. Both are time codes at the
-/// clip's rate, as `Timecode::to_bcd` gives them. Any bytes may stand here: `fits` tests them.
+/// A part of a clip, by two time codes at the clip's rate, as `Timecode::to_bcd` gives them. Any
+/// bytes may stand here, as they came: `fits` tests them.
 #[derive(Clone, Copy, Debug, PartialEq, Eq)]
 pub struct Part {
+    /// The first frame, counted from the clip's own.
     pub start: [u8; 4],
+    /// How many frames.
     pub duration: [u8; 4],
 }
 
@@ -18,6 +20,7 @@ impl Part {
 
     /// Whether a clip of this length has the part: start and duration are lawful time codes at the
     /// length's rate, the duration has at least one frame, and the part ends within the clip.
+    #[tactic(auto, unfolding(crate::specs::Parts::part_fits))]
     pub fn fits(&self, length: &Timecode) -> bool
         ensures { result ≡ part_fits self.now length.now }
     {
@@ -44,6 +47,7 @@ fn frames_in(rate: Rate, bytes: [u8; 4]) -> Option<u32>
 /// What is cued and aired: a clip, or a part of it.
 #[derive(Clone, Copy, Debug, PartialEq, Eq)]
 pub struct Item {
+    /// The clip.
     pub id: ClipId,
     /// `None` for the whole clip.
     pub part: Option<Part>,

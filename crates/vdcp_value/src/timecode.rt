@@ -25,12 +25,13 @@ pub struct Timecode {
 impl Timecode {
     ghost use Rattle.vdcp_value.specs.Timecodes.{rate_of, label_of, frames_of, bcd_of, text_of};
 
-    #[tactic(auto, using(crate::proofs::FrameNumbers::length_of_day))]
     /// The time code of a frame number; None from the number of the day's frames on.
+    #[tactic(auto, using(crate::proofs::FrameNumbers::length_of_day))]
     pub fn from_frames(rate: Rate, frames: u32) -> Option<Timecode>
         ensures within { IsSome result ↔ (frames < length (lawful_labels rate)) }
         ensures same_rate { IfSome result (λ timecode. rate_of timecode ≡ rate) }
         ensures number { IfSome result (λ timecode. frames_of timecode ≡ frames) }
+        ensures accepts { (timecode : Timecode) → rate_of timecode ≡ rate → frames_of timecode ≡ frames → result ≡ Some timecode }
     {
         if frames >= rate.frames_of_day() {
             return None;
@@ -39,8 +40,8 @@ impl Timecode {
         Some(Timecode { rate, label })
     }
 
-    #[tactic(auto, using(crate::proofs::Timecodes::frames_below))]
     /// The frame number: how many lawful time codes of the day stand before this one.
+    #[tactic(auto, using(crate::proofs::Timecodes::frames_below))]
     pub fn frames(&self) -> u32
         ensures number { result ≡ frames_of self.now }
         ensures within { result < frames_of_day (rate_of self.now) }

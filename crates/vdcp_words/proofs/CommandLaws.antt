@@ -26,7 +26,8 @@ same_front a b x y size e =
     let front : a ≡ b = sym (take_at a x (length a) refl) ∙ ap (take (length a)) e ∙ take_at b y (length a) (sym size) in
     (front, append_cancel_left a x y (e ∙ ap (λ (f : List ℕ). f ++ y) (sym front)))
 
-same_cue : (i j : ClipId) (s d t f : List ℕ) → AreBytes 4 s × AreBytes 4 d → AreBytes 4 t × AreBytes 4 f → id_bytes i ++ s ++ d ≡ id_bytes j ++ t ++ f → CueData i s d ≡ CueData j t f
+same_cue : (i j : ClipId) (s d t f : List ℕ) → AreBytes 4 s × AreBytes 4 d → AreBytes 4 t × AreBytes 4 f →
+    id_bytes i ++ s ++ d ≡ id_bytes j ++ t ++ f → CueData i s d ≡ CueData j t f
 same_cue i j s d t f p q e =
     let s_size = length_of_bytes 4 s p.0 in
     let t_size = length_of_bytes 4 t q.0 in
@@ -38,7 +39,8 @@ same_cue i j s d t f p q e =
     cc
 
 -- commands with one message are one command
-pub same_command : (unit : ℕ) (a b : Command) → IsWritableCommand a → IsWritableCommand b → command_message unit a ≡ command_message unit b → a ≡ b
+pub same_command : (unit : ℕ) (a b : Command) → IsWritableCommand a → IsWritableCommand b →
+    command_message unit a ≡ command_message unit b → a ≡ b
 same_command unit Stop Stop p q e = refl
 same_command unit Play Play p q e = refl
 same_command unit (Close x) (Close y) p q e = cc
@@ -53,12 +55,15 @@ same_command unit (IdRequest i) (IdRequest j) p q e = ap IdRequest (same_id i j 
 same_command unit a b p q e = absurd (omega (arith, ap number_of e))
 
 -- a command is read from its own message
-pub command_written : (unit : ℕ) (command : Command) → IsWritableCommand command → IsCommand (command_message unit command) command
+pub command_written : (unit : ℕ) (command : Command) → IsWritableCommand command →
+    IsCommand (command_message unit command) command
 command_written unit command writable = record { writable = writable; says = refl }
 
 -- ---- one reading
 
-same_length : (unit other : ℕ) (a b : Command) → IsWritableCommand a → IsWritableCommand b → SameCode (command_message unit a) (command_message other b) → length (rest_of (command_message unit a)) ≡ length (rest_of (command_message other b))
+same_length : (unit other : ℕ) (a b : Command) → IsWritableCommand a → IsWritableCommand b →
+    SameCode (command_message unit a) (command_message other b) →
+    length (rest_of (command_message unit a)) ≡ length (rest_of (command_message other b))
 same_length unit other Stop Stop p q h = refl
 same_length unit other Play Play p q h = refl
 same_length unit other (Close x) (Close y) p q h = refl
@@ -100,7 +105,8 @@ one_of_two : (m : Content) (a b : Command) → IsCommand m a → IsCommand m b �
 one_of_two m a b p q = same_command (unit_of m) a b p.writable q.writable (sym p.says ∙ q.says)
 
 -- a message is read in one way
-pub one_command_reading : (m : Content) (a b : Result Command WordFault) → ReadsCommand m a → ReadsCommand m b → a ≡ b
+pub one_command_reading : (m : Content) (a b : Result Command WordFault) → ReadsCommand m a →
+    ReadsCommand m b → a ≡ b
 one_command_reading m (Ok a) (Ok b) p q = ap Ok (one_of_two m a b p q)
 one_command_reading m (Ok a) (Err NotCommand) p q = absurd (not_receipt m a p q)
 one_command_reading m (Ok a) (Err Unknown) p q = absurd (not_unknown m a p q)

@@ -46,7 +46,8 @@ active_id_length unit rest other = record { command = ActiveId; writable = tt; c
 pub id_size_length : (unit : ℕ) (rest : List ℕ) → length rest ≢ 8 → HasOtherLength (framed 3 unit 0x14 rest)
 id_size_length unit rest other = record { command = IdSize any_id; writable = tt; code = (refl, refl); other = other }
 
-pub id_request_length : (unit : ℕ) (rest : List ℕ) → length rest ≢ 8 → HasOtherLength (framed 3 unit 0x16 rest)
+pub id_request_length : (unit : ℕ) (rest : List ℕ) → length rest ≢ 8 →
+    HasOtherLength (framed 3 unit 0x16 rest)
 id_request_length unit rest other =
     record { command = IdRequest any_id; writable = tt; code = (refl, refl); other = other }
 

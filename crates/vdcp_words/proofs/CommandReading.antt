@@ -1,38 +1,38 @@
 -- What is computed of a message as a command is what the table of commands says.
-use Rattle.std.proofs.Common.{◌≡◌, ◌≢◌, ◌∙◌, ◌⊎◌, inl, inr, ℕ, ◌<◌, ◌≤◌, Bool, true, false, cond, nat_eq, nat_lt, List, [], ◌∷◌, ◌++◌, length, take, drop, refl, sym, ap, subst, arith, eqb}
-use Rattle.std.specs.Prelude.{All, Option, Some, None, Result, Ok, Err}
+use Rattle.std.proofs.Common.{◌≡◌, ◌≢◌, ◌∙◌, inl, inr, ℕ, ◌<◌, Bool, true, false, nat_eq, nat_lt, List, [], ◌∷◌, ◌++◌, length, take, drop, refl, sym, ap, arith}
+use Rattle.std.specs.Prelude.{All}
 use Rattle.std.proofs.lemmas.Bool.{cases_eq, ne_eqb, eq-eqb, lt-ltb}
 use Rattle.std.proofs.lemmas.List.{length-take, length-drop, take-append-drop, append_assoc, drop-drop}
 use Rattle.std.proofs.lemmas.List.Elements.{All-head, All-tail, All-take, All-drop}
 use Rattle.std.specs.List.{list_all}
 use Rattle.vdcp_value.specs.Bytes.{are_bytes, AreBytes}
-use Rattle.vdcp_value.specs.Ids.{id_bytes}
-use Rattle.vdcp_value.specs.declared.clip_id.ClipId.{ClipId}
 use Rattle.vdcp_frame.specs.Message.{Content, ack, nak, framed}
 use Rattle.vdcp_words.specs.declared.command.Command.{Command}
 use Rattle.vdcp_words.specs.declared.command.Command.TheVariants.{Open, Close, Select, PlayCue, CueData, Play, Stop, Status, ActiveId, IdRequest, IdSize}
-use Rattle.vdcp_words.specs.declared.fault.WordFault.{WordFault}
-use Rattle.vdcp_words.specs.declared.fault.WordFault.TheVariants.{NotCommand, Unknown, Length}
 use Rattle.vdcp_words.specs.Messages.{rest_of, SameCode}
-use Rattle.vdcp_words.specs.Commands.{command_message, IsCommand, IsUnknownCommand, HasOtherLength, ReadsCommand}
-use Rattle.vdcp_words.specs.Computed.{id_when, id_of, no_data, one_byte, two_bytes, with_id, cue_data_of, immediate_of, preset_of, sense_request_of, command_of}
+use Rattle.vdcp_words.specs.Commands.{command_message, ReadsCommand}
+use Rattle.vdcp_words.specs.Computed.{id_when, no_data, one_byte, two_bytes, with_id, cue_data_of, immediate_of, preset_of, sense_request_of, command_of}
 use Rattle.vdcp_words.proofs.CommandLemmas.{stop_length, play_length, close_length, select_length, play_cue_length, cue_data_length, open_length, status_length, active_id_length, id_size_length, id_request_length}
 
 -- ---- no command has the code
 
-no_immediate : (unit code : ℕ) (rest : List ℕ) → code ≢ 0x00 → code ≢ 0x01 → (c : Command) → SameCode (framed 1 unit code rest) (command_message 0 c) → ⊥
+no_immediate : (unit code : ℕ) (rest : List ℕ) → code ≢ 0x00 → code ≢ 0x01 → (c : Command) →
+    SameCode (framed 1 unit code rest) (command_message 0 c) → ⊥
 no_immediate unit code rest a b Stop h = a (sym h.1)
 no_immediate unit code rest a b Play h = b (sym h.1)
 no_immediate unit code rest a b c h = omega (arith, h.0)
 
-no_preset : (unit code : ℕ) (rest : List ℕ) → code ≢ 0x21 → code ≢ 0x22 → code ≢ 0x24 → code ≢ 0x25 → (c : Command) → SameCode (framed 2 unit code rest) (command_message 0 c) → ⊥
+no_preset : (unit code : ℕ) (rest : List ℕ) → code ≢ 0x21 → code ≢ 0x22 → code ≢ 0x24 → code ≢ 0x25 →
+    (c : Command) → SameCode (framed 2 unit code rest) (command_message 0 c) → ⊥
 no_preset unit code rest close select cue cue_data (Close port) h = close (sym h.1)
 no_preset unit code rest close select cue cue_data (Select port) h = select (sym h.1)
 no_preset unit code rest close select cue cue_data (PlayCue id) h = cue (sym h.1)
 no_preset unit code rest close select cue cue_data (CueData id s d) h = cue_data (sym h.1)
 no_preset unit code rest close select cue cue_data c h = omega (arith, h.0)
 
-no_sense_request : (unit code : ℕ) (rest : List ℕ) → code ≢ 0x01 → code ≢ 0x05 → code ≢ 0x07 → code ≢ 0x14 → code ≢ 0x16 → (c : Command) → SameCode (framed 3 unit code rest) (command_message 0 c) → ⊥
+no_sense_request : (unit code : ℕ) (rest : List ℕ) → code ≢ 0x01 → code ≢ 0x05 → code ≢ 0x07 →
+    code ≢ 0x14 → code ≢ 0x16 → (c : Command) → SameCode (framed 3 unit code rest) (command_message 0 c) →
+    ⊥
 no_sense_request unit code rest open_ status active size exists (Open port lock) h = open_ (sym h.1)
 no_sense_request unit code rest open_ status active size exists (Status bitmap) h = status (sym h.1)
 no_sense_request unit code rest open_ status active size exists ActiveId h = active (sym h.1)
@@ -40,7 +40,8 @@ no_sense_request unit code rest open_ status active size exists (IdSize id) h = 
 no_sense_request unit code rest open_ status active size exists (IdRequest id) h = exists (sym h.1)
 no_sense_request unit code rest open_ status active size exists c h = omega (arith, h.0)
 
-no_type : (kind unit code : ℕ) (rest : List ℕ) → kind ≢ 1 → kind ≢ 2 → kind ≢ 3 → (c : Command) → SameCode (framed kind unit code rest) (command_message 0 c) → ⊥
+no_type : (kind unit code : ℕ) (rest : List ℕ) → kind ≢ 1 → kind ≢ 2 → kind ≢ 3 → (c : Command) →
+    SameCode (framed kind unit code rest) (command_message 0 c) → ⊥
 no_type kind unit code rest a b d Stop h = a (sym h.0)
 no_type kind unit code rest a b d Play h = a (sym h.0)
 no_type kind unit code rest a b d (Close port) h = b (sym h.0)
@@ -71,15 +72,21 @@ bytes_are n rest size fits =
 pub not_eight : (rest : List ℕ) → All (λ b. b < 256) rest → are_bytes 8 rest ≡ false → length rest ≢ 8
 not_eight rest fits e size = absurd (cc (bytes_are 8 rest size fits))
 
-play_cue_reads : (unit : ℕ) (rest : List ℕ) → All (λ b. b < 256) rest → (test : Bool) (e : are_bytes 8 rest ≡ test) → ReadsCommand (framed 2 unit 0x24 rest) (with_id PlayCue (id_when test rest e))
+play_cue_reads : (unit : ℕ) (rest : List ℕ) → All (λ b. b < 256) rest →
+    (test : Bool) (e : are_bytes 8 rest ≡ test) →
+    ReadsCommand (framed 2 unit 0x24 rest) (with_id PlayCue (id_when test rest e))
 play_cue_reads unit rest fits true e = record { writable = tt; says = refl }
 play_cue_reads unit rest fits false e = play_cue_length unit rest (not_eight rest fits e)
 
-id_size_reads : (unit : ℕ) (rest : List ℕ) → All (λ b. b < 256) rest → (test : Bool) (e : are_bytes 8 rest ≡ test) → ReadsCommand (framed 3 unit 0x14 rest) (with_id IdSize (id_when test rest e))
+id_size_reads : (unit : ℕ) (rest : List ℕ) → All (λ b. b < 256) rest →
+    (test : Bool) (e : are_bytes 8 rest ≡ test) →
+    ReadsCommand (framed 3 unit 0x14 rest) (with_id IdSize (id_when test rest e))
 id_size_reads unit rest fits true e = record { writable = tt; says = refl }
 id_size_reads unit rest fits false e = id_size_length unit rest (not_eight rest fits e)
 
-id_request_reads : (unit : ℕ) (rest : List ℕ) → All (λ b. b < 256) rest → (test : Bool) (e : are_bytes 8 rest ≡ test) → ReadsCommand (framed 3 unit 0x16 rest) (with_id IdRequest (id_when test rest e))
+id_request_reads : (unit : ℕ) (rest : List ℕ) → All (λ b. b < 256) rest →
+    (test : Bool) (e : are_bytes 8 rest ≡ test) →
+    ReadsCommand (framed 3 unit 0x16 rest) (with_id IdRequest (id_when test rest e))
 id_request_reads unit rest fits true e = record { writable = tt; says = refl }
 id_request_reads unit rest fits false e = id_request_length unit rest (not_eight rest fits e)
 
@@ -95,22 +102,26 @@ active_id_reads : (unit : ℕ) (rest : List ℕ) → ReadsCommand (framed 3 unit
 active_id_reads unit [] = record { writable = tt; says = refl }
 active_id_reads unit (x ∷ xs) = active_id_length unit (x ∷ xs) (λ e. absurd (omega (arith, e)))
 
-close_reads : (unit : ℕ) (rest : List ℕ) → All (λ b. b < 256) rest → ReadsCommand (framed 2 unit 0x21 rest) (one_byte Close rest)
+close_reads : (unit : ℕ) (rest : List ℕ) → All (λ b. b < 256) rest →
+    ReadsCommand (framed 2 unit 0x21 rest) (one_byte Close rest)
 close_reads unit [] fits = close_length unit [] (λ e. absurd (omega (arith, e)))
 close_reads unit (x ∷ []) fits = record { writable = All-head (λ b. b < 256) x [] fits; says = refl }
 close_reads unit (x ∷ y ∷ more) fits = close_length unit (x ∷ y ∷ more) (λ e. absurd (omega (arith, e)))
 
-select_reads : (unit : ℕ) (rest : List ℕ) → All (λ b. b < 256) rest → ReadsCommand (framed 2 unit 0x22 rest) (one_byte Select rest)
+select_reads : (unit : ℕ) (rest : List ℕ) → All (λ b. b < 256) rest →
+    ReadsCommand (framed 2 unit 0x22 rest) (one_byte Select rest)
 select_reads unit [] fits = select_length unit [] (λ e. absurd (omega (arith, e)))
 select_reads unit (x ∷ []) fits = record { writable = All-head (λ b. b < 256) x [] fits; says = refl }
 select_reads unit (x ∷ y ∷ more) fits = select_length unit (x ∷ y ∷ more) (λ e. absurd (omega (arith, e)))
 
-status_reads : (unit : ℕ) (rest : List ℕ) → All (λ b. b < 256) rest → ReadsCommand (framed 3 unit 0x05 rest) (one_byte Status rest)
+status_reads : (unit : ℕ) (rest : List ℕ) → All (λ b. b < 256) rest →
+    ReadsCommand (framed 3 unit 0x05 rest) (one_byte Status rest)
 status_reads unit [] fits = status_length unit [] (λ e. absurd (omega (arith, e)))
 status_reads unit (x ∷ []) fits = record { writable = All-head (λ b. b < 256) x [] fits; says = refl }
 status_reads unit (x ∷ y ∷ more) fits = status_length unit (x ∷ y ∷ more) (λ e. absurd (omega (arith, e)))
 
-open_reads : (unit : ℕ) (rest : List ℕ) → All (λ b. b < 256) rest → ReadsCommand (framed 3 unit 0x01 rest) (two_bytes Open rest)
+open_reads : (unit : ℕ) (rest : List ℕ) → All (λ b. b < 256) rest →
+    ReadsCommand (framed 3 unit 0x01 rest) (two_bytes Open rest)
 open_reads unit [] fits = open_length unit [] (λ e. absurd (omega (arith, e)))
 open_reads unit (x ∷ []) fits = open_length unit (x ∷ []) (λ e. absurd (omega (arith, e)))
 open_reads unit (x ∷ y ∷ []) fits =
@@ -130,12 +141,13 @@ parts rest =
     ∙ ap (λ (more : List ℕ). take 8 rest ++ take 4 (drop 8 rest) ++ more) back
 
 module _ (unit : ℕ) (rest : List ℕ) (fits : All (λ b. b < 256) rest) where
-  cue_parts : length rest ≡ 16 → (test : Bool) (e : are_bytes 8 (take 8 rest) ≡ test) → ReadsCommand (framed 2 unit 0x25 rest) (with_id (λ id. CueData id (take 4 (drop 8 rest)) (drop 12 rest)) (id_when test (take 8 rest) e))
+  cue_parts : length rest ≡ 16 → (test : Bool) (e : are_bytes 8 (take 8 rest) ≡ test) →
+      ReadsCommand (framed 2 unit 0x25 rest) (with_id (λ id. CueData id (take 4 (drop 8 rest)) (drop 12 rest)) (id_when test (take 8 rest) e))
   cue_parts size true e =
       record {
         writable = (
           bytes_are 4 (take 4 (drop 8 rest)) (omega (arith, length-take 4 (drop 8 rest), length-drop 8 rest)) (All-take (λ b. b < 256) 4 (drop 8 rest) (All-drop (λ b. b < 256) 8 rest fits)),
-          bytes_are 4 (drop 12 rest) (omega (arith, length-drop 12 rest)) (All-drop (λ b. b < 256) 12 rest fits)
+          bytes_are 4 (drop 12 rest) (omega (arith, length-drop 12 rest)) (All-drop (λ b. b < 256) 12 rest fits),
         );
         says = ap (λ (r : List ℕ). framed 2 unit 0x25 r) (parts rest);
       }
@@ -197,7 +209,8 @@ module _ (unit : ℕ) (rest : List ℕ) (fits : All (λ b. b < 256) rest) where
         ]
       ]
 
-  framed_reads : (kind code : ℕ) → ReadsCommand (framed kind unit code rest) (command_of (framed kind unit code rest))
+  framed_reads : (kind code : ℕ) →
+      ReadsCommand (framed kind unit code rest) (command_of (framed kind unit code rest))
   framed_reads kind code =
       elim (cases_eq kind 1) [
         | inl is ↦ rw is (immediate_reads code)

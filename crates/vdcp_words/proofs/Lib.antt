@@ -6,3 +6,4 @@ pub mod ReplyLaws
 pub mod WordBytes
 pub mod CommandReading
 pub mod ReplyReading
+mod ExampleRows

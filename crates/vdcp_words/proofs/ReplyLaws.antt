@@ -15,7 +15,8 @@ use Rattle.vdcp_words.specs.Messages.{unit_of, IsFramed, SameCode}
 use Rattle.vdcp_words.specs.Replies.{reply_message, IsReadFrom, IsReply, IsWritableReply, IsUnknownReply, ReadsReply}
 
 -- a reply is read from its own message
-pub reply_written : (unit : ℕ) (reply : Reply) → IsWritableReply reply → IsReply (reply_message unit reply) reply
+pub reply_written : (unit : ℕ) (reply : Reply) → IsWritableReply reply →
+    IsReply (reply_message unit reply) reply
 reply_written unit Ack w = refl
 reply_written unit (Nak byte) w = refl
 reply_written unit (Opened true) w = ((refl, refl), refl)
@@ -43,7 +44,8 @@ code_of (Active playing) = 0x87
 code_of (Size time) = 0x94
 code_of (Present there) = 0x96
 
-same_code_of : (kind unit code : ℕ) (rest : List ℕ) (reply : Reply) → SameCode (framed kind unit code rest) (reply_message 0 reply) → code_of reply ≡ code
+same_code_of : (kind unit code : ℕ) (rest : List ℕ) (reply : Reply) →
+    SameCode (framed kind unit code rest) (reply_message 0 reply) → code_of reply ≡ code
 same_code_of kind unit code rest Ack h = absurd h
 same_code_of kind unit code rest (Nak byte) h = absurd h
 same_code_of kind unit code rest (Opened granted) h = h.1
@@ -54,11 +56,13 @@ same_code_of kind unit code rest (Active (Some id)) h = h.1
 same_code_of kind unit code rest (Size time) h = h.1
 same_code_of kind unit code rest (Present there) h = h.1
 
-same_id_read : (i j : ClipId) (more : List ℕ) → id_bytes i ≡ take 8 more → id_bytes j ≡ take 8 more → Active (Some i) ≡ Active (Some j)
+same_id_read : (i j : ClipId) (more : List ℕ) → id_bytes i ≡ take 8 more → id_bytes j ≡ take 8 more →
+    Active (Some i) ≡ Active (Some j)
 same_id_read i j more p q = ap (λ (id : ClipId). Active (Some id)) (same_id i j (p ∙ sym q))
 
 -- replies of one code that are read from one list are one reply
-same_reply : (a b : Reply) (rest : List ℕ) → code_of a ≡ code_of b → IsReadFrom a rest → IsReadFrom b rest → a ≡ b
+same_reply : (a b : Reply) (rest : List ℕ) → code_of a ≡ code_of b → IsReadFrom a rest →
+    IsReadFrom b rest → a ≡ b
 same_reply Ack b rest e p q = absurd p
 same_reply (Nak byte) b rest e p q = absurd p
 same_reply (Opened x) (Opened y) (first ∷ more) e p q = ap Opened (p ∙ sym q)
@@ -116,7 +120,8 @@ one_reply_reading m (Err Length) (Err Unknown) p q = absurd (q.no_code p.reply p
 one_reply_reading m (Err Length) (Err Length) p q = refl
 
 -- a framed reply names the unit that it was written from
-pub unit_of-reply : (unit : ℕ) (reply : Reply) → IsFramed (reply_message unit reply) → unit_of (reply_message unit reply) ≡ unit
+pub unit_of-reply : (unit : ℕ) (reply : Reply) → IsFramed (reply_message unit reply) →
+    unit_of (reply_message unit reply) ≡ unit
 unit_of-reply unit Ack h = absurd h
 unit_of-reply unit (Nak byte) h = absurd h
 unit_of-reply unit (Opened granted) h = refl

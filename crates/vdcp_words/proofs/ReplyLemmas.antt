@@ -1,4 +1,5 @@
-use Rattle.std.proofs.Common.{◌≡◌, ◌≢◌, ℕ, ◌<◌, true, List, [], ◌∷◌, length, refl, arith, ap, length-take}
+use Rattle.std.proofs.Common.{◌≡◌, ◌≢◌, ℕ, ◌<◌, true, List, [], ◌∷◌, length, get_or, bit_and, refl, arith, ap, length-take}
+use Rattle.std.proofs.lemmas.Bool.{eq-eqb}
 use Rattle.std.specs.Prelude.{Some, None}
 use Rattle.vdcp_value.proofs.Ids.{length_of_id}
 use Rattle.vdcp_frame.specs.Message.{framed}
@@ -18,7 +19,8 @@ nothing_read (Active (Some id)) h = h
 nothing_read (Size time) h = absurd (omega (arith, h.0))
 nothing_read (Present there) h = h
 
-no_second : (unit bitmap : ℕ) (reply : Reply) → has_bit_0 bitmap ≡ true → IsReply (framed 3 unit 0x85 (bitmap ∷ [])) reply → ⊥
+no_second : (unit bitmap : ℕ) (reply : Reply) → has_bit_0 bitmap ≡ true →
+    IsReply (framed 3 unit 0x85 (bitmap ∷ [])) reply → ⊥
 no_second unit bitmap Ack set h = h.0
 no_second unit bitmap (Nak byte) set h = h.0
 no_second unit bitmap (Opened granted) set h = omega (arith, h.0.1)
@@ -29,7 +31,8 @@ no_second unit bitmap (Active (Some id)) set h = omega (arith, h.0.1)
 no_second unit bitmap (Size time) set h = omega (arith, h.0.1)
 no_second unit bitmap (Present there) set h = omega (arith, h.0.1)
 
-no_id : (unit first : ℕ) (more : List ℕ) (reply : Reply) → first ≢ 0 → length more < 8 → IsReply (framed 3 unit 0x87 (first ∷ more)) reply → ⊥
+no_id : (unit first : ℕ) (more : List ℕ) (reply : Reply) → first ≢ 0 → length more < 8 →
+    IsReply (framed 3 unit 0x87 (first ∷ more)) reply → ⊥
 no_id unit first more Ack other short h = h.0
 no_id unit first more (Nak byte) other short h = h.0
 no_id unit first more (Opened granted) other short h = omega (arith, h.0.1)
@@ -41,7 +44,8 @@ no_id unit first more (Active (Some id)) other short h =
 no_id unit first more (Size time) other short h = omega (arith, h.0.1)
 no_id unit first more (Present there) other short h = omega (arith, h.0.1)
 
-no_time : (unit : ℕ) (rest : List ℕ) (reply : Reply) → length rest < 4 → IsReply (framed 3 unit 0x94 rest) reply → ⊥
+no_time : (unit : ℕ) (rest : List ℕ) (reply : Reply) → length rest < 4 →
+    IsReply (framed 3 unit 0x94 rest) reply → ⊥
 no_time unit rest Ack short h = h.0
 no_time unit rest (Nak byte) short h = h.0
 no_time unit rest (Opened granted) short h = omega (arith, h.0.1)
@@ -63,17 +67,24 @@ state_short unit [] empty =
     record { reply = State 0 None; code = (refl, refl); ends = λ reply h. nothing_read reply h.1 }
 state_short unit (first ∷ more) empty = absurd (omega (arith, empty))
 
-pub state_byte_short : (unit bitmap : ℕ) (more : List ℕ) → has_bit_0 bitmap ≡ true → length more ≡ 0 → IsShortReply (framed 3 unit 0x85 (bitmap ∷ more))
-state_byte_short unit bitmap [] set empty =
-    record { reply = State 0 None; code = (refl, refl); ends = λ reply h. no_second unit bitmap reply set h }
-state_byte_short unit bitmap (byte ∷ more) set empty = absurd (omega (arith, empty))
+pub state_byte_short : (unit : ℕ) (rest : List ℕ) → length rest < 2 → bit_and (get_or rest 0 0) 1 ≡ 1 →
+    IsShortReply (framed 3 unit 0x85 rest)
+state_byte_short unit [] short set = state_short unit [] refl
+state_byte_short unit (bitmap ∷ []) short set =
+    record {
+      reply = State 0 None;
+      code = (refl, refl);
+      ends = λ reply h. no_second unit bitmap reply (eq-eqb (bit_and bitmap 1) 1 set) h;
+    }
+state_byte_short unit (bitmap ∷ byte ∷ more) short set = absurd (omega (arith, short))
 
 pub active_short : (unit : ℕ) (rest : List ℕ) → length rest ≡ 0 → IsShortReply (framed 3 unit 0x87 rest)
 active_short unit [] empty =
     record { reply = Active None; code = (refl, refl); ends = λ reply h. nothing_read reply h.1 }
 active_short unit (first ∷ more) empty = absurd (omega (arith, empty))
 
-pub active_id_short : (unit first : ℕ) (more : List ℕ) → first ≢ 0 → length more < 8 → IsShortReply (framed 3 unit 0x87 (first ∷ more))
+pub active_id_short : (unit first : ℕ) (more : List ℕ) → first ≢ 0 → length more < 8 →
+    IsShortReply (framed 3 unit 0x87 (first ∷ more))
 active_id_short unit first more other short =
     record { reply = Active None; code = (refl, refl); ends = λ reply h. no_id unit first more reply other short h }
 

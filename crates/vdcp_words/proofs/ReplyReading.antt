@@ -1,20 +1,16 @@
 -- What is computed of a message as a reply is what the table of replies says.
-use Rattle.std.proofs.Common.{◌≡◌, ◌≢◌, ◌∙◌, ◌⊎◌, inl, inr, ℕ, ◌<◌, ◌≤◌, Bool, true, false, cond, nat_eq, nat_lt, List, [], ◌∷◌, ◌++◌, length, take, drop, refl, sym, ap, subst, arith}
-use Rattle.std.specs.Prelude.{All, Option, Some, None, Result, Ok, Err, not}
-use Rattle.std.proofs.lemmas.Bool.{cases_eq, cases_lt, ne_eqb, eq-eqb, lt-ltb, le-ltb}
+use Rattle.std.proofs.Common.{◌≡◌, ◌≢◌, inl, inr, ℕ, ◌<◌, bit_and, Bool, true, false, cond, List, [], ◌∷◌, length, take, refl, sym, arith}
+use Rattle.std.specs.Prelude.{All, Some, None, Ok}
+use Rattle.std.proofs.lemmas.Bool.{cases_eq, cases_lt, ne_eqb, lt-ltb, le-ltb, eqb-true}
 use Rattle.std.proofs.lemmas.List.{length-take}
 use Rattle.std.proofs.lemmas.List.Elements.{All-tail, All-take}
-use Rattle.vdcp_value.specs.Bytes.{are_bytes, AreBytes}
-use Rattle.vdcp_value.specs.Ids.{id_bytes}
-use Rattle.vdcp_value.specs.declared.clip_id.ClipId.{ClipId}
+use Rattle.vdcp_value.specs.Bytes.{are_bytes}
 use Rattle.vdcp_frame.specs.Message.{Content, ack, nak, framed}
 use Rattle.vdcp_words.specs.declared.reply.Reply.{Reply}
 use Rattle.vdcp_words.specs.declared.reply.Reply.TheVariants.{Ack, Nak, Opened, State, Active, Present, Size}
-use Rattle.vdcp_words.specs.declared.fault.WordFault.{WordFault}
-use Rattle.vdcp_words.specs.declared.fault.WordFault.TheVariants.{NotCommand, Unknown, Length}
 use Rattle.vdcp_words.specs.Messages.{rest_of, SameCode}
-use Rattle.vdcp_words.specs.Replies.{has_bit_0, reply_message, IsReadFrom, IsReply, IsUnknownReply, IsShortReply, ReadsReply}
-use Rattle.vdcp_words.specs.Computed.{id_when, id_of, with_id, opened_of, state_byte_of, state_of, active_of, size_of, present_of, sense_reply_of, reply_of}
+use Rattle.vdcp_words.specs.Replies.{has_bit_0, reply_message, ReadsReply}
+use Rattle.vdcp_words.specs.Computed.{id_when, with_id, opened_of, state_byte_of, state_of, active_of, size_of, present_of, sense_reply_of, reply_of}
 use Rattle.vdcp_words.proofs.CommandReading.{not_eight}
 use Rattle.vdcp_words.proofs.ReplyLemmas.{opened_short, state_short, state_byte_short, active_short, active_id_short, size_short, present_short}
 
@@ -22,11 +18,13 @@ opened_reads : (unit : ℕ) (rest : List ℕ) → ReadsReply (framed 3 unit 0x81
 opened_reads unit [] = opened_short unit [] refl
 opened_reads unit (first ∷ more) = ((refl, refl), refl)
 
-state_byte_reads : (unit bitmap : ℕ) (more : List ℕ) → has_bit_0 bitmap ≡ true → ReadsReply (framed 3 unit 0x85 (bitmap ∷ more)) (state_byte_of bitmap more)
-state_byte_reads unit bitmap [] set = state_byte_short unit bitmap [] set refl
+state_byte_reads : (unit bitmap : ℕ) (more : List ℕ) → has_bit_0 bitmap ≡ true →
+    ReadsReply (framed 3 unit 0x85 (bitmap ∷ more)) (state_byte_of bitmap more)
+state_byte_reads unit bitmap [] set = state_byte_short unit (bitmap ∷ []) (omega arith) (eqb-true (bit_and bitmap 1) 1 set)
 state_byte_reads unit bitmap (byte ∷ more) set = ((refl, refl), (refl, set, refl))
 
-state_when : (unit bitmap : ℕ) (more : List ℕ) (test : Bool) → has_bit_0 bitmap ≡ test → ReadsReply (framed 3 unit 0x85 (bitmap ∷ more)) (cond test (state_byte_of bitmap more) (Ok (State bitmap None)))
+state_when : (unit bitmap : ℕ) (more : List ℕ) (test : Bool) → has_bit_0 bitmap ≡ test →
+    ReadsReply (framed 3 unit 0x85 (bitmap ∷ more)) (cond test (state_byte_of bitmap more) (Ok (State bitmap None)))
 state_when unit bitmap more true set = state_byte_reads unit bitmap more set
 state_when unit bitmap more false clear = ((refl, refl), (refl, clear))
 
@@ -34,18 +32,20 @@ state_reads : (unit : ℕ) (rest : List ℕ) → ReadsReply (framed 3 unit 0x85 
 state_reads unit [] = state_short unit [] refl
 state_reads unit (bitmap ∷ more) = state_when unit bitmap more (has_bit_0 bitmap) refl
 
-id_reads : (unit first : ℕ) (more : List ℕ) → first ≢ 0 → All (λ b. b < 256) more → (test : Bool) (e : are_bytes 8 (take 8 more) ≡ test) →
+id_reads : (unit first : ℕ) (more : List ℕ) → first ≢ 0 → All (λ b. b < 256) more →
+    (test : Bool) (e : are_bytes 8 (take 8 more) ≡ test) →
     ReadsReply (framed 3 unit 0x87 (first ∷ more)) (with_id (λ id. Active (Some id)) (id_when test (take 8 more) e))
 id_reads unit first more other fits true e = ((refl, refl), (other, refl))
 id_reads unit first more other fits false e =
     let short : length more < 8 =
-        elim (cases_lt (length more) 8) [
-          | inl lt ↦ lt
-          | inr le ↦ absurd (not_eight (take 8 more) (All-take (λ b. b < 256) 8 more fits) e (omega (arith, length-take 8 more)))
-        ] in
+    elim (cases_lt (length more) 8) [
+      | inl lt ↦ lt
+      | inr le ↦ absurd (not_eight (take 8 more) (All-take (λ b. b < 256) 8 more fits) e (omega (arith, length-take 8 more)))
+    ] in
     active_id_short unit first more other short
 
-active_reads : (unit : ℕ) (rest : List ℕ) → All (λ b. b < 256) rest → ReadsReply (framed 3 unit 0x87 rest) (active_of rest)
+active_reads : (unit : ℕ) (rest : List ℕ) → All (λ b. b < 256) rest →
+    ReadsReply (framed 3 unit 0x87 rest) (active_of rest)
 active_reads unit [] fits = active_short unit [] refl
 active_reads unit (first ∷ more) fits =
     elim (cases_eq first 0) [
@@ -65,7 +65,8 @@ present_reads unit [] = present_short unit [] refl
 present_reads unit (first ∷ more) = ((refl, refl), refl)
 
 -- no reply has the code
-no_reply : (unit code : ℕ) (rest : List ℕ) → code ≢ 0x81 → code ≢ 0x85 → code ≢ 0x87 → code ≢ 0x94 → code ≢ 0x96 → (r : Reply) → SameCode (framed 3 unit code rest) (reply_message 0 r) → ⊥
+no_reply : (unit code : ℕ) (rest : List ℕ) → code ≢ 0x81 → code ≢ 0x85 → code ≢ 0x87 → code ≢ 0x94 →
+    code ≢ 0x96 → (r : Reply) → SameCode (framed 3 unit code rest) (reply_message 0 r) → ⊥
 no_reply unit code rest opened state active size present Ack h = h
 no_reply unit code rest opened state active size present (Nak byte) h = h
 no_reply unit code rest opened state active size present (Opened granted) h = opened (sym h.1)
@@ -76,7 +77,8 @@ no_reply unit code rest opened state active size present (Active (Some id)) h = 
 no_reply unit code rest opened state active size present (Size time) h = size (sym h.1)
 no_reply unit code rest opened state active size present (Present there) h = present (sym h.1)
 
-no_type : (kind unit code : ℕ) (rest : List ℕ) → kind ≢ 3 → (r : Reply) → SameCode (framed kind unit code rest) (reply_message 0 r) → ⊥
+no_type : (kind unit code : ℕ) (rest : List ℕ) → kind ≢ 3 → (r : Reply) →
+    SameCode (framed kind unit code rest) (reply_message 0 r) → ⊥
 no_type kind unit code rest other Ack h = h
 no_type kind unit code rest other (Nak byte) h = h
 no_type kind unit code rest other (Opened granted) h = other (sym h.0)
@@ -87,7 +89,8 @@ no_type kind unit code rest other (Active (Some id)) h = other (sym h.0)
 no_type kind unit code rest other (Size time) h = other (sym h.0)
 no_type kind unit code rest other (Present there) h = other (sym h.0)
 
-sense_reply_reads : (unit code : ℕ) (rest : List ℕ) → All (λ b. b < 256) rest → ReadsReply (framed 3 unit code rest) (sense_reply_of code rest)
+sense_reply_reads : (unit code : ℕ) (rest : List ℕ) → All (λ b. b < 256) rest →
+    ReadsReply (framed 3 unit code rest) (sense_reply_of code rest)
 sense_reply_reads unit code rest fits =
     elim (cases_eq code 0x81) [
       | inl is ↦ rw is (opened_reads unit rest)
@@ -107,7 +110,8 @@ sense_reply_reads unit code rest fits =
       ]
     ]
 
-framed_reads : (kind unit code : ℕ) (rest : List ℕ) → All (λ b. b < 256) rest → ReadsReply (framed kind unit code rest) (reply_of (framed kind unit code rest))
+framed_reads : (kind unit code : ℕ) (rest : List ℕ) → All (λ b. b < 256) rest →
+    ReadsReply (framed kind unit code rest) (reply_of (framed kind unit code rest))
 framed_reads kind unit code rest fits =
     elim (cases_eq kind 3) [
       | inl is ↦ rw is (sense_reply_reads unit code rest fits)

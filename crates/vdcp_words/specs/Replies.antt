@@ -33,7 +33,8 @@ has_bit_0 byte = nat_eq (bit_and byte 1) 1
 abbrev pub IsReadFrom : Reply → List ℕ → Type 0
 IsReadFrom (Opened granted) (first ∷ more) = granted ≡ not (nat_eq first 0x00)
 IsReadFrom (State bits None) (bitmap ∷ more) = (bits ≡ bitmap) × (has_bit_0 bitmap ≡ false)
-IsReadFrom (State bits (Some state)) (bitmap ∷ byte ∷ more) = (bits ≡ bitmap) × (has_bit_0 bitmap ≡ true) × (state ≡ byte)
+IsReadFrom (State bits (Some state)) (bitmap ∷ byte ∷ more) =
+    (bits ≡ bitmap) × (has_bit_0 bitmap ≡ true) × (state ≡ byte)
 IsReadFrom (Active None) (first ∷ more) = first ≡ 0x00
 IsReadFrom (Active (Some id)) (first ∷ more) = (first ≢ 0x00) × (id_bytes id ≡ take 8 more)
 IsReadFrom (Size time) bytes = (4 ≤ length bytes) × (time ≡ take 4 bytes)

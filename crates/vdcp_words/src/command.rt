@@ -2,10 +2,13 @@ ghost use Rattle.std.specs.Prelude.{◌≡◌, ◌<◌, ◌≤◌, ℕ, All};
 ghost use Rattle.vdcp_frame.specs.Message.{content_of, framed, IsWritable};
 ghost use Rattle.vdcp_words.specs.Commands.{command_message, ReadsCommand};
 ghost use Rattle.vdcp_words.specs.Computed.{command_of};
+ghost use Rattle.vdcp_words.specs.Texts.{command_text};
 
 use crate::data;
 use crate::fault::WordFault;
 use crate::room::{joined, message, put};
+use crate::text::{push_byte, push_id, push_time};
+use arrayvec::ArrayString;
 use vdcp_frame::Message;
 use vdcp_value::ClipId;
 
@@ -40,7 +43,11 @@ pub enum Command {
 }
 
 impl Command {
-    /// The command that the message carries, to whatever unit.
+    /// The command that the message carries, to whatever unit. It has exactly the data that the
+    /// command names (VDCP, and this profile for which commands there are).
+    ///
+    /// `NotCommand` for ACK and NAK; `Unknown` where no command has the message's type and code;
+    /// `Length` where one has, but with another number of data bytes.
     pub fn read(message: &Message) -> Result<Command, WordFault>
         ensures table { ReadsCommand (content_of message.now) result }
         ensures exact { result ≡ command_of (content_of message.now) }
@@ -82,6 +89,57 @@ impl Command {
             Command::ActiveId => message(3, unit, 0x07, &[]),
             Command::IdSize(id) => message(3, unit, 0x14, put(room, &id.bytes())),
             Command::IdRequest(id) => message(3, unit, 0x16, put(room, &id.bytes())),
+        }
+    }
+
+    /// Replaces the buffer's text by the command's (this profile), as `open 01 01`, `cue CLIP0001`
+    /// or `cue-data CLIP0001 00020000 00030000`. Bytes are two lower-case hexadecimal digits each.
+    pub fn show(&self, text: &mut ArrayString<64>)
+        ensures { text.new.bytes ≡ command_text self.now }
+    {
+        text.clear();
+        match self {
+            Command::Open(port, lock) => {
+                text.push_str("open ");
+                push_byte(text, *port);
+                text.push_str(" ");
+                push_byte(text, *lock);
+            }
+            Command::Close(port) => {
+                text.push_str("close ");
+                push_byte(text, *port);
+            }
+            Command::Select(port) => {
+                text.push_str("select ");
+                push_byte(text, *port);
+            }
+            Command::PlayCue(id) => {
+                text.push_str("cue ");
+                push_id(text, id);
+            }
+            Command::CueData(id, start, duration) => {
+                text.push_str("cue-data ");
+                push_id(text, id);
+                text.push_str(" ");
+                push_time(text, start);
+                text.push_str(" ");
+                push_time(text, duration);
+            }
+            Command::Play => text.push_str("play"),
+            Command::Stop => text.push_str("stop"),
+            Command::Status(bitmap) => {
+                text.push_str("status ");
+                push_byte(text, *bitmap);
+            }
+            Command::ActiveId => text.push_str("active"),
+            Command::IdRequest(id) => {
+                text.push_str("exists ");
+                push_id(text, id);
+            }
+            Command::IdSize(id) => {
+                text.push_str("size ");
+                push_id(text, id);
+            }
         }
     }
 }

@@ -1,6 +1,6 @@
 //! What stands in the data of a framed message.
 
-ghost use Rattle.std.specs.Prelude.{◌≡◌, ◌≢◌, [], ◌∷◌, ◌++◌, length, MatchResult};
+ghost use Rattle.std.specs.Prelude.{◌≡◌, ◌≢◌, [], ◌∷◌, ◌++◌, length, IfOk, IfErr};
 ghost use Rattle.vdcp_value.specs.Bytes.{AreBytes};
 ghost use Rattle.vdcp_value.specs.Ids.{id_bytes};
 
@@ -10,7 +10,8 @@ use vdcp_value::ClipId;
 
 /// The word, where there is no data.
 pub(crate) fn nothing(rest: &[u8], word: Command) -> Result<Command, WordFault>
-    ensures { MatchResult result (λ c. (c ≡ word) × (rest.now ≡ [])) (λ e. (e ≡ WordFault.Length) × (length rest.now ≢ 0)) }
+    ensures read { IfOk result (λ c. (c ≡ word) × (rest.now ≡ [])) }
+    ensures length { IfErr result (λ e. (e ≡ WordFault.Length) × (length rest.now ≢ 0)) }
 {
     match rest {
         [] => Ok(word),
@@ -20,7 +21,8 @@ pub(crate) fn nothing(rest: &[u8], word: Command) -> Result<Command, WordFault>
 
 /// The one byte that the data is.
 pub(crate) fn byte(rest: &[u8]) -> Result<u8, WordFault>
-    ensures { MatchResult result (λ b. rest.now ≡ b ∷ []) (λ e. (e ≡ WordFault.Length) × (length rest.now ≢ 1)) }
+    ensures read { IfOk result (λ b. rest.now ≡ b ∷ []) }
+    ensures length { IfErr result (λ e. (e ≡ WordFault.Length) × (length rest.now ≢ 1)) }
 {
     match rest {
         [byte] => Ok(*byte),
@@ -30,20 +32,17 @@ pub(crate) fn byte(rest: &[u8]) -> Result<u8, WordFault>
 
 /// The ID that the data is.
 pub(crate) fn id(rest: &[u8]) -> Result<ClipId, WordFault>
-    ensures { MatchResult result (λ id. rest.now ≡ id_bytes id) (λ e. (e ≡ WordFault.Length) × (length rest.now ≢ 8)) }
+    ensures read { IfOk result (λ id. rest.now ≡ id_bytes id) }
+    ensures length { IfErr result (λ e. (e ≡ WordFault.Length) × (length rest.now ≢ 8)) }
 {
-    match rest {
-        [a, b, c, d, e, f, g, h] => Ok(ClipId::new([*a, *b, *c, *d, *e, *f, *g, *h])),
-        _ => Err(WordFault::Length),
-    }
+    let bytes = <[u8; 8]>::try_from(rest).map_err(|_| WordFault::Length)?;
+    Ok(ClipId::new(bytes))
 }
 
 /// The four bytes of the time code that the data is.
 pub(crate) fn time(rest: &[u8]) -> Result<[u8; 4], WordFault>
-    ensures { MatchResult result (λ t. (rest.now ≡ t) × AreBytes 4 t) (λ e. (e ≡ WordFault.Length) × (length rest.now ≢ 4)) }
+    ensures read { IfOk result (λ t. (rest.now ≡ t) × AreBytes 4 t) }
+    ensures length { IfErr result (λ e. (e ≡ WordFault.Length) × (length rest.now ≢ 4)) }
 {
-    match rest {
-        [frames, seconds, minutes, hours] => Ok([*frames, *seconds, *minutes, *hours]),
-        _ => Err(WordFault::Length),
-    }
+    <[u8; 4]>::try_from(rest).map_err(|_| WordFault::Length)
 }

@@ -9,7 +9,8 @@ pub enum WordFault {
     /// The type and code stand for no word of the table.
     #[error("an unknown type and code")]
     Unknown,
-    /// The type and code stand for a word that has other data.
+    /// The type and code stand for a word, but the data has another length: for a command any other,
+    /// for a reply one that is too short.
     #[error("a wrong number of data bytes")]
     Length,
 }

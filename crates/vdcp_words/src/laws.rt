@@ -1,25 +1,30 @@
 //! Laws of the word tables, and what they make of bytes. Each holds for all that it names; the
 //! functions do nothing.
 
-ghost use Rattle.std.specs.Prelude.{◌≡◌, ◌≤◌, ℕ, List, [], ◌∷◌, ◌++◌, Result, Ok};
+ghost use Rattle.std.specs.Prelude.{◌≡◌, ◌<◌, ◌≤◌, ℕ, List, [], ◌∷◌, ◌++◌, All, Result, Ok};
 ghost use Rattle.vdcp_frame.specs.Message.{Content, nak, Fits, spelling};
 ghost use Rattle.vdcp_frame.specs.Reading.{End, clean, Reads};
-ghost use Rattle.vdcp_words.specs.Messages.{unit_of, IsFramed};
+ghost use Rattle.vdcp_words.specs.Messages.{unit_of, rest_of, IsFramed};
 ghost use Rattle.vdcp_words.specs.Commands.{command_message, IsWritableCommand, ReadsCommand};
 ghost use Rattle.vdcp_words.specs.Replies.{reply_message, IsWritableReply, ReadsReply};
+ghost use Rattle.vdcp_words.specs.Computed.{command_of, reply_of};
 ghost use Rattle.vdcp_words.specs.declared.command.Command.{Command};
 ghost use Rattle.vdcp_words.specs.declared.reply.Reply.{Reply};
 ghost use Rattle.vdcp_words.specs.declared.fault.WordFault.{WordFault};
 
-/// A message is read as one command, or has one fault.
+/// A message of bytes is read as a command or has a fault, and that in one way.
 pub fn one_command()
-    ensures { (message : Content) (a b : Result Command WordFault) →
+    ensures some { (message : Content) → All (λ b. b < 256) (rest_of message) →
+        ReadsCommand message (command_of message) }
+    ensures only { (message : Content) (a b : Result Command WordFault) →
         ReadsCommand message a → ReadsCommand message b → a ≡ b }
 {}
 
-/// A message is read as one reply, or has one fault.
+/// A message of bytes is read as a reply or has a fault, and that in one way.
 pub fn one_reply()
-    ensures { (message : Content) (a b : Result Reply WordFault) →
+    ensures some { (message : Content) → All (λ b. b < 256) (rest_of message) →
+        ReadsReply message (reply_of message) }
+    ensures only { (message : Content) (a b : Result Reply WordFault) →
         ReadsReply message a → ReadsReply message b → a ≡ b }
 {}
 
@@ -29,6 +34,8 @@ pub fn written_command_is_read()
         ReadsCommand (command_message unit command) (Ok command) }
     ensures only { (unit : ℕ) (command : Command) (outcome : Result Command WordFault) →
         IsWritableCommand command → ReadsCommand (command_message unit command) outcome → outcome ≡ Ok command }
+    ensures computed { (unit : ℕ) (command : Command) → IsWritableCommand command →
+        command_of (command_message unit command) ≡ Ok command }
     ensures unit { (unit : ℕ) (command : Command) → unit_of (command_message unit command) ≡ unit }
 {}
 
@@ -39,6 +46,8 @@ pub fn written_reply_is_read()
         ReadsReply (reply_message unit reply) (Ok reply) }
     ensures only { (unit : ℕ) (reply : Reply) (outcome : Result Reply WordFault) →
         IsWritableReply reply → ReadsReply (reply_message unit reply) outcome → outcome ≡ Ok reply }
+    ensures computed { (unit : ℕ) (reply : Reply) → IsWritableReply reply →
+        reply_of (reply_message unit reply) ≡ Ok reply }
     ensures unit { (unit : ℕ) (reply : Reply) → IsFramed (reply_message unit reply) →
         unit_of (reply_message unit reply) ≡ unit }
 {}

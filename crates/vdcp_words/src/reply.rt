@@ -1,11 +1,14 @@
 ghost use Rattle.std.specs.Prelude.{◌≡◌, ◌<◌, ◌≤◌, ℕ, All};
 ghost use Rattle.vdcp_frame.specs.Message.{content_of, framed, IsWritable};
 ghost use Rattle.vdcp_words.specs.Computed.{reply_of};
+ghost use Rattle.vdcp_words.specs.Texts.{reply_text};
 ghost use Rattle.vdcp_words.specs.Replies.{reply_message, ReadsReply};
 
 use crate::data;
 use crate::fault::WordFault;
 use crate::room::{marked, message, put};
+use crate::text::{push_byte, push_id, push_time};
+use arrayvec::ArrayString;
 use vdcp_frame::Message;
 use vdcp_value::ClipId;
 
@@ -30,7 +33,12 @@ pub enum Reply {
 }
 
 impl Reply {
-    /// The reply that the message carries, from whatever unit.
+    /// The reply that the message carries, from whatever unit (VDCP, and this profile for what each
+    /// byte means). Data behind the bytes that a reply names is ignored. A state is read with a
+    /// state byte exactly where bit 0 of its bitmap is set.
+    ///
+    /// `Unknown` where no reply has the message's type and code; `Length` where one has, but the
+    /// data ends too early. `NotCommand` never comes.
     pub fn read(message: &Message) -> Result<Reply, WordFault>
         ensures table { ReadsReply (content_of message.now) result }
         ensures exact { result ≡ reply_of (content_of message.now) }
@@ -72,6 +80,39 @@ impl Reply {
             Reply::Present(there) => message(3, unit, 0x96, put(room, &[u8::from(*there)])),
         }
     }
+
+    /// Replaces the buffer's text by that of the reply as it is heard (this profile), as `granted`,
+    /// `state 84` or `size 00100000`. Bytes are two lower-case hexadecimal digits each.
+    pub fn show(&self, text: &mut ArrayString<64>)
+        ensures { text.new.bytes ≡ reply_text self.now }
+    {
+        text.clear();
+        match self {
+            Reply::Ack => text.push_str("ack"),
+            Reply::Nak(byte) => {
+                text.push_str("nak ");
+                push_byte(text, *byte);
+            }
+            Reply::Opened(true) => text.push_str("granted"),
+            Reply::Opened(false) => text.push_str("denied"),
+            Reply::State(_, Some(state)) => {
+                text.push_str("state ");
+                push_byte(text, *state);
+            }
+            Reply::State(_, None) => text.push_str("state none"),
+            Reply::Active(Some(id)) => {
+                text.push_str("active ");
+                push_id(text, id);
+            }
+            Reply::Active(None) => text.push_str("active none"),
+            Reply::Present(true) => text.push_str("present"),
+            Reply::Present(false) => text.push_str("absent"),
+            Reply::Size(time) => {
+                text.push_str("size ");
+                push_time(text, time);
+            }
+        }
+    }
 }
 
 /// The replies to sense requests.
@@ -104,16 +145,9 @@ fn state(rest: &[u8]) -> Result<Reply, WordFault>
     ensures { (unit : ℕ) → ReadsReply (framed 3 unit 0x85 rest.now) result }
 {
     match rest {
-        [bitmap, more @ ..] => {
-            if *bitmap & 1 != 1 {
-                return Ok(Reply::State(*bitmap, None));
-            }
-            match more {
-                [byte, ..] => Ok(Reply::State(*bitmap, Some(*byte))),
-                [] => Err(WordFault::Length),
-            }
-        }
-        [] => Err(WordFault::Length),
+        [bitmap, ..] if *bitmap & 1 != 1 => Ok(Reply::State(*bitmap, None)),
+        [bitmap, byte, ..] => Ok(Reply::State(*bitmap, Some(*byte))),
+        [] | [_] => Err(WordFault::Length),
     }
 }
 

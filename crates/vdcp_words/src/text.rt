@@ -3,9 +3,11 @@
 ghost use Rattle.std.specs.Prelude.{◌≡◌, ◌+◌, ◌<◌, ◌≤◌, ◌++◌};
 ghost use Rattle.arrayvec.specs.ArrayString.{array_string_len};
 ghost use Rattle.vdcp_value.specs.IdText.{hex_digit, hex_pair};
+ghost use Rattle.vdcp_value.specs.Ids.{text_of_id};
 ghost use Rattle.vdcp_words.specs.Texts.{hex_text};
 
 use arrayvec::ArrayString;
+use vdcp_value::ClipId;
 
 fn digit(n: u8) -> char
     requires { n < 16 }
@@ -18,7 +20,8 @@ fn digit(n: u8) -> char
 /// Appends a byte as two digits.
 pub(crate) fn push_byte(text: &mut ArrayString<64>, byte: u8)
     requires { array_string_len text.old + 2 ≤ 64 }
-    ensures { text.new.bytes ≡ text.old.bytes ++ hex_pair byte }
+    ensures text { text.new.bytes ≡ text.old.bytes ++ hex_pair byte }
+    ensures len { array_string_len text.new ≡ array_string_len text.old + 2 }
 {
     text.push(digit(byte / 16));
     text.push(digit(byte % 16));
@@ -27,11 +30,23 @@ pub(crate) fn push_byte(text: &mut ArrayString<64>, byte: u8)
 /// Appends the bytes of a time code, in their order.
 pub(crate) fn push_time(text: &mut ArrayString<64>, time: &[u8; 4])
     requires { array_string_len text.old + 8 ≤ 64 }
-    ensures { text.new.bytes ≡ text.old.bytes ++ hex_text time.now }
+    ensures text { text.new.bytes ≡ text.old.bytes ++ hex_text time.now }
+    ensures len { array_string_len text.new ≡ array_string_len text.old + 8 }
 {
     let [frames, seconds, minutes, hours] = *time;
     push_byte(text, frames);
     push_byte(text, seconds);
     push_byte(text, minutes);
     push_byte(text, hours);
+}
+
+/// Appends an ID's text, which has at most 18 bytes.
+pub(crate) fn push_id(text: &mut ArrayString<64>, id: &ClipId)
+    requires { array_string_len text.old + 18 ≤ 64 }
+    ensures text { text.new.bytes ≡ text.old.bytes ++ text_of_id id.now }
+    ensures room { array_string_len text.new ≤ array_string_len text.old + 18 }
+{
+    let mut id_text = ArrayString::<18>::new();
+    id.show(&mut id_text);
+    text.push_str(id_text.as_str());
 }

@@ -1,9 +1,8 @@
-use Rattle.std.proofs.Common.{◌≡◌, ℕ, List, [], inl, inr, subst, ◌∙◌, sym}
-use Rattle.vdcp_frame.specs.Message.{Content, content_of}
+use Rattle.std.proofs.Common.{ℕ, List, inl, inr, subst, ◌∙◌, sym}
+use Rattle.vdcp_frame.specs.Message.{content_of}
 use Rattle.vdcp_frame.specs.Head.{IsPart, IsWrong, IsFound}
 use Rattle.vdcp_frame.proofs.ReadingLemmas.{left, next_front, found_spelt, found_further, reads_clean, reads_cut, reads_long, reads_wrong}
 use Rattle.vdcp_frame.proofs.burst.read_at.Goals as goal
-use Rattle.vdcp_frame.proofs.burst.read_at.Goals.{in-Nothing+else-burst-le-LIMIT, in-Part+else-burst-le-LIMIT-2}
 
 found_here : (c : goal.In-Found) → IsFound (left 4096 c.args.burst.now c.args.from) (content_of c.in-Found.message) c.in-Found.size
 found_here c = subst (λ (r : List ℕ). IsFound r (content_of c.in-Found.message) c.in-Found.size) c.left.ensures c.in-Found.ensures
@@ -35,9 +34,8 @@ returns-in-Part-clause-end c ms all =
 
 pub returns-in-Nothing-2-clause-end : goal.returns-in-Nothing-2-clause-end
 returns-in-Nothing-2-clause-end c ms all =
-    elim c.in-Nothing-2-1.branch [
-      | in-Nothing+else-burst-le-LIMIT w ↦
-          reads_long 4096 c.args.burst.now c.args.from c.requires.limit ms w.if-burst-le-LIMIT.false (inl (sym c.left.ensures ∙ w.in-Nothing.ensures)) all
-      | in-Part+else-burst-le-LIMIT-2 w ↦
-          reads_long 4096 c.args.burst.now c.args.from c.requires.limit ms w.if-burst-le-LIMIT-2.false (inr (subst IsPart c.left.ensures w.in-Part.ensures)) all
-    ]
+    reads_long 4096 c.args.burst.now c.args.from c.requires.limit ms c.if-burst-le-LIMIT.false (inl (sym c.left.ensures ∙ c.in-Nothing-2.ensures)) all
+
+pub returns-in-Part-2-clause-end : goal.returns-in-Part-2-clause-end
+returns-in-Part-2-clause-end c ms all =
+    reads_long 4096 c.args.burst.now c.args.from c.requires.limit ms c.if-burst-le-LIMIT-2.false (inr (subst IsPart c.left.ensures c.in-Part-2.ensures)) all

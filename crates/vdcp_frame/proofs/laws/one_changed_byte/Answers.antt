@@ -1,4 +1,4 @@
-use Rattle.vdcp_frame.proofs.LawLemmas.{changed_byte}
+use Rattle.vdcp_frame.proofs.ChangedByteLemmas.{changed_byte}
 use Rattle.vdcp_frame.proofs.laws.one_changed_byte.Goals as goal
 
 pub returns : goal.returns

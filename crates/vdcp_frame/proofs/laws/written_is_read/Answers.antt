@@ -1,4 +1,4 @@
-use Rattle.vdcp_frame.proofs.LawLemmas.{read_again, read_alone}
+use Rattle.vdcp_frame.proofs.ReadingLemmas.{read_again, read_alone}
 use Rattle.vdcp_frame.proofs.laws.written_is_read.Goals as goal
 
 pub returns-clause-first : goal.returns-clause-first

@@ -1,5 +1,4 @@
-use Rattle.std.proofs.Common.{◌≡◌, sym, subst}
-use Rattle.vdcp_frame.specs.Message.{content_of, framed, Content, Spells, spelling}
+use Rattle.vdcp_frame.specs.Message.{framed, Content}
 use Rattle.vdcp_frame.proofs.ReadingLemmas.{Spells-spelling}
 use Rattle.vdcp_frame.proofs.spelling.write.Goals as goal
 

@@ -1,6 +1,7 @@
 use Rattle.std.proofs.Common.{Ok}
 use Rattle.vdcp_words.specs.Replies.{reply_message}
 use Rattle.vdcp_words.proofs.ReplyLaws.{reply_written, one_reply_reading, unit_of-reply}
+use Rattle.vdcp_words.proofs.WordBytes.{reply_of-written}
 use Rattle.vdcp_words.proofs.laws.written_reply_is_read.Goals as goal
 
 pub returns-clause-read : goal.returns-clause-read
@@ -12,3 +13,6 @@ returns-clause-only c unit reply outcome writable reads =
 
 pub returns-clause-unit : goal.returns-clause-unit
 returns-clause-unit c = unit_of-reply
+
+pub returns-clause-computed : goal.returns-clause-computed
+returns-clause-computed c = reply_of-written

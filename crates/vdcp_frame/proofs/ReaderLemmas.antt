@@ -1,0 +1,140 @@
+-- A call of feed goes on the reading of the burst, and a silence ends it.
+use Rattle.std.proofs.Common.{◌≡◌, ℕ, ◌+◌, ◌-◌, ◌<◌, ◌≤◌, Bool, cond, ltb, List, [], ◌∷◌, ◌++◌, length, take, drop, refl, sym, ap, subst, ◌∙◌, append_assoc, arith, length-append}
+use Rattle.std.proofs.lemmas.Bool.{lt-ltb, le-ltb}
+use Rattle.std.proofs.lemmas.List.{take-append-drop, take_at, take_all, take-take, length-take, length-drop, append-nil}
+use Rattle.vdcp_frame.specs.declared.message.Fault.{Fault}
+use Rattle.vdcp_frame.specs.declared.message.Fault.TheVariants.{BadStart, BadCount, BadSum, Long}
+use Rattle.vdcp_frame.specs.Message.{Content}
+use Rattle.vdcp_frame.specs.Reading.{SpellsAll, End, clean, cut, fault, Ends, long_end, ReadsUpTo, Reads}
+use Rattle.vdcp_frame.specs.Progress.{Progress, reading, failed}
+use Rattle.vdcp_frame.specs.Reader.{Answer, message, more, wrong, IsUnfinished, TakesMessage, TakesAll, TakesWrong, TakesLong, TakesFault, Gives, fed, ended_of, FollowsReading, FollowsFault, Follows, FollowsNext, ReadsAs}
+use Rattle.vdcp_frame.proofs.HeadLemmas.{Begins-nil}
+use Rattle.vdcp_frame.proofs.ReadingLemmas.{nil_no_front, SpellsAll-push, wrong_reads}
+
+-- ---- an unfinished rest
+
+abbrev pub unfinished_end : List ℕ → End
+unfinished_end [] = clean
+unfinished_end (byte ∷ bytes) = cut (length (byte ∷ bytes))
+
+ends_unfinished : (before : ℕ) (held : List ℕ) → IsUnfinished held → Ends before held (unfinished_end held)
+ends_unfinished before [] h = refl
+ends_unfinished before (byte ∷ bytes) h = ((λ e. absurd cc), h.begins, refl)
+
+long_unfinished : (limit : ℕ) (held : List ℕ) → long_end limit (unfinished_end held) ≡ fault Long (limit + 1)
+long_unfinished limit [] = refl
+long_unfinished limit (byte ∷ bytes) = refl
+
+unfinished_reads : (limit : ℕ) (burst : List ℕ) (ms : List Content) (whole held : List ℕ) → take limit burst ≡ whole ++ held → SpellsAll ms whole → IsUnfinished held →
+    ReadsUpTo limit burst ms (cond (ltb limit (length burst)) (long_end limit (unfinished_end held)) (unfinished_end held))
+unfinished_reads limit burst ms whole held parts all h = record {
+  short = unfinished_end held;
+  front = record { whole = whole; rest = held; parts = parts; spelt = all; no_front = h.no_front; ends = ends_unfinished (length whole) held h };
+  long = refl;
+}
+
+-- a burst within the limit
+pub short_reads : (limit : ℕ) (ms : List Content) (whole held : List ℕ) → SpellsAll ms whole → IsUnfinished held → length (whole ++ held) ≤ limit → ReadsUpTo limit (whole ++ held) ms (unfinished_end held)
+short_reads limit ms whole held all h room =
+    subst (λ (b : Bool). ReadsUpTo limit (whole ++ held) ms (cond b (long_end limit (unfinished_end held)) (unfinished_end held))) (le-ltb limit (length (whole ++ held)) room)
+    (unfinished_reads limit (whole ++ held) ms whole held (take_all limit (whole ++ held) room) all h)
+
+-- a burst past it
+pub long_reads : (limit : ℕ) (ms : List Content) (whole held rest : List ℕ) → SpellsAll ms whole → IsUnfinished held → length (whole ++ held) ≡ limit → 0 < length rest → ReadsUpTo limit ((whole ++ held) ++ rest) ms (fault Long (limit + 1))
+long_reads limit ms whole held rest all h size some =
+    let burst : List ℕ = (whole ++ held) ++ rest in
+    let past : limit < length burst = omega (arith, length-append (whole ++ held) rest) in
+    subst (ReadsUpTo limit burst ms) (long_unfinished limit held)
+    (subst (λ (b : Bool). ReadsUpTo limit burst ms (cond b (long_end limit (unfinished_end held)) (unfinished_end held))) (lt-ltb limit (length burst) past)
+    (unfinished_reads limit burst ms whole held (take_at (whole ++ held) rest limit size) all h))
+
+-- ---- one call of feed
+
+joined : (whole held piece : List ℕ) → (whole ++ held) ++ piece ≡ whole ++ (held ++ piece)
+joined whole held piece = append_assoc whole held piece
+
+grown : (burst piece : List ℕ) (taken n : ℕ) → length burst ≡ taken → n ≤ length piece → length (burst ++ take n piece) ≡ taken + n
+grown burst piece taken n size within = omega (arith, length-append burst (take n piece), length-take n piece)
+
+pub unfinished_nil : IsUnfinished []
+unfinished_nil = record { begins = Begins-nil; no_front = nil_no_front }
+
+pub follows_message : (burst : List ℕ) (ms : List Content) (taken : ℕ) (held piece : List ℕ) (n : ℕ) (m : Content) → FollowsReading burst ms taken held → TakesMessage taken held piece n m → FollowsReading (burst ++ take n piece) (ms ++ m ∷ []) (taken + n) []
+follows_message burst ms taken held piece n m f t =
+    let front : burst ++ take n piece ≡ f.whole ++ (held ++ take n piece) = ap (λ (b : List ℕ). b ++ take n piece) f.parts ∙ joined f.whole held (take n piece) in
+    record {
+      whole = f.whole ++ (held ++ take n piece);
+      parts = front ∙ sym (append-nil (f.whole ++ (held ++ take n piece)));
+      spelt = SpellsAll-push ms m f.whole (held ++ take n piece) f.spelt t.spelt;
+      unfinished = unfinished_nil;
+      count = grown burst piece taken n f.count t.within;
+      limit = t.limit;
+    }
+
+pub follows_more : (burst : List ℕ) (ms : List Content) (taken : ℕ) (held piece : List ℕ) (n : ℕ) → FollowsReading burst ms taken held → TakesAll taken held piece n → FollowsReading (burst ++ take n piece) ms (taken + n) (held ++ take n piece)
+follows_more burst ms taken held piece n f t = record {
+  whole = f.whole;
+  parts = ap (λ (b : List ℕ). b ++ take n piece) f.parts ∙ joined f.whole held (take n piece);
+  spelt = f.spelt;
+  unfinished = t.unfinished;
+  count = grown burst piece taken n f.count (omega (arith, t.all));
+  limit = t.limit;
+}
+
+follows_wrong : (burst : List ℕ) (ms : List Content) (taken : ℕ) (held piece : List ℕ) (n : ℕ) (kind : Fault) → FollowsReading burst ms taken held → TakesWrong taken held piece n kind → FollowsFault (burst ++ take n piece) ms kind (taken + n)
+follows_wrong burst ms taken held piece n kind f t rest =
+    let w : List ℕ = held ++ take n piece in
+    let front : burst ++ take n piece ≡ f.whole ++ w = ap (λ (b : List ℕ). b ++ take n piece) f.parts ∙ joined f.whole held (take n piece) in
+    let size : length f.whole + length w ≡ taken + n = omega (arith, grown burst piece taken n f.count t.within, ap (length {A = ℕ}) front, length-append f.whole w) in
+    subst (λ (p : ℕ). Reads ((burst ++ take n piece) ++ rest) ms (fault kind p)) size
+    (subst (λ (b : List ℕ). Reads (b ++ rest) ms (fault kind (length f.whole + length w))) (sym front)
+    (wrong_reads 4096 ms f.whole w rest kind f.spelt t.first (omega (arith, t.limit))))
+
+follows_long : (burst : List ℕ) (ms : List Content) (taken : ℕ) (held piece : List ℕ) (n : ℕ) → FollowsReading burst ms taken held → TakesLong taken held piece n → FollowsFault (burst ++ take n piece) ms Long (taken + n)
+follows_long burst ms taken held piece n f t rest =
+    let w : List ℕ = held ++ take (n - 1) piece in
+    let last : List ℕ = drop (n - 1) (take n piece) in
+    let split : take n piece ≡ take (n - 1) piece ++ last =
+    sym (take-append-drop (n - 1) (take n piece)) ∙ ap (λ (p : List ℕ). p ++ last) (take-take (n - 1) n piece (omega arith)) in
+    let front : burst ++ take n piece ≡ (f.whole ++ w) ++ last =
+    ap (λ (b : List ℕ). b ++ take n piece) f.parts ∙ ap (λ (p : List ℕ). (f.whole ++ held) ++ p) split
+    ∙ sym (append_assoc (f.whole ++ held) (take (n - 1) piece) last) ∙ ap (λ (b : List ℕ). b ++ last) (joined f.whole held (take (n - 1) piece)) in
+    let size : length (f.whole ++ w) ≡ 4096 =
+    omega (arith, f.count, t.past, t.some, t.within, ap (length {A = ℕ}) f.parts, length-append f.whole held, length-append f.whole w, length-append held (take (n - 1) piece), length-take (n - 1) piece) in
+    let some : 0 < length (last ++ rest) = omega (arith, t.some, t.within, length-append last rest, length-drop (n - 1) (take n piece), length-take n piece) in
+    let long : Reads ((f.whole ++ w) ++ (last ++ rest)) ms (fault Long 4097) = long_reads 4096 ms f.whole w (last ++ rest) f.spelt t.unfinished size some in
+    subst (λ (p : ℕ). Reads ((burst ++ take n piece) ++ rest) ms (fault Long p)) (sym t.past)
+    (subst (λ (b : List ℕ). Reads b ms (fault Long 4097)) (sym (ap (λ (b : List ℕ). b ++ rest) front ∙ append_assoc (f.whole ++ w) last rest)) long)
+
+pub follows_fault : (burst : List ℕ) (ms : List Content) (taken : ℕ) (held piece : List ℕ) (n : ℕ) (kind : Fault) → FollowsReading burst ms taken held → TakesFault taken held piece n kind → FollowsFault (burst ++ take n piece) ms kind (taken + n)
+follows_fault burst ms taken held piece n BadStart f t = follows_wrong burst ms taken held piece n BadStart f t
+follows_fault burst ms taken held piece n (BadCount count) f t = follows_wrong burst ms taken held piece n (BadCount count) f t
+follows_fault burst ms taken held piece n BadSum f t = follows_wrong burst ms taken held piece n BadSum f t
+follows_fault burst ms taken held piece n Long f t = follows_long burst ms taken held piece n f t
+
+-- what follows the burst so far follows it with the bytes of one more call
+pub gives_follows : (burst : List ℕ) (ms : List Content) (old : Progress) (piece : List ℕ) (n : ℕ) (answer : Answer) → Gives old piece n answer → Follows burst ms old → FollowsNext (burst ++ take n piece) ms answer (fed old piece n answer)
+gives_follows burst ms (reading taken held) piece n (message m) g f = follows_message burst ms taken held piece n m f g
+gives_follows burst ms (reading taken held) piece n more g f = follows_more burst ms taken held piece n f g
+gives_follows burst ms (reading taken held) piece n (wrong kind place) g f =
+    (subst (FollowsFault (burst ++ take n piece) ms kind) (sym g.1) (follows_fault burst ms taken held piece n kind f g.0), refl)
+gives_follows burst ms failed piece n (message m) g f = absurd g
+gives_follows burst ms failed piece n more g f =
+    (f.0, f.1, λ rest. subst (λ (b : List ℕ). Reads b ms (fault f.0 f.1)) (sym (append_assoc burst (take n piece) rest)) (f.2 (take n piece ++ rest)))
+gives_follows burst ms failed piece n (wrong kind place) g f = absurd g
+
+-- ---- a silence
+
+pub ends_follows : (burst : List ℕ) (ms : List Content) (taken : ℕ) (held : List ℕ) → FollowsReading burst ms taken held → Reads burst ms (unfinished_end held)
+ends_follows burst ms taken held f =
+    let size : length (f.whole ++ held) ≤ 4096 = omega (arith, f.count, f.limit, ap (length {A = ℕ}) f.parts) in
+    subst (λ (b : List ℕ). Reads b ms (unfinished_end held)) (sym f.parts) (short_reads 4096 ms f.whole held f.spelt f.unfinished size)
+
+pub silence_reads : (burst : List ℕ) (ms : List Content) (old : Progress) → Follows burst ms old → ReadsAs burst ms (ended_of old)
+silence_reads burst ms (reading taken []) f = ends_follows burst ms taken [] f
+silence_reads burst ms (reading taken (byte ∷ bytes)) f = ends_follows burst ms taken (byte ∷ bytes) f
+silence_reads burst ms failed f = (f.0, f.1, subst (λ (b : List ℕ). Reads b ms (fault f.0 f.1)) (append-nil burst) (f.2 []))
+
+-- nothing has come yet
+pub follows_none : Follows [] [] (reading 0 [])
+follows_none = record { whole = []; parts = refl; spelt = refl; unfinished = unfinished_nil; count = refl; limit = omega arith }

@@ -1,0 +1,5 @@
+use Rattle.vdcp_frame.proofs.PieceLemmas.{pieces_read}
+use Rattle.vdcp_frame.proofs.laws.pieces_are_read_as_one.Goals as goal
+
+pub returns : goal.returns
+returns c = pieces_read

@@ -1,0 +1,9 @@
+use Rattle.std.proofs.Common.{◌≡◌, sym, subst, rules}
+use Rattle.vdcp_frame.specs.Reader.{ended_of, ReadsAs}
+use Rattle.vdcp_frame.proofs.ReaderLemmas.{silence_reads}
+use Rattle.vdcp_frame.proofs.reader.Reader.silence.Goals as goal
+
+pub returns-clause-reads : goal.returns-clause-reads
+returns-clause-reads c burst ms f =
+    let is : c.if-self.ended ≡ ended_of c.args.self.now = search rules in
+    subst (ReadsAs burst ms) (sym is) (silence_reads burst ms c.args.self.now f)

@@ -1,0 +1,5 @@
+use Rattle.std.proofs.Common.{length, ◌-◌}
+use Rattle.vdcp_frame.proofs.reader_tests.feed_to_end.Given as goal
+
+abbrev pub decreases-piece : goal.decreases-piece
+decreases-piece g l = length l.piece - l.at

@@ -1,0 +1,7 @@
+use Rattle.std.specs.Prelude.{ℕ, List}
+
+-- how far a reader is in a burst: how many bytes it took, and which of these it holds, since they
+-- begin a message; or behind a fault
+pub data Progress : Type 0 where
+  reading : (taken : ℕ) (held : List ℕ) → Progress
+  failed : Progress

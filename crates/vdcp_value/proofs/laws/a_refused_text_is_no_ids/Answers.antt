@@ -1,0 +1,6 @@
+use Rattle.vdcp_value.proofs.IdTexts.{not_both}
+use Rattle.vdcp_value.proofs.laws.a_refused_text_is_no_ids.Goals as goal
+use Rattle.vdcp_value.specs.Ids.{id_bytes}
+
+pub returns : goal.returns
+returns c = λ text fault h t. not_both text (id_bytes c.args.id.now) fault c.args.id.now.eight h t
