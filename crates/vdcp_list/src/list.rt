@@ -59,7 +59,7 @@ impl List {
         ensures { IfSome (slice_get (items_of self.now) k) (λ item. result.now ≡ text_of_id item.id) }
     {
         let start = start_of(&self.ends, k);
-        &self.text.as_str()[start..self.ends[k]]
+        &self.text()[start..self.ends[k]]
     }
 
     /// The texts of all IDs, one after another.

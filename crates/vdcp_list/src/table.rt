@@ -59,8 +59,9 @@ impl Table {
         if self.places.contains_key(&key) {
             return Ok(false);
         }
+        let place = self.len();
         self.clips.reserve(1)?;
-        self.places.insert(key, self.clips.len())?;
+        self.places.insert(key, place)?;
         self.clips.push((id, duration)).unwrap();
         Ok(true)
     }

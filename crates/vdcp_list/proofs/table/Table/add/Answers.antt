@@ -20,9 +20,9 @@ invariant_of-self-2 c =
     let at : get nat_cmp c.self.inside.places c.key_of-key.result ≡ place_of c.self.inside.clips.items c.args.id =
     ap (get nat_cmp c.self.inside.places) c.key_of-key.ensures ∙ c.self.invariant c.args.id in
     let new : is_some (place_of c.self.inside.clips.items c.args.id) ≡ false = ap is_some (sym at) ∙ sym c.contains_key.ensures ∙ c.if-contains_key.false in
-    let size : c.len.result ≡ length c.self.inside.clips.items = grind (arith, common_steps) in
+    let size : c.len-place.result ≡ length c.self.inside.clips.items = grind (arith, common_steps) in
     let pushed : c.push.new.self.items ≡ c.self.inside.clips.items ++ (c.args.id, c.args.duration) ∷ [] = grind (arith, common_steps) in
-    λ id. rw pushed (places_push c.self.inside.clips.items (c.args.id, c.args.duration) c.self.inside.places c.insert.new.self c.key_of-key.result c.len.result
+    λ id. rw pushed (places_push c.self.inside.clips.items (c.args.id, c.args.duration) c.self.inside.places c.insert.new.self c.key_of-key.result c.len-place.result
     c.self.invariant c.key_of-key.ensures size (none_of (place_of c.self.inside.clips.items c.args.id) new) c.in_ok-insert.ensures.updates id)
 
 pub returns-clause-new : goal.returns-clause-new
