@@ -1,13 +1,13 @@
-use Rattle.std.proofs.Common.{◌≡◌, ℕ, ◌+◌, ◌-◌, ◌<◌, ◌≤◌, Bool, true, false, List, [], ◌∷◌, ◌++◌, length, map, take, drop, refl, sym, ap, subst, ◌∙◌, arith, zero, suc, cond}
+use Rattle.std.proofs.Common.{◌≡◌, ℕ, ◌+◌, ◌-◌, ◌<◌, ◌≤◌, Bool, true, false, List, [], ◌∷◌, ◌++◌, length, map, take, drop, refl, sym, ap, subst, ◌∙◌, arith, suc, cond}
 use Rattle.std.proofs.lemmas.List.Elements.{All-push}
 use Rattle.std.proofs.lemmas.List.{map-append}
 use Rattle.std.proofs.lemmas.Map.Keys.{IsDistinct-push}
 use Rattle.std.specs.List.{IsDistinct, list_any}
-use Rattle.std.specs.Prelude.{◌≢◌, All, Contains, IfSome, IsSome, Option, None, Some, is_some, slice_get}
+use Rattle.std.specs.Prelude.{IfSome, IsSome, Option, None, Some, is_some, slice_get}
 use Rattle.vdcp_list.proofs.ClipPlaces.{same_ids}
 use Rattle.vdcp_list.proofs.ItemRows.{first_of}
 use Rattle.vdcp_list.proofs.SlotClips.{none_of}
-use Rattle.vdcp_list.proofs.Steps.{AfterRows, Done, Step, at_first, done, step}
+use Rattle.vdcp_list.proofs.Steps.{AfterRows, Step, at_first, done, step}
 use Rattle.vdcp_list.specs.Catalogues.{CanLast, Follows, Gives, IsCatalogue, IsCatalogueFault, IsClipFault, RefusesRow, StandsIn, clip_row, ids_of}
 use Rattle.vdcp_list.specs.Reading.{IsReadFault, TakesRow}
 use Rattle.vdcp_list.specs.Rows.{Row, most_rows}

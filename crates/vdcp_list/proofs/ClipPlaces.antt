@@ -1,4 +1,4 @@
-use Rattle.std.proofs.Common.{◌≡◌, ℕ, ◌+◌, ◌<◌, ◌≤◌, Bool, true, false, List, [], ◌∷◌, ◌++◌, length, refl, sym, ap, subst, ◌∙◌, arith, zero, suc, get_or, true≢false, cond, nat_lt, nat_eq}
+use Rattle.std.proofs.Common.{◌≡◌, ℕ, ◌<◌, Bool, true, false, List, [], ◌∷◌, ◌++◌, length, refl, sym, ap, ◌∙◌, arith, zero, suc, get_or, true≢false, cond, nat_lt, nat_eq}
 use Rattle.std.proofs.lemmas.Nat.{be_bytes_8}
 use Rattle.std.specs.BTreeMap.{BTreeMap, Updates, get, is_at}
 use Rattle.std.specs.Ordering.{nat_cmp}
@@ -6,11 +6,11 @@ use Rattle.std.specs.Cmp.Lexicographic.{on_texts_equal}
 use Rattle.std.specs.Cmp.{IsEquivalence}
 use Rattle.std.specs.Int.{from_be_bytes, to_be_bytes, w64}
 use Rattle.std.specs.List.{list_all}
-use Rattle.std.specs.Prelude.{◌≢◌, IsSome, Option, None, Some, is_some, option_map, if◌then◌else◌}
+use Rattle.std.specs.Prelude.{◌≢◌, Option, None, Some, is_some, option_map, if◌then◌else◌}
 use Rattle.vdcp_list.specs.Places.{key_of, place_of}
 use Rattle.vdcp_port.specs.Clips.{is_same_id, length_of}
 use Rattle.vdcp_value.proofs.Bytes.{both_hold}
-use Rattle.vdcp_value.proofs.Ids.{equal_ids, id_byte_below, length_of_id, same_id}
+use Rattle.vdcp_value.proofs.Ids.{equal_ids, length_of_id, same_id}
 use Rattle.vdcp_value.specs.Ids.{id_bytes}
 use Rattle.vdcp_value.specs.declared.clip_id.ClipId.{ClipId}
 use Rattle.vdcp_value.specs.declared.timecode.Timecode.{Timecode}

@@ -1,11 +1,9 @@
 use Rattle.csv.specs.Writing.{default_writer, row_text}
-use Rattle.std.proofs.Common.{◌≡◌, ℕ, ◌+◌, ◌<◌, ◌≤◌, Bool, true, false, List, [], ◌∷◌, ◌++◌, length, take, refl, sym, ap, ap₂, subst, ◌∙◌, arith, zero, suc, add-one, add-zero, zero-add, append_assoc, append-nil, true≢false, IfOk, IfErr, Ok, Err, Result, inl, inr}
+use Rattle.std.proofs.Common.{◌≡◌, ℕ, ◌+◌, ◌<◌, Bool, true, false, List, [], ◌∷◌, ◌++◌, length, take, refl, sym, ap, ap₂, subst, ◌∙◌, arith, zero, suc, add-one, add-zero, zero-add, append_assoc, append-nil, true≢false, IfOk, IfErr, Ok, Err, Result}
 use Rattle.std.proofs.lemmas.List.Folds.{list_all-append, list_any-append}
-use Rattle.std.specs.List.{list_all, list_any}
-use Rattle.std.specs.Prelude.{Option, None, Some, OnOk, decimal, is_err, is_ok, is_some, slice_get, ◌&&◌, ◌||◌, ◌≢◌, ◌↔◌, ◌⊎◌}
+use Rattle.std.specs.Prelude.{Option, Some, OnOk, decimal, is_err, is_ok, is_some, slice_get, ◌||◌, ◌≢◌, ◌↔◌}
 use Rattle.vdcp_list.specs.Asrun.{IsUnlawful, are_lawful, events_text, has_part, is_lawful_event}
-use Rattle.vdcp_list.specs.Playlists.{is_lawful_part, item_row, part_fields, time_text}
-use Rattle.vdcp_list.specs.Rows.{Row}
+use Rattle.vdcp_list.specs.Playlists.{item_row, part_fields}
 use Rattle.vdcp_list.specs.declared.faults.WriteFault.TheVariants.{Device, Memory, Time}
 use Rattle.vdcp_list.specs.declared.faults.WriteFault.{WriteFault}
 use Rattle.vdcp_value.proofs.Bcd.{read_is_time}

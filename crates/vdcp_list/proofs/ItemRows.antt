@@ -1,21 +1,20 @@
 use Rattle.csv.specs.Records.{field_at}
-use Rattle.std.proofs.Common.{◌≡◌, ℕ, ◌+◌, ◌-◌, ◌<◌, ◌≤◌, ◌*◌, ◌/◌, ◌%◌, Bool, true, false, List, [], ◌∷◌, length, refl, sym, ap, ap₂, subst, ◌∙◌, arith, zero, suc, true≢false, nat_lt, not}
-use Rattle.std.specs.Prelude.{Option, None, Some, drop, is_none, slice_get, slice_index, IsTrue, ◌≢◌, if◌then◌else◌, ◌&&◌}
+use Rattle.std.proofs.Common.{◌≡◌, ℕ, ◌<◌, ◌≤◌, Bool, true, false, List, [], ◌∷◌, length, refl, sym, ap, ap₂, subst, ◌∙◌, arith, zero, suc, nat_lt, not}
+use Rattle.std.specs.Prelude.{Option, None, Some, drop, is_none, slice_get, slice_index, ◌≢◌, if◌then◌else◌, ◌&&◌}
 use Rattle.vdcp_list.proofs.Times.{two_digits_each}
-use Rattle.vdcp_list.specs.Playlists.{CanName, has_parts, is_of_columns, item_row, part_fields, time_text}
-use Rattle.vdcp_list.specs.Rows.{HasId, Row}
+use Rattle.vdcp_list.specs.Playlists.{CanName, has_parts, item_row, part_fields, time_text}
+use Rattle.vdcp_list.specs.Rows.{Row}
 use Rattle.vdcp_value.proofs.Bcd.{label_of_own_bcd, frames_in_own, own_is_time, lawful_two_digits, lawful_without}
 use Rattle.vdcp_value.proofs.Bytes.{both_hold}
 use Rattle.vdcp_value.proofs.LabelText.{one_timecode_text}
-use Rattle.vdcp_value.specs.Bcd.{bcd_byte, bcd_fault, frames_in, is_bcd, is_time, label_fault, label_of_bcd}
+use Rattle.vdcp_value.specs.Bcd.{bcd_byte, frames_in, is_bcd, is_time, label_fault, label_of_bcd}
 use Rattle.vdcp_value.specs.Bytes.{AreBytes}
 use Rattle.vdcp_value.specs.Ids.{text_of_id}
-use Rattle.vdcp_value.specs.LabelText.{has_two_digits, label_text}
+use Rattle.vdcp_value.specs.LabelText.{label_text}
 use Rattle.vdcp_value.specs.declared.faults.TcFault.TheVariants.{NotBcd}
 use Rattle.vdcp_value.specs.declared.faults.TcFault.{TcFault}
 use Rattle.vdcp_value.specs.Timecodes.{bcd_of, frames_of, label_of, rate_of, text_of}
 use Rattle.vdcp_value.specs.declared.clip_id.ClipId.{ClipId}
-use Rattle.vdcp_value.specs.declared.label.Label.{Label}
 use Rattle.vdcp_value.specs.declared.part.Item.{Item}
 use Rattle.vdcp_value.specs.declared.part.Part.{Part}
 use Rattle.vdcp_value.specs.declared.rate.Rate.{Rate}

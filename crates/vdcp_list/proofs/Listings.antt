@@ -1,9 +1,8 @@
-use Rattle.std.proofs.Common.{◌≡◌, ℕ, ◌+◌, ◌-◌, ◌<◌, ◌≤◌, Bool, true, false, List, [], ◌∷◌, ◌++◌, length, take, drop, map, refl, sym, ap, ap₂, subst, ◌∙◌, arith, zero, suc, append_assoc, append-nil, length-append, get_or, zero-add}
+use Rattle.std.proofs.Common.{◌≡◌, ℕ, ◌+◌, ◌-◌, ◌<◌, ◌≤◌, true, List, [], ◌∷◌, ◌++◌, length, take, refl, sym, ap, ap₂, subst, ◌∙◌, arith, zero, suc, append_assoc, append-nil, length-append, get_or, zero-add}
 use Rattle.std.proofs.Math.Seq.{drop-append_seam, take-append_seam}
-use Rattle.std.proofs.lemmas.Option.{slice_get-get_or}
 use Rattle.std.proofs.lemmas.Str.{IsAscii-append}
 use Rattle.std.specs.List.{list_all}
-use Rattle.std.specs.Prelude.{IsAscii, Option, None, Some, slice_get, slice_index, slice_range, string_bytes}
+use Rattle.std.specs.Prelude.{IsAscii, Option, Some, slice_get, slice_index, slice_range, string_bytes}
 use Rattle.vdcp_list.proofs.Texts.{id_of_text-text_of_id, ascii_id}
 use Rattle.vdcp_list.specs.Ids.{id_of_text}
 use Rattle.vdcp_list.specs.List.{items_of}

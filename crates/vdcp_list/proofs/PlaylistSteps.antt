@@ -1,11 +1,11 @@
-use Rattle.std.proofs.Common.{◌≡◌, ℕ, ◌+◌, ◌-◌, ◌<◌, ◌≤◌, Bool, true, false, List, [], ◌∷◌, ◌++◌, length, map, take, drop, refl, sym, ap, subst, ◌∙◌, arith, zero, suc}
+use Rattle.std.proofs.Common.{◌≡◌, ℕ, ◌+◌, ◌-◌, ◌<◌, ◌≤◌, Bool, true, false, List, [], ◌∷◌, ◌++◌, length, map, take, refl, sym, ap, subst, ◌∙◌, arith, zero, suc}
 use Rattle.std.proofs.lemmas.List.{map-append}
 use Rattle.std.proofs.lemmas.List.Elements.{All-push}
-use Rattle.std.specs.Prelude.{◌≢◌, All, IfSome, Option, None, Some, slice_get, if◌then◌else◌, nat_eq}
-use Rattle.vdcp_list.proofs.Steps.{AfterRows, Done, Step, at_first, done, step}
+use Rattle.std.specs.Prelude.{◌≢◌, IfSome, Option, None, Some, slice_get}
+use Rattle.vdcp_list.proofs.Steps.{AfterRows, Step, at_first, done, step}
 use Rattle.vdcp_list.specs.Playlists.{CanName, Follows, IsItemFault, IsPlaylist, IsPlaylistFault, Names, RefusesRow, columns_of, has_parts, item_row}
 use Rattle.vdcp_list.specs.Reading.{IsReadFault, TakesRow}
-use Rattle.vdcp_list.specs.Rows.{Reaches, Row, most_rows}
+use Rattle.vdcp_list.specs.Rows.{Row, most_rows}
 use Rattle.vdcp_list.specs.declared.faults.ListFault.TheVariants.{Columns, Id, Time, Twice, TooMany, Memory, Read}
 use Rattle.vdcp_list.specs.declared.faults.ListFault.{ListFault}
 use Rattle.vdcp_value.specs.declared.part.Item.{Item}

@@ -1,4 +1,4 @@
-use Rattle.std.proofs.Common.{◌≡◌, ℕ, ◌+◌, ◌*◌, ◌/◌, ◌%◌, ◌-◌, ◌<◌, ◌≤◌, Bool, true, false, List, [], ◌∷◌, ◌++◌, length, take, drop, map, inl, inr, refl, sym, ap, ap₂, subst, ◌∙◌, arith, zero, suc, append_assoc, nat_lt, true≢false, if◌then◌else◌}
+use Rattle.std.proofs.Common.{◌≡◌, ℕ, ◌+◌, ◌*◌, ◌/◌, ◌%◌, ◌<◌, ◌≤◌, Bool, true, false, List, [], ◌∷◌, length, drop, inl, inr, refl, sym, ap, ap₂, subst, ◌∙◌, arith, zero, suc, nat_lt, true≢false, if◌then◌else◌}
 use Rattle.std.proofs.lemmas.Str.{IsUtf8-from_ascii}
 use Rattle.std.specs.List.{flat_map, list_all}
 use Rattle.std.specs.Prelude.{IsAscii, IsUtf8}
@@ -7,9 +7,9 @@ use Rattle.vdcp_value.proofs.Bytes.{length_of_bytes, both_hold}
 use Rattle.vdcp_value.proofs.HexForm.{all_below, all_below_of, hex_form_long, pairs_are_hex}
 use Rattle.vdcp_value.proofs.IdText.{plain_parts}
 use Rattle.vdcp_value.proofs.IdTexts.{text_of_id_is}
-use Rattle.vdcp_value.proofs.Ids.{same_id, length_of_id}
+use Rattle.vdcp_value.proofs.Ids.{same_id}
 use Rattle.vdcp_value.specs.Bytes.{AreBytes, are_bytes}
-use Rattle.vdcp_value.specs.IdText.{hex_digit, hex_pair, hex_form, is_hex_digit, is_hex_long, is_plain_byte, padded, IsTextOf, IsPlainForm}
+use Rattle.vdcp_value.specs.IdText.{hex_digit, hex_pair, hex_form, is_hex_digit, is_hex_long, is_plain_byte, padded, IsTextOf}
 use Rattle.vdcp_value.specs.Ids.{id_bytes, text_of_id}
 use Rattle.vdcp_value.specs.declared.clip_id.ClipId.{ClipId}
 

@@ -1,10 +1,9 @@
-use Rattle.std.proofs.Common.{◌≡◌, ℕ, ◌+◌, ◌/◌, ◌%◌, ◌<◌, ◌≤◌, Bool, true, false, List, [], ◌∷◌, ◌++◌, refl, sym, ap, subst, ◌∙◌, arith, nat_lt}
+use Rattle.std.proofs.Common.{◌≡◌, ℕ, ◌+◌, ◌/◌, ◌%◌, ◌<◌, Bool, true, List, [], ◌∷◌, ◌++◌, refl, arith, nat_lt}
 use Rattle.std.proofs.lemmas.Str.{IsUtf8-from_ascii}
 use Rattle.std.specs.List.{list_all}
 use Rattle.std.specs.Prelude.{IsUtf8}
 use Rattle.vdcp_list.proofs.Texts.{all_ascii}
 use Rattle.vdcp_value.proofs.Bcd.{lawful_two_digits}
-use Rattle.vdcp_value.proofs.Bytes.{both_hold}
 use Rattle.vdcp_value.specs.LabelText.{frames_mark, has_two_digits, label_text, two_digits}
 use Rattle.vdcp_value.specs.Timecodes.{label_of, rate_of, text_of}
 use Rattle.vdcp_value.specs.declared.label.Label.{Label}

@@ -2,7 +2,6 @@ use Rattle.csv.specs.Writing.{default_writer, row_text}
 use Rattle.std.specs.List.{list_all, list_any}
 use Rattle.std.specs.Prelude.{ℕ, suc, ◌<◌, ◌≡◌, Bool, IsFalse, IsTrue, true, List, [], ◌∷◌, ◌++◌, decimal, is_some, take, slice_get, Option, None, Some}
 use Rattle.vdcp_list.specs.Playlists.{is_lawful_part, item_row}
-use Rattle.vdcp_list.specs.Rows.{Row}
 use Rattle.vdcp_value.specs.declared.part.Item.{Item}
 use Rattle.vdcp_value.specs.declared.part.Part.{Part}
 use Rattle.vdcp_value.specs.declared.rate.Rate.{Rate}

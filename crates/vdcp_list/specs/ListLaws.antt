@@ -1,4 +1,4 @@
-use Rattle.std.proofs.Common.{◌≡◌, ℕ, ◌<◌, ◌≤◌, ◌^◌, length, true, refl, sym, ap, arith, zero, suc}
+use Rattle.std.proofs.Common.{◌≡◌, ℕ, ◌<◌, ◌^◌, length, true, refl, ap, arith, zero, suc}
 use Rattle.std.specs.List.{list_all}
 use Rattle.std.specs.Prelude.{All, List, [], ◌∷◌, Option, None, Some, slice_range, string_bytes}
 use Rattle.vdcp_list.specs.Ids.{id_of_text}

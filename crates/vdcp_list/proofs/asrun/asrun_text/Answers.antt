@@ -1,6 +1,4 @@
-use Rattle.csv.specs.Writing.{default_writer, fields_written, has_written, row_text, writer_setup}
-use Rattle.std.proofs.Common.{◌≡◌, true, false, Bool, refl, sym, ap, ◌∙◌, arith}
-use Rattle.std.proofs.lemmas.Grind.{common_steps}
+use Rattle.std.proofs.Common.{◌≡◌, false, sym, ◌∙◌}
 use Rattle.std.specs.Prelude.{decimal, is_err}
 use Rattle.vdcp_list.proofs.Events.{events_step, lawful_at, on_ok}
 use Rattle.vdcp_list.proofs.asrun.asrun_text.Goals as goal

@@ -1,5 +1,4 @@
-use Rattle.std.proofs.Common.{◌≡◌, true, false, Bool, sym, ◌∙◌}
-use Rattle.std.specs.Prelude.{is_some}
+use Rattle.std.proofs.Common.{sym, ◌∙◌}
 use Rattle.vdcp_list.proofs.Events.{no_part_more, part_at}
 use Rattle.vdcp_list.proofs.asrun.has_part.Goals as goal
 

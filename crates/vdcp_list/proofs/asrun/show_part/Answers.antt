@@ -1,5 +1,3 @@
-use Rattle.std.proofs.Common.{arith}
-use Rattle.std.proofs.lemmas.Grind.{common_steps}
 use Rattle.vdcp_list.proofs.Events.{lawful_parts}
 use Rattle.vdcp_list.proofs.asrun.show_part.Goals as goal
 

@@ -1,4 +1,4 @@
-use Rattle.std.proofs.Common.{◌≡◌, sym, ap, ◌∙◌, subst}
+use Rattle.std.proofs.Common.{◌≡◌, sym, ap, ◌∙◌}
 use Rattle.vdcp_list.proofs.ItemRows.{own_text}
 use Rattle.vdcp_list.proofs.asrun.show_time.Goals as goal
 use Rattle.vdcp_list.specs.Playlists.{time_text}

@@ -1,9 +1,7 @@
-use Rattle.std.proofs.Common.{◌≡◌, true, refl, arith}
-use Rattle.std.proofs.lemmas.Grind.{common_steps}
+use Rattle.std.proofs.Common.{refl}
 use Rattle.std.proofs.lemmas.Result.{err_from_is_err_and}
-use Rattle.vdcp_list.proofs.Events.{told, untold, untold_device, untold_memory}
+use Rattle.vdcp_list.proofs.Events.{told, untold_device, untold_memory}
 use Rattle.vdcp_list.proofs.asrun.write_asrun.Goals as goal
-use Rattle.vdcp_list.specs.Asrun.{are_lawful}
 
 pub returns-in_err-check_parts-clause-unlawful : goal.returns-in_err-check_parts-clause-unlawful
 returns-in_err-check_parts-clause-unlawful g c =

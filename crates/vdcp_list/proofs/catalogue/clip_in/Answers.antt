@@ -1,4 +1,4 @@
-use Rattle.std.proofs.Common.{◌≡◌, refl, sym, ap, ◌∙◌, arith}
+use Rattle.std.proofs.Common.{◌≡◌, refl, sym, ap, arith}
 use Rattle.csv.specs.Records.{fields_of}
 use Rattle.std.specs.Prelude.{drop, length}
 use Rattle.vdcp_list.proofs.catalogue.clip_in.Goals as goal

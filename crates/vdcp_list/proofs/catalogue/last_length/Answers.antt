@@ -1,6 +1,5 @@
-use Rattle.std.proofs.Common.{◌≡◌, [], ◌∷◌, sym, ap, ◌∙◌, arith}
+use Rattle.std.proofs.Common.{[], ◌∷◌, sym, ap, ◌∙◌}
 use Rattle.csv.specs.Records.{fields_of}
-use Rattle.std.proofs.lemmas.Grind.{common_steps}
 use Rattle.vdcp_list.proofs.CatalogueSteps.{last_one, one_field}
 use Rattle.vdcp_list.proofs.ItemRows.{no_frames}
 use Rattle.vdcp_list.proofs.catalogue.last_length.Goals as goal

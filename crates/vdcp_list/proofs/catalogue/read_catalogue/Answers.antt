@@ -1,9 +1,9 @@
 use Rattle.csv.specs.Records.{fields_of}
-use Rattle.std.proofs.Common.{◌≡◌, ◌≤◌, ◌<◌, ◌+◌, [], ◌∷◌, ◌++◌, Bool, true, false, refl, sym, ap, subst, ◌∙◌, arith}
+use Rattle.std.proofs.Common.{◌≡◌, ◌≤◌, ◌<◌, ◌+◌, [], ◌∷◌, ◌++◌, true, false, arith}
 use Rattle.std.proofs.lemmas.Grind.{common_steps}
 use Rattle.std.proofs.lemmas.Result.{err_from_is_err_and}
 use Rattle.std.specs.Prelude.{option_map}
-use Rattle.vdcp_list.proofs.CatalogueSteps.{GivenSoFar, given_all, given_first, given_next, given_refused, given_too_many, given_twice}
+use Rattle.vdcp_list.proofs.CatalogueSteps.{given_all, given_first, given_next, given_refused, given_too_many, given_twice}
 use Rattle.vdcp_list.proofs.Steps.{of_bytes}
 use Rattle.vdcp_list.proofs.catalogue.read_catalogue.Goals as goal
 use Rattle.vdcp_list.specs.Catalogues.{IsCatalogue, IsCatalogueFault}

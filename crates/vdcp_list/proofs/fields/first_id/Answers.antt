@@ -1,6 +1,5 @@
-use Rattle.std.proofs.Common.{◌≡◌, sym, ap, ◌∙◌, subst}
-use Rattle.csv.specs.Records.{fields_of}
-use Rattle.std.specs.Prelude.{IsUtf8, Some, slice_get}
+use Rattle.std.proofs.Common.{sym, ap, ◌∙◌, subst}
+use Rattle.std.specs.Prelude.{IsUtf8, Some}
 use Rattle.vdcp_list.proofs.Texts.{utf8_id}
 use Rattle.vdcp_list.proofs.ItemRows.{one_some}
 use Rattle.vdcp_list.proofs.fields.first_id.Goals as goal

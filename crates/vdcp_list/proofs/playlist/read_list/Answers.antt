@@ -1,15 +1,15 @@
 use Rattle.csv.specs.Records.{fields_of}
-use Rattle.std.proofs.Common.{◌≡◌, ◌≤◌, ◌<◌, ◌+◌, [], ◌∷◌, ◌++◌, Bool, true, false, sym, ap, subst, arith}
+use Rattle.std.proofs.Common.{◌≡◌, ◌≤◌, ◌<◌, ◌+◌, [], ◌∷◌, ◌++◌, true, false, arith}
 use Rattle.std.proofs.lemmas.Result.{err_from_is_err_and}
 use Rattle.std.proofs.lemmas.Grind.{common_steps}
-use Rattle.std.specs.Prelude.{◌≢◌, option_map}
+use Rattle.std.specs.Prelude.{option_map}
 use Rattle.vdcp_list.proofs.PlaylistSteps.{ColumnsNow, named_all, named_next, named_refused, named_too_many}
 use Rattle.vdcp_list.proofs.Steps.{of_bytes}
 use Rattle.vdcp_list.proofs.playlist.read_list.Goals as goal
 use Rattle.vdcp_list.proofs.playlist.read_list.Goals.{then-read-eq0, else-read-eq0}
 use Rattle.vdcp_list.specs.List.{items_of}
 use Rattle.vdcp_list.specs.Playlists.{IsPlaylist, IsPlaylistFault}
-use Rattle.vdcp_list.specs.Reading.{TakesRow, rows_left}
+use Rattle.vdcp_list.specs.Reading.{rows_left}
 use Rattle.vdcp_list.specs.declared.faults.ListFault.TheVariants.{TooMany}
 use Rattle.vdcp_list.specs.Rows.{most_rows, rows_of}
 

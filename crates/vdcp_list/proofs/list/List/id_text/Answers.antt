@@ -1,8 +1,7 @@
-use Rattle.std.proofs.Common.{◌≡◌, ◌≤◌, length, arith, sym, ◌∙◌}
+use Rattle.std.proofs.Common.{arith, sym, ◌∙◌}
 use Rattle.std.proofs.lemmas.Str.{IsCharBoundary-from_ascii}
-use Rattle.std.specs.Prelude.{IfSome, string_bytes}
+use Rattle.std.specs.Prelude.{string_bytes}
 use Rattle.vdcp_list.proofs.Listings.{ascii_text, cut, length_of_items}
-use Rattle.vdcp_list.specs.List.{items_of}
 use Rattle.vdcp_list.proofs.list.List.id_text.Goals as goal
 
 pub start_of-start-requires : goal.start_of-start-requires

@@ -1,5 +1,5 @@
-use Rattle.std.proofs.Common.{◌≡◌, ◌<◌, length, arith, refl, sym, ap, ap₂, subst, ◌∙◌, Ok}
-use Rattle.std.specs.Prelude.{IfSome, Some}
+use Rattle.std.proofs.Common.{◌≡◌, arith, refl, sym, ap₂, subst, ◌∙◌}
+use Rattle.std.specs.Prelude.{Some}
 use Rattle.vdcp_list.proofs.Listings.{length_of_items, part_at, some_at}
 use Rattle.vdcp_list.specs.List.{items_of}
 use Rattle.vdcp_value.proofs.IdTexts.{text_of_id_is}

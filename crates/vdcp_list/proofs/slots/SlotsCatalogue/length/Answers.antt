@@ -1,5 +1,4 @@
-use Rattle.std.proofs.Common.{◌≡◌, true, false, Bool, sym, ap, ◌∙◌, arith}
-use Rattle.std.proofs.lemmas.Grind.{common_steps}
+use Rattle.std.proofs.Common.{◌≡◌, true, false, sym, ap, ◌∙◌}
 use Rattle.vdcp_list.proofs.SlotClips.{clips_of, found_at, none_more}
 use Rattle.vdcp_list.proofs.slots.SlotsCatalogue.length.Goals as goal
 use Rattle.vdcp_port.specs.Clips.{is_same_id, length_of}

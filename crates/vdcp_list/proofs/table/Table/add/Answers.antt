@@ -1,11 +1,11 @@
-use Rattle.std.proofs.Common.{◌≡◌, ℕ, false, true, sym, ap, ◌∙◌, length, arith}
+use Rattle.std.proofs.Common.{◌≡◌, false, sym, ap, ◌∙◌, length, arith}
 use Rattle.std.proofs.lemmas.Grind.{common_steps}
 use Rattle.std.specs.BTreeMap.{get}
 use Rattle.std.specs.Ordering.{nat_cmp}
-use Rattle.std.specs.Prelude.{◌++◌, ◌∷◌, [], is_some, None}
+use Rattle.std.specs.Prelude.{◌++◌, ◌∷◌, [], is_some}
 use Rattle.vdcp_list.proofs.ClipPlaces.{known, no_length, none_of, places_push}
 use Rattle.vdcp_list.proofs.table.Table.add.Goals as goal
-use Rattle.vdcp_list.specs.Places.{key_of, place_of}
+use Rattle.vdcp_list.specs.Places.{place_of}
 use Rattle.vdcp_port.specs.Clips.{length_of}
 
 pub returns-then-contains_key-clause-there : goal.returns-then-contains_key-clause-there

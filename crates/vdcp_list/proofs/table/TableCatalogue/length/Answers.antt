@@ -1,9 +1,9 @@
-use Rattle.std.proofs.Common.{◌≡◌, ℕ, sym, ap, ◌∙◌, arith, Some}
+use Rattle.std.proofs.Common.{◌≡◌, sym, ap, ◌∙◌, arith, Some}
 use Rattle.std.specs.BTreeMap.{get}
 use Rattle.std.specs.Ordering.{nat_cmp}
 use Rattle.vdcp_list.proofs.ClipPlaces.{not_placed, placed}
 use Rattle.vdcp_list.proofs.table.TableCatalogue.length.Goals as goal
-use Rattle.vdcp_list.specs.Places.{key_of, place_of}
+use Rattle.vdcp_list.specs.Places.{place_of}
 use Rattle.vdcp_port.specs.Clips.{length_of}
 
 pub index-requires : goal.index-requires
