@@ -10,3 +10,4 @@ mod ClipPlaces
 mod SlotClips
 mod CatalogueSteps
 mod Events
+mod Examples

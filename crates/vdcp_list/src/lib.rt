@@ -1,4 +1,10 @@
-//! Playlists, catalogues and as-run lists, all of them CSV.
+//! Playlists, catalogues and as-run lists: CSV files of clips, read and written.
+//!
+//! `read_list` and `read_catalogue` read a file of at most 10,000 rows to its end and keep nothing of
+//! the reader. The `List` that comes of a playlist is the controller's source, and the `Table` that
+//! comes of a catalogue is the port's catalogue; `Slots` is a catalogue of fixed room, which takes no
+//! memory. `write_asrun` writes which events of a source were reported as aired to a writer that it is
+//! lent.
 #![tactic(auto)]
 
 mod asrun;
