@@ -1,0 +1,164 @@
+use Rattle.csv.specs.Writing.{default_writer, row_text}
+use Rattle.std.proofs.Common.{◌≡◌, ℕ, ◌+◌, ◌<◌, ◌≤◌, Bool, true, false, List, [], ◌∷◌, ◌++◌, length, take, refl, sym, ap, ap₂, subst, ◌∙◌, arith, zero, suc, add-one, add-zero, zero-add, append_assoc, append-nil, true≢false, IfOk, IfErr, Ok, Err, Result, inl, inr}
+use Rattle.std.proofs.lemmas.List.Folds.{list_all-append, list_any-append}
+use Rattle.std.specs.List.{list_all, list_any}
+use Rattle.std.specs.Prelude.{Option, None, Some, OnOk, decimal, is_err, is_ok, is_some, slice_get, ◌&&◌, ◌||◌, ◌≢◌, ◌↔◌, ◌⊎◌}
+use Rattle.vdcp_list.specs.Asrun.{IsUnlawful, are_lawful, events_text, has_part, is_lawful_event}
+use Rattle.vdcp_list.specs.Playlists.{is_lawful_part, item_row, part_fields, time_text}
+use Rattle.vdcp_list.specs.Rows.{Row}
+use Rattle.vdcp_list.specs.declared.faults.WriteFault.TheVariants.{Device, Memory, Time}
+use Rattle.vdcp_list.specs.declared.faults.WriteFault.{WriteFault}
+use Rattle.vdcp_value.proofs.Bcd.{read_is_time}
+use Rattle.vdcp_value.proofs.Bytes.{both_hold}
+use Rattle.vdcp_value.specs.Bcd.{bcd_fault, is_time}
+use Rattle.vdcp_value.specs.Ids.{text_of_id}
+use Rattle.vdcp_value.specs.Timecodes.{bcd_of, rate_of}
+use Rattle.vdcp_value.specs.declared.faults.TcFault.{TcFault}
+use Rattle.vdcp_value.specs.declared.part.Item.{Item}
+use Rattle.vdcp_value.specs.declared.part.Part.{Part}
+use Rattle.vdcp_value.specs.declared.rate.Rate.{Rate}
+use Rattle.vdcp_value.specs.declared.timecode.Timecode.{Timecode}
+
+either_true : (a b : Bool) → b ≡ true → (a || b) ≡ true
+either_true true b e = refl
+either_true false b e = e
+
+-- one more event
+take_next : (items : List Item) (k : ℕ) (item : Item) → slice_get items k ≡ Some item → take (suc k) items ≡ take k items ++ item ∷ []
+take_next [] k item e = cc e
+take_next (first ∷ items) zero item e = let same : first ≡ item = cc e in ap (λ i. i ∷ []) same
+take_next (first ∷ items) (suc k) item e = ap (λ is. first ∷ is) (take_next items k item e)
+
+pub take_more : (items : List Item) (k : ℕ) (item : Item) → slice_get items k ≡ Some item → take (k + 1) items ≡ take k items ++ item ∷ []
+take_more items k item e = rw (add-one k) (take_next items k item e)
+
+-- whether some event has a part
+pub part_at : (items : List Item) (k : ℕ) (item : Item) → slice_get items k ≡ Some item → is_some item.part ≡ true → has_part items ≡ true
+part_at [] k item e some = cc e
+part_at (first ∷ items) zero item e some =
+    let same : first ≡ item = cc e in rw (ap (λ (i : Item). is_some i.part) same ∙ some) refl
+part_at (first ∷ items) (suc k) item e some = either_true (is_some first.part) (has_part items) (part_at items k item e some)
+
+pub no_part_more : (items : List Item) (k : ℕ) (item : Item) → slice_get items k ≡ Some item → has_part (take k items) ≡ false → is_some item.part ≡ false
+    → has_part (take (k + 1) items) ≡ false
+no_part_more items k item e none other =
+    rw (take_more items k item e, list_any-append (λ (i : Item). is_some i.part) (take k items) (item ∷ []), none, other) refl
+
+-- whether all events are lawful
+pub lawful_more : (rate : Rate) (items : List Item) (k : ℕ) (item : Item) → slice_get items k ≡ Some item → are_lawful rate (take k items) ≡ true
+    → is_lawful_event rate item.part ≡ true → are_lawful rate (take (k + 1) items) ≡ true
+lawful_more rate items k item e h lawful =
+    rw (take_more items k item e, list_all-append (λ (i : Item). is_lawful_event rate i.part) (take k items) (item ∷ []), h, lawful) refl
+
+pub lawful_at : (rate : Rate) (items : List Item) (k reported : ℕ) (item : Item) → slice_get items k ≡ Some item → k < reported
+    → are_lawful rate (take reported items) ≡ true → is_lawful_event rate item.part ≡ true
+lawful_at rate [] k reported item e below h = cc e
+lawful_at rate (first ∷ items) k zero item e below h = absurd (omega (arith, below))
+lawful_at rate (first ∷ items) zero (suc n) item e below h =
+    let same : first ≡ item = cc e in
+    sym (ap (λ (i : Item). is_lawful_event rate i.part) same) ∙ (both_hold (is_lawful_event rate first.part) (are_lawful rate (take n items)) h).0
+lawful_at rate (first ∷ items) (suc k) (suc n) item e below h =
+    lawful_at rate items k n item e (omega (arith, below)) (both_hold (is_lawful_event rate first.part) (are_lawful rate (take n items)) h).1
+
+ordered : (j k : ℕ) → (j < k → ⊥) → (k < j → ⊥) → j ≡ k
+ordered j k below above = grind (arith, below, above)
+
+-- there is one first event that isn't
+pub unlawful_once : (rate : Rate) (items : List Item) (reported j k : ℕ) → IsUnlawful rate items reported j → IsUnlawful rate items reported k → j ≡ k
+unlawful_once rate items reported j k h g =
+    ordered j k
+    (λ below. true≢false (sym (lawful_at rate items j k h.item h.at_k below g.before) ∙ h.unlawful))
+    (λ below. true≢false (sym (lawful_at rate items k j g.item g.at_k below h.before) ∙ g.unlawful))
+
+pub not_all_lawful : (rate : Rate) (items : List Item) (reported k : ℕ) → IsUnlawful rate items reported k → are_lawful rate (take reported items) ≡ true → ⊥
+not_all_lawful rate items reported k h all = true≢false (sym (lawful_at rate items k reported h.item h.at_k h.reported_is all) ∙ h.unlawful)
+
+-- reading four bytes says whether they are a time
+pub read_tells : (rate : Rate) (bytes : List ℕ) (result : Result Timecode TcFault) → IfOk result (λ time. rate_of time ≡ rate)
+    → IfOk result (λ time. bcd_of time ≡ bytes) → IfErr result (λ fault. bcd_fault rate bytes ≡ Some fault) → is_ok result ≡ is_time rate bytes
+read_tells rate bytes (Ok time) r b f = sym (read_is_time rate bytes time r b)
+read_tells rate bytes (Err fault) r b f = rw f refl
+
+-- the text of one more event
+pub events_text-push : (rate : Rate) (with_parts : Bool) (k : ℕ) (items : List Item) (item : Item)
+    → events_text rate with_parts k (items ++ item ∷ [])
+    ≡ events_text rate with_parts k items ++ row_text default_writer (decimal (k + length items) ∷ item_row rate with_parts item)
+events_text-push rate with_parts k [] item =
+    rw add-zero (append-nil (row_text default_writer (decimal k ∷ item_row rate with_parts item)))
+events_text-push rate with_parts k (first ∷ items) item =
+    let row = row_text default_writer (decimal k ∷ item_row rate with_parts first) in
+    let size : suc k + length items ≡ k + suc (length items) = omega arith in
+    ap (λ text. row ++ text) (events_text-push rate with_parts (suc k) items item
+    ∙ ap (λ n. events_text rate with_parts (suc k) items ++ row_text default_writer (decimal n ∷ item_row rate with_parts item)) size)
+    ∙ sym (append_assoc row (events_text rate with_parts (suc k) items) (row_text default_writer (decimal (k + suc (length items)) ∷ item_row rate with_parts item)))
+
+-- the fields of an event's row
+pub whole_fields : (rate : Rate) (item : Item) (number id : List ℕ) → id ≡ text_of_id item.id → number ∷ item_row rate false item ≡ number ∷ id ∷ []
+whole_fields rate item number id e = ap (λ i. number ∷ i ∷ []) (sym e)
+
+pub part_fields_of : (rate : Rate) (item : Item) (number id start duration : List ℕ) → id ≡ text_of_id item.id → part_fields rate item.part ≡ start ∷ duration ∷ []
+    → number ∷ item_row rate true item ≡ number ∷ id ∷ start ∷ duration ∷ []
+part_fields_of rate item number id start duration e h = ap₂ (λ i fields. number ∷ i ∷ fields) (sym e) h
+
+-- what a fault tells of unlawful parts
+one_time : (j k : ℕ) → Time j ≡ Time k → j ≡ k
+one_time j k e = cc
+
+one_fault : (a b : WriteFault) → ◌≡◌ {A = Result (Unit {0}) WriteFault} (Err a) (Err b) → a ≡ b
+one_fault a b e = cc
+
+pub told : (rate : Rate) (items : List Item) (reported : ℕ) (result : Result (Unit {0}) WriteFault) (fault : WriteFault) → result ≡ Err fault
+    → (j : ℕ) × (fault ≡ Time j) × IsUnlawful rate items reported j → (k : ℕ) → (result ≡ Err (Time k)) ↔ IsUnlawful rate items reported k
+told rate items reported result fault is (j, e, h) k =
+    (λ f. let same : j ≡ k = one_time j k (sym e ∙ one_fault fault (Time k) (sym is ∙ f)) in subst (λ n. IsUnlawful rate items reported n) same h,
+    λ g. is ∙ ap Err (e ∙ ap Time (unlawful_once rate items reported j k h g)))
+
+pub untold : (rate : Rate) (items : List Item) (reported : ℕ) (result : Result (Unit {0}) WriteFault) → IfErr result (λ fault. (k : ℕ) → fault ≢ Time k)
+    → are_lawful rate (take reported items) ≡ true → (k : ℕ) → (result ≡ Err (Time k)) ↔ IsUnlawful rate items reported k
+untold rate items reported (Ok done) other lawful k = (λ e. cc e, λ h. absurd (not_all_lawful rate items reported k h lawful))
+untold rate items reported (Err fault) other lawful k =
+    (λ e. absurd (other k (one_fault fault (Time k) e)), λ h. absurd (not_all_lawful rate items reported k h lawful))
+
+device_no_time : (fault : WriteFault) → fault ≡ Device → (k : ℕ) → fault ≢ Time k
+device_no_time fault e k t = cc
+
+memory_no_time : (fault : WriteFault) → fault ≡ Memory → (k : ℕ) → fault ≢ Time k
+memory_no_time fault e k t = cc
+
+pub untold_memory : (rate : Rate) (items : List Item) (reported : ℕ) (fault : WriteFault) → fault ≡ Memory
+    → are_lawful rate (take reported items) ≡ true → (k : ℕ) → (◌≡◌ {A = Result (Unit {0}) WriteFault} (Err fault) (Err (Time k))) ↔ IsUnlawful rate items reported k
+untold_memory rate items reported fault e lawful = untold rate items reported (Err fault) (memory_no_time fault e) lawful
+
+pub untold_device : (rate : Rate) (items : List Item) (reported : ℕ) (result : Result (Unit {0}) WriteFault) → IfErr result (λ fault. fault ≡ Device)
+    → are_lawful rate (take reported items) ≡ true → (k : ℕ) → (result ≡ Err (Time k)) ↔ IsUnlawful rate items reported k
+untold_device rate items reported (Ok done) e lawful = untold rate items reported (Ok done) tt lawful
+untold_device rate items reported (Err fault) e lawful = untold rate items reported (Err fault) (device_no_time fault e) lawful
+
+pub lawful_parts : (rate : Rate) (part : Option Part) (some : Part) → part ≡ Some some → is_lawful_event rate part ≡ true
+    → (is_time rate some.start ≡ true) × (is_time rate some.duration ≡ true)
+lawful_parts rate part some e h = both_hold (is_time rate some.start) (is_time rate some.duration) (rw e at h)
+
+taken : (items : List Item) (k : ℕ) (item : Item) → slice_get items k ≡ Some item → length (take k items) ≡ k
+taken [] k item e = cc e
+taken (first ∷ items) zero item e = refl
+taken (first ∷ items) (suc k) item e = ap suc (taken items k item e)
+
+one_text : (a b : List ℕ) → ◌≡◌ {A = Option (List ℕ)} (Some a) (Some b) → a ≡ b
+one_text a b e = cc
+
+-- the text after one more row
+pub events_step : (rate : Rate) (with_parts : Bool) (items : List Item) (k : ℕ) (item : Item) (number old new : List ℕ) → slice_get items k ≡ Some item
+    → number ≡ decimal k → ◌≡◌ {A = Option (List ℕ)} (Some old) (Some (events_text rate with_parts 0 (take k items)))
+    → new ≡ old ++ row_text default_writer (number ∷ item_row rate with_parts item)
+    → ◌≡◌ {A = Option (List ℕ)} (Some new) (Some (events_text rate with_parts 0 (take (k + 1) items)))
+events_step rate with_parts items k item number old new at is were grown =
+    let count : 0 + length (take k items) ≡ k = zero-add (length (take k items)) ∙ taken items k item at in
+    ap Some (grown
+    ∙ ap₂ (λ text n. text ++ row_text default_writer (n ∷ item_row rate with_parts item)) (one_text old (events_text rate with_parts 0 (take k items)) were)
+    (is ∙ ap decimal (sym count))
+    ∙ sym (events_text-push rate with_parts 0 (take k items) item)
+    ∙ ap (events_text rate with_parts 0) (sym (take_more items k item at)))
+
+pub on_ok : {P T E : Type 0} (result : Result T E) → is_err result ≡ false → OnOk result P → P
+on_ok (Ok x) e h = h
+on_ok (Err x) e h = cc e

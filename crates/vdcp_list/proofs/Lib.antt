@@ -1,0 +1,12 @@
+mod RowsLeft
+mod Reading
+mod Texts
+mod Times
+mod Listings
+mod Steps
+mod ItemRows
+mod PlaylistSteps
+mod ClipPlaces
+mod SlotClips
+mod CatalogueSteps
+mod Events

@@ -1,0 +1,12 @@
+use Rattle.std.proofs.Common.{◌≡◌, true, false, Bool, sym, ◌∙◌}
+use Rattle.std.specs.Prelude.{is_some}
+use Rattle.vdcp_list.proofs.Events.{no_part_more, part_at}
+use Rattle.vdcp_list.proofs.asrun.has_part.Goals as goal
+
+pub returns-then-is_some : goal.returns-then-is_some
+returns-then-is_some g c =
+    sym (part_at (g.S.Source.items c.args.source.now) c.loop-k.k c.at.result c.at.ensures (sym c.is_some.ensures ∙ c.if-is_some.true))
+
+pub loop-k-preserved : goal.loop-k-preserved
+loop-k-preserved g c =
+    no_part_more (g.S.Source.items c.args.source.now) c.loop-k.k c.at.result c.at.ensures c.loop-k.invariant (sym c.is_some.ensures ∙ c.if-is_some.false)

@@ -1,0 +1,73 @@
+use Rattle.std.specs.List.{IsDistinct}
+use Rattle.std.specs.Prelude.{ℕ, ◌+◌, ◌-◌, ◌<◌, ◌≤◌, ◌≡◌, ◌≢◌, ⊤, Some, List, [], ◌∷◌, All, Contains, map, length, take, slice_get}
+use Rattle.vdcp_list.specs.Rows.{Row, HasId, Reaches, most_rows}
+use Rattle.vdcp_list.specs.declared.faults.ListFault.TheVariants.{Columns, Id, Time, Twice, TooMany, Memory, Read}
+use Rattle.vdcp_list.specs.declared.faults.ListFault.{ListFault}
+use Rattle.vdcp_port.specs.Clips.{is_same_id}
+use Rattle.vdcp_value.specs.Ids.{text_of_id}
+use Rattle.vdcp_value.specs.Timecodes.{frames_of, rate_of, text_of}
+use Rattle.vdcp_value.specs.declared.clip_id.ClipId.{ClipId}
+use Rattle.vdcp_value.specs.declared.rate.Rate.{Rate}
+use Rattle.vdcp_value.specs.declared.timecode.Timecode.{Timecode}
+
+-- the row of a clip: its ID and its length
+abbrev pub clip_row : ClipId × Timecode → Row
+clip_row clip = text_of_id clip.0 ∷ text_of clip.1 ∷ []
+
+-- a length that a catalogue can give: one frame at least, at its rate
+abbrev pub CanLast : Rate → Timecode → Type 0
+CanLast rate time = (rate_of time ≡ rate) × (1 ≤ frames_of time)
+
+abbrev pub ids_of : List (ClipId × Timecode) → List ClipId
+ids_of clips = map (λ clip. clip.0) clips
+
+-- these rows give these clips, no ID twice
+pub record Gives (rate : Rate) (rows : List Row) (clips : List (ClipId × Timecode)) : Type 0 where
+  pub rows_are : rows ≡ map clip_row clips
+  pub can_last : All (λ clip. CanLast rate clip.1) clips
+  pub once : IsDistinct is_same_id (ids_of clips)
+
+-- the rows are a catalogue of these clips
+pub record IsCatalogue (rate : Rate) (rows : List Row) (clips : List (ClipId × Timecode)) : Type 0 where
+  pub few : length rows ≤ most_rows
+  pub given : Gives rate rows clips
+
+-- the rows before row k are a catalogue's
+abbrev pub Follows : Rate → List Row → ℕ → Row → Type 0
+Follows rate rows k row = Reaches (λ front. (clips : List (ClipId × Timecode)) × Gives rate front clips) rows k row
+
+-- no clip that a catalogue can give has this row
+abbrev pub IsNoClip : Rate → Row → Type 0
+IsNoClip rate row = (clip : ClipId × Timecode) → CanLast rate clip.1 → clip_row clip ≢ row
+
+-- why a row of a catalogue is refused, whatever stands before it: the first that applies
+abbrev pub IsClipFault : Rate → Row → ℕ → ListFault → Type 0
+IsClipFault rate row k (Columns j) = (j ≡ k) × (length row ≢ 2)
+IsClipFault rate row k (Id j) = (j ≡ k) × (length row ≡ 2) × ¬ HasId row
+IsClipFault rate row k (Time j) = (j ≡ k) × (length row ≡ 2) × HasId row × IsNoClip rate row
+IsClipFault rate row k (Twice j) = ⊥
+IsClipFault rate row k (TooMany j) = ⊥
+IsClipFault rate row k Memory = ⊥
+IsClipFault rate row k Read = ⊥
+
+-- the clip's ID stands in one of these rows
+abbrev pub StandsIn : List Row → ClipId → Type 0
+StandsIn rows id = Contains (map (λ row. slice_get row 0) rows) (Some (text_of_id id))
+
+-- row k is the first that is refused, with this fault
+abbrev pub RefusesRow : Rate → List Row → ℕ → ListFault → Type 0
+RefusesRow rate rows k fault = (row : Row) × Follows rate rows k row × IsClipFault rate row k fault
+
+-- why the rows are no catalogue: rows are tested one after another, and the first refusal counts
+abbrev pub IsCatalogueFault : Rate → List Row → ListFault → Type 0
+IsCatalogueFault rate rows (Columns k) = RefusesRow rate rows k (Columns k)
+IsCatalogueFault rate rows (Id k) = RefusesRow rate rows k (Id k)
+IsCatalogueFault rate rows (Time k) = RefusesRow rate rows k (Time k)
+IsCatalogueFault rate rows (Twice k) =
+    (clip : ClipId × Timecode) × Follows rate rows k (clip_row clip) × CanLast rate clip.1
+    × StandsIn (take (k - 1) rows) clip.0
+IsCatalogueFault rate rows (TooMany k) =
+    (k ≡ most_rows + 1) × (most_rows < length rows)
+    × (clips : List (ClipId × Timecode)) × Gives rate (take most_rows rows) clips
+IsCatalogueFault rate rows Memory = ⊤
+IsCatalogueFault rate rows Read = ⊤

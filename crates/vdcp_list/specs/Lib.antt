@@ -1,0 +1,10 @@
+pub mod Asrun
+pub mod Catalogues
+pub mod Ids
+pub mod List
+pub mod ListLaws
+pub mod Listings
+pub mod Places
+pub mod Playlists
+pub mod Reading
+pub mod Rows

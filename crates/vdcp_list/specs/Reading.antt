@@ -1,0 +1,34 @@
+use Rattle.csv.specs.Reading.{default_config, is_flexible, reader_config, reader_state, reader_trim, Ready, source_of}
+use Rattle.csv.specs.declared.reader.Reader.{Reader}
+use Rattle.csv.specs.declared.reader.Trim.TheVariants as trim
+use Rattle.std.specs.Prelude.{ℕ, ◌≡◌, ⊤, Bool, true, false, List, [], ◌∷◌, Option, None, Some, option_map}
+use Rattle.vdcp_list.specs.Rows.{Row, rows_from}
+use Rattle.vdcp_list.specs.declared.faults.ListFault.TheVariants.{Columns, Id, Time, Twice, TooMany, Memory, Read}
+use Rattle.vdcp_list.specs.declared.faults.ListFault.{ListFault}
+
+-- the reader gives rows of any length, as they stand, and none is a header
+pub record IsSet {R : Type 0} (reader : Reader R) : Type 0 where
+  pub config : reader_config reader ≡ default_config
+  pub trims : reader_trim reader ≡ trim.None
+  pub flexible : is_flexible reader ≡ true
+  pub ready : Ready reader
+
+-- the rows that a reader has left, where its bytes are known
+abbrev pub rows_left : {R : Type 0} → (R → Option (List ℕ)) → Reader R → Option (List Row)
+rows_left remaining reader = option_map (rows_from (reader_state reader)) (source_of remaining reader)
+
+-- a read took the first row of those left, or there was none
+abbrev pub TakesRow : Option (List Row) → Option (List Row) → Bool → Row → Type 0
+TakesRow None left found row = ⊤
+TakesRow (Some rows) left false row = rows ≡ []
+TakesRow (Some rows) left true row = (rest : List Row) × (left ≡ Some rest) × (rows ≡ row ∷ rest)
+
+-- a fault of the reader or of memory
+abbrev pub IsReadFault : ListFault → Type 0
+IsReadFault (Columns k) = ⊥
+IsReadFault (Id k) = ⊥
+IsReadFault (Time k) = ⊥
+IsReadFault (Twice k) = ⊥
+IsReadFault (TooMany k) = ⊥
+IsReadFault Memory = ⊤
+IsReadFault Read = ⊤

@@ -1,0 +1,194 @@
+ghost use Rattle.csv.specs.Writing.{default_writer, fields_written, has_written, row_text, text_written, writer_setup};
+ghost use Rattle.std.specs.Io.KnownBytes.{Appends, Keeps};
+ghost use Rattle.std.specs.Prelude.{◌≡◌, ◌≢◌, ◌↔◌, ◌≤◌, ◌∷◌, [], Err, IfErr, IfOk, IsTrue, OnErr, OnOk, decimal, false, length, string_bytes, take, ℕ};
+ghost use Rattle.vdcp_list.specs.Asrun.{IsUnlawful, are_lawful, asrun_text, has_part, is_lawful_event};
+ghost use Rattle.vdcp_list.specs.Playlists.{item_row, part_fields, time_text};
+ghost use Rattle.vdcp_list.specs.declared.faults.WriteFault.TheVariants.{Device, Time};
+ghost use Rattle.vdcp_value.specs.Bcd.{is_time};
+
+use crate::faults::WriteFault;
+use arrayvec::ArrayString;
+use csv::{Error, Writer, WriterBuilder};
+use std::alloc::{AllocError, Global};
+use std::io::Write;
+use vdcp_auto::Source;
+use vdcp_value::{Item, Part, Rate, Timecode};
+
+/// Writes the as-run list of the first `reported` events of a source: a row each, of the event's
+/// number from 0 and its ID; and, where any event of the source has a part, of start and duration at
+/// this rate too, both empty for a whole clip. It is CSV with commas, quotes only where needed, and
+/// line feeds.
+///
+/// The parts of these events are tested first. Only `Device` may leave a beginning of the text; the
+/// writer is flushed at the end.
+pub fn write_asrun<S: Source, W: Write>(
+    alloc: Global,
+    source: &S,
+    rate: Rate,
+    reported: usize,
+    writer: &mut W,
+) -> Result<(), WriteFault>
+    requires { reported ≤ length (S.items source.now) }
+    ensures ok { OnOk result (Appends (W.contents writer.old) (W.contents writer.new) (asrun_text rate (S.items source.now) reported)) }
+    ensures unlawful { (k : ℕ) → (result ≡ Err (Time k)) ↔ IsUnlawful rate (S.items source.now) reported k }
+    ensures kept { IfErr result (λ fault. fault ≢ Device → Keeps (W.contents writer.old) (W.contents writer.new)) }
+{
+    check_parts(source, rate, reported)?;
+    let text = asrun_text(alloc, source, rate, reported)?;
+    write_out(writer, text.as_slice())
+}
+
+/// Writes a text and flushes the writer.
+fn write_out<W: Write>(writer: &mut W, text: &[u8]) -> Result<(), WriteFault>
+    ensures ok { OnOk result (Appends (W.contents writer.old) (W.contents writer.new) text.now) }
+    ensures device { IfErr result (λ fault. fault ≡ Device) }
+{
+    if writer.write_all(text).is_err() || writer.flush().is_err() {
+        return Err(WriteFault::Device);
+    }
+    Ok(())
+}
+
+/// Refuses the first of these events whose part isn't lawful at the rate.
+fn check_parts<S: Source>(source: &S, rate: Rate, reported: usize) -> Result<(), WriteFault>
+    requires { reported ≤ length (S.items source.now) }
+    ensures lawful { OnOk result (IsTrue (are_lawful rate (take reported (S.items source.now)))) }
+    ensures unlawful { IfErr result (λ fault. (k : ℕ) × (fault ≡ Time k) × IsUnlawful rate (S.items source.now) reported k) }
+{
+    for k in 0..reported {
+        if !is_lawful_event(rate, &source.at(k)) {
+            return Err(WriteFault::Time(k));
+        }
+    }
+    Ok(())
+}
+
+/// Whether the part of an event, where it has one, is lawful at a rate.
+fn is_lawful_event(rate: Rate, item: &Item) -> bool
+    ensures { result ≡ is_lawful_event rate item.now.part }
+{
+    match item.part {
+        None => true,
+        Some(part) => is_lawful(rate, part.start) && is_lawful(rate, part.duration),
+    }
+}
+
+/// Whether four bytes are a lawful time code at a rate.
+fn is_lawful(rate: Rate, bytes: [u8; 4]) -> bool
+    ensures { result ≡ is_time rate bytes }
+{
+    Timecode::from_bcd(rate, bytes).is_ok()
+}
+
+/// The as-run list's text. It is written to memory, so that only want of memory can refuse it.
+fn asrun_text<S: Source>(
+    alloc: Global,
+    source: &S,
+    rate: Rate,
+    reported: usize,
+) -> Result<Vec<u8>, WriteFault>
+    requires within { reported ≤ length (S.items source.now) }
+    requires lawful { IsTrue (are_lawful rate (take reported (S.items source.now))) }
+    ensures text { IfOk result (λ text. text.items ≡ asrun_text rate (S.items source.now) reported) }
+    ensures memory { IfErr result (λ fault. fault ≡ WriteFault.Memory) }
+{
+    let with_parts = has_part(source);
+    let mut rows = WriterBuilder::new().from_writer(Vec::new(alloc));
+    let mut number = String::new(alloc);
+    for k in 0..reported {
+        if show_number(k, &mut number).is_err() {
+            return Err(WriteFault::Memory);
+        }
+        let item = source.at(k);
+        if write_event(&mut rows, number.as_str(), &item, rate, with_parts).is_err() {
+            return Err(WriteFault::Memory);
+        }
+    }
+    match rows.into_inner() {
+        Ok(text) => Ok(text),
+        Err(_) => Err(WriteFault::Memory),
+    }
+}
+
+/// Writes a number in decimal in place of the text.
+fn show_number(number: usize, text: &mut String) -> Result<(), AllocError>
+    ensures { OnOk result (string_bytes text.new ≡ decimal number) }
+{
+    text.clear();
+    write!(text, "{number}")
+}
+
+/// Whether some event of a source has a part.
+fn has_part<S: Source>(source: &S) -> bool
+    ensures { result ≡ has_part (S.items source.now) }
+{
+    for k in 0..source.len() {
+        if source.at(k).part.is_some() {
+            return true;
+        }
+    }
+    false
+}
+
+/// Writes the row of an event.
+fn write_event<W: Write + Drop>(
+    rows: &mut Writer<W>,
+    number: &str,
+    item: &Item,
+    rate: Rate,
+    with_parts: bool,
+) -> Result<(), Error>
+    requires lawful { IsTrue (is_lawful_event rate item.now.part) }
+    requires setup { writer_setup rows.old ≡ default_writer }
+    requires ended { fields_written rows.old ≡ 0 }
+    requires clean { has_written rows.old ≡ false }
+    ensures text { OnOk result (Appends (text_written W.contents rows.old) (text_written W.contents rows.new) (row_text default_writer (number.now ∷ item_row rate with_parts item.now))) }
+    ensures setup { OnOk result (writer_setup rows.new ≡ default_writer) }
+    ensures ended { OnOk result (fields_written rows.new ≡ 0) }
+    ensures clean { OnOk result (has_written rows.new ≡ false) }
+{
+    let mut id = ArrayString::new();
+    item.id.show(&mut id);
+    if !with_parts {
+        return rows.write_fields(&[number.as_bytes(), id.as_bytes()]);
+    }
+    let mut start = ArrayString::new();
+    let mut duration = ArrayString::new();
+    show_part(rate, item.part, &mut start, &mut duration);
+    rows.write_fields(&[
+        number.as_bytes(),
+        id.as_bytes(),
+        start.as_bytes(),
+        duration.as_bytes(),
+    ])
+}
+
+/// Writes the fields of a lawful part in place of the buffers' texts.
+fn show_part(
+    rate: Rate,
+    part: Option<Part>,
+    start: &mut ArrayString<11>,
+    duration: &mut ArrayString<11>,
+)
+    requires { IsTrue (is_lawful_event rate part) }
+    ensures { part_fields rate part ≡ start.new.bytes ∷ duration.new.bytes ∷ [] }
+{
+    match part {
+        None => {
+            start.clear();
+            duration.clear();
+        }
+        Some(part) => {
+            show_time(rate, part.start, start);
+            show_time(rate, part.duration, duration);
+        }
+    }
+}
+
+/// Writes the text of a lawful time code in place of the buffer's.
+fn show_time(rate: Rate, bytes: [u8; 4], text: &mut ArrayString<11>)
+    requires { IsTrue (is_time rate bytes) }
+    ensures { text.new.bytes ≡ time_text rate bytes }
+{
+    Timecode::from_bcd(rate, bytes).unwrap().show(text);
+}

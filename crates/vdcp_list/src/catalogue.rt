@@ -1,0 +1,86 @@
+ghost use Rattle.csv.specs.Records.{fields_of};
+ghost use Rattle.std.specs.Prelude.{◌≡◌, ◌≢◌, [], ◌∷◌, IfErr, IfNone, IfOk, IfSome, drop, length};
+ghost use Rattle.vdcp_list.specs.Catalogues.{CanLast, IsCatalogue, IsCatalogueFault, IsClipFault, clip_row};
+ghost use Rattle.vdcp_list.specs.Rows.{rows_of};
+ghost use Rattle.vdcp_value.specs.Timecodes.{text_of};
+ghost use Rattle.vdcp_value.specs.declared.timecode.Timecode.{Timecode};
+
+use crate::faults::ListFault;
+use crate::fields::{field_at, first_id, time_in};
+use crate::rows::{MAX_ROWS, next_row, rows_in};
+use crate::table::Table;
+use csv::ByteRecord;
+use std::alloc::Global;
+use std::io::Read;
+use vdcp_value::{ClipId, Rate, Timecode};
+
+/// The clip of a catalogue's row.
+fn clip_in(row: &ByteRecord, rate: Rate, place: usize) -> Result<(ClipId, Timecode), ListFault>
+    ensures row { IfOk result (λ clip. clip_row clip ≡ fields_of row.now) }
+    ensures can_last { IfOk result (λ clip. CanLast rate clip.1) }
+    ensures fault { IfErr result (IsClipFault rate (fields_of row.now) place) }
+{
+    if row.len() != 2 {
+        return Err(ListFault::Columns(place));
+    }
+    let Some((id, _)) = first_id(row) else {
+        return Err(ListFault::Id(place));
+    };
+    let Some(length) = last_length(row, rate) else {
+        return Err(ListFault::Time(place));
+    };
+    Ok((id, length))
+}
+
+/// The length that the second of two fields gives.
+fn last_length(row: &ByteRecord, rate: Rate) -> Option<Timecode>
+    requires { length (fields_of row.now) ≡ 2 }
+    ensures some { IfSome result (λ length. drop 1 (fields_of row.now) ≡ text_of length ∷ []) }
+    ensures can_last { IfSome result (CanLast rate) }
+    ensures none { IfNone result ((length : Timecode) → CanLast rate length → drop 1 (fields_of row.now) ≢ text_of length ∷ []) }
+{
+    let Some(field) = field_at(row, 1) else {
+        return None;
+    };
+    let Some(length) = time_in(field, rate) else {
+        return None;
+    };
+    if length.frames() == 0 {
+        return None;
+    }
+    Some(length)
+}
+
+/// Reads a catalogue: two fields a row, an ID and the clip's length as a time code at this rate. It is
+/// CSV with commas and double quotes, without a header row, and blank lines are left out.
+///
+/// The first row that is refused is told as `TooMany` where 10,000 stand before it, else as `Columns`,
+/// `Id` (also where the field isn't UTF-8), `Time`: a text that is no lawful time code, or one of
+/// frame 0; or `Twice`, where an earlier row has its ID. `Read` is a failure of the reader.
+pub fn read_catalogue<R: Read + Drop>(
+    alloc: Global,
+    reader: R,
+    rate: Rate,
+) -> Result<Table, ListFault>
+    ensures clips { IfOk result (λ table. IfSome (R.remaining reader) (λ text. IsCatalogue rate (rows_of text) table)) }
+    ensures refused { IfErr result (λ fault. IfSome (R.remaining reader) (λ text. IsCatalogueFault rate (rows_of text) fault)) }
+{
+    let mut rows = rows_in(alloc, reader);
+    let mut row = ByteRecord::new(alloc);
+    let mut table = Table::new(alloc);
+    for read in 0..MAX_ROWS {
+        if !next_row(&mut rows, &mut row)? {
+            return Ok(table);
+        }
+        let (id, length) = clip_in(&row, rate, read + 1)?;
+        match table.add(id, length) {
+            Ok(true) => {}
+            Ok(false) => return Err(ListFault::Twice(read + 1)),
+            Err(_) => return Err(ListFault::Memory),
+        }
+    }
+    if next_row(&mut rows, &mut row)? {
+        return Err(ListFault::TooMany(MAX_ROWS + 1));
+    }
+    Ok(table)
+}

@@ -1,0 +1,51 @@
+ghost use Rattle.std.specs.Prelude.{◌≡◌, ◌≢◌, IfNone, IfSome, Some, option_copied, slice_get};
+ghost use Rattle.csv.specs.Records.{fields_of};
+ghost use Rattle.vdcp_list.specs.Rows.{HasId};
+ghost use Rattle.vdcp_value.specs.Ids.{text_of_id};
+ghost use Rattle.vdcp_value.specs.Timecodes.{rate_of, text_of};
+ghost use Rattle.vdcp_value.specs.declared.clip_id.ClipId.{ClipId};
+ghost use Rattle.vdcp_value.specs.declared.timecode.Timecode.{Timecode};
+
+use csv::ByteRecord;
+use std::str;
+use vdcp_value::{ClipId, Rate, Timecode};
+
+/// The field at a place of a row.
+pub(crate) fn field_at(row: &ByteRecord, place: usize) -> Option<&[u8]>
+    ensures { option_copied result ≡ slice_get (fields_of row.now) place }
+{
+    row.get(place)
+}
+
+/// The ID in a row's first field, with its text.
+pub(crate) fn first_id(row: &ByteRecord) -> Option<(ClipId, &str)>
+    ensures some { IfSome result (λ read. slice_get (fields_of row.now) 0 ≡ Some (text_of_id read.0)) }
+    ensures text { IfSome result (λ read. read.1.now ≡ text_of_id read.0) }
+    ensures none { IfNone result (¬ HasId (fields_of row.now)) }
+{
+    let Some(field) = field_at(row, 0) else {
+        return None;
+    };
+    let Ok(text) = str::from_utf8(field) else {
+        return None;
+    };
+    match ClipId::parse(text) {
+        Ok(id) => Some((id, text)),
+        Err(_) => None,
+    }
+}
+
+/// The time code whose text a field is.
+pub(crate) fn time_in(field: &[u8], rate: Rate) -> Option<Timecode>
+    ensures same_rate { IfSome result (λ time. rate_of time ≡ rate) }
+    ensures some { IfSome result (λ time. field.now ≡ text_of time) }
+    ensures none { IfNone result ((time : Timecode) → rate_of time ≡ rate → field.now ≢ text_of time) }
+{
+    let Ok(text) = str::from_utf8(field) else {
+        return None;
+    };
+    match Timecode::parse(rate, text) {
+        Ok(time) => Some(time),
+        Err(_) => None,
+    }
+}

@@ -1,0 +1,111 @@
+ghost use Rattle.csv.specs.Records.{fields_of};
+ghost use Rattle.std.specs.Prelude.{◌≡◌, ◌≢◌, [], ◌∷◌, drop, length, true, IfErr, IfNone, IfOk, IfSome, IsTrue, Option};
+ghost use Rattle.vdcp_list.specs.Playlists.{CanName, IsItemFault, IsPlaylist, IsPlaylistFault, has_parts, is_of_columns, item_row, part_fields};
+ghost use Rattle.vdcp_list.specs.List.{items_of};
+ghost use Rattle.vdcp_list.specs.Rows.{rows_of};
+ghost use Rattle.vdcp_value.specs.Ids.{text_of_id};
+ghost use Rattle.vdcp_value.specs.declared.part.Part.{Part};
+
+use crate::faults::ListFault;
+use crate::fields::{field_at, first_id, time_in};
+use crate::list::List;
+use crate::rows::{MAX_ROWS, next_row, rows_in};
+use csv::ByteRecord;
+use std::alloc::Global;
+use std::io::Read;
+use vdcp_value::{Item, Part, Rate};
+
+/// The item of a playlist's row, with the text of its ID.
+fn item_in(
+    row: &ByteRecord,
+    columns: usize,
+    rate: Rate,
+    place: usize,
+) -> Result<(Item, &str), ListFault>
+    ensures row { IfOk result (λ read. item_row rate (has_parts columns) read.0 ≡ fields_of row.now) }
+    ensures can_name { IfOk result (λ read. CanName rate (has_parts columns) read.0.part) }
+    ensures text { IfOk result (λ read. read.1.now ≡ text_of_id read.0.id) }
+    ensures fault { IfErr result (IsItemFault rate columns (fields_of row.now) place) }
+{
+    if row.len() != columns || columns != 1 && columns != 3 {
+        return Err(ListFault::Columns(place));
+    }
+    let Some((id, text)) = first_id(row) else {
+        return Err(ListFault::Id(place));
+    };
+    if columns == 1 {
+        return Ok((Item { id, part: None }, text));
+    }
+    match last_part(row, rate) {
+        Some(part) => Ok((Item { id, part }, text)),
+        None => Err(ListFault::Time(place)),
+    }
+}
+
+/// The part that the second and the third of three fields name.
+fn last_part(row: &ByteRecord, rate: Rate) -> Option<Option<Part>>
+    requires { length (fields_of row.now) ≡ 3 }
+    ensures some { IfSome result (λ part. (part_fields rate part ≡ drop 1 (fields_of row.now)) × CanName rate true part) }
+    ensures none { IfNone result ((part : Option Part) → CanName rate true part → part_fields rate part ≢ drop 1 (fields_of row.now)) }
+{
+    match (field_at(row, 1), field_at(row, 2)) {
+        (Some(start), Some(duration)) => part_in(start, duration, rate),
+        _ => None,
+    }
+}
+
+/// The part that two fields name, both empty for a whole clip.
+fn part_in(start: &[u8], duration: &[u8], rate: Rate) -> Option<Option<Part>>
+    ensures some { IfSome result (λ part. (part_fields rate part ≡ start.now ∷ duration.now ∷ []) × CanName rate true part) }
+    ensures none { IfNone result ((part : Option Part) → CanName rate true part → part_fields rate part ≢ start.now ∷ duration.now ∷ []) }
+{
+    if start.is_empty() && duration.is_empty() {
+        return Some(None);
+    }
+    let Some(start) = time_in(start, rate) else {
+        return None;
+    };
+    let Some(duration) = time_in(duration, rate) else {
+        return None;
+    };
+    if duration.frames() == 0 {
+        return None;
+    }
+    Some(Some(Part {
+        start: start.to_bcd(),
+        duration: duration.to_bcd(),
+    }))
+}
+
+/// Reads a playlist: one field a row, an ID; or three, with start and duration of a part at this rate,
+/// both empty for a whole clip. All rows have as many fields as the first. It is CSV with commas and
+/// double quotes, without a header row, and blank lines are left out.
+///
+/// The first row that is refused is told as `TooMany` where 10,000 stand before it, else as
+/// `Columns`, `Id` (also where the field isn't UTF-8), or `Time`: a text that is no lawful time code,
+/// one of the two fields empty, or a duration of frame 0. `Read` is a failure of the reader.
+pub fn read_list<R: Read + Drop>(alloc: Global, reader: R, rate: Rate) -> Result<List, ListFault>
+    ensures items { IfOk result (λ list. IfSome (R.remaining reader) (λ text. IsPlaylist rate (rows_of text) (items_of list))) }
+    ensures refused { IfErr result (λ fault. IfSome (R.remaining reader) (λ text. IsPlaylistFault rate (rows_of text) fault)) }
+{
+    let mut rows = rows_in(alloc, reader);
+    let mut row = ByteRecord::new(alloc);
+    let mut list = List::new(alloc);
+    let mut columns = 0;
+    for read in 0..MAX_ROWS {
+        if !next_row(&mut rows, &mut row)? {
+            return Ok(list);
+        }
+        if read == 0 {
+            columns = row.len();
+        }
+        let (item, text) = item_in(&row, columns, rate, read + 1)?;
+        if list.push(item, text).is_err() {
+            return Err(ListFault::Memory);
+        }
+    }
+    if next_row(&mut rows, &mut row)? {
+        return Err(ListFault::TooMany(MAX_ROWS + 1));
+    }
+    Ok(list)
+}

@@ -1,0 +1,54 @@
+ghost use Rattle.csv.specs.Reading.{error_kind};
+ghost use Rattle.csv.specs.Records.{fields_of};
+ghost use Rattle.std.specs.Prelude.{◌≡◌, true, IfErr, IfOk, option_map};
+ghost use Rattle.vdcp_list.specs.Reading.{IsReadFault, IsSet, TakesRow, rows_left};
+ghost use Rattle.vdcp_list.specs.Rows.{rows_of};
+
+use crate::faults::ListFault;
+use csv::{ByteRecord, Error, ErrorKind, Reader, ReaderBuilder};
+use std::alloc::Global;
+use std::io::Read;
+
+/// How many rows a file has at most.
+pub(crate) const MAX_ROWS: usize = 10_000;
+
+/// A reader of rows of any length, with commas, double quotes and no header row.
+pub(crate) fn rows_in<R: Read>(alloc: Global, source: R) -> Reader<R>
+    ensures set { IsSet result }
+    ensures rows { rows_left R.remaining result ≡ option_map rows_of (R.remaining source) }
+{
+    ReaderBuilder::new()
+        .has_headers(false)
+        .flexible(true)
+        .from_reader(alloc, source)
+}
+
+/// Takes the next row into `row`, and says whether there was one.
+pub(crate) fn next_row<R: Read>(
+    reader: &mut Reader<R>,
+    row: &mut ByteRecord,
+) -> Result<bool, ListFault>
+    requires { IsSet reader.old }
+    ensures set { IfOk result (λ found. found ≡ true → IsSet reader.new) }
+    ensures takes { IfOk result (λ found. TakesRow (rows_left R.remaining reader.old) (rows_left R.remaining reader.new) found (fields_of row.new)) }
+    ensures failed { IfErr result IsReadFault }
+{
+    match reader.read_byte_record(row) {
+        Ok(found) => Ok(found),
+        Err(error) => Err(fault_of(error)),
+    }
+}
+
+fn fault_of(error: Error) -> ListFault
+    ensures { IsReadFault result }
+{
+    match error.into_kind() {
+        ErrorKind::OutOfMemory => ListFault::Memory,
+        // The others but `Io` don't come: rows may have any length and are read as bytes.
+        ErrorKind::Io(_)
+        | ErrorKind::Utf8 { .. }
+        | ErrorKind::UnequalLengths { .. }
+        | ErrorKind::Serialize(_)
+        | ErrorKind::Deserialize { .. } => ListFault::Read,
+    }
+}

@@ -1,0 +1,85 @@
+ghost use Rattle.std.specs.Prelude.{◌≡◌, ◌++◌, ◌∷◌, [], IfOk, IsSome, List, None, OnErr, false, length, true};
+ghost use Rattle.vdcp_list.specs.Places.{key_of, place_of};
+ghost use Rattle.vdcp_port.specs.Clips.{length_of};
+
+use std::alloc::{AllocError, Global};
+use std::collections::BTreeMap;
+use std::marker::Model;
+use vdcp_port::Catalogue;
+use vdcp_value::{ClipId, Timecode};
+
+/// The clips of a catalogue file, in the order of its rows.
+#[derive(Debug, Drop)]
+pub struct Table {
+    clips: Vec<(ClipId, Timecode)>,
+    // The place of each clip, by its ID's bytes as one number.
+    places: BTreeMap<u64, usize>,
+}
+
+impl Model for Table {
+    ghost use Rattle.std.specs.BTreeMap.{get};
+    ghost use Rattle.std.specs.Ordering.{nat_cmp};
+    ghost use Rattle.std.specs.Prelude.{◌≡◌, List};
+    ghost use Rattle.vdcp_list.specs.Places.{key_of, place_of};
+    ghost use Rattle.vdcp_value.specs.declared.clip_id.ClipId.{ClipId};
+    ghost use Rattle.vdcp_value.specs.declared.timecode.Timecode.{Timecode};
+
+    ghost Value = { List (ClipId × Timecode) };
+
+    ghost view = { λ table. table.clips.items };
+
+    ghost invariant = { λ table. (id : ClipId) → get nat_cmp table.places (key_of id) ≡ place_of table.clips.items id };
+}
+
+impl Table {
+    /// A table of no clip.
+    pub(crate) fn new(alloc: Global) -> Table
+        ensures { result ≡ [] }
+    {
+        Table {
+            clips: Vec::new(alloc),
+            places: BTreeMap::new(alloc),
+        }
+    }
+
+    /// How many clips there are.
+    pub fn len(&self) -> usize
+        ensures { result ≡ length self.now }
+    {
+        self.clips.len()
+    }
+
+    /// Adds a clip, unless one of its ID is there, and says whether it did.
+    pub(crate) fn add(&mut self, id: ClipId, duration: Timecode) -> Result<bool, AllocError>
+        ensures added { IfOk result (λ added. added ≡ true → self.new ≡ self.old ++ (id, duration) ∷ []) }
+        ensures new { IfOk result (λ added. added ≡ true → length_of self.old id ≡ None) }
+        ensures there { IfOk result (λ added. added ≡ false → IsSome (length_of self.old id)) }
+    {
+        let key = key_of(&id);
+        if self.places.contains_key(&key) {
+            return Ok(false);
+        }
+        self.clips.reserve(1)?;
+        self.places.insert(key, self.clips.len())?;
+        self.clips.push((id, duration)).unwrap();
+        Ok(true)
+    }
+}
+
+impl Catalogue for Table {
+    ghost clips = { λ table. table };
+
+    fn length(&self, id: &ClipId) -> Option<Timecode> {
+        match self.places.get(&key_of(id)) {
+            Some(place) => Some(self.clips[*place].1),
+            None => None,
+        }
+    }
+}
+
+/// An ID's bytes as one number.
+fn key_of(id: &ClipId) -> u64
+    ensures { result ≡ key_of id.now }
+{
+    u64::from_be_bytes(id.bytes())
+}

@@ -1,0 +1,6 @@
+pub mod Clips
+pub mod Asked
+pub mod Port
+pub mod Row
+pub mod Clock
+pub mod Answers

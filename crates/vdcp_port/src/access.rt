@@ -1,0 +1,10 @@
+/// What a port lets its controller do.
+#[derive(Clone, Copy, Debug, PartialEq, Eq)]
+pub(crate) enum Access {
+    /// OPEN PORT comes first.
+    Closed,
+    /// SELECT PORT comes next.
+    Open,
+    /// The port takes what cues, plays, stops and asks.
+    Selected,
+}
