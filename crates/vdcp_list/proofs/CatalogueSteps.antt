@@ -127,10 +127,13 @@ pub given_twice : (rate : Rate) (all left left' : Option (List Row)) (n : ℕ) (
 given_twice rate None left left' n clips row clip h t few e can there = tt
 given_twice rate (Some rows) left left' n clips row clip h t few e can there =
     let s = step rows left left' n row h.after t in
-    let back : n + 1 - 1 ≡ n = omega arith in
-    (clip, subst (λ r. Follows rate rows (n + 1) r) (sym e) (follows rate rows left left' n clips row h s few), can,
-    subst (λ m. StandsIn (take m rows) clip.0) (sym back)
-    (subst (λ front. StandsIn front clip.0) (sym h.given.rows_are) (stands clips clip.0 there)))
+    let back : n + 1 - 1 ≡ n = omega arith in (
+      clip,
+      subst (λ r. Follows rate rows (n + 1) r) (sym e) (follows rate rows left left' n clips row h s few),
+      can,
+      subst (λ m. StandsIn (take m rows) clip.0) (sym back)
+          (subst (λ front. StandsIn front clip.0) (sym h.given.rows_are) (stands clips clip.0 there)),
+    )
 
 -- a row too many
 pub given_too_many : (rate : Rate) (all left left' : Option (List Row)) (n : ℕ) (clips : List (ClipId × Timecode)) (row : Row)

@@ -109,9 +109,10 @@ one_fault a b e = cc
 
 pub told : (rate : Rate) (items : List Item) (reported : ℕ) (result : Result (Unit {0}) WriteFault) (fault : WriteFault) → result ≡ Err fault
     → (j : ℕ) × (fault ≡ Time j) × IsUnlawful rate items reported j → (k : ℕ) → (result ≡ Err (Time k)) ↔ IsUnlawful rate items reported k
-told rate items reported result fault is (j, e, h) k =
-    (λ f. let same : j ≡ k = one_time j k (sym e ∙ one_fault fault (Time k) (sym is ∙ f)) in subst (λ n. IsUnlawful rate items reported n) same h,
-    λ g. is ∙ ap Err (e ∙ ap Time (unlawful_once rate items reported j k h g)))
+told rate items reported result fault is (j, e, h) k = (
+  λ f. let same : j ≡ k = one_time j k (sym e ∙ one_fault fault (Time k) (sym is ∙ f)) in subst (λ n. IsUnlawful rate items reported n) same h,
+  λ g. is ∙ ap Err (e ∙ ap Time (unlawful_once rate items reported j k h g)),
+)
 
 pub untold : (rate : Rate) (items : List Item) (reported : ℕ) (result : Result (Unit {0}) WriteFault) → IfErr result (λ fault. (k : ℕ) → fault ≢ Time k)
     → are_lawful rate (take reported items) ≡ true → (k : ℕ) → (result ≡ Err (Time k)) ↔ IsUnlawful rate items reported k

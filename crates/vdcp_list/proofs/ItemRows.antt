@@ -69,8 +69,12 @@ bcd_below n small = grind arith
 own_bytes : (time : Timecode) → AreBytes 4 (bcd_of time)
 own_bytes time =
     let d = two_digits_each (label_of time) (lawful_two_digits (rate_of time) (label_of time) time.lawful) in
-    rw (bcd_below (label_of time).frames d.frames, bcd_below (label_of time).seconds d.seconds, bcd_below (label_of time).minutes d.minutes,
-    bcd_below (label_of time).hours d.hours) refl
+    rw (
+      bcd_below (label_of time).frames d.frames,
+      bcd_below (label_of time).seconds d.seconds,
+      bcd_below (label_of time).minutes d.minutes,
+      bcd_below (label_of time).hours d.hours,
+    ) refl
 
 -- and write its text
 pub own_text : (rate : Rate) (time : Timecode) → rate_of time ≡ rate → time_text rate (bcd_of time) ≡ text_of time
@@ -88,9 +92,12 @@ both_true a b e h = rw (e, h) refl
 -- a part that two time codes make
 pub part_of_times : (rate : Rate) (start duration : Timecode) → rate_of start ≡ rate → rate_of duration ≡ rate → 1 ≤ frames_of duration
     → CanName rate true (Some (record { start = bcd_of start; duration = bcd_of duration }))
-part_of_times rate start duration e h some =
-    (refl, (own_bytes start, own_bytes duration), both_true _ _ (own_is_lawful rate start e) (own_is_lawful rate duration h),
-    subst (λ n. 1 ≤ n) (sym (own_frames rate duration h)) some)
+part_of_times rate start duration e h some = (
+  refl,
+  (own_bytes start, own_bytes duration),
+  both_true _ _ (own_is_lawful rate start e) (own_is_lawful rate duration h),
+  subst (λ n. 1 ≤ n) (sym (own_frames rate duration h)) some,
+)
 
 pub fields_of_times : (rate : Rate) (start duration : Timecode) → rate_of start ≡ rate → rate_of duration ≡ rate
     → part_fields rate (Some (record { start = bcd_of start; duration = bcd_of duration })) ≡ text_of start ∷ text_of duration ∷ []

@@ -27,11 +27,11 @@ items_from-all before [] = refl
 items_from-all before (item ∷ items) =
     let text = text_of_id item.id in
     let id : id_of_text (slice_range (before ++ (text ++ ids_text items)) (length before) (length before + length text)) ≡ item.id =
-        ap id_of_text (slice_range-middle before text (ids_text items)) ∙ id_of_text-text_of_id item.id in
+    ap id_of_text (slice_range-middle before text (ids_text items)) ∙ id_of_text-text_of_id item.id in
     let rest : items_from (length before + length text) (before ++ (text ++ ids_text items)) (ends_from (length before + length text) items) (parts_of items) ≡ items =
-        subst (λ n. items_from n (before ++ (text ++ ids_text items)) (ends_from n items) (parts_of items) ≡ items) (length-append before text)
-        (subst (λ t. items_from (length (before ++ text)) t (ends_from (length (before ++ text)) items) (parts_of items) ≡ items) (append_assoc before text (ids_text items))
-        (items_from-all (before ++ text) items)) in
+    subst (λ n. items_from n (before ++ (text ++ ids_text items)) (ends_from n items) (parts_of items) ≡ items) (length-append before text)
+    (subst (λ t. items_from (length (before ++ text)) t (ends_from (length (before ++ text)) items) (parts_of items) ≡ items) (append_assoc before text (ids_text items))
+    (items_from-all (before ++ text) items)) in
     ap₂ (λ i is. record { id = i; part = item.part } ∷ is) id rest
 
 pub items_from-of : (items : List Item) → items_from 0 (ids_text items) (ends_from 0 items) (parts_of items) ≡ items
@@ -50,7 +50,7 @@ ends_from-push start (first ∷ items) item =
     let t = text_of_id first.id in
     let u = ids_text items ++ text_of_id item.id in
     let size : (start + length t) + length u ≡ start + length ((t ++ ids_text items) ++ text_of_id item.id) =
-        omega (arith, length-append t u, ap length (append_assoc t (ids_text items) (text_of_id item.id))) in
+    omega (arith, length-append t u, ap length (append_assoc t (ids_text items) (text_of_id item.id))) in
     ap (λ ends. (start + length t) ∷ ends) (ends_from-push (start + length t) items item ∙ ap (λ n. ends_from (start + length t) items ++ n ∷ []) size)
 
 parts_of-push : (items : List Item) (item : Item) → parts_of (items ++ item ∷ []) ≡ parts_of items ++ item.part ∷ []
@@ -188,8 +188,14 @@ pushed_keeps list item text ends parts p bytes =
       text_is = h.text_is ∙ ap ids_text same;
       ends_are = h.ends_are ∙ ap (ends_from 0) same;
       beside =
-        omega (arith, ap length p.parts_are, ap length p.ends_are, list.beside, length-append list.parts.items (item.part ∷ []),
-        length-append list.ends.items (length text ∷ []));
+          omega (
+            arith,
+            ap length p.parts_are,
+            ap length p.ends_are,
+            list.beside,
+            length-append list.parts.items (item.part ∷ []),
+            length-append list.ends.items (length text ∷ []),
+          );
       of_bytes = subst (λ ps. list_all part_is_of_bytes ps ≡ true) (sym p.parts_are) (all_pushed list.parts.items item.part list.of_bytes bytes);
     }
 
@@ -229,7 +235,7 @@ cut list k start end ends below same starts is =
     let piece = piece_of list k item at in
     let first : start_at 0 list.ends.items k ≡ start = ap (λ es. start_at 0 es k) (sym same) ∙ sym starts in
     let last : slice_index list.ends.items k ≡ end =
-        same_default list.ends.items k 0 end (omega (arith, length_of_items list, below)) ∙ sym is in
+    same_default list.ends.items k 0 end (omega (arith, length_of_items list, below)) ∙ sym is in
     record {
       item = item;
       at_k = at;

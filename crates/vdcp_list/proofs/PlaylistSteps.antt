@@ -121,9 +121,12 @@ pub named_too_many : (rate : Rate) (all left left' : Option (List Row)) (n old :
     → IfSome all (λ rows. IsPlaylistFault rate rows (TooMany (most_rows + 1)))
 named_too_many rate None left left' n old items row h t all = tt
 named_too_many rate (Some rows) left left' n old items row h t all =
-    let s = step rows left left' n row h.after t in
-    (refl, subst (λ m. m < length rows) all s.below,
-    items, subst (λ m. Names rate (has_parts (columns_of rows)) (take m rows) items) all h.named)
+    let s = step rows left left' n row h.after t in (
+      refl,
+      subst (λ m. m < length rows) all s.below,
+      items,
+      subst (λ m. Names rate (has_parts (columns_of rows)) (take m rows) items) all h.named,
+    )
 
 -- a fault of the reader or of memory
 pub playlist_read_fault : (rate : Rate) (all : Option (List Row)) (fault : ListFault) → IsReadFault fault → IfSome all (λ rows. IsPlaylistFault rate rows fault)

@@ -9,7 +9,7 @@ ghost use Rattle.vdcp_value.specs.Bcd.{is_time};
 use crate::faults::WriteFault;
 use arrayvec::ArrayString;
 use csv::{Error, Writer, WriterBuilder};
-use std::alloc::{AllocError, Global};
+use std::alloc::{AllocError, Allocator};
 use std::io::Write;
 use vdcp_auto::Source;
 use vdcp_value::{Item, Part, Rate, Timecode};
@@ -21,8 +21,8 @@ use vdcp_value::{Item, Part, Rate, Timecode};
 ///
 /// The parts of these events are tested first. Only `Device` may leave a beginning of the text; the
 /// writer is flushed at the end.
-pub fn write_asrun<S: Source, W: Write>(
-    alloc: Global,
+pub fn write_asrun<S: Source, W: Write, A: Allocator>(
+    alloc: A,
     source: &S,
     rate: Rate,
     reported: usize,
@@ -34,7 +34,7 @@ pub fn write_asrun<S: Source, W: Write>(
     ensures kept { IfErr result (λ fault. fault ≢ Device → Keeps (W.contents writer.old) (W.contents writer.new)) }
 {
     check_parts(source, rate, reported)?;
-    let text = asrun_text(alloc, source, rate, reported)?;
+    let text = asrun_text(&alloc, source, rate, reported)?;
     write_out(writer, text.as_slice())
 }
 
@@ -81,12 +81,12 @@ fn is_lawful(rate: Rate, bytes: [u8; 4]) -> bool
 }
 
 /// The as-run list's text. It is written to memory, so that only want of memory can refuse it.
-fn asrun_text<S: Source>(
-    alloc: Global,
+fn asrun_text<'a, S: Source, A: Allocator>(
+    alloc: &'a A,
     source: &S,
     rate: Rate,
     reported: usize,
-) -> Result<Vec<u8>, WriteFault>
+) -> Result<Vec<u8, &'a A>, WriteFault>
     requires within { reported ≤ length (S.items source.now) }
     requires lawful { IsTrue (are_lawful rate (take reported (S.items source.now))) }
     ensures text { IfOk result (λ text. text.items ≡ asrun_text rate (S.items source.now) reported) }
@@ -111,7 +111,7 @@ fn asrun_text<S: Source>(
 }
 
 /// Writes a number in decimal in place of the text.
-fn show_number(number: usize, text: &mut String) -> Result<(), AllocError>
+fn show_number<A: Allocator>(number: usize, text: &mut String<A>) -> Result<(), AllocError>
     ensures { OnOk result (string_bytes text.new ≡ decimal number) }
 {
     text.clear();

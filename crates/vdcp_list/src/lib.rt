@@ -18,3 +18,6 @@ pub use list::List;
 pub use playlist::read_list;
 pub use slots::Slots;
 pub use table::Table;
+
+#[cfg(test)]
+mod tests;

@@ -7,14 +7,17 @@ use Rattle.vdcp_list.specs.Asrun.{is_lawful_event}
 pub returns-then-not-is_lawful_event-clause-unlawful :
     goal.returns-then-not-is_lawful_event-clause-unlawful
 returns-then-not-is_lawful_event-clause-unlawful g c =
-    let unlawful : is_lawful_event c.args.rate c.at.result.part ≡ false = grind (arith, common_steps) in
-    (c.loop-k.k, refl, record {
-      reported_is = c.loop-k-test.true;
-      before = c.loop-k.invariant;
-      item = c.at.result;
-      at_k = c.at.ensures;
-      unlawful = unlawful;
-    })
+    let unlawful : is_lawful_event c.args.rate c.at.result.part ≡ false = grind (arith, common_steps) in (
+      c.loop-k.k,
+      refl,
+      record {
+        reported_is = c.loop-k-test.true;
+        before = c.loop-k.invariant;
+        item = c.at.result;
+        at_k = c.at.ensures;
+        unlawful = unlawful;
+      },
+    )
 
 pub loop-k-preserved : goal.loop-k-preserved
 loop-k-preserved g c =

@@ -11,14 +11,14 @@ use Rattle.vdcp_port.specs.Clips.{length_of}
 pub returns-then-contains_key-clause-there : goal.returns-then-contains_key-clause-there
 returns-then-contains_key-clause-there c =
     let at : get nat_cmp c.self.inside.places c.key_of-key.result ≡ place_of c.self.inside.clips.items c.args.id =
-        ap (get nat_cmp c.self.inside.places) c.key_of-key.ensures ∙ c.self.invariant c.args.id in
+    ap (get nat_cmp c.self.inside.places) c.key_of-key.ensures ∙ c.self.invariant c.args.id in
     λ _. sym (ap (λ clips. is_some (length_of clips c.args.id)) c.self.view_is)
     ∙ sym (known c.self.inside.clips.items c.args.id) ∙ ap is_some (sym at) ∙ sym c.contains_key.ensures ∙ c.if-contains_key.true
 
 pub invariant_of-self-2 : goal.invariant_of-self-2
 invariant_of-self-2 c =
     let at : get nat_cmp c.self.inside.places c.key_of-key.result ≡ place_of c.self.inside.clips.items c.args.id =
-        ap (get nat_cmp c.self.inside.places) c.key_of-key.ensures ∙ c.self.invariant c.args.id in
+    ap (get nat_cmp c.self.inside.places) c.key_of-key.ensures ∙ c.self.invariant c.args.id in
     let new : is_some (place_of c.self.inside.clips.items c.args.id) ≡ false = ap is_some (sym at) ∙ sym c.contains_key.ensures ∙ c.if-contains_key.false in
     let size : c.len.result ≡ length c.self.inside.clips.items = grind (arith, common_steps) in
     let pushed : c.push.new.self.items ≡ c.self.inside.clips.items ++ (c.args.id, c.args.duration) ∷ [] = grind (arith, common_steps) in
@@ -28,6 +28,6 @@ invariant_of-self-2 c =
 pub returns-clause-new : goal.returns-clause-new
 returns-clause-new c =
     let at : get nat_cmp c.self.inside.places c.key_of-key.result ≡ place_of c.self.inside.clips.items c.args.id =
-        ap (get nat_cmp c.self.inside.places) c.key_of-key.ensures ∙ c.self.invariant c.args.id in
+    ap (get nat_cmp c.self.inside.places) c.key_of-key.ensures ∙ c.self.invariant c.args.id in
     let new : is_some (place_of c.self.inside.clips.items c.args.id) ≡ false = ap is_some (sym at) ∙ sym c.contains_key.ensures ∙ c.if-contains_key.false in
     λ _. ap (λ clips. length_of clips c.args.id) (sym c.self.view_is) ∙ no_length c.self.inside.clips.items c.args.id new
