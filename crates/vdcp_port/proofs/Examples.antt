@@ -1,12 +1,12 @@
 -- What the table gives for some bursts.
-use Rattle.std.proofs.Common.{◌≡◌, ℕ, Bool, true, false, List, [], ◌∷◌, ◌++◌, refl, ap, if◌then◌else◌}
-use Rattle.std.specs.Prelude.{Option, None, Some, replicate}
+use Rattle.std.proofs.Common.{◌≡◌, ℕ, Bool, true, false, List, [], ◌∷◌, ◌++◌, refl, ap, max, if◌then◌else◌}
+use Rattle.std.specs.Prelude.{replicate}
 use Rattle.std.specs.List.{flat_map, range_with_len}
 use Rattle.vdcp_value.proofs.FrameNumbers.{frame_number_is}
 use Rattle.vdcp_value.specs.Day.{frame_number}
+use Rattle.vdcp_value.specs.Parts.{part_fits}
 use Rattle.vdcp_value.specs.declared.clip_id.ClipId.{ClipId}
 use Rattle.vdcp_value.specs.declared.label.Label.{Label}
-use Rattle.vdcp_value.specs.declared.part.Item.{Item}
 use Rattle.vdcp_value.specs.declared.rate.Rate.TheVariants.{F25}
 use Rattle.vdcp_value.specs.declared.timecode.Timecode.{Timecode}
 use Rattle.std.specs.Option.{option_to_list}
@@ -14,8 +14,8 @@ use Rattle.vdcp_words.specs.declared.reply.Reply.TheVariants.{Ack}
 use Rattle.vdcp_port.specs.Row.{Change, cues, row, refused}
 use Rattle.vdcp_port.specs.Answers.{answer_bytes, sent_for, aired_for, after_burst}
 use Rattle.vdcp_port.specs.Clips.{whole, part_of, is_playable}
-use Rattle.vdcp_port.specs.Clock.{ClockedPort, new_port, after_ready, after_ended, after_frame, completes_cue, ends_clip}
-use Rattle.vdcp_port.specs.Port.{Cued, empty, cueing, done, state_byte}
+use Rattle.vdcp_port.specs.Clock.{ClockedPort, new_port, after_ready, after_ended, after_frame, completes_cue}
+use Rattle.vdcp_port.specs.Port.{state_byte}
 
 -- CLIP0001 and CLIP0002, ten seconds each at 25 frames a second
 
@@ -271,6 +271,11 @@ three_frames_are_ready = refl
 plays_past_the_limit : ◌≡◌ {A = List ℕ} (sent_for (selected two_clips) (flat_map (λ (k : ℕ). play_bytes) (range_with_len 0 820))) (replicate 819 0x04 ++ 0x05 ∷ 0x04 ∷ [])
 plays_past_the_limit = refl
 
+-- ---- the largest message
+
+largest_message : ◌≡◌ {A = List ℕ} (sent_for (selected two_clips) (0x02 ∷ 0xFF ∷ 0x70 ∷ 0x00 ∷ (replicate 253 0x00 ++ 0x90 ∷ []))) (0x05 ∷ 0x01 ∷ [])
+largest_message = refl
+
 -- ---- parts of the first clip: three seconds from 2, 7 and 8 seconds on
 
 abbrev seconds : ℕ → Label
@@ -305,12 +310,15 @@ abbrev judged : List ℕ → Bool
 judged start = is_playable two_clips (part_of clip_1 start (0x00 ∷ 0x03 ∷ 0x00 ∷ 0x00 ∷ []))
 
 within : judged (0x00 ∷ 0x02 ∷ 0x00 ∷ 0x00 ∷ []) ≡ true
+unfolding part_fits
 within = rw (frames_3, frames_2, frames_10) refl
 
 up_to_the_end : judged (0x00 ∷ 0x07 ∷ 0x00 ∷ 0x00 ∷ []) ≡ true
+unfolding part_fits
 up_to_the_end = rw (frames_3, frames_7, frames_10) refl
 
 past_the_end : judged (0x00 ∷ 0x08 ∷ 0x00 ∷ 0x00 ∷ []) ≡ false
+unfolding part_fits
 past_the_end = rw (frames_3, frames_8, frames_10) refl
 
 -- what goes out where a part is accepted, and where it isn't
@@ -333,3 +341,17 @@ part_past_the_clips_end = ap (sent_if (0x00 ∷ 0x08 ∷ 0x00 ∷ 0x00 ∷ [])) 
 
 part_past_the_clips_end_changes_nothing : after_burst (selected two_clips) part_8_bytes ≡ selected two_clips
 part_past_the_clips_end_changes_nothing = rw past_the_end refl
+
+-- ---- how long they play
+
+whole_clip_plays_its_length : playing_1.counts.playing ≡ 250
+whole_clip_plays_its_length = ap (max 1) frames_10
+
+abbrev part_done : ClockedPort
+part_done = after_ready (after_burst (selected two_clips) part_2_bytes)
+
+part_airs_as_a_part : aired_for part_done play_bytes ≡ part_of clip_1 (0x00 ∷ 0x02 ∷ 0x00 ∷ 0x00 ∷ []) (0x00 ∷ 0x03 ∷ 0x00 ∷ 0x00 ∷ []) ∷ []
+part_airs_as_a_part = rw within refl
+
+part_plays_its_duration : (after_burst part_done play_bytes).counts.playing ≡ 75
+part_plays_its_duration = rw (within, frames_3) refl

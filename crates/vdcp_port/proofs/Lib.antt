@@ -1,1 +1,12 @@
 mod Examples
+pub mod Frames
+pub mod OneMessage
+pub mod Answering
+pub mod Readable
+pub mod Sizes
+pub mod Bursts
+pub mod Keeping
+pub mod Reading
+pub mod Refusals
+mod StateByte
+pub mod TableLaws

@@ -1,11 +1,11 @@
 -- What a port answers to a whole burst.
 use Rattle.std.specs.List.{flat_map}
 use Rattle.std.specs.Option.{option_to_list}
-use Rattle.std.specs.Prelude.{ℕ, List, [], ◌∷◌, ◌++◌}
+use Rattle.std.specs.Prelude.{ℕ, ◌+◌, ◌*◌, ◌/◌, ◌≡◌, min, List, [], ◌∷◌, ◌++◌, length}
 use Rattle.vdcp_value.specs.declared.part.Item.{Item}
 use Rattle.vdcp_frame.specs.Burst.{messages_of, end_of}
 use Rattle.vdcp_frame.specs.Message.{Content, spelling}
-use Rattle.vdcp_frame.specs.Reading.{End, clean, cut, fault}
+use Rattle.vdcp_frame.specs.Reading.{End, clean, cut, fault, Reads}
 use Rattle.vdcp_words.specs.Replies.{reply_message}
 use Rattle.vdcp_words.specs.declared.reply.Reply.{Reply}
 use Rattle.vdcp_words.specs.declared.reply.Reply.TheVariants.{Nak}
@@ -26,7 +26,7 @@ abbrev pub after_messages : ClockedPort → List Content → ClockedPort
 after_messages p [] = p
 after_messages p (m ∷ ms) = after_messages (after_message p m) ms
 
--- what is answered, behind the other answers, to how the burst ends
+-- what is answered, behind the other answers, to how a burst ends
 abbrev pub end_answers : End → List Reply
 end_answers clean = []
 end_answers (cut count) = Nak 0x80 ∷ []
@@ -39,16 +39,41 @@ reply_bytes unit reply = spelling (reply_message unit reply)
 abbrev pub answer_bytes : ℕ → List Reply → List ℕ
 answer_bytes unit replies = flat_map (reply_bytes unit) replies
 
--- the answers to a burst
-abbrev pub burst_answers : ClockedPort → List ℕ → List Reply
-burst_answers p burst = answers_to p (messages_of burst) ++ end_answers (end_of burst)
+-- the bytes that go out for one message, and the items that go to air by it
+abbrev pub bytes_for : ClockedPort → Content → List ℕ
+bytes_for p m = answer_bytes p.state.unit (option_to_list (answer_to p m))
+
+abbrev pub items_for : ClockedPort → Content → List Item
+items_for p m = option_to_list (aired_by p m)
+
+-- the bytes that a port sends for a burst of these messages and this end
+abbrev pub sent_bytes : ClockedPort → List Content → End → List ℕ
+sent_bytes p ms end = answer_bytes p.state.unit (answers_to p ms ++ end_answers end)
 
 -- the bytes that a port sends for a burst, the items that go to air, and the port that the burst leaves
 abbrev pub sent_for : ClockedPort → List ℕ → List ℕ
-sent_for p burst = answer_bytes p.state.unit (burst_answers p burst)
+sent_for p burst = sent_bytes p (messages_of burst) (end_of burst)
 
 abbrev pub aired_for : ClockedPort → List ℕ → List Item
 aired_for p burst = aired_on_way p (messages_of burst)
 
 abbrev pub after_burst : ClockedPort → List ℕ → ClockedPort
 after_burst p burst = after_messages p (messages_of burst)
+
+-- as many bytes as a burst's answers have at most, and as many items as it airs at most
+abbrev pub most_sent : List ℕ → ℕ
+most_sent burst = 3 * min (length burst) 4096 + 2
+
+abbrev pub most_aired : List ℕ → ℕ
+most_aired burst = min (length burst) 4096 / 5
+
+-- a port has answered a burst's messages, and appended the answers and what went to air; this is left to be
+-- answered to the burst's end
+pub record HasAnsweredAll (old now : ClockedPort) (burst out_old out_new : List ℕ) (aired_old aired_new : List Item) (last : List Reply) : Type 0 where
+  pub messages : List Content
+  pub end : End
+  pub reads : Reads burst messages end
+  pub sent : out_new ≡ out_old ++ answer_bytes old.state.unit (answers_to old messages)
+  pub airs : aired_new ≡ aired_old ++ aired_on_way old messages
+  pub leaves : now ≡ after_messages old messages
+  pub at_end : last ≡ end_answers end

@@ -1,5 +1,5 @@
 -- The frame counts beside a port's slots, and the port with its catalogue and these.
-use Rattle.std.specs.Prelude.{ℕ, ◌-◌, Bool, nat_eq, List, [], ◌∷◌, Option, if◌then◌else◌}
+use Rattle.std.specs.Prelude.{ℕ, zero, suc, ◌≡◌, ◌-◌, Bool, nat_eq, List, Option, Some, if◌then◌else◌}
 use Rattle.vdcp_value.specs.declared.clip_id.ClipId.{ClipId}
 use Rattle.vdcp_value.specs.declared.part.Item.{Item}
 use Rattle.vdcp_value.specs.declared.timecode.Timecode.{Timecode}
@@ -80,3 +80,14 @@ after_frame p =
     let counted : ClockedPort = counted_down p in
     let cued : ClockedPort = if completes_cue p then after_ready counted else counted in
     if ends_clip p then after_ended cued else cued
+
+-- a call that answers, airs and leaves what the row says
+pub record Follows (row : Row) (p : ClockedPort) (reply : Reply) (item : Option Item) (next : ClockedPort) : Type 0 where
+  pub answers : row.answer ≡ Some reply
+  pub airs : item ≡ on_air row.change
+  pub leaves : next ≡ after_change row.change p
+
+-- so many frames later
+abbrev pub after_frames : ℕ → ClockedPort → ClockedPort
+after_frames zero p = p
+after_frames (suc n) p = after_frames n (after_frame p)

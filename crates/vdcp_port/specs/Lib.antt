@@ -4,3 +4,5 @@ pub mod Port
 pub mod Row
 pub mod Clock
 pub mod Answers
+pub mod Seen
+pub mod Kept

@@ -10,6 +10,21 @@ pub data Cued : Type 0 where
   cueing : (item : Item) → Cued
   done : (item : Item) → Cued
 
+abbrev pub is_empty : Cued → Bool
+is_empty empty = true
+is_empty (cueing item) = false
+is_empty (done item) = false
+
+abbrev pub is_cueing : Cued → Bool
+is_cueing empty = false
+is_cueing (cueing item) = true
+is_cueing (done item) = false
+
+abbrev pub is_done : Cued → Bool
+is_done empty = false
+is_done (cueing item) = false
+is_done (done item) = true
+
 -- its unit address and number; whether it is open and selected; and the two slots
 pub record PortState : Type 0 where
   pub unit : ℕ

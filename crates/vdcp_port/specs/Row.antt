@@ -11,7 +11,9 @@ use Rattle.vdcp_words.specs.declared.command.Command.TheVariants.{Open, Close, S
 use Rattle.vdcp_words.specs.declared.reply.Reply.{Reply}
 use Rattle.vdcp_words.specs.declared.reply.Reply.TheVariants as reply
 use Rattle.vdcp_port.specs.declared.access.Access.TheVariants as access
-use Rattle.vdcp_port.specs.Asked.{Asked, nothing, no_command, asks, asked}
+use Rattle.vdcp_port.specs.declared.asked.Asked.{Asked}
+use Rattle.vdcp_port.specs.declared.asked.Asked.TheVariants as asked
+use Rattle.vdcp_port.specs.Asked.{asked_of}
 use Rattle.vdcp_port.specs.Clips.{length_of, is_known, is_playable, whole, part_of}
 use Rattle.vdcp_port.specs.Port.{Cued, empty, cueing, done, PortState, is_open, is_selected, opened, state_byte}
 
@@ -72,13 +74,13 @@ command_row clips p (IdSize id) = size_row (length_of clips id)
 
 -- and for what is no command, or is for another unit
 abbrev pub asked_row : List (ClipId × Timecode) → PortState → Asked → Row
-asked_row clips p nothing = silent
-asked_row clips p no_command = refused
-asked_row clips p (asks command) = command_row clips p command
+asked_row clips p asked.Nothing = silent
+asked_row clips p asked.NoCommand = refused
+asked_row clips p (asked.Command command) = command_row clips p command
 
 -- the row of a message
 abbrev pub message_row : List (ClipId × Timecode) → PortState → Content → Row
-message_row clips p message = asked_row clips p (asked p.unit message)
+message_row clips p message = asked_row clips p (asked_of p.unit message)
 
 -- the port that a change leaves
 abbrev pub changed : Change → PortState → PortState

@@ -1,10 +1,30 @@
 //! The server's port of one playout channel, from bytes to bytes.
+//!
+//! The caller owns the bytes. It hands each burst over whole, or its messages one by one, sends what the
+//! port answers, and tells the port what its clips do:
+//!
+//! ```text
+//! let mut port = Port::with_clock(catalogue, unit, number, cue_frames);
+//! loop {
+//!     at a burst: port.burst_answer(burst, &mut out, &mut aired)?, then send what `out` has gained
+//!     at a frame: let (is_done, has_ended) = port.frame();
+//! }
+//! ```
+//!
+//! What clips there are, and how long, a `Catalogue` says. Only `burst_answer` takes memory, for the two
+//! collections that it is lent.
 #![tactic(auto)]
 
 mod access;
+mod asked;
+mod burst;
 mod catalogue;
+pub mod laws;
+mod port;
+mod slots;
 
 pub use catalogue::Catalogue;
+pub use port::Port;
 
 #[cfg(test)]
 mod tests;

@@ -1,0 +1,5 @@
+use Rattle.vdcp_port.proofs.Reading.{burst_readable}
+use Rattle.vdcp_port.proofs.laws.answers_are_read_back.Goals as goal
+
+pub returns : goal.returns
+returns c = burst_readable

@@ -1,0 +1,122 @@
+//! Laws of the port's table. Each holds for all that it names; the functions do nothing.
+
+ghost use Rattle.std.specs.Prelude.{ℕ, ◌≡◌, ◌≢◌, ◌<◌, ◌≤◌, ◌++◌, ◌==◌, ◌&&◌, ◌⊎◌, List, [], ◌∷◌, All, Contains, IsTrue, false, not, is_none, bit_and, Some, None};
+ghost use Rattle.vdcp_value.specs.declared.part.Item.{Item};
+ghost use Rattle.vdcp_value.specs.declared.clip_id.ClipId.{ClipId};
+ghost use Rattle.vdcp_value.specs.declared.timecode.Timecode.{Timecode};
+ghost use Rattle.vdcp_frame.specs.Message.{Content, Fits, spelling};
+ghost use Rattle.vdcp_frame.specs.Reading.{End};
+ghost use Rattle.vdcp_words.specs.Commands.{command_message, IsWritableCommand};
+ghost use Rattle.vdcp_words.specs.Replies.{IsWritableReply};
+ghost use Rattle.vdcp_words.specs.declared.command.Command.{Command};
+ghost use Rattle.vdcp_words.specs.declared.command.Command.TheVariants as command;
+ghost use Rattle.vdcp_words.specs.declared.reply.Reply.TheVariants as reply;
+ghost use Rattle.vdcp_port.specs.declared.asked.Asked.TheVariants as asked;
+ghost use Rattle.vdcp_port.specs.Asked.{asked_of};
+ghost use Rattle.vdcp_port.specs.Port.{PortState, cueing, done, empty, is_selected, state_byte, is_empty, is_cueing, is_done, made_ready};
+ghost use Rattle.vdcp_port.specs.Row.{cues, command_row};
+ghost use Rattle.vdcp_port.specs.Clock.{ClockedPort, new_port, row_at, answer_to, after_message, aired_by, after_ready, after_ended, after_frame, after_frames};
+ghost use Rattle.vdcp_port.specs.Answers.{answers_to, aired_on_way, end_answers, bytes_for, items_for, sent_for, aired_for, after_burst};
+ghost use Rattle.vdcp_port.specs.Kept.{IsKept, cueing_from_now, counting_from_now};
+
+/// A message that comes again is answered as before, leaves what it left, and airs nothing.
+pub fn a_copy_changes_nothing()
+    ensures answer { (p : ClockedPort) (m : Content) → answer_to (after_message p m) m ≡ answer_to p m }
+    ensures port { (p : ClockedPort) (m : Content) → after_message (after_message p m) m ≡ after_message p m }
+    ensures air { (p : ClockedPort) (m : Content) → aired_by (after_message p m) m ≡ None }
+{}
+
+/// A cue that is accepted fills the cued slot, whatever was in it, and starts its count; all else stays.
+/// So an item that is cued once more while it is cueing only starts its count again.
+pub fn a_cue_fills_the_cued_slot()
+    ensures fills { (p : ClockedPort) (m : Content) (item : Item) → (row_at p m).change ≡ cues item →
+        after_message p m ≡ cueing_from_now p item }
+    ensures again { (p : ClockedPort) (m : Content) (item : Item) → (row_at p m).change ≡ cues item →
+        p.state.cued ≡ cueing item → after_message p m ≡ counting_from_now p }
+{}
+
+/// What is refused, denied or not answered changes nothing.
+pub fn a_refusal_changes_nothing()
+    ensures refused { (p : ClockedPort) (m : Content) → answer_to p m ≡ Some (reply.Nak 0x01) → after_message p m ≡ p }
+    ensures denied { (p : ClockedPort) (m : Content) → answer_to p m ≡ Some (reply.Opened false) → after_message p m ≡ p }
+    ensures unanswered { (p : ClockedPort) (m : Content) → answer_to p m ≡ None → after_message p m ≡ p }
+{}
+
+/// An item goes to air only by a PLAY to a selected port whose cue is done with it, and then it plays
+/// and nothing is cued.
+pub fn only_play_airs()
+    ensures play { (p : ClockedPort) (m : Content) (item : Item) → aired_by p m ≡ Some item →
+        asked_of p.state.unit m ≡ asked.Command command.Play }
+    ensures selected { (p : ClockedPort) (m : Content) (item : Item) → aired_by p m ≡ Some item → IsTrue (is_selected p.state) }
+    ensures cued { (p : ClockedPort) (m : Content) (item : Item) → aired_by p m ≡ Some item → p.state.cued ≡ done item }
+    ensures plays { (p : ClockedPort) (m : Content) (item : Item) → aired_by p m ≡ Some item →
+        (after_message p m).state.playing ≡ Some item }
+    ensures empties { (p : ClockedPort) (m : Content) (item : Item) → aired_by p m ≡ Some item →
+        (after_message p m).state.cued ≡ empty }
+{}
+
+/// And such a PLAY airs it.
+pub fn play_airs_what_is_cued()
+    ensures { (p : ClockedPort) (m : Content) (item : Item) →
+        asked_of p.state.unit m ≡ asked.Command command.Play → IsTrue (is_selected p.state) → p.state.cued ≡ done item →
+        aired_by p m ≡ Some item }
+{}
+
+/// However many messages a burst has, at most one item airs on the way: the one that is cued before.
+pub fn a_burst_airs_at_most_the_cued_item()
+    ensures { (p : ClockedPort) (ms : List Content) →
+        (aired_on_way p ms ≡ []) ⊎ ((item : Item) × (p.state.cued ≡ done item) × (aired_on_way p ms ≡ item ∷ [])) }
+{}
+
+/// The state byte is one of six, and each of its four bits says one thing.
+pub fn the_state_byte()
+    ensures one_of { (p : PortState) → Contains (0x01 ∷ 0x02 ∷ 0x04 ∷ 0x06 ∷ 0x80 ∷ 0x84 ∷ []) (state_byte p) }
+    ensures idle { (p : PortState) → not (bit_and (state_byte p) 1 == 0) ≡ (is_empty p.cued && is_none p.playing) }
+    ensures cueing { (p : PortState) → not (bit_and (state_byte p) 2 == 0) ≡ is_cueing p.cued }
+    ensures playing { (p : PortState) → (bit_and (state_byte p) 4 == 0) ≡ is_none p.playing }
+    ensures done { (p : PortState) → not (bit_and (state_byte p) 128 == 0) ≡ is_done p.cued }
+{}
+
+/// Each answer can be read back: its numbers are bytes, its time code four of them, and it has a
+/// state byte exactly where bit 0 of its bitmap is set.
+pub fn answers_are_read_back()
+    ensures { (p : ClockedPort) (ms : List Content) (end : End) → All IsWritableReply (answers_to p ms ++ end_answers end) }
+{}
+
+/// What a port holds is in its catalogue and fits, and its counts run where something is waited for.
+pub fn what_a_port_holds()
+    ensures new { (clips : List (ClipId × Timecode)) (unit number cue_frames : ℕ) → 1 ≤ cue_frames →
+        IsKept (new_port clips unit number cue_frames) }
+    ensures message { (p : ClockedPort) (m : Content) → IsKept p → IsKept (after_message p m) }
+    ensures ready { (p : ClockedPort) → IsKept p → IsKept (after_ready p) }
+    ensures ended { (p : ClockedPort) → IsKept p → IsKept (after_ended p) }
+    ensures frame { (p : ClockedPort) → IsKept p → IsKept (after_frame p) }
+{}
+
+/// The message of a command asks for that command at its own unit, and for nothing at another.
+pub fn a_command_asks_its_own_unit()
+    ensures own { (unit : ℕ) (c : Command) → IsWritableCommand c → asked_of unit (command_message unit c) ≡ asked.Command c }
+    ensures other { (unit other : ℕ) (c : Command) → other ≢ unit → asked_of unit (command_message other c) ≡ asked.Nothing }
+{}
+
+/// Its row is that of the command.
+pub fn a_command_has_its_own_row()
+    ensures { (p : ClockedPort) (c : Command) → IsWritableCommand c →
+        row_at p (command_message p.state.unit c) ≡ command_row p.clips p.state c }
+{}
+
+/// A burst that is one message is answered as the message is.
+pub fn a_burst_of_one_message()
+    ensures sent { (p : ClockedPort) (m : Content) → Fits m →
+        sent_for p (spelling m) ≡ bytes_for p m }
+    ensures aired { (p : ClockedPort) (m : Content) → Fits m → aired_for p (spelling m) ≡ items_for p m }
+    ensures next { (p : ClockedPort) (m : Content) → Fits m → after_burst p (spelling m) ≡ after_message p m }
+{}
+
+/// A cue is done with the last frame of its count, and not before. So it is with a clip that ends.
+pub fn counts_are_frames()
+    ensures cueing { (p : ClockedPort) (n : ℕ) → n < p.counts.cue → (after_frames n p).state.cued ≡ p.state.cued }
+    ensures done { (p : ClockedPort) → 0 < p.counts.cue → (after_frames p.counts.cue p).state.cued ≡ made_ready p.state.cued }
+    ensures playing { (p : ClockedPort) (n : ℕ) → n < p.counts.playing → (after_frames n p).state.playing ≡ p.state.playing }
+    ensures ended { (p : ClockedPort) → 0 < p.counts.playing → (after_frames p.counts.playing p).state.playing ≡ None }
+{}
