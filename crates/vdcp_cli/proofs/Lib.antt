@@ -1,1 +1,3 @@
+pub mod CheckLemmas
 pub mod TextLemmas
+pub mod VectorLemmas

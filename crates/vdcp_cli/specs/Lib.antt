@@ -4,3 +4,5 @@ pub mod End
 pub mod Failure
 pub mod Show
 pub mod Make
+pub mod Check
+pub mod Vectors

@@ -2,6 +2,7 @@ ghost use Rattle.std.specs.Prelude.{◌≤◌};
 
 use clap::{Arg, ArgAction, ArgMatches, Command, value_parser};
 use std::alloc::{AllocError, Global};
+use vdcp_value::Rate;
 
 /// What the command line may be.
 pub fn command<'a>(alloc: Global) -> Result<Command<'a>, AllocError> {
@@ -10,7 +11,9 @@ pub fn command<'a>(alloc: Global) -> Result<Command<'a>, AllocError> {
         .about("One playout channel of the Video Disk Communications Protocol")
         .subcommand_required(true)
         .subcommand(show(alloc)?)?
-        .subcommand(make(alloc)?)
+        .subcommand(make(alloc)?)?
+        .subcommand(check(alloc)?)?
+        .subcommand(vectors(alloc)?)
 }
 
 fn show<'a>(alloc: Global) -> Result<Command<'a>, AllocError> {
@@ -41,6 +44,44 @@ fn make<'a>(alloc: Global) -> Result<Command<'a>, AllocError> {
         .arg(unit(alloc))
 }
 
+fn check<'a>(alloc: Global) -> Result<Command<'a>, AllocError> {
+    Command::new(alloc, "check")
+        .about("Checks a playlist against a catalogue")
+        .arg(list(alloc))?
+        .arg(catalogue(alloc))?
+        .arg(rate(alloc))
+}
+
+fn vectors<'a>(alloc: Global) -> Result<Command<'a>, AllocError> {
+    let file = Arg::new(alloc, "FILE")
+        .required(true)
+        .help("The file of bursts and their readings");
+    Command::new(alloc, "vectors")
+        .about("Tests each row of a file of bursts and their readings")
+        .arg(file)
+}
+
+fn list<'a>(alloc: Global) -> Arg<'a> {
+    Arg::new(alloc, "LIST")
+        .required(true)
+        .help("The playlist's file")
+}
+
+fn catalogue<'a>(alloc: Global) -> Arg<'a> {
+    Arg::new(alloc, "CATALOGUE")
+        .required(true)
+        .help("The catalogue's file")
+}
+
+fn rate<'a>(alloc: Global) -> Arg<'a> {
+    Arg::new(alloc, "rate")
+        .long("rate")
+        .value_name("R")
+        .value_parser(["24", "25", "30", "30df"].as_slice())
+        .default_value("25")
+        .help("The frame rate of time codes; 30df is drop frame")
+}
+
 fn unit<'a>(alloc: Global) -> Arg<'a> {
     Arg::new(alloc, "unit")
         .long("unit")
@@ -55,4 +96,14 @@ pub fn unit_of(words: &ArgMatches) -> u8
     ensures { result ≤ 15 }
 {
     words.get_one::<u8>("unit").unwrap_or(0).min(15)
+}
+
+/// The frame rate, whose name `clap` has tested.
+pub fn rate_of(words: &ArgMatches) -> Rate {
+    match words.get_str("rate") {
+        Some("24") => Rate::F24,
+        Some("30") => Rate::F30,
+        Some("30df") => Rate::D30,
+        _ => Rate::F25,
+    }
 }

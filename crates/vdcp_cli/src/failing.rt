@@ -1,5 +1,5 @@
 use std::alloc::Global;
-use std::io::{self, Write};
+use std::io::{self, Read, Write};
 
 /// A writer that answers so many calls, of `write` and `flush` together, and fails each later one.
 #[derive(Drop)]
@@ -40,5 +40,25 @@ impl Write for Failing {
         self.call()?;
         self.flushes = self.flushes.saturating_add(1);
         Ok(())
+    }
+}
+
+/// A reader that answers so many calls, of up to seven bytes each, and fails each later one.
+#[derive(Drop)]
+pub struct FailingReader<'a> {
+    pub left: usize,
+    pub bytes: &'a [u8],
+}
+
+impl Read for FailingReader<'_> {
+    fn read(&mut self, buffer: &mut [u8]) -> io::Result<usize> {
+        if self.left == 0 {
+            return Err(io::Error::from(io::ErrorKind::BrokenPipe));
+        }
+        self.left -= 1;
+        let count = self.bytes.len().min(buffer.len()).min(7);
+        buffer[..count].copy_from_slice(&self.bytes[..count]);
+        self.bytes = &self.bytes[count..];
+        Ok(count)
     }
 }

@@ -38,7 +38,12 @@ pub fn do_make<W: io::Write, E: io::Write>(
 }
 
 // Writes the bytes of the command that the words name.
-fn make<W: io::Write>(word: &str, arguments: &[&str], unit: u8, out: &mut W) -> Result<(), Failure>
+fn make<W: io::Write>(
+    word: &str,
+    arguments: &[&str],
+    unit: u8,
+    out: &mut W,
+) -> Result<(), Failure<'static>>
     requires { unit ≤ 15 }
     ensures made { OnOk result (IsMade (word.now ∷ map (λ a. a.now) arguments.now) unit
         (W.contents out.old) (W.contents out.new)) }
@@ -62,7 +67,7 @@ fn write_digits<W: io::Write>(out: &mut W, bytes: &[u8]) -> io::Result<()>
 }
 
 // The command that the words name.
-fn command_of(word: &str, arguments: &[&str]) -> Result<Command, Failure>
+fn command_of(word: &str, arguments: &[&str]) -> Result<Command, Failure<'static>>
     ensures ok { IfOk result (Names (word.now ∷ map (λ a. a.now) arguments.now)) }
     ensures err { IfErr result (λ e. (e ≡ Failure.Word) ⊎ (e ≡ Failure.Arguments)) }
 {
@@ -99,7 +104,7 @@ fn command_of(word: &str, arguments: &[&str]) -> Result<Command, Failure>
 }
 
 // The byte of two hexadecimal digits.
-fn byte_of(text: &str) -> Result<u8, Failure>
+fn byte_of(text: &str) -> Result<u8, Failure<'static>>
     ensures ok { IfOk result (IsByteText text.now) }
     ensures err { IfErr result (λ e. e ≡ Failure.Arguments) }
 {
@@ -110,14 +115,14 @@ fn byte_of(text: &str) -> Result<u8, Failure>
 }
 
 // The bytes of a time code, in eight hexadecimal digits.
-fn time_of(text: &str) -> Result<[u8; 4], Failure>
+fn time_of(text: &str) -> Result<[u8; 4], Failure<'static>>
     ensures ok { IfOk result (IsTimeText text.now) }
     ensures err { IfErr result (λ e. e ≡ Failure.Arguments) }
 {
     <[u8; 4]>::from_hex(text).map_err(|_| Failure::Arguments)
 }
 
-fn id_of(text: &str) -> Result<ClipId, Failure>
+fn id_of(text: &str) -> Result<ClipId, Failure<'static>>
     ensures ok { IfOk result (IsIdText text.now) }
     ensures err { IfErr result (λ e. e ≡ Failure.Arguments) }
 {

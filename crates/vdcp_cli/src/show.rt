@@ -47,7 +47,7 @@ fn show<A: Allocator, W: io::Write>(
     hex: &str,
     words: bool,
     out: &mut W,
-) -> Result<End, Failure>
+) -> Result<End, Failure<'static>>
     ensures shown { IfOk result (λ end. IsOkAnd (decode_of hex.now) (λ burst.
         GainsReading words burst (W.contents out.old) (W.contents out.new) (end_of end))) }
     ensures hex { result ≡ Err Failure.Hex → IsErr (decode_of hex.now) }
