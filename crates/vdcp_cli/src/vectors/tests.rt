@@ -221,7 +221,8 @@ fn damaged_bursts_are_read_alike_by_both_readers(rt: HostRuntime) -> Result<(), 
 #[test]
 fn each_failing_read_is_told(rt: HostRuntime) {
     let bytes = b"04,ack; clean\n02021001ef,unit 0 type 1 code 01 data -; clean\n".as_slice();
-    let mut failed = 0;
+    let mut told = false;
+    let mut whole = false;
     for left in 0..30 {
         let mut out = Vec::new(rt.alloc());
         let mut err = Vec::new(rt.alloc());
@@ -230,12 +231,15 @@ fn each_failing_read_is_told(rt: HostRuntime) {
             3 => {
                 assert_eq!(rt; err.as_slice(), b"vdcp: vectors.csv: read\n".as_slice());
                 assert!(rt; out.is_empty());
-                failed += 1;
+                told = true;
             }
-            status => assert_eq!(rt; status, 0),
+            status => {
+                assert_eq!(rt; status, 0);
+                whole = true;
+            }
         }
     }
-    assert!(rt; 8 < failed && failed < 30);
+    assert!(rt; told && whole);
 }
 
 #[test]
