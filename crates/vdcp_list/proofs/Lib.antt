@@ -3,7 +3,7 @@ mod Reading
 mod Texts
 mod Times
 mod Listings
-mod Steps
+pub mod Steps
 mod ItemRows
 mod PlaylistSteps
 mod ClipPlaces

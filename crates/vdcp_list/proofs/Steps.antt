@@ -3,6 +3,8 @@ use Rattle.std.specs.Prelude.{IfSome, Option, None, Some, option_map, slice_get}
 use Rattle.vdcp_list.specs.Reading.{TakesRow}
 use Rattle.vdcp_list.specs.Rows.{Row, rows_of}
 
+-- The steps of a loop over `next_row`, for crates above too.
+
 -- row n, counted from 0, is next, and these come after it
 record Next (rows : List Row) (n : ℕ) (row : Row) (rest : List Row) : Type 0 where
   pub below : n < length rows
@@ -68,6 +70,18 @@ done rows left left' n row a t =
 -- a known reader's rows are left at first
 pub at_first : (rows : List Row) → AfterRows rows (Some rows) 0
 at_first rows = record { left_is = refl; within = omega arith }
+
+-- the same of a file whose rows may not be known: one more is read
+pub read_next : (all left left' : Option (List Row)) (n : ℕ) (row : Row) → IfSome all (λ rows. AfterRows rows left n) → TakesRow left left' true row
+    → IfSome all (λ rows. AfterRows rows left' (n + 1))
+read_next None left left' n row a t = tt
+read_next (Some rows) left left' n row a t = (step rows left left' n row a t).after
+
+-- and all are read
+pub read_all : (all left left' : Option (List Row)) (n : ℕ) (row : Row) → IfSome all (λ rows. AfterRows rows left n) → TakesRow left left' false row
+    → IfSome all (λ rows. Done rows n)
+read_all None left left' n row a t = tt
+read_all (Some rows) left left' n row a t = done rows left left' n row a t
 
 -- what holds of the rows holds of their bytes
 pub of_bytes : (bytes : Option (List ℕ)) (P : List Row → Type 0) → IfSome (option_map rows_of bytes) P → IfSome bytes (λ text. P (rows_of text))

@@ -17,7 +17,7 @@ pub record IsSet {R : Type 0} (reader : Reader R) : Type 0 where
 abbrev pub rows_left : {R : Type 0} → (R → Option (List ℕ)) → Reader R → Option (List Row)
 rows_left remaining reader = option_map (rows_from (reader_state reader)) (source_of remaining reader)
 
--- a read took the first row of those left, or there was none
+-- a read took the first row of those left, or there was none; of bytes that aren't known it says nothing
 abbrev pub TakesRow : Option (List Row) → Option (List Row) → Bool → Row → Type 0
 TakesRow None left found row = ⊤
 TakesRow (Some rows) left false row = rows ≡ []

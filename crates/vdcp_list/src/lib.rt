@@ -4,7 +4,7 @@
 //! the reader. The `List` that comes of a playlist is the controller's source, and the `Table` that
 //! comes of a catalogue is the port's catalogue; `Slots` is a catalogue of fixed room, which takes no
 //! memory. `write_asrun` writes which events of a source were reported as aired to a writer that it is
-//! lent.
+//! lent. `rows_in` and `next_row` read the rows of any other file of this kind, one after another.
 #![tactic(auto)]
 
 mod asrun;
@@ -22,6 +22,7 @@ pub use catalogue::read_catalogue;
 pub use faults::{ListFault, SlotFault, WriteFault};
 pub use list::List;
 pub use playlist::read_list;
+pub use rows::{MAX_ROWS, next_row, rows_in};
 pub use slots::Slots;
 pub use table::Table;
 

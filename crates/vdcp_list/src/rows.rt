@@ -1,4 +1,3 @@
-ghost use Rattle.csv.specs.Reading.{error_kind};
 ghost use Rattle.csv.specs.Records.{fields_of};
 ghost use Rattle.std.specs.Prelude.{◌≡◌, true, IfErr, IfOk, option_map};
 ghost use Rattle.vdcp_list.specs.Reading.{IsReadFault, IsSet, TakesRow, rows_left};
@@ -10,10 +9,12 @@ use std::alloc::Global;
 use std::io::Read;
 
 /// How many rows a file has at most.
-pub(crate) const MAX_ROWS: usize = 10_000;
+pub const MAX_ROWS: usize = 10_000;
 
-/// A reader of rows of any length, with commas, double quotes and no header row.
-pub(crate) fn rows_in<R: Read>(alloc: Global, source: R) -> Reader<R>
+/// A reader of a file's rows: CSV with commas and double quotes, without a header row. Rows may have
+/// any number of fields, and blank lines are left out. It owns `source`, and reads nothing before the
+/// first call of `next_row`.
+pub fn rows_in<R: Read>(alloc: Global, source: R) -> Reader<R>
     ensures set { IsSet result }
     ensures rows { rows_left R.remaining result ≡ option_map rows_of (R.remaining source) }
 {
@@ -23,11 +24,12 @@ pub(crate) fn rows_in<R: Read>(alloc: Global, source: R) -> Reader<R>
         .from_reader(alloc, source)
 }
 
-/// Takes the next row into `row`, and says whether there was one.
-pub(crate) fn next_row<R: Read>(
-    reader: &mut Reader<R>,
-    row: &mut ByteRecord,
-) -> Result<bool, ListFault>
+/// Takes the next row into `row`, in place of the one that was there, and says whether there was one.
+/// Only `row` takes memory: it grows to the longest row that it held.
+///
+/// `Memory` is told where such a growth was refused, and `Read` where the source failed. After either,
+/// and where there was no row, the reader isn't read again.
+pub fn next_row<R: Read>(reader: &mut Reader<R>, row: &mut ByteRecord) -> Result<bool, ListFault>
     requires { IsSet reader.old }
     ensures set { IfOk result (λ found. found ≡ true → IsSet reader.new) }
     ensures takes { IfOk result (λ found. TakesRow (rows_left R.remaining reader.old) (rows_left R.remaining reader.new) found (fields_of row.new)) }

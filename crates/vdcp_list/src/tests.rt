@@ -1,8 +1,13 @@
 //! Worked rows, failing readers and writers, and each public call once.
 
+ghost use Rattle.std.specs.Prelude.{◌≡◌, IfOk, IfSome, length};
+ghost use Rattle.vdcp_list.specs.Rows.{rows_of};
+
 use crate::{
-    List, ListFault, SlotFault, Slots, Table, WriteFault, read_catalogue, read_list, write_asrun,
+    List, ListFault, MAX_ROWS, SlotFault, Slots, Table, WriteFault, next_row, read_catalogue,
+    read_list, rows_in, write_asrun,
 };
+use csv::ByteRecord;
 use linked_list_allocator::LocalHeap;
 use std::alloc::Global;
 use std::io;
@@ -160,6 +165,32 @@ fn ten_thousand_rows_are_a_playlist(rt: HostRuntime) -> Result<(), Fail> {
     }
     let text = rows_in_turn(rt.alloc(), 10_001)?;
     assert!(rt; refused_list(rt.alloc(), text.as_bytes()) == Some(ListFault::TooMany(10_001)));
+    Ok(())
+}
+
+/// A caller's loop over the rows of a file, proved from public clauses: it counts them.
+fn count_rows<R: Read + Drop>(alloc: Global, source: R) -> Result<usize, ListFault>
+    ensures { IfOk result (λ count. IfSome (R.remaining source) (λ text. count ≡ length (rows_of text))) }
+{
+    let mut rows = rows_in(alloc, source);
+    let mut row = ByteRecord::new(alloc);
+    for read in 0..MAX_ROWS {
+        if !next_row(&mut rows, &mut row)? {
+            return Ok(read);
+        }
+    }
+    if next_row(&mut rows, &mut row)? {
+        return Err(ListFault::TooMany(MAX_ROWS + 1));
+    }
+    Ok(MAX_ROWS)
+}
+
+#[test]
+fn rows_are_counted(rt: HostRuntime) -> Result<(), Fail> {
+    let text = b"a\n\r\n\"b\n\",c,\n,\xFF";
+    assert_eq!(rt; count_rows(rt.alloc(), text.as_slice())?, 3);
+    let most = rows_in_turn(rt.alloc(), MAX_ROWS)?;
+    assert_eq!(rt; count_rows(rt.alloc(), most.as_bytes())?, MAX_ROWS);
     Ok(())
 }
 
