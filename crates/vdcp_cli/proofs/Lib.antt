@@ -1,3 +1,4 @@
 pub mod CheckLemmas
 pub mod TextLemmas
 pub mod VectorLemmas
+mod MakeLemmas

@@ -1,12 +1,16 @@
 use Rattle.std.specs.List.{list_all}
-use Rattle.std.specs.Prelude.{ℕ, suc, ◌≡◌, Bool, List, [], ◌∷◌, ◌++◌, codes, decimal, length, Option, None, Some, if◌then◌else◌}
-use Rattle.std.specs.Io.KnownBytes.{Appends}
+use Rattle.std.specs.Prelude.{ℕ, suc, ◌≡◌, ◌⊎◌, Bool, List, [], ◌∷◌, ◌++◌, codes, decimal, length, Option, None, Some, if◌then◌else◌}
+use Rattle.std.specs.Borrow.{Bor}
+use Rattle.std.specs.Io.KnownBytes.{Appends, Keeps}
+use Rattle.vdcp_cli.specs.Failure.{failure_line, file_failure, status_of}
 use Rattle.vdcp_cli.specs.Text.{line}
 use Rattle.vdcp_cli.specs.declared.check.EventFault.{EventFault}
 use Rattle.vdcp_cli.specs.declared.check.EventFault.TheVariants.{Missing, Outside}
-use Rattle.vdcp_list.specs.Catalogues.{IsCatalogue}
-use Rattle.vdcp_list.specs.Playlists.{IsPlaylist}
+use Rattle.vdcp_cli.specs.declared.failure.Failure.{Failure}
+use Rattle.vdcp_list.specs.Catalogues.{IsCatalogue, IsCatalogueFault}
+use Rattle.vdcp_list.specs.Playlists.{IsPlaylist, IsPlaylistFault}
 use Rattle.vdcp_list.specs.Rows.{Row}
+use Rattle.vdcp_list.specs.declared.faults.ListFault.{ListFault}
 use Rattle.vdcp_port.specs.Clips.{is_playable, length_of}
 use Rattle.vdcp_value.specs.Ids.{text_of_id}
 use Rattle.vdcp_value.specs.Parts.{part_fits}
@@ -56,3 +60,33 @@ pub record IsChecked (rate : Rate) (list catalogue : List Row) (old new : Option
   pub is_catalogue : IsCatalogue rate catalogue clips
   pub gained : Appends old new (check_text clips items)
   pub is_playable : playable ≡ are_playable clips items
+
+-- a file to read: its name, and its rows
+pub data File : Type 0 where
+  file : (name : Bor (List ℕ)) (rows : List Row) → File
+
+-- the list is refused, with this failure
+abbrev pub RefusesList : Rate → File → Failure → Type 0
+RefusesList rate (file name rows) failure =
+    (fault : ListFault) × (failure ≡ file_failure name fault) × IsPlaylistFault rate rows fault
+
+abbrev pub IsWhole : Rate → File → Type 0
+IsWhole rate (file name rows) = (items : List Item) × IsPlaylist rate rows items
+
+-- the catalogue is refused, with this failure
+abbrev pub RefusesCatalogue : Rate → File → Failure → Type 0
+RefusesCatalogue rate (file name rows) failure =
+    (fault : ListFault) × (failure ≡ file_failure name fault) × IsCatalogueFault rate rows fault
+
+-- the list, which is read first, is refused, or else the catalogue
+abbrev pub Refuses : Rate → File → File → Failure → Type 0
+Refuses rate list catalogue failure =
+    RefusesList rate list failure ⊎ (IsWhole rate list × RefusesCatalogue rate catalogue failure)
+
+-- a row of one of the files is refused: one writer is told so, and the other gained nothing
+pub record IsRefused (rate : Rate) (list catalogue : File) (out out' err err' : Option (List ℕ)) : Type 0 where
+  pub failure : Failure
+  pub refused : Refuses rate list catalogue failure
+  pub of_data : status_of failure ≡ 1
+  pub told : Appends err err' (failure_line failure)
+  pub silent : Keeps out out'

@@ -1,6 +1,12 @@
-use Rattle.std.specs.Prelude.{ℕ, ⊤}
+use Rattle.std.specs.Prelude.{ℕ, List, ◌++◌, codes, decimal}
+use Rattle.std.specs.Borrow.{Bor}
+use Rattle.vdcp_cli.specs.Text.{line}
 use Rattle.vdcp_cli.specs.declared.failure.Failure.{Failure}
 use Rattle.vdcp_cli.specs.declared.failure.Failure.TheVariants.{Hex, Word, Arguments, Text, Open, Read, Row, Memory, Writer}
+use Rattle.vdcp_cli.specs.declared.failure.RowFault.{RowFault}
+use Rattle.vdcp_cli.specs.declared.failure.RowFault.TheVariants as rows
+use Rattle.vdcp_list.specs.declared.faults.ListFault.TheVariants as lists
+use Rattle.vdcp_list.specs.declared.faults.ListFault.{ListFault}
 
 -- the exit status of a failure that was told
 abbrev pub status_of : Failure → ℕ
@@ -14,14 +20,35 @@ status_of (Row name row fault) = 1
 status_of Memory = 3
 status_of Writer = 3
 
--- a failure of a file that was opened
-abbrev pub IsOfFile : Failure → Type 0
-IsOfFile Hex = ⊥
-IsOfFile Word = ⊥
-IsOfFile Arguments = ⊥
-IsOfFile Text = ⊥
-IsOfFile (Open name) = ⊥
-IsOfFile (Read name) = ⊤
-IsOfFile (Row name row fault) = ⊤
-IsOfFile Memory = ⊤
-IsOfFile Writer = ⊥
+abbrev pub row_fault_text : RowFault → List ℕ
+row_fault_text rows.Columns = codes "columns"
+row_fault_text rows.Id = codes "id"
+row_fault_text rows.Time = codes "time"
+row_fault_text rows.Twice = codes "twice"
+row_fault_text rows.TooMany = codes "too many"
+
+-- what a failure is told as
+abbrev pub failure_text : Failure → List ℕ
+failure_text Hex = codes "hex"
+failure_text Word = codes "word"
+failure_text Arguments = codes "arguments"
+failure_text Text = codes "text"
+failure_text (Open name) = name.now ++ codes ": cannot open"
+failure_text (Read name) = name.now ++ codes ": read"
+failure_text (Row name row fault) = name.now ++ codes ": row " ++ decimal row ++ codes ": " ++ row_fault_text fault
+failure_text Memory = codes "memory"
+failure_text Writer = codes "write"
+
+-- the line that tells a failure
+abbrev pub failure_line : Failure → List ℕ
+failure_line failure = line (codes "vdcp: " ++ failure_text failure)
+
+-- the failure that a list or a catalogue of this name is refused with
+abbrev pub file_failure : Bor (List ℕ) → ListFault → Failure
+file_failure name (lists.Columns row) = Row name row rows.Columns
+file_failure name (lists.Id row) = Row name row rows.Id
+file_failure name (lists.Time row) = Row name row rows.Time
+file_failure name (lists.Twice row) = Row name row rows.Twice
+file_failure name (lists.TooMany row) = Row name row rows.TooMany
+file_failure name lists.Memory = Memory
+file_failure name lists.Read = Read name

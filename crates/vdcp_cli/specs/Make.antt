@@ -1,6 +1,8 @@
-use Rattle.std.specs.Prelude.{ℕ, ◌≡◌, List, [], ◌∷◌, length, codes, Option, Ok}
+use Rattle.std.specs.Prelude.{ℕ, ◌≡◌, ◌⊎◌, List, [], ◌∷◌, length, codes, Option, Ok}
 use Rattle.std.specs.Io.KnownBytes.{Appends}
 use Rattle.hex.specs.Hex.{decode_of, encode_lower}
+use Rattle.vdcp_cli.specs.declared.failure.Failure.{Failure}
+use Rattle.vdcp_cli.specs.declared.failure.Failure.TheVariants as failures
 use Rattle.vdcp_frame.specs.Message.{spelling}
 use Rattle.vdcp_words.specs.Commands.{command_message}
 use Rattle.vdcp_cli.specs.Text.{line}
@@ -36,6 +38,21 @@ Names words (Status bitmap) = (b : List ℕ) × IsByteText b bitmap × (words �
 Names words ActiveId = words ≡ codes "active" ∷ []
 Names words (IdRequest id) = (i : List ℕ) × IsIdText i id × (words ≡ codes "exists" ∷ i ∷ [])
 Names words (IdSize id) = (i : List ℕ) × IsIdText i id × (words ≡ codes "size" ∷ i ∷ [])
+
+-- no command has these words
+abbrev pub NameNone : List (List ℕ) → Type 0
+NameNone words = (command : Command) → ¬ Names words command
+
+-- a command has this name
+abbrev pub IsName : List ℕ → Type 0
+IsName word =
+    (word ≡ codes "open") ⊎ (word ≡ codes "close") ⊎ (word ≡ codes "select") ⊎ (word ≡ codes "cue") ⊎ (word ≡ codes "cue-data")
+    ⊎ (word ≡ codes "play") ⊎ (word ≡ codes "stop") ⊎ (word ≡ codes "status") ⊎ (word ≡ codes "active") ⊎ (word ≡ codes "exists")
+    ⊎ (word ≡ codes "size")
+
+-- why words are refused that name no command: no command has the first as its name, or one has
+abbrev pub IsMakeFault : List ℕ → Failure → Type 0
+IsMakeFault word failure = ((failure ≡ failures.Word) × ¬ IsName word) ⊎ ((failure ≡ failures.Arguments) × IsName word)
 
 -- a writer gained, in one line, the digits of the bytes of the command that the words name, to this unit
 pub record IsMade (words : List (List ℕ)) (unit : ℕ) (old new : Option (List ℕ)) : Type 0 where

@@ -1,7 +1,6 @@
 ghost use Rattle.std.specs.Io.KnownBytes.{Appends, Keeps};
 ghost use Rattle.std.specs.Prelude.{◌≡◌, ◌⊎◌, ◌<◌, IfErr, IfOk, IfSome, OnOk, false, length, true};
-ghost use Rattle.vdcp_cli.specs.Check.{IsChecked, are_playable, check_text, event_text, events_text, fault_of};
-ghost use Rattle.vdcp_cli.specs.Failure.{IsOfFile};
+ghost use Rattle.vdcp_cli.specs.Check.{IsChecked, IsRefused, Refuses, file, are_playable, check_text, event_text, events_text, fault_of};
 ghost use Rattle.vdcp_list.specs.Rows.{rows_of};
 
 use crate::failure::Failure;
@@ -32,10 +31,13 @@ pub fn do_check<L: io::Read + Drop, C: io::Read + Drop, W: io::Write, E: io::Wri
 ) -> u8
     ensures playable { result ≡ 0 → IfSome (L.remaining list.entry.reader) (λ l. IfSome (C.remaining catalogue.entry.reader) (λ c.
         IsChecked rate (rows_of l) (rows_of c) (W.contents out.old) (W.contents out.new) true)) }
+    ensures untold { result ≡ 0 → Keeps (E.contents err.old) (E.contents err.new) }
     // The status is 1 for what isn't playable, and for a row that is refused.
-    ensures refused { result ≡ 1 → Keeps (W.contents out.old) (W.contents out.new)
-        ⊎ IfSome (L.remaining list.entry.reader) (λ l. IfSome (C.remaining catalogue.entry.reader) (λ c.
-        IsChecked rate (rows_of l) (rows_of c) (W.contents out.old) (W.contents out.new) false)) }
+    ensures others { result ≡ 1 → IfSome (L.remaining list.entry.reader) (λ l. IfSome (C.remaining catalogue.entry.reader) (λ c.
+        (Keeps (E.contents err.old) (E.contents err.new)
+            × IsChecked rate (rows_of l) (rows_of c) (W.contents out.old) (W.contents out.new) false)
+        ⊎ IsRefused rate (file list.entry.name (rows_of l)) (file catalogue.entry.name (rows_of c))
+            (W.contents out.old) (W.contents out.new) (E.contents err.old) (E.contents err.new))) }
     ensures statuses { (result < 2) ⊎ (result ≡ 3) }
 {
     match check(alloc, list, catalogue, rate, out) {
@@ -55,8 +57,9 @@ fn check<'a, L: io::Read + Drop, C: io::Read + Drop, W: io::Write>(
 ) -> Result<bool, Failure<'a>>
     ensures checked { IfOk result (λ playable. IfSome (L.remaining list.entry.reader) (λ l. IfSome (C.remaining catalogue.entry.reader) (λ c.
         IsChecked rate (rows_of l) (rows_of c) (W.contents out.old) (W.contents out.new) playable))) }
-    ensures refused { IfErr result (λ e. (e ≡ Failure.Writer)
-        ⊎ (IsOfFile e × Keeps (W.contents out.old) (W.contents out.new))) }
+    ensures refused { IfErr result (λ e. IfSome (L.remaining list.entry.reader) (λ l. IfSome (C.remaining catalogue.entry.reader) (λ c.
+        (e ≡ Failure.Writer) ⊎ Refuses rate (file list.entry.name (rows_of l)) (file catalogue.entry.name (rows_of c)) e))) }
+    ensures silent { IfErr result (λ e. (e ≡ Failure.Writer) ⊎ Keeps (W.contents out.old) (W.contents out.new)) }
 {
     let events = match read_list(alloc, list.reader, rate) {
         Ok(events) => events,

@@ -1,4 +1,5 @@
-ghost use Rattle.std.specs.Prelude.{◌≡◌, ◌⊎◌};
+ghost use Rattle.std.specs.Io.KnownBytes.{Appends};
+ghost use Rattle.std.specs.Prelude.{◌≡◌, ◌⊎◌, ◌<◌};
 
 use std::alloc::AllocError;
 use std::{fmt, io};
@@ -28,11 +29,11 @@ pub enum Failure<'a> {
 }
 
 impl<'a> Failure<'a> {
-    ghost use Rattle.vdcp_cli.specs.Failure.{IsOfFile, status_of};
+    ghost use Rattle.vdcp_cli.specs.Failure.{failure_line, file_failure, status_of};
 
     /// Why the list or the catalogue of this name isn't read.
     pub fn of_file(name: &'a str, fault: ListFault) -> Failure<'a>
-        ensures { IsOfFile result }
+        ensures { result ≡ file_failure name.entry fault }
     {
         match fault {
             ListFault::Columns(row) => Failure::Row(name, row, RowFault::Columns),
@@ -45,29 +46,51 @@ impl<'a> Failure<'a> {
         }
     }
 
-    /// Tells `err` of the failure and gives the exit status: 1 for refused data, 2 for words that
-    /// aren't text, and 3 for the others. It is 3 too where it can't be told. Of a writer that
-    /// failed nothing is told.
+    /// Tells `err` of the failure in one line and gives the exit status: 1 for refused data, 2 for
+    /// words that aren't text, and 3 for the others. It is 3 too where it can't be told. Of a writer
+    /// that failed nothing is told.
     pub fn report<E: io::Write>(self, err: &mut E) -> u8
-        ensures { (result ≡ status_of self.entry) ⊎ (result ≡ 3) }
+        ensures status { (result ≡ status_of self.entry) ⊎ (result ≡ 3) }
+        ensures told { result < 3 → Appends (E.contents err.old) (E.contents err.new) (failure_line self.entry) }
     {
-        let (told, status) = match self {
-            Failure::Hex => (writeln!(err, "vdcp: hex"), 1),
-            Failure::Word => (writeln!(err, "vdcp: word"), 1),
-            Failure::Arguments => (writeln!(err, "vdcp: arguments"), 1),
-            Failure::Text => (writeln!(err, "vdcp: text"), 2),
-            Failure::Open(name) => (writeln!(err, "vdcp: {name}: cannot open"), 3),
-            Failure::Read(name) => (writeln!(err, "vdcp: {name}: read"), 3),
-            Failure::Row(name, row, fault) => (
-                writeln!(err, "vdcp: {name}: row {row}: {fault}"),
-                1,
-            ),
-            Failure::Memory => (writeln!(err, "vdcp: memory"), 3),
-            Failure::Writer => return 3,
-        };
-        match told {
-            Ok(()) => status,
+        if let Failure::Writer = self {
+            return 3;
+        }
+        match writeln!(err, "vdcp: {self}") {
+            Ok(()) => self.status(),
             Err(_) => 3,
+        }
+    }
+
+    // The exit status of a failure that was told.
+    fn status(self) -> u8
+        ensures { result ≡ status_of self.entry }
+    {
+        match self {
+            Failure::Hex | Failure::Word | Failure::Arguments | Failure::Row(..) => 1,
+            Failure::Text => 2,
+            Failure::Open(_) | Failure::Read(_) | Failure::Memory | Failure::Writer => 3,
+        }
+    }
+}
+
+impl fmt::Display for Failure<'_> {
+    ghost use Rattle.std.specs.Prelude.{Some};
+    ghost use Rattle.vdcp_cli.specs.Failure.{failure_text};
+
+    ghost output = { λ failure. Some (failure_text failure) };
+
+    fn fmt<W: fmt::Write>(&self, f: &mut fmt::Formatter<W>) -> fmt::Result {
+        match *self {
+            Failure::Hex => write!(f, "hex"),
+            Failure::Word => write!(f, "word"),
+            Failure::Arguments => write!(f, "arguments"),
+            Failure::Text => write!(f, "text"),
+            Failure::Open(name) => write!(f, "{name}: cannot open"),
+            Failure::Read(name) => write!(f, "{name}: read"),
+            Failure::Row(name, row, fault) => write!(f, "{name}: row {row}: {fault}"),
+            Failure::Memory => write!(f, "memory"),
+            Failure::Writer => write!(f, "write"),
         }
     }
 }
@@ -99,6 +122,11 @@ pub enum RowFault {
 }
 
 impl fmt::Display for RowFault {
+    ghost use Rattle.std.specs.Prelude.{Some};
+    ghost use Rattle.vdcp_cli.specs.Failure.{row_fault_text};
+
+    ghost output = { λ fault. Some (row_fault_text fault) };
+
     fn fmt<W: fmt::Write>(&self, f: &mut fmt::Formatter<W>) -> fmt::Result {
         match self {
             RowFault::Columns => write!(f, "columns"),

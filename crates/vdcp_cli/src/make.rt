@@ -1,8 +1,11 @@
-ghost use Rattle.std.specs.Prelude.{◌≡◌, ◌⊎◌, ◌<◌, ◌≤◌, ◌∷◌, map, IfOk, IfErr, OnOk};
+ghost use Rattle.std.specs.Prelude.{◌≡◌, ◌≢◌, ◌⊎◌, ◌<◌, ◌≤◌, [], ◌∷◌, ℕ, List, codes, map, IfOk, IfErr, OnErr, OnOk, length};
 ghost use Rattle.std.specs.Io.KnownBytes.{Appends, Keeps};
 ghost use Rattle.hex.specs.Hex.{encode_lower};
-ghost use Rattle.vdcp_cli.specs.Make.{IsByteText, IsIdText, IsMade, IsTimeText, Names};
+ghost use Rattle.vdcp_cli.specs.Failure.{failure_line};
+ghost use Rattle.vdcp_cli.specs.Make.{IsByteText, IsIdText, IsMade, IsMakeFault, IsTimeText, NameNone, Names};
 ghost use Rattle.vdcp_cli.specs.Text.{line};
+ghost use Rattle.vdcp_cli.specs.declared.failure.Failure.{Failure};
+ghost use Rattle.vdcp_value.specs.declared.clip_id.ClipId.{ClipId};
 
 use crate::failure::Failure;
 use crate::text::HexText;
@@ -28,7 +31,11 @@ pub fn do_make<W: io::Write, E: io::Write>(
     requires { unit ≤ 15 }
     ensures made { result ≡ 0 → IsMade (word.now ∷ map (λ a. a.now) arguments.now) unit
         (W.contents out.old) (W.contents out.new) }
-    ensures refused { result ≡ 1 → Keeps (W.contents out.old) (W.contents out.new) }
+    ensures untold { result ≡ 0 → Keeps (E.contents err.old) (E.contents err.new) }
+    ensures unnamed { result ≡ 1 → NameNone (word.now ∷ map (λ a. a.now) arguments.now) }
+    ensures told { result ≡ 1 → (failure : Failure) × IsMakeFault word.now failure
+        × Appends (E.contents err.old) (E.contents err.new) (failure_line failure) }
+    ensures silent { result ≡ 1 → Keeps (W.contents out.old) (W.contents out.new) }
     ensures statuses { (result < 2) ⊎ (result ≡ 3) }
 {
     match make(word, arguments, unit, out) {
@@ -48,7 +55,8 @@ fn make<W: io::Write>(
     ensures made { OnOk result (IsMade (word.now ∷ map (λ a. a.now) arguments.now) unit
         (W.contents out.old) (W.contents out.new)) }
     ensures refused { IfErr result (λ e. (e ≡ Failure.Writer)
-        ⊎ (((e ≡ Failure.Word) ⊎ (e ≡ Failure.Arguments)) × Keeps (W.contents out.old) (W.contents out.new))) }
+        ⊎ (NameNone (word.now ∷ map (λ a. a.now) arguments.now) × IsMakeFault word.now e
+            × Keeps (W.contents out.old) (W.contents out.new))) }
 {
     let command = command_of(word, arguments)?;
     let mut room = [0; 16];
@@ -69,43 +77,74 @@ fn write_digits<W: io::Write>(out: &mut W, bytes: &[u8]) -> io::Result<()>
 // The command that the words name.
 fn command_of(word: &str, arguments: &[&str]) -> Result<Command, Failure<'static>>
     ensures ok { IfOk result (Names (word.now ∷ map (λ a. a.now) arguments.now)) }
-    ensures err { IfErr result (λ e. (e ≡ Failure.Word) ⊎ (e ≡ Failure.Arguments)) }
+    ensures unnamed { OnErr result (NameNone (word.now ∷ map (λ a. a.now) arguments.now)) }
+    ensures err { IfErr result (IsMakeFault word.now) }
 {
-    match (word, arguments) {
-        ("open", [port, lock]) => Ok(Command::Open(byte_of(port)?, byte_of(lock)?)),
-        ("close", [port]) => Ok(Command::Close(byte_of(port)?)),
-        ("select", [port]) => Ok(Command::Select(byte_of(port)?)),
-        ("cue", [id]) => Ok(Command::PlayCue(id_of(id)?)),
-        ("cue-data", [id, start, duration]) => {
-            Ok(Command::CueData(id_of(id)?, time_of(start)?, time_of(duration)?))
+    match word {
+        "open" => {
+            let [port, lock] = arguments else {
+                return Err(Failure::Arguments);
+            };
+            Ok(Command::Open(byte_of(port)?, byte_of(lock)?))
         }
-        ("play", []) => Ok(Command::Play),
-        ("stop", []) => Ok(Command::Stop),
-        ("status", [bitmap]) => Ok(Command::Status(byte_of(bitmap)?)),
-        ("active", []) => Ok(Command::ActiveId),
-        ("exists", [id]) => Ok(Command::IdRequest(id_of(id)?)),
-        ("size", [id]) => Ok(Command::IdSize(id_of(id)?)),
-        (
-            "open"
-            | "close"
-            | "select"
-            | "cue"
-            | "cue-data"
-            | "play"
-            | "stop"
-            | "status"
-            | "active"
-            | "exists"
-            | "size",
-            _,
-        ) => Err(Failure::Arguments),
+        "close" => Ok(Command::Close(byte_of(only(arguments)?)?)),
+        "select" => Ok(Command::Select(byte_of(only(arguments)?)?)),
+        "cue" => Ok(Command::PlayCue(id_of(only(arguments)?)?)),
+        "cue-data" => cue_data(arguments),
+        "play" => alone(Command::Play, arguments),
+        "stop" => alone(Command::Stop, arguments),
+        "status" => Ok(Command::Status(byte_of(only(arguments)?)?)),
+        "active" => alone(Command::ActiveId, arguments),
+        "exists" => Ok(Command::IdRequest(id_of(only(arguments)?)?)),
+        "size" => Ok(Command::IdSize(id_of(only(arguments)?)?)),
         _ => Err(Failure::Word),
+    }
+}
+
+// The CUE WITH DATA of an ID and two time codes.
+fn cue_data(arguments: &[&str]) -> Result<Command, Failure<'static>>
+    ensures ok { IfOk result (Names (codes "cue-data" ∷ map (λ a. a.now) arguments.now)) }
+    ensures unnamed { OnErr result (NameNone (codes "cue-data" ∷ map (λ a. a.now) arguments.now)) }
+    ensures err { IfErr result (λ e. e ≡ Failure.Arguments) }
+{
+    match arguments {
+        [id, start, duration] => Ok(Command::CueData(
+            id_of(id)?,
+            time_of(start)?,
+            time_of(duration)?,
+        )),
+        _ => Err(Failure::Arguments),
+    }
+}
+
+// A command that has no arguments.
+fn alone(command: Command, arguments: &[&str]) -> Result<Command, Failure<'static>>
+    ensures ok { IfOk result (λ alone. (alone ≡ command) × (arguments.now ≡ [])) }
+    ensures some { OnErr result (arguments.now ≢ []) }
+    ensures err { IfErr result (λ e. e ≡ Failure.Arguments) }
+{
+    match arguments {
+        [] => Ok(command),
+        _ => Err(Failure::Arguments),
+    }
+}
+
+// The argument where there is one.
+fn only<'a>(arguments: &[&'a str]) -> Result<&'a str, Failure<'static>>
+    ensures ok { IfOk result (λ text. arguments.now ≡ text ∷ []) }
+    ensures others { OnErr result (length arguments.now ≢ 1) }
+    ensures err { IfErr result (λ e. e ≡ Failure.Arguments) }
+{
+    match arguments {
+        [text] => Ok(text),
+        _ => Err(Failure::Arguments),
     }
 }
 
 // The byte of two hexadecimal digits.
 fn byte_of(text: &str) -> Result<u8, Failure<'static>>
     ensures ok { IfOk result (IsByteText text.now) }
+    ensures none { OnErr result ((byte : ℕ) → ¬ IsByteText text.now byte) }
     ensures err { IfErr result (λ e. e ≡ Failure.Arguments) }
 {
     match <[u8; 1]>::from_hex(text) {
@@ -117,16 +156,24 @@ fn byte_of(text: &str) -> Result<u8, Failure<'static>>
 // The bytes of a time code, in eight hexadecimal digits.
 fn time_of(text: &str) -> Result<[u8; 4], Failure<'static>>
     ensures ok { IfOk result (IsTimeText text.now) }
+    ensures none { OnErr result ((time : List ℕ) → ¬ IsTimeText text.now time) }
     ensures err { IfErr result (λ e. e ≡ Failure.Arguments) }
 {
-    <[u8; 4]>::from_hex(text).map_err(|_| Failure::Arguments)
+    match <[u8; 4]>::from_hex(text) {
+        Ok(bytes) => Ok(bytes),
+        Err(_) => Err(Failure::Arguments),
+    }
 }
 
 fn id_of(text: &str) -> Result<ClipId, Failure<'static>>
     ensures ok { IfOk result (IsIdText text.now) }
+    ensures none { OnErr result ((id : ClipId) → ¬ IsIdText text.now id) }
     ensures err { IfErr result (λ e. e ≡ Failure.Arguments) }
 {
-    ClipId::parse(text).map_err(|_| Failure::Arguments)
+    match ClipId::parse(text) {
+        Ok(id) => Ok(id),
+        Err(_) => Err(Failure::Arguments),
+    }
 }
 
 #[cfg(test)]

@@ -1,24 +1,22 @@
 ghost use Rattle.csv.specs.Records.{fields_of};
 ghost use Rattle.std.specs.Io.KnownBytes.{Appends, Keeps};
-ghost use Rattle.std.specs.Prelude.{◌≡◌, ◌⊎◌, ◌<◌, ◌≤◌, ℕ, ◌≢◌, ◌∷◌, [], IfErr, IfNone, IfOk, IfSome, List, OnOk, length, string_bytes};
+ghost use Rattle.std.specs.Prelude.{◌≡◌, ◌⊎◌, ◌<◌, ◌≤◌, ℕ, ◌≢◌, ◌++◌, ◌∷◌, [], IfErr, IfNone, IfOk, IfSome, List, OnOk, length, string_bytes};
 ghost use Rattle.vdcp_cli.specs.End.{end_of};
-ghost use Rattle.vdcp_cli.specs.Failure.{IsOfFile};
-ghost use Rattle.vdcp_cli.specs.Vectors.{IsCounted, IsJoined, IsRowVerdict, IsVerdict, joined_text};
+ghost use Rattle.vdcp_cli.specs.Failure.{failure_line};
+ghost use Rattle.vdcp_cli.specs.Vectors.{AreTested, Finding, HasTooMany, IsFound, IsFoundOf, IsJoined, IsTally, IsTallyOf, IsUntested, bad_count, finding_of, finding_text, joined_text, too_many, vectors_text};
 ghost use Rattle.vdcp_frame.specs.Message.{Content};
 ghost use Rattle.vdcp_frame.specs.Reading.{Reads};
 
 use crate::failure::{Failure, RowFault};
 use crate::input::Input;
 use crate::text::{End, MessageText};
-use csv::{ByteRecord, ErrorKind, Reader, ReaderBuilder};
+use csv::ByteRecord;
 use hex::FromHexError;
 use std::alloc::{AllocError, Global};
 use std::fmt::Write;
 use std::{fmt, io};
 use vdcp_frame::{Step, read_at};
-
-// How many rows a vector file has at most.
-const MAX_ROWS: usize = 10_000;
+use vdcp_list::{MAX_ROWS, next_row, rows_in};
 
 /// Tests each row of a vector file: a burst in hexadecimal digits, and its reading, the lines of
 /// which are joined by `; `. It is CSV with commas and double quotes, without a header row, and
@@ -36,10 +34,14 @@ pub fn do_vectors<R: io::Read + Drop, W: io::Write, E: io::Write>(
     out: &mut W,
     err: &mut E,
 ) -> u8
-    ensures right { result ≡ 0 → IsCounted (W.contents out.old) (W.contents out.new) 0 }
+    ensures right { result ≡ 0 → AreTested (R.remaining file.entry.reader) (W.contents out.old) (W.contents out.new) 0 }
+    ensures untold { result ≡ 0 → Keeps (E.contents err.old) (E.contents err.new) }
     // The status is 1 where a row is bad, and for a file of too many rows.
-    ensures bad { result ≡ 1 → Keeps (W.contents out.old) (W.contents out.new)
-        ⊎ ((bad : ℕ) × (0 < bad) × IsCounted (W.contents out.old) (W.contents out.new) bad) }
+    ensures bad { result ≡ 1 →
+        (Keeps (E.contents err.old) (E.contents err.new)
+            × (bad : ℕ) × (0 < bad) × AreTested (R.remaining file.entry.reader) (W.contents out.old) (W.contents out.new) bad)
+        ⊎ (HasTooMany (R.remaining file.entry.reader) × Keeps (W.contents out.old) (W.contents out.new)
+            × Appends (E.contents err.old) (E.contents err.new) (failure_line (too_many file.entry.name))) }
     ensures statuses { (result < 2) ⊎ (result ≡ 3) }
 {
     match vectors(alloc, file, out) {
@@ -55,32 +57,192 @@ fn vectors<'a, R: io::Read + Drop, W: io::Write>(
     file: Input<'a, R>,
     out: &mut W,
 ) -> Result<usize, Failure<'a>>
-    ensures counted { IfOk result (IsCounted (W.contents out.old) (W.contents out.new)) }
+    ensures tested { IfOk result (AreTested (R.remaining file.entry.reader) (W.contents out.old) (W.contents out.new)) }
     ensures refused { IfErr result (λ e. (e ≡ Failure.Writer)
-        ⊎ (IsOfFile e × Keeps (W.contents out.old) (W.contents out.new))) }
+        ⊎ (IsUntested file.entry.name (R.remaining file.entry.reader) e × Keeps (W.contents out.old) (W.contents out.new))) }
 {
-    let findings = test_rows(alloc, file)?;
-    findings.write(out).map_err(|_| Failure::Writer)
+    let tally = test_rows(alloc, file)?;
+    tally.write(out).map_err(|_| Failure::Writer)
 }
 
-// What the rows of a file were found to be.
+// Tests the rows of a file.
+fn test_rows<'a, R: io::Read + Drop>(
+    alloc: Global,
+    file: Input<'a, R>,
+) -> Result<Tally, Failure<'a>>
+    ensures tally { IfOk result (IsTallyOf (R.remaining file.entry.reader)) }
+    ensures refused { IfErr result (IsUntested file.entry.name (R.remaining file.entry.reader)) }
+{
+    let name = file.name;
+    let mut rows = rows_in(alloc, file.reader);
+    let mut row = ByteRecord::new(alloc);
+    let mut reading = String::new(alloc);
+    let mut tally = Tally::new(alloc);
+    while next_row(&mut rows, &mut row).map_err(|fault| Failure::of_file(name, fault))? {
+        if tally.rows == MAX_ROWS {
+            return Err(Failure::Row(name, MAX_ROWS + 1, RowFault::TooMany));
+        }
+        let verdict = test_row(alloc, &row, &mut reading)?;
+        tally.add(verdict)?;
+    }
+    Ok(tally)
+}
+
+// What a row is found to be.
+#[derive(Clone, Copy)]
+enum Verdict<'a> {
+    // The burst has the expected reading.
+    Right,
+    // There aren't two fields.
+    Columns,
+    // The first field isn't an even number of hexadecimal digits.
+    Hex,
+    // The burst has another reading, this one.
+    Other(&'a str),
+}
+
+impl Verdict<'_> {
+    // How many bad rows it counts as.
+    fn bad(self) -> usize
+        ensures bad { result ≡ bad_count (finding_of self.entry ∷ []) }
+        ensures few { result ≤ 1 }
+    {
+        match self {
+            Verdict::Right => 0,
+            Verdict::Columns | Verdict::Hex | Verdict::Other(_) => 1,
+        }
+    }
+}
+
+// Tests a row. `reading` is the room for what its burst reads as.
+fn test_row<'a>(
+    alloc: Global,
+    row: &ByteRecord,
+    reading: &'a mut String,
+) -> Result<Verdict<'a>, AllocError>
+    ensures { IfOk result (λ verdict. IsFound (fields_of row.now) (finding_of verdict)) }
+{
+    match two_fields(row) {
+        Some((digits, expected)) => test_burst(alloc, digits, expected, reading),
+        None => Ok(Verdict::Columns),
+    }
+}
+
+// The fields of a row that has two.
+fn two_fields(row: &ByteRecord) -> Option<(&[u8], &[u8])>
+    ensures some { IfSome result (λ fields. fields_of row.now ≡ fields.0.now ∷ fields.1.now ∷ []) }
+    ensures none { IfNone result (length (fields_of row.now) ≢ 2) }
+{
+    if row.len() != 2 {
+        return None;
+    }
+    Some((row.get(0)?, row.get(1)?))
+}
+
+// Tests the digits of a burst.
+fn test_burst<'a>(
+    alloc: Global,
+    digits: &[u8],
+    expected: &[u8],
+    reading: &'a mut String,
+) -> Result<Verdict<'a>, AllocError>
+    ensures { IfOk result (λ verdict. IsFoundOf digits.now expected.now (finding_of verdict)) }
+{
+    let burst = match hex::decode(alloc, digits) {
+        Ok(burst) => burst,
+        Err(FromHexError::OutOfMemory) => return Err(AllocError),
+        Err(_) => return Ok(Verdict::Hex),
+    };
+    show_reading(burst.as_slice(), reading)?;
+    if reading.as_bytes() == expected {
+        Ok(Verdict::Right)
+    } else {
+        Ok(Verdict::Other(reading.as_str()))
+    }
+}
+
+// Writes a burst's reading, its lines joined, in place of the text.
+fn show_reading(burst: &[u8], text: &mut String) -> Result<(), AllocError>
+    ensures { OnOk result (IsJoined burst.now (string_bytes text.new)) }
+{
+    let end = show_messages(burst, text)?;
+    write!(text, "{end}")
+}
+
+// Writes the lines of a burst's messages in place of the text, and gives the burst's end.
+fn show_messages(burst: &[u8], text: &mut String) -> Result<End, AllocError>
+    ensures { IfOk result (λ end. (ms : List Content) × Reads burst.now ms (end_of end)
+        × (string_bytes text.new ≡ joined_text ms)) }
+{
+    text.clear();
+    let mut from = 0;
+    loop {
+        match read_at(burst, from) {
+            Step::Message(message, next) => {
+                let message = MessageText(message);
+                write!(text, "{message}; ")?;
+                from = next;
+            }
+            Step::Clean => return Ok(End::Clean),
+            Step::Cut(count) => return Ok(End::Cut(count)),
+            Step::Fault(fault, place) => return Ok(End::Fault(fault, place)),
+        }
+    }
+}
+
+// Adds the line of row `k`, if it is bad.
+fn write_line(lines: &mut String, k: usize, verdict: Verdict<'_>) -> Result<(), AllocError>
+    ensures { OnOk result (string_bytes lines.new ≡ string_bytes lines.old ++ finding_text k (finding_of verdict.entry)) }
+{
+    match verdict {
+        Verdict::Right => Ok(()),
+        Verdict::Columns => writeln!(lines, "row {k}: columns"),
+        Verdict::Hex => writeln!(lines, "row {k}: hex"),
+        Verdict::Other(reading) => writeln!(lines, "row {k}: got {reading}"),
+    }
+}
+
+// How many rows there were, and which of them were bad.
 #[derive(Drop)]
-struct Findings {
+struct Tally {
     rows: usize,
     bad: usize,
     // The lines of the bad rows.
     lines: String,
-    ghost few: { rows ≤ 10000 },
-    ghost within: { bad ≤ rows },
-    ghost none: { bad ≡ 0 → string_bytes lines ≡ [] },
 }
 
-impl Findings {
-    // Writes them, and gives how many rows are bad.
-    fn write<W: io::Write>(&self, out: &mut W) -> io::Result<usize>
-        ensures { IfOk result (IsCounted (W.contents out.old) (W.contents out.new)) }
+impl Tally {
+    fn new(alloc: Global) -> Tally
+        ensures { IsTally [] result }
     {
-        let Findings { rows, bad, lines } = self;
+        Tally {
+            rows: 0,
+            bad: 0,
+            lines: String::new(alloc),
+        }
+    }
+
+    // Counts one more row, and adds its line if it is bad.
+    fn add(&mut self, verdict: Verdict<'_>) -> Result<(), AllocError>
+        requires few { self.old.rows < 10_000 }
+        requires within { self.old.bad ≤ self.old.rows }
+        ensures { OnOk result ((findings : List Finding) → IsTally findings self.old
+            → IsTally (findings ++ finding_of verdict.entry ∷ []) self.new) }
+    {
+        let k = self.rows + 1;
+        write_line(&mut self.lines, k, verdict)?;
+        self.rows = k;
+        self.bad += verdict.bad();
+        Ok(())
+    }
+
+    // Writes the lines and the counts, and gives how many rows are bad.
+    fn write<W: io::Write>(&self, out: &mut W) -> io::Result<usize>
+        ensures text { (findings : List Finding) → IsTally findings self.now
+            → OnOk result (Appends (W.contents out.old) (W.contents out.new) (vectors_text findings)) }
+        ensures bad { IfOk result (λ bad. bad ≡ self.now.bad) }
+    {
+        let Tally { rows, bad, lines } = self;
         out.write_all(lines.as_bytes())?;
         let count = CountText {
             rows: *rows,
@@ -111,150 +273,6 @@ impl fmt::Display for CountText {
             write!(f, "vectors {rows} ok")
         } else {
             write!(f, "vectors {rows} bad {bad}")
-        }
-    }
-}
-
-// Tests the rows of a file.
-fn test_rows<'a, R: io::Read + Drop>(
-    alloc: Global,
-    file: Input<'a, R>,
-) -> Result<Findings, Failure<'a>>
-    ensures { IfErr result IsOfFile }
-{
-    let name = file.name;
-    let mut rows = ReaderBuilder::new()
-        .has_headers(false)
-        .flexible(true)
-        .from_reader(alloc, file.reader);
-    let mut row = ByteRecord::new(alloc);
-    let mut reading = String::new(alloc);
-    let mut lines = String::new(alloc);
-    let mut bad = 0;
-    for before in 0..MAX_ROWS {
-        if !next_row(&mut rows, &mut row, name)? {
-            let rows = before;
-            return Ok(Findings { rows, bad, lines });
-        }
-        let k = before + 1;
-        match test_row(alloc, &row, &mut reading)? {
-            Verdict::Right => continue,
-            Verdict::Columns => writeln!(lines, "row {k}: columns")?,
-            Verdict::Hex => writeln!(lines, "row {k}: hex")?,
-            Verdict::Other => writeln!(lines, "row {k}: got {reading}")?,
-        }
-        bad += 1;
-    }
-    if next_row(&mut rows, &mut row, name)? {
-        return Err(Failure::Row(name, MAX_ROWS + 1, RowFault::TooMany));
-    }
-    let rows = MAX_ROWS;
-    Ok(Findings { rows, bad, lines })
-}
-
-// Takes the next row into `row`, and says whether there was one.
-fn next_row<'a, R: io::Read>(
-    rows: &mut Reader<R>,
-    row: &mut ByteRecord,
-    name: &'a str,
-) -> Result<bool, Failure<'a>>
-    ensures { IfErr result IsOfFile }
-{
-    match rows.read_byte_record(row) {
-        Ok(found) => Ok(found),
-        Err(error) => match error.into_kind() {
-            ErrorKind::OutOfMemory => Err(Failure::Memory),
-            // The others but `Io` don't come: rows may have any length and are read as bytes.
-            ErrorKind::Io(_)
-            | ErrorKind::Utf8 { .. }
-            | ErrorKind::UnequalLengths { .. }
-            | ErrorKind::Serialize(_)
-            | ErrorKind::Deserialize { .. } => Err(Failure::Read(name)),
-        },
-    }
-}
-
-// What a row is.
-#[derive(Clone, Copy)]
-enum Verdict {
-    // The burst has the expected reading.
-    Right,
-    // It has another.
-    Other,
-    // There aren't two fields.
-    Columns,
-    // The first field isn't an even number of hexadecimal digits.
-    Hex,
-}
-
-// Tests a row. Where it has a burst, its reading takes the place of the text.
-fn test_row(alloc: Global, row: &ByteRecord, reading: &mut String) -> Result<Verdict, AllocError>
-    ensures { IfOk result (IsRowVerdict (fields_of row.now) (string_bytes reading.new)) }
-{
-    match two_fields(row) {
-        Some((digits, expected)) => test_burst(alloc, digits, expected, reading),
-        None => Ok(Verdict::Columns),
-    }
-}
-
-// The fields of a row that has two.
-fn two_fields(row: &ByteRecord) -> Option<(&[u8], &[u8])>
-    ensures some { IfSome result (λ fields. fields_of row.now ≡ fields.0.now ∷ fields.1.now ∷ []) }
-    ensures none { IfNone result (length (fields_of row.now) ≢ 2) }
-{
-    if row.len() != 2 {
-        return None;
-    }
-    Some((row.get(0)?, row.get(1)?))
-}
-
-// Tests the digits of a burst. Where they are so, its reading takes the place of the text.
-fn test_burst(
-    alloc: Global,
-    digits: &[u8],
-    expected: &[u8],
-    reading: &mut String,
-) -> Result<Verdict, AllocError>
-    ensures { IfOk result (IsVerdict digits.now expected.now (string_bytes reading.new)) }
-{
-    let burst = match hex::decode(alloc, digits) {
-        Ok(burst) => burst,
-        Err(FromHexError::OutOfMemory) => return Err(AllocError),
-        Err(_) => return Ok(Verdict::Hex),
-    };
-    show_reading(burst.as_slice(), reading)?;
-    if reading.as_bytes() == expected {
-        Ok(Verdict::Right)
-    } else {
-        Ok(Verdict::Other)
-    }
-}
-
-// Writes a burst's reading, its lines joined, in place of the text.
-fn show_reading(burst: &[u8], text: &mut String) -> Result<(), AllocError>
-    ensures { OnOk result (IsJoined burst.now (string_bytes text.new)) }
-{
-    let end = show_messages(burst, text)?;
-    write!(text, "{end}")
-}
-
-// Writes the lines of a burst's messages in place of the text, and gives the burst's end.
-fn show_messages(burst: &[u8], text: &mut String) -> Result<End, AllocError>
-    ensures { IfOk result (λ end. (ms : List Content) × Reads burst.now ms (end_of end)
-        × (string_bytes text.new ≡ joined_text ms)) }
-{
-    text.clear();
-    let mut from = 0;
-    loop {
-        match read_at(burst, from) {
-            Step::Message(message, next) => {
-                let message = MessageText(message);
-                write!(text, "{message}; ")?;
-                from = next;
-            }
-            Step::Clean => return Ok(End::Clean),
-            Step::Cut(count) => return Ok(End::Cut(count)),
-            Step::Fault(fault, place) => return Ok(End::Fault(fault, place)),
         }
     }
 }
