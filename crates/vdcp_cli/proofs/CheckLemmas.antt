@@ -1,7 +1,7 @@
 -- The lines of one more event.
 use Rattle.std.proofs.Common.{◌≡◌, ℕ, ◌+◌, Bool, true, false, List, [], ◌∷◌, ◌++◌, length, take, refl, sym, ap, ◌∙◌, arith, zero, suc, add-one, add-zero, zero-add, append_assoc, append-nil}
 use Rattle.std.proofs.lemmas.List.Folds.{list_all-append}
-use Rattle.std.specs.Io.KnownBytes.{Appends}
+use Rattle.std.specs.Io.KnownBytes.{Appends, Keeps}
 use Rattle.std.specs.Prelude.{Option, None, Some, is_none, is_some, not, slice_get, ◌&&◌, if◌then◌else◌}
 use Rattle.vdcp_cli.specs.declared.check.EventFault.TheVariants.{Outside}
 use Rattle.vdcp_cli.specs.declared.check.EventFault.{EventFault}
@@ -85,3 +85,7 @@ double false = refl
 
 pub none_is : (fault found : Option EventFault) (none : Bool) → fault ≡ found → is_some fault ≡ not none → none ≡ is_none found
 none_is fault found none same e = sym (ap not e ∙ double none) ∙ ap (λ (f : Option EventFault). not (is_some f)) same
+
+pub kept : (bytes : Option (List ℕ)) → Keeps bytes bytes
+kept None = tt
+kept (Some xs) = refl

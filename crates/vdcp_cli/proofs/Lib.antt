@@ -2,3 +2,4 @@ pub mod CheckLemmas
 pub mod TextLemmas
 pub mod VectorLemmas
 mod MakeLemmas
+mod Examples

@@ -5,7 +5,7 @@ use Rattle.std.specs.Prelude.{◌≢◌, codes, OnErr, Result, Ok, Err}
 use Rattle.hex.proofs.HexLemmas.{decode_of-ok, decode_sized-twice}
 use Rattle.hex.specs.Hex.{decode_of, decode_sized}
 use Rattle.hex.specs.declared.error.FromHexError.{FromHexError}
-use Rattle.vdcp_cli.specs.Make.{IsByteText, IsIdText, IsTimeText, NameNone, Names}
+use Rattle.vdcp_cli.specs.Make.{IsByteText, IsIdText, IsTimeText, NamesNone, Names}
 use Rattle.vdcp_value.specs.declared.clip_id.ClipId.{ClipId}
 use Rattle.vdcp_words.specs.declared.command.Command.{Command}
 use Rattle.vdcp_words.specs.declared.command.Command.TheVariants.{Open, Close, Select, PlayCue, CueData, Play, Stop, Status, ActiveId, IdRequest, IdSize}
@@ -20,7 +20,7 @@ no_bytes text n e refused bytes size decoded =
 
 -- a command's name is that of another, or the argument is no ID
 no_id : (word text : List ℕ) → ((id : ClipId) → ¬ IsIdText text id)
-    → word ≢ codes "open" → word ≢ codes "close" → word ≢ codes "select" → word ≢ codes "status" → NameNone (word ∷ text ∷ [])
+    → word ≢ codes "open" → word ≢ codes "close" → word ≢ codes "select" → word ≢ codes "status" → NamesNone (word ∷ text ∷ [])
 no_id word text none o c s b (Open port lock) (p, l, _, _, e) = o (cc e)
 no_id word text none o c s b (Close port) (p, _, e) = c (cc e)
 no_id word text none o c s b (Select port) (p, _, e) = s (cc e)
@@ -37,13 +37,13 @@ abbrev first : List ℕ → ℕ
 first [] = 0
 first (letter ∷ letters) = letter
 
-pub no_cue : (text : List ℕ) → ((id : ClipId) → ¬ IsIdText text id) → NameNone (codes "cue" ∷ text ∷ [])
+pub no_cue : (text : List ℕ) → ((id : ClipId) → ¬ IsIdText text id) → NamesNone (codes "cue" ∷ text ∷ [])
 no_cue text none = no_id (codes "cue") text none (λ e. omega (arith, ap length e)) (λ e. omega (arith, ap length e)) (λ e. omega (arith, ap length e)) (λ e. omega (arith, ap length e))
 
-pub no_exists : (text : List ℕ) → ((id : ClipId) → ¬ IsIdText text id) → NameNone (codes "exists" ∷ text ∷ [])
+pub no_exists : (text : List ℕ) → ((id : ClipId) → ¬ IsIdText text id) → NamesNone (codes "exists" ∷ text ∷ [])
 no_exists text none = no_id (codes "exists") text none (λ e. omega (arith, ap length e)) (λ e. omega (arith, ap length e)) (λ e. let h : ◌≡◌ {A = ℕ} 101 115 = ap first e in omega (arith, h)) (λ e. let h : ◌≡◌ {A = ℕ} 101 115 = ap first e in omega (arith, h))
 
-pub no_size : (text : List ℕ) → ((id : ClipId) → ¬ IsIdText text id) → NameNone (codes "size" ∷ text ∷ [])
+pub no_size : (text : List ℕ) → ((id : ClipId) → ¬ IsIdText text id) → NamesNone (codes "size" ∷ text ∷ [])
 no_size text none = no_id (codes "size") text none (λ e. let h : ◌≡◌ {A = ℕ} 115 111 = ap first e in omega (arith, h)) (λ e. omega (arith, ap length e)) (λ e. omega (arith, ap length e)) (λ e. omega (arith, ap length e))
 
 abbrev pub texts : List (Bor (List ℕ)) → List (List ℕ)
@@ -55,7 +55,7 @@ IsPart arguments =
     (id : ClipId) × (x y i s d : List ℕ) × IsIdText i id × IsTimeText s x × IsTimeText d y × (arguments ≡ i ∷ s ∷ d ∷ [])
 
 -- what isn't such doesn't cue a part
-pub no_part : (arguments : List (List ℕ)) → ¬ IsPart arguments → NameNone (codes "cue-data" ∷ arguments)
+pub no_part : (arguments : List (List ℕ)) → ¬ IsPart arguments → NamesNone (codes "cue-data" ∷ arguments)
 no_part arguments none (Open port lock) (p, l, _, _, e) = cc e
 no_part arguments none (Close port) (p, _, e) = cc e
 no_part arguments none (Select port) (p, _, e) = cc e

@@ -1,10 +1,17 @@
 -- The two fields of a row, and the rows of a file one after another.
 use Rattle.csv.specs.Records.{field_at}
 use Rattle.std.proofs.Common.{◌≡◌, ℕ, ◌+◌, ◌≤◌, ◌<◌, suc, true, false, List, [], ◌∷◌, ◌++◌, length, refl, sym, ap, ap₂, subst, ◌∙◌, arith, append_assoc, append-nil}
-use Rattle.std.proofs.lemmas.List.{length-append}
+use Rattle.std.proofs.lemmas.List.{length-append, length-map, map-append}
 use Rattle.std.specs.Prelude.{IfNone, IfOk, Result, Ok, Err, Option, None, Some, option_map, string_bytes}
-use Rattle.vdcp_cli.specs.Vectors.{AreFound, AreRowsOf, Finding, HasTooMany, IsFound, IsTally, IsTallyOf, bad_count, columns, finding_text, findings_text, got, hex, right}
+use Rattle.vdcp_cli.specs.Vectors.{Finding, HasTooMany, IsTally, IsTallyOf, bad_count, columns, finding_of_row, finding_of_reading, finding_text, findings_of, findings_text, got, joined_reading, joined_text, hex, right}
+use Rattle.vdcp_cli.specs.Files.{AreRowsOf}
+use Rattle.vdcp_cli.specs.Text.{end_text}
 use Rattle.vdcp_cli.specs.declared.vectors.Tally.{Tally}
+use Rattle.vdcp_frame.proofs.BurstLemmas.{reads_computed}
+use Rattle.vdcp_frame.proofs.ReadingLemmas.{one_reading}
+use Rattle.vdcp_frame.specs.Burst.{messages_of, end_of}
+use Rattle.vdcp_frame.specs.Message.{AreBytes, Content}
+use Rattle.vdcp_frame.specs.Reading.{End, Reads}
 use Rattle.vdcp_list.specs.Reading.{TakesRow}
 use Rattle.vdcp_list.specs.Rows.{Row, most_rows, rows_of}
 
@@ -57,19 +64,6 @@ bad_within (columns ∷ findings) = omega (arith, bad_within findings)
 bad_within (hex ∷ findings) = omega (arith, bad_within findings)
 bad_within (got reading ∷ findings) = omega (arith, bad_within findings)
 
-found_push : (rows : List Row) (findings : List Finding) (row : Row) (finding : Finding) → AreFound rows findings → IsFound row finding
-    → AreFound (rows ++ row ∷ []) (findings ++ finding ∷ [])
-found_push [] [] row finding all one = (one, tt)
-found_push [] (first ∷ findings) row finding all one = absurd all
-found_push (r ∷ rows) [] row finding all one = absurd all
-found_push (r ∷ rows) (first ∷ findings) row finding all one = (all.0, found_push rows findings row finding all.1 one)
-
-length_found : (rows : List Row) (findings : List Finding) → AreFound rows findings → length rows ≡ length findings
-length_found [] [] all = refl
-length_found [] (first ∷ findings) all = absurd all
-length_found (r ∷ rows) [] all = absurd all
-length_found (r ∷ rows) (first ∷ findings) all = ap suc (length_found rows findings all.1)
-
 -- these rows were read, and the others are left
 abbrev pub IsFront : Option (List Row) → Option (List Row) → List Row → Type 0
 IsFront None left front = Unit {0}
@@ -98,40 +92,38 @@ pub record Tested (file : Option (List ℕ)) (left : Option (List Row)) (tally :
   pub front : List Row
   pub is_front : IsFront (option_map rows_of file) left front
   pub few : length front ≤ most_rows
-  pub findings : List Finding
-  pub found : AreFound front findings
-  pub tallied : IsTally findings tally
+  pub tallied : IsTally (findings_of front) tally
 
 pub tested_first : (file : Option (List ℕ)) (left : Option (List Row)) (tally : Tally) → left ≡ option_map rows_of file → IsTally [] tally
     → Tested file left tally
 tested_first file left tally e t =
-    record { front = []; is_front = at_first file left e; few = omega arith; findings = []; found = tt; tallied = t }
+    record { front = []; is_front = at_first file left e; few = omega arith; tallied = t }
 
 -- a tally counts no more bad rows than rows, and no more of these than there may be
 pub counted : (file : Option (List ℕ)) (left : Option (List Row)) (tally : Tally) → Tested file left tally
     → (tally.bad ≤ tally.rows) × (tally.rows ≤ most_rows)
 counted file left tally h = (
-  omega (arith, h.tallied.rows_are, h.tallied.bad_are, bad_within h.findings),
-  omega (arith, h.tallied.rows_are, length_found h.front h.findings h.found, h.few),
+  omega (arith, h.tallied.rows_are, h.tallied.bad_are, bad_within (findings_of h.front)),
+  omega (arith, h.tallied.rows_are, length-map h.front finding_of_row, h.few),
 )
 
 pub counts_one : (file : Option (List ℕ)) (left : Option (List Row)) (tally tally' : Tally) (finding : Finding) → Tested file left tally
     → ((findings : List Finding) → IsTally findings tally → IsTally (findings ++ finding ∷ []) tally')
     → tally'.rows ≡ tally.rows + 1
 counts_one file left tally tally' finding h add =
-    omega (arith, h.tallied.rows_are, (add h.findings h.tallied).rows_are, length-append h.findings (finding ∷ []))
+    omega (arith, h.tallied.rows_are, (add (findings_of h.front) h.tallied).rows_are, length-append (findings_of h.front) (finding ∷ []))
 
 pub tested_next : (file : Option (List ℕ)) (left left' : Option (List Row)) (tally tally' : Tally) (row : Row) (finding : Finding)
-    → Tested file left tally → TakesRow left left' true row → tally.rows < most_rows → IsFound row finding
+    → Tested file left tally → TakesRow left left' true row → tally.rows < most_rows → finding ≡ finding_of_row row
     → ((findings : List Finding) → IsTally findings tally → IsTally (findings ++ finding ∷ []) tally')
     → Tested file left' tally'
 tested_next file left left' tally tally' row finding h t room found add = record {
   front = h.front ++ row ∷ [];
   is_front = front_next (option_map rows_of file) left left' h.front row h.is_front t;
-  few = omega (arith, length-append h.front (row ∷ []), h.tallied.rows_are, length_found h.front h.findings h.found, room);
-  findings = h.findings ++ finding ∷ [];
-  found = found_push h.front h.findings row finding h.found found;
-  tallied = add h.findings h.tallied;
+  few = omega (arith, length-append h.front (row ∷ []), h.tallied.rows_are, length-map h.front finding_of_row, room);
+  tallied =
+      subst (λ findings. IsTally findings tally') (ap (λ f. findings_of h.front ++ f ∷ []) found ∙ sym (map-append finding_of_row h.front (row ∷ [])))
+      (add (findings_of h.front) h.tallied);
 }
 
 pub tested_all : (file : Option (List ℕ)) (left left' : Option (List Row)) (tally : Tally) (row : Row) → Tested file left tally
@@ -140,8 +132,6 @@ tested_all file left left' tally row h t = record {
   rows = h.front;
   are_rows = front_all file left left' h.front row h.is_front t;
   few = h.few;
-  findings = h.findings;
-  found = h.found;
   tallied = h.tallied;
 }
 
@@ -155,7 +145,7 @@ pub tested_too_many : (file : Option (List ℕ)) (left left' : Option (List Row)
     → TakesRow left left' true row → tally.rows ≡ most_rows → HasTooMany file
 tested_too_many file left left' tally row h t full =
     too_many_rows file left' (h.front ++ row ∷ []) (front_next (option_map rows_of file) left left' h.front row h.is_front t)
-    (omega (arith, length-append h.front (row ∷ []), h.tallied.rows_are, length_found h.front h.findings h.found, full))
+    (omega (arith, length-append h.front (row ∷ []), h.tallied.rows_are, length-map h.front finding_of_row, full))
 
 -- one more row and its line
 pub tally_push : (findings : List Finding) (finding : Finding) (tally tally' : Tally) → IsTally findings tally
@@ -174,3 +164,10 @@ tally_push findings finding tally tally' h rows bad lines =
 pub if_ok : {T E : Type 0} (P : T → Type 0) (r : Result T E) (x : T) → IfOk r P → r ≡ Ok x → P x
 if_ok P (Ok y) x h e = let same : y ≡ x = cc e in subst P same h
 if_ok P (Err f) x h e = cc e
+
+-- the one reading of a burst, joined
+pub joined_is : (burst : List ℕ) (ms : List Content) (end : End) → AreBytes burst → Reads burst ms end
+    → joined_text ms ++ end_text end ≡ joined_reading burst
+joined_is burst ms end bytes reads =
+    let one = one_reading 4096 burst ms (messages_of burst) end (end_of burst) reads (reads_computed 4096 burst bytes) in
+    ap₂ (λ m e. joined_text m ++ end_text e) one.0 one.1

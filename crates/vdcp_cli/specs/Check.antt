@@ -1,7 +1,7 @@
 use Rattle.std.specs.List.{list_all}
-use Rattle.std.specs.Prelude.{ℕ, suc, ◌≡◌, ◌⊎◌, Bool, List, [], ◌∷◌, ◌++◌, codes, decimal, length, Option, None, Some, if◌then◌else◌}
-use Rattle.std.specs.Borrow.{Bor}
+use Rattle.std.specs.Prelude.{ℕ, suc, ◌≡◌, ◌⊎◌, Bool, List, [], ◌∷◌, ◌++◌, codes, decimal, length, IfSome, Option, None, Some, if◌then◌else◌}
 use Rattle.std.specs.Io.KnownBytes.{Appends, Keeps}
+use Rattle.vdcp_cli.specs.Files.{File, file}
 use Rattle.vdcp_cli.specs.Failure.{failure_line, file_failure, status_of}
 use Rattle.vdcp_cli.specs.Text.{line}
 use Rattle.vdcp_cli.specs.declared.check.EventFault.{EventFault}
@@ -9,7 +9,7 @@ use Rattle.vdcp_cli.specs.declared.check.EventFault.TheVariants.{Missing, Outsid
 use Rattle.vdcp_cli.specs.declared.failure.Failure.{Failure}
 use Rattle.vdcp_list.specs.Catalogues.{IsCatalogue, IsCatalogueFault}
 use Rattle.vdcp_list.specs.Playlists.{IsPlaylist, IsPlaylistFault}
-use Rattle.vdcp_list.specs.Rows.{Row}
+use Rattle.vdcp_list.specs.Rows.{rows_of}
 use Rattle.vdcp_list.specs.declared.faults.ListFault.{ListFault}
 use Rattle.vdcp_port.specs.Clips.{is_playable, length_of}
 use Rattle.vdcp_value.specs.Ids.{text_of_id}
@@ -20,7 +20,7 @@ use Rattle.vdcp_value.specs.declared.part.Part.{Part}
 use Rattle.vdcp_value.specs.declared.rate.Rate.{Rate}
 use Rattle.vdcp_value.specs.declared.timecode.Timecode.{Timecode}
 
--- why a part, or the whole, of a clip of this length can't be played, if it can't
+-- why a part, or the whole, of a clip of this length, or of one that isn't known, can't be played, if it can't
 abbrev pub fault_in : Option Timecode → Option Part → Option EventFault
 fault_in None part = Some Missing
 fault_in (Some clip) None = None
@@ -52,41 +52,47 @@ check_text clips items =
 abbrev pub are_playable : List (ClipId × Timecode) → List Item → Bool
 are_playable clips items = list_all (is_playable clips) items
 
--- the rows are a playlist and a catalogue, and a writer gained what their check prints: every event can be played, or not
-pub record IsChecked (rate : Rate) (list catalogue : List Row) (old new : Option (List ℕ)) (playable : Bool) : Type 0 where
+-- a file is a playlist of these items
+abbrev pub IsListOf : Rate → File → List Item → Type 0
+IsListOf rate (file name bytes) items = IfSome bytes (λ text. IsPlaylist rate (rows_of text) items)
+
+-- a file is a catalogue of these clips
+abbrev pub IsCatalogueOf : Rate → File → List (ClipId × Timecode) → Type 0
+IsCatalogueOf rate (file name bytes) clips = IfSome bytes (λ text. IsCatalogue rate (rows_of text) clips)
+
+-- the files are a playlist and a catalogue, a writer gained what their check prints, and this is whether every event can be played
+pub record IsChecked (rate : Rate) (list catalogue : File) (old new : Option (List ℕ)) (playable : Bool) : Type 0 where
   pub items : List Item
   pub clips : List (ClipId × Timecode)
-  pub is_playlist : IsPlaylist rate list items
-  pub is_catalogue : IsCatalogue rate catalogue clips
+  pub is_playlist : IsListOf rate list items
+  pub is_catalogue : IsCatalogueOf rate catalogue clips
   pub gained : Appends old new (check_text clips items)
-  pub is_playable : playable ≡ are_playable clips items
+  pub playable_is : playable ≡ are_playable clips items
 
--- a file to read: its name, and its rows
-pub data File : Type 0 where
-  file : (name : Bor (List ℕ)) (rows : List Row) → File
+-- the files are a playlist and a catalogue
+abbrev pub AreWhole : Rate → File → File → Type 0
+AreWhole rate list catalogue =
+    ((items : List Item) × IsListOf rate list items) × ((clips : List (ClipId × Timecode)) × IsCatalogueOf rate catalogue clips)
 
--- the list is refused, with this failure
+-- the list isn't read, with this failure
 abbrev pub RefusesList : Rate → File → Failure → Type 0
-RefusesList rate (file name rows) failure =
-    (fault : ListFault) × (failure ≡ file_failure name fault) × IsPlaylistFault rate rows fault
+RefusesList rate (file name bytes) failure =
+    (fault : ListFault) × (failure ≡ file_failure name fault) × IfSome bytes (λ text. IsPlaylistFault rate (rows_of text) fault)
 
-abbrev pub IsWhole : Rate → File → Type 0
-IsWhole rate (file name rows) = (items : List Item) × IsPlaylist rate rows items
-
--- the catalogue is refused, with this failure
+-- the catalogue isn't read, with this failure
 abbrev pub RefusesCatalogue : Rate → File → Failure → Type 0
-RefusesCatalogue rate (file name rows) failure =
-    (fault : ListFault) × (failure ≡ file_failure name fault) × IsCatalogueFault rate rows fault
+RefusesCatalogue rate (file name bytes) failure =
+    (fault : ListFault) × (failure ≡ file_failure name fault) × IfSome bytes (λ text. IsCatalogueFault rate (rows_of text) fault)
 
--- the list, which is read first, is refused, or else the catalogue
+-- the list, which comes first, isn't read, or else the catalogue
 abbrev pub Refuses : Rate → File → File → Failure → Type 0
 Refuses rate list catalogue failure =
-    RefusesList rate list failure ⊎ (IsWhole rate list × RefusesCatalogue rate catalogue failure)
+    RefusesList rate list failure ⊎ (((items : List Item) × IsListOf rate list items) × RefusesCatalogue rate catalogue failure)
 
--- a row of one of the files is refused: one writer is told so, and the other gained nothing
+-- a row of one of the files is refused: one writer gained the line that tells it, and the other nothing
 pub record IsRefused (rate : Rate) (list catalogue : File) (out out' err err' : Option (List ℕ)) : Type 0 where
   pub failure : Failure
   pub refused : Refuses rate list catalogue failure
-  pub of_data : status_of failure ≡ 1
+  pub of_row : status_of failure ≡ 1
   pub told : Appends err err' (failure_line failure)
   pub silent : Keeps out out'

@@ -8,7 +8,7 @@ use Rattle.vdcp_cli.specs.declared.failure.RowFault.TheVariants as rows
 use Rattle.vdcp_list.specs.declared.faults.ListFault.TheVariants as lists
 use Rattle.vdcp_list.specs.declared.faults.ListFault.{ListFault}
 
--- the exit status of a failure that was told
+-- the exit status of a failure
 abbrev pub status_of : Failure → ℕ
 status_of Hex = 1
 status_of Word = 1
@@ -27,7 +27,7 @@ row_fault_text rows.Time = codes "time"
 row_fault_text rows.Twice = codes "twice"
 row_fault_text rows.TooMany = codes "too many"
 
--- what a failure is told as
+-- what a failure is told as, but for a writer's, of which nothing is told
 abbrev pub failure_text : Failure → List ℕ
 failure_text Hex = codes "hex"
 failure_text Word = codes "word"
@@ -43,7 +43,7 @@ failure_text Writer = codes "write"
 abbrev pub failure_line : Failure → List ℕ
 failure_line failure = line (codes "vdcp: " ++ failure_text failure)
 
--- the failure that a list or a catalogue of this name is refused with
+-- why a list or a catalogue of this name isn't read
 abbrev pub file_failure : Bor (List ℕ) → ListFault → Failure
 file_failure name (lists.Columns row) = Row name row rows.Columns
 file_failure name (lists.Id row) = Row name row rows.Id

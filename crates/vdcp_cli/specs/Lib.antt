@@ -2,6 +2,7 @@ pub mod Meaning
 pub mod Text
 pub mod End
 pub mod Failure
+pub mod Files
 pub mod Show
 pub mod Make
 pub mod Check

@@ -1,4 +1,5 @@
-use Rattle.std.specs.Prelude.{ℕ, ◌≡◌, ◌⊎◌, List, [], ◌∷◌, length, codes, Option, Ok}
+use Rattle.std.specs.Prelude.{ℕ, ◌≡◌, ◌⊎◌, List, [], ◌∷◌, length, map, codes, Option, Ok}
+use Rattle.std.specs.Borrow.{Bor}
 use Rattle.std.specs.Io.KnownBytes.{Appends}
 use Rattle.hex.specs.Hex.{decode_of, encode_lower}
 use Rattle.vdcp_cli.specs.declared.failure.Failure.{Failure}
@@ -24,6 +25,10 @@ IsIdText text id = IsTextOf text (id_bytes id)
 abbrev pub IsTimeText : List ℕ → List ℕ → Type 0
 IsTimeText text time = (length time ≡ 4) × (decode_of text ≡ Ok time)
 
+-- a command's words: its name and its arguments
+abbrev pub words_of : List ℕ → List (Bor (List ℕ)) → List (List ℕ)
+words_of word arguments = word ∷ map (λ a. a.now) arguments
+
 -- the words that name each command
 abbrev pub Names : List (List ℕ) → Command → Type 0
 Names words (Open port lock) = (p l : List ℕ) × IsByteText p port × IsByteText l lock × (words ≡ codes "open" ∷ p ∷ l ∷ [])
@@ -40,8 +45,8 @@ Names words (IdRequest id) = (i : List ℕ) × IsIdText i id × (words ≡ codes
 Names words (IdSize id) = (i : List ℕ) × IsIdText i id × (words ≡ codes "size" ∷ i ∷ [])
 
 -- no command has these words
-abbrev pub NameNone : List (List ℕ) → Type 0
-NameNone words = (command : Command) → ¬ Names words command
+abbrev pub NamesNone : List (List ℕ) → Type 0
+NamesNone words = (command : Command) → ¬ Names words command
 
 -- a command has this name
 abbrev pub IsName : List ℕ → Type 0
@@ -50,11 +55,11 @@ IsName word =
     ⊎ (word ≡ codes "play") ⊎ (word ≡ codes "stop") ⊎ (word ≡ codes "status") ⊎ (word ≡ codes "active") ⊎ (word ≡ codes "exists")
     ⊎ (word ≡ codes "size")
 
--- why words are refused that name no command: no command has the first as its name, or one has
+-- why words that name no command are refused: the first is no command's name, or it is one and the others aren't its arguments
 abbrev pub IsMakeFault : List ℕ → Failure → Type 0
 IsMakeFault word failure = ((failure ≡ failures.Word) × ¬ IsName word) ⊎ ((failure ≡ failures.Arguments) × IsName word)
 
--- a writer gained, in one line, the digits of the bytes of the command that the words name, to this unit
+-- the words name a command, and a writer gained one line, the digits of the command's bytes to this unit
 pub record IsMade (words : List (List ℕ)) (unit : ℕ) (old new : Option (List ℕ)) : Type 0 where
   pub command : Command
   pub named : Names words command

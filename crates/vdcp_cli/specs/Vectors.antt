@@ -1,8 +1,10 @@
-use Rattle.std.specs.List.{flat_map}
 use Rattle.std.specs.Borrow.{Bor}
 use Rattle.std.specs.Io.KnownBytes.{Appends}
-use Rattle.std.specs.Prelude.{ℕ, suc, ◌+◌, ◌<◌, ◌==◌, ◌≤◌, ◌≡◌, ◌≢◌, ◌⊎◌, ⊤, string_bytes, if◌then◌else◌, decimal, Option, None, Some, List, [], ◌∷◌, ◌++◌, codes, length, IsErr, Ok}
+use Rattle.std.specs.Cmp.Lexicographic.{pointwise}
+use Rattle.std.specs.List.{flat_map}
+use Rattle.std.specs.Prelude.{ℕ, suc, ◌+◌, ◌<◌, ◌==◌, ◌≤◌, ◌≡◌, ◌⊎◌, nat_eq, string_bytes, if◌then◌else◌, decimal, Option, List, [], ◌∷◌, ◌++◌, codes, length, map, Result, Ok, Err}
 use Rattle.hex.specs.Hex.{decode_of}
+use Rattle.hex.specs.declared.error.FromHexError.{FromHexError}
 use Rattle.vdcp_cli.specs.Text.{end_text, line, message_text}
 use Rattle.vdcp_cli.specs.declared.failure.Failure.{Failure}
 use Rattle.vdcp_cli.specs.declared.failure.Failure.TheVariants.{Memory, Read, Row as RefusedRow}
@@ -10,26 +12,18 @@ use Rattle.vdcp_cli.specs.declared.failure.RowFault.TheVariants.{TooMany}
 use Rattle.vdcp_cli.specs.declared.vectors.Tally.{Tally}
 use Rattle.vdcp_cli.specs.declared.vectors.Verdict.{Verdict}
 use Rattle.vdcp_cli.specs.declared.vectors.Verdict.TheVariants.{Right, Other, Columns, Hex}
+use Rattle.vdcp_cli.specs.Files.{AreRowsOf}
+use Rattle.vdcp_frame.specs.Burst.{messages_of, end_of}
 use Rattle.vdcp_frame.specs.Message.{Content}
-use Rattle.vdcp_frame.specs.Reading.{End, Reads}
-use Rattle.vdcp_list.specs.Rows.{Row, most_rows, rows_of}
+use Rattle.vdcp_list.specs.Rows.{Row, most_rows}
 
--- the lines of messages, each with what joins it to the next
+-- the lines of messages, each with `; ` behind it
 abbrev pub joined_text : List Content → List ℕ
 joined_text ms = flat_map (λ m. message_text m ++ codes "; ") ms
 
--- the text is the burst's reading, its lines joined
-pub record IsJoined (burst text : List ℕ) : Type 0 where
-  pub messages : List Content
-  pub end : End
-  pub reads : Reads burst messages end
-  pub joined : text ≡ joined_text messages ++ end_text end
-
--- the text is the joined reading of the burst that the digits decode to
-pub record IsReadingOf (digits text : List ℕ) : Type 0 where
-  pub burst : List ℕ
-  pub decoded : decode_of digits ≡ Ok burst
-  pub joined : IsJoined burst text
+-- the reading of a burst as one text, its lines joined by `; `
+abbrev pub joined_reading : List ℕ → List ℕ
+joined_reading burst = joined_text (messages_of burst) ++ end_text (end_of burst)
 
 -- what a row is found to be
 pub data Finding : Type 0 where
@@ -38,33 +32,31 @@ pub data Finding : Type 0 where
   hex : Finding
   got : (reading : List ℕ) → Finding
 
+-- what a burst with this reading is found to be, where this one is expected
+abbrev pub finding_of_reading : List ℕ → List ℕ → Finding
+finding_of_reading reading expected = if pointwise nat_eq reading expected then right else got reading
+
+-- what a burst, where its digits are those of one, is found to be
+abbrev pub finding_of_burst : Result (List ℕ) FromHexError → List ℕ → Finding
+finding_of_burst (Ok burst) expected = finding_of_reading (joined_reading burst) expected
+finding_of_burst (Err fault) expected = hex
+
+-- what a row is found to be: its fields are counted first
+abbrev pub finding_of_row : Row → Finding
+finding_of_row [] = columns
+finding_of_row (digits ∷ []) = columns
+finding_of_row (digits ∷ expected ∷ []) = finding_of_burst (decode_of digits) expected
+finding_of_row (digits ∷ expected ∷ third ∷ rest) = columns
+
+abbrev pub findings_of : List Row → List Finding
+findings_of rows = map finding_of_row rows
+
 -- the finding that a value of the code stands for
 abbrev pub finding_of : Verdict → Finding
 finding_of Right = right
 finding_of Columns = columns
 finding_of Hex = hex
 finding_of (Other reading) = got reading.now
-
--- what a row of a burst's digits and an expected reading is found to be
-abbrev pub IsFoundOf : List ℕ → List ℕ → Finding → Type 0
-IsFoundOf digits expected right = IsReadingOf digits expected
-IsFoundOf digits expected columns = ⊥
-IsFoundOf digits expected hex = IsErr (decode_of digits)
-IsFoundOf digits expected (got reading) = IsReadingOf digits reading × (reading ≢ expected)
-
--- what a row is found to be: its fields are counted first
-abbrev pub IsFound : Row → Finding → Type 0
-IsFound [] finding = finding ≡ columns
-IsFound (digits ∷ []) finding = finding ≡ columns
-IsFound (digits ∷ expected ∷ []) finding = IsFoundOf digits expected finding
-IsFound (digits ∷ expected ∷ third ∷ rest) finding = finding ≡ columns
-
--- what the rows are found to be, each in its turn
-abbrev pub AreFound : List Row → List Finding → Type 0
-AreFound [] [] = ⊤
-AreFound [] (finding ∷ findings) = ⊥
-AreFound (row ∷ rows) [] = ⊥
-AreFound (row ∷ rows) (finding ∷ findings) = IsFound row finding × AreFound rows findings
 
 -- the line of row k, if it isn't right
 abbrev pub finding_text : ℕ → Finding → List ℕ
@@ -93,26 +85,19 @@ count_text rows bad =
     then codes "vectors " ++ decimal rows ++ codes " ok"
     else codes "vectors " ++ decimal rows ++ codes " bad " ++ decimal bad
 
--- what a test of rows prints that are found to be these
+-- what is printed of rows that are found to be these
 abbrev pub vectors_text : List Finding → List ℕ
 vectors_text findings = findings_text 1 findings ++ line (count_text (length findings) (bad_count findings))
 
--- the rows are those of a file, where its bytes are known
-abbrev pub AreRowsOf : Option (List ℕ) → List Row → Type 0
-AreRowsOf None rows = ⊤
-AreRowsOf (Some bytes) rows = rows ≡ rows_of bytes
-
--- a writer gained what a test of a file's rows prints, of which so many are bad
+-- a file's rows were tested: a writer gained what is printed of them, and so many are bad
 pub record AreTested (file old new : Option (List ℕ)) (bad : ℕ) : Type 0 where
   pub rows : List Row
   pub are_rows : AreRowsOf file rows
   pub few : length rows ≤ most_rows
-  pub findings : List Finding
-  pub found : AreFound rows findings
-  pub gained : Appends old new (vectors_text findings)
-  pub bad_are : bad ≡ bad_count findings
+  pub gained : Appends old new (vectors_text (findings_of rows))
+  pub bad_are : bad ≡ bad_count (findings_of rows)
 
--- the tally of rows found to be these
+-- the tally of rows that are found to be these
 pub record IsTally (findings : List Finding) (tally : Tally) : Type 0 where
   pub rows_are : tally.rows ≡ length findings
   pub bad_are : tally.bad ≡ bad_count findings
@@ -123,17 +108,15 @@ pub record IsTallyOf (file : Option (List ℕ)) (tally : Tally) : Type 0 where
   pub rows : List Row
   pub are_rows : AreRowsOf file rows
   pub few : length rows ≤ most_rows
-  pub findings : List Finding
-  pub found : AreFound rows findings
-  pub tallied : IsTally findings tally
+  pub tallied : IsTally (findings_of rows) tally
 
--- a file has more rows than a vector file may have
+-- a file has more rows than may be tested
 pub record HasTooMany (file : Option (List ℕ)) : Type 0 where
   pub rows : List Row
   pub are_rows : AreRowsOf file rows
   pub many : most_rows < length rows
 
--- the failure of a file of this name that has too many
+-- the failure of a file of this name that has more
 abbrev pub too_many : Bor (List ℕ) → Failure
 too_many name = RefusedRow name (most_rows + 1) TooMany
 

@@ -1,7 +1,8 @@
 ghost use Rattle.std.specs.Io.KnownBytes.{Appends, Keeps};
-ghost use Rattle.std.specs.Prelude.{◌≡◌, ◌⊎◌, ◌<◌, IfErr, IfOk, IfSome, OnOk, false, length, true};
-ghost use Rattle.vdcp_cli.specs.Check.{IsChecked, IsRefused, Refuses, file, are_playable, check_text, event_text, events_text, fault_of};
-ghost use Rattle.vdcp_list.specs.Rows.{rows_of};
+ghost use Rattle.std.specs.Prelude.{◌≡◌, ◌≢◌, ◌⊎◌, ◌<◌, IfErr, IfOk, IfSome, OnOk, false, length, true};
+ghost use Rattle.vdcp_cli.specs.Check.{AreWhole, IsChecked, IsRefused, Refuses, are_playable, check_text, event_text, events_text, fault_of};
+ghost use Rattle.vdcp_cli.specs.Failure.{status_of};
+ghost use Rattle.vdcp_cli.specs.Files.{file};
 
 use crate::failure::Failure;
 use crate::input::Input;
@@ -29,15 +30,17 @@ pub fn do_check<L: io::Read + Drop, C: io::Read + Drop, W: io::Write, E: io::Wri
     out: &mut W,
     err: &mut E,
 ) -> u8
-    ensures playable { result ≡ 0 → IfSome (L.remaining list.entry.reader) (λ l. IfSome (C.remaining catalogue.entry.reader) (λ c.
-        IsChecked rate (rows_of l) (rows_of c) (W.contents out.old) (W.contents out.new) true)) }
+    ensures playable { result ≡ 0 → IsChecked rate (file list.entry.name (L.remaining list.entry.reader)) (file catalogue.entry.name (C.remaining catalogue.entry.reader))
+        (W.contents out.old) (W.contents out.new) true }
     ensures untold { result ≡ 0 → Keeps (E.contents err.old) (E.contents err.new) }
     // The status is 1 for what isn't playable, and for a row that is refused.
-    ensures others { result ≡ 1 → IfSome (L.remaining list.entry.reader) (λ l. IfSome (C.remaining catalogue.entry.reader) (λ c.
-        (Keeps (E.contents err.old) (E.contents err.new)
-            × IsChecked rate (rows_of l) (rows_of c) (W.contents out.old) (W.contents out.new) false)
-        ⊎ IsRefused rate (file list.entry.name (rows_of l)) (file catalogue.entry.name (rows_of c))
-            (W.contents out.old) (W.contents out.new) (E.contents err.old) (E.contents err.new))) }
+    ensures others { result ≡ 1 →
+        (IsChecked rate (file list.entry.name (L.remaining list.entry.reader)) (file catalogue.entry.name (C.remaining catalogue.entry.reader))
+            (W.contents out.old) (W.contents out.new) false × Keeps (E.contents err.old) (E.contents err.new))
+        ⊎ IsRefused rate (file list.entry.name (L.remaining list.entry.reader)) (file catalogue.entry.name (C.remaining catalogue.entry.reader))
+            (W.contents out.old) (W.contents out.new) (E.contents err.old) (E.contents err.new) }
+    ensures silent { Keeps (W.contents out.old) (W.contents out.new)
+        ⊎ AreWhole rate (file list.entry.name (L.remaining list.entry.reader)) (file catalogue.entry.name (C.remaining catalogue.entry.reader)) }
     ensures statuses { (result < 2) ⊎ (result ≡ 3) }
 {
     match check(alloc, list, catalogue, rate, out) {
@@ -55,11 +58,13 @@ fn check<'a, L: io::Read + Drop, C: io::Read + Drop, W: io::Write>(
     rate: Rate,
     out: &mut W,
 ) -> Result<bool, Failure<'a>>
-    ensures checked { IfOk result (λ playable. IfSome (L.remaining list.entry.reader) (λ l. IfSome (C.remaining catalogue.entry.reader) (λ c.
-        IsChecked rate (rows_of l) (rows_of c) (W.contents out.old) (W.contents out.new) playable))) }
-    ensures refused { IfErr result (λ e. IfSome (L.remaining list.entry.reader) (λ l. IfSome (C.remaining catalogue.entry.reader) (λ c.
-        (e ≡ Failure.Writer) ⊎ Refuses rate (file list.entry.name (rows_of l)) (file catalogue.entry.name (rows_of c)) e))) }
-    ensures silent { IfErr result (λ e. (e ≡ Failure.Writer) ⊎ Keeps (W.contents out.old) (W.contents out.new)) }
+    ensures checked { IfOk result (IsChecked rate (file list.entry.name (L.remaining list.entry.reader)) (file catalogue.entry.name (C.remaining catalogue.entry.reader))
+        (W.contents out.old) (W.contents out.new)) }
+    ensures refused { IfErr result (λ e. (e ≡ Failure.Writer)
+        ⊎ (Refuses rate (file list.entry.name (L.remaining list.entry.reader)) (file catalogue.entry.name (C.remaining catalogue.entry.reader)) e × Keeps (W.contents out.old) (W.contents out.new))) }
+    ensures silent { Keeps (W.contents out.old) (W.contents out.new)
+        ⊎ AreWhole rate (file list.entry.name (L.remaining list.entry.reader)) (file catalogue.entry.name (C.remaining catalogue.entry.reader)) }
+    ensures statuses { IfErr result (λ e. status_of e ≢ 2) }
 {
     let events = match read_list(alloc, list.reader, rate) {
         Ok(events) => events,

@@ -1,4 +1,4 @@
-ghost use Rattle.std.specs.Io.KnownBytes.{Appends};
+ghost use Rattle.std.specs.Io.KnownBytes.{Appends, Keeps};
 ghost use Rattle.std.specs.Prelude.{◌≡◌, ◌⊎◌, ◌<◌};
 
 use std::alloc::AllocError;
@@ -52,6 +52,7 @@ impl<'a> Failure<'a> {
     pub fn report<E: io::Write>(self, err: &mut E) -> u8
         ensures status { (result ≡ status_of self.entry) ⊎ (result ≡ 3) }
         ensures told { result < 3 → Appends (E.contents err.old) (E.contents err.new) (failure_line self.entry) }
+        ensures quiet { self.entry ≡ Failure.Writer → Keeps (E.contents err.old) (E.contents err.new) }
     {
         if let Failure::Writer = self {
             return 3;
@@ -62,7 +63,7 @@ impl<'a> Failure<'a> {
         }
     }
 
-    // The exit status of a failure that was told.
+    // The exit status.
     fn status(self) -> u8
         ensures { result ≡ status_of self.entry }
     {

@@ -1,11 +1,12 @@
-ghost use Rattle.std.specs.Prelude.{◌≡◌, ◌≢◌, ◌⊎◌, ◌<◌, ◌≤◌, [], ◌∷◌, ℕ, List, codes, map, IfOk, IfErr, OnErr, OnOk, length};
+ghost use Rattle.std.specs.Prelude.{◌≡◌, ◌≢◌, ◌⊎◌, ◌<◌, ◌≤◌, [], ◌∷◌, ℕ, List, codes, IfOk, IfErr, OnErr, OnOk, length};
 ghost use Rattle.std.specs.Io.KnownBytes.{Appends, Keeps};
 ghost use Rattle.hex.specs.Hex.{encode_lower};
 ghost use Rattle.vdcp_cli.specs.Failure.{failure_line};
-ghost use Rattle.vdcp_cli.specs.Make.{IsByteText, IsIdText, IsMade, IsMakeFault, IsTimeText, NameNone, Names};
+ghost use Rattle.vdcp_cli.specs.Make.{IsByteText, IsIdText, IsMade, IsMakeFault, IsTimeText, NamesNone, Names, words_of};
 ghost use Rattle.vdcp_cli.specs.Text.{line};
 ghost use Rattle.vdcp_cli.specs.declared.failure.Failure.{Failure};
 ghost use Rattle.vdcp_value.specs.declared.clip_id.ClipId.{ClipId};
+ghost use Rattle.vdcp_words.specs.declared.command.Command.{Command};
 
 use crate::failure::Failure;
 use crate::text::HexText;
@@ -29,13 +30,14 @@ pub fn do_make<W: io::Write, E: io::Write>(
     err: &mut E,
 ) -> u8
     requires { unit ≤ 15 }
-    ensures made { result ≡ 0 → IsMade (word.now ∷ map (λ a. a.now) arguments.now) unit
+    ensures made { result ≡ 0 → IsMade (words_of word.now arguments.now) unit
         (W.contents out.old) (W.contents out.new) }
-    ensures untold { result ≡ 0 → Keeps (E.contents err.old) (E.contents err.new) }
-    ensures unnamed { result ≡ 1 → NameNone (word.now ∷ map (λ a. a.now) arguments.now) }
+    ensures unnamed { result ≡ 1 → NamesNone (words_of word.now arguments.now) }
     ensures told { result ≡ 1 → (failure : Failure) × IsMakeFault word.now failure
         × Appends (E.contents err.old) (E.contents err.new) (failure_line failure) }
-    ensures silent { result ≡ 1 → Keeps (W.contents out.old) (W.contents out.new) }
+    ensures silent { NamesNone (words_of word.now arguments.now) → Keeps (W.contents out.old) (W.contents out.new) }
+    ensures untold { (command : Command) → Names (words_of word.now arguments.now) command →
+        Keeps (E.contents err.old) (E.contents err.new) }
     ensures statuses { (result < 2) ⊎ (result ≡ 3) }
 {
     match make(word, arguments, unit, out) {
@@ -52,10 +54,10 @@ fn make<W: io::Write>(
     out: &mut W,
 ) -> Result<(), Failure<'static>>
     requires { unit ≤ 15 }
-    ensures made { OnOk result (IsMade (word.now ∷ map (λ a. a.now) arguments.now) unit
+    ensures made { OnOk result (IsMade (words_of word.now arguments.now) unit
         (W.contents out.old) (W.contents out.new)) }
-    ensures refused { IfErr result (λ e. (e ≡ Failure.Writer)
-        ⊎ (NameNone (word.now ∷ map (λ a. a.now) arguments.now) × IsMakeFault word.now e
+    ensures refused { IfErr result (λ e. ((e ≡ Failure.Writer) × (command : Command) × Names (words_of word.now arguments.now) command)
+        ⊎ (NamesNone (words_of word.now arguments.now) × IsMakeFault word.now e
             × Keeps (W.contents out.old) (W.contents out.new))) }
 {
     let command = command_of(word, arguments)?;
@@ -76,8 +78,8 @@ fn write_digits<W: io::Write>(out: &mut W, bytes: &[u8]) -> io::Result<()>
 
 // The command that the words name.
 fn command_of(word: &str, arguments: &[&str]) -> Result<Command, Failure<'static>>
-    ensures ok { IfOk result (Names (word.now ∷ map (λ a. a.now) arguments.now)) }
-    ensures unnamed { OnErr result (NameNone (word.now ∷ map (λ a. a.now) arguments.now)) }
+    ensures ok { IfOk result (Names (words_of word.now arguments.now)) }
+    ensures unnamed { OnErr result (NamesNone (words_of word.now arguments.now)) }
     ensures err { IfErr result (IsMakeFault word.now) }
 {
     match word {
@@ -103,8 +105,8 @@ fn command_of(word: &str, arguments: &[&str]) -> Result<Command, Failure<'static
 
 // The CUE WITH DATA of an ID and two time codes.
 fn cue_data(arguments: &[&str]) -> Result<Command, Failure<'static>>
-    ensures ok { IfOk result (Names (codes "cue-data" ∷ map (λ a. a.now) arguments.now)) }
-    ensures unnamed { OnErr result (NameNone (codes "cue-data" ∷ map (λ a. a.now) arguments.now)) }
+    ensures ok { IfOk result (Names (words_of (codes "cue-data") arguments.now)) }
+    ensures unnamed { OnErr result (NamesNone (words_of (codes "cue-data") arguments.now)) }
     ensures err { IfErr result (λ e. e ≡ Failure.Arguments) }
 {
     match arguments {

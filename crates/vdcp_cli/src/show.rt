@@ -1,9 +1,10 @@
-ghost use Rattle.std.specs.Prelude.{◌≡◌, ◌⊎◌, ◌<◌, List, IfOk, IfErr, OnErr, IsErr, IsOkAnd};
+ghost use Rattle.std.specs.Prelude.{◌≡◌, ◌⊎◌, ◌<◌, List, IfOk, IfErr, OnErr, OnOk, IsErr, IsOkAnd};
 ghost use Rattle.std.specs.Io.KnownBytes.{Appends, Keeps};
 ghost use Rattle.hex.specs.Hex.{decode_of};
 ghost use Rattle.vdcp_frame.specs.Message.{Content};
 ghost use Rattle.vdcp_frame.specs.Reading.{Reads};
 ghost use Rattle.vdcp_cli.specs.End.{end_of};
+ghost use Rattle.vdcp_cli.specs.Failure.{failure_line};
 ghost use Rattle.vdcp_cli.specs.Text.{messages_text};
 ghost use Rattle.vdcp_cli.specs.Show.{GainsReading, IsShown};
 
@@ -32,6 +33,8 @@ pub fn do_show<A: Allocator, W: io::Write, E: io::Write>(
         IsShown words burst (W.contents out.old) (W.contents out.new) result) }
     ensures silent { OnErr (decode_of hex.now) (Keeps (W.contents out.old) (W.contents out.new)) }
     ensures refused { OnErr (decode_of hex.now) ((result ≡ 1) ⊎ (result ≡ 3)) }
+    ensures told { OnErr (decode_of hex.now) (result ≡ 1 → Appends (E.contents err.old) (E.contents err.new) (failure_line Failure.Hex)) }
+    ensures untold { OnOk (decode_of hex.now) (result < 2 → Keeps (E.contents err.old) (E.contents err.new)) }
     ensures statuses { (result < 2) ⊎ (result ≡ 3) }
 {
     match show(alloc, hex, words, out) {

@@ -1,11 +1,13 @@
 ghost use Rattle.csv.specs.Records.{fields_of};
+ghost use Rattle.hex.specs.Hex.{decode_of};
 ghost use Rattle.std.specs.Io.KnownBytes.{Appends, Keeps};
 ghost use Rattle.std.specs.Prelude.{◌≡◌, ◌⊎◌, ◌<◌, ◌≤◌, ℕ, ◌≢◌, ◌++◌, ◌∷◌, [], IfErr, IfNone, IfOk, IfSome, List, OnOk, length, string_bytes};
 ghost use Rattle.vdcp_cli.specs.End.{end_of};
 ghost use Rattle.vdcp_cli.specs.Failure.{failure_line};
-ghost use Rattle.vdcp_cli.specs.Vectors.{AreTested, Finding, HasTooMany, IsFound, IsFoundOf, IsJoined, IsTally, IsTallyOf, IsUntested, bad_count, finding_of, finding_text, joined_text, too_many, vectors_text};
+ghost use Rattle.vdcp_cli.specs.Vectors.{AreTested, Finding, HasTooMany, IsTally, IsTallyOf, IsUntested, bad_count, finding_of, finding_of_burst, finding_of_row, finding_text, joined_reading, joined_text, too_many, vectors_text};
 ghost use Rattle.vdcp_frame.specs.Message.{Content};
 ghost use Rattle.vdcp_frame.specs.Reading.{Reads};
+ghost use Rattle.vdcp_list.specs.Rows.{most_rows, rows_of};
 
 use crate::failure::{Failure, RowFault};
 use crate::input::Input;
@@ -42,6 +44,8 @@ pub fn do_vectors<R: io::Read + Drop, W: io::Write, E: io::Write>(
             × (bad : ℕ) × (0 < bad) × AreTested (R.remaining file.entry.reader) (W.contents out.old) (W.contents out.new) bad)
         ⊎ (HasTooMany (R.remaining file.entry.reader) × Keeps (W.contents out.old) (W.contents out.new)
             × Appends (E.contents err.old) (E.contents err.new) (failure_line (too_many file.entry.name))) }
+    ensures silent { Keeps (W.contents out.old) (W.contents out.new)
+        ⊎ IfSome (R.remaining file.entry.reader) (λ bytes. length (rows_of bytes) ≤ most_rows) }
     ensures statuses { (result < 2) ⊎ (result ≡ 3) }
 {
     match vectors(alloc, file, out) {
@@ -60,6 +64,8 @@ fn vectors<'a, R: io::Read + Drop, W: io::Write>(
     ensures tested { IfOk result (AreTested (R.remaining file.entry.reader) (W.contents out.old) (W.contents out.new)) }
     ensures refused { IfErr result (λ e. (e ≡ Failure.Writer)
         ⊎ (IsUntested file.entry.name (R.remaining file.entry.reader) e × Keeps (W.contents out.old) (W.contents out.new))) }
+    ensures silent { Keeps (W.contents out.old) (W.contents out.new)
+        ⊎ IfSome (R.remaining file.entry.reader) (λ bytes. length (rows_of bytes) ≤ most_rows) }
 {
     let tally = test_rows(alloc, file)?;
     tally.write(out).map_err(|_| Failure::Writer)
@@ -120,7 +126,7 @@ fn test_row<'a>(
     row: &ByteRecord,
     reading: &'a mut String,
 ) -> Result<Verdict<'a>, AllocError>
-    ensures { IfOk result (λ verdict. IsFound (fields_of row.now) (finding_of verdict)) }
+    ensures { IfOk result (λ verdict. finding_of verdict ≡ finding_of_row (fields_of row.now)) }
 {
     match two_fields(row) {
         Some((digits, expected)) => test_burst(alloc, digits, expected, reading),
@@ -146,7 +152,7 @@ fn test_burst<'a>(
     expected: &[u8],
     reading: &'a mut String,
 ) -> Result<Verdict<'a>, AllocError>
-    ensures { IfOk result (λ verdict. IsFoundOf digits.now expected.now (finding_of verdict)) }
+    ensures { IfOk result (λ verdict. finding_of verdict ≡ finding_of_burst (decode_of digits.now) expected.now) }
 {
     let burst = match hex::decode(alloc, digits) {
         Ok(burst) => burst,
@@ -163,7 +169,7 @@ fn test_burst<'a>(
 
 // Writes a burst's reading, its lines joined, in place of the text.
 fn show_reading(burst: &[u8], text: &mut String) -> Result<(), AllocError>
-    ensures { OnOk result (IsJoined burst.now (string_bytes text.new)) }
+    ensures { OnOk result (string_bytes text.new ≡ joined_reading burst.now) }
 {
     let end = show_messages(burst, text)?;
     write!(text, "{end}")
