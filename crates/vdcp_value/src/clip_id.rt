@@ -56,7 +56,15 @@ impl ClipId {
         ensures accepts { (id : ClipId) → IsTextOf text.now (id_bytes id) → result ≡ Ok id }
         ensures refused { IfErr result (IsIdFault text.now) }
     {
-        let text = text.as_bytes();
+        ClipId::parse_ascii(text.as_bytes())
+    }
+
+    /// `parse`, of a text in bytes of which nothing is known: only ASCII is in an ID's text.
+    pub fn parse_ascii(text: &[u8]) -> Result<ClipId, IdFault>
+        ensures read { IfOk result (λ id. IsTextOf text.now (id_bytes id)) }
+        ensures accepts { (id : ClipId) → IsTextOf text.now (id_bytes id) → result ≡ Ok id }
+        ensures refused { IfErr result (IsIdFault text.now) }
+    {
         if text.is_empty() {
             Err(IdFault::Empty)
         } else if is_hex_long(text) {
