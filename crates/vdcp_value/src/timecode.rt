@@ -100,7 +100,7 @@ impl Timecode {
         Timecode::parse_ascii(rate, text.as_bytes())
     }
 
-    /// `parse`, of a text in bytes of which nothing is known: only ASCII is in a time code's text.
+    /// Reads a text in bytes, refused as `parse` does. A byte that isn't ASCII is in no time code's text.
     pub fn parse_ascii(rate: Rate, text: &[u8]) -> Result<Timecode, TcFault>
         ensures same_rate { IfOk result (λ timecode. rate_of timecode ≡ rate) }
         ensures read { IfOk result (λ timecode. text_of timecode ≡ text.now) }
