@@ -1,8 +1,8 @@
-use Rattle.std.proofs.Common.{◌≡◌, false, sym, ap, ◌∙◌, length, arith, None, rules}
+use Rattle.std.proofs.Common.{◌≡◌, sym, ap, ◌∙◌, length, arith, None, rules}
 use Rattle.std.proofs.lemmas.Grind.{common_steps}
 use Rattle.std.specs.BTreeMap.{get}
 use Rattle.std.specs.Ordering.{nat_cmp}
-use Rattle.std.specs.Prelude.{◌++◌, ◌∷◌, [], is_some, ℕ}
+use Rattle.std.specs.Prelude.{◌++◌, ◌∷◌, [], is_some}
 use Rattle.vdcp_list.proofs.ClipPlaces.{known, no_length, places_push}
 use Rattle.vdcp_list.proofs.table.Table.add.Goals as goal
 use Rattle.vdcp_list.specs.Places.{place_of}
