@@ -1,6 +1,7 @@
 use Rattle.std.proofs.Common.{◌≡◌, ℕ, ◌<◌, Bool, true, false, List, [], ◌∷◌, ◌++◌, length, refl, sym, ap, ◌∙◌, arith, zero, suc, get_or, true≢false, cond, nat_lt, nat_eq}
 use Rattle.std.proofs.lemmas.Nat.{be_bytes_8}
-use Rattle.std.specs.BTreeMap.{BTreeMap, Updates, get, is_at}
+use Rattle.std.specs.BTreeMap.{BTreeMap, get, is_at}
+use Rattle.std.specs.Map.{lookup}
 use Rattle.std.specs.Ordering.{nat_cmp}
 use Rattle.std.specs.Cmp.Lexicographic.{on_texts_equal}
 use Rattle.std.specs.Cmp.{IsEquivalence}
@@ -143,17 +144,21 @@ at_equal a b e = grind arith
 equal_at : (a b : ℕ) → a ≡ b → is_at (nat_cmp a) b ≡ true
 equal_at a b e = grind arith
 
--- the places after one more clip
-pub places_push : (clips : List (ClipId × Timecode)) (clip : ClipId × Timecode) (m n : BTreeMap ℕ ℕ) (key place : ℕ)
+-- the places after one more clip, in the entries that a map has once they are written
+pub places_push : (clips : List (ClipId × Timecode)) (clip : ClipId × Timecode) (m : BTreeMap ℕ ℕ) (written entries : List (ℕ × ℕ)) (key place : ℕ)
     → ((id : ClipId) → get nat_cmp m (key_of id) ≡ place_of clips id) → key ≡ key_of clip.0 → place ≡ length clips → place_of clips clip.0 ≡ None
-    → Updates nat_cmp m n key (Some place)
-    → (id : ClipId) → get nat_cmp n (key_of id) ≡ place_of (clips ++ clip ∷ []) id
-places_push clips clip m n key place were is size new updates id = push_at (is_at (nat_cmp key) (key_of id)) refl
+    → ((other : ℕ) → lookup (is_at (nat_cmp other)) written ≡ cond (is_at (nat_cmp key) other) (Some place) (get nat_cmp m other))
+    → entries ≡ written
+    → (id : ClipId) → lookup (is_at (nat_cmp (key_of id))) entries ≡ place_of (clips ++ clip ∷ []) id
+places_push clips clip m written entries key place were is size new updates same id = push_at (is_at (nat_cmp key) (key_of id)) refl
   where
-    push_at : (b : Bool) → is_at (nat_cmp key) (key_of id) ≡ b → get nat_cmp n (key_of id) ≡ place_of (clips ++ clip ∷ []) id
+    here : lookup (is_at (nat_cmp (key_of id))) entries ≡ cond (is_at (nat_cmp key) (key_of id)) (Some place) (get nat_cmp m (key_of id))
+    here = ap (lookup (is_at (nat_cmp (key_of id)))) same ∙ updates (key_of id)
+
+    push_at : (b : Bool) → is_at (nat_cmp key) (key_of id) ≡ b → lookup (is_at (nat_cmp (key_of id))) entries ≡ place_of (clips ++ clip ∷ []) id
     push_at true e =
         let same : id ≡ clip.0 = one_key id clip.0 (sym (at_equal key (key_of id) e) ∙ is) in
-        updates.0 (key_of id) ∙ rw e (ap Some size) ∙ sym (place_of-push_same clips clip id new same)
+        here ∙ rw e (ap Some size) ∙ sym (place_of-push_same clips clip id new same)
     push_at false e =
         let other : id ≢ clip.0 = λ same. true≢false (sym (equal_at key (key_of id) (is ∙ ap key_of (sym same))) ∙ e) in
-        updates.0 (key_of id) ∙ rw e (were id) ∙ sym (place_of-push_other clips clip id other)
+        here ∙ rw e (were id) ∙ sym (place_of-push_other clips clip id other)

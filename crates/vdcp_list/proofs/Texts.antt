@@ -1,7 +1,8 @@
 use Rattle.std.proofs.Common.{◌≡◌, ℕ, ◌+◌, ◌*◌, ◌/◌, ◌%◌, ◌<◌, ◌≤◌, Bool, true, false, List, [], ◌∷◌, length, drop, inl, inr, refl, sym, ap, ap₂, subst, ◌∙◌, arith, zero, suc, nat_lt, true≢false, if◌then◌else◌}
 use Rattle.std.proofs.lemmas.Str.{IsUtf8-from_ascii}
 use Rattle.std.specs.List.{flat_map, list_all}
-use Rattle.std.specs.Prelude.{IsAscii, IsUtf8}
+use Rattle.std.specs.Prelude.{Err, IsAscii, IsUtf8, Ok, Result}
+use Rattle.std.specs.Result.{IsOk, MatchResult}
 use Rattle.vdcp_list.specs.Ids.{bytes_of_digits, bytes_of_text, digit_number, id_if, id_of_text}
 use Rattle.vdcp_value.proofs.Bytes.{length_of_bytes, both_hold}
 use Rattle.vdcp_value.proofs.HexForm.{all_below, all_below_of, hex_form_long, pairs_are_hex}
@@ -84,3 +85,8 @@ ascii_id id = ascii_text (text_of_id id) (id_bytes id) id.eight (text_of_id_is i
 
 pub utf8_id : (id : ClipId) → IsUtf8 (text_of_id id)
 utf8_id id = IsUtf8-from_ascii (text_of_id id) (ascii_id id)
+
+-- a value, where an error can't be
+pub ok_unless : {X Y : Type 0} (r : Result X Y) (P : X → Type 0) (Q : Y → Type 0) → MatchResult r P Q → ((error : Y) → ¬ Q error) → IsOk r
+ok_unless (Ok value) P Q m none = refl
+ok_unless (Err error) P Q m none = absurd (none error m)

@@ -23,7 +23,7 @@ fn clip_in(row: &ByteRecord, rate: Rate, place: usize) -> Result<(ClipId, Timeco
     if row.len() != 2 {
         return Err(ListFault::Columns(place));
     }
-    let Some((id, _)) = first_id(row) else {
+    let Some(id) = first_id(row) else {
         return Err(ListFault::Id(place));
     };
     let Some(length) = last_length(row, rate) else {

@@ -17,22 +17,26 @@ pub(crate) fn field_at(row: &ByteRecord, place: usize) -> Option<&[u8]>
     row.get(place)
 }
 
-/// The ID in a row's first field, with its text.
-pub(crate) fn first_id(row: &ByteRecord) -> Option<(ClipId, &str)>
-    ensures some { IfSome result (λ read. slice_get (fields_of row.now) 0 ≡ Some (text_of_id read.0)) }
-    ensures text { IfSome result (λ read. read.1.now ≡ text_of_id read.0) }
+/// The ID in a row's first field.
+pub(crate) fn first_id(row: &ByteRecord) -> Option<ClipId>
+    ensures some { IfSome result (λ id. slice_get (fields_of row.now) 0 ≡ Some (text_of_id id)) }
     ensures none { IfNone result (¬ HasId (fields_of row.now)) }
 {
     let Some(field) = field_at(row, 0) else {
         return None;
     };
-    let Ok(text) = str::from_utf8(field) else {
-        return None;
-    };
-    match ClipId::parse(text) {
-        Ok(id) => Some((id, text)),
+    match ClipId::parse_ascii(field) {
+        Ok(id) => Some(id),
         Err(_) => None,
     }
+}
+
+/// The text of the ID in a row's first field.
+pub(crate) fn id_text(row: &ByteRecord) -> &str
+    requires { HasId (fields_of row.now) }
+    ensures { slice_get (fields_of row.now) 0 ≡ Some result.now }
+{
+    str::from_utf8(field_at(row, 0).unwrap()).unwrap()
 }
 
 /// The time code whose text a field is.
@@ -41,10 +45,7 @@ pub(crate) fn time_in(field: &[u8], rate: Rate) -> Option<Timecode>
     ensures some { IfSome result (λ time. field.now ≡ text_of time) }
     ensures none { IfNone result ((time : Timecode) → rate_of time ≡ rate → field.now ≢ text_of time) }
 {
-    let Ok(text) = str::from_utf8(field) else {
-        return None;
-    };
-    match Timecode::parse(rate, text) {
+    match Timecode::parse_ascii(rate, field) {
         Ok(time) => Some(time),
         Err(_) => None,
     }

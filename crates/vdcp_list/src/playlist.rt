@@ -1,5 +1,5 @@
 ghost use Rattle.csv.specs.Records.{fields_of};
-ghost use Rattle.std.specs.Prelude.{◌≡◌, ◌≢◌, [], ◌∷◌, drop, length, true, IfErr, IfNone, IfOk, IfSome, IsTrue, Option};
+ghost use Rattle.std.specs.Prelude.{◌≡◌, ◌≢◌, [], ◌∷◌, drop, length, true, IfErr, IfNone, IfOk, IfSome, IsTrue, Option, Some, slice_get};
 ghost use Rattle.vdcp_list.specs.Playlists.{CanName, IsItemFault, IsPlaylist, IsPlaylistFault, has_parts, is_of_columns, item_row, part_fields};
 ghost use Rattle.vdcp_list.specs.List.{items_of};
 ghost use Rattle.vdcp_list.specs.Rows.{rows_of};
@@ -7,7 +7,7 @@ ghost use Rattle.vdcp_value.specs.Ids.{text_of_id};
 ghost use Rattle.vdcp_value.specs.declared.part.Part.{Part};
 
 use crate::faults::ListFault;
-use crate::fields::{field_at, first_id, time_in};
+use crate::fields::{field_at, first_id, id_text, time_in};
 use crate::list::List;
 use crate::rows::{MAX_ROWS, next_row, rows_in};
 use csv::ByteRecord;
@@ -15,29 +15,24 @@ use std::alloc::Global;
 use std::io::Read;
 use vdcp_value::{Item, Part, Rate};
 
-/// The item of a playlist's row, with the text of its ID.
-fn item_in(
-    row: &ByteRecord,
-    columns: usize,
-    rate: Rate,
-    place: usize,
-) -> Result<(Item, &str), ListFault>
-    ensures row { IfOk result (λ read. item_row rate (has_parts columns) read.0 ≡ fields_of row.now) }
-    ensures can_name { IfOk result (λ read. CanName rate (has_parts columns) read.0.part) }
-    ensures text { IfOk result (λ read. read.1.now ≡ text_of_id read.0.id) }
+/// The item of a playlist's row.
+fn item_in(row: &ByteRecord, columns: usize, rate: Rate, place: usize) -> Result<Item, ListFault>
+    ensures row { IfOk result (λ item. item_row rate (has_parts columns) item ≡ fields_of row.now) }
+    ensures can_name { IfOk result (λ item. CanName rate (has_parts columns) item.part) }
+    ensures id { IfOk result (λ item. slice_get (fields_of row.now) 0 ≡ Some (text_of_id item.id)) }
     ensures fault { IfErr result (IsItemFault rate columns (fields_of row.now) place) }
 {
     if row.len() != columns || columns != 1 && columns != 3 {
         return Err(ListFault::Columns(place));
     }
-    let Some((id, text)) = first_id(row) else {
+    let Some(id) = first_id(row) else {
         return Err(ListFault::Id(place));
     };
     if columns == 1 {
-        return Ok((Item { id, part: None }, text));
+        return Ok(Item { id, part: None });
     }
     match last_part(row, rate) {
-        Some(part) => Ok((Item { id, part }, text)),
+        Some(part) => Ok(Item { id, part }),
         None => Err(ListFault::Time(place)),
     }
 }
@@ -99,8 +94,8 @@ pub fn read_list<R: Read + Drop>(alloc: Global, reader: R, rate: Rate) -> Result
         if read == 0 {
             columns = row.len();
         }
-        let (item, text) = item_in(&row, columns, rate, read + 1)?;
-        if list.push(item, text).is_err() {
+        let item = item_in(&row, columns, rate, read + 1)?;
+        if list.push(item, id_text(&row)).is_err() {
             return Err(ListFault::Memory);
         }
     }

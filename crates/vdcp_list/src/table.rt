@@ -4,6 +4,7 @@ ghost use Rattle.vdcp_port.specs.Clips.{length_of};
 
 use std::alloc::{AllocError, Global};
 use std::collections::BTreeMap;
+use std::collections::btree_map::Entry;
 use std::marker::Model;
 use vdcp_port::Catalogue;
 use vdcp_value::{ClipId, Timecode};
@@ -54,16 +55,18 @@ impl Table {
         ensures added { IfOk result (λ added. added ≡ true → self.new ≡ self.old ++ (id, duration) ∷ []) }
         ensures new { IfOk result (λ added. added ≡ true → length_of self.old id ≡ None) }
         ensures there { IfOk result (λ added. added ≡ false → IsSome (length_of self.old id)) }
+        ensures same { IfOk result (λ added. added ≡ false → self.new ≡ self.old) }
     {
-        let key = key_of(&id);
-        if self.places.contains_key(&key) {
-            return Ok(false);
-        }
         let place = self.len();
         self.clips.reserve(1)?;
-        self.places.insert(key, place)?;
-        self.clips.push((id, duration)).unwrap();
-        Ok(true)
+        match self.places.entry(key_of(&id))? {
+            Entry::Occupied(_) => Ok(false),
+            Entry::Vacant(entry) => {
+                entry.insert(place);
+                self.clips.push((id, duration)).unwrap();
+                Ok(true)
+            }
+        }
     }
 }
 

@@ -56,7 +56,15 @@ impl ClipId {
         ensures accepts { (id : ClipId) → IsTextOf text.now (id_bytes id) → result ≡ Ok id }
         ensures refused { IfErr result (IsIdFault text.now) }
     {
-        let text = text.as_bytes();
+        ClipId::parse_ascii(text.as_bytes())
+    }
+
+    /// The ID of a text in bytes, refused as `parse` does. A byte that isn't ASCII is in no ID's text.
+    pub fn parse_ascii(text: &[u8]) -> Result<ClipId, IdFault>
+        ensures read { IfOk result (λ id. IsTextOf text.now (id_bytes id)) }
+        ensures accepts { (id : ClipId) → IsTextOf text.now (id_bytes id) → result ≡ Ok id }
+        ensures refused { IfErr result (IsIdFault text.now) }
+    {
         if text.is_empty() {
             Err(IdFault::Empty)
         } else if is_hex_long(text) {
@@ -97,16 +105,16 @@ impl ClipId {
         if text.len() > 8 {
             return Err(IdFault::TooLong);
         }
+        let mut bytes = [b' '; 8];
         for (k, byte) in text.iter().enumerate() {
             if !is_plain_byte(*byte) {
                 return Err(IdFault::BadByte(k + 1));
             }
+            bytes[k] = *byte;
         }
         if has_edge_space(text) {
             return Err(IdFault::EdgeSpace);
         }
-        let mut bytes = [b' '; 8];
-        bytes[..text.len()].copy_from_slice(text);
         Ok(ClipId::new(bytes))
     }
 

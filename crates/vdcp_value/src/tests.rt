@@ -62,6 +62,19 @@ fn texts_of_no_id_are_refused(rt: HostRuntime) {
     }
 }
 
+#[test]
+fn bytes_are_read_as_texts(rt: HostRuntime) {
+    assert_eq!(rt; ClipId::parse_ascii(b"CLIP0001"), Ok(ClipId::new(CLIP0001)));
+    assert_eq!(rt; ClipId::parse_ascii(b"A\xff"), Err(IdFault::BadByte(2)));
+    let time = Timecode::parse_ascii(Rate::F25, b"00:00:10:00");
+    assert_eq!(rt; time, Timecode::parse(Rate::F25, "00:00:10:00"));
+    let fault = TcFault::Shape;
+    assert_eq!(rt;
+        Timecode::parse_ascii(Rate::F25, b"00:00:10:0\xff"),
+        Err(fault)
+    );
+}
+
 const TIME_CODES: [(Rate, &str, u32, [u8; 4]); 8] = [
     (Rate::F24, "00:00:01:00", 24, [0x00, 0x01, 0x00, 0x00]),
     (Rate::F25, "00:00:10:00", 250, [0x00, 0x10, 0x00, 0x00]),

@@ -97,7 +97,17 @@ impl Timecode {
         ensures accepts { (timecode : Timecode) → rate_of timecode ≡ rate → text_of timecode ≡ text.now → result ≡ Ok timecode }
         ensures refused { IfErr result (IsTextFault rate text.now) }
     {
-        let Some(label) = label_in(rate, text.as_bytes()) else {
+        Timecode::parse_ascii(rate, text.as_bytes())
+    }
+
+    /// Reads a text in bytes, refused as `parse` does. A byte that isn't ASCII is in no time code's text.
+    pub fn parse_ascii(rate: Rate, text: &[u8]) -> Result<Timecode, TcFault>
+        ensures same_rate { IfOk result (λ timecode. rate_of timecode ≡ rate) }
+        ensures read { IfOk result (λ timecode. text_of timecode ≡ text.now) }
+        ensures accepts { (timecode : Timecode) → rate_of timecode ≡ rate → text_of timecode ≡ text.now → result ≡ Ok timecode }
+        ensures refused { IfErr result (IsTextFault rate text.now) }
+    {
+        let Some(label) = label_in(rate, text) else {
             return Err(TcFault::Shape);
         };
         label.check(rate)?;

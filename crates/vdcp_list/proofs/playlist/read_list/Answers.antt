@@ -72,3 +72,6 @@ returns-clause-items g c =
     (named_all c.args.rate (option_map rows_of (g.R.Read.remaining c.args.reader)) (rows_left g.R.Read.remaining c.loop-read.rows)
     (rows_left g.R.Read.remaining c.next_row-2.new.reader) c.loop-read.read c.loop-read.columns (items_of c.loop-read.list) (fields_of c.next_row-2.new.row)
     c.loop-read.invariant.named (rw none at c.in_ok-next_row-2.ensures.takes) few)
+
+pub id_text-requires : goal.id_text-requires
+id_text-requires g c = (c.in_ok-item.item.id, c.in_ok-item.ensures.id)
