@@ -1,23 +1,7 @@
 use arrayvec::ArrayString;
-use std::fmt;
+use std::{fmt, str};
 use vdcp_frame::{Fault, Message};
 use vdcp_words::{Command, Reply};
-
-/// A byte as two lower-case hexadecimal digits.
-#[derive(Clone, Copy)]
-pub struct ByteText(pub u8);
-
-impl fmt::Display for ByteText {
-    ghost use Rattle.std.specs.Prelude.{Some};
-    ghost use Rattle.vdcp_cli.specs.Text.{byte_text};
-
-    ghost output = { λ b. Some (byte_text b.0) };
-
-    fn fmt<W: fmt::Write>(&self, f: &mut fmt::Formatter<W>) -> fmt::Result {
-        let byte = self.0;
-        write!(f, "{byte:02x}")
-    }
-}
 
 /// Bytes as lower-case hexadecimal digits, two for each.
 #[derive(Clone, Copy)]
@@ -30,11 +14,31 @@ impl fmt::Display for HexText<'_> {
     ghost output = { λ h. Some (encode_lower h.0.now) };
 
     fn fmt<W: fmt::Write>(&self, f: &mut fmt::Formatter<W>) -> fmt::Result {
-        for byte in self.0 {
-            let byte = ByteText(*byte);
-            write!(f, "{byte}")?;
+        // One write of many digits costs far less than a write for each byte.
+        for chunk in self.0.chunks(32) {
+            let mut room = [0; 64];
+            let digits = &mut room[..2 * chunk.len()];
+            hex::encode_to_slice(chunk, digits).unwrap();
+            f.write_str(str::from_utf8(digits).unwrap())?;
         }
         Ok(())
+    }
+}
+
+/// A byte as two lower-case hexadecimal digits.
+#[derive(Clone, Copy)]
+pub struct ByteText(pub u8);
+
+impl fmt::Display for ByteText {
+    ghost use Rattle.std.specs.Prelude.{Some};
+    ghost use Rattle.vdcp_cli.specs.Text.{byte_text};
+
+    ghost output = { λ b. Some (byte_text b.0) };
+
+    fn fmt<W: fmt::Write>(&self, f: &mut fmt::Formatter<W>) -> fmt::Result {
+        let bytes = [self.0];
+        let digits = HexText(&bytes);
+        write!(f, "{digits}")
     }
 }
 
