@@ -3,7 +3,7 @@ use Rattle.csv.specs.Records.{field_at}
 use Rattle.std.proofs.Common.{◌≡◌, ℕ, ◌+◌, ◌≤◌, ◌<◌, suc, true, false, List, [], ◌∷◌, ◌++◌, length, refl, sym, ap, ap₂, subst, ◌∙◌, arith, append_assoc, append-nil}
 use Rattle.std.proofs.lemmas.List.{length-append, length-map, map-append}
 use Rattle.std.specs.Prelude.{IfNone, IfOk, Result, Ok, Err, Option, None, Some, option_map, string_bytes}
-use Rattle.vdcp_cli.specs.Vectors.{Finding, HasTooMany, IsTally, IsTallyOf, bad_count, columns, finding_of_row, finding_of_reading, finding_text, findings_of, findings_text, got, joined_reading, joined_text, hex, right}
+use Rattle.vdcp_cli.specs.Vectors.{Finding, HasTooMany, IsTally, IsTallyOf, bad_count, columns, finding_of_row, finding_text, findings_of, findings_text, got, joined_reading, joined_text, hex, right}
 use Rattle.vdcp_cli.specs.Files.{AreRowsOf}
 use Rattle.vdcp_cli.specs.Text.{end_text}
 use Rattle.vdcp_cli.specs.declared.vectors.Tally.{Tally}

@@ -36,9 +36,9 @@ pub fn do_check<L: io::Read + Drop, C: io::Read + Drop, W: io::Write, E: io::Wri
     // The status is 1 for what isn't playable, and for a row that is refused.
     ensures others { result ≡ 1 →
         (IsChecked rate (file list.entry.name (L.remaining list.entry.reader)) (file catalogue.entry.name (C.remaining catalogue.entry.reader))
-            (W.contents out.old) (W.contents out.new) false × Keeps (E.contents err.old) (E.contents err.new))
+        (W.contents out.old) (W.contents out.new) false × Keeps (E.contents err.old) (E.contents err.new))
         ⊎ IsRefused rate (file list.entry.name (L.remaining list.entry.reader)) (file catalogue.entry.name (C.remaining catalogue.entry.reader))
-            (W.contents out.old) (W.contents out.new) (E.contents err.old) (E.contents err.new) }
+        (W.contents out.old) (W.contents out.new) (E.contents err.old) (E.contents err.new) }
     ensures silent { Keeps (W.contents out.old) (W.contents out.new)
         ⊎ AreWhole rate (file list.entry.name (L.remaining list.entry.reader)) (file catalogue.entry.name (C.remaining catalogue.entry.reader)) }
     ensures statuses { (result < 2) ⊎ (result ≡ 3) }

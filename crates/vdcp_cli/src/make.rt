@@ -58,7 +58,7 @@ fn make<W: io::Write>(
         (W.contents out.old) (W.contents out.new)) }
     ensures refused { IfErr result (λ e. ((e ≡ Failure.Writer) × (command : Command) × Names (words_of word.now arguments.now) command)
         ⊎ (NamesNone (words_of word.now arguments.now) × IsMakeFault word.now e
-            × Keeps (W.contents out.old) (W.contents out.new))) }
+        × Keeps (W.contents out.old) (W.contents out.new))) }
 {
     let command = command_of(word, arguments)?;
     let mut room = [0; 16];

@@ -41,9 +41,9 @@ pub fn do_vectors<R: io::Read + Drop, W: io::Write, E: io::Write>(
     // The status is 1 where a row is bad, and for a file of too many rows.
     ensures bad { result ≡ 1 →
         (Keeps (E.contents err.old) (E.contents err.new)
-            × (bad : ℕ) × (0 < bad) × AreTested (R.remaining file.entry.reader) (W.contents out.old) (W.contents out.new) bad)
+        × (bad : ℕ) × (0 < bad) × AreTested (R.remaining file.entry.reader) (W.contents out.old) (W.contents out.new) bad)
         ⊎ (HasTooMany (R.remaining file.entry.reader) × Keeps (W.contents out.old) (W.contents out.new)
-            × Appends (E.contents err.old) (E.contents err.new) (failure_line (too_many file.entry.name))) }
+        × Appends (E.contents err.old) (E.contents err.new) (failure_line (too_many file.entry.name))) }
     ensures silent { Keeps (W.contents out.old) (W.contents out.new)
         ⊎ IfSome (R.remaining file.entry.reader) (λ bytes. length (rows_of bytes) ≤ most_rows) }
     ensures statuses { (result < 2) ⊎ (result ≡ 3) }

@@ -52,8 +52,11 @@ returns-then-tally-eq-MAX_ROWS-clause-refused g c =
     let found : c.next_row.result ≡ Ok true = grind (arith, common_steps) in
     let takes = if_ok (λ f. TakesRow (rows_left g.R.Read.remaining c.loop-tally.rows) (rows_left g.R.Read.remaining c.next_row.new.reader) f (fields_of c.next_row.new.row))
     c.next_row.result true c.next_row.ensures.takes found in
-    inr (inr (refl, tested_too_many (g.R.Read.remaining c.args.file.reader) (rows_left g.R.Read.remaining c.loop-tally.rows)
-    (rows_left g.R.Read.remaining c.next_row.new.reader) c.loop-tally.tally (fields_of c.next_row.new.row) c.loop-tally.invariant.tested takes c.if-tally-eq-MAX_ROWS.true))
+    inr (inr (
+      refl,
+      tested_too_many (g.R.Read.remaining c.args.file.reader) (rows_left g.R.Read.remaining c.loop-tally.rows)
+          (rows_left g.R.Read.remaining c.next_row.new.reader) c.loop-tally.tally (fields_of c.next_row.new.row) c.loop-tally.invariant.tested takes c.if-tally-eq-MAX_ROWS.true,
+    ))
 
 pub returns-clause-tally : goal.returns-clause-tally
 returns-clause-tally g c =
