@@ -468,21 +468,3 @@ fn refused_growth_of_an_asrun_list_is_told(rt: HostRuntime) -> Result<(), Fail> 
     assert!(rt; refused && written);
     Ok(())
 }
-
-/// Small files, for a run in which one allocation after another is refused: each is read whole, or the
-/// want of memory is told.
-#[test]
-fn refused_growth_of_files_is_told(rt: HostRuntime) -> Result<(), Fail> {
-    let text = b"CLIP0001,00:00:02:00,00:00:03:00\nCLIP0002,,\nCLIP0003,,\nA,,\nB,,\nC,,\n";
-    match read_list(rt.alloc(), text.as_slice(), Rate::F25) {
-        Ok(list) => assert_eq!(rt; list.len(), 6),
-        Err(fault) => assert!(rt; fault == ListFault::Memory),
-    }
-    let text =
-        b"CLIP0001,00:00:10:00\nA,00:00:10:00\nB,00:00:10:00\nC,00:00:10:00\nD,00:00:10:00\n";
-    match read_catalogue(rt.alloc(), text.as_slice(), Rate::F25) {
-        Ok(table) => assert_eq!(rt; table.len(), 5),
-        Err(fault) => assert!(rt; fault == ListFault::Memory),
-    }
-    Ok(())
-}

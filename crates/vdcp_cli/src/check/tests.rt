@@ -251,31 +251,3 @@ fn a_fault_line_that_fails_has_status_3(rt: HostRuntime) {
     assert_eq!(rt; err.calls, 1);
     assert!(rt; out.is_empty());
 }
-
-/// Small files, for a run in which one allocation after another is refused: they are checked, or the
-/// want of memory is told.
-#[test]
-fn refused_memory_is_told(rt: HostRuntime) {
-    let alloc = rt.alloc();
-    let list = b"CLIP0001,00:00:08:00,00:00:03:00\nCLIP0009,,\nCLIP0002,,\n".as_slice();
-    let text = b"events 3\nclips 2\noutside 0 CLIP0001\nmissing 1 CLIP0009\n".as_slice();
-    let mut out = ArrayVec::<u8, 128>::new();
-    let mut err = ArrayVec::<u8, 128>::new();
-    match do_check(
-        alloc,
-        file("l", list),
-        file("c", CLIPS),
-        Rate::F25,
-        &mut out,
-        &mut err,
-    ) {
-        3 => {
-            assert!(rt; out.is_empty());
-            assert_eq!(rt; err.as_slice(), b"vdcp: memory\n".as_slice());
-        }
-        status => {
-            assert_eq!(rt; status, 1);
-            assert_eq!(rt; out.as_slice(), text);
-        }
-    }
-}

@@ -275,25 +275,3 @@ fn a_fault_line_that_fails_has_status_3(rt: HostRuntime) {
     assert_eq!(rt; err.calls, 1);
     assert!(rt; out.is_empty());
 }
-
-/// A small file, for a run in which one allocation after another is refused: it is tested, or the
-/// want of memory is told.
-#[test]
-fn refused_memory_is_told(rt: HostRuntime) {
-    let alloc = rt.alloc();
-    let rows = b"04,clean\nzz,\n04\n02021001ef,clean\n".as_slice();
-    let text =
-        b"row 1: got ack; clean\nrow 2: hex\nrow 3: columns\nrow 4: got unit 0 type 1 code 01 data -; clean\nvectors 4 bad 4\n".as_slice();
-    let mut out = ArrayVec::<u8, 128>::new();
-    let mut err = ArrayVec::<u8, 128>::new();
-    match do_vectors(alloc, file(rows), &mut out, &mut err) {
-        3 => {
-            assert!(rt; out.is_empty());
-            assert_eq!(rt; err.as_slice(), b"vdcp: memory\n".as_slice());
-        }
-        status => {
-            assert_eq!(rt; status, 1);
-            assert_eq!(rt; out.as_slice(), text);
-        }
-    }
-}
