@@ -1,7 +1,6 @@
 use super::do_check;
 use crate::failing::{Failing, FailingReader};
 use crate::input::Input;
-use arrayvec::ArrayVec;
 use std::alloc::Global;
 use std::process::Abort;
 use std::test::Fail;

@@ -4,7 +4,6 @@ use super::do_vectors;
 use crate::failing::{Failing, FailingReader};
 use crate::input::Input;
 use crate::text::{End, HexText, MessageText};
-use arrayvec::ArrayVec;
 use std::alloc::{AllocError, Global};
 use std::fmt::Write;
 use std::process::Abort;
