@@ -49,6 +49,7 @@ abbrev pub check_text : List (ClipId × Timecode) → List Item → List ℕ
 check_text clips items =
     line (codes "events " ++ decimal (length items)) ++ line (codes "clips " ++ decimal (length clips)) ++ events_text clips 0 items
 
+-- every event can be played: the port can cue its item
 abbrev pub are_playable : List (ClipId × Timecode) → List Item → Bool
 are_playable clips items = list_all (is_playable clips) items
 

@@ -32,11 +32,11 @@ pub data Finding : Type 0 where
   hex : Finding
   got : (reading : List ℕ) → Finding
 
--- what a burst with this reading is found to be, where this one is expected
+-- what a burst of this reading is found to be, where another may be expected
 abbrev pub finding_of_reading : List ℕ → List ℕ → Finding
 finding_of_reading reading expected = if pointwise nat_eq reading expected then right else got reading
 
--- what a burst, where its digits are those of one, is found to be
+-- what is found of a burst's digits, by what they decode to, and its expected reading
 abbrev pub finding_of_burst : Result (List ℕ) FromHexError → List ℕ → Finding
 finding_of_burst (Ok burst) expected = finding_of_reading (joined_reading burst) expected
 finding_of_burst (Err fault) expected = hex
