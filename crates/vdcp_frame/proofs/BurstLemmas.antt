@@ -2,7 +2,7 @@
 use Rattle.std.proofs.Common.{◌≡◌, ℕ, zero, suc, ◌-◌, ◌<◌, ◌≤◌, cond, ltb, List, [], ◌++◌, length, take, drop, refl, sym, ap, subst, ◌∙◌, append_assoc, arith, length-append}
 use Rattle.std.proofs.lemmas.List.{take-append-drop, length-drop, nil_from_length}
 use Rattle.std.proofs.lemmas.List.Elements.{All-take, All-drop}
-use Rattle.vdcp_frame.specs.Message.{Content, AreBytes}
+use Rattle.vdcp_frame.specs.Message.{Content, AreOctets}
 use Rattle.vdcp_frame.specs.Reading.{SpellsAll, HasNoFront, Ends, long_end, ReadsShort, ReadsUpTo}
 use Rattle.vdcp_frame.specs.Head.{Head, nothing, part, wrong, found, head_of, HeadIs}
 use Rattle.vdcp_frame.specs.Burst.{messages_at, rest_at, messages_within, rest_within, end_at, short_end}
@@ -14,14 +14,14 @@ record Split (bytes : List ℕ) (ms : List Content) (rest : List ℕ) : Type 0 w
   whole : List ℕ
   parts : bytes ≡ whole ++ rest
   spelt : SpellsAll ms whole
-  fits : AreBytes rest
+  fits : AreOctets rest
   none : HasNoFront rest
 
-at_once : (bytes : List ℕ) → AreBytes bytes → HasNoFront bytes → Split bytes [] bytes
+at_once : (bytes : List ℕ) → AreOctets bytes → HasNoFront bytes → Split bytes [] bytes
 at_once bytes fits none = record { whole = []; parts = refl; spelt = refl; fits = fits; none = none }
 
-split_at : (n : ℕ) (bytes : List ℕ) (head : Head) → length bytes ≤ suc n → AreBytes bytes → HeadIs bytes head →
-    ((rest : List ℕ) → length rest ≤ n → AreBytes rest → Split rest (messages_within n rest) (rest_within n rest)) →
+split_at : (n : ℕ) (bytes : List ℕ) (head : Head) → length bytes ≤ suc n → AreOctets bytes → HeadIs bytes head →
+    ((rest : List ℕ) → length rest ≤ n → AreOctets rest → Split rest (messages_within n rest) (rest_within n rest)) →
     Split bytes (messages_at head (λ size. messages_within n (drop size bytes))) (rest_at head bytes (λ size. rest_within n (drop size bytes)))
 split_at n bytes nothing le fits is more = at_once bytes fits (subst HasNoFront (sym is) nil_no_front)
 split_at n bytes part le fits is more = at_once bytes fits is.no_front
@@ -37,7 +37,7 @@ split_at n bytes (found m size) le fits is more =
       none = s.none;
     }
 
-split_within : (n : ℕ) (bytes : List ℕ) → length bytes ≤ n → AreBytes bytes → Split bytes (messages_within n bytes) (rest_within n bytes)
+split_within : (n : ℕ) (bytes : List ℕ) → length bytes ≤ n → AreOctets bytes → Split bytes (messages_within n bytes) (rest_within n bytes)
 split_within zero bytes le fits = at_once bytes fits (subst HasNoFront (sym (nil_from_length bytes (omega arith))) nil_no_front)
 split_within (suc n) bytes le fits = split_at n bytes (head_of bytes) le fits (head_is bytes fits) (split_within n)
 
@@ -47,7 +47,7 @@ ends_at before rest part is none = (is.some, is.begins, refl)
 ends_at before rest (wrong kind size) is none = (size, is.first, refl, is.which)
 ends_at before rest (found m size) is none = absurd (none m (take size rest) (drop size rest) is.spelt (sym (take-append-drop size rest)))
 
-reads_short : (bytes : List ℕ) → AreBytes bytes → ReadsShort bytes (messages_within (length bytes) bytes) (short_end bytes)
+reads_short : (bytes : List ℕ) → AreOctets bytes → ReadsShort bytes (messages_within (length bytes) bytes) (short_end bytes)
 reads_short bytes fits =
     let s = split_within (length bytes) bytes (omega arith) fits in
     let rest : List ℕ = rest_within (length bytes) bytes in
@@ -61,5 +61,5 @@ reads_short bytes fits =
       ends = subst (λ (n : ℕ). Ends n rest (short_end bytes)) (sym before) (ends_at (length bytes - length rest) rest (head_of rest) (head_is rest s.fits) s.none);
     }
 
-pub reads_computed : (limit : ℕ) (burst : List ℕ) → AreBytes burst → ReadsUpTo limit burst (messages_within (length (take limit burst)) (take limit burst)) (cond (ltb limit (length burst)) (long_end limit (short_end (take limit burst))) (short_end (take limit burst)))
+pub reads_computed : (limit : ℕ) (burst : List ℕ) → AreOctets burst → ReadsUpTo limit burst (messages_within (length (take limit burst)) (take limit burst)) (cond (ltb limit (length burst)) (long_end limit (short_end (take limit burst))) (short_end (take limit burst)))
 reads_computed limit burst fits = record { short = short_end (take limit burst); front = reads_short (take limit burst) (All-take (λ b. b < 256) limit burst fits); long = refl }

@@ -10,7 +10,7 @@ use Rattle.vdcp_frame.specs.declared.held.Held.TheVariants as held
 use Rattle.vdcp_frame.specs.declared.held.Found.{Found}
 use Rattle.vdcp_frame.specs.declared.held.Found.TheVariants as found
 use Rattle.vdcp_frame.specs.declared.held.Partial.{Partial}
-use Rattle.vdcp_frame.specs.Message.{Content, ack, nak, framed, AreBytes, Spells}
+use Rattle.vdcp_frame.specs.Message.{Content, ack, nak, framed, AreOctets, Spells}
 use Rattle.vdcp_frame.specs.Head as head
 use Rattle.vdcp_frame.specs.Head.{head_of, body_head, HeadIs}
 use Rattle.vdcp_frame.specs.Reader.{IsUnfinished}
@@ -63,7 +63,7 @@ begun_open held.Nak buffer b = tt
 begun_open held.Frame buffer b = tt
 begun_open (held.Body count len total) buffer b = counted_open count (take len buffer) b.counted (omega (arith, b.lacks, length-take len buffer))
 
-begun_bytes : (h : Held) (buffer : List ℕ) → AreBegun h buffer → AreBytes (bytes_of h buffer)
+begun_bytes : (h : Held) (buffer : List ℕ) → AreBegun h buffer → AreOctets (bytes_of h buffer)
 begun_bytes held.Nothing buffer b = All-nil (λ x. x < 256)
 begun_bytes held.Nak buffer b = All-cons (λ x. x < 256) 5 [] (omega arith) (All-nil (λ x. x < 256))
 begun_bytes held.Frame buffer b = All-cons (λ x. x < 256) 2 [] (omega arith) (All-nil (λ x. x < 256))
@@ -104,7 +104,7 @@ whole_is frame len buffer w =
     ∙ ap (λ (r : List ℕ). head.found (framed (get_or buffer 0 0 / 16) (get_or buffer 0 0 % 16) (get_or buffer 1 0) r) (n + 5)) rest
     ∙ ap (λ (k : ℕ). head.found (frame_in len buffer) k) total
 
-module _ (old bytes : List ℕ) (n : ℕ) (new : Partial) (o : IsOpen (head_of old)) (fits : AreBytes (old ++ take n bytes)) where
+module _ (old bytes : List ℕ) (n : ℕ) (new : Partial) (o : IsOpen (head_of old)) (fits : AreOctets (old ++ take n bytes)) where
   yields_message : (m : Content) → head_of (old ++ take n bytes) ≡ head.found m (length (old ++ take n bytes)) → held_bytes new ≡ [] → BringsMessage old bytes n m new
   yields_message m e done =
       let is = subst (HeadIs (old ++ take n bytes)) e (head_is (old ++ take n bytes) fits) in
@@ -131,7 +131,7 @@ module _ (old bytes : List ℕ) (n : ℕ) (new : Partial) (o : IsOpen (head_of o
     message = yields_message (frame_in len new.buffer) (whole_is (old ++ take n bytes) len new.buffer w) done;
   }
 
-yields : (old bytes : List ℕ) (n : ℕ) (f : Found) (new : Partial) → IsOpen (head_of old) → AreBytes (old ++ take n bytes) → IsPartial new → Brings old bytes n f new → Yields old bytes n f new
+yields : (old bytes : List ℕ) (n : ℕ) (f : Found) (new : Partial) → IsOpen (head_of old) → AreOctets (old ++ take n bytes) → IsPartial new → Brings old bytes n f new → Yields old bytes n f new
 yields old bytes n found.Nothing new o fits p b = yields_all old bytes n new o fits b.0 b.1 p
 yields old bytes n found.Ack new o fits p b = yields_message old bytes n new o fits ack b.0 b.1
 yields old bytes n (found.Nak byte) new o fits p b = yields_message old bytes n new o fits (nak byte) b.0 b.1
@@ -139,13 +139,13 @@ yields old bytes n (found.Frame len) new o fits p b = yields_frame old bytes n n
 yields old bytes n (found.Wrong kind) new o fits p b = yields_wrong old bytes n new o fits kind b.0 b.1
 
 -- behind what is held, the bytes bring what their spellings say
-pub yields_from : (h : Held) (buffer bytes : List ℕ) (n : ℕ) (f : Found) (new : Partial) → AreBegun h buffer → AreBytes bytes → IsPartial new → Brings (bytes_of h buffer) bytes n f new → Yields (bytes_of h buffer) bytes n f new
+pub yields_from : (h : Held) (buffer bytes : List ℕ) (n : ℕ) (f : Found) (new : Partial) → AreBegun h buffer → AreOctets bytes → IsPartial new → Brings (bytes_of h buffer) bytes n f new → Yields (bytes_of h buffer) bytes n f new
 yields_from h buffer bytes n f new b fits p brings =
     yields (bytes_of h buffer) bytes n f new (begun_open h buffer b)
     (All-append (λ x. x < 256) (bytes_of h buffer) (take n bytes) (begun_bytes h buffer b) (All-take (λ x. x < 256) n bytes fits)) p brings
 
 -- a piece that doesn't fill the frame leaves it begun
-pub begun_more : (count len total : ℕ) (old new piece : List ℕ) (n extra : ℕ) → IsBegun count len total old → n ≡ length piece → take (len + n) new ≡ take len old ++ piece → AreBytes piece → extra ≡ sum piece → extra ≤ 255 * length piece → len + n ≤ count →
+pub begun_more : (count len total : ℕ) (old new piece : List ℕ) (n extra : ℕ) → IsBegun count len total old → n ≡ length piece → take (len + n) new ≡ take len old ++ piece → AreOctets piece → extra ≡ sum piece → extra ≤ 255 * length piece → len + n ≤ count →
     IsBegun count (len + n) (total + extra) new
 begun_more count len total old new piece n extra b size is fits adds bound lacks = record {
   counted = b.counted;
@@ -153,5 +153,5 @@ begun_more count len total old new piece n extra b size is fits adds bound lacks
   lacks = lacks;
   adds_up = omega (arith, b.adds_up, adds, ap sum is, sum_by-append (λ (x : ℕ). x) (take len old) piece);
   bound = omega (arith, b.bound, bound, size);
-  fits = subst AreBytes (sym is) (All-append (λ x. x < 256) (take len old) piece b.fits fits);
+  fits = subst AreOctets (sym is) (All-append (λ x. x < 256) (take len old) piece b.fits fits);
 }

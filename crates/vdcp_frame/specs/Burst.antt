@@ -1,6 +1,6 @@
 use Rattle.std.specs.Prelude.{ℕ, zero, suc, ◌+◌, ◌-◌, List, [], ◌∷◌, length, take, drop, nat_lt, if◌then◌else◌}
 use Rattle.vdcp_frame.specs.Message.{Content}
-use Rattle.vdcp_frame.specs.Reading.{End, clean, cut, fault, long_end}
+use Rattle.vdcp_frame.specs.Reading.{End, clean, cut, fault, long_end, burst_limit}
 use Rattle.vdcp_frame.specs.Head.{Head, nothing, part, wrong, found, head_of}
 
 -- The reading of a burst as a computation, which Reading.antt says in words.
@@ -41,10 +41,10 @@ short_end bytes =
 
 -- the messages of a burst
 abbrev pub messages_of : List ℕ → List Content
-messages_of burst = messages_within (length (take 4096 burst)) (take 4096 burst)
+messages_of burst = messages_within (length (take burst_limit burst)) (take burst_limit burst)
 
 -- the end of a burst
 abbrev pub end_of : List ℕ → End
 end_of burst =
-    let short : End = short_end (take 4096 burst) in
-    if nat_lt 4096 (length burst) then long_end 4096 short else short
+    let short : End = short_end (take burst_limit burst) in
+    if nat_lt burst_limit (length burst) then long_end burst_limit short else short

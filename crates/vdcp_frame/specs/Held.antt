@@ -5,7 +5,7 @@ use Rattle.vdcp_frame.specs.declared.held.Held.TheVariants as held
 use Rattle.vdcp_frame.specs.declared.held.Found.{Found}
 use Rattle.vdcp_frame.specs.declared.held.Found.TheVariants as found
 use Rattle.vdcp_frame.specs.declared.held.Partial.{Partial}
-use Rattle.vdcp_frame.specs.Message.{Content, ack, nak, framed, AreBytes, Spells}
+use Rattle.vdcp_frame.specs.Message.{Content, ack, nak, framed, AreOctets, Spells}
 use Rattle.vdcp_frame.specs.Head as head
 use Rattle.vdcp_frame.specs.Head.{head_of, IsWrong}
 use Rattle.vdcp_frame.specs.Reader.{IsUnfinished}
@@ -27,7 +27,7 @@ pub record IsBegun (count len total : ℕ) (buffer : List ℕ) : Type 0 where
   pub lacks : len ≤ count
   pub adds_up : total ≡ sum (take len buffer)
   pub bound : total ≤ 255 * len
-  pub fits : AreBytes (take len buffer)
+  pub fits : AreOctets (take len buffer)
 
 abbrev pub AreBegun : Held → List ℕ → Type 0
 AreBegun held.Nothing buffer = Unit {0}

@@ -6,7 +6,7 @@ use Rattle.vdcp_frame.specs.declared.got.Got.TheVariants as got
 use Rattle.vdcp_frame.specs.declared.got.Ended.{Ended}
 use Rattle.vdcp_frame.specs.declared.got.Ended.TheVariants as ended
 use Rattle.vdcp_frame.specs.Message.{Content, content_of, Spells}
-use Rattle.vdcp_frame.specs.Reading.{SpellsAll, Begins, HasNoFront, clean, cut, fault, Reads}
+use Rattle.vdcp_frame.specs.Reading.{SpellsAll, Begins, HasNoFront, End, clean, cut, fault, burst_limit, Reads}
 use Rattle.vdcp_frame.specs.Progress.{Progress, reading, failed}
 use Rattle.vdcp_frame.specs.Head.{IsWrong}
 
@@ -30,27 +30,27 @@ pub record IsUnfinished (bytes : List ℕ) : Type 0 where
 pub record TakesMessage (taken : ℕ) (held piece : List ℕ) (n : ℕ) (m : Content) : Type 0 where
   pub some : 0 < n
   pub within : n ≤ length piece
-  pub limit : taken + n ≤ 4096
+  pub limit : taken + n ≤ burst_limit
   pub spelt : Spells m (held ++ take n piece)
 
 -- no message yet: all is taken, and a message isn't finished
 pub record TakesAll (taken : ℕ) (held piece : List ℕ) (n : ℕ) : Type 0 where
   pub all : n ≡ length piece
-  pub limit : taken + n ≤ 4096
+  pub limit : taken + n ≤ burst_limit
   pub unfinished : IsUnfinished (held ++ take n piece)
 
 -- a fault: the bytes held and the n bytes taken are the shortest front that begins no spelling
 pub record TakesWrong (taken : ℕ) (held piece : List ℕ) (n : ℕ) (kind : Fault) : Type 0 where
   pub some : 0 < n
   pub within : n ≤ length piece
-  pub limit : taken + n ≤ 4096
+  pub limit : taken + n ≤ burst_limit
   pub first : IsWrong (held ++ take n piece) kind (length (held ++ take n piece))
 
--- the burst's byte 4,097, before any other fault
+-- the first byte past the limit, before any other fault
 pub record TakesLong (taken : ℕ) (held piece : List ℕ) (n : ℕ) : Type 0 where
   pub some : 0 < n
   pub within : n ≤ length piece
-  pub past : taken + n ≡ 4097
+  pub past : taken + n ≡ burst_limit + 1
   pub unfinished : IsUnfinished (held ++ take (n - 1) piece)
 
 abbrev pub TakesFault : ℕ → List ℕ → List ℕ → ℕ → Fault → Type 0
@@ -89,7 +89,7 @@ pub record FollowsReading (burst : List ℕ) (ms : List Content) (taken : ℕ) (
   pub spelt : SpellsAll ms whole
   pub unfinished : IsUnfinished held
   pub count : length burst ≡ taken
-  pub limit : taken ≤ 4096
+  pub limit : taken ≤ burst_limit
 
 -- the burst so far has these messages and this fault, whatever follows
 abbrev pub FollowsFault : List ℕ → List Content → Fault → ℕ → Type 0
@@ -111,3 +111,9 @@ abbrev pub ReadsAs : List ℕ → List Content → Ended → Type 0
 ReadsAs burst ms ended.Clean = Reads burst ms clean
 ReadsAs burst ms (ended.Cut count) = Reads burst ms (cut count)
 ReadsAs burst ms ended.AfterFault = (kind : Fault) × (place : ℕ) × Reads burst ms (fault kind place)
+
+-- the end of a reading, as a silence tells it
+abbrev pub IsEnd : Ended → End → Type 0
+IsEnd ended.Clean end = end ≡ clean
+IsEnd (ended.Cut count) end = end ≡ cut count
+IsEnd ended.AfterFault end = (kind : Fault) × (place : ℕ) × (end ≡ fault kind place)

@@ -68,6 +68,10 @@ pub record ReadsUpTo (limit : ℕ) (burst : List ℕ) (ms : List Content) (end :
   pub front : ReadsShort (take limit burst) ms short
   pub long : end ≡ (if nat_lt limit (length burst) then long_end limit short else short)
 
+-- so many bytes of a burst are read
+abbrev pub burst_limit : ℕ
+burst_limit = 4096
+
 -- the reading of a burst: its messages and its end
 abbrev pub Reads : List ℕ → List Content → End → Type 0
-Reads burst ms end = ReadsUpTo 4096 burst ms end
+Reads burst ms end = ReadsUpTo burst_limit burst ms end
