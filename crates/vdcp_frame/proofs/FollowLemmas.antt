@@ -13,21 +13,24 @@ use Rattle.vdcp_frame.proofs.ReaderLemmas.{silence_reads}
 use Rattle.vdcp_frame.proofs.ReadingLemmas.{read_again, one_reading}
 use Rattle.vdcp_frame.proofs.SpellingLemmas.{reads_as_computed}
 
-pub next_followed : (burst : List ℕ) (ms : List Content) (answer : Answer) (new : Progress) → FollowsNext burst ms answer new → Follows burst (ms ++ with_message answer []) new
+pub next_followed : (burst : List ℕ) (ms : List Content) (answer : Answer) (new : Progress) → FollowsNext burst ms answer new →
+    Follows burst (ms ++ with_message answer []) new
 next_followed burst ms (message m) new f = f
 next_followed burst ms more new f = subst (λ (l : List Content). Follows burst l new) (sym (append-nil ms)) f
-next_followed burst ms (wrong kind place) new f =
-    let there : Follows burst ms failed = (kind, place, f.0) in
+next_followed burst ms (wrong which place) new f =
+    let there : Follows burst ms failed = (which, place, f.0) in
     subst (λ (l : List Content). Follows burst l new) (sym (append-nil ms)) (subst (Follows burst ms) (sym f.1) there)
 
-pub followed_first : (burst later : List ℕ) (ms ns : List Content) (p : Progress) (end : End) → Follows burst ms p → Reads (burst ++ later) ns end → (others : List Content) × (ns ≡ ms ++ others)
+pub followed_first : (burst later : List ℕ) (ms ns : List Content) (p : Progress) (end : End) → Follows burst ms p → Reads (burst ++ later) ns end →
+    (others : List Content) × (ns ≡ ms ++ others)
 followed_first burst later ms ns (reading taken held) end f r =
     read_again 4096 ms ns f.whole (held ++ later) end f.spelt (omega (arith, f.limit, f.count, ap length f.parts, length-append f.whole held))
     (subst (λ (l : List ℕ). Reads l ns end) (ap (λ (l : List ℕ). l ++ later) f.parts ∙ append_assoc f.whole held later) r)
 followed_first burst later ms ns failed end f r =
     ([], (one_reading 4096 (burst ++ later) ns ms end (fault f.0 f.1) r (f.2 later)).0 ∙ sym (append-nil ms))
 
-pub followed_further : (burst later : List ℕ) (ms : List Content) (p : Progress) → AreOctets (burst ++ later) → Follows burst ms p → (others : List Content) × (messages_of (burst ++ later) ≡ ms ++ others)
+pub followed_further : (burst later : List ℕ) (ms : List Content) (p : Progress) → AreOctets (burst ++ later) → Follows burst ms p →
+    (others : List Content) × (messages_of (burst ++ later) ≡ ms ++ others)
 followed_further burst later ms p octets f =
     followed_first burst later ms (messages_of (burst ++ later)) p (end_of (burst ++ later)) f (reads_computed 4096 (burst ++ later) octets)
 

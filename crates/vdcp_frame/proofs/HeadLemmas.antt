@@ -61,7 +61,7 @@ head_of-spelt (framed kind unit code rest) front more s =
 abbrev IsNoMessage : Head → Type 0
 IsNoMessage nothing = Unit {0}
 IsNoMessage part = Unit {0}
-IsNoMessage (wrong kind size) = Unit {0}
+IsNoMessage (wrong which size) = Unit {0}
 IsNoMessage (found message size) = ⊥
 
 no_front_of : (bytes : List ℕ) (head : Head) → head_of bytes ≡ head → IsNoMessage head → HasNoFront bytes
@@ -71,10 +71,10 @@ no_front_of bytes head e none m front more s parts =
     subst P (sym is) none
 
 -- bytes that begin a spelling are wrong nowhere
-not_wrong : (bytes : List ℕ) (kind : Fault) (size : ℕ) → ((more : List ℕ) → head_of (bytes ++ more) ≡ wrong kind size) → Begins bytes → ⊥
-not_wrong bytes kind size stays b =
+not_wrong : (bytes : List ℕ) (which : Fault) (size : ℕ) → ((more : List ℕ) → head_of (bytes ++ more) ≡ wrong which size) → Begins bytes → ⊥
+not_wrong bytes which size stays b =
     let is = head_of-spelt b.message (bytes ++ b.more) [] b.spelt in
-    let same : wrong kind size ≡ found b.message (length (bytes ++ b.more)) = sym (stays b.more) ∙ ap head_of (sym (append-nil (bytes ++ b.more))) ∙ is in
+    let same : wrong which size ≡ found b.message (length (bytes ++ b.more)) = sym (stays b.more) ∙ ap head_of (sym (append-nil (bytes ++ b.more))) ∙ is in
     absurd cc
 
 -- ---- beginnings
@@ -160,7 +160,7 @@ wrong_start b bs e = record {
     shorter = shorter_than (b ∷ bs) 0 Begins-nil;
   };
   no_front = no_front_of (b ∷ bs) (wrong BadStart 1) (e bs) tt;
-  which = refl;
+  fault_is = refl;
 }
 
 wrong_count : (count : ℕ) (body : List ℕ) → ((more : List ℕ) → head_of (2 ∷ count ∷ more) ≡ wrong (BadCount count) 2) → IsWrong (2 ∷ count ∷ body) (BadCount count) 2
@@ -171,7 +171,7 @@ wrong_count count body e = record {
     shorter = shorter_than (2 ∷ count ∷ body) 1 Begins-start;
   };
   no_front = no_front_of (2 ∷ count ∷ body) (wrong (BadCount count) 2) (e body) tt;
-  which = refl;
+  fault_is = refl;
 }
 
 module _ (n x code : ℕ) (tail : List ℕ) (n_fits : n ≤ 253) (x_fits : x < 256) (code_fits : code < 256) (fits : AreOctets tail) where
@@ -213,7 +213,7 @@ module _ (n x code : ℕ) (tail : List ℕ) (n_fits : n ≤ 253) (x_fits : x < 2
           shorter = subst (λ (m : ℕ). (k : ℕ) → k < m → Begins (take k (2 ∷ suc (suc n) ∷ x ∷ code ∷ tail))) five (shorter_than (2 ∷ suc (suc n) ∷ x ∷ code ∷ tail) (n + 4) begins);
         };
         no_front = no_front_of (2 ∷ suc (suc n) ∷ x ∷ code ∷ tail) (wrong BadSum (n + 5)) is tt;
-        which = rw (data_whole long) refl;
+        fault_is = rw (data_whole long) refl;
       }
 
   data_is : HeadIs (2 ∷ suc (suc n) ∷ x ∷ code ∷ tail) (data_head n x code tail)

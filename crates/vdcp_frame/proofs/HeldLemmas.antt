@@ -30,12 +30,12 @@ Brings-first old byte bytes n found.Nothing new b = (omega (arith, b.0), b.1 ∙
 Brings-first old byte bytes n found.Ack new b = (subst (λ (l : List ℕ). head_of l ≡ head.found ack (length l)) (taken_first old byte bytes n) b.0, b.1)
 Brings-first old byte bytes n (found.Nak other) new b = (subst (λ (l : List ℕ). head_of l ≡ head.found (nak other) (length l)) (taken_first old byte bytes n) b.0, b.1)
 Brings-first old byte bytes n (found.Frame len) new b = (subst (λ (l : List ℕ). IsWhole l len new.buffer) (taken_first old byte bytes n) b.0, b.1)
-Brings-first old byte bytes n (found.Wrong kind) new b = (subst (λ (l : List ℕ). head_of l ≡ head.wrong kind (length l)) (taken_first old byte bytes n) b.0, b.1)
+Brings-first old byte bytes n (found.Wrong which) new b = (subst (λ (l : List ℕ). head_of l ≡ head.wrong which (length l)) (taken_first old byte bytes n) b.0, b.1)
 
 -- the same as a slice pattern cuts the piece
-pub Brings-rest : (old bytes : List ℕ) (n : ℕ) (f : Found) (new : Partial) → 1 ≤ length bytes → Brings (old ++ get_or bytes 0 0 ∷ []) (take (length bytes - 1) (drop 1 bytes)) n f new → Brings old bytes (n + 1) f new
-Brings-rest old [] n f new some b = absurd (omega arith)
-Brings-rest old (byte ∷ bytes) n f new some b =
+pub Brings-behind : (old bytes : List ℕ) (n : ℕ) (f : Found) (new : Partial) → 1 ≤ length bytes → Brings (old ++ get_or bytes 0 0 ∷ []) (take (length bytes - 1) (drop 1 bytes)) n f new → Brings old bytes (n + 1) f new
+Brings-behind old [] n f new some b = absurd (omega arith)
+Brings-behind old (byte ∷ bytes) n f new some b =
     let all : take (length (byte ∷ bytes) - 1) bytes ≡ bytes = take_all (length (byte ∷ bytes) - 1) bytes (omega arith) in
     Brings-first old byte bytes n f new (subst (λ (l : List ℕ). Brings (old ++ byte ∷ []) l n f new) all b)
 
@@ -44,7 +44,7 @@ Brings-rest old (byte ∷ bytes) n f new some b =
 abbrev IsOpen : head.Head → Type 0
 IsOpen head.nothing = Unit {0}
 IsOpen head.part = Unit {0}
-IsOpen (head.wrong kind size) = ⊥
+IsOpen (head.wrong which size) = ⊥
 IsOpen (head.found message size) = ⊥
 
 body_open : (n : ℕ) (body : List ℕ) → length body ≤ suc (suc n) → IsOpen (body_head n body)
@@ -73,7 +73,7 @@ begun_bytes (held.Body count len total) buffer b =
 unfinished_at : (bytes : List ℕ) (h : head.Head) → HeadIs bytes h → IsOpen h → IsUnfinished bytes
 unfinished_at bytes head.nothing is o = subst IsUnfinished (sym is) unfinished_nil
 unfinished_at bytes head.part is o = record { begins = is.begins; no_front = is.no_front }
-unfinished_at bytes (head.wrong kind size) is o = absurd o
+unfinished_at bytes (head.wrong which size) is o = absurd o
 unfinished_at bytes (head.found message size) is o = absurd o
 
 begun_unfinished : (h : Held) (buffer : List ℕ) → AreBegun h buffer → IsUnfinished (bytes_of h buffer)
@@ -114,9 +114,9 @@ module _ (old bytes : List ℕ) (n : ℕ) (new : Partial) (o : IsOpen (head_of o
         done = done;
       }
 
-  yields_wrong : (kind : Fault) → head_of (old ++ take n bytes) ≡ head.wrong kind (length (old ++ take n bytes)) → held_bytes new ≡ [] → BringsWrong old bytes n kind new
-  yields_wrong kind e done = record {
-    some = some_taken old bytes n (head.wrong kind (length (old ++ take n bytes))) o e (λ x. x);
+  yields_wrong : (which : Fault) → head_of (old ++ take n bytes) ≡ head.wrong which (length (old ++ take n bytes)) → held_bytes new ≡ [] → BringsWrong old bytes n which new
+  yields_wrong which e done = record {
+    some = some_taken old bytes n (head.wrong which (length (old ++ take n bytes))) o e (λ x. x);
     first = subst (HeadIs (old ++ take n bytes)) e (head_is (old ++ take n bytes) fits);
     done = done;
   }
@@ -136,7 +136,7 @@ yields old bytes n found.Nothing new o fits p b = yields_all old bytes n new o f
 yields old bytes n found.Ack new o fits p b = yields_message old bytes n new o fits ack b.0 b.1
 yields old bytes n (found.Nak byte) new o fits p b = yields_message old bytes n new o fits (nak byte) b.0 b.1
 yields old bytes n (found.Frame len) new o fits p b = yields_frame old bytes n new o fits len b.0 b.1
-yields old bytes n (found.Wrong kind) new o fits p b = yields_wrong old bytes n new o fits kind b.0 b.1
+yields old bytes n (found.Wrong which) new o fits p b = yields_wrong old bytes n new o fits which b.0 b.1
 
 -- behind what is held, the bytes bring what their spellings say
 pub yields_from : (h : Held) (buffer bytes : List ℕ) (n : ℕ) (f : Found) (new : Partial) → AreBegun h buffer → AreOctets bytes → IsPartial new → Brings (bytes_of h buffer) bytes n f new → Yields (bytes_of h buffer) bytes n f new

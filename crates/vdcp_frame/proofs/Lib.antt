@@ -1,3 +1,4 @@
+-- The lemmas, file by file.
 pub mod HeadLemmas
 pub mod ReadingLemmas
 pub mod BurstLemmas

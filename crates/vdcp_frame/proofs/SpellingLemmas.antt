@@ -60,5 +60,6 @@ message_first m more fits octets =
     read_first m (spelling m) more (messages_of bytes) (end_of bytes) s
     (reads_computed 4096 bytes (All-append IsOctet (spelling m) more (spelt_octets m (spelling m) s) octets))
 
-pub reads_as_computed : (burst : List ℕ) (ms : List Content) (end : End) → AreOctets burst → Reads burst ms end → (ms ≡ messages_of burst) × (end ≡ end_of burst)
+pub reads_as_computed : (burst : List ℕ) (ms : List Content) (end : End) → AreOctets burst → Reads burst ms end →
+    (ms ≡ messages_of burst) × (end ≡ end_of burst)
 reads_as_computed burst ms end octets reads = one_reading 4096 burst ms (messages_of burst) end (end_of burst) reads (reads_computed 4096 burst octets)

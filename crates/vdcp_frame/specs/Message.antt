@@ -1,3 +1,4 @@
+-- A message, and the bytes that spell it.
 use Rattle.std.specs.Prelude.{ℕ, ◌≡◌, ◌+◌, ◌*◌, ◌%◌, ◌-◌, ◌<◌, ◌≤◌, List, [], ◌∷◌, ◌++◌, length, sum, All}
 use Rattle.vdcp_frame.specs.declared.message.Message.{Message}
 use Rattle.vdcp_frame.specs.declared.message.Message.TheVariants.{Ack, Nak, Framed}

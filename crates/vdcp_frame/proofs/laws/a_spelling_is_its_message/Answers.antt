@@ -1,4 +1,4 @@
--- The law a_spelling_is_its_message, from the lemmas.
+-- A spelling reads as its message.
 use Rattle.vdcp_frame.specs.Message.{spelling}
 use Rattle.vdcp_frame.proofs.ReadingLemmas.{Spells-spelling}
 use Rattle.vdcp_frame.proofs.SpellingLemmas.{read_only, read_first, one_message, message_first}

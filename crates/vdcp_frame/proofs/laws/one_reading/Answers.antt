@@ -1,3 +1,4 @@
+-- Each burst has one reading, the computed one.
 use Rattle.vdcp_frame.proofs.BurstLemmas.{reads_computed}
 use Rattle.vdcp_frame.proofs.ReadingLemmas.{one_reading}
 use Rattle.vdcp_frame.proofs.SpellingLemmas.{reads_as_computed}

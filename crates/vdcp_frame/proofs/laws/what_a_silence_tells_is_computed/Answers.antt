@@ -1,4 +1,4 @@
--- The law what_a_silence_tells_is_computed, from the lemmas.
+-- The reading that a silence tells is the computed one.
 use Rattle.vdcp_frame.proofs.FollowLemmas.{told_messages, told_end}
 use Rattle.vdcp_frame.proofs.laws.what_a_silence_tells_is_computed.Goals as goal
 

@@ -1,4 +1,4 @@
--- The law what_is_fed_is_followed, from the lemmas.
+-- A reader follows what it is fed.
 use Rattle.vdcp_frame.proofs.ReaderLemmas.{follows_none}
 use Rattle.vdcp_frame.proofs.FollowLemmas.{next_followed}
 use Rattle.vdcp_frame.proofs.laws.what_is_fed_is_followed.Goals as goal

@@ -1,4 +1,4 @@
--- The law what_is_followed_is_read, from the lemmas.
+-- What is followed is read.
 use Rattle.vdcp_frame.proofs.ReaderLemmas.{silence_reads}
 use Rattle.vdcp_frame.proofs.FollowLemmas.{followed_first, followed_messages, followed_end, followed_further}
 use Rattle.vdcp_frame.proofs.laws.what_is_followed_is_read.Goals as goal

@@ -1,4 +1,4 @@
--- The law what_is_spelt_is_bytes, from the lemmas.
+-- What is spelt is bytes, 1 to 258 for a message.
 use Rattle.vdcp_frame.proofs.ReadingLemmas.{spelt_some}
 use Rattle.vdcp_frame.proofs.SpellingLemmas.{spelt_octets, spelt_most, all_octets}
 use Rattle.vdcp_frame.proofs.laws.what_is_spelt_is_bytes.Goals as goal

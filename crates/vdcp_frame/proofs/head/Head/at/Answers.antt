@@ -1,3 +1,4 @@
+-- A head means what it says.
 use Rattle.std.proofs.Common.{arith, ◌<◌, subst, sym}
 use Rattle.std.proofs.lemmas.List.Elements.{All-from_get_or}
 use Rattle.vdcp_frame.specs.Message.{AreOctets}

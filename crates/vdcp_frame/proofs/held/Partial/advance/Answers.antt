@@ -1,3 +1,4 @@
+-- What the bytes brought, in words of spellings.
 use Rattle.std.proofs.Common.{ℕ, ◌<◌, List, sym, subst, arith}
 use Rattle.std.proofs.lemmas.List.Elements.{All-from_get_or}
 use Rattle.vdcp_frame.specs.declared.held.Held.{Held}

@@ -1,3 +1,4 @@
+-- Behind the count: a whole frame with a bad sum, and a frame that still lacks bytes.
 use Rattle.std.proofs.Common.{◌≡◌, ℕ, ◌+◌, ◌<◌, ◌%◌, List, ◌++◌, length, take, sum, ap, sym, ◌∙◌, arith, rules, length-append}
 use Rattle.std.proofs.lemmas.List.{length-take}
 use Rattle.std.proofs.lemmas.List.Sums.{sum_by-append}
