@@ -1,10 +1,10 @@
 -- One call of feed, with what it gave counted.
-use Rattle.std.proofs.Common.{◌≡◌, ℕ, ◌<◌, ◌≤◌, List, [], ◌∷◌, ◌++◌, length, take, refl, sym, subst, arith}
+use Rattle.std.proofs.Common.{◌≡◌, ℕ, List, [], ◌∷◌, ◌++◌, length, take, refl, sym, subst}
 use Rattle.std.proofs.lemmas.List.{append-nil}
 use Rattle.vdcp_frame.specs.declared.got.Got.{Got}
 use Rattle.vdcp_frame.specs.Message.{Content, content_of}
-use Rattle.vdcp_frame.specs.Progress.{Progress, reading, failed}
-use Rattle.vdcp_frame.specs.Reader.{Answer, message, more, wrong, answer_of, Gives, fed, Follows, FollowsNext}
+use Rattle.vdcp_frame.specs.Progress.{Progress, failed}
+use Rattle.vdcp_frame.specs.Reader.{Answer, message, more, wrong, answer_of, fed, Follows, FollowsNext}
 use Rattle.vdcp_frame.proofs.reader_tests.feed_once.Goals as goal
 
 number : Answer → ℕ
