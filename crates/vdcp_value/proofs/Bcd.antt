@@ -1,3 +1,4 @@
+-- Four bytes and the label that they write.
 use Rattle.std.proofs.Common.{ℕ, ◌<◌, ◌≡◌, ◌/◌, ◌%◌, Bool, true, false, not, arith, refl, nat_lt, sym, ap, ap₂, ◌∙◌, List, length, is_none, Option, None, Some, [], ◌∷◌, slice_index, if◌then◌else◌}
 use Rattle.vdcp_value.proofs.Bytes.{length_of_bytes}
 use Rattle.vdcp_value.proofs.Timecodes.{same_timecode}
@@ -156,7 +157,8 @@ bytes_read_back rate bytes four u = absurd (omega arith)
 pub time_code_of : (rate : Rate) (bytes : List ℕ) → AreBytes 4 bytes → is_time rate bytes ≡ true
     → (timecode : Timecode) × (rate_of timecode ≡ rate) × (bcd_of timecode ≡ bytes)
 time_code_of rate bytes four e =
-    let u = unfaulted rate bytes e in
-    (record { rate = rate; label = label_of_bcd bytes; lawful = lawful_without rate (label_of_bcd bytes) u.label },
-    refl,
-    bytes_read_back rate bytes (length_of_bytes 4 bytes four) u)
+    let u = unfaulted rate bytes e in (
+      record { rate = rate; label = label_of_bcd bytes; lawful = lawful_without rate (label_of_bcd bytes) u.label },
+      refl,
+      bytes_read_back rate bytes (length_of_bytes 4 bytes four) u,
+    )

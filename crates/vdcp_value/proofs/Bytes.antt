@@ -1,3 +1,4 @@
+-- Lists of so many bytes: their length, and each of them below 256.
 use Rattle.std.proofs.Common.{ℕ, List, length, [], ◌∷◌, ◌<◌, ◌≡◌, refl, true, All, get_or, arith, nat_lt, nat_eq, ◌&&◌, Bool}
 use Rattle.std.proofs.lemmas.List.Elements.{All-get_or, All-from_get_or, All-head, All-tail}
 use Rattle.std.proofs.lemmas.List.Folds.{list_all_at}

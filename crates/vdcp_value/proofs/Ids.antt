@@ -1,4 +1,5 @@
-use Rattle.std.proofs.Common.{ℕ, List, length, ◌<◌, ◌≡◌, Bool, true, false, true≢false, All, get_or, refl, sym, ap, ◌∙◌, nat_eq, subst}
+-- An ID is its eight bytes, and the ID of eight bytes has them.
+use Rattle.std.proofs.Common.{ℕ, List, length, ◌<◌, ◌≡◌, Bool, true, false, true≢false, All, get_or, refl, sym, ap, ◌∙◌, subst}
 use Rattle.std.specs.Prelude.{IsTrue, ◌↔◌}
 use Rattle.std.specs.Cmp.{IsEquivalence}
 use Rattle.std.specs.Cmp.Lexicographic.{on_texts_equal, same_text}

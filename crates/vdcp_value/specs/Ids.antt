@@ -1,8 +1,8 @@
--- What is seen of an ID: its bytes, its text, whether another is the same, and the ID of eight bytes.
+-- What is seen of an ID: its bytes, its text and whether another is the same; the ID of eight bytes, and of a text.
 use Rattle.std.specs.Cmp.Lexicographic.{pointwise}
 use Rattle.std.specs.Prelude.{ℕ, ◌≡◌, Bool, true, false, nat_eq, List, [], ◌∷◌, refl}
 use Rattle.vdcp_value.specs.Bytes.{are_bytes}
-use Rattle.vdcp_value.specs.IdText.{text_of_bytes}
+use Rattle.vdcp_value.specs.IdText.{bytes_of_text, text_of_bytes}
 use Rattle.vdcp_value.specs.declared.clip_id.ClipId.{ClipId}
 
 -- the eight bytes of an ID
@@ -28,3 +28,7 @@ id_if false bytes e = zero_id
 -- the ID of eight bytes; of anything else the ID of eight zeros
 abbrev pub id_of : List ℕ → ClipId
 id_of bytes = id_if (are_bytes 8 bytes) bytes refl
+
+-- the ID of a text, where it is the text of one
+abbrev pub id_of_text : List ℕ → ClipId
+id_of_text text = id_of (bytes_of_text text)

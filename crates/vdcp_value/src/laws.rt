@@ -6,7 +6,7 @@ ghost use Rattle.vdcp_value.specs.Bcd.{frames_in, is_time, label_of_bcd};
 ghost use Rattle.vdcp_value.specs.Bytes.{AreBytes};
 ghost use Rattle.vdcp_value.specs.Day.{frames_of_day, lawful_labels, Stands};
 ghost use Rattle.vdcp_value.specs.IdText.{IsIdFault, IsTextOf};
-ghost use Rattle.vdcp_value.specs.Ids.{id_bytes, id_of, is_same_id, text_of_id};
+ghost use Rattle.vdcp_value.specs.Ids.{id_bytes, id_of, id_of_text, is_same_id, text_of_id};
 ghost use Rattle.vdcp_value.specs.LabelText.{IsTextFault};
 ghost use Rattle.vdcp_value.specs.Labels.{is_lawful};
 ghost use Rattle.vdcp_value.specs.Parts.{part_fits};
@@ -55,6 +55,11 @@ pub fn the_text_of_an_id_is_short()
 /// A text is at most one ID's.
 pub fn a_text_is_of_one_id()
     ensures { (a b : ClipId) (text : List ℕ) → IsTextOf text (id_bytes a) → IsTextOf text (id_bytes b) → a ≡ b }
+{}
+
+/// An ID's text says the ID: `id_of_text` gives it.
+pub fn a_text_says_its_id()
+    ensures { (id : ClipId) (text : List ℕ) → IsTextOf text (id_bytes id) → id_of_text text ≡ id }
 {}
 
 /// A text that is refused is no ID's.
