@@ -1,3 +1,4 @@
+mod HeardRows
 mod WorkedRows
 mod LogRows
 pub mod Lists
