@@ -16,7 +16,7 @@ use Rattle.vdcp_auto.specs.declared.phase.Mode.{Mode}
 use Rattle.vdcp_auto.specs.declared.phase.Mode.TheVariants.{Plain, Confirming}
 use Rattle.vdcp_auto.specs.declared.phase.Phase.{Phase}
 use Rattle.vdcp_auto.specs.declared.phase.Stage.{Stage}
-use Rattle.vdcp_auto.specs.declared.phase.Stage.TheVariants.{Running, Ended}
+use Rattle.vdcp_auto.specs.declared.phase.Stage.TheVariants.{Ready, Awaiting, Ended}
 use Rattle.vdcp_auto.specs.declared.phase.State.{State}
 use Rattle.vdcp_auto.specs.Log.{is_cue, is_stop, is_close, is_grant, is_acked}
 use Rattle.vdcp_auto.specs.Settled.{has_open_play, settled}
@@ -32,7 +32,7 @@ use Rattle.vdcp_auto.proofs.LookBacks.{has_open_play-push, settled-push, LastCue
 use Rattle.vdcp_auto.proofs.Runs.{Run, no_run, run_more, run_is, run_has, IsFirst, first_none, first_push as still_first}
 use Rattle.vdcp_auto.proofs.Keeps.{InPhase, CueIs, TrialIs, IsGoing, RowIs, AtEnd, AtStage, Holds}
 use Rattle.vdcp_auto.proofs.Steps.{Sends, sends_open, sends_select, sends_seen, sends_exists, sends_whole, sends_part, sends_wait, sends_play, sends_probe, sends_check, sends_drain, sends_close, sends_halt, sends_halt_close}
-use Rattle.vdcp_auto.proofs.Calls.{sends_of, begun_holds, ticked_holds, stopped_holds, taken_holds, remembered, came_holds}
+use Rattle.vdcp_auto.proofs.Calls.{sends_of, begun_holds, ticked_holds, state as state_at, stopped_holds, taken_holds, remembered, came_holds}
 
 -- What a log leaves behind.
 
@@ -170,12 +170,12 @@ may_send mode list limit port log m stop tries sends_halt_close a holds = record
   after_close = λ h. refl;
 }
 
-may_await : (plan : Plan) (log : List Exchange) (m : Memo) (awaiting stop : Bool) (unanswered tries : ℕ) (stage : Stage) (c : Command)
-    → Agrees plan.mode plan.limit log m → AtStage plan.mode plan.list plan.limit m awaiting stop tries stage
-    → awaited_in plan awaiting stage ≡ Some c → May plan.mode plan.list log c
-may_await plan log m false stop unanswered tries stage c a holds is = cc
-may_await plan log m true stop unanswered tries (Ended outcome) c a holds is = cc
-may_await plan log m true stop unanswered tries (Running p) c a holds is =
+may_await : (plan : Plan) (log : List Exchange) (m : Memo) (stop : Bool) (tries : ℕ) (stage : Stage) (c : Command)
+    → Agrees plan.mode plan.limit log m → AtStage plan.mode plan.list plan.limit m stop tries stage
+    → awaited_in plan stage ≡ Some c → May plan.mode plan.list log c
+may_await plan log m stop tries (Ready p) c a holds is = cc
+may_await plan log m stop tries (Ended outcome) c a holds is = cc
+may_await plan log m stop tries (Awaiting p) c a holds is =
     may_send plan.mode plan.list plan.limit plan.port log m stop tries (sends_of plan.list plan.port p c is) a holds
 
 -- Every reached controller.
@@ -189,7 +189,7 @@ record Known (plan : Plan) (state : State) (log : List Exchange) : Type 0 where
 
 may_next : (plan : Plan) (state : State) (log : List Exchange) (c : Command) → Known plan state log → awaited plan state ≡ Some c → May plan.mode plan.list log c
 may_next plan state log c known is =
-    may_await plan log known.memo state.awaiting state.stop state.unanswered state.tries state.stage c known.agrees known.holds.stage is
+    may_await plan log known.memo state.stop state.tries state.stage c known.agrees known.holds.stage is
 
 -- the exchange that ends is that of the awaited command
 ended_if : (came : Option Heard) (c : Command) (e : Exchange) (ends : Bool) → (if ends then Some (record { command = c; heard = came }) else None) ≡ Some e → c ≡ e.command
@@ -258,7 +258,8 @@ known plan (called {state} {log} r Stop) = known_quiet plan state (stopped state
 -- The ends.
 
 lost_row : (limit row unanswered : ℕ) (stage : Stage) → RowIs limit row unanswered stage → outcome_of stage ≡ Some Lost → limit ≤ row
-lost_row limit row unanswered (Running p) is lost = cc
+lost_row limit row unanswered (Ready p) is lost = cc
+lost_row limit row unanswered (Awaiting p) is lost = cc
 lost_row limit row unanswered (Ended Lost) is lost = is
 lost_row limit row unanswered (Ended Done) is lost = cc
 lost_row limit row unanswered (Ended Stopped) is lost = cc
@@ -269,7 +270,8 @@ lost_row limit row unanswered (Ended (Foreign k)) is lost = cc
 lost_row limit row unanswered (Ended (Strange k)) is lost = cc
 
 row_lost : (limit row unanswered : ℕ) (stage : Stage) → RowIs limit row unanswered stage → (row < limit → ⊥) → outcome_of stage ≡ Some Lost
-row_lost limit row unanswered (Running p) is long = absurd (long is.1)
+row_lost limit row unanswered (Ready p) is long = absurd (long is.1)
+row_lost limit row unanswered (Awaiting p) is long = absurd (long is.1)
 row_lost limit row unanswered (Ended Lost) is long = refl
 row_lost limit row unanswered (Ended Done) is long = absurd (long is)
 row_lost limit row unanswered (Ended Stopped) is long = absurd (long is)
@@ -279,10 +281,11 @@ row_lost limit row unanswered (Ended (Refused k)) is long = absurd (long is)
 row_lost limit row unanswered (Ended (Foreign k)) is long = absurd (long is)
 row_lost limit row unanswered (Ended (Strange k)) is long = absurd (long is)
 
-at_outcome : (mode : Mode) (list : List Item) (limit : ℕ) (m : Memo) (awaiting stop : Bool) (tries : ℕ) (stage : Stage) (outcome : Outcome)
-    → AtStage mode list limit m awaiting stop tries stage → outcome_of stage ≡ Some outcome → AtEnd mode list limit m outcome
-at_outcome mode list limit m awaiting stop tries (Running p) outcome holds is = cc
-at_outcome mode list limit m awaiting stop tries (Ended end) outcome holds is = let same : end ≡ outcome = cc in subst (AtEnd mode list limit m) same holds
+at_outcome : (mode : Mode) (list : List Item) (limit : ℕ) (m : Memo) (stop : Bool) (tries : ℕ) (stage : Stage) (outcome : Outcome)
+    → AtStage mode list limit m stop tries stage → outcome_of stage ≡ Some outcome → AtEnd mode list limit m outcome
+at_outcome mode list limit m stop tries (Ready p) outcome holds is = cc
+at_outcome mode list limit m stop tries (Awaiting p) outcome holds is = cc
+at_outcome mode list limit m stop tries (Ended end) outcome holds is = let same : end ≡ outcome = cc in subst (AtEnd mode list limit m) same holds
 
 refused : (plan : Plan) (log : List Exchange) (m : Memo) (k : ℕ) → plan.mode ≡ Confirming → Agrees plan.mode plan.limit log m
     → TrialIs plan.list k plan.limit m → IsRefused plan.list plan.limit log k
@@ -302,9 +305,11 @@ each : (o : Option Command) (P : Command → Type 0) → ((c : Command) → o �
 each None P h = tt
 each (Some c) P h = h c refl
 
-given_awaited : (awaiting : Bool) (next : Option Command) (c : Command) → (if awaiting then None else next) ≡ Some c → next ≡ Some c
-given_awaited true next c is = cc
-given_awaited false next c is = is
+given_awaited : (plan : Plan) (stage : Stage) (take stop : Bool) (unanswered settled tries : ℕ) (c : Command)
+    → given plan (state_at stage take stop unanswered settled tries) ≡ Some c → awaited plan (ticked (state_at stage take stop unanswered settled tries)) ≡ Some c
+given_awaited plan (Ready p) take stop unanswered settled tries c is = is
+given_awaited plan (Awaiting p) take stop unanswered settled tries c is = cc
+given_awaited plan (Ended outcome) take stop unanswered settled tries c is = cc
 
 pub lawful : (plan : Plan) (state : State) (log : List Exchange) → Reached plan state log → IsLawful plan state log
 lawful plan state log reached =
@@ -312,11 +317,11 @@ lawful plan state log reached =
     let a = k.agrees in
     let h = k.holds in
     let end : (outcome : Outcome) → outcome_of state.stage ≡ Some outcome → AtEnd plan.mode plan.list plan.limit k.memo outcome =
-    λ outcome is. at_outcome plan.mode plan.list plan.limit k.memo state.awaiting state.stop state.tries state.stage outcome h.stage is in
+    λ outcome is. at_outcome plan.mode plan.list plan.limit k.memo state.stop state.tries state.stage outcome h.stage is in
     record {
       keeps_rules = k.rules;
       may_await = each (awaited plan state) _ (λ c is. may_next plan state log c k is);
-      may_give = each (given plan state) _ (λ c is. may_next plan (ticked state) log c (known plan (called reached Tick)) (given_awaited state.awaiting (awaited plan (ticked state)) c is));
+      may_give = each (given plan state) _ (λ c is. may_next plan (ticked state) log c (known plan (called reached Tick)) (given_awaited plan state.stage state.take state.stop state.unanswered state.settled state.tries c is));
       is_settled = h.settled ∙ sym a.count;
       is_lost = (
         λ lost. record {
