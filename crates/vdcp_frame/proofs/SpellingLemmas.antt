@@ -63,3 +63,8 @@ message_first m more fits octets =
 pub reads_as_computed : (burst : List ℕ) (ms : List Content) (end : End) → AreOctets burst → Reads burst ms end →
     (ms ≡ messages_of burst) × (end ≡ end_of burst)
 reads_as_computed burst ms end octets reads = one_reading 4096 burst ms (messages_of burst) end (end_of burst) reads (reads_computed 4096 burst octets)
+
+pub written_computed : (ms : List Content) (bytes : List ℕ) → SpellsAll ms bytes → length bytes ≤ 4096 → (messages_of bytes ≡ ms) × (end_of bytes ≡ clean)
+written_computed ms bytes all fits =
+    let same = reads_as_computed bytes ms clean (all_octets ms bytes all) (read_alone 4096 ms bytes all fits) in
+    (sym same.0, sym same.1)

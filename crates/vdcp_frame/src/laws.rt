@@ -56,6 +56,8 @@ pub fn written_is_read()
         (others : List Content) × (ns ≡ ms ++ others) }
     ensures alone { (ms : List Content) (bytes : List ℕ) →
         SpellsAll ms bytes → length bytes ≤ burst_limit → Reads bytes ms clean }
+    ensures computed { (ms : List Content) (bytes : List ℕ) →
+        SpellsAll ms bytes → length bytes ≤ burst_limit → (messages_of bytes ≡ ms) × (end_of bytes ≡ clean) }
 {}
 
 /// A spelling alone reads as its one message, and with anything behind it as this message first.

@@ -1,8 +1,8 @@
 ghost use Rattle.std.specs.Prelude.{◌≤◌};
 
-use crate::reader_tests::{is_read_as, read_in_pieces};
+use crate::reader_tests::{is_read_as, read_in_pieces, read_next};
 use crate::tests::reading_of;
-use crate::{Ended, Fault, Full, Got, Message, Reader, Step, write};
+use crate::{Fault, Full, Message, Reader, Step, write};
 use arrayvec::ArrayVec;
 use std::alloc::{AllocError, Global};
 use std::test::Fail;
@@ -88,29 +88,29 @@ fn what_stands_at_the_limit_and_behind_it(rt: HostRuntime) -> Result<(), Fail> {
     Ok(())
 }
 
+// One reader reads these bursts, each behind the silence of the one before.
 #[test]
 fn a_place_counts_from_the_silence(rt: HostRuntime) {
+    let rows: [(&[u8], &[Message], Step); 6] = [
+        (&[0x04, 0x02], &[Message::Ack], Step::Cut(1)),
+        (
+            &[0x04, 0x03, 0x04],
+            &[Message::Ack],
+            Step::Fault(Fault::BadStart, 2),
+        ),
+        (&[0x02, 0x01, 0x10], &[], Step::Fault(Fault::BadCount(1), 2)),
+        (
+            &[0x05, 0x04, 0x02, 0x02, 0x10, 0x01, 0xEE],
+            &[Message::Nak(0x04)],
+            Step::Fault(Fault::BadSum, 7),
+        ),
+        (&[0x02, 0x02, 0x10], &[], Step::Cut(3)),
+        (&[0x01], &[], Step::Fault(Fault::BadStart, 1)),
+    ];
     let mut reader = Reader::new();
-    assert_eq!(rt; reader.feed(&[0x04, 0x02]), (1, Got::Message(Message::Ack)));
-    assert_eq!(rt; reader.feed(&[0x02]), (1, Got::More));
-    assert_eq!(rt; reader.silence(), Ended::Cut(1));
-    assert_eq!(rt; reader.feed(&[0x04, 0x03]), (1, Got::Message(Message::Ack)));
-    assert_eq!(rt;
-        reader.feed(&[0x03, 0x04]),
-        (1, Got::Fault(Fault::BadStart, 2))
-    );
-    assert_eq!(rt; reader.silence(), Ended::AfterFault);
-    assert_eq!(rt; reader.feed(&[0x02]), (1, Got::More));
-    assert_eq!(rt;
-        reader.feed(&[0x01, 0x10]),
-        (1, Got::Fault(Fault::BadCount(1), 2))
-    );
-    assert_eq!(rt; reader.silence(), Ended::AfterFault);
-    assert_eq!(rt; reader.feed(&[0x02, 0x02, 0x10]), (3, Got::More));
-    assert_eq!(rt;
-        reader.feed(&[0x01, 0xEE]),
-        (2, Got::Fault(Fault::BadSum, 5))
-    );
+    for (burst, messages, end) in rows {
+        read_next(&rt, &mut reader, burst, 2, 2, messages, end);
+    }
 }
 
 const fn framed(kind: u8, unit: u8, code: u8, rest: &'static [u8]) -> Message<'static> {

@@ -131,7 +131,19 @@ pub(crate) fn read_in_pieces(
     messages: &[Message],
     end: Step,
 ) {
-    let mut reader = Reader::new();
+    read_next(rt, &mut Reader::new(), burst, cut, step, messages, end);
+}
+
+// The same with a reader that may have read other bursts.
+pub(crate) fn read_next(
+    rt: &impl Abort,
+    reader: &mut Reader,
+    burst: &[u8],
+    cut: usize,
+    step: usize,
+    messages: &[Message],
+    end: Step,
+) {
     let mut expected = Expected {
         messages,
         end,
@@ -139,11 +151,11 @@ pub(crate) fn read_in_pieces(
         failed: false,
     };
     let (first, left) = burst.split_at(cut.min(burst.len()));
-    feed_to_end(rt, &mut reader, first, &mut expected);
+    feed_to_end(rt, reader, first, &mut expected);
     for piece in left.chunks(step.max(1)) {
-        feed_to_end(rt, &mut reader, piece, &mut expected);
+        feed_to_end(rt, reader, piece, &mut expected);
     }
-    end_burst(rt, &mut reader, &expected);
+    end_burst(rt, reader, &expected);
 }
 
 // Whole, byte by byte, and cut at each place that is a multiple of `places`.
