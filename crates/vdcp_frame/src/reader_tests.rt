@@ -99,9 +99,9 @@ fn read_in_pieces(
         given: 0,
         failed: false,
     };
-    let (first, rest) = burst.split_at(cut.min(burst.len()));
+    let (first, left) = burst.split_at(cut.min(burst.len()));
     feed_to_end(rt, &mut reader, first, &mut expected);
-    for piece in rest.chunks(step.max(1)) {
+    for piece in left.chunks(step.max(1)) {
         feed_to_end(rt, &mut reader, piece, &mut expected);
     }
     end_burst(rt, &mut reader, &expected);

@@ -1,6 +1,7 @@
 mod Examples
 pub mod Frames
-pub mod OneMessage
+pub mod FewMessages
+pub mod LawsBelow
 pub mod Answering
 pub mod Readable
 pub mod Sizes
@@ -10,3 +11,4 @@ pub mod Reading
 pub mod Refusals
 mod StateByte
 pub mod TableLaws
+pub mod Units

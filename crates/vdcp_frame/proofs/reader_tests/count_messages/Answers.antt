@@ -1,3 +1,4 @@
+-- One more call of a loop over a piece.
 use Rattle.std.proofs.Common.{◌≡◌, ℕ, ◌+◌, ◌-◌, ◌<◌, ◌≤◌, List, [], ◌++◌, length, take, drop, refl, sym, ap, subst, ◌∙◌, append_assoc, arith, length-append}
 use Rattle.std.proofs.lemmas.List.{append-nil, take_all, take_rest, length-drop}
 use Rattle.std.proofs.Math.Seq.{take-add}
