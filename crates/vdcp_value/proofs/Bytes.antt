@@ -35,7 +35,7 @@ are_bytes_of n bytes size fits =
   where
     all_bytes : (bytes : List ℕ) → All (λ byte. byte < 256) bytes → list_all (λ byte. nat_lt byte 256) bytes ≡ true
     all_bytes [] fits = refl
-    all_bytes (byte ∷ rest) fits =
-        let h = All-head (λ b. b < 256) byte rest fits in
+    all_bytes (byte ∷ more) fits =
+        let h = All-head (λ b. b < 256) byte more fits in
         let here : nat_lt byte 256 ≡ true = grind (arith, h) in
-        rw here (all_bytes rest (All-tail (λ b. b < 256) byte rest fits))
+        rw here (all_bytes more (All-tail (λ b. b < 256) byte more fits))

@@ -22,8 +22,8 @@ pub trim-pads : (xs : List ℕ) → (n : ℕ) × (without_end_spaces xs ++ repli
 trim-pads [] = (0, refl)
 trim-pads (x ∷ xs) = kept x xs (without_end_spaces xs) (trim-pads xs)
   where
-    kept : (x : ℕ) (xs rest : List ℕ) → (n : ℕ) × (rest ++ replicate n 32 ≡ xs)
-        → (n : ℕ) × (kept_before x rest ++ replicate n 32 ≡ x ∷ xs)
+    kept : (x : ℕ) (xs more : List ℕ) → (n : ℕ) × (more ++ replicate n 32 ≡ xs)
+        → (n : ℕ) × (kept_before x more ++ replicate n 32 ≡ x ∷ xs)
     kept x xs [] (n, e) =
         elim (both_ways (nat_eq x 32)) [
           | inl h ↦

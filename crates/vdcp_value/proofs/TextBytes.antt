@@ -21,9 +21,9 @@ one_byte byte below =
 
 bytes_of_digits-pairs : (bytes : List ℕ) → all_below bytes ≡ true → bytes_of_digits (flat_map hex_pair bytes) ≡ bytes
 bytes_of_digits-pairs [] e = refl
-bytes_of_digits-pairs (byte ∷ rest) e =
-    let h = both_hold (nat_lt byte 256) (all_below rest) e in
-    ap₂ (λ x xs. x ∷ xs) (one_byte byte (below_is byte h.0)) (bytes_of_digits-pairs rest h.1)
+bytes_of_digits-pairs (byte ∷ more) e =
+    let h = both_hold (nat_lt byte 256) (all_below more) e in
+    ap₂ (λ x xs. x ∷ xs) (one_byte byte (below_is byte h.0)) (bytes_of_digits-pairs more h.1)
 
 not_hex : (text : List ℕ) → length text ≤ 8 → is_hex_long text ≡ false
 not_hex text short = grind arith

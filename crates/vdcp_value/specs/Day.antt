@@ -38,7 +38,7 @@ Stands label labels = IsTrue (list_any (is_same label) labels)
 -- how many labels of a list stand before this one
 abbrev pub labels_before : Label → List Label → ℕ
 labels_before label [] = 0
-labels_before label (other ∷ rest) = if is_same label other then 0 else suc (labels_before label rest)
+labels_before label (other ∷ more) = if is_same label other then 0 else suc (labels_before label more)
 
 -- the frame number of a label: how many lawful labels stand before it in the day
 unfoldable pub frame_number : Rate → Label → ℕ

@@ -67,12 +67,12 @@ IsIdFault text HasPlainForm = (bytes : List ℕ) × AreBytes 8 bytes × (text �
 -- a byte before what is kept behind it, but no space before nothing
 abbrev pub kept_before : ℕ → List ℕ → List ℕ
 kept_before byte [] = if nat_eq byte 32 then [] else byte ∷ []
-kept_before byte (next ∷ rest) = byte ∷ next ∷ rest
+kept_before byte (next ∷ more) = byte ∷ next ∷ more
 
 -- the bytes without the spaces at their end
 abbrev pub without_end_spaces : List ℕ → List ℕ
 without_end_spaces [] = []
-without_end_spaces (byte ∷ rest) = kept_before byte (without_end_spaces rest)
+without_end_spaces (byte ∷ more) = kept_before byte (without_end_spaces more)
 
 -- the one text of these bytes
 abbrev pub text_of_bytes : List ℕ → List ℕ
@@ -86,7 +86,7 @@ digit_number digit = if nat_lt digit 58 then digit - 48 else digit - 87
 abbrev pub bytes_of_digits : List ℕ → List ℕ
 bytes_of_digits [] = []
 bytes_of_digits (upper ∷ []) = []
-bytes_of_digits (upper ∷ lower ∷ rest) = (16 * digit_number upper + digit_number lower) ∷ bytes_of_digits rest
+bytes_of_digits (upper ∷ lower ∷ more) = (16 * digit_number upper + digit_number lower) ∷ bytes_of_digits more
 
 -- the bytes that the text of an ID stands for
 abbrev pub bytes_of_text : List ℕ → List ℕ

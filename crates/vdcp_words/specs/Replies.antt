@@ -1,3 +1,4 @@
+-- The table of replies: the message of each, what it is read from, and what a message is read as.
 use Rattle.std.specs.Prelude.{ℕ, ◌≡◌, ◌≢◌, ◌<◌, ◌≤◌, Bool, true, false, not, nat_eq, bit_and, List, [], ◌∷◌, length, take, slice_index, Some, None, is_some, Result, Ok, Err, if◌then◌else◌}
 use Rattle.vdcp_value.specs.Bytes.{AreBytes}
 use Rattle.vdcp_value.specs.Ids.{id_bytes}
