@@ -1,5 +1,6 @@
 -- The clips, plans, replies and inputs that the computed examples share.
-use Rattle.std.specs.Prelude.{ℕ, true, Option, None, Some, List, [], ◌∷◌, refl}
+use Rattle.std.specs.Prelude.{ℕ, true, Option, None, Some, List, [], ◌∷◌}
+use Rattle.vdcp_value.specs.Ids.{id_of}
 use Rattle.vdcp_value.specs.declared.clip_id.ClipId.{ClipId}
 use Rattle.vdcp_value.specs.declared.part.Item.{Item}
 use Rattle.vdcp_words.specs.declared.reply.Reply.{Reply}
@@ -11,13 +12,13 @@ use Rattle.vdcp_auto.specs.declared.phase.Mode.{Mode}
 use Rattle.vdcp_auto.specs.Plan.{Plan}
 
 abbrev pub clip_one : ClipId
-clip_one = record { bytes = 0x43 ∷ 0x4c ∷ 0x49 ∷ 0x50 ∷ 0x30 ∷ 0x30 ∷ 0x30 ∷ 0x31 ∷ []; eight = refl }
+clip_one = id_of (0x43 ∷ 0x4c ∷ 0x49 ∷ 0x50 ∷ 0x30 ∷ 0x30 ∷ 0x30 ∷ 0x31 ∷ [])
 
 abbrev pub clip_two : ClipId
-clip_two = record { bytes = 0x43 ∷ 0x4c ∷ 0x49 ∷ 0x50 ∷ 0x30 ∷ 0x30 ∷ 0x30 ∷ 0x32 ∷ []; eight = refl }
+clip_two = id_of (0x43 ∷ 0x4c ∷ 0x49 ∷ 0x50 ∷ 0x30 ∷ 0x30 ∷ 0x30 ∷ 0x32 ∷ [])
 
 abbrev pub clip_nine : ClipId
-clip_nine = record { bytes = 0x43 ∷ 0x4c ∷ 0x49 ∷ 0x50 ∷ 0x30 ∷ 0x30 ∷ 0x30 ∷ 0x39 ∷ []; eight = refl }
+clip_nine = id_of (0x43 ∷ 0x4c ∷ 0x49 ∷ 0x50 ∷ 0x30 ∷ 0x30 ∷ 0x30 ∷ 0x39 ∷ [])
 
 abbrev pub whole : ClipId → Item
 whole id = record { id = id; part = None }

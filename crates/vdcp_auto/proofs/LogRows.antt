@@ -67,15 +67,15 @@ cued_byte _ = 0
 
 no_cue_of_another_clip : ¬ May Plain list (granted ∷ []) (command.PlayCue clip_two)
 no_cue_of_another_clip may =
-    let same : command.PlayCue clip_two ≡ command.PlayCue clip_one = may.row.cues_next in
+    let same : command.PlayCue clip_two ≡ command.PlayCue clip_one = may.rule.cues_next in
     let byte : 0x32 ≡ cued_byte (command.PlayCue clip_one) = ap cued_byte same in
     absurd (omega arith)
 
 no_cue_of_another_kind : ¬ May Plain (record { id = clip_one; part = Some (record { start = []; duration = [] }) } ∷ []) (granted ∷ []) (command.PlayCue clip_one)
-no_cue_of_another_kind may = let row = may.row.cues_next in cc
+no_cue_of_another_kind may = let row = may.rule.cues_next in cc
 
 no_cue_after_the_last_item : ¬ May Plain [] (granted ∷ []) (command.PlayCue clip_one)
-no_cue_after_the_last_item may = may.row.cues_next
+no_cue_after_the_last_item may = may.rule.cues_next
 
 -- Silences in a row.
 

@@ -4,10 +4,10 @@ ghost use Rattle.vdcp_auto.specs.Turn as turns;
 ghost use Rattle.vdcp_words.specs.Commands.{IsWritableCommand};
 
 use crate::exchange::{Exchange, Heard};
+use crate::meaning;
 use crate::outcome::Outcome;
 use crate::phase::{Mode, Phase, Stage, State, Turn};
 use crate::source::Source;
-use crate::words;
 use std::marker::Model;
 use vdcp_words::Command;
 
@@ -177,7 +177,7 @@ impl<S: Source> Controller<S> {
             command: self.command_in(phase),
             heard: came,
         };
-        if !words::is_end(self.mode, &exchange.command, &came) {
+        if !meaning::is_end(self.mode, &exchange.command, &came) {
             return None;
         }
         self.end(phase, &exchange);
@@ -241,8 +241,8 @@ impl<S: Source> Controller<S> {
         } }
     {
         let turn = self.turn_of(phase, exchange);
-        let counts = words::is_counted(self.mode, exchange);
-        let unanswered = match words::answer_in(exchange) {
+        let counts = meaning::is_counted(self.mode, exchange);
+        let unanswered = match meaning::answer_in(exchange) {
             Some(_) if counts => 0,
             None if counts => self.state.unanswered + 1,
             Some(_) | None => self.state.unanswered,

@@ -1,4 +1,4 @@
-//! What replies and commands mean to a controller.
+//! What replies, commands and exchanges mean to a controller.
 ghost use Rattle.std.specs.Prelude.{◌≡◌};
 ghost use Rattle.vdcp_auto.specs.Replies as replies;
 ghost use Rattle.vdcp_auto.specs.Commands as commands;
