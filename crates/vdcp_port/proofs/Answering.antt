@@ -120,10 +120,12 @@ sent_as_read law p burst ms end fits reads =
     let one = law burst ms end fits reads in
     ap₂ (sent_bytes p) (sym one.0) (sym one.1) ∙ sent_in_parts p ms end
 
-pub aired_as_read : OneReading → (p : ClockedPort) (burst : List ℕ) (ms : List Content) (end : End) → AreOctets burst → Reads burst ms end → aired_for p burst ≡ aired_on_way p ms
+pub aired_as_read : OneReading → (p : ClockedPort) (burst : List ℕ) (ms : List Content) (end : End) → AreOctets burst → Reads burst ms end
+    → aired_for p burst ≡ aired_on_way p ms
 aired_as_read law p burst ms end fits reads = ap (aired_on_way p) (sym (law burst ms end fits reads).0)
 
-pub after_as_read : OneReading → (p : ClockedPort) (burst : List ℕ) (ms : List Content) (end : End) → AreOctets burst → Reads burst ms end → after_burst p burst ≡ after_messages p ms
+pub after_as_read : OneReading → (p : ClockedPort) (burst : List ℕ) (ms : List Content) (end : End) → AreOctets burst → Reads burst ms end
+    → after_burst p burst ≡ after_messages p ms
 after_as_read law p burst ms end fits reads = ap (after_messages p) (sym (law burst ms end fits reads).0)
 
 -- the same by how the reader ends it

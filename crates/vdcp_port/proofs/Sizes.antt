@@ -36,7 +36,8 @@ short_reply law unit (Opened granted) w = lit≤ tt
 short_reply law unit (State bitmap None) w = lit≤ tt
 short_reply law unit (State bitmap (Some state)) w = lit≤ tt
 short_reply law unit (Active None) w = lit≤ tt
-short_reply law unit (Active (Some id)) w = omega (arith, law.counted 8 (id_bytes id) (law.eight id), frame_size (id_bytes id) (check_byte (16 * 3 + unit + 0x87 + sum (1 ∷ id_bytes id))))
+short_reply law unit (Active (Some id)) w =
+    omega (arith, law.counted 8 (id_bytes id) (law.eight id), frame_size (id_bytes id) (check_byte (16 * 3 + unit + 0x87 + sum (1 ∷ id_bytes id))))
 short_reply law unit (Size time) w = omega (arith, law.counted 4 time w, frame_size)
 short_reply law unit (Present there) w = lit≤ tt
 
@@ -80,13 +81,16 @@ one_item_for_five p (framed kind unit code rest) bytes h =
     let one = one_item (message_row p.clips p.state (framed kind unit code rest)).change in
     omega (arith, one, ap length h.spelt, frame_size rest h.check)
 
--- the same of messages one after another
+-- ---- of messages one after another, and of a burst
 
-pub short_for_all : ValueBytes → (p : ClockedPort) (ms : List Content) (bytes : List ℕ) → SpellsAll ms bytes → length (bytes_for_all p ms) ≤ 3 * length bytes
+abbrev pub ShortAnswers : Type 0
+ShortAnswers = (p : ClockedPort) (m : Content) (bytes : List ℕ) → Spells m bytes → length (bytes_for p m) ≤ 3 * length bytes
+
+pub short_for_all : ShortAnswers → (p : ClockedPort) (ms : List Content) (bytes : List ℕ) → SpellsAll ms bytes → length (bytes_for_all p ms) ≤ 3 * length bytes
 short_for_all law p [] bytes spelt = omega arith
 short_for_all law p (m ∷ ms) bytes (first, others, spells, spelt, parts) =
     let now = after_message p m in
-    let one = short_for_message law p m first spells in
+    let one = law p m first spells in
     let more = short_for_all law now ms others spelt in
     let both : length (bytes_for_all p (m ∷ ms)) ≡ length (bytes_for p m) + length (bytes_for_all now ms) =
     ap length (bytes_for_both p (m ∷ []) ms) ∙ length-append (bytes_for_all p (m ∷ [])) (bytes_for_all now ms)
@@ -106,12 +110,10 @@ short_end unit clean = lit≤ tt
 short_end unit (cut count) = lit≤ tt
 short_end unit (fault which place) = lit≤ tt
 
--- and of a burst
-
 size_of_front : (limit : ℕ) (burst whole others : List ℕ) → take limit burst ≡ whole ++ others → length whole ≤ min (length burst) limit
 size_of_front limit burst whole others parts = omega (arith, ap length parts, length-append whole others, length-take limit burst)
 
-pub fits_most : ValueBytes → SomeReading → (p : ClockedPort) (burst : List ℕ) → AreOctets burst → length (sent_for p burst) ≤ most_sent burst
+pub fits_most : ShortAnswers → SomeReading → (p : ClockedPort) (burst : List ℕ) → AreOctets burst → length (sent_for p burst) ≤ most_sent burst
 fits_most law reading p burst fits =
     let front = (reading burst fits).front in
     let ms = messages_of burst in

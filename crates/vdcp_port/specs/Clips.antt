@@ -1,3 +1,4 @@
+-- What the clips of a catalogue are, and which items can be cued of them.
 use Rattle.std.specs.Map.{lookup}
 use Rattle.std.specs.Prelude.{ℕ, Bool, true, false, max, List, Option, None, Some, is_some}
 use Rattle.vdcp_value.specs.Ids.{is_same_id}

@@ -109,7 +109,7 @@ impl<C: Catalogue> Port<C> {
         ensures answered { HasAnsweredAll self.old self.new burst.now (S.written out.old) (S.written out.new) result.0 result.1 }
         ensures room { 2 ≤ S.room out.new }
     {
-        laws::what_a_burst_needs();
+        laws::an_answer_is_short();
         let mut from = 0;
         let mut aired = None;
         'messages: loop {

@@ -187,16 +187,21 @@ pub fn one_answer_to_the_end()
     vdcp_frame::laws::one_reading();
 }
 
-/// No answer has more than three bytes for each byte of its message. So what is sent for a burst of bytes,
-/// and what airs in it, fits the room that is made for it.
-pub fn what_a_burst_needs()
-    ensures message { (p : ClockedPort) (m : Content) (bytes : List ℕ) → Spells m bytes → length (bytes_for p m) ≤ 3 * length bytes }
-    ensures sent { (p : ClockedPort) (burst : List ℕ) → AreOctets burst → length (sent_for p burst) ≤ most_sent burst }
-    ensures aired { (p : ClockedPort) (burst : List ℕ) → AreOctets burst → length (aired_for p burst) ≤ most_aired burst }
+/// An answer has at most three bytes for each byte of its message.
+pub fn an_answer_is_short()
+    ensures { (p : ClockedPort) (m : Content) (bytes : List ℕ) → Spells m bytes → length (bytes_for p m) ≤ 3 * length bytes }
 {
     vdcp_value::laws::bytes_are_counted();
     vdcp_value::laws::an_id_is_its_bytes();
     vdcp_value::laws::a_time_code_has_lawful_bytes();
+}
+
+/// What is sent for a burst of bytes, and what airs in it, fits the room that is made for it.
+pub fn what_a_burst_needs()
+    ensures sent { (p : ClockedPort) (burst : List ℕ) → AreOctets burst → length (sent_for p burst) ≤ most_sent burst }
+    ensures aired { (p : ClockedPort) (burst : List ℕ) → AreOctets burst → length (aired_for p burst) ≤ most_aired burst }
+{
+    an_answer_is_short();
     vdcp_frame::laws::one_reading();
 }
 

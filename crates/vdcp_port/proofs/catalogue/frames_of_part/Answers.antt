@@ -1,3 +1,4 @@
+-- A duration that is no time code is of no part that fits.
 use Rattle.std.proofs.Common.{subst, sym}
 use Rattle.std.specs.Prelude.{IsTrue}
 use Rattle.vdcp_value.specs.Bcd.{is_time}

@@ -1,3 +1,4 @@
+-- The answers to a burst, by what the streaming reader gave.
 use Rattle.vdcp_port.proofs.Answering.{sent_as_ended, aired_as_ended, after_as_ended}
 use Rattle.vdcp_port.proofs.laws.a_burst_is_answered_as_it_ended.Goals as goal
 

@@ -1,3 +1,4 @@
+-- The answers to a burst, by its reading.
 use Rattle.vdcp_port.proofs.Answering.{sent_as_read, aired_as_read, after_as_read}
 use Rattle.vdcp_port.proofs.laws.a_burst_is_answered_as_it_is_read.Goals as goal
 

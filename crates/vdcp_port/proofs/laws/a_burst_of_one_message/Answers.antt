@@ -1,3 +1,4 @@
+-- The spelling of a message is a burst with this message and a clean end.
 use Rattle.vdcp_frame.specs.Message.{spelling}
 use Rattle.vdcp_port.proofs.FewMessages.{sent_for_one, aired_with_one, after_with_one}
 use Rattle.vdcp_port.proofs.laws.a_burst_of_one_message.Goals as goal

@@ -1,3 +1,4 @@
+-- A command is asked of the unit that it names.
 use Rattle.vdcp_port.proofs.Reading.{asks_own_unit}
 use Rattle.vdcp_port.proofs.laws.a_command_asks_its_own_unit.Goals as goal
 

@@ -1,3 +1,4 @@
+-- The row of a command's message is the command's.
 use Rattle.std.proofs.Common.{ap}
 use Rattle.vdcp_port.specs.Row.{asked_row}
 use Rattle.vdcp_port.proofs.laws.a_command_has_its_own_row.Goals as goal

@@ -1,3 +1,4 @@
+-- Each command has an answer that is read back.
 use Rattle.vdcp_port.proofs.Readable.{answered_row}
 use Rattle.vdcp_port.proofs.laws.a_command_is_answered.Goals as goal
 

@@ -1,3 +1,4 @@
+-- Every answer is read back.
 use Rattle.vdcp_port.proofs.Reading.{burst_readable}
 use Rattle.vdcp_port.proofs.laws.answers_are_read_back.Goals as goal
 

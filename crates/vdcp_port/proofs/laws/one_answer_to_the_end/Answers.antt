@@ -1,3 +1,4 @@
+-- An end and its silence are answered alike.
 use Rattle.std.proofs.Common.{ap, ◌∙◌}
 use Rattle.vdcp_port.specs.Answers.{end_answers}
 use Rattle.vdcp_port.proofs.Answering.{ends_as}

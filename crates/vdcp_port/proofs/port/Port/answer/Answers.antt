@@ -1,3 +1,4 @@
+-- The answer to a command is read back.
 use Rattle.std.proofs.Common.{◌∙◌, subst, sym}
 use Rattle.std.specs.Prelude.{IfSome}
 use Rattle.vdcp_words.specs.Replies.{IsWritableReply}

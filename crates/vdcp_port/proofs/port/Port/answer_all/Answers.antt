@@ -1,3 +1,4 @@
+-- The messages and the end of a burst are the burst.
 use Rattle.std.proofs.Common.{ℕ, List, ◌++◌, ◌≤◌, ◌<◌, ◌∙◌, append_assoc, arith, length, sym, ap, subst}
 use Rattle.std.proofs.lemmas.List.Elements.{All-from_get_or}
 use Rattle.vdcp_value.specs.declared.part.Item.{Item}
