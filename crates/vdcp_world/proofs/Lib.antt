@@ -1,1 +1,3 @@
 mod Examples
+pub mod First
+pub mod Beginnings

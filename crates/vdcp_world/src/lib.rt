@@ -3,7 +3,10 @@
 #![tactic(auto)]
 
 mod burst;
+mod damage;
 mod event;
+mod heard;
+mod link;
 
 pub use burst::Burst;
 pub use event::Event;
