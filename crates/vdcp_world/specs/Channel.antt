@@ -176,6 +176,24 @@ abbrev pub after_events : Channel → List Event → Channel
 after_events c [] = c
 after_events c (event ∷ events) = after_events (after_event c event) events
 
+-- what a channel was made with, the unit and the clock among it
+pub record Make : Type 0 where
+  pub plan : Plan
+  pub clips : List (ClipId × Timecode)
+  pub unit : ℕ
+  pub number : ℕ
+  pub cue_frames : ℕ
+
+abbrev pub make_of : Channel → Make
+make_of c =
+    record {
+      plan = c.plan;
+      clips = c.port.clips;
+      unit = c.port.state.unit;
+      number = c.port.state.number;
+      cue_frames = c.port.cue_frames;
+    }
+
 -- some events lead from a new channel to this one
 pub record IsReached (now : Channel) : Type 0 where
   pub plan : Plan

@@ -7,6 +7,8 @@ mod damage;
 mod event;
 mod heard;
 mod link;
+mod world;
 
 pub use burst::Burst;
 pub use event::Event;
+pub use world::World;
