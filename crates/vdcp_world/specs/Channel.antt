@@ -22,7 +22,7 @@ use Rattle.vdcp_auto.specs.declared.phase.Mode.{Mode}
 use Rattle.vdcp_auto.specs.declared.phase.Mode.TheVariants.{Plain, Confirming}
 use Rattle.vdcp_auto.specs.declared.phase.State.{State}
 use Rattle.vdcp_world.specs.Beginnings.{is_beginning}
-use Rattle.vdcp_world.specs.Heard.{heard_in, hears_receipt}
+use Rattle.vdcp_auto.specs.Heard.{heard_in, hears_receipt}
 use Rattle.vdcp_world.specs.declared.event.Event.{Event}
 use Rattle.vdcp_world.specs.declared.event.Event.TheVariants.{Tick, Down, Up, DownCopy, UpCopy, LoseDown, LoseUp, AlterDown, AlterUp, Timeout, Ready, End, Frame, Take, Stop, StrayAck, StrayNak}
 

@@ -1,12 +1,13 @@
-ghost use Rattle.std.specs.Prelude.{◌≡◌, ◌<◌, ◌≤◌, [], OnOk, OnErr, vec_len, vec_capacity};
+ghost use Rattle.std.specs.Prelude.{◌≡◌, ◌<◌, ◌≤◌, [], ◌++◌, OnOk, OnErr, vec_len, vec_capacity};
 ghost use Rattle.vdcp_auto.specs.Course.{logged};
 ghost use Rattle.vdcp_auto.specs.Plan.{plan_of};
 ghost use Rattle.vdcp_auto.specs.Turn as turns;
 ghost use Rattle.vdcp_auto.specs.declared.phase.Mode.TheVariants.{Plain, Confirming};
 ghost use Rattle.vdcp_frame.specs.Message.{spelling};
+ghost use Rattle.vdcp_port.specs.Answers.{sent_for, aired_for, after_burst};
 ghost use Rattle.vdcp_words.specs.Commands.{command_message};
 ghost use Rattle.vdcp_world.specs.Channel.{state_straying, log_straying, new_channel, after_event, state_hearing, log_hearing};
-ghost use Rattle.vdcp_world.specs.Heard.{heard_in};
+ghost use Rattle.vdcp_auto.specs.Heard.{heard_in};
 
 use crate::damage::{can_become, can_become_up};
 use crate::event::Event;
@@ -24,11 +25,11 @@ use vdcp_words::{Command, Reply};
 /// is promised of it.
 #[derive(Drop)]
 pub(crate) struct Link<S: Source, C: Catalogue, A: Allocator> {
-    alloc: A,
     controller: Controller<S>,
     port: Port<C>,
     down: ArrayVec<u8, 1024>,
-    up: Vec<u8, A>,
+    // As many bytes as the answers to 1,024 bytes can have.
+    up: ArrayVec<u8, 3074>,
     aired: Vec<Item, A>,
     log: Vec<Exchange, A>,
 }
@@ -64,11 +65,10 @@ impl<S: Source, C: Catalogue, A: Allocator + Copy> Link<S, C, A> {
         } }
     {
         Link {
-            alloc,
             controller,
             port,
             down: ArrayVec::new(),
-            up: Vec::new(alloc),
+            up: ArrayVec::new(),
             aired: Vec::new(alloc),
             log: Vec::new(alloc),
         }
@@ -104,6 +104,7 @@ impl<S: Source, C: Catalogue, A: Allocator + Copy> Link<S, C, A> {
         ensures refused { OnErr result (self.new ≡ self.old) }
     {
         self.log.reserve(1)?;
+        self.aired.reserve(1)?;
         let unit = self.port.unit();
         match event {
             Event::Tick => {
@@ -114,17 +115,18 @@ impl<S: Source, C: Catalogue, A: Allocator + Copy> Link<S, C, A> {
             }
             Event::Down => {
                 if !self.down.is_empty() {
-                    let mut up = Vec::new(self.alloc);
-                    self.port
-                        .burst_answer(self.down.as_slice(), &mut up, &mut self.aired)?;
+                    deliver(
+                        &mut self.port,
+                        &self.down,
+                        &mut self.up,
+                        &mut self.aired,
+                    );
                     self.down.clear();
-                    self.up = up;
                 }
             }
             Event::DownCopy => {
-                let mut lost = Vec::new(self.alloc);
-                self.port
-                    .burst_answer(self.down.as_slice(), &mut lost, &mut self.aired)?;
+                let mut lost = ArrayVec::new();
+                deliver(&mut self.port, &self.down, &mut lost, &mut self.aired);
             }
             Event::Up => {
                 hear(
@@ -151,7 +153,8 @@ impl<S: Source, C: Catalogue, A: Allocator + Copy> Link<S, C, A> {
             }
             Event::AlterUp(burst) => {
                 if can_become_up(&self.controller, unit, self.up.as_slice(), burst.bytes()) {
-                    self.up = Vec::from_slice(self.alloc, burst.bytes())?;
+                    self.up.clear();
+                    self.up.try_extend_from_slice(burst.bytes()).unwrap();
                 }
             }
             Event::Timeout => {
@@ -184,6 +187,24 @@ fn put_command(command: &Command, unit: u8, down: &mut ArrayVec<u8, 1024>)
     write(&message, &mut bytes).unwrap();
     down.clear();
     down.try_extend_from_slice(bytes.as_slice()).unwrap();
+}
+
+/// The port reads a burst; its answer stands in place of what the buffer held.
+fn deliver<C: Catalogue, A: Allocator>(
+    port: &mut Port<C>,
+    burst: &ArrayVec<u8, 1024>,
+    answer: &mut ArrayVec<u8, 3074>,
+    aired: &mut Vec<Item, A>,
+)
+    requires { vec_len aired.old < vec_capacity aired.old }
+    ensures port { port.new ≡ after_burst port.old burst.now.items }
+    ensures answer { answer.new.items ≡ sent_for port.old burst.now.items }
+    ensures aired { aired.new.items ≡ aired.old.items ++ aired_for port.old burst.now.items }
+{
+    answer.clear();
+    if let Some(item) = port.answer_into(burst.as_slice(), answer) {
+        aired.push(item).unwrap();
+    }
 }
 
 /// The controller hears the first message of a burst.
