@@ -7,8 +7,10 @@ mod damage;
 mod event;
 mod heard;
 mod link;
+mod script;
 mod world;
 
 pub use burst::Burst;
 pub use event::Event;
+pub use script::{ScriptFault, read_script};
 pub use world::World;

@@ -115,12 +115,7 @@ impl<S: Source, C: Catalogue, A: Allocator + Copy> Link<S, C, A> {
             }
             Event::Down => {
                 if !self.down.is_empty() {
-                    deliver(
-                        &mut self.port,
-                        &self.down,
-                        &mut self.up,
-                        &mut self.aired,
-                    );
+                    deliver(&mut self.port, &self.down, &mut self.up, &mut self.aired);
                     self.down.clear();
                 }
             }
