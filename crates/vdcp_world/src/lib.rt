@@ -14,3 +14,6 @@ pub use burst::Burst;
 pub use event::Event;
 pub use script::{ScriptFault, read_script};
 pub use world::World;
+
+#[cfg(test)]
+mod tests;
