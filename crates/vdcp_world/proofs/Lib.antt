@@ -1,0 +1,4 @@
+mod Examples
+pub mod First
+pub mod Beginnings
+pub mod Reached

@@ -1,0 +1,341 @@
+ghost use Rattle.std.specs.Prelude.{◌≡◌, ◌<◌, ◌≤◌, [], ◌++◌, OnOk, OnErr, vec_len, vec_capacity};
+ghost use Rattle.vdcp_auto.specs.Course.{logged};
+ghost use Rattle.vdcp_auto.specs.Plan.{plan_of};
+ghost use Rattle.vdcp_auto.specs.Turn as turns;
+ghost use Rattle.vdcp_frame.specs.Message.{spelling};
+ghost use Rattle.vdcp_port.specs.Answers.{sent_for, aired_for, after_burst};
+ghost use Rattle.vdcp_words.specs.Commands.{command_message};
+ghost use Rattle.vdcp_world.specs.Channel as channel;
+ghost use Rattle.vdcp_world.specs.Channel.{after_event, altered, answered, down_behind, up_behind, state_hearing, log_hearing, state_waiting, log_waiting, state_straying, log_straying};
+ghost use Rattle.vdcp_auto.specs.Heard.{heard_in};
+
+use crate::damage::{can_become, can_become_up};
+use crate::event::Event;
+use crate::heard;
+use arrayvec::ArrayVec;
+use std::alloc::{AllocError, Allocator};
+use std::marker::Model;
+use vdcp_auto::{Controller, Exchange, Heard, Outcome, Source};
+use vdcp_frame::write;
+use vdcp_port::{Catalogue, Port};
+use vdcp_value::Item;
+use vdcp_words::{Command, Reply};
+
+/// A controller and a port, what is on the way between them, and what came of it: a world, without what
+/// is promised of it.
+#[derive(Drop)]
+pub(crate) struct Link<S: Source, C: Catalogue, A: Allocator> {
+    controller: Controller<S>,
+    port: Port<C>,
+    down: ArrayVec<u8, 1024>,
+    // As many bytes as the answers to 1,024 bytes can have.
+    up: ArrayVec<u8, 3074>,
+    aired: Vec<Item, A>,
+    log: Vec<Exchange, A>,
+}
+
+impl<S: Source, C: Catalogue, A: Allocator> Model for Link<S, C, A> {
+    ghost use Rattle.vdcp_auto.specs.Plan.{plan_of};
+    ghost use Rattle.vdcp_world.specs.Channel.{Channel};
+
+    ghost Value = { Channel };
+
+    ghost view = { λ w. record {
+      plan = plan_of S.items w.controller;
+      state = w.controller.state;
+      port = w.port;
+      down = w.down.items;
+      up = w.up.items;
+      aired = w.aired.items;
+      log = w.log.items;
+    } };
+}
+
+impl<S: Source, C: Catalogue, A: Allocator + Copy> Link<S, C, A> {
+    /// Nothing is on the way, and nothing was aired.
+    pub fn new(alloc: A, controller: Controller<S>, port: Port<C>) -> Self
+        ensures { result ≡ record {
+          plan = plan_of S.items controller;
+          state = controller.state;
+          port = port;
+          down = [];
+          up = [];
+          aired = [];
+          log = [];
+        } }
+    {
+        Link {
+            controller,
+            port,
+            down: ArrayVec::new(),
+            up: ArrayVec::new(),
+            aired: Vec::new(alloc),
+            log: Vec::new(alloc),
+        }
+    }
+
+    pub fn aired(&self) -> &[Item]
+        ensures { result.now ≡ self.now.aired }
+    {
+        self.aired.as_slice()
+    }
+
+    pub fn log(&self) -> &[Exchange]
+        ensures { result.now ≡ self.now.log }
+    {
+        self.log.as_slice()
+    }
+
+    pub fn reported(&self) -> usize
+        ensures { result ≡ self.now.state.settled }
+    {
+        self.controller.settled()
+    }
+
+    pub fn outcome(&self) -> Option<Outcome>
+        ensures { result ≡ turns.outcome_of self.now.state.stage }
+    {
+        self.controller.outcome()
+    }
+
+    /// The event happens. Where memory is refused nothing does.
+    pub fn step(&mut self, event: &Event) -> Result<(), AllocError>
+        ensures step { OnOk result (self.new ≡ after_event self.old event.now) }
+        ensures refused { OnErr result (self.new ≡ self.old) }
+    {
+        make_room(&mut self.aired, &mut self.log)?;
+        let unit = self.port.unit();
+        match event {
+            Event::Tick => tick(&mut self.controller, unit, &mut self.down, &mut self.up),
+            Event::Down => deliver(
+                &mut self.port,
+                &mut self.down,
+                &mut self.up,
+                &mut self.aired,
+            ),
+            Event::DownCopy => deliver_copy(&mut self.port, &self.down, &mut self.aired),
+            Event::Up => {
+                hear(&mut self.controller, &self.up, unit, &mut self.log);
+                self.up.clear();
+            }
+            Event::UpCopy => hear(&mut self.controller, &self.up, unit, &mut self.log),
+            Event::LoseDown => self.down.clear(),
+            Event::LoseUp => self.up.clear(),
+            Event::AlterDown(burst) => alter_down(&mut self.down, burst.bytes()),
+            Event::AlterUp(burst) => {
+                alter_up(&self.controller, unit, &mut self.up, burst.bytes());
+            }
+            Event::Timeout => {
+                time_out(&mut self.controller, &self.down, &self.up, &mut self.log);
+            }
+            Event::Ready => self.port.ready(),
+            Event::End => self.port.ended(),
+            Event::Frame => {
+                self.port.frame();
+            }
+            Event::Take => self.controller.take(),
+            Event::Stop => self.controller.stop(),
+            Event::StrayAck => stray(&mut self.controller, Reply::Ack, &mut self.log),
+            Event::StrayNak(byte) => stray(&mut self.controller, Reply::Nak(*byte), &mut self.log),
+        }
+        Ok(())
+    }
+}
+
+/// Room for one more of each.
+fn make_room<A: Allocator>(
+    aired: &mut Vec<Item, A>,
+    log: &mut Vec<Exchange, A>,
+) -> Result<(), AllocError>
+    ensures aired { aired.new.items ≡ aired.old.items }
+    ensures log { log.new.items ≡ log.old.items }
+    ensures aired_room { OnOk result (vec_len aired.new < vec_capacity aired.new) }
+    ensures log_room { OnOk result (vec_len log.new < vec_capacity log.new) }
+{
+    aired.reserve(1)?;
+    log.reserve(1)
+}
+
+/// The controller's next command is on the way down, if it gives one; else nothing changes.
+fn tick<S: Source>(
+    controller: &mut Controller<S>,
+    unit: u8,
+    down: &mut ArrayVec<u8, 1024>,
+    up: &mut ArrayVec<u8, 3074>,
+)
+    requires { unit ≤ 15 }
+    ensures controller { controller.new ≡ record controller.old { state = turns.ticked controller.old.state } }
+    ensures down { down.new.items ≡ down_behind unit (turns.given (plan_of S.items controller.old) controller.old.state) down.old.items }
+    ensures up { up.new.items ≡ up_behind (turns.given (plan_of S.items controller.old) controller.old.state) up.old.items }
+{
+    if let Some(command) = controller.tick() {
+        put_command(&command, unit, down);
+        up.clear();
+    }
+}
+
+/// A command's bytes, in place of what was on the way down.
+fn put_command(command: &Command, unit: u8, down: &mut ArrayVec<u8, 1024>)
+    requires { unit ≤ 15 }
+    ensures { down.new.items ≡ spelling (command_message unit command.now) }
+{
+    let mut room = [0; 16];
+    let message = command.to_message(unit, &mut room);
+    let mut bytes = ArrayVec::<u8, 512>::new();
+    write(&message, &mut bytes).unwrap();
+    down.clear();
+    down.try_extend_from_slice(bytes.as_slice()).unwrap();
+}
+
+/// The port reads what is on the way down, if anything is: it is gone then, and the answer is on the way
+/// up in place of what was.
+fn deliver<C: Catalogue, A: Allocator>(
+    port: &mut Port<C>,
+    down: &mut ArrayVec<u8, 1024>,
+    up: &mut ArrayVec<u8, 3074>,
+    aired: &mut Vec<Item, A>,
+)
+    requires { vec_len aired.old < vec_capacity aired.old }
+    ensures port { port.new ≡ after_burst port.old down.old.items }
+    ensures down { down.new.items ≡ [] }
+    ensures up { up.new.items ≡ answered port.old down.old.items up.old.items }
+    ensures aired { aired.new.items ≡ aired.old.items ++ aired_for port.old down.old.items }
+{
+    if !down.is_empty() {
+        read_burst(port, down, up, aired);
+        down.clear();
+    }
+}
+
+/// The port reads what is on the way down, and the answer is lost.
+fn deliver_copy<C: Catalogue, A: Allocator>(
+    port: &mut Port<C>,
+    down: &ArrayVec<u8, 1024>,
+    aired: &mut Vec<Item, A>,
+)
+    requires { vec_len aired.old < vec_capacity aired.old }
+    ensures port { port.new ≡ after_burst port.old down.now.items }
+    ensures aired { aired.new.items ≡ aired.old.items ++ aired_for port.old down.now.items }
+{
+    let mut lost = ArrayVec::new();
+    read_burst(port, down, &mut lost, aired);
+}
+
+/// The port reads a burst; its answer stands in place of what the buffer held.
+fn read_burst<C: Catalogue, A: Allocator>(
+    port: &mut Port<C>,
+    burst: &ArrayVec<u8, 1024>,
+    answer: &mut ArrayVec<u8, 3074>,
+    aired: &mut Vec<Item, A>,
+)
+    requires { vec_len aired.old < vec_capacity aired.old }
+    ensures port { port.new ≡ after_burst port.old burst.now.items }
+    ensures answer { answer.new.items ≡ sent_for port.old burst.now.items }
+    ensures aired { aired.new.items ≡ aired.old.items ++ aired_for port.old burst.now.items }
+{
+    answer.clear();
+    if let Some(item) = port.answer_into(burst.as_slice(), answer) {
+        aired.push(item).unwrap();
+    }
+}
+
+/// The controller hears the first message of what is on the way up.
+fn hear<S: Source, A: Allocator>(
+    controller: &mut Controller<S>,
+    up: &ArrayVec<u8, 3074>,
+    unit: u8,
+    log: &mut Vec<Exchange, A>,
+)
+    requires { vec_len log.old < vec_capacity log.old }
+    ensures controller { controller.new ≡ record controller.old {
+      state = state_hearing (plan_of S.items controller.old) (heard_in unit up.now.items) controller.old.state;
+    } }
+    ensures log { log.new.items ≡ log_hearing (plan_of S.items controller.old) (heard_in unit up.now.items)
+        controller.old.state log.old.items }
+{
+    let came = heard::first_of(up.as_slice(), unit);
+    if came.is_some() {
+        end_exchange(controller, came, log);
+    }
+}
+
+/// What is on the way down becomes these bytes, where it can.
+fn alter_down(down: &mut ArrayVec<u8, 1024>, bytes: &[u8])
+    ensures { down.new.items ≡ altered (channel.can_become down.old.items bytes.now) down.old.items bytes.now }
+{
+    if can_become(down.as_slice(), bytes) {
+        down.clear();
+        down.try_extend_from_slice(bytes).unwrap();
+    }
+}
+
+/// What is on the way up becomes these bytes, where it can.
+fn alter_up<S: Source>(
+    controller: &Controller<S>,
+    unit: u8,
+    up: &mut ArrayVec<u8, 3074>,
+    bytes: &[u8],
+)
+    ensures { up.new.items
+        ≡ altered (channel.can_become_up controller.now.mode unit up.old.items bytes.now) up.old.items bytes.now }
+{
+    if can_become_up(controller, unit, up.as_slice(), bytes) {
+        up.clear();
+        up.try_extend_from_slice(bytes).unwrap();
+    }
+}
+
+/// Nothing came in time, which happens where nothing is on the way either way.
+fn time_out<S: Source, A: Allocator>(
+    controller: &mut Controller<S>,
+    down: &ArrayVec<u8, 1024>,
+    up: &ArrayVec<u8, 3074>,
+    log: &mut Vec<Exchange, A>,
+)
+    requires { vec_len log.old < vec_capacity log.old }
+    ensures controller { controller.new ≡ record controller.old {
+      state = state_waiting (plan_of S.items controller.old) down.now.items up.now.items controller.old.state;
+    } }
+    ensures log { log.new.items ≡ log_waiting (plan_of S.items controller.old) down.now.items up.now.items
+        controller.old.state log.old.items }
+{
+    if down.is_empty() && up.is_empty() {
+        end_exchange(controller, None, log);
+    }
+}
+
+/// The controller hears a receipt from nowhere, in confirm mode.
+fn stray<S: Source, A: Allocator>(
+    controller: &mut Controller<S>,
+    receipt: Reply,
+    log: &mut Vec<Exchange, A>,
+)
+    requires { vec_len log.old < vec_capacity log.old }
+    ensures controller { controller.new ≡ record controller.old {
+      state = state_straying controller.old.mode (plan_of S.items controller.old) receipt controller.old.state;
+    } }
+    ensures log { log.new.items ≡ log_straying controller.old.mode (plan_of S.items controller.old) receipt
+        controller.old.state log.old.items }
+{
+    if controller.is_confirming() {
+        end_exchange(controller, Some(Heard::Reply(receipt)), log);
+    }
+}
+
+/// What came, or silence, comes to the controller; the exchange that it ends is logged.
+fn end_exchange<S: Source, A: Allocator>(
+    controller: &mut Controller<S>,
+    came: Option<Heard>,
+    log: &mut Vec<Exchange, A>,
+)
+    requires { vec_len log.old < vec_capacity log.old }
+    ensures controller { controller.new ≡ record controller.old {
+      state = turns.came_to (plan_of S.items controller.old) came controller.old.state;
+    } }
+    ensures log { log.new.items ≡ logged log.old.items
+        (turns.ended_by (plan_of S.items controller.old) came controller.old.state) }
+{
+    if let Some(exchange) = controller.receive(came) {
+        log.push(exchange).unwrap();
+    }
+}
