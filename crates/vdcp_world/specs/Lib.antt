@@ -1,0 +1,4 @@
+pub mod Heard
+pub mod Beginnings
+pub mod Channel
+pub mod Rounds

@@ -1,0 +1,42 @@
+use crate::burst::Burst;
+
+/// What happens on the line, at one of its ends, or in time. Where it can't happen, nothing changes.
+#[derive(Debug, PartialEq, Drop)]
+pub enum Event {
+    /// The controller gives its next command: it is on the way down, and what was on the way either way is
+    /// dropped.
+    Tick,
+    /// What is on the way down comes to the port, whose answer is on the way up in place of what was there.
+    Down,
+    /// What is on the way up comes to the controller, which hears its first message.
+    Up,
+    /// What is on the way down comes to the port and stays on the way; the answer is lost.
+    DownCopy,
+    /// What is on the way up comes to the controller and stays on the way.
+    UpCopy,
+    /// What is on the way down is lost.
+    LoseDown,
+    /// What is on the way up is lost.
+    LoseUp,
+    /// What is on the way down becomes these bytes, of which a beginning of its messages can be read.
+    AlterDown(Burst),
+    /// What is on the way up becomes these bytes, of which a beginning of its messages can be read; in
+    /// confirm mode also bytes of which ACK or NAK is read first.
+    AlterUp(Burst),
+    /// Nothing is on the way, and nothing came in time.
+    Timeout,
+    /// The port's cue is done.
+    Ready,
+    /// The port's clip has ended.
+    End,
+    /// One frame passes at the port.
+    Frame,
+    /// The operator wants the next event of the playlist though the last one still plays.
+    Take,
+    /// The operator wants to stop.
+    Stop,
+    /// ACK comes to the controller from nowhere (confirm mode).
+    StrayAck,
+    /// NAK with this byte comes to the controller from nowhere (confirm mode).
+    StrayNak(u8),
+}
