@@ -1,1 +1,11 @@
 mod Examples
+pub mod PhaseTable
+pub mod Exchanges
+pub mod Readings
+pub mod Slots
+pub mod OnTheWay
+pub mod WayLemmas
+pub mod Beginnings
+pub mod WayKept
+pub mod TableKept
+pub mod Kept
