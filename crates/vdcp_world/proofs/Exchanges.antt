@@ -85,7 +85,7 @@ pub silence_firm : (list : List Item) (clips : List (ClipId × Timecode)) (p : P
     → Firm list clips p q → FirmAt list clips p (stage_after (on_unanswered Plain limit unanswered counts q))
 silence_firm list clips p limit unanswered counts q h = grind arith
 
-sent_place : (list : List Item) (cued : Cued) (aired : List Item) (settled : ℕ) (q : Phase) → PlaceReady list cued aired settled q → Place list cued aired settled q
+pub sent_place : (list : List Item) (cued : Cued) (aired : List Item) (settled : ℕ) (q : Phase) → PlaceReady list cued aired settled q → Place list cued aired settled q
 sent_place list cued aired settled q h = grind arith
 
 pub tick_place : (list : List Item) (cued : Cued) (aired : List Item) (settled : ℕ) (stop : Bool) (q : Phase)

@@ -9,3 +9,4 @@ pub mod Beginnings
 pub mod WayKept
 pub mod TableKept
 pub mod Kept
+pub mod HeadlineProof

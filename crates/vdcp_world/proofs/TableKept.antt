@@ -97,18 +97,22 @@ tick_stands plan clips p aired state h = by state.stage h
 
 -- there is an event for each phase that asks for one
 
-some_at : (list : List Item) (k : ℕ) (f : Item → Command) → k < length list → option_map f (slice_get list k) ≡ None → ⊥
-some_at list k f below none = at (slice_get_cases list k).1
+pub no_item : (list : List Item) (k : ℕ) → k < length list → slice_get list k ≡ None → ⊥
+no_item list k below none = at (slice_get_cases list k).1
   where
     impossible : (x : Item) → slice_get list k ≡ Some x → ⊥
-    impossible x is = no (f x) (sym (ap (option_map f) is) ∙ none)
-      where
-        no : (c : Command) → Some c ≡ None → ⊥
-        no c e = cc
+    impossible x is = cc
 
     at : (((x : Item) × (k < length list) × (slice_get list k ≡ Some x) × (get_or list k x ≡ x)) ⊎ ((length list ≤ k) × (slice_get list k ≡ None))) → ⊥
     at (inl (x, within, is, here)) = impossible x is
     at (inr (past, is)) = absurd (omega arith)
+
+none_of : (f : Item → Command) (o : Option Item) → option_map f o ≡ None → o ≡ None
+none_of f None e = refl
+none_of f (Some item) e = cc
+
+some_at : (list : List Item) (k : ℕ) (f : Item → Command) → k < length list → option_map f (slice_get list k) ≡ None → ⊥
+some_at list k f below none = no_item list k below (none_of f (slice_get list k) none)
 
 gives_some : (list : List Item) (port : ℕ) (cued : Cued) (aired : List Item) (settled : ℕ) (q : Phase) → Place list cued aired settled q → command_in list port q ≡ None → ⊥
 gives_some list port cued aired settled phase.Open h e = cc
