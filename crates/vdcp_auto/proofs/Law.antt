@@ -1,15 +1,12 @@
 -- The law of a controller that calls have led to.
-use Rattle.std.proofs.Common.{◌≡◌, ◌≢◌, ℕ, ◌+◌, ◌≤◌, ◌<◌, Bool, true, false, cond, not, ◌||◌, ◌&&◌, Option, None, Some, List, [], ◌∷◌, ◌++◌, refl, arith, sym, ap, subst, ◌∙◌, inl, inr, append_assoc}
-use Rattle.std.specs.Prelude.{if◌then◌else◌, nat_le, is_some, IfSome}
-use Rattle.std.specs.Option.{option_to_list}
+use Rattle.std.proofs.Common.{◌≡◌, ◌≢◌, ℕ, ◌+◌, ◌≤◌, ◌<◌, Bool, true, false, cond, not, ◌||◌, ◌&&◌, Option, None, Some, List, [], ◌∷◌, ◌++◌, refl, arith, sym, ap, subst, ◌∙◌, inl, inr}
+use Rattle.std.specs.Prelude.{if◌then◌else◌, nat_le, IfSome}
 use Rattle.std.specs.List.{list_any}
-use Rattle.std.proofs.lemmas.List.{append-nil}
 use Rattle.vdcp_value.specs.declared.part.Item.{Item}
 use Rattle.vdcp_words.specs.declared.command.Command.{Command}
 use Rattle.vdcp_auto.specs.declared.exchange.Exchange.{Exchange}
 use Rattle.vdcp_auto.specs.declared.exchange.Heard.{Heard}
 use Rattle.vdcp_auto.specs.declared.exchange.Input.{Input}
-use Rattle.vdcp_auto.specs.declared.exchange.Input.TheVariants as input
 use Rattle.vdcp_auto.specs.declared.outcome.Outcome.{Outcome}
 use Rattle.vdcp_auto.specs.declared.outcome.Outcome.TheVariants.{Done, Stopped, Lost, Denied, Missing, Refused, Foreign, Strange}
 use Rattle.vdcp_auto.specs.declared.phase.Mode.{Mode}
@@ -24,7 +21,7 @@ use Rattle.vdcp_auto.specs.RuleBook.{CuesItemAt, IsTaken, MayPlay, Row, May, Kee
 use Rattle.vdcp_auto.specs.Endings.{counted, IsRefused}
 use Rattle.vdcp_auto.specs.Plan.{Plan}
 use Rattle.vdcp_auto.specs.Turn.{start, ticked, awaited_in, awaited, given, is_end, exchange_of, ended_by, came_to, taken, stopped, outcome_of}
-use Rattle.vdcp_auto.specs.Course.{course_from, course, Tick, Receive, Take, Stop, logged, Reached, begun, called}
+use Rattle.vdcp_auto.specs.Course.{course, Tick, Receive, Take, Stop, logged, Reached, begun, called}
 use Rattle.vdcp_auto.specs.Law.{IsLawful}
 use Rattle.vdcp_auto.proofs.Lists.{cut}
 use Rattle.vdcp_auto.proofs.Memo.{Memo, blank, opens, settles_now, remember}
@@ -32,6 +29,8 @@ use Rattle.vdcp_auto.proofs.LookBacks.{has_open_play-push, settled-push, LastCue
 use Rattle.vdcp_auto.proofs.Runs.{Run, no_run, run_more, run_is, run_has, IsFirst, first_none, first_push as still_first}
 use Rattle.vdcp_auto.proofs.Keeps.{InPhase, CueIs, TrialIs, IsGoing, RowIs, AtEnd, AtStage, Holds}
 use Rattle.vdcp_auto.proofs.Steps.{Sends, sends_open, sends_select, sends_seen, sends_exists, sends_whole, sends_part, sends_wait, sends_play, sends_probe, sends_check, sends_drain, sends_close, sends_halt, sends_halt_close}
+use Rattle.vdcp_auto.proofs.Courses.{reached_after}
+use Rattle.vdcp_auto.proofs.Sending.{gives_ready, awaits_answer, stopped_before}
 use Rattle.vdcp_auto.proofs.Calls.{sends_of, begun_holds, ticked_holds, state as state_at, stopped_holds, taken_holds, remembered, came_holds}
 
 -- What a log leaves behind.
@@ -322,6 +321,9 @@ lawful plan state log reached =
       keeps_rules = k.rules;
       may_await = each (awaited plan state) _ (λ c is. may_next plan state log c k is);
       may_give = each (given plan state) _ (λ c is. may_next plan (ticked state) log c (known plan (called reached Tick)) (given_awaited plan state.stage state.take state.stop state.unanswered state.settled state.tries c is));
+      gives = gives_ready plan k.memo state.stop state.tries state.stage h.stage;
+      awaits = awaits_answer plan k.memo state.stop state.tries state.stage h.stage;
+      is_stopped = λ p is halts. a.stops ∙ stopped_before plan.mode plan.list plan.limit k.memo state.stop state.tries state.stage p h.stage is halts;
       is_settled = h.settled ∙ sym a.count;
       is_lost = (
         λ lost. record {
@@ -335,34 +337,6 @@ lawful plan state log reached =
       is_missing = λ place is. a.count ∙ end (Missing place) is;
     }
 
--- Courses.
-
--- the course's first exchange, if there is one, joins the log
-logged_first : (log : List Exchange) (o : Option Exchange) (rest : List Exchange) → logged log o ++ rest ≡ log ++ (option_to_list o ++ rest)
-logged_first log None rest = refl
-logged_first log (Some e) rest = append_assoc log (e ∷ []) rest
-
-course_if : (plan : Plan) (log : List Exchange) (o : Option Exchange) (rest : List Exchange) (goes : Bool)
-    → KeepsRules plan.mode plan.list log → KeepsRules plan.mode plan.list (logged log o ++ rest)
-    → KeepsRules plan.mode plan.list (log ++ (if goes then option_to_list o ++ rest else []))
-course_if plan log o rest true now later = subst (KeepsRules plan.mode plan.list) (logged_first log o rest) later
-course_if plan log o rest false now later = subst (KeepsRules plan.mode plan.list) (sym (append-nil log)) now
-
-course_keeps : (plan : Plan) (inputs : List Input) (state : State) (log : List Exchange) → Reached plan state log
-    → KeepsRules plan.mode plan.list (log ++ course_from plan state inputs)
-course_keeps plan [] state log reached = subst (KeepsRules plan.mode plan.list) (sym (append-nil log)) (lawful plan state log reached).keeps_rules
-course_keeps plan (input.Take ∷ inputs) state log reached = course_keeps plan inputs (taken state) log (called reached Take)
-course_keeps plan (input.Stop ∷ inputs) state log reached = course_keeps plan inputs (stopped state) log (called reached Stop)
-course_keeps plan (input.Heard h ∷ inputs) state log reached =
-    let next = ended_by plan (Some h) (ticked state) in
-    course_if plan log next (course_from plan (came_to plan (Some h) (ticked state)) inputs) (is_some (awaited plan (ticked state)))
-    (lawful plan state log reached).keeps_rules
-    (course_keeps plan inputs (came_to plan (Some h) (ticked state)) (logged log next) (called (called reached Tick) (Receive (Some h))))
-course_keeps plan (input.Silence ∷ inputs) state log reached =
-    let next = ended_by plan None (ticked state) in
-    course_if plan log next (course_from plan (came_to plan None (ticked state)) inputs) (is_some (awaited plan (ticked state)))
-    (lawful plan state log reached).keeps_rules
-    (course_keeps plan inputs (came_to plan None (ticked state)) (logged log next) (called (called reached Tick) (Receive None)))
-
+-- the rule book allows each command of a course
 pub KeepsRules-course : (plan : Plan) (inputs : List Input) → 1 ≤ plan.limit → plan.limit ≤ 1000 → KeepsRules plan.mode plan.list (course plan inputs)
-KeepsRules-course plan inputs some few = course_keeps plan inputs start [] (begun some few)
+KeepsRules-course plan inputs some few = (lawful plan _ _ (reached_after plan inputs start [] (begun some few))).keeps_rules

@@ -9,5 +9,8 @@ pub mod Keeps
 pub mod Steps
 pub mod Rows
 pub mod Calls
+pub mod Sending
+pub mod Courses
+pub mod Receipts
 pub mod Law
 mod Forbidden

@@ -114,6 +114,12 @@ on_no_answer Confirming phase.Close = Ends Done
 on_no_answer Confirming phase.Halt = Goes phase.HaltClose
 on_no_answer Confirming phase.HaltClose = Ends Stopped
 
+-- the phases behind the operator's stop
+abbrev pub is_halting : Phase → Bool
+is_halting phase.Halt = true
+is_halting phase.HaltClose = true
+is_halting _ = false
+
 -- whether the operator's stop counts in this phase
 abbrev pub can_stop : Phase → Bool
 can_stop phase.Close = false

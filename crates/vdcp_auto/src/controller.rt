@@ -1,6 +1,7 @@
-ghost use Rattle.std.specs.Prelude.{◌≡◌, ◌↔◌, ◌<◌, ◌≤◌, ◌^◌, Some, None, IsTrue, is_some};
+ghost use Rattle.std.specs.Prelude.{◌≡◌, ◌↔◌, ◌<◌, ◌≤◌, ◌^◌, Some, None, IsTrue, is_some, IfSome};
 ghost use Rattle.vdcp_auto.specs.Plan.{plan_of};
 ghost use Rattle.vdcp_auto.specs.Turn as turns;
+ghost use Rattle.vdcp_words.specs.Commands.{IsWritableCommand};
 
 use crate::exchange::{Exchange, Heard};
 use crate::outcome::Outcome;
@@ -99,7 +100,8 @@ impl<S: Source> Controller<S> {
 
     /// The command whose answer is awaited.
     pub fn awaited(&self) -> Option<Command>
-        ensures { result ≡ turns.awaited (plan_of S.items self.now) self.now.state }
+        ensures awaited { result ≡ turns.awaited (plan_of S.items self.now) self.now.state }
+        ensures writable { IfSome result IsWritableCommand }
     {
         match self.state.stage {
             Stage::Awaiting(phase) => Some(self.command_in(phase)),
@@ -200,6 +202,7 @@ impl<S: Source> Controller<S> {
     pub fn tick(&mut self) -> Option<Command>
         ensures command { result ≡ turns.given (plan_of S.items self.old) self.old.state }
         ensures ready { is_some result ≡ turns.is_ready self.old.state.stage }
+        ensures writable { IfSome result IsWritableCommand }
         ensures after { self.new ≡ record self.old { state = turns.ticked self.old.state } }
     {
         let Stage::Ready(current) = self.state.stage else {

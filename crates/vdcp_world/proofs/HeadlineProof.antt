@@ -30,7 +30,7 @@ use Rattle.vdcp_auto.specs.declared.phase.State.{State}
 use Rattle.vdcp_words.specs.declared.reply.Reply.{Reply}
 use Rattle.vdcp_words.specs.declared.reply.Reply.TheVariants as reply
 use Rattle.vdcp_world.specs.Channel.{Channel, new_channel, after_event, after_events, IsReached, state_hearing, log_hearing, state_waiting, log_waiting, state_straying, log_straying}
-use Rattle.vdcp_world.specs.Heard.{heard_in}
+use Rattle.vdcp_auto.specs.Heard.{heard_in}
 use Rattle.vdcp_world.specs.Headline.{IsUnknownAt, IsOutside, IsRefusedIn, IsExactly, Means, Headline}
 use Rattle.vdcp_world.specs.declared.event.Event.{Event}
 use Rattle.vdcp_world.specs.declared.event.Event.TheVariants as event

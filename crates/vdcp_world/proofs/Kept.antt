@@ -27,7 +27,7 @@ use Rattle.vdcp_auto.specs.declared.phase.Stage.{Stage}
 use Rattle.vdcp_auto.specs.declared.phase.State.{State}
 use Rattle.vdcp_world.specs.Beginnings.{is_beginning}
 use Rattle.vdcp_world.specs.Channel.{Channel, after_event, down_behind, up_behind, answered, state_hearing, state_waiting, state_straying, is_short, can_become, can_become_up, altered}
-use Rattle.vdcp_world.specs.Heard.{heard_in, heard_first, hears_receipt}
+use Rattle.vdcp_auto.specs.Heard.{heard_in, heard_first, hears_receipt}
 use Rattle.vdcp_world.specs.declared.event.Event.{Event}
 use Rattle.vdcp_world.specs.declared.event.Event.TheVariants as event
 use Rattle.vdcp_world.proofs.Beginnings.{is_beginning_of}

@@ -1,11 +1,13 @@
 mod Examples
+pub mod First
+pub mod Beginnings
+pub mod Reached
 pub mod PhaseTable
 pub mod Exchanges
 pub mod Readings
 pub mod Slots
 pub mod OnTheWay
 pub mod WayLemmas
-pub mod Beginnings
 pub mod WayKept
 pub mod TableKept
 pub mod Kept

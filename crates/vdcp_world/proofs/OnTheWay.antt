@@ -16,7 +16,7 @@ use Rattle.vdcp_auto.specs.declared.exchange.Heard.TheVariants as heard
 use Rattle.vdcp_port.specs.Answers.{sent_for, aired_for, after_burst}
 use Rattle.vdcp_port.specs.Clock.{ClockedPort, after_change}
 use Rattle.vdcp_port.specs.Row.{Row, command_row, on_air}
-use Rattle.vdcp_world.specs.Heard.{heard_in}
+use Rattle.vdcp_auto.specs.Heard.{heard_in}
 
 -- the port reads nothing in a burst: it stays as it is, and answers at most a NAK that is no refusal
 pub record ReadsNothing (p : ClockedPort) (down : List ℕ) : Type 0 where

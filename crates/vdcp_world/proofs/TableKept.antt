@@ -34,7 +34,7 @@ use Rattle.vdcp_auto.specs.declared.phase.Stage.TheVariants.{Ready, Awaiting, En
 use Rattle.vdcp_auto.specs.declared.phase.State.{State}
 use Rattle.vdcp_auto.specs.declared.phase.Turn.{Turn}
 use Rattle.vdcp_auto.specs.declared.phase.Turn.TheVariants.{Goes, Settles, Retries, Ends}
-use Rattle.vdcp_world.specs.Heard.{heard_in, heard_first, hears_receipt}
+use Rattle.vdcp_auto.specs.Heard.{heard_in, heard_first, hears_receipt}
 use Rattle.vdcp_world.proofs.OnTheWay.{ReadsNothing, ReadsCommand, IsQuiet}
 use Rattle.vdcp_world.proofs.PhaseTable.{PlaysLast, Place, PlaceReady, PlaceAt, Tells, Firm, FirmAt, FirmIn, FirmTells, TellsIn, Told, ToldAt, port_after, aired_after, answer_after}
 use Rattle.vdcp_world.proofs.Exchanges.{Behind, turn_by, turn_place, tick_place, tick_firm}

@@ -28,7 +28,7 @@ use Rattle.vdcp_auto.specs.declared.phase.Stage.TheVariants.{Ready, Awaiting, En
 use Rattle.vdcp_auto.specs.declared.phase.State.{State}
 use Rattle.vdcp_world.specs.Channel.{down_behind, up_behind, state_hearing, state_waiting, state_straying, is_short, can_become, can_become_up, altered}
 use Rattle.vdcp_world.specs.Beginnings.{is_beginning}
-use Rattle.vdcp_world.specs.Heard.{heard_in, heard_first, hears_receipt}
+use Rattle.vdcp_auto.specs.Heard.{heard_in, heard_first, hears_receipt}
 use Rattle.vdcp_world.proofs.OnTheWay.{IsQuiet, Way}
 use Rattle.vdcp_world.proofs.Beginnings.{is_beginning_of}
 use Rattle.vdcp_world.proofs.WayLemmas.{writable_in}

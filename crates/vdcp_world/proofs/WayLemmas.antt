@@ -36,7 +36,7 @@ use Rattle.vdcp_auto.specs.declared.exchange.Heard.{Heard}
 use Rattle.vdcp_auto.specs.declared.exchange.Heard.TheVariants as heard
 use Rattle.vdcp_auto.specs.declared.phase.Phase.{Phase}
 use Rattle.vdcp_auto.specs.declared.phase.Phase.TheVariants as phase
-use Rattle.vdcp_world.specs.Heard.{heard_by, heard_as, heard_first, heard_in}
+use Rattle.vdcp_auto.specs.Heard.{heard_by, heard_as, heard_first, heard_in}
 use Rattle.vdcp_world.proofs.OnTheWay.{ReadsNothing, ReadsCommand}
 
 -- ---- commands of a plan are writable

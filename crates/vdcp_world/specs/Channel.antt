@@ -22,7 +22,7 @@ use Rattle.vdcp_auto.specs.declared.phase.Mode.{Mode}
 use Rattle.vdcp_auto.specs.declared.phase.Mode.TheVariants.{Plain, Confirming}
 use Rattle.vdcp_auto.specs.declared.phase.State.{State}
 use Rattle.vdcp_world.specs.Beginnings.{is_beginning}
-use Rattle.vdcp_world.specs.Heard.{heard_in, hears_receipt}
+use Rattle.vdcp_auto.specs.Heard.{heard_in, hears_receipt}
 use Rattle.vdcp_world.specs.declared.event.Event.{Event}
 use Rattle.vdcp_world.specs.declared.event.Event.TheVariants.{Tick, Down, Up, DownCopy, UpCopy, LoseDown, LoseUp, AlterDown, AlterUp, Timeout, Ready, End, Frame, Take, Stop, StrayAck, StrayNak}
 
@@ -175,6 +175,24 @@ after_event c (StrayNak byte) =
 abbrev pub after_events : Channel → List Event → Channel
 after_events c [] = c
 after_events c (event ∷ events) = after_events (after_event c event) events
+
+-- what a channel was made with, the unit and the clock among it
+pub record Make : Type 0 where
+  pub plan : Plan
+  pub clips : List (ClipId × Timecode)
+  pub unit : ℕ
+  pub number : ℕ
+  pub cue_frames : ℕ
+
+abbrev pub make_of : Channel → Make
+make_of c =
+    record {
+      plan = c.plan;
+      clips = c.port.clips;
+      unit = c.port.state.unit;
+      number = c.port.state.number;
+      cue_frames = c.port.cue_frames;
+    }
 
 -- some events lead from a new channel to this one
 pub record IsReached (now : Channel) : Type 0 where

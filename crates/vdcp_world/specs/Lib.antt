@@ -1,4 +1,3 @@
-pub mod Heard
 pub mod Beginnings
 pub mod Channel
 pub mod Rounds

@@ -3,7 +3,12 @@
 #![tactic(auto)]
 
 mod burst;
+mod damage;
 mod event;
+mod heard;
+mod link;
+mod world;
 
 pub use burst::Burst;
 pub use event::Event;
+pub use world::World;

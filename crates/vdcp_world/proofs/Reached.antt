@@ -1,0 +1,122 @@
+-- Channels that events have led to, and what they keep of a channel.
+use Rattle.std.proofs.Common.{ℕ, ◌+◌, ◌≡◌, ◌<◌, ◌≤◌, Bool, true, false, All, List, [], ◌∷◌, ◌++◌, length, take, get_or, refl, sym, ap, subst, ◌∙◌, if◌then◌else◌}
+use Rattle.std.proofs.lemmas.List.{take_more}
+use Rattle.std.specs.Prelude.{Result, Ok, Err, OnOk, OnErr}
+use Rattle.vdcp_value.specs.Parts.{IsItem}
+use Rattle.vdcp_value.specs.declared.clip_id.ClipId.{ClipId}
+use Rattle.vdcp_value.specs.declared.timecode.Timecode.{Timecode}
+use Rattle.vdcp_frame.specs.Burst.{messages_of}
+use Rattle.vdcp_frame.specs.Message.{Content}
+use Rattle.vdcp_port.specs.Answers.{after_messages}
+use Rattle.vdcp_port.specs.Clock.{ClockedPort, after_message, after_change, after_ready, after_ended, after_frame, counted_down, completes_cue, ends_clip, row_at}
+use Rattle.vdcp_port.specs.Row.{Change, keeps, opens, closes, selects, cues, airs, stops}
+use Rattle.vdcp_auto.specs.Plan.{Plan}
+use Rattle.vdcp_world.specs.Channel.{Channel, Make, make_of, new_channel, after_event, after_events, IsReached}
+use Rattle.vdcp_world.specs.declared.event.Event.{Event}
+use Rattle.vdcp_world.specs.declared.event.Event.TheVariants as event
+
+pub after_all : (c : Channel) (events more : List Event) → after_events c (events ++ more) ≡ after_events (after_events c events) more
+after_all c [] more = refl
+after_all c (e ∷ events) more = after_all (after_event c e) events more
+
+pub step_reached : (c : Channel) (e : Event) → IsReached c → IsReached (after_event c e)
+step_reached c e r = record {
+  plan = r.plan;
+  clips = r.clips;
+  unit = r.unit;
+  cue_frames = r.cue_frames;
+  events = r.events ++ e ∷ [];
+  some = r.some;
+  few = r.few;
+  unit_fits = r.unit_fits;
+  port_fits = r.port_fits;
+  cue_takes = r.cue_takes;
+  of_bytes = r.of_bytes;
+  led = ap (λ x. after_event x e) r.led ∙ sym (after_all (new_channel r.plan r.clips r.unit r.cue_frames) r.events (e ∷ []));
+}
+
+-- a step that was taken or refused leaves such a channel
+pub after_step : {A E : Type 0} (result : Result A E) (old now : Channel) (e : Event)
+    → OnOk result (now ≡ after_event old e) → OnErr result (now ≡ old) → IsReached old → IsReached now
+after_step (Ok a) old now e ok err r = subst IsReached (sym ok) (step_reached old e r)
+after_step (Err x) old now e ok err r = subst IsReached (sym err) r
+
+pub new_reached : (plan : Plan) (clips : List (ClipId × Timecode)) (unit cue_frames : ℕ) → 1 ≤ plan.limit → plan.limit ≤ 1000 → unit ≤ 15
+    → plan.port < 256 → 1 ≤ cue_frames → All IsItem plan.list → IsReached (new_channel plan clips unit cue_frames)
+new_reached plan clips unit cue_frames some few unit_fits port_fits cue_takes of_bytes = record {
+  plan = plan;
+  clips = clips;
+  unit = unit;
+  cue_frames = cue_frames;
+  events = [];
+  some = some;
+  few = few;
+  unit_fits = unit_fits;
+  port_fits = port_fits;
+  cue_takes = cue_takes;
+  of_bytes = of_bytes;
+  led = refl;
+}
+
+-- one event more of a list
+pub one_more : (c : Channel) (es : List Event) (i : ℕ) (e : Event) → i < length es → e ≡ get_or es i e
+    → after_events c (take (i + 1) es) ≡ after_event (after_events c (take i es)) e
+one_more c es i e below is =
+    let taken : take (i + 1) es ≡ take i es ++ e ∷ [] = take_more es i e below ∙ ap (λ x. take i es ++ x ∷ []) (sym is) in
+    ap (after_events c) taken ∙ after_all c (take i es) (e ∷ [])
+
+-- ---- what a channel was made with stays
+
+abbrev port_make : Plan → ClockedPort → Make
+port_make plan p =
+    record { plan = plan; clips = p.clips; unit = p.state.unit; number = p.state.number; cue_frames = p.cue_frames }
+
+make_change : (plan : Plan) (change : Change) (p : ClockedPort) → port_make plan (after_change change p) ≡ port_make plan p
+make_change plan keeps p = refl
+make_change plan opens p = refl
+make_change plan closes p = refl
+make_change plan selects p = refl
+make_change plan (cues item) p = refl
+make_change plan (airs item) p = refl
+make_change plan stops p = refl
+
+make_messages : (plan : Plan) (ms : List Content) (p : ClockedPort) → port_make plan (after_messages p ms) ≡ port_make plan p
+make_messages plan [] p = refl
+make_messages plan (m ∷ ms) p = make_messages plan ms (after_message p m) ∙ make_change plan (row_at p m).change p
+
+make_if : (plan : Plan) (b : Bool) (p q : ClockedPort) → port_make plan q ≡ port_make plan p → port_make plan (if b then q else p) ≡ port_make plan p
+make_if plan true p q e = e
+make_if plan false p q e = refl
+
+make_frame : (plan : Plan) (p : ClockedPort) → port_make plan (after_frame p) ≡ port_make plan p
+make_frame plan p =
+    let cued : ClockedPort = if completes_cue p then after_ready (counted_down p) else counted_down p in
+    make_if plan (ends_clip p) cued (after_ended cued) refl ∙ make_if plan (completes_cue p) (counted_down p) (after_ready (counted_down p)) refl
+
+pub make_stays : (c : Channel) (e : Event) → make_of (after_event c e) ≡ make_of c
+make_stays c event.Tick = refl
+make_stays c event.Down = make_messages c.plan (messages_of c.down) c.port
+make_stays c event.Up = refl
+make_stays c event.DownCopy = make_messages c.plan (messages_of c.down) c.port
+make_stays c event.UpCopy = refl
+make_stays c event.LoseDown = refl
+make_stays c event.LoseUp = refl
+make_stays c (event.AlterDown bytes) = refl
+make_stays c (event.AlterUp bytes) = refl
+make_stays c event.Timeout = refl
+make_stays c event.Ready = refl
+make_stays c event.End = refl
+make_stays c event.Frame = make_frame c.plan c.port
+make_stays c event.Take = refl
+make_stays c event.Stop = refl
+make_stays c event.StrayAck = refl
+make_stays c (event.StrayNak byte) = refl
+
+pub make_after_all : (c : Channel) (es : List Event) → make_of (after_events c es) ≡ make_of c
+make_after_all c [] = refl
+make_after_all c (e ∷ es) = make_after_all (after_event c e) es ∙ make_stays c e
+
+pub make_after_step : {A E : Type 0} (result : Result A E) (old now : Channel) (e : Event)
+    → OnOk result (now ≡ after_event old e) → OnErr result (now ≡ old) → make_of now ≡ make_of old
+make_after_step (Ok a) old now e ok err = ap make_of ok ∙ make_stays old e
+make_after_step (Err x) old now e ok err = ap make_of err

@@ -1,0 +1,22 @@
+use Rattle.std.proofs.Common.{take, drop, sym, ap, ◌∙◌, take-append-drop, arith}
+use Rattle.vdcp_world.specs.Channel.{after_event, make_of}
+use Rattle.vdcp_world.proofs.Reached.{one_more, make_after_all}
+use Rattle.vdcp_world.proofs.world.World.run.Goals as goal
+
+pub returns-in_err-step-clause-front : goal.returns-in_err-step-clause-front
+returns-in_err-step-clause-front g c =
+    let i = c.loop-event.event-index in
+    (take i c.args.events.now, drop i c.args.events.now, sym (take-append-drop i c.args.events.now), c.in_err-step.ensures.refused ∙ c.loop-event.invariant)
+
+pub loop-event-preserved : goal.loop-event-preserved
+loop-event-preserved g c =
+    c.in_ok-step.ensures.step
+    ∙ ap (λ w. after_event w c.event-item.result) c.loop-event.invariant
+    ∙ sym (one_more c.args.self.now c.args.events.now c.loop-event.event-index c.event-item.result (omega (arith, c.loop-event-test.true)) c.event-item.is)
+
+pub returns-in_err-step-clause-make : goal.returns-in_err-step-clause-make
+returns-in_err-step-clause-make g c =
+    c.in_err-step.ensures.make ∙ ap make_of c.loop-event.invariant ∙ make_after_all c.args.self.now (take c.loop-event.event-index c.args.events.now)
+
+pub returns-clause-make : goal.returns-clause-make
+returns-clause-make g c = ap make_of c.loop-event.invariant ∙ make_after_all c.args.self.now (take c.loop-event.event-index c.args.events.now)

@@ -1,0 +1,159 @@
+ghost use Rattle.std.specs.Prelude.{◌≡◌, ◌≤◌, ◌<◌, ◌++◌, List, OnOk, OnErr};
+ghost use Rattle.vdcp_auto.specs.Turn.{outcome_of};
+ghost use Rattle.vdcp_auto.specs.declared.phase.Mode.TheVariants.{Plain, Confirming};
+ghost use Rattle.vdcp_world.specs.declared.event.Event.{Event};
+ghost use Rattle.vdcp_world.specs.Channel.{new_channel, after_event, after_events, make_of};
+
+use crate::event::Event;
+use crate::link::Link;
+use std::alloc::{AllocError, Allocator};
+use std::marker::Model;
+use vdcp_auto::{Controller, Exchange, Outcome, Source};
+use vdcp_port::{Catalogue, Port};
+use vdcp_value::Item;
+
+/// A controller and a port of one unit address and one port number, and the line between them, which
+/// holds one burst each way.
+///
+/// - `step` and `run` bring in what happens.
+/// - `aired`, `reported`, `log` and `outcome` only look.
+///
+/// It takes memory for what went to air and for the log, and for nothing else.
+#[derive(Drop)]
+pub struct World<S: Source, C: Catalogue, A: Allocator> {
+    link: Link<S, C, A>,
+}
+
+impl<S: Source, C: Catalogue, A: Allocator> Model for World<S, C, A> {
+    ghost use Rattle.vdcp_world.specs.Channel.{Channel, IsReached};
+
+    ghost Value = { Channel };
+
+    ghost view = { λ w. w.link };
+
+    ghost invariant = { λ w. IsReached w.link };
+}
+
+impl<S: Source, C: Catalogue, A: Allocator + Copy> World<S, C, A> {
+    /// A new world in plain mode, in which a cue takes one frame: nothing is on the way, and nothing was
+    /// aired. The controller plays the source's list through the port of this number, at this unit
+    /// address, 0 to 15, and gives up after `limit` unanswered exchanges in a row, 1 to 1,000.
+    pub fn new(alloc: A, source: S, catalogue: C, unit: u8, port: u8, limit: u32) -> Self
+        requires unit { unit ≤ 15 }
+        requires some { 1 ≤ limit }
+        requires few { limit ≤ 1000 }
+        ensures { result ≡ new_channel
+            (record { mode = Plain; list = S.items source; port = port; limit = limit })
+            (C.clips catalogue) unit 1 }
+    {
+        World::with_clock(alloc, source, catalogue, unit, port, limit, 1)
+    }
+
+    /// The same, in which a cue takes so many frames, 1 to 1,000.
+    pub fn with_clock(
+        alloc: A,
+        source: S,
+        catalogue: C,
+        unit: u8,
+        port: u8,
+        limit: u32,
+        cue_frames: u32,
+    ) -> Self
+        requires unit { unit ≤ 15 }
+        requires some { 1 ≤ limit }
+        requires few { limit ≤ 1000 }
+        requires some_frames { 1 ≤ cue_frames }
+        requires few_frames { cue_frames ≤ 1000 }
+        ensures { result ≡ new_channel
+            (record { mode = Plain; list = S.items source; port = port; limit = limit })
+            (C.clips catalogue) unit cue_frames }
+    {
+        World {
+            link: Link::new(
+                alloc,
+                Controller::new(source, port, limit),
+                Port::with_clock(catalogue, unit, port, cue_frames),
+            ),
+        }
+    }
+
+    /// The same in confirm mode: a receipt may come to the controller from nowhere, and what is on the
+    /// way to it may become one.
+    pub fn confirming(
+        alloc: A,
+        source: S,
+        catalogue: C,
+        unit: u8,
+        port: u8,
+        limit: u32,
+        cue_frames: u32,
+    ) -> Self
+        requires unit { unit ≤ 15 }
+        requires some { 1 ≤ limit }
+        requires few { limit ≤ 1000 }
+        requires some_frames { 1 ≤ cue_frames }
+        requires few_frames { cue_frames ≤ 1000 }
+        ensures { result ≡ new_channel
+            (record { mode = Confirming; list = S.items source; port = port; limit = limit })
+            (C.clips catalogue) unit cue_frames }
+    {
+        World {
+            link: Link::new(
+                alloc,
+                Controller::confirming(source, port, limit),
+                Port::with_clock(catalogue, unit, port, cue_frames),
+            ),
+        }
+    }
+
+    /// The event happens; where it can't, nothing does. All memory is asked for first: where it is
+    /// refused the answer is `AllocError`, and nothing has changed.
+    pub fn step(&mut self, event: &Event) -> Result<(), AllocError>
+        ensures step { OnOk result (self.new ≡ after_event self.old event.now) }
+        ensures refused { OnErr result (self.new ≡ self.old) }
+        ensures make { make_of self.new ≡ make_of self.old }
+    {
+        self.link.step(event)
+    }
+
+    /// The events happen, in order, up to the first for which memory is refused: the answer is then
+    /// `AllocError`, and those before it have happened.
+    pub fn run(&mut self, events: &[Event]) -> Result<(), AllocError>
+        ensures run { OnOk result (self.new ≡ after_events self.old events.now) }
+        ensures front { (done left : List Event) × (events.now ≡ done ++ left) × (self.new ≡ after_events self.old done) }
+        ensures make { make_of self.new ≡ make_of self.old }
+    {
+        for event in events {
+            self.step(event)?;
+        }
+        Ok(())
+    }
+
+    /// What went to air, in order.
+    pub fn aired(&self) -> &[Item]
+        ensures { result.now ≡ self.now.aired }
+    {
+        self.link.aired()
+    }
+
+    /// How many events of the playlist the controller knows to have been aired.
+    pub fn reported(&self) -> usize
+        ensures { result ≡ self.now.state.settled }
+    {
+        self.link.reported()
+    }
+
+    /// The exchanges that have ended, in order.
+    pub fn log(&self) -> &[Exchange]
+        ensures { result.now ≡ self.now.log }
+    {
+        self.link.log()
+    }
+
+    /// How the controller ended; `None` while it goes on.
+    pub fn outcome(&self) -> Option<Outcome>
+        ensures { result ≡ outcome_of self.now.state.stage }
+    {
+        self.link.outcome()
+    }
+}
