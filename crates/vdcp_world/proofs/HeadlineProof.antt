@@ -34,6 +34,7 @@ use Rattle.vdcp_auto.specs.Heard.{heard_in}
 use Rattle.vdcp_world.specs.Headline.{IsUnknownAt, IsOutside, IsRefusedIn, IsExactly, Means, Headline}
 use Rattle.vdcp_world.specs.declared.event.Event.{Event}
 use Rattle.vdcp_world.specs.declared.event.Event.TheVariants as event
+use Rattle.vdcp_world.proofs.Below.{Below}
 use Rattle.vdcp_world.proofs.Exchanges.{near, taken, sent_place}
 use Rattle.vdcp_world.proofs.Kept.{IsKept, kept_event}
 use Rattle.vdcp_world.proofs.PhaseTable.{Aired, Near, Place, PlaceAt, PlaceEnded, FirmEnded, FirmIn, knows, refuses}
@@ -64,12 +65,12 @@ kept_new plan clips unit cue_frames u h items = record {
   told = tt;
 }
 
-kept_events : (c : Channel) (es : List Event) → IsKept c → IsKept (after_events c es)
-kept_events c [] k = k
-kept_events c (e ∷ es) k = kept_events (after_event c e) es (kept_event c e k)
+kept_events : Below → (c : Channel) (es : List Event) → IsKept c → IsKept (after_events c es)
+kept_events below c [] k = k
+kept_events below c (e ∷ es) k = kept_events below (after_event c e) es (kept_event below c e k)
 
-pub reached_kept : (c : Channel) → IsReached c → IsKept c
-reached_kept c r = subst IsKept (sym r.led) (kept_events _ r.events (kept_new r.plan r.clips r.unit r.cue_frames r.unit_fits r.port_fits r.of_bytes))
+pub reached_kept : Below → (c : Channel) → IsReached c → IsKept c
+reached_kept below c r = subst IsKept (sym r.led) (kept_events below _ r.events (kept_new r.plan r.clips r.unit r.cue_frames r.unit_fits r.port_fits r.of_bytes))
 
 -- ---- their controllers
 

@@ -14,7 +14,7 @@ use Rattle.vdcp_words.specs.declared.reply.Reply.{Reply}
 use Rattle.vdcp_words.specs.declared.reply.Reply.TheVariants as reply
 use Rattle.vdcp_port.specs.Answers.{sent_for, aired_for, after_burst}
 use Rattle.vdcp_port.specs.Clock.{ClockedPort, after_change, after_ready, after_ended, after_frame, counted_down, completes_cue, ends_clip}
-use Rattle.vdcp_port.specs.Row.{command_row, on_air}
+use Rattle.vdcp_port.specs.Row.{Change, keeps, opens, closes, selects, cues, airs, stops, command_row, on_air}
 use Rattle.vdcp_auto.specs.Plan.{Plan}
 use Rattle.vdcp_auto.specs.Replies.{is_receipt, is_refusal}
 use Rattle.vdcp_auto.specs.Turn.{awaited, awaited_in, given, ticked, came_to, taken, stopped}
@@ -30,11 +30,12 @@ use Rattle.vdcp_world.specs.Channel.{Channel, after_event, down_behind, up_behin
 use Rattle.vdcp_auto.specs.Heard.{heard_in, heard_first, hears_receipt}
 use Rattle.vdcp_world.specs.declared.event.Event.{Event}
 use Rattle.vdcp_world.specs.declared.event.Event.TheVariants as event
+use Rattle.vdcp_world.proofs.Below.{Below}
 use Rattle.vdcp_world.proofs.Beginnings.{is_beginning_of}
 use Rattle.vdcp_world.proofs.OnTheWay.{ReadsNothing, ReadsCommand, IsQuiet, Way}
 use Rattle.vdcp_world.proofs.PhaseTable.{ToldAt}
 use Rattle.vdcp_world.proofs.TableKept.{Stands, told_none, told_quiet, tick_stands, tick_told, came_stands, came_told, nothing_stands, nothing_told, nak_told, ReadAt, read_at_stage, PortStands, ready_stands, ended_stands, frame_stands}
-use Rattle.vdcp_world.proofs.WayKept.{unit_change as keeps_unit, unit_frame, tick_way, hear_way, quiet_way, left_of, alter_down, alter_up, quiet_receipt, wait_way, stray_same, writable_awaited}
+use Rattle.vdcp_world.proofs.WayKept.{tick_way, hear_way, quiet_way, left_of, alter_down, alter_up, quiet_receipt, wait_way, stray_same}
 use Rattle.vdcp_world.proofs.WayLemmas.{reads_nothing, reads_command}
 
 -- what holds of every channel; of its log nothing is said
@@ -54,6 +55,15 @@ pub record Delivered (plan : Plan) (state : State) (aired : List Item) (unit : �
   pub stands : Stands plan p.clips p.state (aired ++ more) state.settled state.stage
   pub still : ToldAt plan.mode plan.list p.clips p.state (aired ++ more) state.stage up
   pub sent : ToldAt plan.mode plan.list p.clips p.state (aired ++ more) state.stage answer
+
+keeps_unit : (change : Change) (p : ClockedPort) → (after_change change p).state.unit ≡ p.state.unit
+keeps_unit keeps p = refl
+keeps_unit opens p = refl
+keeps_unit closes p = refl
+keeps_unit selects p = refl
+keeps_unit (cues item) p = refl
+keeps_unit (airs item) p = refl
+keeps_unit stops p = refl
 
 no_refusal : (byte : ℕ) → byte ≢ 0x01 → is_refusal (reply.Nak byte) ≡ false
 no_refusal byte other = grind arith
@@ -103,28 +113,28 @@ delivered_command plan state aired p down up c reads is quiet stands =
     read : ReadAt plan p.clips p.state aired state.settled state.stage c
     read = read_at_stage plan p.clips p.state aired state.settled state.stage c is stands
 
-pub delivered : (c : Channel) → IsKept c
+pub delivered : Below → (c : Channel) → IsKept c
     → Delivered c.plan c.state c.aired c.port.state.unit (heard_in c.port.state.unit c.up) (heard_in c.port.state.unit (sent_for c.port c.down))
       (after_burst c.port c.down) (aired_for c.port c.down)
-delivered c k = by k.way
+delivered below c k = by k.way
   where
     by : Way c.plan.mode c.port.state.unit (awaited c.plan c.state) c.down c.up
         → Delivered c.plan c.state c.aired c.port.state.unit (heard_in c.port.state.unit c.up) (heard_in c.port.state.unit (sent_for c.port c.down))
           (after_burst c.port c.down) (aired_for c.port c.down)
     by (inl nothing) =
-        delivered_nothing c.plan c.state c.aired c.port c.down (heard_in c.port.state.unit c.up) (reads_nothing c.port c.down k.unit_fits nothing) k.stands k.told
+        delivered_nothing c.plan c.state c.aired c.port c.down (heard_in c.port.state.unit c.up) (reads_nothing below c.port c.down nothing) k.stands k.told
     by (inr (d, is, ms, quiet)) =
-        let w : IsWritableCommand d = subst (λ (o : Option Command). IfSome o IsWritableCommand) is (writable_awaited c.plan c.state.stage k.of_bytes k.port_fits) in
-        delivered_command c.plan c.state c.aired c.port c.down (heard_in c.port.state.unit c.up) d (reads_command c.port c.down d k.unit_fits w ms) is quiet k.stands
+        let w : IsWritableCommand d = subst (λ (o : Option Command). IfSome o IsWritableCommand) is (below.awaited_written c.plan c.state k.of_bytes k.port_fits) in
+        delivered_command c.plan c.state c.aired c.port c.down (heard_in c.port.state.unit c.up) d (reads_command below c.port c.down d k.unit_fits w ms) is quiet k.stands
 
 -- of what is on the way up once the port has read what was on the way down
-answered_told : (c : Channel) (down : List ℕ) → c.down ≡ down → IsKept c
+answered_told : Below → (c : Channel) (down : List ℕ) → c.down ≡ down → IsKept c
     → ToldAt c.plan.mode c.plan.list (after_burst c.port c.down).clips (after_burst c.port c.down).state (c.aired ++ aired_for c.port c.down) c.state.stage
       (heard_in c.port.state.unit (answered c.port down c.up))
-answered_told c [] e k = (delivered c k).still
-answered_told c (byte ∷ bytes) e k =
+answered_told below c [] e k = (delivered below c k).still
+answered_told below c (byte ∷ bytes) e k =
     subst (λ (d : List ℕ). ToldAt c.plan.mode c.plan.list (after_burst c.port c.down).clips (after_burst c.port c.down).state (c.aired ++ aired_for c.port c.down) c.state.stage
-      (heard_in c.port.state.unit (sent_for c.port d))) e (delivered c k).sent
+      (heard_in c.port.state.unit (sent_for c.port d))) e (delivered below c k).sent
 
 -- ---- something comes to the controller
 
@@ -250,56 +260,56 @@ same_state c state log e k = with_state c state c.down c.up log k
 port_stands : (c : Channel) → IsKept c → PortStands c.plan c.port.clips c.aired c.state.settled c.state.stage (heard_in c.port.state.unit c.up) c.port.state
 port_stands c k = record { stands = k.stands; told = k.told }
 
-pub kept_event : (c : Channel) (e : Event) → IsKept c → IsKept (after_event c e)
-kept_event c event.Tick k =
+pub kept_event : Below → (c : Channel) (e : Event) → IsKept c → IsKept (after_event c e)
+kept_event below c event.Tick k =
     with_state c _ _ _ c.log k
-    (tick_way c.plan.mode c.port.state.unit c.plan c.state c.down c.up (given c.plan c.state) refl k.unit_fits k.of_bytes k.port_fits k.way)
+    (tick_way below c.plan.mode c.port.state.unit c.plan c.state c.down c.up (given c.plan c.state) refl k.unit_fits k.of_bytes k.port_fits k.way)
     (tick_stands c.plan c.port.clips c.port.state c.aired c.state k.stands)
     (ticks_told c (given c.plan c.state) refl k)
-kept_event c event.Down k =
-    let d = delivered c k in
-    with_port c (after_burst c.port c.down) [] (answered c.port c.down c.up) (c.aired ++ aired_for c.port c.down) k d.unit_same (inl refl) d.stands (answered_told c c.down refl k)
-kept_event c event.Up k =
+kept_event below c event.Down k =
+    let d = delivered below c k in
+    with_port c (after_burst c.port c.down) [] (answered c.port c.down c.up) (c.aired ++ aired_for c.port c.down) k d.unit_same (inl refl) d.stands (answered_told below c c.down refl k)
+kept_event below c event.Up k =
     let h = heard_in c.port.state.unit c.up in
     with_state c (state_hearing c.plan h c.state) c.down [] _ k
-    (quiet_way c.plan.mode c.port.state.unit _ c.down c.up [] tt (hear_way c.plan.mode c.port.state.unit c.plan c.state c.down c.up h refl refl k.way))
+    (quiet_way c.plan.mode c.port.state.unit _ c.down c.up [] tt (hear_way below c.plan.mode c.port.state.unit c.plan c.state c.down c.up h refl refl k.way))
     (hears_stands c h k k.told)
     (told_none c.plan.mode c.plan.list c.port.clips c.port.state c.aired (state_hearing c.plan h c.state).stage)
-kept_event c event.DownCopy k =
-    let d = delivered c k in
+kept_event below c event.DownCopy k =
+    let d = delivered below c k in
     with_port c (after_burst c.port c.down) c.down c.up (c.aired ++ aired_for c.port c.down) k d.unit_same k.way d.stands d.still
-kept_event c event.UpCopy k =
+kept_event below c event.UpCopy k =
     let h = heard_in c.port.state.unit c.up in
     with_state c (state_hearing c.plan h c.state) c.down c.up _ k
-    (hear_way c.plan.mode c.port.state.unit c.plan c.state c.down c.up h refl refl k.way)
+    (hear_way below c.plan.mode c.port.state.unit c.plan c.state c.down c.up h refl refl k.way)
     (hears_stands c h k k.told) (hears_told c h h k.told)
-kept_event c event.LoseDown k = with_state c c.state [] c.up c.log k (inl refl) k.stands k.told
-kept_event c event.LoseUp k =
+kept_event below c event.LoseDown k = with_state c c.state [] c.up c.log k (inl refl) k.stands k.told
+kept_event below c event.LoseUp k =
     with_state c c.state c.down [] c.log k (quiet_way c.plan.mode c.port.state.unit _ c.down c.up [] tt k.way) k.stands
     (told_none c.plan.mode c.plan.list c.port.clips c.port.state c.aired c.state.stage)
-kept_event c (event.AlterDown bytes) k =
+kept_event below c (event.AlterDown bytes) k =
     with_state c c.state _ c.up c.log k
     (alter_down c.plan.mode c.port.state.unit (awaited c.plan c.state) c.down c.up bytes (can_become c.down bytes) refl k.way) k.stands k.told
-kept_event c (event.AlterUp bytes) k =
+kept_event below c (event.AlterUp bytes) k =
     let can = can_become_up c.plan.mode c.port.state.unit c.up bytes in
     with_state c c.state c.down (altered can c.up bytes) c.log k
     (alter_up c.plan.mode c.port.state.unit (awaited c.plan c.state) c.down c.up bytes can refl k.way) k.stands
     (alters_told c.plan.mode c bytes can refl k.told)
-kept_event c event.Timeout k =
+kept_event below c event.Timeout k =
     with_state c (state_waiting c.plan c.down c.up c.state) c.down c.up _ k
     (wait_way c.plan.mode c.port.state.unit c.plan c.state c.down c.up k.way) (waits_stands c c.down c.up k) (waits_told c c.down c.up k)
-kept_event c event.Ready k =
+kept_event below c event.Ready k =
     let s = ready_stands c.plan c.port.clips c.aired c.state.settled c.state.stage (heard_in c.port.state.unit c.up) c.port.state (port_stands c k) in
     with_port c (after_ready c.port) c.down c.up c.aired k refl k.way s.stands s.told
-kept_event c event.End k =
+kept_event below c event.End k =
     let s = ended_stands c.plan c.port.clips c.aired c.state.settled c.state.stage (heard_in c.port.state.unit c.up) c.port.state (port_stands c k) in
     with_port c (after_ended c.port) c.down c.up c.aired k refl k.way s.stands s.told
-kept_event c event.Frame k =
+kept_event below c event.Frame k =
     let s = frame_stands c.plan c.port.clips c.aired c.state.settled c.state.stage (heard_in c.port.state.unit c.up) c.port (port_stands c k) in
-    with_port c (after_frame c.port) c.down c.up c.aired k (unit_frame c.port) k.way
+    with_port c (after_frame c.port) c.down c.up c.aired k (below.unit_frame c.port) k.way
     (subst (λ (clips : List (ClipId × Timecode)). Stands c.plan clips (after_frame c.port).state c.aired c.state.settled c.state.stage) (sym (clips_frame c.port)) s.stands)
     (subst (λ (clips : List (ClipId × Timecode)). ToldAt c.plan.mode c.plan.list clips (after_frame c.port).state c.aired c.state.stage (heard_in c.port.state.unit c.up)) (sym (clips_frame c.port)) s.told)
-kept_event c event.Take k = with_state c (taken c.state) c.down c.up c.log k k.way k.stands k.told
-kept_event c event.Stop k = with_state c (stopped c.state) c.down c.up c.log k k.way k.stands k.told
-kept_event c event.StrayAck k = same_state c _ _ (stray_same c.plan.mode c.plan c.state reply.Ack refl refl) k
-kept_event c (event.StrayNak byte) k = same_state c _ _ (stray_same c.plan.mode c.plan c.state (reply.Nak byte) refl refl) k
+kept_event below c event.Take k = with_state c (taken c.state) c.down c.up c.log k k.way k.stands k.told
+kept_event below c event.Stop k = with_state c (stopped c.state) c.down c.up c.log k k.way k.stands k.told
+kept_event below c event.StrayAck k = same_state c _ _ (stray_same below c.plan.mode c.plan c.state reply.Ack refl refl) k
+kept_event below c (event.StrayNak byte) k = same_state c _ _ (stray_same below c.plan.mode c.plan c.state (reply.Nak byte) refl refl) k

@@ -2,6 +2,8 @@ mod Examples
 pub mod First
 pub mod Beginnings
 pub mod Reached
+pub mod Below
+pub mod Spellings
 pub mod PhaseTable
 pub mod Exchanges
 pub mod Readings

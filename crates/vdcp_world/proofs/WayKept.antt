@@ -3,17 +3,12 @@ use Rattle.std.proofs.Common.{ℕ, suc, ◌<◌, ◌≤◌, ◌≡◌, ◌≢◌
 use Rattle.std.specs.Prelude.{Option, None, Some, IfSome, is_some}
 use Rattle.vdcp_value.specs.Parts.{IsItem}
 use Rattle.vdcp_value.specs.declared.part.Item.{Item}
-use Rattle.vdcp_frame.specs.Burst.{messages_of}
-use Rattle.vdcp_frame.specs.Message.{Content}
-use Rattle.vdcp_words.proofs.WordBytes.{command_fits}
+use Rattle.vdcp_frame.specs.Burst.{messages_of, end_of}
+use Rattle.vdcp_frame.specs.Message.{Content, spelling}
 use Rattle.vdcp_words.specs.Commands.{command_message, IsWritableCommand}
 use Rattle.vdcp_words.specs.declared.command.Command.{Command}
 use Rattle.vdcp_words.specs.declared.reply.Reply.{Reply}
 use Rattle.vdcp_words.specs.declared.reply.Reply.TheVariants as reply
-use Rattle.vdcp_port.proofs.OneMessage.{one_message}
-use Rattle.vdcp_port.specs.Answers.{after_messages, after_burst}
-use Rattle.vdcp_port.specs.Clock.{ClockedPort, after_message, after_change, after_ready, after_ended, after_frame, counted_down, row_at}
-use Rattle.vdcp_port.specs.Row.{Change, keeps, opens, closes, selects, cues, airs, stops}
 use Rattle.vdcp_auto.specs.Commands.{is_sense}
 use Rattle.vdcp_auto.specs.Plan.{Plan}
 use Rattle.vdcp_auto.specs.Replies.{is_receipt}
@@ -31,37 +26,9 @@ use Rattle.vdcp_world.specs.Beginnings.{is_beginning}
 use Rattle.vdcp_auto.specs.Heard.{heard_in, heard_first, hears_receipt}
 use Rattle.vdcp_world.proofs.OnTheWay.{IsQuiet, Way}
 use Rattle.vdcp_world.proofs.Beginnings.{is_beginning_of}
-use Rattle.vdcp_world.proofs.WayLemmas.{writable_in}
-
--- ---- the unit stays
-
-pub unit_change : (change : Change) (p : ClockedPort) → (after_change change p).state.unit ≡ p.state.unit
-unit_change keeps p = refl
-unit_change opens p = refl
-unit_change closes p = refl
-unit_change selects p = refl
-unit_change (cues item) p = refl
-unit_change (airs item) p = refl
-unit_change stops p = refl
-
-unit_if : (a : Bool) (p q : ClockedPort) → q.state.unit ≡ p.state.unit → (if a then q else p).state.unit ≡ p.state.unit
-unit_if true p q e = e
-unit_if false p q e = refl
-
-pub unit_frame : (p : ClockedPort) → (after_frame p).state.unit ≡ p.state.unit
-unit_frame p = grind arith
+use Rattle.vdcp_world.proofs.Below.{Below}
 
 -- ---- a tick
-
-writable_given : (plan : Plan) (stop : Bool) (stage : Stage) → All IsItem plan.list → plan.port < 256 → IfSome (given_in plan stop stage) IsWritableCommand
-writable_given plan stop (Ready q) items h = writable_in plan.list plan.port (phase_to_send stop q) items h
-writable_given plan stop (Awaiting q) items h = tt
-writable_given plan stop (Ended outcome) items h = tt
-
-pub writable_awaited : (plan : Plan) (stage : Stage) → All IsItem plan.list → plan.port < 256 → IfSome (awaited_in plan stage) IsWritableCommand
-writable_awaited plan (Ready q) items h = tt
-writable_awaited plan (Awaiting q) items h = writable_in plan.list plan.port q items h
-writable_awaited plan (Ended outcome) items h = tt
 
 -- what a tick gives is awaited then, and where it gives nothing, what was awaited before
 pub given_awaited : (plan : Plan) (state : State) (c : Command) → given plan state ≡ Some c → awaited plan (ticked state) ≡ Some c
@@ -80,40 +47,25 @@ none_awaited plan state c e aw = by state.stage aw
     by (Awaiting q) a = aw
     by (Ended outcome) a = cc
 
-pub tick_way : (mode : Mode) (unit : ℕ) (plan : Plan) (state : State) (down up : List ℕ) (g : Option Command) → given plan state ≡ g
+pub tick_way : Below → (mode : Mode) (unit : ℕ) (plan : Plan) (state : State) (down up : List ℕ) (g : Option Command) → given plan state ≡ g
     → unit < 16 → All IsItem plan.list → plan.port < 256 → Way mode unit (awaited plan state) down up
     → Way mode unit (awaited plan (ticked state)) (down_behind unit g down) (up_behind g up)
-tick_way mode unit plan state down up None e u items h (inl nothing) = inl nothing
-tick_way mode unit plan state down up None e u items h (inr (c, aw, ms, quiet)) = inr (c, none_awaited plan state c e aw, ms, quiet)
-tick_way mode unit plan state down up (Some c) e u items h way =
-    let w : IsWritableCommand c = subst (λ o. IfSome o IsWritableCommand) e (writable_given plan state.stop state.stage items h) in
-    inr (c, given_awaited plan state c e, (one_message (command_message unit c) (command_fits unit c u w)).0, tt)
+tick_way below mode unit plan state down up None e u items h (inl nothing) = inl nothing
+tick_way below mode unit plan state down up None e u items h (inr (c, aw, ms, quiet)) = inr (c, none_awaited plan state c e aw, ms, quiet)
+tick_way below mode unit plan state down up (Some c) e u items h way =
+    let w : IsWritableCommand c = subst (λ o. IfSome o IsWritableCommand) e (below.given_written plan state items h) in
+    inr (c, given_awaited plan state c e, below.alone (command_message unit c) (below.command_fits unit c (omega (arith, u)) w), tt)
 
 -- ---- what is heard
 
-no_end : (c : Command) (r : Reply) → is_receipt r ≡ true → is_end Confirming c (Some (heard.Reply r)) ≡ false
-no_end c r e = ap (λ b. is_sense c && not b) e ∙ nothing (is_sense c)
-  where
-    nothing : (b : Bool) → (b && false) ≡ false
-    nothing true = refl
-    nothing false = refl
-
-none_ends : (r : Reply) (o : Option Command) → is_receipt r ≡ true → exchange_of Confirming (Some (heard.Reply r)) o ≡ None
-none_ends r None e = refl
-none_ends r (Some c) e = ap (λ b. if b then Some (record { command = c; heard = Some (heard.Reply r) }) else None) (no_end c r e)
-
--- a receipt changes nothing in confirm mode
-pub receipt_stays : (plan : Plan) (state : State) (r : Reply) → plan.mode ≡ Confirming → is_receipt r ≡ true → came_to plan (Some (heard.Reply r)) state ≡ state
-receipt_stays plan state r confirms e = grind (arith, none_ends r (awaited plan state) e)
-
-pub hear_way : (mode : Mode) (unit : ℕ) (plan : Plan) (state : State) (down up : List ℕ) (h : Option Heard) → plan.mode ≡ mode → heard_in unit up ≡ h
+pub hear_way : Below → (mode : Mode) (unit : ℕ) (plan : Plan) (state : State) (down up : List ℕ) (h : Option Heard) → plan.mode ≡ mode → heard_in unit up ≡ h
     → Way mode unit (awaited plan state) down up → Way mode unit (awaited plan (state_hearing plan h state)) down up
-hear_way mode unit plan state down up None m e way = way
-hear_way mode unit plan state down up (Some h) m e (inl nothing) = inl nothing
-hear_way Plain unit plan state down up (Some h) m e (inr (c, aw, ms, quiet)) = absurd (subst (IsQuiet Plain) e quiet)
-hear_way Confirming unit plan state down up (Some heard.Other) m e (inr (c, aw, ms, quiet)) = absurd (subst (IsQuiet Confirming) e quiet)
-hear_way Confirming unit plan state down up (Some (heard.Reply r)) m e (inr (c, aw, ms, quiet)) =
-    let stays = receipt_stays plan state r m (subst (IsQuiet Confirming) e quiet) in
+hear_way below mode unit plan state down up None m e way = way
+hear_way below mode unit plan state down up (Some h) m e (inl nothing) = inl nothing
+hear_way below Plain unit plan state down up (Some h) m e (inr (c, aw, ms, quiet)) = absurd (subst (IsQuiet Plain) e quiet)
+hear_way below Confirming unit plan state down up (Some heard.Other) m e (inr (c, aw, ms, quiet)) = absurd (subst (IsQuiet Confirming) e quiet)
+hear_way below Confirming unit plan state down up (Some (heard.Reply r)) m e (inr (c, aw, ms, quiet)) =
+    let stays = below.receipt_stays plan state (Some (heard.Reply r)) m (subst (IsQuiet Confirming) e quiet) in
     inr (c, ap (awaited plan) stays ∙ aw, ms, quiet)
 
 pub quiet_way : (mode : Mode) (unit : ℕ) (o : Option Command) (down up new : List ℕ) → IsQuiet mode (heard_in unit new)
@@ -190,6 +142,6 @@ wait_way mode unit plan state [] [] way = inl refl
 wait_way mode unit plan state [] (b ∷ up) way = way
 wait_way mode unit plan state (b ∷ down) up way = way
 
-pub stray_same : (mode : Mode) (plan : Plan) (state : State) (r : Reply) → plan.mode ≡ mode → is_receipt r ≡ true → state_straying mode plan r state ≡ state
-stray_same Plain plan state r m e = refl
-stray_same Confirming plan state r m e = receipt_stays plan state r m e
+pub stray_same : Below → (mode : Mode) (plan : Plan) (state : State) (r : Reply) → plan.mode ≡ mode → is_receipt r ≡ true → state_straying mode plan r state ≡ state
+stray_same below Plain plan state r m e = refl
+stray_same below Confirming plan state r m e = below.receipt_stays plan state (Some (heard.Reply r)) m e

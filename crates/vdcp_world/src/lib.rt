@@ -6,6 +6,7 @@ mod burst;
 mod damage;
 mod event;
 mod heard;
+pub mod laws;
 mod link;
 mod world;
 

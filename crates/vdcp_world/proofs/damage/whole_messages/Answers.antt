@@ -1,4 +1,4 @@
-use Rattle.std.proofs.Common.{◌<◌, take, arith, subst}
+use Rattle.std.proofs.Common.{◌<◌, All, take, arith, subst}
 use Rattle.std.proofs.lemmas.List.Elements.{All-from_get_or}
 use Rattle.vdcp_frame.specs.Burst.{messages_of, end_of}
 use Rattle.vdcp_frame.specs.Reading.{SpellsAll}
