@@ -8,8 +8,13 @@ mod event;
 mod heard;
 pub mod laws;
 mod link;
+mod script;
 mod world;
 
 pub use burst::Burst;
 pub use event::Event;
+pub use script::{ScriptFault, read_script};
 pub use world::World;
+
+#[cfg(test)]
+mod tests;

@@ -2,11 +2,11 @@ ghost use Rattle.std.specs.Prelude.{◌≡◌, ◌<◌, ◌≤◌, [], ◌++◌,
 ghost use Rattle.vdcp_auto.specs.Course.{logged};
 ghost use Rattle.vdcp_auto.specs.Plan.{plan_of};
 ghost use Rattle.vdcp_auto.specs.Turn as turns;
-ghost use Rattle.vdcp_auto.specs.declared.phase.Mode.TheVariants.{Plain, Confirming};
 ghost use Rattle.vdcp_frame.specs.Message.{spelling};
 ghost use Rattle.vdcp_port.specs.Answers.{sent_for, aired_for, after_burst};
 ghost use Rattle.vdcp_words.specs.Commands.{command_message};
-ghost use Rattle.vdcp_world.specs.Channel.{state_straying, log_straying, new_channel, after_event, state_hearing, log_hearing};
+ghost use Rattle.vdcp_world.specs.Channel as channel;
+ghost use Rattle.vdcp_world.specs.Channel.{after_event, altered, answered, down_behind, up_behind, state_hearing, log_hearing, state_waiting, log_waiting, state_straying, log_straying};
 ghost use Rattle.vdcp_auto.specs.Heard.{heard_in};
 
 use crate::damage::{can_become, can_become_up};
@@ -103,64 +103,30 @@ impl<S: Source, C: Catalogue, A: Allocator + Copy> Link<S, C, A> {
         ensures step { OnOk result (self.new ≡ after_event self.old event.now) }
         ensures refused { OnErr result (self.new ≡ self.old) }
     {
-        self.log.reserve(1)?;
-        self.aired.reserve(1)?;
+        make_room(&mut self.aired, &mut self.log)?;
         let unit = self.port.unit();
         match event {
-            Event::Tick => {
-                if let Some(command) = self.controller.tick() {
-                    put_command(&command, unit, &mut self.down);
-                    self.up.clear();
-                }
-            }
-            Event::Down => {
-                if !self.down.is_empty() {
-                    deliver(
-                        &mut self.port,
-                        &self.down,
-                        &mut self.up,
-                        &mut self.aired,
-                    );
-                    self.down.clear();
-                }
-            }
-            Event::DownCopy => {
-                let mut lost = ArrayVec::new();
-                deliver(&mut self.port, &self.down, &mut lost, &mut self.aired);
-            }
+            Event::Tick => tick(&mut self.controller, unit, &mut self.down, &mut self.up),
+            Event::Down => deliver(
+                &mut self.port,
+                &mut self.down,
+                &mut self.up,
+                &mut self.aired,
+            ),
+            Event::DownCopy => deliver_copy(&mut self.port, &self.down, &mut self.aired),
             Event::Up => {
-                hear(
-                    &mut self.controller,
-                    self.up.as_slice(),
-                    unit,
-                    &mut self.log,
-                );
+                hear(&mut self.controller, &self.up, unit, &mut self.log);
                 self.up.clear();
             }
-            Event::UpCopy => hear(
-                &mut self.controller,
-                self.up.as_slice(),
-                unit,
-                &mut self.log,
-            ),
+            Event::UpCopy => hear(&mut self.controller, &self.up, unit, &mut self.log),
             Event::LoseDown => self.down.clear(),
             Event::LoseUp => self.up.clear(),
-            Event::AlterDown(burst) => {
-                if can_become(self.down.as_slice(), burst.bytes()) {
-                    self.down.clear();
-                    self.down.try_extend_from_slice(burst.bytes()).unwrap();
-                }
-            }
+            Event::AlterDown(burst) => alter_down(&mut self.down, burst.bytes()),
             Event::AlterUp(burst) => {
-                if can_become_up(&self.controller, unit, self.up.as_slice(), burst.bytes()) {
-                    self.up.clear();
-                    self.up.try_extend_from_slice(burst.bytes()).unwrap();
-                }
+                alter_up(&self.controller, unit, &mut self.up, burst.bytes());
             }
             Event::Timeout => {
-                if self.down.is_empty() && self.up.is_empty() {
-                    end_exchange(&mut self.controller, None, &mut self.log);
-                }
+                time_out(&mut self.controller, &self.down, &self.up, &mut self.log);
             }
             Event::Ready => self.port.ready(),
             Event::End => self.port.ended(),
@@ -173,6 +139,38 @@ impl<S: Source, C: Catalogue, A: Allocator + Copy> Link<S, C, A> {
             Event::StrayNak(byte) => stray(&mut self.controller, Reply::Nak(*byte), &mut self.log),
         }
         Ok(())
+    }
+}
+
+/// Room for one more of each.
+fn make_room<A: Allocator>(
+    aired: &mut Vec<Item, A>,
+    log: &mut Vec<Exchange, A>,
+) -> Result<(), AllocError>
+    ensures aired { aired.new.items ≡ aired.old.items }
+    ensures log { log.new.items ≡ log.old.items }
+    ensures aired_room { OnOk result (vec_len aired.new < vec_capacity aired.new) }
+    ensures log_room { OnOk result (vec_len log.new < vec_capacity log.new) }
+{
+    aired.reserve(1)?;
+    log.reserve(1)
+}
+
+/// The controller's next command is on the way down, if it gives one; else nothing changes.
+fn tick<S: Source>(
+    controller: &mut Controller<S>,
+    unit: u8,
+    down: &mut ArrayVec<u8, 1024>,
+    up: &mut ArrayVec<u8, 3074>,
+)
+    requires { unit ≤ 15 }
+    ensures controller { controller.new ≡ record controller.old { state = turns.ticked controller.old.state } }
+    ensures down { down.new.items ≡ down_behind unit (turns.given (plan_of S.items controller.old) controller.old.state) down.old.items }
+    ensures up { up.new.items ≡ up_behind (turns.given (plan_of S.items controller.old) controller.old.state) up.old.items }
+{
+    if let Some(command) = controller.tick() {
+        put_command(&command, unit, down);
+        up.clear();
     }
 }
 
@@ -189,8 +187,42 @@ fn put_command(command: &Command, unit: u8, down: &mut ArrayVec<u8, 1024>)
     down.try_extend_from_slice(bytes.as_slice()).unwrap();
 }
 
-/// The port reads a burst; its answer stands in place of what the buffer held.
+/// The port reads what is on the way down, if anything is: it is gone then, and the answer is on the way
+/// up in place of what was.
 fn deliver<C: Catalogue, A: Allocator>(
+    port: &mut Port<C>,
+    down: &mut ArrayVec<u8, 1024>,
+    up: &mut ArrayVec<u8, 3074>,
+    aired: &mut Vec<Item, A>,
+)
+    requires { vec_len aired.old < vec_capacity aired.old }
+    ensures port { port.new ≡ after_burst port.old down.old.items }
+    ensures down { down.new.items ≡ [] }
+    ensures up { up.new.items ≡ answered port.old down.old.items up.old.items }
+    ensures aired { aired.new.items ≡ aired.old.items ++ aired_for port.old down.old.items }
+{
+    if !down.is_empty() {
+        read_burst(port, down, up, aired);
+        down.clear();
+    }
+}
+
+/// The port reads what is on the way down, and the answer is lost.
+fn deliver_copy<C: Catalogue, A: Allocator>(
+    port: &mut Port<C>,
+    down: &ArrayVec<u8, 1024>,
+    aired: &mut Vec<Item, A>,
+)
+    requires { vec_len aired.old < vec_capacity aired.old }
+    ensures port { port.new ≡ after_burst port.old down.now.items }
+    ensures aired { aired.new.items ≡ aired.old.items ++ aired_for port.old down.now.items }
+{
+    let mut lost = ArrayVec::new();
+    read_burst(port, down, &mut lost, aired);
+}
+
+/// The port reads a burst; its answer stands in place of what the buffer held.
+fn read_burst<C: Catalogue, A: Allocator>(
     port: &mut Port<C>,
     burst: &ArrayVec<u8, 1024>,
     answer: &mut ArrayVec<u8, 3074>,
@@ -207,23 +239,68 @@ fn deliver<C: Catalogue, A: Allocator>(
     }
 }
 
-/// The controller hears the first message of a burst.
+/// The controller hears the first message of what is on the way up.
 fn hear<S: Source, A: Allocator>(
     controller: &mut Controller<S>,
-    burst: &[u8],
+    up: &ArrayVec<u8, 3074>,
     unit: u8,
     log: &mut Vec<Exchange, A>,
 )
     requires { vec_len log.old < vec_capacity log.old }
     ensures controller { controller.new ≡ record controller.old {
-      state = state_hearing (plan_of S.items controller.old) (heard_in unit burst.now) controller.old.state;
+      state = state_hearing (plan_of S.items controller.old) (heard_in unit up.now.items) controller.old.state;
     } }
-    ensures log { log.new.items ≡ log_hearing (plan_of S.items controller.old) (heard_in unit burst.now)
+    ensures log { log.new.items ≡ log_hearing (plan_of S.items controller.old) (heard_in unit up.now.items)
         controller.old.state log.old.items }
 {
-    let came = heard::first_of(burst, unit);
+    let came = heard::first_of(up.as_slice(), unit);
     if came.is_some() {
         end_exchange(controller, came, log);
+    }
+}
+
+/// What is on the way down becomes these bytes, where it can.
+fn alter_down(down: &mut ArrayVec<u8, 1024>, bytes: &[u8])
+    ensures { down.new.items ≡ altered (channel.can_become down.old.items bytes.now) down.old.items bytes.now }
+{
+    if can_become(down.as_slice(), bytes) {
+        down.clear();
+        down.try_extend_from_slice(bytes).unwrap();
+    }
+}
+
+/// What is on the way up becomes these bytes, where it can.
+fn alter_up<S: Source>(
+    controller: &Controller<S>,
+    unit: u8,
+    up: &mut ArrayVec<u8, 3074>,
+    bytes: &[u8],
+)
+    ensures { up.new.items
+        ≡ altered (channel.can_become_up controller.now.mode unit up.old.items bytes.now) up.old.items bytes.now }
+{
+    if can_become_up(controller, unit, up.as_slice(), bytes) {
+        up.clear();
+        up.try_extend_from_slice(bytes).unwrap();
+    }
+}
+
+/// Nothing came in time, which happens where nothing is on the way either way.
+fn time_out<S: Source, A: Allocator>(
+    controller: &mut Controller<S>,
+    down: &ArrayVec<u8, 1024>,
+    up: &ArrayVec<u8, 3074>,
+    log: &mut Vec<Exchange, A>,
+)
+    requires { vec_len log.old < vec_capacity log.old }
+    ensures controller { controller.new ≡ record controller.old {
+      state = state_waiting (plan_of S.items controller.old) down.now.items up.now.items controller.old.state;
+    } }
+    ensures log { log.new.items ≡ log_waiting (plan_of S.items controller.old) down.now.items up.now.items
+        controller.old.state log.old.items }
+{
+    if down.is_empty() && up.is_empty() {
+        end_exchange(controller, None, log);
     }
 }
 

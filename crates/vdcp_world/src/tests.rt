@@ -1,0 +1,5 @@
+mod clips;
+mod memory;
+mod nothing;
+mod rows;
+mod scripts;

@@ -1,0 +1,161 @@
+//! Events where they can't happen: the world goes on as if nothing had been.
+use super::clips::{Clips, ONE, Shelf, TWO};
+use crate::burst::Burst;
+use crate::event::Event;
+use crate::script::read_script;
+use crate::world::World;
+use std::alloc::Global;
+use std::process::Abort;
+use std::test::Fail;
+
+/// The modes in which an event can't happen.
+#[derive(Clone, Copy, PartialEq, Eq)]
+enum Modes {
+    Plain,
+    Both,
+}
+
+/// A world, by the script that leads to it; events that can't happen in it; and a script to go on with.
+#[derive(Clone, Copy)]
+struct Place {
+    before: &'static str,
+    events: &'static [(&'static str, Modes)],
+    after: &'static str,
+}
+
+const NEW: Place = Place {
+    before: "",
+    events: &[
+        ("down\n", Modes::Both),
+        ("down-copy\n", Modes::Both),
+        ("up\n", Modes::Both),
+        ("up-copy\n", Modes::Both),
+        ("lose-down\n", Modes::Both),
+        ("lose-up\n", Modes::Both),
+        ("timeout\n", Modes::Both),
+        ("alter-down 04\n", Modes::Both),
+        ("alter-down 02021001ef\n", Modes::Both),
+        ("alter-up 020330810049\n", Modes::Both),
+        ("alter-up 0501\n", Modes::Plain),
+        ("stray-ack\n", Modes::Plain),
+        ("stray-nak 01\n", Modes::Plain),
+    ],
+    after: "good 14\n",
+};
+
+const ASKED: Place = Place {
+    before: "tick\n",
+    events: &[
+        ("tick\n", Modes::Both),
+        ("timeout\n", Modes::Both),
+        ("up\n", Modes::Both),
+        ("up-copy\n", Modes::Both),
+        ("lose-up\n", Modes::Both),
+        ("alter-down 04\n", Modes::Both),
+        ("alter-down 02021001ef\n", Modes::Both),
+        ("alter-down 020430010101cd04\n", Modes::Both),
+        ("alter-down 020430010101cd020430010101cd\n", Modes::Both),
+        ("alter-up 02033081004f\n", Modes::Both),
+        ("alter-up 04\n", Modes::Plain),
+        ("stray-ack\n", Modes::Plain),
+        ("stray-nak 01\n", Modes::Plain),
+    ],
+    after: "down\nup\ngood 14\n",
+};
+
+const ANSWERED: Place = Place {
+    before: "tick\ndown\n",
+    events: &[
+        ("tick\n", Modes::Both),
+        ("timeout\n", Modes::Both),
+        ("down\n", Modes::Both),
+        ("down-copy\n", Modes::Both),
+        ("lose-down\n", Modes::Both),
+        ("alter-down 020430010101cd\n", Modes::Both),
+        ("alter-up 02033081004f\n", Modes::Both),
+        ("alter-up 02033081014e04\n", Modes::Both),
+        ("alter-up 04\n", Modes::Plain),
+        ("alter-up 0504\n", Modes::Plain),
+    ],
+    after: "up\ngood 14\n",
+};
+
+const ENDED: Place = Place {
+    before: "good 30\n",
+    events: &[
+        ("tick\n", Modes::Both),
+        ("timeout\n", Modes::Both),
+        ("stop\n", Modes::Both),
+        ("stray-ack\n", Modes::Both),
+        ("stray-nak 01\n", Modes::Both),
+    ],
+    after: "good\n",
+};
+
+fn world(alloc: Global, confirms: bool) -> Result<World<Clips, Shelf, Global>, &'static str> {
+    let clips = Clips::two(ONE, TWO);
+    let shelf = Shelf::two_clips()?;
+    Ok(if confirms {
+        World::confirming(alloc, clips, shelf, 0, 0x01, 3, 1)
+    } else {
+        World::new(alloc, clips, shelf, 0, 0x01, 3)
+    })
+}
+
+/// With the event and without it, the same comes of a world.
+fn is_same(
+    rt: &impl Abort,
+    alloc: Global,
+    confirms: bool,
+    place: &Place,
+    event: &str,
+) -> Result<(), Fail> {
+    let mut without = world(alloc, confirms)?;
+    let mut with = world(alloc, confirms)?;
+    let before = read_script(alloc, place.before)?;
+    let after = read_script(alloc, place.after)?;
+    let none = read_script(alloc, event)?;
+    without.run(before.as_slice())?;
+    without.run(after.as_slice())?;
+    with.run(before.as_slice())?;
+    with.run(none.as_slice())?;
+    with.run(after.as_slice())?;
+    assert_eq!(rt; with.aired(), without.aired(), "{event}");
+    assert_eq!(rt; with.reported(), without.reported(), "{event}");
+    assert_eq!(rt; with.log(), without.log(), "{event}");
+    assert_eq!(rt; with.outcome(), without.outcome(), "{event}");
+    Ok(())
+}
+
+#[test]
+fn what_cannot_happen_changes_nothing(rt: HostRuntime) -> Result<(), Fail> {
+    for place in [NEW, ASKED, ANSWERED, ENDED] {
+        for (event, modes) in place.events {
+            is_same(&rt, rt.alloc(), false, &place, event)?;
+            if *modes == Modes::Both {
+                is_same(&rt, rt.alloc(), true, &place, event)?;
+            }
+        }
+    }
+    Ok(())
+}
+
+#[test]
+fn damage_has_a_limit(rt: HostRuntime) -> Result<(), Fail> {
+    for (count, exchanges) in [(1024, 0), (1025, 1)] {
+        let mut junk = Vec::new(rt.alloc());
+        for _ in 0..count {
+            junk.push(0xFF)?;
+        }
+        let mut world = world(rt.alloc(), false)?;
+        let events = [
+            Event::Tick,
+            Event::AlterUp(Burst::new(junk)),
+            Event::LoseDown,
+            Event::Timeout,
+        ];
+        world.run(&events)?;
+        assert_eq!(rt; world.log().len(), exchanges);
+    }
+    Ok(())
+}

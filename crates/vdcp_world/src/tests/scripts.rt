@@ -1,0 +1,157 @@
+//! Scripts that are read, and scripts that are refused.
+use crate::burst::Burst;
+use crate::event::Event;
+use crate::script::{ScriptFault, read_script};
+use std::test::Fail;
+
+#[test]
+fn every_word(rt: HostRuntime) -> Result<(), Fail> {
+    let alloc = rt.alloc();
+    let text =
+        "tick\ndown\nup\ndown-copy\nup-copy\nlose-down\nlose-up\ntimeout\nready\nend\ntake\nstop\n\
+                frame\nstray-ack\nstray-nak 0a\nalter-down 02FF\nalter-up fe\nframe 2\nround\nround 2\ngood\n";
+    let events = read_script(alloc, text)?;
+    let two = Burst::new(Vec::from_slice(alloc, &[0x02, 0xFF])?);
+    let one = Burst::new(Vec::from_slice(alloc, &[0xFE])?);
+    let wanted = [
+        Event::Tick,
+        Event::Down,
+        Event::Up,
+        Event::DownCopy,
+        Event::UpCopy,
+        Event::LoseDown,
+        Event::LoseUp,
+        Event::Timeout,
+        Event::Ready,
+        Event::End,
+        Event::Take,
+        Event::Stop,
+        Event::Frame,
+        Event::StrayAck,
+        Event::StrayNak(0x0A),
+        Event::AlterDown(two),
+        Event::AlterUp(one),
+        Event::Frame,
+        Event::Frame,
+        Event::Tick,
+        Event::Down,
+        Event::Up,
+        Event::Tick,
+        Event::Down,
+        Event::Up,
+        Event::Tick,
+        Event::Down,
+        Event::Up,
+        Event::Timeout,
+        Event::Ready,
+        Event::End,
+        Event::Tick,
+        Event::Down,
+        Event::Up,
+    ];
+    assert_eq!(rt; events.as_slice(), wanted.as_slice());
+    Ok(())
+}
+
+#[test]
+fn numbers_of_events(rt: HostRuntime) -> Result<(), Fail> {
+    let counts = [
+        ("", 0),
+        ("\n\n# tick\n#\n\n", 0),
+        ("tick", 1),
+        ("tick\r\n\r\n# comment\r\ndown\r\n", 2),
+        ("tick\n\ndown", 2),
+        ("round 10000\n", 30_000),
+        ("frame 10000\n", 10_000),
+        ("good 10000\nround 10000\nframe 10000\n", 100_000),
+    ];
+    for (text, count) in counts {
+        assert_eq!(rt; read_script(rt.alloc(), text)?.len(), count, "{text:?}");
+    }
+    Ok(())
+}
+
+#[test]
+fn refusals(rt: HostRuntime) -> Result<(), Fail> {
+    let refused = [
+        ("tick\n\njump\n", ScriptFault::Word(3)),
+        ("jump 3 4\n", ScriptFault::Word(1)),
+        ("# one\r\n\r\nTick\r\n", ScriptFault::Word(3)),
+        ("tick \n", ScriptFault::Word(1)),
+        (" tick\n", ScriptFault::Word(1)),
+        (" \n", ScriptFault::Word(1)),
+        ("tick 1\n", ScriptFault::Word(1)),
+        ("tick\r", ScriptFault::Word(1)),
+        ("alter-down\n", ScriptFault::Word(1)),
+        ("alter-up\n", ScriptFault::Word(1)),
+        ("stray-nak\n", ScriptFault::Word(1)),
+        ("stray-ack 04\n", ScriptFault::Word(1)),
+        ("alter-up ff ff\n", ScriptFault::Word(1)),
+        ("round 2 \n", ScriptFault::Word(1)),
+        ("good  2\n", ScriptFault::Word(1)),
+        ("round \n", ScriptFault::Number(1)),
+        ("round 0\n", ScriptFault::Number(1)),
+        ("round 01\n", ScriptFault::Number(1)),
+        ("round +1\n", ScriptFault::Number(1)),
+        ("tick\ngood x\n", ScriptFault::Number(2)),
+        ("frame 10001\n", ScriptFault::Number(1)),
+        ("frame 4294967297\n", ScriptFault::Number(1)),
+        ("alter-up \n", ScriptFault::Hex(1)),
+        ("alter-up f\n", ScriptFault::Hex(1)),
+        ("alter-down 0g\n", ScriptFault::Hex(1)),
+        ("stray-nak 0A\n", ScriptFault::Hex(1)),
+        ("stray-nak 1\n", ScriptFault::Hex(1)),
+        ("stray-nak 0101\n", ScriptFault::Hex(1)),
+        ("good 10000\ngood 10000\n", ScriptFault::TooMany),
+        (
+            "good 10000\nround 10000\nframe 10000\ntick\n",
+            ScriptFault::TooMany,
+        ),
+        (
+            "good 10000\nround 10000\nframe 10000\njump\n",
+            ScriptFault::Word(4),
+        ),
+        ("good 10000\ngood 10000\njump\n", ScriptFault::TooMany),
+    ];
+    for (text, fault) in refused {
+        assert_eq!(rt;
+            read_script(rt.alloc(), text).err(),
+            Some(fault),
+            "{text:?}"
+        );
+    }
+    Ok(())
+}
+
+#[test]
+fn eleven_times_ten_thousand_good_rounds(rt: HostRuntime) -> Result<(), Fail> {
+    let mut text = String::new(rt.alloc());
+    for _ in 0..11 {
+        text.push_str("good 10000\n")?;
+    }
+    assert_eq!(rt;
+        read_script(rt.alloc(), text.as_str()).err(),
+        Some(ScriptFault::TooMany)
+    );
+    Ok(())
+}
+
+#[test]
+fn the_longest_burst(rt: HostRuntime) -> Result<(), Fail> {
+    let mut text = String::new(rt.alloc());
+    text.push_str("alter-down ")?;
+    for _ in 0..1024 {
+        text.push_str("fF")?;
+    }
+    let events = read_script(rt.alloc(), text.as_str())?;
+    let Some(Event::AlterDown(burst)) = events.first() else {
+        return Err(Fail::from("no alter-down"));
+    };
+    assert_eq!(rt; burst.bytes().len(), 1024);
+    text.push_str("ff")?;
+    assert_eq!(rt;
+        read_script(rt.alloc(), text.as_str()).err(),
+        Some(ScriptFault::Hex(1))
+    );
+    Ok(())
+}
