@@ -41,7 +41,8 @@ HearsCue mode q r = Unit {0}
 
 -- ---- an answer
 
-pub replied_place : (list : List Item) (clips : List (ClipId × Timecode)) (cued : Cued) (aired : List Item) (mode : Mode) (settled limit tries : ℕ) (wish : Bool) (q : Phase) (r : Reply)
+pub replied_place : (list : List Item) (clips : List (ClipId × Timecode)) (cued : Cued) (aired : List Item) (mode : Mode) (settled limit tries : ℕ)
+    (wish : Bool) (q : Phase) (r : Reply)
     → Place list cued aired settled q → Tells list clips cued aired q r → HearsCue mode q r → is_asked q r ≡ true
     → PlaceAt list clips cued aired (settled_after (on_reply mode list limit wish tries q r) settled) (stage_after (on_reply mode list limit wish tries q r))
 replied_place list clips cued aired mode settled limit tries wish phase.Open r h t c f = grind (arith, near)
@@ -64,7 +65,8 @@ pub refused_place : (list : List Item) (clips : List (ClipId × Timecode)) (p : 
     → PlaceAt list clips p.cued aired (settled_after (on_refusal (length list) q) settled) (stage_after (on_refusal (length list) q))
 refused_place list clips p aired settled q r h firm t e = grind (arith, near)
 
-pub replied_firm : (list : List Item) (clips : List (ClipId × Timecode)) (p : PortState) (aired : List Item) (limit tries : ℕ) (wish : Bool) (q : Phase) (r : Reply)
+pub replied_firm : (list : List Item) (clips : List (ClipId × Timecode)) (p : PortState) (aired : List Item) (limit tries : ℕ) (wish : Bool) (q : Phase)
+    (r : Reply)
     → Firm list clips p q → Tells list clips p.cued aired q r → FirmTells list clips p q r → is_asked q r ≡ true
     → FirmAt list clips p (stage_after (on_reply Plain list limit wish tries q r))
 replied_firm list clips p aired limit tries wish q r h t c f = grind arith
@@ -76,16 +78,19 @@ refused_firm list clips p q r h t e = grind arith
 
 -- ---- silence, and a tick
 
-pub silence_place : (list : List Item) (clips : List (ClipId × Timecode)) (cued : Cued) (aired : List Item) (mode : Mode) (settled limit unanswered : ℕ) (counts : Bool) (q : Phase)
+pub silence_place : (list : List Item) (clips : List (ClipId × Timecode)) (cued : Cued) (aired : List Item) (mode : Mode) (settled limit unanswered : ℕ)
+    (counts : Bool) (q : Phase)
     → Place list cued aired settled q
-    → PlaceAt list clips cued aired (settled_after (on_unanswered mode limit unanswered counts q) settled) (stage_after (on_unanswered mode limit unanswered counts q))
+    → PlaceAt list clips cued aired (settled_after (on_unanswered mode limit unanswered counts q) settled)
+    (stage_after (on_unanswered mode limit unanswered counts q))
 silence_place list clips cued aired mode settled limit unanswered counts q h = grind (arith, near)
 
 pub silence_firm : (list : List Item) (clips : List (ClipId × Timecode)) (p : PortState) (limit unanswered : ℕ) (counts : Bool) (q : Phase)
     → Firm list clips p q → FirmAt list clips p (stage_after (on_unanswered Plain limit unanswered counts q))
 silence_firm list clips p limit unanswered counts q h = grind arith
 
-pub sent_place : (list : List Item) (cued : Cued) (aired : List Item) (settled : ℕ) (q : Phase) → PlaceReady list cued aired settled q → Place list cued aired settled q
+pub sent_place : (list : List Item) (cued : Cued) (aired : List Item) (settled : ℕ) (q : Phase) → PlaceReady list cued aired settled q
+    → Place list cued aired settled q
 sent_place list cued aired settled q h = grind arith
 
 pub tick_place : (list : List Item) (cued : Cued) (aired : List Item) (settled : ℕ) (stop : Bool) (q : Phase)
@@ -93,7 +98,8 @@ pub tick_place : (list : List Item) (cued : Cued) (aired : List Item) (settled :
 tick_place list cued aired settled true q h = near list cued aired settled q (sent_place list cued aired settled q h)
 tick_place list cued aired settled false q h = sent_place list cued aired settled q h
 
-pub tick_firm : (list : List Item) (clips : List (ClipId × Timecode)) (p : PortState) (stop : Bool) (q : Phase) → Firm list clips p q → Firm list clips p (phase_to_send stop q)
+pub tick_firm : (list : List Item) (clips : List (ClipId × Timecode)) (p : PortState) (stop : Bool) (q : Phase) → Firm list clips p q
+    → Firm list clips p (phase_to_send stop q)
 tick_firm list clips p true q h = tt
 tick_firm list clips p false q h = h
 
@@ -135,7 +141,8 @@ abbrev pub turn_by : Mode → List Item → ℕ → Bool → ℕ → ℕ → Boo
 turn_by mode list limit take tries unanswered counts q (Some r) = on_answer mode list limit take tries q r
 turn_by mode list limit take tries unanswered counts q None = on_unanswered mode limit unanswered counts q
 
-pub record Behind (mode : Mode) (list : List Item) (clips : List (ClipId × Timecode)) (p : PortState) (aired : List Item) (settled : ℕ) (turn : Turn) : Type 0 where
+pub record Behind (mode : Mode) (list : List Item) (clips : List (ClipId × Timecode)) (p : PortState) (aired : List Item) (settled : ℕ)
+    (turn : Turn) : Type 0 where
   pub place : PlaceAt list clips p.cued aired (settled_after turn settled) (stage_after turn)
   pub firm : FirmIn mode list clips p (stage_after turn)
 
@@ -143,16 +150,19 @@ either : (a b : Bool) → (a || b) ≡ true → (a ≡ true) ⊎ ((a ≡ false) 
 either true b e = inl refl
 either false b e = inr (refl, e)
 
-on_refused : (mode : Mode) (list : List Item) (limit tries : ℕ) (take : Bool) (q : Phase) (r : Reply) → is_refusal r ≡ true → on_answer mode list limit take tries q r ≡ on_refusal (length list) q
+on_refused : (mode : Mode) (list : List Item) (limit tries : ℕ) (take : Bool) (q : Phase) (r : Reply) → is_refusal r ≡ true
+    → on_answer mode list limit take tries q r ≡ on_refusal (length list) q
 on_refused mode list limit tries take q r e = ap (λ b. if b then on_refusal (length list) q else on_reply mode list limit take tries q r) e
 
-on_replied : (mode : Mode) (list : List Item) (limit tries : ℕ) (take : Bool) (q : Phase) (r : Reply) → is_refusal r ≡ false → on_answer mode list limit take tries q r ≡ on_reply mode list limit take tries q r
+on_replied : (mode : Mode) (list : List Item) (limit tries : ℕ) (take : Bool) (q : Phase) (r : Reply) → is_refusal r ≡ false
+    → on_answer mode list limit take tries q r ≡ on_reply mode list limit take tries q r
 on_replied mode list limit tries take q r e = ap (λ b. if b then on_refusal (length list) q else on_reply mode list limit take tries q r) e
 
 hears_cue : (list : List Item) (clips : List (ClipId × Timecode)) (p : PortState) (q : Phase) (r : Reply) → FirmTells list clips p q r → HearsCue Plain q r
 hears_cue list clips p q r t = grind arith
 
-answered_plain : (list : List Item) (clips : List (ClipId × Timecode)) (p : PortState) (aired : List Item) (settled limit tries : ℕ) (take : Bool) (q : Phase) (r : Reply)
+answered_plain : (list : List Item) (clips : List (ClipId × Timecode)) (p : PortState) (aired : List Item) (settled limit tries : ℕ) (take : Bool) (q : Phase)
+    (r : Reply)
     → Place list p.cued aired settled q → Firm list clips p q → Tells list clips p.cued aired q r → FirmTells list clips p q r
     → (is_refusal r ≡ true) ⊎ ((is_refusal r ≡ false) × (is_asked q r ≡ true))
     → Behind Plain list clips p aired settled (on_answer Plain list limit take tries q r)
@@ -167,7 +177,8 @@ answered_plain list clips p aired settled limit tries take q r h firm t u (inr (
       firm = replied_firm list clips p aired limit tries take q r firm t u asked;
     })
 
-answered_confirming : (list : List Item) (clips : List (ClipId × Timecode)) (p : PortState) (aired : List Item) (settled limit tries : ℕ) (take : Bool) (q : Phase) (r : Reply)
+answered_confirming : (list : List Item) (clips : List (ClipId × Timecode)) (p : PortState) (aired : List Item) (settled limit tries : ℕ) (take : Bool)
+    (q : Phase) (r : Reply)
     → Place list p.cued aired settled q → Tells list clips p.cued aired q r → is_refusal r ≡ false → is_asked q r ≡ true
     → Behind Confirming list clips p aired settled (on_answer Confirming list limit take tries q r)
 answered_confirming list clips p aired settled limit tries take q r h t e asked =
@@ -176,7 +187,8 @@ answered_confirming list clips p aired settled limit tries take q r h t e asked 
       firm = tt;
     })
 
-unanswered_place : (mode : Mode) (list : List Item) (clips : List (ClipId × Timecode)) (p : PortState) (aired : List Item) (settled limit unanswered : ℕ) (counts : Bool) (q : Phase)
+unanswered_place : (mode : Mode) (list : List Item) (clips : List (ClipId × Timecode)) (p : PortState) (aired : List Item) (settled limit unanswered : ℕ)
+    (counts : Bool) (q : Phase)
     → Place list p.cued aired settled q → FirmIn mode list clips p (Awaiting q)
     → Behind mode list clips p aired settled (on_unanswered mode limit unanswered counts q)
 unanswered_place Plain list clips p aired settled limit unanswered counts q h firm = record {
@@ -199,7 +211,8 @@ no_refusal : (r : Reply) → is_receipt r ≡ false → is_refusal r ≡ false
 no_refusal r e = grind arith
 
 -- where what came leads, if it ends the exchange of the awaited command
-pub turn_place : (mode : Mode) (list : List Item) (clips : List (ClipId × Timecode)) (p : PortState) (aired : List Item) (settled port limit tries unanswered : ℕ) (take counts : Bool)
+pub turn_place : (mode : Mode) (list : List Item) (clips : List (ClipId × Timecode)) (p : PortState) (aired : List Item)
+    (settled port limit tries unanswered : ℕ) (take counts : Bool)
     (q : Phase) (c : Command) (came : Option Heard) → command_in list port q ≡ Some c → is_end mode c came ≡ true
     → Place list p.cued aired settled q → FirmIn mode list clips p (Awaiting q) → Told mode list clips p aired q came
     → Behind mode list clips p aired settled (turn_by mode list limit take tries unanswered counts q (answer_to c came))

@@ -31,7 +31,7 @@ use Rattle.vdcp_words.specs.declared.reply.Reply.{Reply}
 use Rattle.vdcp_words.specs.declared.reply.Reply.TheVariants as reply
 use Rattle.vdcp_world.specs.Channel.{Channel, new_channel, after_event, after_events, IsReached, state_hearing, log_hearing, state_waiting, log_waiting, state_straying, log_straying}
 use Rattle.vdcp_auto.specs.Heard.{heard_in}
-use Rattle.vdcp_world.specs.Headline.{IsUnknownAt, IsOutside, IsRefusedIn, IsExactly, Means, Headline}
+use Rattle.vdcp_world.specs.Headline.{IsUnknownAt, IsOutside, IsRefusedIn, AreReported, Means, Headline}
 use Rattle.vdcp_world.specs.declared.event.Event.{Event}
 use Rattle.vdcp_world.specs.declared.event.Event.TheVariants as event
 use Rattle.vdcp_world.proofs.Below.{Below}
@@ -50,7 +50,8 @@ firm_new : (mode : Mode) (list : List Item) (clips : List (ClipId × Timecode)) 
 firm_new Plain list clips p = tt
 firm_new Confirming list clips p = tt
 
-kept_new : (plan : Plan) (clips : List (ClipId × Timecode)) (unit cue_frames : ℕ) → unit ≤ 15 → plan.port < 256 → All IsItem plan.list → IsKept (new_channel plan clips unit cue_frames)
+kept_new : (plan : Plan) (clips : List (ClipId × Timecode)) (unit cue_frames : ℕ) → unit ≤ 15 → plan.port < 256 → All IsItem plan.list
+    → IsKept (new_channel plan clips unit cue_frames)
 kept_new plan clips unit cue_frames u h items = record {
   unit_fits = omega (arith, u);
   port_fits = h;
@@ -70,7 +71,8 @@ kept_events below c [] k = k
 kept_events below c (e ∷ es) k = kept_events below (after_event c e) es (kept_event below c e k)
 
 pub reached_kept : Below → (c : Channel) → IsReached c → IsKept c
-reached_kept below c r = subst IsKept (sym r.led) (kept_events below _ r.events (kept_new r.plan r.clips r.unit r.cue_frames r.unit_fits r.port_fits r.of_bytes))
+reached_kept below c r = subst IsKept (sym r.led) (kept_events below _ r.events
+    (kept_new r.plan r.clips r.unit r.cue_frames r.unit_fits r.port_fits r.of_bytes))
 
 -- ---- their controllers
 
@@ -150,7 +152,8 @@ begins list aired settled n =
 
 -- ---- what the outcome means
 
-unknown_at : (clips : List (ClipId × Timecode)) (list : List Item) (k : ℕ) (o : Option Item) → slice_get list k ≡ o → k < length list → knows clips o ≡ false → IsUnknownAt clips list k
+unknown_at : (clips : List (ClipId × Timecode)) (list : List Item) (k : ℕ) (o : Option Item) → slice_get list k ≡ o → k < length list
+    → knows clips o ≡ false → IsUnknownAt clips list k
 unknown_at clips list k None is below e = absurd (no_item list k below is)
 unknown_at clips list k (Some item) is below e = subst (λ (o : Option Item). IsSomeAnd o (λ item. is_known clips item.id ≡ false)) (sym is) e
 
@@ -179,7 +182,7 @@ outside_at clips list k None is e = cc
 outside_at clips list k (Some item) is e = subst (λ (o : Option Item). IsSomeAnd o (IsOutside clips)) (sym is) (outside clips item e)
 
 exactly : (plan : Plan) (aired : List Item) (log : List Exchange) (reported k : ℕ) → Aired plan.list aired k → reported ≡ k → reported ≡ settled plan.mode log
-    → IsExactly plan aired log k
+    → AreReported plan aired log k
 exactly plan aired log reported k a e counted = record {
   aired_count = ap length a.aired_is ∙ taken plan.list k a.within;
   reported_count = sym counted ∙ e;
@@ -190,7 +193,8 @@ refused_in : (mode : Mode) (clips : List (ClipId × Timecode)) (plan : Plan) (lo
 refused_in Plain clips plan log p k firm by_log = outside_at clips plan.list k (slice_get plan.list k) refl firm
 refused_in Confirming clips plan log p k firm by_log = by_log refl
 
-means : (c : Channel) (o : Outcome) → PlaceEnded c.plan.list c.port.clips c.aired c.state.settled o → FirmIn c.plan.mode c.plan.list c.port.clips c.port.state (Ended o)
+means : (c : Channel) (o : Outcome) → PlaceEnded c.plan.list c.port.clips c.aired c.state.settled o
+    → FirmIn c.plan.mode c.plan.list c.port.clips c.port.state (Ended o)
     → IsLawful c.plan c.state c.log → outcome_of c.state.stage ≡ Some o → Means c.port.clips c.plan c.aired c.log o
 means c outcome.Done h firm l e =
     (h.0.aired_is ∙ take-length c.plan.list, exactly c.plan c.aired c.log c.state.settled (length c.plan.list) h.0 h.1 l.is_settled)
@@ -199,13 +203,15 @@ means c outcome.Lost h firm l e = l.is_lost.0 e
 means c outcome.Denied h firm l e = h
 means c (outcome.Missing k) h firm l e =
     (unknown_at c.port.clips c.plan.list k (slice_get c.plan.list k) refl h.2 h.3, exactly c.plan c.aired c.log c.state.settled k h.0 h.1 l.is_settled)
-means c (outcome.Refused k) h firm l e =
-    (refused_in c.plan.mode c.port.clips c.plan c.log c.port.state k firm (λ confirms. l.is_refused confirms k e),
-    exactly c.plan c.aired c.log c.state.settled k h.0 h.1 l.is_settled)
+means c (outcome.Refused k) h firm l e = (
+  refused_in c.plan.mode c.port.clips c.plan c.log c.port.state k firm (λ confirms. l.is_refused confirms k e),
+  exactly c.plan c.aired c.log c.state.settled k h.0 h.1 l.is_settled,
+)
 means c (outcome.Foreign k) h firm l e = h
 means c (outcome.Strange k) h firm l e = h
 
-means_at : (c : Channel) (stage : Stage) → c.state.stage ≡ stage → Stands c.plan c.port.clips c.port.state c.aired c.state.settled stage → IsLawful c.plan c.state c.log
+means_at : (c : Channel) (stage : Stage) → c.state.stage ≡ stage → Stands c.plan c.port.clips c.port.state c.aired c.state.settled stage
+    → IsLawful c.plan c.state c.log
     → IfSome (outcome_of stage) (Means c.port.clips c.plan c.aired c.log)
 means_at c (Ready q) e s l = tt
 means_at c (Awaiting q) e s l = tt

@@ -115,26 +115,29 @@ delivered_command plan state aired p down up c reads is quiet stands =
 
 pub delivered : Below → (c : Channel) → IsKept c
     → Delivered c.plan c.state c.aired c.port.state.unit (heard_in c.port.state.unit c.up) (heard_in c.port.state.unit (sent_for c.port c.down))
-      (after_burst c.port c.down) (aired_for c.port c.down)
+    (after_burst c.port c.down) (aired_for c.port c.down)
 delivered below c k = by k.way
   where
     by : Way c.plan.mode c.port.state.unit (awaited c.plan c.state) c.down c.up
         → Delivered c.plan c.state c.aired c.port.state.unit (heard_in c.port.state.unit c.up) (heard_in c.port.state.unit (sent_for c.port c.down))
-          (after_burst c.port c.down) (aired_for c.port c.down)
+        (after_burst c.port c.down) (aired_for c.port c.down)
     by (inl nothing) =
         delivered_nothing c.plan c.state c.aired c.port c.down (heard_in c.port.state.unit c.up) (reads_nothing below c.port c.down nothing) k.stands k.told
     by (inr (d, is, ms, quiet)) =
-        let w : IsWritableCommand d = subst (λ (o : Option Command). IfSome o IsWritableCommand) is (below.awaited_written c.plan c.state k.of_bytes k.port_fits) in
-        delivered_command c.plan c.state c.aired c.port c.down (heard_in c.port.state.unit c.up) d (reads_command below c.port c.down d k.unit_fits w ms) is quiet k.stands
+        let w : IsWritableCommand d = subst (λ (o : Option Command). IfSome o IsWritableCommand) is
+        (below.awaited_written c.plan c.state k.of_bytes k.port_fits) in
+        delivered_command c.plan c.state c.aired c.port c.down (heard_in c.port.state.unit c.up) d (reads_command below c.port c.down d k.unit_fits w ms) is
+        quiet k.stands
 
 -- of what is on the way up once the port has read what was on the way down
 answered_told : Below → (c : Channel) (down : List ℕ) → c.down ≡ down → IsKept c
     → ToldAt c.plan.mode c.plan.list (after_burst c.port c.down).clips (after_burst c.port c.down).state (c.aired ++ aired_for c.port c.down) c.state.stage
-      (heard_in c.port.state.unit (answered c.port down c.up))
+    (heard_in c.port.state.unit (answered c.port down c.up))
 answered_told below c [] e k = (delivered below c k).still
 answered_told below c (byte ∷ bytes) e k =
-    subst (λ (d : List ℕ). ToldAt c.plan.mode c.plan.list (after_burst c.port c.down).clips (after_burst c.port c.down).state (c.aired ++ aired_for c.port c.down) c.state.stage
-      (heard_in c.port.state.unit (sent_for c.port d))) e (delivered below c k).sent
+    subst (λ (d : List ℕ). ToldAt c.plan.mode c.plan.list (after_burst c.port c.down).clips (after_burst c.port c.down).state
+    (c.aired ++ aired_for c.port c.down) c.state.stage
+    (heard_in c.port.state.unit (sent_for c.port d))) e (delivered below c k).sent
 
 -- ---- something comes to the controller
 
@@ -151,7 +154,8 @@ hears_told c (Some h) up told = came_told c.plan c.port.clips c.port.state c.air
 waits_stands : (c : Channel) (down up : List ℕ) → IsKept c
     → Stands c.plan c.port.clips c.port.state c.aired (state_waiting c.plan down up c.state).settled (state_waiting c.plan down up c.state).stage
 waits_stands c [] [] k =
-    came_stands c.plan c.port.clips c.port.state c.aired c.state None k.stands (told_none c.plan.mode c.plan.list c.port.clips c.port.state c.aired c.state.stage)
+    came_stands c.plan c.port.clips c.port.state c.aired c.state None k.stands
+    (told_none c.plan.mode c.plan.list c.port.clips c.port.state c.aired c.state.stage)
 waits_stands c [] (byte ∷ up) k = k.stands
 waits_stands c (byte ∷ down) up k = k.stands
 
@@ -179,7 +183,8 @@ alters_told mode c bytes true e told = by mode e told
         → ToldAt mode c.plan.list c.port.clips c.port.state c.aired c.state.stage (heard_in c.port.state.unit c.up)
         → ToldAt mode c.plan.list c.port.clips c.port.state c.aired c.state.stage (heard_in c.port.state.unit bytes)
     front mode can told =
-        let (others, is) = is_beginning_of (messages_of bytes) (messages_of c.up) (left_of (is_short bytes) (is_beginning (messages_of bytes) (messages_of c.up)) can) in
+        let (others, is) = is_beginning_of (messages_of bytes) (messages_of c.up)
+        (left_of (is_short bytes) (is_beginning (messages_of bytes) (messages_of c.up)) can) in
         front_told mode c (messages_of bytes) others
         (subst (λ (ms : List Content). ToldAt mode c.plan.list c.port.clips c.port.state c.aired c.state.stage (heard_first c.port.state.unit ms)) is told)
 
@@ -212,7 +217,8 @@ clips_frame : (p : ClockedPort) → (after_frame p).clips ≡ p.clips
 clips_frame p = by (completes_cue p) (ends_clip p)
   where
     by : (cue clip : Bool)
-        → (if clip then after_ended (if cue then after_ready (counted_down p) else counted_down p) else (if cue then after_ready (counted_down p) else counted_down p)).clips ≡ p.clips
+        → (if clip then after_ended (if cue then after_ready (counted_down p) else counted_down p)
+        else (if cue then after_ready (counted_down p) else counted_down p)).clips ≡ p.clips
     by true true = refl
     by true false = refl
     by false true = refl
@@ -268,7 +274,8 @@ kept_event below c event.Tick k =
     (ticks_told c (given c.plan c.state) refl k)
 kept_event below c event.Down k =
     let d = delivered below c k in
-    with_port c (after_burst c.port c.down) [] (answered c.port c.down c.up) (c.aired ++ aired_for c.port c.down) k d.unit_same (inl refl) d.stands (answered_told below c c.down refl k)
+    with_port c (after_burst c.port c.down) [] (answered c.port c.down c.up) (c.aired ++ aired_for c.port c.down) k d.unit_same (inl refl) d.stands
+    (answered_told below c c.down refl k)
 kept_event below c event.Up k =
     let h = heard_in c.port.state.unit c.up in
     with_state c (state_hearing c.plan h c.state) c.down [] _ k
@@ -307,8 +314,10 @@ kept_event below c event.End k =
 kept_event below c event.Frame k =
     let s = frame_stands c.plan c.port.clips c.aired c.state.settled c.state.stage (heard_in c.port.state.unit c.up) c.port (port_stands c k) in
     with_port c (after_frame c.port) c.down c.up c.aired k (below.unit_frame c.port) k.way
-    (subst (λ (clips : List (ClipId × Timecode)). Stands c.plan clips (after_frame c.port).state c.aired c.state.settled c.state.stage) (sym (clips_frame c.port)) s.stands)
-    (subst (λ (clips : List (ClipId × Timecode)). ToldAt c.plan.mode c.plan.list clips (after_frame c.port).state c.aired c.state.stage (heard_in c.port.state.unit c.up)) (sym (clips_frame c.port)) s.told)
+    (subst (λ (clips : List (ClipId × Timecode)). Stands c.plan clips (after_frame c.port).state c.aired c.state.settled c.state.stage)
+    (sym (clips_frame c.port)) s.stands)
+    (subst (λ (clips : List (ClipId × Timecode)). ToldAt c.plan.mode c.plan.list clips (after_frame c.port).state c.aired c.state.stage
+    (heard_in c.port.state.unit c.up)) (sym (clips_frame c.port)) s.told)
 kept_event below c event.Take k = with_state c (taken c.state) c.down c.up c.log k k.way k.stands k.told
 kept_event below c event.Stop k = with_state c (stopped c.state) c.down c.up c.log k k.way k.stands k.told
 kept_event below c event.StrayAck k = same_state c _ _ (stray_same below c.plan.mode c.plan c.state reply.Ack refl refl) k

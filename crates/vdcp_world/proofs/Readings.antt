@@ -209,14 +209,16 @@ names_same (Some other) item e =
     let same : other ≡ item = cc in
     ap (λ (x : Item). not (is_same_id item.id x.id)) same ∙ ap not (same_itself item.id)
 
-active_tells : (list : List Item) (aired : List Item) (k : ℕ) (playing : Option Item) → aired ≡ take (k + 1) list → k + 1 ≤ length list → PlaysLast list playing aired
+active_tells : (list : List Item) (aired : List Item) (k : ℕ) (playing : Option Item) → aired ≡ take (k + 1) list → k + 1 ≤ length list
+    → PlaysLast list playing aired
     → names_other (slice_get list k) (reply.Active (option_map (λ item. item.id) playing)) ≡ false
 active_tells list aired k None e within h = names_none (slice_get list k)
 active_tells list aired k (Some item) e within h =
     let at : length aired - 1 ≡ k = omega (arith, ap length e, taken list (k + 1) within) in
     names_same (slice_get list k) item (sym (ap (slice_get list) at) ∙ h.1)
 
-check_tells : (list : List Item) (clips : List (ClipId × Timecode)) (p : PortState) (aired : List Item) (k : ℕ) (r : Reply) (selected : Bool) → is_selected p ≡ selected
+check_tells : (list : List Item) (clips : List (ClipId × Timecode)) (p : PortState) (aired : List Item) (k : ℕ) (r : Reply) (selected : Bool)
+    → is_selected p ≡ selected
     → Idle list p.cued aired (k + 1) → PlaysLast list p.playing aired → answer_after clips p (Some command.ActiveId) ≡ Some r
     → names_other (slice_get list k) r ≡ false
 check_tells list clips p aired k r true s h l a = grind (arith, active_tells list aired k p.playing h.aired_is h.within l)

@@ -19,7 +19,8 @@ use Rattle.vdcp_world.proofs.PhaseTable.{Idle, Coming, Standing, PlaysLast, Plac
 
 -- ---- the cue is done
 
-ready_place : (list : List Item) (cued : Cued) (aired : List Item) (settled : ℕ) (q : Phase) → Place list cued aired settled q → Place list (made_ready cued) aired settled q
+ready_place : (list : List Item) (cued : Cued) (aired : List Item) (settled : ℕ) (q : Phase) → Place list cued aired settled q
+    → Place list (made_ready cued) aired settled q
 ready_place list empty aired settled q h = h
 ready_place list (cueing item) aired settled q h = grind arith
 ready_place list (done item) aired settled q h = h

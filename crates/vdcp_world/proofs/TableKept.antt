@@ -50,7 +50,8 @@ pub record Stands (plan : Plan) (clips : List (ClipId × Timecode)) (p : PortSta
 
 -- ---- what is heard tells nothing
 
-pub told_none : (mode : Mode) (list : List Item) (clips : List (ClipId × Timecode)) (p : PortState) (aired : List Item) (stage : Stage) → ToldAt mode list clips p aired stage None
+pub told_none : (mode : Mode) (list : List Item) (clips : List (ClipId × Timecode)) (p : PortState) (aired : List Item) (stage : Stage)
+    → ToldAt mode list clips p aired stage None
 told_none mode list clips p aired (Ready q) = tt
 told_none mode list clips p aired (Awaiting q) = λ r e. absurd (impossible r e)
   where
@@ -114,7 +115,8 @@ none_of f (Some item) e = cc
 some_at : (list : List Item) (k : ℕ) (f : Item → Command) → k < length list → option_map f (slice_get list k) ≡ None → ⊥
 some_at list k f below none = no_item list k below (none_of f (slice_get list k) none)
 
-gives_some : (list : List Item) (port : ℕ) (cued : Cued) (aired : List Item) (settled : ℕ) (q : Phase) → Place list cued aired settled q → command_in list port q ≡ None → ⊥
+gives_some : (list : List Item) (port : ℕ) (cued : Cued) (aired : List Item) (settled : ℕ) (q : Phase) → Place list cued aired settled q
+    → command_in list port q ≡ None → ⊥
 gives_some list port cued aired settled phase.Open h e = cc
 gives_some list port cued aired settled phase.Select h e = cc
 gives_some list port cued aired settled phase.Seen h e = cc
@@ -135,9 +137,11 @@ pub tick_told : (plan : Plan) (clips : List (ClipId × Timecode)) (p : PortState
     → ToldAt plan.mode plan.list clips p aired state.stage h → ToldAt plan.mode plan.list clips p aired (ticked state).stage h
 tick_told plan clips p aired state h s none told = by state.stage s none
   where
-    by : (stage : Stage) → Stands plan clips p aired state.settled stage → given_in plan state.stop stage ≡ None → ToldAt plan.mode plan.list clips p aired (tick_in stage state).stage h
+    by : (stage : Stage) → Stands plan clips p aired state.settled stage → given_in plan state.stop stage ≡ None
+        → ToldAt plan.mode plan.list clips p aired (tick_in stage state).stage h
     by (Ready q) g e =
-        absurd (gives_some plan.list plan.port p.cued aired state.settled (phase_to_send state.stop q) (tick_place plan.list p.cued aired state.settled state.stop q g.place) e)
+        absurd (gives_some plan.list plan.port p.cued aired state.settled (phase_to_send state.stop q)
+        (tick_place plan.list p.cued aired state.settled state.stop q g.place) e)
     by (Awaiting q) g e = told
     by (Ended outcome) g e = told
 
@@ -167,9 +171,10 @@ came_stands plan clips p aired state came h told = by state.stage h told
     ends q c g t is true over =
         let e : Exchange = record { command = c; heard = came } in
         let counts = is_counted plan.mode e in
-        let behind = turn_place plan.mode plan.list clips p aired state.settled plan.port plan.limit state.tries state.unanswered state.take counts q c came is over g.place g.firm t in
+        let behind = turn_place plan.mode plan.list clips p aired state.settled plan.port plan.limit state.tries state.unanswered state.take counts q c came
+        is over g.place g.firm t in
         let after = subst (λ (turn : Turn). Behind plan.mode plan.list clips p aired state.settled turn)
-            (turn_same plan state.take state.tries state.unanswered counts q (answer_to c came)) behind in
+        (turn_same plan state.take state.tries state.unanswered counts q (answer_to c came)) behind in
         record { numbered = g.numbered; plays = g.plays; place = after.place; firm = after.firm }
 
     awaits : (q : Phase) → Stands plan clips p aired state.settled (Awaiting q) → Told plan.mode plan.list clips p aired q came
@@ -178,7 +183,8 @@ came_stands plan clips p aired state came h told = by state.stage h told
     awaits q g t None is = h
     awaits q g t (Some c) is = ends q c g t is (is_end plan.mode c came) refl
 
-    by : (stage : Stage) → Stands plan clips p aired state.settled stage → ToldAt plan.mode plan.list clips p aired stage came → After (came_in plan came stage state)
+    by : (stage : Stage) → Stands plan clips p aired state.settled stage → ToldAt plan.mode plan.list clips p aired stage came
+        → After (came_in plan came stage state)
     by (Ready q) g t = h
     by (Awaiting q) g t = awaits q g t (command_in plan.list plan.port q) refl
     by (Ended outcome) g t = h
@@ -196,7 +202,8 @@ came_told plan clips p aired state came h told = by state.stage
     turns (Retries k) n = tt
     turns (Ends outcome) n = tt
 
-    ends : (q : Phase) (c : Command) (b : Bool) → After (option_map_or (λ e. ended_in plan (Awaiting q) e state) (if b then Some (record { command = c; heard = came }) else None) state)
+    ends : (q : Phase) (c : Command) (b : Bool)
+        → After (option_map_or (λ e. ended_in plan (Awaiting q) e state) (if b then Some (record { command = c; heard = came }) else None) state)
     ends q c false = told
     ends q c true =
         let e : Exchange = record { command = c; heard = came } in
@@ -213,18 +220,21 @@ came_told plan clips p aired state came h told = by state.stage
 
 -- ---- the port reads what is on the way down
 
-pub nothing_stands : (plan : Plan) (clips : List (ClipId × Timecode)) (p : PortState) (aired : List Item) (settled : ℕ) (stage : Stage) (more : List Item) → more ≡ []
+pub nothing_stands : (plan : Plan) (clips : List (ClipId × Timecode)) (p : PortState) (aired : List Item) (settled : ℕ) (stage : Stage) (more : List Item)
+    → more ≡ []
     → Stands plan clips p aired settled stage → Stands plan clips p (aired ++ more) settled stage
 nothing_stands plan clips p aired settled stage more e h =
     subst (λ (a : List Item). Stands plan clips p a settled stage) (sym (ap (λ (m : List Item). aired ++ m) e ∙ append-nil aired)) h
 
-pub nothing_told : (mode : Mode) (list : List Item) (clips : List (ClipId × Timecode)) (p : PortState) (aired : List Item) (stage : Stage) (h : Option Heard) (more : List Item) → more ≡ []
+pub nothing_told : (mode : Mode) (list : List Item) (clips : List (ClipId × Timecode)) (p : PortState) (aired : List Item) (stage : Stage) (h : Option Heard)
+    (more : List Item) → more ≡ []
     → ToldAt mode list clips p aired stage h → ToldAt mode list clips p (aired ++ more) stage h
 nothing_told mode list clips p aired stage h more e told =
     subst (λ (a : List Item). ToldAt mode list clips p a stage h) (sym (ap (λ (m : List Item). aired ++ m) e ∙ append-nil aired)) told
 
 -- a NAK that is no refusal tells nothing
-nak_tells : (list : List Item) (clips : List (ClipId × Timecode)) (p : PortState) (aired : List Item) (q : Phase) (byte : ℕ) → is_refusal (reply.Nak byte) ≡ false
+nak_tells : (list : List Item) (clips : List (ClipId × Timecode)) (p : PortState) (aired : List Item) (q : Phase) (byte : ℕ)
+    → is_refusal (reply.Nak byte) ≡ false
     → Tells list clips p.cued aired q (reply.Nak byte) × FirmTells list clips p q (reply.Nak byte)
 nak_tells list clips p aired q byte e = (plain, firm)
   where
@@ -238,7 +248,8 @@ nak_tells list clips p aired q byte e = (plain, firm)
     firm : FirmTells list clips p q (reply.Nak byte)
     firm = grind arith
 
-pub nak_told : (mode : Mode) (list : List Item) (clips : List (ClipId × Timecode)) (p : PortState) (aired : List Item) (stage : Stage) (byte : ℕ) → is_refusal (reply.Nak byte) ≡ false
+pub nak_told : (mode : Mode) (list : List Item) (clips : List (ClipId × Timecode)) (p : PortState) (aired : List Item) (stage : Stage) (byte : ℕ)
+    → is_refusal (reply.Nak byte) ≡ false
     → ToldAt mode list clips p aired stage (Some (heard.Reply (reply.Nak byte)))
 nak_told mode list clips p aired (Ready q) byte e = tt
 nak_told mode list clips p aired (Awaiting q) byte e = λ r is. subst (λ r. TellsIn mode list clips p aired q r) (same_reply (reply.Nak byte) r is) (tells mode)
@@ -249,7 +260,8 @@ nak_told mode list clips p aired (Awaiting q) byte e = λ r is. subst (λ r. Tel
 nak_told mode list clips p aired (Ended outcome) byte e = tt
 
 -- behind a command that is awaited
-pub record Read (plan : Plan) (clips : List (ClipId × Timecode)) (p : PortState) (aired : List Item) (settled : ℕ) (q : Phase) (o : Option Command) : Type 0 where
+pub record Read (plan : Plan) (clips : List (ClipId × Timecode)) (p : PortState) (aired : List Item) (settled : ℕ) (q : Phase)
+    (o : Option Command) : Type 0 where
   pub stands : Stands plan clips (port_after clips p o) (aired ++ aired_after clips p o) settled (Awaiting q)
   pub told : (r : Reply) → answer_after clips p o ≡ Some r → TellsIn plan.mode plan.list clips (port_after clips p o) (aired ++ aired_after clips p o) q r
 
@@ -265,23 +277,28 @@ read_own plan clips p aired settled q h = record {
   told = λ r a. told plan.mode r a h.firm;
 }
   where
-    firm : (mode : Mode) → FirmIn mode plan.list clips p (Awaiting q) → FirmIn mode plan.list clips (port_after clips p (command_in plan.list plan.port q)) (Awaiting q)
+    firm : (mode : Mode) → FirmIn mode plan.list clips p (Awaiting q)
+        → FirmIn mode plan.list clips (port_after clips p (command_in plan.list plan.port q)) (Awaiting q)
     firm Plain f = reads_firm plan.list clips p plan.port q h.numbered f
     firm Confirming f = tt
 
     tells : (r : Reply) → answer_after clips p (command_in plan.list plan.port q) ≡ Some r
-        → Tells plan.list clips (port_after clips p (command_in plan.list plan.port q)).cued (aired ++ aired_after clips p (command_in plan.list plan.port q)) q r
+        → Tells plan.list clips (port_after clips p (command_in plan.list plan.port q)).cued (aired ++ aired_after clips p (command_in plan.list plan.port q))
+        q r
     tells r a = reads_tells plan.list clips p aired settled plan.port q r h.numbered h.place h.plays a
 
     told : (mode : Mode) (r : Reply) → answer_after clips p (command_in plan.list plan.port q) ≡ Some r → FirmIn mode plan.list clips p (Awaiting q)
-        → TellsIn mode plan.list clips (port_after clips p (command_in plan.list plan.port q)) (aired ++ aired_after clips p (command_in plan.list plan.port q)) q r
+        → TellsIn mode plan.list clips (port_after clips p (command_in plan.list plan.port q))
+        (aired ++ aired_after clips p (command_in plan.list plan.port q)) q r
     told Plain r a f = (tells r a, reads_firm_tells plan.list clips p plan.port q r h.numbered f a)
     told Confirming r a f = λ _. tells r a
 
-pub record ReadAt (plan : Plan) (clips : List (ClipId × Timecode)) (p : PortState) (aired : List Item) (settled : ℕ) (stage : Stage) (c : Command) : Type 0 where
+pub record ReadAt (plan : Plan) (clips : List (ClipId × Timecode)) (p : PortState) (aired : List Item) (settled : ℕ) (stage : Stage)
+    (c : Command) : Type 0 where
   pub stands : Stands plan clips (changed (command_row clips p c).change p) (aired ++ option_to_list (on_air (command_row clips p c).change)) settled stage
   pub told : (r : Reply) → (command_row clips p c).answer ≡ Some r
-      → ToldAt plan.mode plan.list clips (changed (command_row clips p c).change p) (aired ++ option_to_list (on_air (command_row clips p c).change)) stage (Some (heard.Reply r))
+      → ToldAt plan.mode plan.list clips (changed (command_row clips p c).change p) (aired ++ option_to_list (on_air (command_row clips p c).change)) stage
+      (Some (heard.Reply r))
 
 pub read_at_stage : (plan : Plan) (clips : List (ClipId × Timecode)) (p : PortState) (aired : List Item) (settled : ℕ) (stage : Stage) (c : Command)
     → awaited_in plan stage ≡ Some c → Stands plan clips p aired settled stage → ReadAt plan clips p aired settled stage c
@@ -293,7 +310,8 @@ read_at_stage plan clips p aired settled (Awaiting q) c e h =
     let read = subst (λ (o : Option Command). Read plan clips p aired settled q o) e (read_own plan clips p aired settled q h) in
     record {
       stands = read.stands;
-      told = λ r a s is. subst (λ r. TellsIn plan.mode plan.list clips (port_after clips p (Some c)) (aired ++ aired_after clips p (Some c)) q r) (same_reply r s is) (read.told r a);
+      told = λ r a s is. subst (λ r. TellsIn plan.mode plan.list clips (port_after clips p (Some c)) (aired ++ aired_after clips p (Some c)) q r)
+          (same_reply r s is) (read.told r a);
     }
 read_at_stage plan clips p aired settled (Ended outcome) c e h = absurd (impossible e)
   where
@@ -302,7 +320,8 @@ read_at_stage plan clips p aired settled (Ended outcome) c e h = absurd (impossi
 
 -- ---- the cue is done, the clip has ended, a frame passes
 
-pub record PortStands (plan : Plan) (clips : List (ClipId × Timecode)) (aired : List Item) (settled : ℕ) (stage : Stage) (h : Option Heard) (p : PortState) : Type 0 where
+pub record PortStands (plan : Plan) (clips : List (ClipId × Timecode)) (aired : List Item) (settled : ℕ) (stage : Stage) (h : Option Heard) (p : PortState) :
+    Type 0 where
   pub stands : Stands plan clips p aired settled stage
   pub told : ToldAt plan.mode plan.list clips p aired stage h
 
@@ -336,7 +355,8 @@ frame_stands plan clips aired settled stage h p s = by (completes_cue p) (ends_c
   where
     by : (cue clip : Bool)
         → PortStands plan clips aired settled stage h
-          (if clip then after_ended (if cue then after_ready (counted_down p) else counted_down p) else (if cue then after_ready (counted_down p) else counted_down p)).state
+        (if clip then after_ended (if cue then after_ready (counted_down p) else counted_down p) else
+        (if cue then after_ready (counted_down p) else counted_down p)).state
     by true true = ended_stands plan clips aired settled stage h (ready_state p.state) (ready_stands plan clips aired settled stage h p.state s)
     by true false = ready_stands plan clips aired settled stage h p.state s
     by false true = ended_stands plan clips aired settled stage h p.state s

@@ -91,7 +91,8 @@ pub alter_down : (mode : Mode) (unit : ℕ) (o : Option Command) (down up bytes 
     → Way mode unit o down up → Way mode unit o (altered can down bytes) up
 alter_down mode unit o down up bytes false e way = way
 alter_down mode unit o down up bytes true e way =
-    let (others, is) = is_beginning_of (messages_of bytes) (messages_of down) (left_of (is_short bytes) (is_beginning (messages_of bytes) (messages_of down)) e) in
+    let (others, is) = is_beginning_of (messages_of bytes) (messages_of down)
+    (left_of (is_short bytes) (is_beginning (messages_of bytes) (messages_of down)) e) in
     by others is way
   where
     by : (others : List Content) → messages_of down ≡ messages_of bytes ++ others → Way mode unit o down up → Way mode unit o bytes up
@@ -119,14 +120,16 @@ alter_up mode unit o down up bytes true e (inr (c, aw, ms, quiet)) = inr (c, aw,
   where
     front : (mode : Mode) → IsQuiet mode (heard_in unit up) → can_become up bytes ≡ true → IsQuiet mode (heard_in unit bytes)
     front mode quiet e =
-        let (others, is) = is_beginning_of (messages_of bytes) (messages_of up) (left_of (is_short bytes) (is_beginning (messages_of bytes) (messages_of up)) e) in
+        let (others, is) = is_beginning_of (messages_of bytes) (messages_of up)
+        (left_of (is_short bytes) (is_beginning (messages_of bytes) (messages_of up)) e) in
         quiet_front mode unit (messages_of bytes) others (subst (λ ms. IsQuiet mode (heard_first unit ms)) is quiet)
 
     both : (a b : Bool) → (a || b) ≡ true → (a ≡ true) ⊎ (b ≡ true)
     both true b e = inl refl
     both false b e = inr e
 
-    which : IsQuiet Confirming (heard_in unit up) → (can_become up bytes ≡ true) ⊎ ((is_short bytes && hears_receipt (heard_in unit bytes)) ≡ true) → IsQuiet Confirming (heard_in unit bytes)
+    which : IsQuiet Confirming (heard_in unit up) → (can_become up bytes ≡ true) ⊎ ((is_short bytes && hears_receipt (heard_in unit bytes)) ≡ true)
+        → IsQuiet Confirming (heard_in unit bytes)
     which quiet (inl can) = front Confirming quiet can
     which quiet (inr receipt) = quiet_receipt (heard_in unit bytes) (left_of (is_short bytes) (hears_receipt (heard_in unit bytes)) receipt)
 
@@ -142,6 +145,7 @@ wait_way mode unit plan state [] [] way = inl refl
 wait_way mode unit plan state [] (b ∷ up) way = way
 wait_way mode unit plan state (b ∷ down) up way = way
 
-pub stray_same : Below → (mode : Mode) (plan : Plan) (state : State) (r : Reply) → plan.mode ≡ mode → is_receipt r ≡ true → state_straying mode plan r state ≡ state
+pub stray_same : Below → (mode : Mode) (plan : Plan) (state : State) (r : Reply) → plan.mode ≡ mode → is_receipt r ≡ true
+    → state_straying mode plan r state ≡ state
 stray_same below Plain plan state r m e = refl
 stray_same below Confirming plan state r m e = below.receipt_stays plan state (Some (heard.Reply r)) m e

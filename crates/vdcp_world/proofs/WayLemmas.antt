@@ -41,7 +41,8 @@ heard_own below unit reply.Ack w = refl
 heard_own below unit (reply.Nak byte) w = refl
 heard_own below unit (reply.Opened granted) w = heard_if (nat_eq unit unit) _ _ (same_unit unit) (below.reply_read unit (reply.Opened granted) w)
 heard_own below unit (reply.State bitmap None) w = heard_if (nat_eq unit unit) _ _ (same_unit unit) (below.reply_read unit (reply.State bitmap None) w)
-heard_own below unit (reply.State bitmap (Some state)) w = heard_if (nat_eq unit unit) _ _ (same_unit unit) (below.reply_read unit (reply.State bitmap (Some state)) w)
+heard_own below unit (reply.State bitmap (Some state)) w = heard_if (nat_eq unit unit) _ _ (same_unit unit)
+    (below.reply_read unit (reply.State bitmap (Some state)) w)
 heard_own below unit (reply.Active None) w = heard_if (nat_eq unit unit) _ _ (same_unit unit) (below.reply_read unit (reply.Active None) w)
 heard_own below unit (reply.Active (Some id)) w = heard_if (nat_eq unit unit) _ _ (same_unit unit) (below.reply_read unit (reply.Active (Some id)) w)
 heard_own below unit (reply.Size time) w = heard_if (nat_eq unit unit) _ _ (same_unit unit) (below.reply_read unit (reply.Size time) w)

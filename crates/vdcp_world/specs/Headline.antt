@@ -31,16 +31,16 @@ abbrev pub IsRefusedIn : Mode → List (ClipId × Timecode) → Plan → List Ex
 IsRefusedIn Plain clips plan log place = IsSomeAnd (slice_get plan.list place) (IsOutside clips)
 IsRefusedIn Confirming clips plan log place = IsRefused plan.list plan.limit log place
 
--- so many events went to air, and all of them are reported
-pub record IsExactly (plan : Plan) (aired : List Item) (log : List Exchange) (count : ℕ) : Type 0 where
+-- so many events went to air, and so many are reported
+pub record AreReported (plan : Plan) (aired : List Item) (log : List Exchange) (count : ℕ) : Type 0 where
   pub aired_count : length aired ≡ count
   pub reported_count : settled plan.mode log ≡ count
 
 -- what it means that a controller ended so
 abbrev pub Means : List (ClipId × Timecode) → Plan → List Item → List Exchange → Outcome → Type 0
-Means clips plan aired log outcome.Done = (aired ≡ plan.list) × IsExactly plan aired log (length plan.list)
-Means clips plan aired log (outcome.Missing k) = IsUnknownAt clips plan.list k × IsExactly plan aired log k
-Means clips plan aired log (outcome.Refused k) = IsRefusedIn plan.mode clips plan log k × IsExactly plan aired log k
+Means clips plan aired log outcome.Done = (aired ≡ plan.list) × AreReported plan aired log (length plan.list)
+Means clips plan aired log (outcome.Missing k) = IsUnknownAt clips plan.list k × AreReported plan aired log k
+Means clips plan aired log (outcome.Refused k) = IsRefusedIn plan.mode clips plan log k × AreReported plan aired log k
 Means clips plan aired log outcome.Lost = IsLost plan.mode plan.limit log
 Means clips plan aired log outcome.Stopped = Unit {0}
 Means clips plan aired log outcome.Denied = ⊥
