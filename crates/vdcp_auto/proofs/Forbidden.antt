@@ -3,7 +3,6 @@ use Rattle.std.specs.Prelude.{◌≡◌, Bool, true, false, not, ◌||◌, ◌&&
 use Rattle.std.specs.List.{list_any}
 use Rattle.std.proofs.Common.{inl, inr, sym, ap, ◌∙◌, arith}
 use Rattle.std.proofs.lemmas.Bool.{or_left, or_right, and_from}
-use Rattle.vdcp_value.specs.declared.clip_id.ClipId.{ClipId}
 use Rattle.vdcp_value.specs.declared.part.Item.{Item}
 use Rattle.vdcp_words.specs.declared.command.Command.{Command}
 use Rattle.vdcp_words.specs.declared.command.Command.TheVariants as command
@@ -16,16 +15,7 @@ use Rattle.vdcp_auto.specs.Settled.{settled}
 use Rattle.vdcp_auto.specs.Commands.{is_cue_command}
 use Rattle.vdcp_auto.specs.Log.{is_cue, is_play, is_done_status}
 use Rattle.vdcp_auto.specs.RuleBook.{May, MayPlay, MayClose}
-
-abbrev clip : ClipId
-clip = record { bytes = 0x43 ∷ 0x4c ∷ 0x49 ∷ 0x50 ∷ 0x30 ∷ 0x30 ∷ 0x30 ∷ 0x31 ∷ []; eight = refl }
-
--- a playlist of one clip, and of the same clip twice
-abbrev once : List Item
-once = record { id = clip; part = None } ∷ []
-
-abbrev twice : List Item
-twice = record { id = clip; part = None } ∷ record { id = clip; part = None } ∷ []
+use Rattle.vdcp_auto.proofs.Examples.{clip_one as clip, one as once, one_twice as twice}
 
 abbrev answered : Command → Reply → Exchange
 answered c r = record { command = c; heard = Some (heard.Reply r) }
@@ -68,10 +58,10 @@ true_not_false : true ≡ false → ⊥
 true_not_false e = cc
 
 no_cue_while_a_play_is_open : May Plain once (cue ∷ done ∷ silent command.Play ∷ []) (command.PlayCue clip) → ⊥
-no_cue_while_a_play_is_open m = true_not_false m.row.no_open_play
+no_cue_while_a_play_is_open m = true_not_false m.rule.no_open_play
 
 no_cue_of_a_settled_event : May Plain once (cue ∷ done ∷ played ∷ []) (command.PlayCue clip) → ⊥
-no_cue_of_a_settled_event m = m.row.cues_next
+no_cue_of_a_settled_event m = m.rule.cues_next
 
 no_status_after_a_stop : May Plain once (stop ∷ []) (command.Status 1) → ⊥
 no_status_after_a_stop m = true_not_false (sym (m.after_stop refl))
@@ -80,14 +70,14 @@ no_stop_after_a_close : May Plain [] (answered (command.Close 1) reply.Ack ∷ [
 no_stop_after_a_close m = true_not_false (sym (m.after_close refl))
 
 no_select_before_a_grant : May Plain once (silent (command.Open 1 1) ∷ []) (command.Select 1) → ⊥
-no_select_before_a_grant m = true_not_false (sym m.row)
+no_select_before_a_grant m = true_not_false (sym m.rule)
 
 close_of_one : MayClose Plain once (cue ∷ done ∷ []) → ⊥
 close_of_one (inl stopped) = true_not_false (sym stopped)
 close_of_one (inr all) = absurd (omega (arith, all.0))
 
 no_close_before_all_is_settled : May Plain once (cue ∷ done ∷ []) (command.Close 1) → ⊥
-no_close_before_all_is_settled m = close_of_one m.row
+no_close_before_all_is_settled m = close_of_one m.rule
 
 -- a PLAY looks back to a cue, and to a done status that no PLAY stands behind
 any-behind : (p : Exchange → Bool) (xs ys : List Exchange) → list_any p ys ≡ true → list_any p (xs ++ ys) ≡ true
@@ -109,18 +99,18 @@ fresh_from list log m =
     ap is_fresh m.in_order ∙ fresh-behind m.before (m.cue ∷ (m.between ++ (m.status ∷ m.after))) (fresh-behind (m.cue ∷ m.between) (m.status ∷ m.after) at)
 
 no_play_without_a_done_status : May Plain once (cue ∷ []) command.Play → ⊥
-no_play_without_a_done_status m = true_not_false (sym (fresh_from once (cue ∷ []) m.row))
+no_play_without_a_done_status m = true_not_false (sym (fresh_from once (cue ∷ []) m.rule))
 
 -- a done status serves one PLAY
 no_second_play_on_one_status : May Plain once (cue ∷ done ∷ unread ∷ []) command.Play → ⊥
-no_second_play_on_one_status m = true_not_false (sym (fresh_from once (cue ∷ done ∷ unread ∷ []) m.row))
+no_second_play_on_one_status m = true_not_false (sym (fresh_from once (cue ∷ done ∷ unread ∷ []) m.rule))
 
 cue_at : (before log behind : List Exchange) (c : Exchange) → log ≡ before ++ (c ∷ behind) → is_cue c ≡ true → list_any is_cue log ≡ true
 cue_at before log behind c e is = ap (list_any is_cue) e ∙ any-behind is_cue before (c ∷ behind) (or_left (is_cue c) (list_any is_cue behind) is)
 
 no_play_without_a_cue : May Plain once (done ∷ []) command.Play → ⊥
 no_play_without_a_cue m =
-    true_not_false (sym (cue_at m.row.before (done ∷ []) (m.row.between ++ (m.row.status ∷ m.row.after)) m.row.cue m.row.in_order (ap is_cue_command m.row.cues_next)))
+    true_not_false (sym (cue_at m.rule.before (done ∷ []) (m.rule.between ++ (m.rule.status ∷ m.rule.after)) m.rule.cue m.rule.in_order (ap is_cue_command m.rule.cues_next)))
 
 -- a PLAY that settled needs a new cue
 old_cue : (before behind : List Exchange) (c : Exchange) → (cue ∷ done ∷ played ∷ done ∷ []) ≡ before ++ (c ∷ behind) → is_cue c ≡ true → settled Plain before ≡ 1 → ⊥
@@ -130,4 +120,4 @@ old_cue (x ∷ before) behind c e is n =
     true_not_false (sym (cue_at before (done ∷ played ∷ done ∷ []) behind c tail is))
 
 no_play_on_an_old_cue : May Plain twice (cue ∷ done ∷ played ∷ done ∷ []) command.Play → ⊥
-no_play_on_an_old_cue m = old_cue m.row.before (m.row.between ++ (m.row.status ∷ m.row.after)) m.row.cue m.row.in_order (ap is_cue_command m.row.cues_next) m.row.none_settles
+no_play_on_an_old_cue m = old_cue m.rule.before (m.rule.between ++ (m.rule.status ∷ m.rule.after)) m.rule.cue m.rule.in_order (ap is_cue_command m.rule.cues_next) m.rule.none_settles

@@ -17,7 +17,7 @@ use Rattle.vdcp_auto.specs.declared.phase.Stage.TheVariants.{Ready, Awaiting, En
 use Rattle.vdcp_auto.specs.declared.phase.State.{State}
 use Rattle.vdcp_auto.specs.Log.{is_cue, is_stop, is_close, is_grant, is_acked}
 use Rattle.vdcp_auto.specs.Settled.{has_open_play, settled}
-use Rattle.vdcp_auto.specs.RuleBook.{CuesItemAt, IsTaken, MayPlay, Row, May, KeepsRules}
+use Rattle.vdcp_auto.specs.RuleBook.{CuesItemAt, IsTaken, MayPlay, Rule, May, KeepsRules}
 use Rattle.vdcp_auto.specs.Endings.{counted, IsRefused}
 use Rattle.vdcp_auto.specs.Plan.{Plan}
 use Rattle.vdcp_auto.specs.Turn.{start, ticked, awaited_in, awaited, given, is_end, exchange_of, ended_by, came_to, taken, stopped, outcome_of}
@@ -103,8 +103,8 @@ nothing_ends : (mode : Mode) (limit : ℕ) (log : List Exchange) (m : Memo) → 
 nothing_ends mode limit log m a going = (a.stops ∙ going.0, a.closes ∙ going.1)
 
 may_going : (mode : Mode) (list : List Item) (log : List Exchange) (c : Command) → (list_any is_stop log ≡ false) × (list_any is_close log ≡ false)
-    → Row mode list log c → May mode list log c
-may_going mode list log c none row = record { row = row; after_stop = λ h. cc; after_close = λ h. cc }
+    → Rule mode list log c → May mode list log c
+may_going mode list log c none rule = record { rule = rule; after_stop = λ h. cc; after_close = λ h. cc }
 
 cue_named : (mode : Mode) (list : List Item) (k : ℕ) (m : Memo) → CueIs mode list k m → CuesItemAt list k m.cue
 cue_named Plain list k m is = is.0
@@ -154,17 +154,17 @@ may_send mode list limit port log m stop tries sends_probe a holds = may_going m
 may_send mode list limit port log m stop tries sends_check a holds = may_going mode list log _ (nothing_ends mode limit log m a holds.0) tt
 may_send mode list limit port log m stop tries sends_drain a holds = may_going mode list log _ (nothing_ends mode limit log m a holds.0) tt
 may_send mode list limit port log m stop tries sends_close a holds = record {
-  row = inr (a.count ∙ holds.0, a.opened ∙ holds.1);
+  rule = inr (a.count ∙ holds.0, a.opened ∙ holds.1);
   after_stop = λ h. refl;
   after_close = λ h. refl;
 }
 may_send mode list limit port log m stop tries sends_halt a holds = record {
-  row = tt;
+  rule = tt;
   after_stop = λ h. refl;
   after_close = λ h. absurd (closed_both (list_any is_close log) m.closed a.closes holds.0 h);
 }
 may_send mode list limit port log m stop tries sends_halt_close a holds = record {
-  row = inl (a.stops ∙ holds.0);
+  rule = inl (a.stops ∙ holds.0);
   after_stop = λ h. refl;
   after_close = λ h. refl;
 }

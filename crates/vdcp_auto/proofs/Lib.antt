@@ -1,4 +1,6 @@
+mod Examples
 mod HeardRows
+mod PhaseTable
 mod WorkedRows
 mod LogRows
 pub mod Lists

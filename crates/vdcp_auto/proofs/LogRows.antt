@@ -1,9 +1,7 @@
 -- More small logs: what they settle, which cue may follow them, and where silences count.
-use Rattle.std.specs.Prelude.{◌≡◌, ℕ, true, None, Some, slice_index, List, [], ◌∷◌, refl}
+use Rattle.std.specs.Prelude.{◌≡◌, ℕ, true, None, Some, slice_index, [], ◌∷◌, refl}
 use Rattle.std.proofs.Common.{arith, ap, lit≤}
 use Rattle.vdcp_value.specs.Ids.{id_bytes}
-use Rattle.vdcp_value.specs.declared.clip_id.ClipId.{ClipId}
-use Rattle.vdcp_value.specs.declared.part.Item.{Item}
 use Rattle.vdcp_words.specs.declared.command.Command.{Command}
 use Rattle.vdcp_words.specs.declared.command.Command.TheVariants as command
 use Rattle.vdcp_words.specs.declared.reply.Reply.{Reply}
@@ -14,15 +12,7 @@ use Rattle.vdcp_auto.specs.declared.phase.Mode.TheVariants.{Plain, Confirming}
 use Rattle.vdcp_auto.specs.Settled.{has_open_play, settled}
 use Rattle.vdcp_auto.specs.RuleBook.{May}
 use Rattle.vdcp_auto.specs.Endings.{EndsUnanswered}
-
-abbrev clip_one : ClipId
-clip_one = record { bytes = 0x43 ∷ 0x4c ∷ 0x49 ∷ 0x50 ∷ 0x30 ∷ 0x30 ∷ 0x30 ∷ 0x31 ∷ []; eight = refl }
-
-abbrev clip_two : ClipId
-clip_two = record { bytes = 0x43 ∷ 0x4c ∷ 0x49 ∷ 0x50 ∷ 0x30 ∷ 0x30 ∷ 0x30 ∷ 0x32 ∷ []; eight = refl }
-
-abbrev list : List Item
-list = record { id = clip_one; part = None } ∷ record { id = clip_two; part = None } ∷ []
+use Rattle.vdcp_auto.proofs.Examples.{clip_one, clip_two, two as list}
 
 abbrev came : Command → Reply → Exchange
 came c r = record { command = c; heard = Some (heard.Reply r) }
@@ -77,15 +67,15 @@ cued_byte _ = 0
 
 no_cue_of_another_clip : ¬ May Plain list (granted ∷ []) (command.PlayCue clip_two)
 no_cue_of_another_clip may =
-    let same : command.PlayCue clip_two ≡ command.PlayCue clip_one = may.row.cues_next in
+    let same : command.PlayCue clip_two ≡ command.PlayCue clip_one = may.rule.cues_next in
     let byte : 0x32 ≡ cued_byte (command.PlayCue clip_one) = ap cued_byte same in
     absurd (omega arith)
 
 no_cue_of_another_kind : ¬ May Plain (record { id = clip_one; part = Some (record { start = []; duration = [] }) } ∷ []) (granted ∷ []) (command.PlayCue clip_one)
-no_cue_of_another_kind may = let row = may.row.cues_next in cc
+no_cue_of_another_kind may = let row = may.rule.cues_next in cc
 
 no_cue_after_the_last_item : ¬ May Plain [] (granted ∷ []) (command.PlayCue clip_one)
-no_cue_after_the_last_item may = may.row.cues_next
+no_cue_after_the_last_item may = may.rule.cues_next
 
 -- Silences in a row.
 

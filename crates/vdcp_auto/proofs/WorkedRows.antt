@@ -1,161 +1,206 @@
 -- Courses of a controller, computed from the definitions.
-use Rattle.std.specs.Prelude.{◌≡◌, ℕ, true, false, if◌then◌else◌, Option, None, Some, List, [], ◌∷◌, length, map, is_some, refl}
-use Rattle.vdcp_value.specs.declared.clip_id.ClipId.{ClipId}
+use Rattle.std.specs.Prelude.{◌≡◌, ℕ, false, Option, None, Some, List, [], ◌∷◌, map, refl}
+use Rattle.std.specs.Option.{option_map}
 use Rattle.vdcp_value.specs.declared.part.Item.{Item}
+use Rattle.vdcp_words.specs.declared.command.Command.{Command}
 use Rattle.vdcp_words.specs.declared.command.Command.TheVariants as command
-use Rattle.vdcp_words.specs.declared.reply.Reply.{Reply}
 use Rattle.vdcp_words.specs.declared.reply.Reply.TheVariants as reply
-use Rattle.vdcp_auto.specs.declared.exchange.Heard.TheVariants as heard
 use Rattle.vdcp_auto.specs.declared.exchange.Input.{Input}
 use Rattle.vdcp_auto.specs.declared.exchange.Input.TheVariants as input
 use Rattle.vdcp_auto.specs.declared.outcome.Outcome.{Outcome}
 use Rattle.vdcp_auto.specs.declared.outcome.Outcome.TheVariants.{Done, Stopped, Lost, Denied, Missing, Refused, Foreign, Strange}
-use Rattle.vdcp_auto.specs.declared.phase.Mode.{Mode}
 use Rattle.vdcp_auto.specs.declared.phase.Mode.TheVariants.{Plain, Confirming}
 use Rattle.vdcp_auto.specs.declared.phase.State.{State}
 use Rattle.vdcp_auto.specs.Settled.{settled}
 use Rattle.vdcp_auto.specs.Plan.{Plan}
-use Rattle.vdcp_auto.specs.Turn.{start, ticked, awaited, came_to, taken, stopped, outcome_of}
-use Rattle.vdcp_auto.specs.Course.{course}
+use Rattle.vdcp_auto.specs.Turn.{ticked, ended_by, came_to, stopped, outcome_of}
+use Rattle.vdcp_auto.specs.Course.{course_from, course, after_inputs_from, after_inputs}
+use Rattle.vdcp_auto.proofs.Examples.{clip_one, clip_two, clip_nine, whole, one, two, one_twice, plan, hear, granted, ack, nak, present, state, active, silence}
 
-abbrev clip_one : ClipId
-clip_one = record { bytes = 0x43 ∷ 0x4c ∷ 0x49 ∷ 0x50 ∷ 0x30 ∷ 0x30 ∷ 0x30 ∷ 0x31 ∷ []; eight = refl }
+-- the inputs end exchanges of these commands, and lead to this outcome and this number of settled
+-- events, which is also what the log shows to be settled
+abbrev Gives : Plan → List Input → List Command → Option Outcome → ℕ → Type 0
+Gives p inputs commands outcome reported =
+    (map (λ e. e.command) (course p inputs) ≡ commands) × (outcome_of (after_inputs p inputs).stage ≡ outcome)
+    × ((after_inputs p inputs).settled ≡ reported) × (settled p.mode (course p inputs) ≡ reported)
 
-abbrev clip_two : ClipId
-clip_two = record { bytes = 0x43 ∷ 0x4c ∷ 0x49 ∷ 0x50 ∷ 0x30 ∷ 0x30 ∷ 0x30 ∷ 0x32 ∷ []; eight = refl }
+-- the commands
 
-abbrev clip_nine : ClipId
-clip_nine = record { bytes = 0x43 ∷ 0x4c ∷ 0x49 ∷ 0x50 ∷ 0x30 ∷ 0x30 ∷ 0x30 ∷ 0x39 ∷ []; eight = refl }
+abbrev open_port : Command
+open_port = command.Open 1 1
 
-abbrev whole : ClipId → Item
-whole id = record { id = id; part = None }
+abbrev select_port : Command
+select_port = command.Select 1
 
-abbrev plan : Mode → List Item → Plan
-plan mode list = record { mode = mode; list = list; port = 1; limit = 3 }
+abbrev status : Command
+status = command.Status 1
 
--- what comes
-abbrev hear : Reply → Input
-hear r = input.Heard (heard.Reply r)
+abbrev close_port : Command
+close_port = command.Close 1
 
-abbrev granted : Input
-granted = hear (reply.Opened true)
+abbrev request_one : Command
+request_one = command.IdRequest clip_one
 
-abbrev ack : Input
-ack = hear reply.Ack
+abbrev request_two : Command
+request_two = command.IdRequest clip_two
 
-abbrev nak : ℕ → Input
-nak byte = hear (reply.Nak byte)
+abbrev request_nine : Command
+request_nine = command.IdRequest clip_nine
 
-abbrev present : Input
-present = hear (reply.Present true)
+abbrev cue_one : Command
+cue_one = command.PlayCue clip_one
 
-abbrev state : ℕ → Input
-state byte = hear (reply.State 1 (Some byte))
+abbrev cue_two : Command
+cue_two = command.PlayCue clip_two
 
-abbrev active : Option ClipId → Input
-active id = hear (reply.Active id)
+-- In plain mode.
 
-abbrev silence : Input
-silence = input.Silence
-
--- the controller after these inputs
-abbrev after : Plan → State → List Input → State
-after p s [] = s
-after p s (input.Take ∷ inputs) = after p (taken s) inputs
-after p s (input.Stop ∷ inputs) = after p (stopped s) inputs
-after p s (input.Heard h ∷ inputs) = if is_some (awaited p (ticked s)) then after p (came_to p (Some h) (ticked s)) inputs else s
-after p s (input.Silence ∷ inputs) = if is_some (awaited p (ticked s)) then after p (came_to p None (ticked s)) inputs else s
-
--- the inputs give so many exchanges, this outcome and this number of settled events, which is also
--- what the log shows to be settled
-abbrev Gives : Plan → List Input → ℕ → Option Outcome → ℕ → Type 0
-Gives p inputs exchanges outcome reported =
-    (length (course p inputs) ≡ exchanges) × (outcome_of (after p start inputs).stage ≡ outcome)
-    × ((after p start inputs).settled ≡ reported) × (settled p.mode (course p inputs) ≡ reported)
-
-empty_list_closes_at_once : Gives (plan Plain []) (granted ∷ ack ∷ state 0x01 ∷ ack ∷ []) 4 (Some Done) 0
+empty_list_closes_at_once :
+    Gives (plan Plain [])
+    (granted ∷ ack ∷ state 0x01 ∷ ack ∷ [])
+    (open_port ∷ select_port ∷ status ∷ close_port ∷ [])
+    (Some Done) 0
 empty_list_closes_at_once = (refl, refl, refl, refl)
 
-abbrev one : List Item
-one = whole clip_one ∷ []
+two_clips_air :
+    Gives (plan Plain two)
+    (granted ∷ ack ∷ present ∷ ack ∷ state 0x80 ∷ ack ∷ active None ∷ present ∷ ack ∷ state 0x80 ∷ ack ∷ active None ∷ state 0x01 ∷ ack ∷ [])
+    (open_port ∷ select_port ∷ request_one ∷ cue_one ∷ status ∷ command.Play ∷ command.ActiveId ∷ request_two ∷ cue_two ∷ status ∷ command.Play ∷ command.ActiveId ∷ status ∷ close_port ∷ [])
+    (Some Done) 2
+two_clips_air = (refl, refl, refl, refl)
 
-foreign_clip_ends_foreign : Gives (plan Plain one) (granted ∷ ack ∷ present ∷ ack ∷ state 0x80 ∷ ack ∷ active (Some clip_two) ∷ []) 7 (Some (Foreign 0)) 1
+foreign_clip_ends_foreign :
+    Gives (plan Plain one)
+    (granted ∷ ack ∷ present ∷ ack ∷ state 0x80 ∷ ack ∷ active (Some clip_two) ∷ [])
+    (open_port ∷ select_port ∷ request_one ∷ cue_one ∷ status ∷ command.Play ∷ command.ActiveId ∷ [])
+    (Some (Foreign 0)) 1
 foreign_clip_ends_foreign = (refl, refl, refl, refl)
 
-lost_cue_ends_strange : Gives (plan Plain one) (granted ∷ ack ∷ present ∷ ack ∷ state 0x01 ∷ []) 5 (Some (Strange 0)) 0
+lost_cue_ends_strange :
+    Gives (plan Plain one)
+    (granted ∷ ack ∷ present ∷ ack ∷ state 0x01 ∷ [])
+    (open_port ∷ select_port ∷ request_one ∷ cue_one ∷ status ∷ [])
+    (Some (Strange 0)) 0
 lost_cue_ends_strange = (refl, refl, refl, refl)
 
-refused_cue_ends_refused : Gives (plan Plain one) (granted ∷ ack ∷ present ∷ nak 0x01 ∷ []) 4 (Some (Refused 0)) 0
+refused_cue_ends_refused :
+    Gives (plan Plain one)
+    (granted ∷ ack ∷ present ∷ nak 0x01 ∷ [])
+    (open_port ∷ select_port ∷ request_one ∷ cue_one ∷ [])
+    (Some (Refused 0)) 0
 refused_cue_ends_refused = (refl, refl, refl, refl)
 
-unread_play_is_probed : Gives (plan Plain one) (granted ∷ ack ∷ present ∷ ack ∷ state 0x80 ∷ nak 0x04 ∷ state 0x80 ∷ ack ∷ []) 8 None 1
+unread_play_is_probed :
+    Gives (plan Plain one)
+    (granted ∷ ack ∷ present ∷ ack ∷ state 0x80 ∷ nak 0x04 ∷ state 0x80 ∷ ack ∷ [])
+    (open_port ∷ select_port ∷ request_one ∷ cue_one ∷ status ∷ command.Play ∷ status ∷ command.Play ∷ [])
+    None 1
 unread_play_is_probed = (refl, refl, refl, refl)
 
-unread_play_is_probed_commands :
-    map (λ e. e.command) (course (plan Plain one) (granted ∷ ack ∷ present ∷ ack ∷ state 0x80 ∷ nak 0x04 ∷ state 0x80 ∷ ack ∷ []))
-    ≡ (command.Open 1 1 ∷ command.Select 1 ∷ command.IdRequest clip_one ∷ command.PlayCue clip_one ∷ command.Status 1 ∷ command.Play ∷ command.Status 1 ∷ command.Play ∷ [])
-unread_play_is_probed_commands = refl
-
-silences_under_the_limit : Gives (plan Plain one) (silence ∷ silence ∷ granted ∷ silence ∷ silence ∷ []) 5 None 0
+silences_under_the_limit :
+    Gives (plan Plain one)
+    (silence ∷ silence ∷ granted ∷ silence ∷ silence ∷ [])
+    (open_port ∷ open_port ∷ open_port ∷ select_port ∷ select_port ∷ [])
+    None 0
 silences_under_the_limit = (refl, refl, refl, refl)
 
-ungranted_port_ends_denied : Gives (plan Plain one) (hear (reply.Opened false) ∷ []) 1 (Some Denied) 0
+ungranted_port_ends_denied :
+    Gives (plan Plain one)
+    (hear (reply.Opened false) ∷ [])
+    (open_port ∷ [])
+    (Some Denied) 0
 ungranted_port_ends_denied = (refl, refl, refl, refl)
 
-state_without_byte_is_no_answer : Gives (plan Plain []) (granted ∷ hear (reply.State 0 None) ∷ ack ∷ []) 3 None 0
+state_without_byte_is_no_answer :
+    Gives (plan Plain [])
+    (granted ∷ hear (reply.State 0 None) ∷ ack ∷ [])
+    (open_port ∷ select_port ∷ select_port ∷ [])
+    None 0
 state_without_byte_is_no_answer = (refl, refl, refl, refl)
-
-state_without_byte_commands :
-    map (λ e. e.command) (course (plan Plain []) (granted ∷ hear (reply.State 0 None) ∷ ack ∷ []))
-    ≡ (command.Open 1 1 ∷ command.Select 1 ∷ command.Select 1 ∷ [])
-state_without_byte_commands = refl
-
--- the first six exchanges of a list that begins with clip one
-abbrev first_play : List Input → List Input
-first_play rest = granted ∷ ack ∷ present ∷ ack ∷ state 0x80 ∷ ack ∷ rest
-
-abbrev one_twice : List Item
-one_twice = whole clip_one ∷ whole clip_one ∷ []
 
 lost_play_is_sent_again :
     Gives (plan Plain one_twice)
-    (first_play (active (Some clip_one) ∷ present ∷ ack ∷ input.Take ∷ state 0x84 ∷ silence ∷ state 0x84 ∷ ack ∷ active None ∷ state 0x01 ∷ ack ∷ []))
-    16 (Some Done) 2
+    (granted ∷ ack ∷ present ∷ ack ∷ state 0x80 ∷ ack ∷ active (Some clip_one) ∷ present ∷ ack ∷ input.Take ∷ state 0x84 ∷ silence ∷ state 0x84 ∷ ack ∷ active None ∷ state 0x01 ∷ ack ∷ [])
+    (open_port ∷ select_port ∷ request_one ∷ cue_one ∷ status ∷ command.Play ∷ command.ActiveId ∷ request_one ∷ cue_one ∷ status ∷ command.Play ∷ status ∷ command.Play ∷ command.ActiveId ∷ status ∷ close_port ∷ [])
+    (Some Done) 2
 lost_play_is_sent_again = (refl, refl, refl, refl)
 
 lost_ack_of_play_is_settled_by_status :
     Gives (plan Plain one_twice)
-    (first_play (active None ∷ present ∷ ack ∷ state 0x80 ∷ silence ∷ state 0x04 ∷ active None ∷ state 0x01 ∷ ack ∷ []))
-    15 (Some Done) 2
+    (granted ∷ ack ∷ present ∷ ack ∷ state 0x80 ∷ ack ∷ active None ∷ present ∷ ack ∷ state 0x80 ∷ silence ∷ state 0x04 ∷ active None ∷ state 0x01 ∷ ack ∷ [])
+    (open_port ∷ select_port ∷ request_one ∷ cue_one ∷ status ∷ command.Play ∷ command.ActiveId ∷ request_one ∷ cue_one ∷ status ∷ command.Play ∷ status ∷ command.ActiveId ∷ status ∷ close_port ∷ [])
+    (Some Done) 2
 lost_ack_of_play_is_settled_by_status = (refl, refl, refl, refl)
 
 executed_play_with_nak_is_settled_by_status :
-    Gives (plan Plain one) (granted ∷ ack ∷ present ∷ ack ∷ state 0x80 ∷ nak 0x04 ∷ state 0x01 ∷ active None ∷ state 0x01 ∷ ack ∷ []) 10 (Some Done) 1
+    Gives (plan Plain one)
+    (granted ∷ ack ∷ present ∷ ack ∷ state 0x80 ∷ nak 0x04 ∷ state 0x01 ∷ active None ∷ state 0x01 ∷ ack ∷ [])
+    (open_port ∷ select_port ∷ request_one ∷ cue_one ∷ status ∷ command.Play ∷ status ∷ command.ActiveId ∷ status ∷ close_port ∷ [])
+    (Some Done) 1
 executed_play_with_nak_is_settled_by_status = (refl, refl, refl, refl)
 
 missing_clip_ends_missing :
-    Gives (plan Plain (whole clip_one ∷ whole clip_nine ∷ [])) (first_play (active None ∷ hear (reply.Present false) ∷ [])) 8 (Some (Missing 1)) 1
+    Gives (plan Plain (whole clip_one ∷ whole clip_nine ∷ []))
+    (granted ∷ ack ∷ present ∷ ack ∷ state 0x80 ∷ ack ∷ active None ∷ hear (reply.Present false) ∷ [])
+    (open_port ∷ select_port ∷ request_one ∷ cue_one ∷ status ∷ command.Play ∷ command.ActiveId ∷ request_nine ∷ [])
+    (Some (Missing 1)) 1
 missing_clip_ends_missing = (refl, refl, refl, refl)
 
-two_silences_are_under_the_limit : Gives (plan Plain one) (silence ∷ silence ∷ []) 2 None 0
+two_silences_are_under_the_limit :
+    Gives (plan Plain one)
+    (silence ∷ silence ∷ [])
+    (open_port ∷ open_port ∷ [])
+    None 0
 two_silences_are_under_the_limit = (refl, refl, refl, refl)
 
-three_silences_end_lost : Gives (plan Plain one) (silence ∷ silence ∷ silence ∷ silence ∷ []) 3 (Some Lost) 0
+three_silences_end_lost :
+    Gives (plan Plain one)
+    (silence ∷ silence ∷ silence ∷ silence ∷ [])
+    (open_port ∷ open_port ∷ open_port ∷ [])
+    (Some Lost) 0
 three_silences_end_lost = (refl, refl, refl, refl)
 
 two_clips_air_after_a_take :
-    Gives (plan Plain (whole clip_one ∷ whole clip_two ∷ []))
-    (first_play (active (Some clip_one) ∷ present ∷ ack ∷ state 0x84 ∷ input.Take ∷ state 0x84 ∷ ack ∷ []))
-    12 None 2
+    Gives (plan Plain two)
+    (granted ∷ ack ∷ present ∷ ack ∷ state 0x80 ∷ ack ∷ active (Some clip_one) ∷ present ∷ ack ∷ state 0x84 ∷ input.Take ∷ state 0x84 ∷ ack ∷ [])
+    (open_port ∷ select_port ∷ request_one ∷ cue_one ∷ status ∷ command.Play ∷ command.ActiveId ∷ request_two ∷ cue_two ∷ status ∷ status ∷ command.Play ∷ [])
+    None 2
 two_clips_air_after_a_take = (refl, refl, refl, refl)
+
+stop_is_obeyed_at_once :
+    Gives (plan Plain one)
+    (granted ∷ ack ∷ input.Stop ∷ ack ∷ ack ∷ [])
+    (open_port ∷ select_port ∷ command.Stop ∷ close_port ∷ [])
+    (Some Stopped) 0
+stop_is_obeyed_at_once = (refl, refl, refl, refl)
+
+refusal_sets_the_row_back :
+    Gives (plan Plain one)
+    (input.Stop ∷ silence ∷ silence ∷ nak 0x01 ∷ silence ∷ silence ∷ [])
+    (command.Stop ∷ command.Stop ∷ command.Stop ∷ close_port ∷ close_port ∷ [])
+    None 0
+refusal_sets_the_row_back = (refl, refl, refl, refl)
 
 -- A stop while the answer to PLAY is awaited: the exchange ends first.
 
+abbrev before_play : List Input
+before_play = granted ∷ ack ∷ present ∷ ack ∷ state 0x80 ∷ []
+
 abbrev stop_during_play : State
-stop_during_play = stopped (ticked (after (plan Plain one) start (granted ∷ ack ∷ present ∷ ack ∷ state 0x80 ∷ [])))
+stop_during_play = stopped (ticked (after_inputs (plan Plain one) before_play))
+
+abbrev after_silent_play : State
+after_silent_play = came_to (plan Plain one) None stop_during_play
+
+stop_during_play_ends_the_play_first : option_map (λ e. e.command) (ended_by (plan Plain one) None stop_during_play) ≡ Some command.Play
+stop_during_play_ends_the_play_first = refl
+
+stop_during_play_sends_stop_and_close :
+    map (λ e. e.command) (course_from (plan Plain one) after_silent_play (ack ∷ ack ∷ [])) ≡ (command.Stop ∷ close_port ∷ [])
+stop_during_play_sends_stop_and_close = refl
 
 abbrev after_stop_during_play : State
-after_stop_during_play = after (plan Plain one) (came_to (plan Plain one) None stop_during_play) (ack ∷ ack ∷ [])
+after_stop_during_play = after_inputs_from (plan Plain one) after_silent_play (ack ∷ ack ∷ [])
 
 stop_during_play_ends_stopped : (outcome_of after_stop_during_play.stage ≡ Some Stopped) × (after_stop_during_play.settled ≡ 0)
 stop_during_play_ends_stopped = (refl, refl)
@@ -163,36 +208,121 @@ stop_during_play_ends_stopped = (refl, refl)
 -- In confirm mode.
 
 confirming_empty_list :
-    Gives (plan Confirming []) (granted ∷ silence ∷ state 0x01 ∷ state 0x01 ∷ silence ∷ []) 5 (Some Done) 0
+    Gives (plan Confirming [])
+    (granted ∷ silence ∷ state 0x01 ∷ state 0x01 ∷ silence ∷ [])
+    (open_port ∷ select_port ∷ status ∷ status ∷ close_port ∷ [])
+    (Some Done) 0
 confirming_empty_list = (refl, refl, refl, refl)
 
 confirming_one_clip :
     Gives (plan Confirming one)
     (granted ∷ ack ∷ silence ∷ state 0x01 ∷ present ∷ ack ∷ silence ∷ state 0x80 ∷ ack ∷ silence ∷ state 0x01 ∷ active None ∷ state 0x01 ∷ ack ∷ silence ∷ [])
-    11 (Some Done) 1
+    (open_port ∷ select_port ∷ status ∷ request_one ∷ cue_one ∷ status ∷ command.Play ∷ status ∷ command.ActiveId ∷ status ∷ close_port ∷ [])
+    (Some Done) 1
 confirming_one_clip = (refl, refl, refl, refl)
 
-receipts_end_no_open : Gives (plan Confirming one) (nak 0x01 ∷ ack ∷ []) 0 None 0
+receipts_end_no_open :
+    Gives (plan Confirming one)
+    (nak 0x01 ∷ ack ∷ [])
+    []
+    None 0
 receipts_end_no_open = (refl, refl, refl, refl)
 
 stray_ack_settles_nothing :
     Gives (plan Confirming one)
     (granted ∷ ack ∷ silence ∷ state 0x01 ∷ present ∷ ack ∷ silence ∷ state 0x80 ∷ ack ∷ silence ∷ state 0x80 ∷ ack ∷ silence ∷ state 0x01 ∷ active None ∷ state 0x01 ∷ ack ∷ silence ∷ [])
-    13 (Some Done) 1
+    (open_port ∷ select_port ∷ status ∷ request_one ∷ cue_one ∷ status ∷ command.Play ∷ status ∷ command.Play ∷ status ∷ command.ActiveId ∷ status ∷ close_port ∷ [])
+    (Some Done) 1
 stray_ack_settles_nothing = (refl, refl, refl, refl)
 
--- a cue that is lost this often
-abbrev lost_cues : List Input → List Input
-lost_cues rest = granted ∷ ack ∷ silence ∷ state 0x01 ∷ present ∷ silence ∷ state 0x01 ∷ silence ∷ state 0x01 ∷ rest
-
-two_lost_cues_are_under_the_limit : Gives (plan Confirming one) (lost_cues []) 8 None 0
+two_lost_cues_are_under_the_limit :
+    Gives (plan Confirming one)
+    (granted ∷ silence ∷ state 0x01 ∷ present ∷ silence ∷ state 0x01 ∷ silence ∷ state 0x01 ∷ [])
+    (open_port ∷ select_port ∷ status ∷ request_one ∷ cue_one ∷ status ∷ cue_one ∷ status ∷ [])
+    None 0
 two_lost_cues_are_under_the_limit = (refl, refl, refl, refl)
 
-three_lost_cues_end_refused : Gives (plan Confirming one) (lost_cues (silence ∷ state 0x01 ∷ [])) 10 (Some (Refused 0)) 0
+three_lost_cues_end_refused :
+    Gives (plan Confirming one)
+    (granted ∷ silence ∷ state 0x01 ∷ present ∷ silence ∷ state 0x01 ∷ silence ∷ state 0x01 ∷ silence ∷ state 0x01 ∷ [])
+    (open_port ∷ select_port ∷ status ∷ request_one ∷ cue_one ∷ status ∷ cue_one ∷ status ∷ cue_one ∷ status ∷ [])
+    (Some (Refused 0)) 0
 three_lost_cues_end_refused = (refl, refl, refl, refl)
 
--- a part is cued with its data
-part_is_cued_with_data :
-    map (λ e. e.command) (course (plan Plain (record { id = clip_one; part = Some (record { start = 0 ∷ 2 ∷ 0 ∷ 0 ∷ []; duration = 0 ∷ 3 ∷ 0 ∷ 0 ∷ [] }) } ∷ [])) (granted ∷ ack ∷ present ∷ nak 0x01 ∷ []))
-    ≡ (command.Open 1 1 ∷ command.Select 1 ∷ command.IdRequest clip_one ∷ command.CueData clip_one (0 ∷ 2 ∷ 0 ∷ 0 ∷ []) (0 ∷ 3 ∷ 0 ∷ 0 ∷ []) ∷ [])
-part_is_cued_with_data = refl
+each_event_has_its_own_tries :
+    Gives (plan Confirming two)
+    (granted ∷ silence ∷ state 0x01 ∷ present ∷ silence ∷ state 0x01 ∷ silence ∷ state 0x01 ∷ silence ∷ state 0x80 ∷ silence ∷ state 0x04 ∷ active None ∷ present ∷ silence ∷ state 0x01 ∷ silence ∷ state 0x01 ∷ [])
+    (open_port ∷ select_port ∷ status ∷ request_one ∷ cue_one ∷ status ∷ cue_one ∷ status ∷ cue_one ∷ status ∷ command.Play ∷ status ∷ command.ActiveId ∷ request_two ∷ cue_two ∷ status ∷ cue_two ∷ status ∷ [])
+    None 1
+each_event_has_its_own_tries = (refl, refl, refl, refl)
+
+three_unanswered_requests_end_lost :
+    Gives (plan Confirming one)
+    (silence ∷ silence ∷ silence ∷ [])
+    (open_port ∷ open_port ∷ open_port ∷ [])
+    (Some Lost) 0
+three_unanswered_requests_end_lost = (refl, refl, refl, refl)
+
+third_unanswered_seen_ends_lost :
+    Gives (plan Confirming one)
+    (granted ∷ silence ∷ silence ∷ silence ∷ silence ∷ silence ∷ silence ∷ [])
+    (open_port ∷ select_port ∷ status ∷ select_port ∷ status ∷ select_port ∷ status ∷ [])
+    (Some Lost) 0
+third_unanswered_seen_ends_lost = (refl, refl, refl, refl)
+
+confirming_denied :
+    Gives (plan Confirming one)
+    (hear (reply.Opened false) ∷ [])
+    (open_port ∷ [])
+    (Some Denied) 0
+confirming_denied = (refl, refl, refl, refl)
+
+confirming_missing :
+    Gives (plan Confirming one)
+    (granted ∷ silence ∷ state 0x01 ∷ hear (reply.Present false) ∷ [])
+    (open_port ∷ select_port ∷ status ∷ request_one ∷ [])
+    (Some (Missing 0)) 0
+confirming_missing = (refl, refl, refl, refl)
+
+confirming_foreign :
+    Gives (plan Confirming one)
+    (granted ∷ silence ∷ state 0x01 ∷ present ∷ silence ∷ state 0x80 ∷ silence ∷ state 0x01 ∷ active (Some clip_two) ∷ [])
+    (open_port ∷ select_port ∷ status ∷ request_one ∷ cue_one ∷ status ∷ command.Play ∷ status ∷ command.ActiveId ∷ [])
+    (Some (Foreign 0)) 1
+confirming_foreign = (refl, refl, refl, refl)
+
+stop_while_play_is_awaited :
+    Gives (plan Confirming one)
+    (granted ∷ silence ∷ state 0x01 ∷ present ∷ silence ∷ state 0x80 ∷ ack ∷ input.Stop ∷ silence ∷ silence ∷ silence ∷ [])
+    (open_port ∷ select_port ∷ status ∷ request_one ∷ cue_one ∷ status ∷ command.Play ∷ command.Stop ∷ close_port ∷ [])
+    (Some Stopped) 0
+stop_while_play_is_awaited = (refl, refl, refl, refl)
+
+stop_while_stop_is_awaited :
+    Gives (plan Confirming one)
+    (input.Stop ∷ ack ∷ input.Stop ∷ silence ∷ silence ∷ [])
+    (command.Stop ∷ close_port ∷ [])
+    (Some Stopped) 0
+stop_while_stop_is_awaited = (refl, refl, refl, refl)
+
+-- A part is cued with its data; the port refuses it.
+
+abbrev part : List Item
+part = record { id = clip_one; part = Some (record { start = 0 ∷ 8 ∷ 0 ∷ 0 ∷ []; duration = 0 ∷ 3 ∷ 0 ∷ 0 ∷ [] }) } ∷ []
+
+abbrev cue_part : Command
+cue_part = command.CueData clip_one (0 ∷ 8 ∷ 0 ∷ 0 ∷ []) (0 ∷ 3 ∷ 0 ∷ 0 ∷ [])
+
+refused_part_ends_refused :
+    Gives (plan Plain part)
+    (granted ∷ ack ∷ present ∷ nak 0x01 ∷ [])
+    (open_port ∷ select_port ∷ request_one ∷ cue_part ∷ [])
+    (Some (Refused 0)) 0
+refused_part_ends_refused = (refl, refl, refl, refl)
+
+refused_part_is_tried_three_times_in_confirm_mode :
+    Gives (plan Confirming part)
+    (granted ∷ silence ∷ state 0x01 ∷ present ∷ nak 0x01 ∷ silence ∷ state 0x01 ∷ nak 0x01 ∷ silence ∷ state 0x01 ∷ nak 0x01 ∷ silence ∷ state 0x01 ∷ [])
+    (open_port ∷ select_port ∷ status ∷ request_one ∷ cue_part ∷ status ∷ cue_part ∷ status ∷ cue_part ∷ status ∷ [])
+    (Some (Refused 0)) 0
+refused_part_is_tried_three_times_in_confirm_mode = (refl, refl, refl, refl)

@@ -1,4 +1,4 @@
--- Which command may follow a log. A row is decided by what stands where in the log alone.
+-- Which command may follow a log. A rule is decided by what stands where in the log alone.
 use Rattle.std.specs.Prelude.{◌≡◌, ℕ, false, IsTrue, ◌||◌, ◌⊎◌, List, ◌∷◌, ◌++◌, length, slice_get, IsSomeAnd}
 use Rattle.std.specs.List.{list_any}
 use Rattle.vdcp_value.specs.declared.part.Item.{Item}
@@ -46,23 +46,23 @@ abbrev pub MayClose : Mode → List Item → List Exchange → Type 0
 MayClose mode list log =
     IsTrue (list_any is_stop log) ⊎ ((settled mode log ≡ length list) × (has_open_play log ≡ false))
 
--- the row of each command
-abbrev pub Row : Mode → List Item → List Exchange → Command → Type 0
-Row mode list log (command.PlayCue id) = MayCue mode list log (command.PlayCue id)
-Row mode list log (command.CueData id start duration) = MayCue mode list log (command.CueData id start duration)
-Row mode list log command.Play = MayPlay mode list log
-Row mode list log (command.Select port) = IsTrue (list_any is_grant log)
-Row mode list log (command.Close port) = MayClose mode list log
-Row mode list log command.Stop = Unit {0}
-Row mode list log (command.Open port lock) = Unit {0}
-Row mode list log (command.Status groups) = Unit {0}
-Row mode list log command.ActiveId = Unit {0}
-Row mode list log (command.IdRequest id) = Unit {0}
-Row mode list log (command.IdSize id) = Unit {0}
+-- the rule of each command
+abbrev pub Rule : Mode → List Item → List Exchange → Command → Type 0
+Rule mode list log (command.PlayCue id) = MayCue mode list log (command.PlayCue id)
+Rule mode list log (command.CueData id start duration) = MayCue mode list log (command.CueData id start duration)
+Rule mode list log command.Play = MayPlay mode list log
+Rule mode list log (command.Select port) = IsTrue (list_any is_grant log)
+Rule mode list log (command.Close port) = MayClose mode list log
+Rule mode list log command.Stop = Unit {0}
+Rule mode list log (command.Open port lock) = Unit {0}
+Rule mode list log (command.Status groups) = Unit {0}
+Rule mode list log command.ActiveId = Unit {0}
+Rule mode list log (command.IdRequest id) = Unit {0}
+Rule mode list log (command.IdSize id) = Unit {0}
 
 -- the rule book: for a list and a log, the command may be sent next
 pub record May (mode : Mode) (list : List Item) (log : List Exchange) (c : Command) : Type 0 where
-  pub row : Row mode list log c
+  pub rule : Rule mode list log c
   -- once a STOP was sent: STOP or CLOSE
   pub after_stop : IsTrue (list_any is_stop log) → IsTrue (is_stop_command c || is_close_command c)
   -- once a CLOSE was sent: CLOSE

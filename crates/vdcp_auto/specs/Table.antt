@@ -1,10 +1,8 @@
 -- The controller's phase table: what each phase sends, and where it leads.
-use Rattle.std.specs.Prelude.{ℕ, ◌+◌, Bool, true, false, not, ◌||◌, ◌&&◌, nat_lt, nat_eq, if◌then◌else◌, Option, Some, List, length, slice_get}
-use Rattle.std.specs.Cmp.Lexicographic.{pointwise}
+use Rattle.std.specs.Prelude.{ℕ, ◌+◌, Bool, true, false, not, ◌||◌, ◌&&◌, nat_lt, if◌then◌else◌, Option, Some, List, length, slice_get}
 use Rattle.std.specs.Option.{option_map}
-use Rattle.vdcp_value.specs.declared.clip_id.ClipId.{ClipId}
 use Rattle.vdcp_value.specs.declared.part.Item.{Item}
-use Rattle.vdcp_value.specs.Ids.{id_bytes}
+use Rattle.vdcp_value.specs.Ids.{is_same_id}
 use Rattle.vdcp_words.specs.declared.command.Command.{Command}
 use Rattle.vdcp_words.specs.declared.command.Command.TheVariants as command
 use Rattle.vdcp_words.specs.declared.reply.Reply.{Reply}
@@ -39,9 +37,6 @@ command_in list port phase.HaltClose = Some (command.Close port)
 -- the phase for event k, or Drain where there is none
 abbrev pub next : List Item → ℕ → Phase
 next list k = if nat_lt k (length list) then phase.Exists k else phase.Drain
-
-abbrev pub is_same_id : ClipId → ClipId → Bool
-is_same_id a b = pointwise nat_eq (id_bytes a) (id_bytes b)
 
 -- the reply names a clip, and not the item's
 abbrev pub names_other : Option Item → Reply → Bool

@@ -10,11 +10,11 @@
 mod controller;
 mod exchange;
 pub mod laws;
+mod meaning;
 mod outcome;
 mod phase;
 mod rehearsal;
 mod source;
-mod words;
 
 pub use controller::Controller;
 pub use exchange::{Exchange, Heard, Input};

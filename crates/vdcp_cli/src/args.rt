@@ -1,6 +1,6 @@
 ghost use Rattle.std.specs.Prelude.{◌≤◌};
 
-use clap::{Arg, ArgAction, ArgMatches, Command, value_parser};
+use clap::{Arg, ArgMatches, Command, value_parser};
 use std::alloc::{AllocError, Global};
 use vdcp_value::Rate;
 
@@ -17,29 +17,19 @@ pub fn command<'a>(alloc: Global) -> Result<Command<'a>, AllocError> {
 }
 
 fn show<'a>(alloc: Global) -> Result<Command<'a>, AllocError> {
-    let hex = Arg::new(alloc, "HEX")
-        .required(true)
-        .help("The burst's bytes in hexadecimal digits");
-    let words = Arg::new(alloc, "words")
-        .long("words")
-        .action(ArgAction::SetTrue)
-        .help("Shows the command or reply that each message carries");
     Command::new(alloc, "show")
         .about("Shows a burst: its messages, and how it ends")
-        .arg(hex)?
-        .arg(words)
+        .arg(required(alloc, "HEX", "The burst's bytes in hexadecimal digits"))?
+        .arg(words(alloc))
 }
 
 fn make<'a>(alloc: Global) -> Result<Command<'a>, AllocError> {
-    let word = Arg::new(alloc, "COMMAND")
-        .required(true)
-        .help("The command's name, such as play or cue");
     let arguments = Arg::new(alloc, "ARG")
         .num_args(0..)
         .help("The command's arguments, such as an ID");
     Command::new(alloc, "make")
         .about("Makes the bytes of a command")
-        .arg(word)?
+        .arg(required(alloc, "COMMAND", "The command's name, such as play or cue"))?
         .arg(arguments)?
         .arg(unit(alloc))
 }
@@ -53,24 +43,30 @@ fn check<'a>(alloc: Global) -> Result<Command<'a>, AllocError> {
 }
 
 fn vectors<'a>(alloc: Global) -> Result<Command<'a>, AllocError> {
-    let file = Arg::new(alloc, "FILE")
-        .required(true)
-        .help("The file of bursts and their readings");
     Command::new(alloc, "vectors")
         .about("Tests each row of a file of bursts and their readings")
-        .arg(file)
+        .arg(required(alloc, "FILE", "The file of bursts and their readings"))
+}
+
+// An argument that has to be there.
+fn required<'a>(alloc: Global, name: &'a str, help: &'a str) -> Arg<'a> {
+    Arg::new(alloc, name).required(true).help(help)
 }
 
 fn list<'a>(alloc: Global) -> Arg<'a> {
-    Arg::new(alloc, "LIST")
-        .required(true)
-        .help("The playlist's file")
+    required(alloc, "LIST", "The playlist's file")
 }
 
 fn catalogue<'a>(alloc: Global) -> Arg<'a> {
-    Arg::new(alloc, "CATALOGUE")
-        .required(true)
-        .help("The catalogue's file")
+    required(alloc, "CATALOGUE", "The catalogue's file")
+}
+
+// (an option that takes no value is a flag)
+fn words<'a>(alloc: Global) -> Arg<'a> {
+    Arg::new(alloc, "words")
+        .long("words")
+        .num_args(0)
+        .help("Shows the command or reply that each message carries")
 }
 
 fn rate<'a>(alloc: Global) -> Arg<'a> {

@@ -1,21 +1,21 @@
+-- The clips of the rows read so far, row by row.
 use Rattle.std.proofs.Common.{◌≡◌, ℕ, ◌+◌, ◌-◌, ◌<◌, ◌≤◌, Bool, true, false, List, [], ◌∷◌, ◌++◌, length, map, take, drop, refl, sym, ap, subst, ◌∙◌, arith, suc, cond}
 use Rattle.std.proofs.lemmas.List.Elements.{All-push}
 use Rattle.std.proofs.lemmas.List.{map-append}
 use Rattle.std.proofs.lemmas.Map.Keys.{IsDistinct-push}
 use Rattle.std.specs.List.{IsDistinct, list_any}
-use Rattle.std.specs.Prelude.{IfSome, IsSome, Option, None, Some, is_some, slice_get}
+use Rattle.std.specs.Prelude.{◌↔◌, IfSome, IsSome, IsTrue, Option, None, Some, is_some, slice_get}
 use Rattle.vdcp_list.proofs.ClipPlaces.{same_ids}
 use Rattle.vdcp_list.proofs.ItemRows.{first_of}
 use Rattle.vdcp_list.proofs.SlotClips.{none_of}
 use Rattle.vdcp_list.proofs.Steps.{AfterRows, Step, at_first, done, step}
-use Rattle.vdcp_list.specs.Catalogues.{CanLast, Follows, Gives, IsCatalogue, IsCatalogueFault, IsClipFault, RefusesRow, StandsIn, clip_row, ids_of}
+use Rattle.vdcp_list.specs.Catalogues.{CanLast, IsNextRow, Gives, IsCatalogue, IsCatalogueFault, IsClipFault, RefusesRow, StandsIn, clip_row, ids_of}
 use Rattle.vdcp_list.specs.Reading.{IsReadFault, TakesRow}
 use Rattle.vdcp_list.specs.Rows.{Row, most_rows}
 use Rattle.vdcp_list.specs.declared.faults.ListFault.TheVariants.{Columns, Id, Time, Twice, TooMany, Memory, Read}
 use Rattle.vdcp_list.specs.declared.faults.ListFault.{ListFault}
-use Rattle.vdcp_port.specs.Clips.{is_same_id, length_of}
-use Rattle.vdcp_value.proofs.Ids.{equal_ids}
-use Rattle.vdcp_value.specs.Ids.{text_of_id}
+use Rattle.vdcp_port.specs.Clips.{length_of}
+use Rattle.vdcp_value.specs.Ids.{is_same_id, text_of_id}
 use Rattle.vdcp_value.specs.declared.clip_id.ClipId.{ClipId}
 use Rattle.vdcp_value.specs.declared.rate.Rate.{Rate}
 use Rattle.vdcp_value.specs.declared.timecode.Timecode.{Timecode}
@@ -81,9 +81,9 @@ given_all rate (Some rows) left left' n clips row h t few =
     }
 
 -- a row that is refused
-follows : (rate : Rate) (rows : List Row) (left left' : Option (List Row)) (n : ℕ) (clips : List (ClipId × Timecode)) (row : Row)
-    → Given rate rows left n clips → Step rows left' n row → n < most_rows → Follows rate rows (n + 1) row
-follows rate rows left left' n clips row h s few =
+next_row : (rate : Rate) (rows : List Row) (left left' : Option (List Row)) (n : ℕ) (clips : List (ClipId × Timecode)) (row : Row)
+    → Given rate rows left n clips → Step rows left' n row → n < most_rows → IsNextRow rate rows (n + 1) row
+next_row rate rows left left' n clips row h s few =
     let back : n + 1 - 1 ≡ n = omega arith in
     record {
       counted = omega arith;
@@ -92,7 +92,7 @@ follows rate rows left left' n clips row h s few =
       next = ap (slice_get rows) back ∙ s.here;
     }
 
-of_row : (rate : Rate) (rows : List Row) (k : ℕ) (row : Row) (fault : ListFault) → Follows rate rows k row
+of_row : (rate : Rate) (rows : List Row) (k : ℕ) (row : Row) (fault : ListFault) → IsNextRow rate rows k row
     → IsClipFault rate row k fault → IsCatalogueFault rate rows fault
 of_row rate rows k row (Columns j) f h = subst (λ m. RefusesRow rate rows m (Columns m)) (sym h.0) (row, f, (refl, h.1))
 of_row rate rows k row (Id j) f h = subst (λ m. RefusesRow rate rows m (Id m)) (sym h.0) (row, f, (refl, h.1, h.2))
@@ -108,31 +108,31 @@ pub given_refused : (rate : Rate) (all left left' : Option (List Row)) (n : ℕ)
 given_refused rate None left left' n clips row fault h t few f = tt
 given_refused rate (Some rows) left left' n clips row fault h t few f =
     let s = step rows left left' n row h.after t in
-    of_row rate rows (n + 1) row fault (follows rate rows left left' n clips row h s few) f
+    of_row rate rows (n + 1) row fault (next_row rate rows left left' n clips row h s few) f
 
 -- an ID that stands in an earlier row
-stands : (clips : List (ClipId × Timecode)) (id : ClipId) → is_some (length_of clips id) ≡ true → StandsIn (map clip_row clips) id
-stands [] id e = cc e
-stands (clip ∷ clips) id e = stands_if (is_same_id id clip.0) refl e (stands clips id)
+stands : ((a b : ClipId) → IsTrue (is_same_id a b) ↔ (a ≡ b)) → (clips : List (ClipId × Timecode)) (id : ClipId) → is_some (length_of clips id) ≡ true → StandsIn (map clip_row clips) id
+stands same [] id e = cc e
+stands same (clip ∷ clips) id e = stands_if (is_same_id id clip.0) refl e (stands same clips id)
   where
     stands_if : (b : Bool) → is_same_id id clip.0 ≡ b → is_some (cond b (Some clip.1) (length_of clips id)) ≡ true
         → (is_some (length_of clips id) ≡ true → StandsIn (map clip_row clips) id) → StandsIn (map clip_row (clip ∷ clips)) id
-    stands_if true is h later = (0, omega arith, ap (λ i. Some (text_of_id i)) (sym (equal_ids id clip.0 is)))
+    stands_if true is h later = (0, omega arith, ap (λ i. Some (text_of_id i)) (sym ((same id clip.0).0 is)))
     stands_if false is h later = let (k, below, at) = later h in (suc k, omega (arith, below), at)
 
-pub given_twice : (rate : Rate) (all left left' : Option (List Row)) (n : ℕ) (clips : List (ClipId × Timecode)) (row : Row) (clip : ClipId × Timecode)
+pub given_twice : ((a b : ClipId) → IsTrue (is_same_id a b) ↔ (a ≡ b)) → (rate : Rate) (all left left' : Option (List Row)) (n : ℕ) (clips : List (ClipId × Timecode)) (row : Row) (clip : ClipId × Timecode)
     → GivenSoFar rate all left n clips → TakesRow left left' true row → n < most_rows
     → clip_row clip ≡ row → CanLast rate clip.1 → IsSome (length_of clips clip.0)
     → IfSome all (λ rows. IsCatalogueFault rate rows (Twice (n + 1)))
-given_twice rate None left left' n clips row clip h t few e can there = tt
-given_twice rate (Some rows) left left' n clips row clip h t few e can there =
+given_twice same rate None left left' n clips row clip h t few e can there = tt
+given_twice same rate (Some rows) left left' n clips row clip h t few e can there =
     let s = step rows left left' n row h.after t in
     let back : n + 1 - 1 ≡ n = omega arith in (
       clip,
-      subst (λ r. Follows rate rows (n + 1) r) (sym e) (follows rate rows left left' n clips row h s few),
+      subst (λ r. IsNextRow rate rows (n + 1) r) (sym e) (next_row rate rows left left' n clips row h s few),
       can,
       subst (λ m. StandsIn (take m rows) clip.0) (sym back)
-          (subst (λ front. StandsIn front clip.0) (sym h.given.rows_are) (stands clips clip.0 there)),
+          (subst (λ front. StandsIn front clip.0) (sym h.given.rows_are) (stands same clips clip.0 there)),
     )
 
 -- a row too many

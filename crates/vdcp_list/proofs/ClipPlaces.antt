@@ -1,4 +1,6 @@
-use Rattle.std.proofs.Common.{◌≡◌, ℕ, ◌<◌, Bool, true, false, List, [], ◌∷◌, ◌++◌, length, refl, sym, ap, ◌∙◌, arith, zero, suc, get_or, true≢false, cond, nat_lt, nat_eq}
+-- A table's places, by IDs as numbers, are those of its clips.
+use Rattle.std.proofs.Common.{◌≡◌, ℕ, ◌<◌, Bool, true, false, List, [], ◌∷◌, ◌++◌, length, refl, sym, ap, ◌∙◌, arith, zero, suc, get_or, true≢false, cond, All}
+use Rattle.std.proofs.lemmas.List.Elements.{All-head, All-tail}
 use Rattle.std.proofs.lemmas.Nat.{be_bytes_8}
 use Rattle.std.specs.BTreeMap.{BTreeMap, get, is_at}
 use Rattle.std.specs.Map.{lookup}
@@ -6,13 +8,11 @@ use Rattle.std.specs.Ordering.{nat_cmp}
 use Rattle.std.specs.Cmp.Lexicographic.{on_texts_equal}
 use Rattle.std.specs.Cmp.{IsEquivalence}
 use Rattle.std.specs.Int.{from_be_bytes, to_be_bytes, w64}
-use Rattle.std.specs.List.{list_all}
 use Rattle.std.specs.Prelude.{◌≢◌, Option, None, Some, is_some, option_map, if◌then◌else◌}
+use Rattle.vdcp_list.proofs.Values.{IdLaws}
 use Rattle.vdcp_list.specs.Places.{key_of, place_of}
-use Rattle.vdcp_port.specs.Clips.{is_same_id, length_of}
-use Rattle.vdcp_value.proofs.Bytes.{both_hold}
-use Rattle.vdcp_value.proofs.Ids.{equal_ids, length_of_id, same_id}
-use Rattle.vdcp_value.specs.Ids.{id_bytes}
+use Rattle.vdcp_port.specs.Clips.{length_of}
+use Rattle.vdcp_value.specs.Ids.{is_same_id, id_bytes}
 use Rattle.vdcp_value.specs.declared.clip_id.ClipId.{ClipId}
 use Rattle.vdcp_value.specs.declared.timecode.Timecode.{Timecode}
 
@@ -20,23 +20,25 @@ use Rattle.vdcp_value.specs.declared.timecode.Timecode.{Timecode}
 pub same_ids : IsEquivalence is_same_id
 same_ids = on_texts_equal id_bytes
 
-each_below : (bytes : List ℕ) → list_all (λ byte. nat_lt byte 256) bytes ≡ true → (i : ℕ) → get_or bytes i 0 < 256
-each_below [] e i = omega arith
-each_below (byte ∷ bytes) e zero = grind (arith, (both_hold (nat_lt byte 256) (list_all (λ b. nat_lt b 256) bytes) e).0)
-each_below (byte ∷ bytes) e (suc i) = each_below bytes (both_hold (nat_lt byte 256) (list_all (λ b. nat_lt b 256) bytes) e).1 i
+byte_below : IdLaws → (id : ClipId) (i : ℕ) → get_or (id_bytes id) i 0 < 256
+byte_below v id i = All-get_or_any (id_bytes id) i (((v.counted 8 (id_bytes id)).0 (v.eight id)).1)
+  where
+    All-get_or_any : (bytes : List ℕ) (i : ℕ) → All (λ byte. byte < 256) bytes → get_or bytes i 0 < 256
+    All-get_or_any [] i below = omega arith
+    All-get_or_any (byte ∷ bytes) zero below = All-head (λ b. b < 256) byte bytes below
+    All-get_or_any (byte ∷ bytes) (suc i) below = All-get_or_any bytes i (All-tail (λ b. b < 256) byte bytes below)
 
-byte_below : (id : ClipId) (i : ℕ) → get_or (id_bytes id) i 0 < 256
-byte_below id i =
-    each_below (id_bytes id) (both_hold (nat_eq (length (id_bytes id)) 8) (list_all (λ byte. nat_lt byte 256) (id_bytes id)) id.eight).1 i
+length_of_id : IdLaws → (id : ClipId) → length (id_bytes id) ≡ 8
+length_of_id v id = ((v.counted 8 (id_bytes id)).0 (v.eight id)).0
 
 -- an ID's number is its own
-pub one_key : (a b : ClipId) → key_of a ≡ key_of b → a ≡ b
+pub one_key : IdLaws → (a b : ClipId) → key_of a ≡ key_of b → a ≡ b
 unfolding key_of
-one_key a b e =
-    same_id a b
-    (sym (be_bytes_8 (id_bytes a) (from_be_bytes w64 (id_bytes a)) (length_of_id a) (byte_below a) refl)
+one_key v a b e =
+    v.one a b
+    (sym (be_bytes_8 (id_bytes a) (from_be_bytes w64 (id_bytes a)) (length_of_id v a) (byte_below v a) refl)
     ∙ ap (to_be_bytes w64) e
-    ∙ be_bytes_8 (id_bytes b) (from_be_bytes w64 (id_bytes b)) (length_of_id b) (byte_below b) refl)
+    ∙ be_bytes_8 (id_bytes b) (from_be_bytes w64 (id_bytes b)) (length_of_id v b) (byte_below v b) refl)
 
 -- a place is that of the length
 pub record Placed (clips : List (ClipId × Timecode)) (id : ClipId) (k : ℕ) : Type 0 where
@@ -109,15 +111,15 @@ place_of-push_same (first ∷ clips) clip id e same =
 abbrev here_or_later : Bool → Option ℕ → Option ℕ
 here_or_later b place = if b then Some 0 else option_map suc place
 
-pub place_of-push_other : (clips : List (ClipId × Timecode)) (clip : ClipId × Timecode) (id : ClipId) → id ≢ clip.0
+pub place_of-push_other : IdLaws → (clips : List (ClipId × Timecode)) (clip : ClipId × Timecode) (id : ClipId) → id ≢ clip.0
     → place_of (clips ++ clip ∷ []) id ≡ place_of clips id
-place_of-push_other [] clip id other = push_other_here (is_same_id id clip.0) refl
+place_of-push_other v [] clip id other = push_other_here (is_same_id id clip.0) refl
   where
     push_other_here : (b : Bool) → is_same_id id clip.0 ≡ b → here_or_later b None ≡ None
-    push_other_here true e = absurd (other (equal_ids id clip.0 e))
+    push_other_here true e = absurd (other ((v.same id clip.0).0 e))
     push_other_here false e = refl
-place_of-push_other (first ∷ clips) clip id other =
-    ap (here_or_later (is_same_id id first.0)) (place_of-push_other clips clip id other)
+place_of-push_other v (first ∷ clips) clip id other =
+    ap (here_or_later (is_same_id id first.0)) (place_of-push_other v clips clip id other)
 
 -- a clip of an ID has a place and a length, or neither
 pub known : (clips : List (ClipId × Timecode)) (id : ClipId) → is_some (place_of clips id) ≡ is_some (length_of clips id)
@@ -145,20 +147,20 @@ equal_at : (a b : ℕ) → a ≡ b → is_at (nat_cmp a) b ≡ true
 equal_at a b e = grind arith
 
 -- the places after one more clip, in the entries that a map has once they are written
-pub places_push : (clips : List (ClipId × Timecode)) (clip : ClipId × Timecode) (m : BTreeMap ℕ ℕ) (written entries : List (ℕ × ℕ)) (key place : ℕ)
+pub places_push : IdLaws → (clips : List (ClipId × Timecode)) (clip : ClipId × Timecode) (m : BTreeMap ℕ ℕ) (written entries : List (ℕ × ℕ)) (key place : ℕ)
     → ((id : ClipId) → get nat_cmp m (key_of id) ≡ place_of clips id) → key ≡ key_of clip.0 → place ≡ length clips → place_of clips clip.0 ≡ None
     → ((other : ℕ) → lookup (is_at (nat_cmp other)) written ≡ cond (is_at (nat_cmp key) other) (Some place) (get nat_cmp m other))
     → entries ≡ written
     → (id : ClipId) → lookup (is_at (nat_cmp (key_of id))) entries ≡ place_of (clips ++ clip ∷ []) id
-places_push clips clip m written entries key place were is size new updates same id = push_at (is_at (nat_cmp key) (key_of id)) refl
+places_push v clips clip m written entries key place were is size new updates same id = push_at (is_at (nat_cmp key) (key_of id)) refl
   where
     here : lookup (is_at (nat_cmp (key_of id))) entries ≡ cond (is_at (nat_cmp key) (key_of id)) (Some place) (get nat_cmp m (key_of id))
     here = ap (lookup (is_at (nat_cmp (key_of id)))) same ∙ updates (key_of id)
 
     push_at : (b : Bool) → is_at (nat_cmp key) (key_of id) ≡ b → lookup (is_at (nat_cmp (key_of id))) entries ≡ place_of (clips ++ clip ∷ []) id
     push_at true e =
-        let same : id ≡ clip.0 = one_key id clip.0 (sym (at_equal key (key_of id) e) ∙ is) in
+        let same : id ≡ clip.0 = one_key v id clip.0 (sym (at_equal key (key_of id) e) ∙ is) in
         here ∙ rw e (ap Some size) ∙ sym (place_of-push_same clips clip id new same)
     push_at false e =
         let other : id ≢ clip.0 = λ same. true≢false (sym (equal_at key (key_of id) (is ∙ ap key_of (sym same))) ∙ e) in
-        here ∙ rw e (were id) ∙ sym (place_of-push_other clips clip id other)
+        here ∙ rw e (were id) ∙ sym (place_of-push_other v clips clip id other)

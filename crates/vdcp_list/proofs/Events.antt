@@ -1,13 +1,13 @@
+-- An as-run list, event by event.
 use Rattle.csv.specs.Writing.{default_writer, row_text}
 use Rattle.std.proofs.Common.{◌≡◌, ℕ, ◌+◌, ◌<◌, Bool, true, false, List, [], ◌∷◌, ◌++◌, length, take, refl, sym, ap, ap₂, subst, ◌∙◌, arith, zero, suc, add-one, add-zero, zero-add, append_assoc, append-nil, true≢false, IfOk, IfErr, Ok, Err, Result}
+use Rattle.std.proofs.Math.Bool.{and-eq-true_iff}
 use Rattle.std.proofs.lemmas.List.Folds.{list_all-append, list_any-append}
 use Rattle.std.specs.Prelude.{Option, Some, OnOk, decimal, is_err, is_ok, is_some, slice_get, ◌||◌, ◌≢◌, ◌↔◌}
 use Rattle.vdcp_list.specs.Asrun.{IsUnlawful, are_lawful, events_text, has_part, is_lawful_event}
 use Rattle.vdcp_list.specs.Playlists.{item_row, part_fields}
 use Rattle.vdcp_list.specs.declared.faults.WriteFault.TheVariants.{Device, Memory, Time}
 use Rattle.vdcp_list.specs.declared.faults.WriteFault.{WriteFault}
-use Rattle.vdcp_value.proofs.Bcd.{read_is_time}
-use Rattle.vdcp_value.proofs.Bytes.{both_hold}
 use Rattle.vdcp_value.specs.Bcd.{bcd_fault, is_time}
 use Rattle.vdcp_value.specs.Ids.{text_of_id}
 use Rattle.vdcp_value.specs.Timecodes.{bcd_of, rate_of}
@@ -54,9 +54,9 @@ lawful_at rate [] k reported item e below h = cc e
 lawful_at rate (first ∷ items) k zero item e below h = absurd (omega (arith, below))
 lawful_at rate (first ∷ items) zero (suc n) item e below h =
     let same : first ≡ item = cc e in
-    sym (ap (λ (i : Item). is_lawful_event rate i.part) same) ∙ (both_hold (is_lawful_event rate first.part) (are_lawful rate (take n items)) h).0
+    sym (ap (λ (i : Item). is_lawful_event rate i.part) same) ∙ ((and-eq-true_iff (is_lawful_event rate first.part) (are_lawful rate (take n items))).0 h).0
 lawful_at rate (first ∷ items) (suc k) (suc n) item e below h =
-    lawful_at rate items k n item e (omega (arith, below)) (both_hold (is_lawful_event rate first.part) (are_lawful rate (take n items)) h).1
+    lawful_at rate items k n item e (omega (arith, below)) ((and-eq-true_iff (is_lawful_event rate first.part) (are_lawful rate (take n items))).0 h).1
 
 ordered : (j k : ℕ) → (j < k → ⊥) → (k < j → ⊥) → j ≡ k
 ordered j k below above = grind (arith, below, above)
@@ -71,11 +71,11 @@ unlawful_once rate items reported j k h g =
 pub not_all_lawful : (rate : Rate) (items : List Item) (reported k : ℕ) → IsUnlawful rate items reported k → are_lawful rate (take reported items) ≡ true → ⊥
 not_all_lawful rate items reported k h all = true≢false (sym (lawful_at rate items k reported h.item h.at_k h.reported_is all) ∙ h.unlawful)
 
--- reading four bytes says whether they are a time
-pub read_tells : (rate : Rate) (bytes : List ℕ) (result : Result Timecode TcFault) → IfOk result (λ time. rate_of time ≡ rate)
-    → IfOk result (λ time. bcd_of time ≡ bytes) → IfErr result (λ fault. bcd_fault rate bytes ≡ Some fault) → is_ok result ≡ is_time rate bytes
-read_tells rate bytes (Ok time) r b f = sym (read_is_time rate bytes time r b)
-read_tells rate bytes (Err fault) r b f = rw f refl
+-- tests that hold alike are the same
+pub same_test : (a b : Bool) → (a ≡ true) ↔ (b ≡ true) → a ≡ b
+same_test true b h = sym (h.0 refl)
+same_test false true h = h.1 refl
+same_test false false h = refl
 
 -- the text of one more event
 pub events_text-push : (rate : Rate) (with_parts : Bool) (k : ℕ) (items : List Item) (item : Item)
@@ -135,7 +135,7 @@ untold_device rate items reported (Err fault) e lawful = untold rate items repor
 
 pub lawful_parts : (rate : Rate) (part : Option Part) (some : Part) → part ≡ Some some → is_lawful_event rate part ≡ true
     → (is_time rate some.start ≡ true) × (is_time rate some.duration ≡ true)
-lawful_parts rate part some e h = both_hold (is_time rate some.start) (is_time rate some.duration) (rw e at h)
+lawful_parts rate part some e h = (and-eq-true_iff (is_time rate some.start) (is_time rate some.duration)).0 (rw e at h)
 
 taken : (items : List Item) (k : ℕ) (item : Item) → slice_get items k ≡ Some item → length (take k items) ≡ k
 taken [] k item e = cc e

@@ -1,3 +1,4 @@
+-- Worked files, computed from the definitions.
 use Rattle.csv.specs.Machine.{next_record}
 use Rattle.csv.specs.Reading.{records_from, strip_bom}
 use Rattle.csv.specs.Writing.{escaped, fields_text, is_blank}
@@ -5,7 +6,7 @@ use Rattle.std.proofs.Common.{◌≡◌, [], ◌∷◌, true, false, refl}
 use Rattle.std.specs.Fmt.{digits}
 use Rattle.std.specs.Prelude.{None, Some, codes}
 use Rattle.vdcp_list.specs.Asrun.{asrun_text}
-use Rattle.vdcp_list.specs.Ids.{id_of_text}
+use Rattle.vdcp_value.specs.Ids.{id_of_text}
 use Rattle.vdcp_list.specs.Playlists.{is_of_columns, item_row}
 use Rattle.vdcp_list.specs.Rows.{rows_of}
 use Rattle.vdcp_value.specs.declared.part.Item.{Item}

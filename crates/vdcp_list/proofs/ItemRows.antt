@@ -1,12 +1,11 @@
+-- The row of an item, and the item of a row.
 use Rattle.csv.specs.Records.{field_at}
 use Rattle.std.proofs.Common.{◌≡◌, ℕ, ◌<◌, ◌≤◌, Bool, true, false, List, [], ◌∷◌, length, refl, sym, ap, ap₂, subst, ◌∙◌, arith, zero, suc, nat_lt, not}
+use Rattle.std.proofs.Math.Bool.{and-eq-true_iff}
 use Rattle.std.specs.Prelude.{Option, None, Some, drop, is_none, slice_get, slice_index, ◌≢◌, if◌then◌else◌, ◌&&◌}
-use Rattle.vdcp_list.proofs.Times.{two_digits_each}
+use Rattle.vdcp_list.proofs.Values.{TimeLaws}
 use Rattle.vdcp_list.specs.Playlists.{CanName, has_parts, item_row, part_fields, time_text}
 use Rattle.vdcp_list.specs.Rows.{Row}
-use Rattle.vdcp_value.proofs.Bcd.{label_of_own_bcd, frames_in_own, own_is_time, lawful_two_digits, lawful_without}
-use Rattle.vdcp_value.proofs.Bytes.{both_hold}
-use Rattle.vdcp_value.proofs.LabelText.{one_timecode_text}
 use Rattle.vdcp_value.specs.Bcd.{bcd_byte, frames_in, is_bcd, is_time, label_fault, label_of_bcd}
 use Rattle.vdcp_value.specs.Bytes.{AreBytes}
 use Rattle.vdcp_value.specs.Ids.{text_of_id}
@@ -27,21 +26,6 @@ field_at-is [] k = refl
 field_at-is (field ∷ row) zero = refl
 field_at-is (field ∷ row) (suc k) = field_at-is row k
 
--- bytes with no fault are of a lawful label
-none_behind : (a b c d : Bool) (v w x y : TcFault) (fault : Option TcFault)
-    → is_none (if not a then Some v else if not b then Some w else if not c then Some x else if not d then Some y else fault) ≡ true → fault ≡ None
-none_behind true true true true v w x y None e = refl
-none_behind true true true true v w x y (Some fault) e = cc e
-none_behind true true true false v w x y fault e = cc e
-none_behind true true false d v w x y fault e = cc e
-none_behind true false c d v w x y fault e = cc e
-none_behind false b c d v w x y fault e = cc e
-
-lawful_bytes : (rate : Rate) (bytes : List ℕ) → is_time rate bytes ≡ true → label_fault rate (label_of_bcd bytes) ≡ None
-lawful_bytes rate bytes e =
-    none_behind (is_bcd (slice_index bytes 0)) (is_bcd (slice_index bytes 1)) (is_bcd (slice_index bytes 2)) (is_bcd (slice_index bytes 3))
-    (NotBcd 1) (NotBcd 2) (NotBcd 3) (NotBcd 4) (label_fault rate (label_of_bcd bytes)) e
-
 -- the time code that bytes write
 pub record TimeOf (rate : Rate) (bytes : List ℕ) : Type 0 where
   pub time : Timecode
@@ -49,89 +33,74 @@ pub record TimeOf (rate : Rate) (bytes : List ℕ) : Type 0 where
   pub text : text_of time ≡ time_text rate bytes
   pub frames : frames_of time ≡ frames_in rate bytes
 
-pub time_of : (rate : Rate) (bytes : List ℕ) → is_time rate bytes ≡ true → TimeOf rate bytes
-time_of rate bytes e = record {
-  time = record {
-    rate = rate;
-    label = label_of_bcd bytes;
-    lawful = lawful_without rate (label_of_bcd bytes) (lawful_bytes rate bytes e);
-  };
-  same_rate = refl;
-  text = refl;
-  frames = refl;
-}
+time_of : TimeLaws → (rate : Rate) (bytes : List ℕ) → AreBytes 4 bytes → is_time rate bytes ≡ true → TimeOf rate bytes
+time_of v rate bytes four e =
+    let (time, r, b) = v.of_bytes rate bytes four e in
+    record {
+      time = time;
+      same_rate = r;
+      text = ap₂ label_text r (sym (v.label time) ∙ ap label_of_bcd b);
+      frames = sym (v.number time) ∙ ap₂ frames_in r b;
+    }
 
-bcd_below : (n : ℕ) → n < 100 → nat_lt (bcd_byte n) 256 ≡ true
-bcd_below n small = grind arith
+-- the bytes of a time code write its text
+pub own_text : ((timecode : Timecode) → label_of_bcd (bcd_of timecode) ≡ label_of timecode) → (rate : Rate) (time : Timecode) → rate_of time ≡ rate → time_text rate (bcd_of time) ≡ text_of time
+own_text label rate time e = ap (label_text rate) (label time) ∙ ap (λ r. label_text r (label_of time)) (sym e)
 
--- the bytes of a time code are four
-own_bytes : (time : Timecode) → AreBytes 4 (bcd_of time)
-own_bytes time =
-    let d = two_digits_each (label_of time) (lawful_two_digits (rate_of time) (label_of time) time.lawful) in
-    rw (
-      bcd_below (label_of time).frames d.frames,
-      bcd_below (label_of time).seconds d.seconds,
-      bcd_below (label_of time).minutes d.minutes,
-      bcd_below (label_of time).hours d.hours,
-    ) refl
+own_is_lawful : TimeLaws → (rate : Rate) (time : Timecode) → rate_of time ≡ rate → is_time rate (bcd_of time) ≡ true
+own_is_lawful v rate time e = rw (← e) (v.lawful time)
 
--- and write its text
-pub own_text : (rate : Rate) (time : Timecode) → rate_of time ≡ rate → time_text rate (bcd_of time) ≡ text_of time
-own_text rate time e = ap (label_text rate) (label_of_own_bcd time) ∙ ap (λ r. label_text r (label_of time)) (sym e)
-
-own_is_lawful : (rate : Rate) (time : Timecode) → rate_of time ≡ rate → is_time rate (bcd_of time) ≡ true
-own_is_lawful rate time e = rw (← e) (own_is_time time)
-
-own_frames : (rate : Rate) (time : Timecode) → rate_of time ≡ rate → frames_in rate (bcd_of time) ≡ frames_of time
-own_frames rate time e = rw (← e) (frames_in_own time)
+own_frames : TimeLaws → (rate : Rate) (time : Timecode) → rate_of time ≡ rate → frames_in rate (bcd_of time) ≡ frames_of time
+own_frames v rate time e = rw (← e) (v.number time)
 
 both_true : (a b : Bool) → a ≡ true → b ≡ true → (a && b) ≡ true
 both_true a b e h = rw (e, h) refl
 
 -- a part that two time codes make
-pub part_of_times : (rate : Rate) (start duration : Timecode) → rate_of start ≡ rate → rate_of duration ≡ rate → 1 ≤ frames_of duration
+pub part_of_times : TimeLaws → (rate : Rate) (start duration : Timecode) → rate_of start ≡ rate → rate_of duration ≡ rate → 1 ≤ frames_of duration
     → CanName rate true (Some (record { start = bcd_of start; duration = bcd_of duration }))
-part_of_times rate start duration e h some = (
+part_of_times v rate start duration e h some = (
   refl,
-  (own_bytes start, own_bytes duration),
-  both_true _ _ (own_is_lawful rate start e) (own_is_lawful rate duration h),
-  subst (λ n. 1 ≤ n) (sym (own_frames rate duration h)) some,
+  (v.four start, v.four duration),
+  both_true _ _ (own_is_lawful v rate start e) (own_is_lawful v rate duration h),
+  subst (λ n. 1 ≤ n) (sym (own_frames v rate duration h)) some,
 )
 
-pub fields_of_times : (rate : Rate) (start duration : Timecode) → rate_of start ≡ rate → rate_of duration ≡ rate
+pub fields_of_times : TimeLaws → (rate : Rate) (start duration : Timecode) → rate_of start ≡ rate → rate_of duration ≡ rate
     → part_fields rate (Some (record { start = bcd_of start; duration = bcd_of duration })) ≡ text_of start ∷ text_of duration ∷ []
-fields_of_times rate start duration e h = ap₂ (λ s d. s ∷ d ∷ []) (own_text rate start e) (own_text rate duration h)
+fields_of_times v rate start duration e h = ap₂ (λ s d. s ∷ d ∷ []) (own_text v.label rate start e) (own_text v.label rate duration h)
 
 one_first : (a b c d : List ℕ) → ◌≡◌ {A = Row} (a ∷ b ∷ []) (c ∷ d ∷ []) → (a ≡ c) × (b ≡ d)
 one_first a b c d e = (cc, cc)
 
 -- two fields that are no part's: the start isn't a time code's, or the duration isn't one of a frame at least
-pub no_part : (rate : Rate) (start duration : List ℕ) → (start ≡ [] → duration ≡ [] → ⊥)
+pub no_part : TimeLaws → (rate : Rate) (start duration : List ℕ) → (start ≡ [] → duration ≡ [] → ⊥)
     → ((s d : Timecode) → rate_of s ≡ rate → rate_of d ≡ rate → text_of s ≡ start → text_of d ≡ duration → 1 ≤ frames_of d → ⊥)
     → (part : Option Part) → CanName rate true part → part_fields rate part ≢ start ∷ duration ∷ []
-no_part rate start duration some none None can e =
+no_part v rate start duration some none None can e =
     let h = one_first [] [] start duration e in some (sym h.0) (sym h.1)
-no_part rate start duration some none (Some part) can e =
+no_part v rate start duration some none (Some part) can e =
     let h = one_first _ _ start duration e in
-    let l = both_hold (is_time rate part.start) (is_time rate part.duration) can.2 in
-    let s = time_of rate part.start l.0 in
-    let d = time_of rate part.duration l.1 in
+    let l = (and-eq-true_iff (is_time rate part.start) (is_time rate part.duration)).0 can.2 in
+    let s = time_of v rate part.start can.1.0 l.0 in
+    let d = time_of v rate part.duration can.1.1 l.1 in
     none s.time d.time s.same_rate d.same_rate (s.text ∙ h.0) (d.text ∙ h.1) (subst (λ n. 1 ≤ n) (sym d.frames) can.3)
 
 -- a duration of frame 0 is none of one frame at least
-pub no_frames : (rate : Rate) (read d : Timecode) (duration : List ℕ) → rate_of read ≡ rate → duration ≡ text_of read → frames_of read ≡ 0
+pub no_frames : ((a b : Timecode) → rate_of a ≡ rate_of b → text_of a ≡ text_of b → a ≡ b)
+    → (rate : Rate) (read d : Timecode) (duration : List ℕ) → rate_of read ≡ rate → duration ≡ text_of read → frames_of read ≡ 0
     → rate_of d ≡ rate → text_of d ≡ duration → 1 ≤ frames_of d → ⊥
-no_frames rate read d duration r t f r' t' some =
-    let same = one_timecode_text d read (r' ∙ sym r) (t' ∙ t) in
+no_frames one rate read d duration r t f r' t' some =
+    let same = one d read (r' ∙ sym r) (t' ∙ t) in
     let none : frames_of d ≡ 0 = ap (λ (x : Timecode). frames_of x) same ∙ f in
     omega (arith, none, some)
 
 -- the part that two fields name
-pub part_read : (rate : Rate) (s d : Timecode) (sb db start duration : List ℕ) → sb ≡ bcd_of s → db ≡ bcd_of d → rate_of s ≡ rate → rate_of d ≡ rate
+pub part_read : TimeLaws → (rate : Rate) (s d : Timecode) (sb db start duration : List ℕ) → sb ≡ bcd_of s → db ≡ bcd_of d → rate_of s ≡ rate → rate_of d ≡ rate
     → start ≡ text_of s → duration ≡ text_of d → 1 ≤ frames_of d
     → (part_fields rate (Some (record { start = sb; duration = db })) ≡ start ∷ duration ∷ []) × CanName rate true (Some (record { start = sb; duration = db }))
-part_read rate s d sb db start duration es ed rs rd ts td some =
-    rw (es, ed, ts, td) (fields_of_times rate s d rs rd, part_of_times rate s d rs rd some)
+part_read v rate s d sb db start duration es ed rs rd ts td some =
+    rw (es, ed, ts, td) (fields_of_times v rate s d rs rd, part_of_times v rate s d rs rd some)
 
 -- the row of an item
 pub first_of : (row : Row) (field : List ℕ) → slice_get row 0 ≡ Some field → row ≡ field ∷ drop 1 row

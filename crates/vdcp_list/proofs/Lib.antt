@@ -1,7 +1,7 @@
 mod RowsLeft
 mod Reading
 mod Texts
-mod Times
+mod Values
 mod Listings
 pub mod Steps
 mod ItemRows

@@ -1,16 +1,17 @@
+-- Items are read from their own texts, ends and parts, also after one more.
 use Rattle.std.proofs.Common.{◌≡◌, ℕ, ◌+◌, ◌-◌, ◌<◌, ◌≤◌, true, List, [], ◌∷◌, ◌++◌, length, take, refl, sym, ap, ap₂, subst, ◌∙◌, arith, zero, suc, append_assoc, append-nil, length-append, get_or, zero-add}
+use Rattle.std.proofs.Math.Bool.{and-eq-true_iff}
 use Rattle.std.proofs.Math.Seq.{drop-append_seam, take-append_seam}
 use Rattle.std.proofs.lemmas.Str.{IsAscii-append}
 use Rattle.std.specs.List.{list_all}
 use Rattle.std.specs.Prelude.{IsAscii, Option, Some, slice_get, slice_index, slice_range, string_bytes}
-use Rattle.vdcp_list.proofs.Texts.{id_of_text-text_of_id, ascii_id}
-use Rattle.vdcp_list.specs.Ids.{id_of_text}
+use Rattle.vdcp_list.proofs.Values.{TextLaws}
+use Rattle.vdcp_value.specs.Ids.{id_of_text, text_of_id}
 use Rattle.vdcp_list.specs.List.{items_of}
 use Rattle.vdcp_list.specs.ListLaws.{length-items_from}
 use Rattle.vdcp_list.specs.Listings.{ids_text, ends_from, parts_of, items_from, part_is_of_bytes, start_at}
 use Rattle.vdcp_list.specs.declared.list.List.{List as Playlist}
-use Rattle.vdcp_value.proofs.Bytes.{both_hold}
-use Rattle.vdcp_value.specs.Ids.{text_of_id}
+use Rattle.vdcp_value.specs.declared.clip_id.ClipId.{ClipId}
 use Rattle.vdcp_value.specs.declared.part.Item.{Item}
 use Rattle.vdcp_value.specs.declared.part.Part.{Part}
 
@@ -20,21 +21,21 @@ slice_range-middle before middle after =
     ap₂ take size (drop-append_seam before (middle ++ after)) ∙ take-append_seam middle after
 
 -- items are read from their texts, their ends and their parts
-items_from-all : (before : List ℕ) (items : List Item)
+items_from-all : TextLaws → (before : List ℕ) (items : List Item)
     → items_from (length before) (before ++ ids_text items) (ends_from (length before) items) (parts_of items) ≡ items
-items_from-all before [] = refl
-items_from-all before (item ∷ items) =
+items_from-all t before [] = refl
+items_from-all t before (item ∷ items) =
     let text = text_of_id item.id in
     let id : id_of_text (slice_range (before ++ (text ++ ids_text items)) (length before) (length before + length text)) ≡ item.id =
-    ap id_of_text (slice_range-middle before text (ids_text items)) ∙ id_of_text-text_of_id item.id in
+    ap id_of_text (slice_range-middle before text (ids_text items)) ∙ t.says item.id (text_of_id item.id) (t.some item.id) in
     let rest : items_from (length before + length text) (before ++ (text ++ ids_text items)) (ends_from (length before + length text) items) (parts_of items) ≡ items =
     subst (λ n. items_from n (before ++ (text ++ ids_text items)) (ends_from n items) (parts_of items) ≡ items) (length-append before text)
-    (subst (λ t. items_from (length (before ++ text)) t (ends_from (length (before ++ text)) items) (parts_of items) ≡ items) (append_assoc before text (ids_text items))
-    (items_from-all (before ++ text) items)) in
+    (subst (λ all. items_from (length (before ++ text)) all (ends_from (length (before ++ text)) items) (parts_of items) ≡ items) (append_assoc before text (ids_text items))
+    (items_from-all t (before ++ text) items)) in
     ap₂ (λ i is. record { id = i; part = item.part } ∷ is) id rest
 
-pub items_from-of : (items : List Item) → items_from 0 (ids_text items) (ends_from 0 items) (parts_of items) ≡ items
-items_from-of items = items_from-all [] items
+pub items_from-of : TextLaws → (items : List Item) → items_from 0 (ids_text items) (ends_from 0 items) (parts_of items) ≡ items
+items_from-of t items = items_from-all t [] items
 
 -- one more item
 ids_text-push : (items : List Item) (item : Item) → ids_text (items ++ item ∷ []) ≡ ids_text items ++ text_of_id item.id
@@ -70,8 +71,8 @@ pub record Holds (text ends : List ℕ) (parts : List (Option Part)) (items : Li
   pub ends_are : ends ≡ ends_from 0 items
   pub parts_are : parts ≡ parts_of items
 
-pub holds_read : (text ends : List ℕ) (parts : List (Option Part)) (items : List Item) → Holds text ends parts items → items_from 0 text ends parts ≡ items
-holds_read text ends parts items h = rw (h.text_is, h.ends_are, h.parts_are) (items_from-of items)
+pub holds_read : TextLaws → (text ends : List ℕ) (parts : List (Option Part)) (items : List Item) → Holds text ends parts items → items_from 0 text ends parts ≡ items
+holds_read t text ends parts items h = rw (h.text_is, h.ends_are, h.parts_are) (items_from-of t items)
 
 pub holds_push : (text ends : List ℕ) (parts : List (Option Part)) (items : List Item) (item : Item) → Holds text ends parts items
     → Holds (text ++ text_of_id item.id) (ends ++ length (text ++ text_of_id item.id) ∷ []) (parts ++ item.part ∷ []) (items ++ item ∷ [])
@@ -133,12 +134,12 @@ piece_of list k item e =
     (subst (λ es. Piece 0 (ids_text (items_of list)) es k (text_of_id item.id)) (sym h.ends_are) (pieces (items_of list) [] k item e))
 
 -- all texts together are ascii
-ascii_ids : (items : List Item) → IsAscii (ids_text items)
-ascii_ids [] = λ k. omega arith
-ascii_ids (item ∷ items) = IsAscii-append (text_of_id item.id) (ids_text items) (ascii_id item.id) (ascii_ids items)
+ascii_ids : ((id : ClipId) → IsAscii (text_of_id id)) → (items : List Item) → IsAscii (ids_text items)
+ascii_ids ascii [] = λ k. omega arith
+ascii_ids ascii (item ∷ items) = IsAscii-append (text_of_id item.id) (ids_text items) (ascii item.id) (ascii_ids ascii items)
 
-pub ascii_text : (list : Playlist) → IsAscii (string_bytes list.text)
-ascii_text list = subst IsAscii (sym list.text_is) (ascii_ids (items_of list))
+pub ascii_text : ((id : ClipId) → IsAscii (text_of_id id)) → (list : Playlist) → IsAscii (string_bytes list.text)
+ascii_text ascii list = subst IsAscii (sym list.text_is) (ascii_ids ascii (items_of list))
 
 pub length_of_items : (list : Playlist) → length (items_of list) ≡ length list.ends.items
 length_of_items list = length-items_from 0 (string_bytes list.text) list.ends.items list.parts.items list.beside
@@ -160,15 +161,15 @@ held_pushed list item text ends parts p =
     (holds_push (string_bytes list.text) list.ends.items list.parts.items (items_of list) item (held list))))
 
 -- they read as the items and the pushed one
-pub pushed_items : (list : Playlist) (item : Item) (text ends : List ℕ) (parts : List (Option Part)) → Pushed list item text ends parts
+pub pushed_items : TextLaws → (list : Playlist) (item : Item) (text ends : List ℕ) (parts : List (Option Part)) → Pushed list item text ends parts
     → items_from 0 text ends parts ≡ items_of list ++ item ∷ []
-pushed_items list item text ends parts p = holds_read text ends parts (items_of list ++ item ∷ []) (held_pushed list item text ends parts p)
+pushed_items t list item text ends parts p = holds_read t text ends parts (items_of list ++ item ∷ []) (held_pushed list item text ends parts p)
 
 all_pushed : (parts : List (Option Part)) (part : Option Part) → list_all part_is_of_bytes parts ≡ true → part_is_of_bytes part ≡ true
     → list_all part_is_of_bytes (parts ++ part ∷ []) ≡ true
 all_pushed [] part e h = rw h refl
 all_pushed (first ∷ parts) part e h =
-    let b = both_hold (part_is_of_bytes first) (list_all part_is_of_bytes parts) e in
+    let b = (and-eq-true_iff (part_is_of_bytes first) (list_all part_is_of_bytes parts)).0 e in
     rw b.0 (all_pushed parts part b.1 h)
 
 -- and keep what a playlist keeps
@@ -178,11 +179,11 @@ pub record Keeps (text ends : List ℕ) (parts : List (Option Part)) : Type 0 wh
   pub beside : length parts ≡ length ends
   pub of_bytes : list_all part_is_of_bytes parts ≡ true
 
-pub pushed_keeps : (list : Playlist) (item : Item) (text ends : List ℕ) (parts : List (Option Part)) → Pushed list item text ends parts
+pub pushed_keeps : TextLaws → (list : Playlist) (item : Item) (text ends : List ℕ) (parts : List (Option Part)) → Pushed list item text ends parts
     → part_is_of_bytes item.part ≡ true → Keeps text ends parts
-pushed_keeps list item text ends parts p bytes =
+pushed_keeps t list item text ends parts p bytes =
     let h = held_pushed list item text ends parts p in
-    let same = sym (pushed_items list item text ends parts p) in
+    let same = sym (pushed_items t list item text ends parts p) in
     record {
       text_is = h.text_is ∙ ap ids_text same;
       ends_are = h.ends_are ∙ ap (ends_from 0) same;

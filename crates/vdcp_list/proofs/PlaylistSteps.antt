@@ -1,9 +1,10 @@
+-- The items of the rows read so far, row by row.
 use Rattle.std.proofs.Common.{◌≡◌, ℕ, ◌+◌, ◌-◌, ◌<◌, ◌≤◌, Bool, true, false, List, [], ◌∷◌, ◌++◌, length, map, take, refl, sym, ap, subst, ◌∙◌, arith, zero, suc}
 use Rattle.std.proofs.lemmas.List.{map-append}
 use Rattle.std.proofs.lemmas.List.Elements.{All-push}
 use Rattle.std.specs.Prelude.{◌≢◌, IfSome, Option, None, Some, slice_get}
 use Rattle.vdcp_list.proofs.Steps.{AfterRows, Step, at_first, done, step}
-use Rattle.vdcp_list.specs.Playlists.{CanName, Follows, IsItemFault, IsPlaylist, IsPlaylistFault, Names, RefusesRow, columns_of, has_parts, item_row}
+use Rattle.vdcp_list.specs.Playlists.{CanName, IsNextRow, IsItemFault, IsPlaylist, IsPlaylistFault, Names, RefusesRow, columns_of, has_parts, item_row}
 use Rattle.vdcp_list.specs.Reading.{IsReadFault, TakesRow}
 use Rattle.vdcp_list.specs.Rows.{Row, most_rows}
 use Rattle.vdcp_list.specs.declared.faults.ListFault.TheVariants.{Columns, Id, Time, Twice, TooMany, Memory, Read}
@@ -80,9 +81,9 @@ named_all rate (Some rows) left left' n old items row h t few =
     }
 
 -- a row that is refused
-follows : (rate : Rate) (rows : List Row) (left left' : Option (List Row)) (n old : ℕ) (items : List Item) (row : Row)
-    → Named rate rows left n old items → Step rows left' n row → n < most_rows → Follows rate rows (n + 1) row
-follows rate rows left left' n old items row h s few =
+next_row : (rate : Rate) (rows : List Row) (left left' : Option (List Row)) (n old : ℕ) (items : List Item) (row : Row)
+    → Named rate rows left n old items → Step rows left' n row → n < most_rows → IsNextRow rate rows (n + 1) row
+next_row rate rows left left' n old items row h s few =
     let back : n + 1 - 1 ≡ n = omega arith in
     record {
       counted = omega arith;
@@ -91,7 +92,7 @@ follows rate rows left left' n old items row h s few =
       next = ap (slice_get rows) back ∙ s.here;
     }
 
-of_row : (rate : Rate) (rows : List Row) (k columns : ℕ) (row : Row) (fault : ListFault) → Follows rate rows k row → columns ≡ columns_of rows
+of_row : (rate : Rate) (rows : List Row) (k columns : ℕ) (row : Row) (fault : ListFault) → IsNextRow rate rows k row → columns ≡ columns_of rows
     → IsItemFault rate columns row k fault → IsPlaylistFault rate rows fault
 of_row rate rows k columns row (Columns j) f e h =
     let g = subst (λ n. IsItemFault rate n row k (Columns j)) e h in
@@ -113,7 +114,7 @@ pub named_refused : (rate : Rate) (all left left' : Option (List Row)) (n old ne
 named_refused rate None left left' n old new items row fault h t c few f = tt
 named_refused rate (Some rows) left left' n old new items row fault h t c few f =
     let s = step rows left left' n row h.after t in
-    of_row rate rows (n + 1) new row fault (follows rate rows left left' n old items row h s few) (columns_now rate rows left left' n old new items row h s c) f
+    of_row rate rows (n + 1) new row fault (next_row rate rows left left' n old items row h s few) (columns_now rate rows left left' n old new items row h s c) f
 
 -- a row too many
 pub named_too_many : (rate : Rate) (all left left' : Option (List Row)) (n old : ℕ) (items : List Item) (row : Row)

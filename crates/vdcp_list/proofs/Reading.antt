@@ -1,3 +1,4 @@
+-- A read takes the first of the rows that are left.
 use Rattle.csv.specs.Machine.{Read, next_record}
 use Rattle.csv.specs.Reading.{default_config, NextIs, ReadsNext, ReadRecord, source_of, pending_of}
 use Rattle.csv.specs.declared.parser.State.{State}

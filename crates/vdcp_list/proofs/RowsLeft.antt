@@ -1,3 +1,4 @@
+-- Any count of turns reads the same records.
 use Rattle.csv.specs.Machine.{Read, next_record, step, is_end, fields_after, field_after}
 use Rattle.csv.specs.Reading.{default_config, records_from, records_next}
 use Rattle.csv.specs.declared.parser.State.TheVariants as st

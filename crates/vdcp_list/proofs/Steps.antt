@@ -1,3 +1,4 @@
+-- The rows read so far, and those that are left.
 use Rattle.std.proofs.Common.{◌≡◌, ℕ, ◌+◌, ◌<◌, ◌≤◌, true, false, List, [], ◌∷◌, ◌++◌, length, take, drop, refl, sym, ap, ◌∙◌, arith, zero, suc, add-one}
 use Rattle.std.specs.Prelude.{IfSome, Option, None, Some, option_map, slice_get}
 use Rattle.vdcp_list.specs.Reading.{TakesRow}

@@ -1,3 +1,4 @@
+-- The text of an as-run list, and when it can't be written.
 use Rattle.csv.specs.Writing.{default_writer, row_text}
 use Rattle.std.specs.List.{list_all, list_any}
 use Rattle.std.specs.Prelude.{ℕ, suc, ◌<◌, ◌≡◌, Bool, IsFalse, IsTrue, true, List, [], ◌∷◌, ◌++◌, decimal, is_some, take, slice_get, Option, None, Some}

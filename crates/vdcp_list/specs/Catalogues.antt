@@ -1,10 +1,10 @@
+-- The clips that the rows of a catalogue give, and which row is refused.
 use Rattle.std.specs.List.{IsDistinct}
 use Rattle.std.specs.Prelude.{ℕ, ◌+◌, ◌-◌, ◌<◌, ◌≤◌, ◌≡◌, ◌≢◌, ⊤, Some, List, [], ◌∷◌, All, Contains, map, length, take, slice_get}
 use Rattle.vdcp_list.specs.Rows.{Row, HasId, Reaches, most_rows}
 use Rattle.vdcp_list.specs.declared.faults.ListFault.TheVariants.{Columns, Id, Time, Twice, TooMany, Memory, Read}
 use Rattle.vdcp_list.specs.declared.faults.ListFault.{ListFault}
-use Rattle.vdcp_port.specs.Clips.{is_same_id}
-use Rattle.vdcp_value.specs.Ids.{text_of_id}
+use Rattle.vdcp_value.specs.Ids.{is_same_id, text_of_id}
 use Rattle.vdcp_value.specs.Timecodes.{frames_of, rate_of, text_of}
 use Rattle.vdcp_value.specs.declared.clip_id.ClipId.{ClipId}
 use Rattle.vdcp_value.specs.declared.rate.Rate.{Rate}
@@ -32,9 +32,9 @@ pub record IsCatalogue (rate : Rate) (rows : List Row) (clips : List (ClipId × 
   pub few : length rows ≤ most_rows
   pub given : Gives rate rows clips
 
--- the rows before row k are a catalogue's
-abbrev pub Follows : Rate → List Row → ℕ → Row → Type 0
-Follows rate rows k row = Reaches (λ front. (clips : List (ClipId × Timecode)) × Gives rate front clips) rows k row
+-- row k is the next one: the rows before it are a catalogue's
+abbrev pub IsNextRow : Rate → List Row → ℕ → Row → Type 0
+IsNextRow rate rows k row = Reaches (λ front. (clips : List (ClipId × Timecode)) × Gives rate front clips) rows k row
 
 -- no clip that a catalogue can give has this row
 abbrev pub IsNoClip : Rate → Row → Type 0
@@ -56,7 +56,7 @@ StandsIn rows id = Contains (map (λ row. slice_get row 0) rows) (Some (text_of_
 
 -- row k is the first that is refused, with this fault
 abbrev pub RefusesRow : Rate → List Row → ℕ → ListFault → Type 0
-RefusesRow rate rows k fault = (row : Row) × Follows rate rows k row × IsClipFault rate row k fault
+RefusesRow rate rows k fault = (row : Row) × IsNextRow rate rows k row × IsClipFault rate row k fault
 
 -- why the rows are no catalogue: rows are tested one after another, and the first refusal counts
 abbrev pub IsCatalogueFault : Rate → List Row → ListFault → Type 0
@@ -64,7 +64,7 @@ IsCatalogueFault rate rows (Columns k) = RefusesRow rate rows k (Columns k)
 IsCatalogueFault rate rows (Id k) = RefusesRow rate rows k (Id k)
 IsCatalogueFault rate rows (Time k) = RefusesRow rate rows k (Time k)
 IsCatalogueFault rate rows (Twice k) =
-    (clip : ClipId × Timecode) × Follows rate rows k (clip_row clip) × CanLast rate clip.1
+    (clip : ClipId × Timecode) × IsNextRow rate rows k (clip_row clip) × CanLast rate clip.1
     × StandsIn (take (k - 1) rows) clip.0
 IsCatalogueFault rate rows (TooMany k) =
     (k ≡ most_rows + 1) × (most_rows < length rows)

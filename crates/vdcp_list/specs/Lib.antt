@@ -1,6 +1,5 @@
 pub mod Asrun
 pub mod Catalogues
-pub mod Ids
 pub mod List
 pub mod ListLaws
 pub mod Listings

@@ -1,3 +1,4 @@
+-- The items of a playlist.
 use Rattle.std.specs.Prelude.{List, string_bytes}
 use Rattle.vdcp_list.specs.Listings.{items_from}
 use Rattle.vdcp_list.specs.declared.list.List.{List as Playlist}

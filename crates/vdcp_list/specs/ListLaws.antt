@@ -1,9 +1,10 @@
+-- What a playlist is as a source: its items can be counted, and their parts are of bytes.
 use Rattle.std.proofs.Common.{◌≡◌, ℕ, ◌<◌, ◌^◌, length, true, refl, ap, arith, zero, suc}
+use Rattle.std.proofs.Math.Bool.{and-eq-true_iff}
 use Rattle.std.specs.List.{list_all}
 use Rattle.std.specs.Prelude.{All, List, [], ◌∷◌, Option, None, Some, slice_range, string_bytes}
-use Rattle.vdcp_list.specs.Ids.{id_of_text}
+use Rattle.vdcp_value.specs.Ids.{id_of_text}
 use Rattle.vdcp_list.specs.Listings.{items_from, part_is_of_bytes}
-use Rattle.vdcp_value.proofs.Bytes.{both_hold}
 use Rattle.vdcp_value.specs.Bytes.{are_bytes}
 use Rattle.vdcp_value.specs.declared.clip_id.ClipId.{ClipId}
 use Rattle.vdcp_value.specs.declared.part.Part.{Part}
@@ -21,16 +22,16 @@ length-items_from start text (end ∷ ends) (part ∷ parts) e = ap suc (length-
 
 part_of_bytes : (part : Option Part) (id : ClipId) → part_is_of_bytes part ≡ true → IsItem (record { id = id; part = part })
 part_of_bytes None id e = tt
-part_of_bytes (Some part) id e = both_hold (are_bytes 4 part.start) (are_bytes 4 part.duration) e
+part_of_bytes (Some part) id e = (and-eq-true_iff (are_bytes 4 part.start) (are_bytes 4 part.duration)).0 e
 
 all_of_bytes : (start : ℕ) (text ends : List ℕ) (parts : List (Option Part)) → list_all part_is_of_bytes parts ≡ true
     → All IsItem (items_from start text ends parts)
 all_of_bytes start text [] parts e k d below = absurd (omega (arith, below))
 all_of_bytes start text (end ∷ ends) [] e k d below = absurd (omega (arith, below))
 all_of_bytes start text (end ∷ ends) (part ∷ parts) e zero d below =
-    part_of_bytes part (id_of_text (slice_range text start end)) (both_hold (part_is_of_bytes part) (list_all part_is_of_bytes parts) e).0
+    part_of_bytes part (id_of_text (slice_range text start end)) ((and-eq-true_iff (part_is_of_bytes part) (list_all part_is_of_bytes parts)).0 e).0
 all_of_bytes start text (end ∷ ends) (part ∷ parts) e (suc k) d below =
-    all_of_bytes end text ends parts (both_hold (part_is_of_bytes part) (list_all part_is_of_bytes parts) e).1 k d (omega (arith, below))
+    all_of_bytes end text ends parts ((and-eq-true_iff (part_is_of_bytes part) (list_all part_is_of_bytes parts)).0 e).1 k d (omega (arith, below))
 
 -- a playlist's items can be counted
 pub countable : (list : Playlist) → length (items_of list) < 2 ^ 64

@@ -1,5 +1,6 @@
+-- The texts of all IDs of a list of items, the places where they end, and the items that are read from these.
 use Rattle.std.specs.Prelude.{ℕ, zero, suc, slice_index, ◌+◌, List, [], ◌∷◌, flat_map, length, map, slice_range, Option, None, Some, Bool, true, ◌&&◌}
-use Rattle.vdcp_list.specs.Ids.{id_of_text}
+use Rattle.vdcp_value.specs.Ids.{id_of_text}
 use Rattle.vdcp_value.specs.Bytes.{are_bytes}
 use Rattle.vdcp_value.specs.Ids.{text_of_id}
 use Rattle.vdcp_value.specs.declared.part.Item.{Item}

@@ -1,3 +1,4 @@
+-- The items that the rows of a playlist name, and which row is refused.
 use Rattle.std.specs.Prelude.{ℕ, ◌+◌, ◌<◌, ◌≤◌, ◌≡◌, ◌≢◌, ◌==◌, ◌&&◌, ◌||◌, ⊤, Bool, true, false, IsTrue, IsFalse, List, [], ◌∷◌, All, map, length, take, Option, None, Some}
 use Rattle.vdcp_list.specs.Rows.{Row, HasId, Reaches, most_rows}
 use Rattle.vdcp_list.specs.declared.faults.ListFault.TheVariants.{Columns, Id, Time, Twice, TooMany, Memory, Read}
@@ -42,7 +43,7 @@ pub record Names (rate : Rate) (with_parts : Bool) (rows : List Row) (items : Li
 -- how many fields the first row has, which all others have too
 abbrev pub columns_of : List Row → ℕ
 columns_of [] = 0
-columns_of (row ∷ rest) = length row
+columns_of (row ∷ more) = length row
 
 abbrev pub has_parts : ℕ → Bool
 has_parts columns = columns == 3
@@ -56,9 +57,9 @@ pub record IsPlaylist (rate : Rate) (rows : List Row) (items : List Item) : Type
   pub few : length rows ≤ most_rows
   pub named : Names rate (has_parts (columns_of rows)) rows items
 
--- the rows before row k are a playlist's
-abbrev pub Follows : Rate → List Row → ℕ → Row → Type 0
-Follows rate rows k row =
+-- row k is the next one: the rows before it are a playlist's
+abbrev pub IsNextRow : Rate → List Row → ℕ → Row → Type 0
+IsNextRow rate rows k row =
     Reaches (λ front. (items : List Item) × Names rate (has_parts (columns_of rows)) front items) rows k row
 
 -- why a row of a playlist is refused: the first that applies, row k being the one at hand
@@ -75,7 +76,7 @@ IsItemFault rate columns row k Read = ⊥
 
 -- row k is the first that is refused, with this fault
 abbrev pub RefusesRow : Rate → List Row → ℕ → ListFault → Type 0
-RefusesRow rate rows k fault = (row : Row) × Follows rate rows k row × IsItemFault rate (columns_of rows) row k fault
+RefusesRow rate rows k fault = (row : Row) × IsNextRow rate rows k row × IsItemFault rate (columns_of rows) row k fault
 
 -- why the rows are no playlist: rows are tested one after another, and the first refusal counts
 abbrev pub IsPlaylistFault : Rate → List Row → ListFault → Type 0

@@ -1,3 +1,4 @@
+-- The rows that a reader has left, and what a read takes of them.
 use Rattle.csv.specs.Reading.{default_config, is_flexible, reader_config, reader_state, reader_trim, Ready, source_of}
 use Rattle.csv.specs.declared.reader.Reader.{Reader}
 use Rattle.csv.specs.declared.reader.Trim.TheVariants as trim
@@ -21,7 +22,7 @@ rows_left remaining reader = option_map (rows_from (reader_state reader)) (sourc
 abbrev pub TakesRow : Option (List Row) → Option (List Row) → Bool → Row → Type 0
 TakesRow None left found row = ⊤
 TakesRow (Some rows) left false row = rows ≡ []
-TakesRow (Some rows) left true row = (rest : List Row) × (left ≡ Some rest) × (rows ≡ row ∷ rest)
+TakesRow (Some rows) left true row = (more : List Row) × (left ≡ Some more) × (rows ≡ row ∷ more)
 
 -- a fault of the reader or of memory
 abbrev pub IsReadFault : ListFault → Type 0

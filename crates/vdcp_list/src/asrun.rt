@@ -12,6 +12,7 @@ use csv::{Error, Writer, WriterBuilder};
 use std::alloc::{AllocError, Allocator};
 use std::io::Write;
 use vdcp_auto::Source;
+use vdcp_value::laws::a_time_code_has_lawful_bytes;
 use vdcp_value::{Item, Part, Rate, Timecode};
 
 /// Writes the as-run list of the first `reported` events of a source: a row each, of the event's
@@ -190,5 +191,6 @@ fn show_time(rate: Rate, bytes: [u8; 4], text: &mut ArrayString<11>)
     requires { IsTrue (is_time rate bytes) }
     ensures { text.new.bytes ≡ time_text rate bytes }
 {
+    a_time_code_has_lawful_bytes();
     Timecode::from_bcd(rate, bytes).unwrap().show(text);
 }

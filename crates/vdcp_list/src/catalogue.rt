@@ -12,6 +12,7 @@ use crate::table::Table;
 use csv::ByteRecord;
 use std::alloc::Global;
 use std::io::Read;
+use vdcp_value::laws::{a_time_code_is_one, an_id_is_its_bytes};
 use vdcp_value::{ClipId, Rate, Timecode};
 
 /// The clip of a catalogue's row.
@@ -39,6 +40,7 @@ fn last_length(row: &ByteRecord, rate: Rate) -> Option<Timecode>
     ensures can_last { IfSome result (CanLast rate) }
     ensures none { IfNone result ((length : Timecode) → CanLast rate length → drop 1 (fields_of row.now) ≢ text_of length ∷ []) }
 {
+    a_time_code_is_one();
     let Some(field) = field_at(row, 1) else {
         return None;
     };
@@ -75,7 +77,10 @@ pub fn read_catalogue<R: Read + Drop>(
         let (id, length) = clip_in(&row, rate, read + 1)?;
         match table.add(id, length) {
             Ok(true) => {}
-            Ok(false) => return Err(ListFault::Twice(read + 1)),
+            Ok(false) => {
+                an_id_is_its_bytes();
+                return Err(ListFault::Twice(read + 1));
+            }
             Err(_) => return Err(ListFault::Memory),
         }
     }

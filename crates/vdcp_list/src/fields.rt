@@ -8,6 +8,7 @@ ghost use Rattle.vdcp_value.specs.declared.timecode.Timecode.{Timecode};
 
 use csv::ByteRecord;
 use std::str;
+use vdcp_value::laws::{a_refused_text_is_no_ids, an_id_has_one_text, the_text_of_an_id_is_short};
 use vdcp_value::{ClipId, Rate, Timecode};
 
 /// The field at a place of a row.
@@ -22,6 +23,8 @@ pub(crate) fn first_id(row: &ByteRecord) -> Option<ClipId>
     ensures some { IfSome result (λ id. slice_get (fields_of row.now) 0 ≡ Some (text_of_id id)) }
     ensures none { IfNone result (¬ HasId (fields_of row.now)) }
 {
+    an_id_has_one_text();
+    a_refused_text_is_no_ids();
     let Some(field) = field_at(row, 0) else {
         return None;
     };
@@ -36,6 +39,7 @@ pub(crate) fn id_text(row: &ByteRecord) -> &str
     requires { HasId (fields_of row.now) }
     ensures { slice_get (fields_of row.now) 0 ≡ Some result.now }
 {
+    the_text_of_an_id_is_short();
     str::from_utf8(field_at(row, 0).unwrap()).unwrap()
 }
 

@@ -5,6 +5,7 @@ ghost use Rattle.vdcp_value.specs.Ids.{text_of_id};
 
 use std::alloc::{AllocError, Global};
 use vdcp_auto::Source;
+use vdcp_value::laws::{a_text_says_its_id, an_id_has_one_text, the_text_of_an_id_is_short};
 use vdcp_value::{ClipId, Item, Part};
 
 /// A playlist: the events to play, in order. It keeps the texts of their IDs and no IDs, and parses
@@ -44,6 +45,8 @@ impl List {
         ensures ok { OnOk result (items_of self.new ≡ items_of self.old ++ item ∷ []) }
         ensures err { OnErr result (items_of self.new ≡ items_of self.old) }
     {
+        an_id_has_one_text();
+        a_text_says_its_id();
         self.text.reserve(text.len())?;
         self.ends.reserve(1)?;
         self.parts.reserve(1)?;
@@ -58,6 +61,7 @@ impl List {
         requires { k < length (items_of self.now) }
         ensures { IfSome (slice_get (items_of self.now) k) (λ item. result.now ≡ text_of_id item.id) }
     {
+        the_text_of_an_id_is_short();
         let start = start_of(&self.ends, k);
         &self.text()[start..self.ends[k]]
     }
@@ -101,6 +105,7 @@ impl Source for List {
 
     /// Parses the ID's text again.
     fn at(&self, k: usize) -> Item {
+        an_id_has_one_text();
         Item {
             id: ClipId::parse(self.id_text(k)).unwrap(),
             part: self.parts[k],

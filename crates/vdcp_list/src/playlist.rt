@@ -13,6 +13,9 @@ use crate::rows::{MAX_ROWS, next_row, rows_in};
 use csv::ByteRecord;
 use std::alloc::Global;
 use std::io::Read;
+use vdcp_value::laws::{
+    a_time_code_has_lawful_bytes, a_time_code_is_one, lawful_bytes_are_a_time_codes,
+};
 use vdcp_value::{Item, Part, Rate};
 
 /// The item of a playlist's row.
@@ -54,6 +57,9 @@ fn part_in(start: &[u8], duration: &[u8], rate: Rate) -> Option<Option<Part>>
     ensures some { IfSome result (λ part. (part_fields rate part ≡ start.now ∷ duration.now ∷ []) × CanName rate true part) }
     ensures none { IfNone result ((part : Option Part) → CanName rate true part → part_fields rate part ≢ start.now ∷ duration.now ∷ []) }
 {
+    a_time_code_has_lawful_bytes();
+    lawful_bytes_are_a_time_codes();
+    a_time_code_is_one();
     if start.is_empty() && duration.is_empty() {
         return Some(None);
     }

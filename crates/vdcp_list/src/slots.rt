@@ -6,6 +6,7 @@ use crate::faults::SlotFault;
 use arrayvec::ArrayVec;
 use std::marker::Model;
 use vdcp_port::Catalogue;
+use vdcp_value::laws::a_day_has_its_lawful_labels;
 use vdcp_value::{ClipId, Rate, Timecode};
 
 /// A catalogue of at most `N` clips, which takes no memory.
@@ -22,6 +23,7 @@ struct Slot {
 
 impl Default for Slot {
     fn default() -> Slot {
+        a_day_has_its_lawful_labels(Rate::F25);
         Slot {
             id: ClipId::new([0; 8]),
             duration: Timecode::from_frames(Rate::F25, 0).unwrap(),

@@ -7,6 +7,7 @@ use std::collections::BTreeMap;
 use std::collections::btree_map::Entry;
 use std::marker::Model;
 use vdcp_port::Catalogue;
+use vdcp_value::laws::{an_id_is_its_bytes, bytes_are_counted};
 use vdcp_value::{ClipId, Timecode};
 
 /// The clips of a catalogue file, in the order of its rows.
@@ -57,6 +58,8 @@ impl Table {
         ensures there { IfOk result (λ added. added ≡ false → IsSome (length_of self.old id)) }
         ensures same { IfOk result (λ added. added ≡ false → self.new ≡ self.old) }
     {
+        bytes_are_counted();
+        an_id_is_its_bytes();
         let place = self.len();
         self.clips.reserve(1)?;
         match self.places.entry(key_of(&id))? {

@@ -1,6 +1,8 @@
+-- The lemmas, file by file.
 mod Examples
 pub mod Frames
 pub mod FewMessages
+pub mod LawsBelow
 pub mod Answering
 pub mod Readable
 pub mod Sizes

@@ -1,3 +1,4 @@
+-- The state bytes that there are.
 use Rattle.std.proofs.Common.{ℕ, List, [], ◌∷◌, refl, lit<}
 use Rattle.std.specs.List.{Contains}
 use Rattle.std.specs.Prelude.{Option, None, Some}

@@ -1,3 +1,4 @@
+-- The definitions, file by file.
 pub mod Clips
 pub mod Asked
 pub mod Port

@@ -12,7 +12,8 @@
 //! ```
 //!
 //! What clips there are, and how long, a `Catalogue` says. Only `burst_answer` takes memory, for the two
-//! collections that it is lent.
+//! collections that it is lent; `answer_into` answers a burst into an array. A caller that has the messages
+//! one by one passes them to `answer`, and at the silence sends what `reply_at_end` gives.
 #![tactic(auto)]
 
 mod access;

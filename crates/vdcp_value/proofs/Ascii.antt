@@ -1,3 +1,4 @@
+-- The texts of IDs and time codes are ASCII, and how long they are.
 use Rattle.std.proofs.Common.{ℕ, zero, suc, List, [], ◌∷◌, ◌++◌, ◌+◌, ◌/◌, ◌%◌, ◌<◌, ◌≤◌, ◌≡◌, true, length, arith, refl, sym, ap, subst, inl, inr, if◌then◌else◌, nat_lt, lit<}
 use Rattle.std.specs.List.{flat_map, list_all}
 use Rattle.std.specs.Str.{IsAscii}
@@ -20,8 +21,8 @@ nil_ascii : IsAscii []
 nil_ascii i = omega arith
 
 pub cons_ascii : (x : ℕ) (xs : List ℕ) → x < 128 → IsAscii xs → IsAscii (x ∷ xs)
-cons_ascii x xs small rest zero = small
-cons_ascii x xs small rest (suc i) = rest i
+cons_ascii x xs small more zero = small
+cons_ascii x xs small more (suc i) = more i
 
 plain_ascii : (xs : List ℕ) → list_all is_plain_byte xs ≡ true → IsAscii xs
 plain_ascii [] e = nil_ascii
@@ -37,11 +38,11 @@ digit_small n below = grind arith
 
 pairs_ascii : (bytes : List ℕ) → all_below bytes ≡ true → IsAscii (flat_map hex_pair bytes)
 pairs_ascii [] e = nil_ascii
-pairs_ascii (byte ∷ rest) e =
-    let h = both_hold (nat_lt byte 256) (all_below rest) e in
+pairs_ascii (byte ∷ more) e =
+    let h = both_hold (nat_lt byte 256) (all_below more) e in
     let small : byte < 256 = below_is byte h.0 in
-    cons_ascii (hex_digit (byte / 16)) (hex_digit (byte % 16) ∷ flat_map hex_pair rest) (digit_small (byte / 16) (omega arith))
-    (cons_ascii (hex_digit (byte % 16)) (flat_map hex_pair rest) (digit_small (byte % 16) (omega arith)) (pairs_ascii rest h.1))
+    cons_ascii (hex_digit (byte / 16)) (hex_digit (byte % 16) ∷ flat_map hex_pair more) (digit_small (byte / 16) (omega arith))
+    (cons_ascii (hex_digit (byte % 16)) (flat_map hex_pair more) (digit_small (byte % 16) (omega arith)) (pairs_ascii more h.1))
 
 hex_form_ascii : (bytes : List ℕ) → all_below bytes ≡ true → IsAscii (hex_form bytes)
 hex_form_ascii bytes e =
@@ -84,8 +85,8 @@ mark_small F30 = lit< tt
 mark_small D30 = lit< tt
 
 digits_ascii : (n : ℕ) (xs : List ℕ) → n < 100 → IsAscii xs → IsAscii (two_digits n ++ xs)
-digits_ascii n xs below rest =
-    cons_ascii (48 + n / 10) ((48 + n % 10) ∷ xs) (omega arith) (cons_ascii (48 + n % 10) xs (omega arith) rest)
+digits_ascii n xs below more =
+    cons_ascii (48 + n / 10) ((48 + n % 10) ∷ xs) (omega arith) (cons_ascii (48 + n % 10) xs (omega arith) more)
 
 -- the text of a time code is ASCII, of eleven bytes
 pub timecode_text_ascii : (timecode : Timecode) → IsAscii (text_of timecode)

@@ -1,3 +1,4 @@
+-- Lists that are made of blocks: what stands in them, and numbers that count up along them.
 use Rattle.std.proofs.Common.{ℕ, zero, suc, List, [], ◌∷◌, ◌++◌, ◌+◌, ◌<◌, ◌≤◌, ◌≡◌, Bool, true, false, length, map, filter, arith, refl, sym, ap, subst, length-append, eq-or-lt_of_le, inl, inr, ◌⊎◌}
 use Rattle.std.specs.List.{flat_map, range_with_len, list_any}
 use Rattle.std.proofs.lemmas.List.Folds.{list_any-append}
@@ -13,7 +14,7 @@ both_ways false = inr refl
 -- the numbers of the labels count up from a
 abbrev pub CountsFrom : (Label → ℕ) → ℕ → List Label → Type 0
 CountsFrom number a [] = Unit {0}
-CountsFrom number a (label ∷ rest) = (number label ≡ a) × CountsFrom number (a + 1) rest
+CountsFrom number a (label ∷ more) = (number label ≡ a) × CountsFrom number (a + 1) more
 
 pub counts-append : (number : Label → ℕ) (a b : ℕ) (xs ys : List Label)
     → CountsFrom number a xs → a + length xs ≡ b → CountsFrom number b ys → CountsFrom number a (xs ++ ys)
@@ -31,13 +32,13 @@ pub counts-blocks : (number : Label → ℕ) (block : ℕ → List Label) (start
 counts-blocks number block start counts goes zero a =
     (tt, omega (arith, ap start (let e : a ≡ a + 0 = omega arith in e)))
 counts-blocks number block start counts goes (suc n) a =
-    let rest = counts-blocks number block start counts goes n (a + 1) in (
-      counts-append number (start a) (start (a + 1)) (block a) (flat_map block (range_with_len (a + 1) n)) (counts a) (goes a) rest.0,
+    let more = counts-blocks number block start counts goes n (a + 1) in (
+      counts-append number (start a) (start (a + 1)) (block a) (flat_map block (range_with_len (a + 1) n)) (counts a) (goes a) more.0,
       omega (
         arith,
         length-append (block a) (flat_map block (range_with_len (a + 1) n)),
         goes a,
-        rest.1,
+        more.1,
         ap start (let e : a + 1 + n ≡ a + suc n = omega arith in e),
       ),
     )
@@ -49,12 +50,12 @@ pub counts-frames : (number : Label → ℕ) (label_at : ℕ → Label)
     → CountsFrom number (number (label_at a)) (map label_at (range_with_len a n)) × (length (map label_at (range_with_len a n)) ≡ n)
 counts-frames number label_at goes zero a = (tt, refl)
 counts-frames number label_at goes (suc n) a =
-    let rest = counts-frames number label_at goes n (a + 1) in (
+    let more = counts-frames number label_at goes n (a + 1) in (
       (
         refl,
-        let F : ℕ → Type 0 = λ m. CountsFrom number m (map label_at (range_with_len (a + 1) n)) in subst F (goes a) rest.0,
+        let F : ℕ → Type 0 = λ m. CountsFrom number m (map label_at (range_with_len (a + 1) n)) in subst F (goes a) more.0,
       ),
-      omega (arith, rest.1),
+      omega (arith, more.1),
     )
 
 -- where the labels count from a, one that stands in the list has as its number a and those before it

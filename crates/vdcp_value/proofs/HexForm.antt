@@ -1,3 +1,4 @@
+-- The hexadecimal form of some bytes is theirs alone.
 use Rattle.std.proofs.Common.{ℕ, List, [], ◌∷◌, ◌*◌, ◌/◌, ◌%◌, ◌<◌, ◌≡◌, Bool, true, nat_eq, nat_lt, length, drop, get_or, arith, refl, sym, ap, ap₂, ◌∙◌}
 use Rattle.std.specs.List.{flat_map, list_all}
 use Rattle.vdcp_value.proofs.Bytes.{both_hold}
@@ -29,14 +30,14 @@ one_byte m n below below' high low =
 
 pub length_of_pairs : (bytes : List ℕ) → length (flat_map hex_pair bytes) ≡ 2 * length bytes
 length_of_pairs [] = refl
-length_of_pairs (byte ∷ rest) = omega (arith, length_of_pairs rest)
+length_of_pairs (byte ∷ more) = omega (arith, length_of_pairs more)
 
 pub pairs_are_hex : (bytes : List ℕ) → all_below bytes ≡ true → list_all is_hex_digit (flat_map hex_pair bytes) ≡ true
 pairs_are_hex [] below = refl
-pairs_are_hex (byte ∷ rest) below =
-    let h = both_hold (nat_lt byte 256) (all_below rest) below in
+pairs_are_hex (byte ∷ more) below =
+    let h = both_hold (nat_lt byte 256) (all_below more) below in
     let small : byte < 256 = below_is byte h.0 in
-    rw (digit_is_hex (byte / 16) (omega arith), digit_is_hex (byte % 16) (omega arith)) (pairs_are_hex rest h.1)
+    rw (digit_is_hex (byte / 16) (omega arith), digit_is_hex (byte % 16) (omega arith)) (pairs_are_hex more h.1)
 
 one_pairs : (a b : List ℕ) → all_below a ≡ true → all_below b ≡ true → flat_map hex_pair a ≡ flat_map hex_pair b → a ≡ b
 one_pairs [] [] p q e = refl
@@ -59,9 +60,9 @@ hex_form_long bytes eight = grind (arith, eight, length_of_pairs bytes)
 
 -- what the digits of eight bytes behind 0x are
 pub hex_read : (text bytes : List ℕ) → is_hex_long text ≡ true → flat_map hex_pair bytes ≡ drop 2 text → text ≡ hex_form bytes
-hex_read (a ∷ b ∷ rest) bytes long e =
+hex_read (a ∷ b ∷ more) bytes long e =
     let first : a ≡ 48 = grind (arith, long) in
     let second : b ≡ 120 = grind (arith, long) in
-    ap₂ (λ x y. x ∷ y ∷ rest) first second ∙ ap (λ t. 48 ∷ 120 ∷ t) (sym e)
+    ap₂ (λ x y. x ∷ y ∷ more) first second ∙ ap (λ t. 48 ∷ 120 ∷ t) (sym e)
 hex_read (a ∷ []) bytes long e = absurd (grind (arith, long))
 hex_read [] bytes long e = absurd (grind (arith, long))

@@ -1,3 +1,4 @@
+-- The plain form of some bytes, and their one text.
 use Rattle.std.proofs.Common.{ℕ, zero, suc, List, [], ◌∷◌, ◌++◌, ◌+◌, ◌-◌, ◌≤◌, ◌≡◌, inl, inr, true, false, nat_eq, length, take, drop, replicate, get_or, arith, refl, sym, ap, ◌∙◌, subst, if◌then◌else◌, length-append, append-nil, take_all, true≢false}
 use Rattle.std.specs.List.{list_all}
 use Rattle.std.proofs.lemmas.List.{length-replicate, take_more}
@@ -21,8 +22,8 @@ pub trim-pads : (xs : List ℕ) → (n : ℕ) × (without_end_spaces xs ++ repli
 trim-pads [] = (0, refl)
 trim-pads (x ∷ xs) = kept x xs (without_end_spaces xs) (trim-pads xs)
   where
-    kept : (x : ℕ) (xs rest : List ℕ) → (n : ℕ) × (rest ++ replicate n 32 ≡ xs)
-        → (n : ℕ) × (kept_before x rest ++ replicate n 32 ≡ x ∷ xs)
+    kept : (x : ℕ) (xs more : List ℕ) → (n : ℕ) × (more ++ replicate n 32 ≡ xs)
+        → (n : ℕ) × (kept_before x more ++ replicate n 32 ≡ x ∷ xs)
     kept x xs [] (n, e) =
         elim (both_ways (nat_eq x 32)) [
           | inl h ↦

@@ -1,3 +1,4 @@
+-- A text is refused with one fault only, and an own text with none.
 use Rattle.std.proofs.Common.{ℕ, List, ◌-◌, ◌<◌, ◌≤◌, ◌≡◌, true, false, length, take, drop, get_or, nat_eq, nat_lt, arith, refl, sym, ap, ◌∙◌, inl, inr, true≢false, ◌⊎◌, length-take, Some, None, if◌then◌else◌}
 use Rattle.std.proofs.lemmas.List.Folds.{list_all_at}
 use Rattle.std.proofs.lemmas.List.{get_or-take}
@@ -20,37 +21,37 @@ use Rattle.vdcp_value.specs.declared.rate.Rate.{Rate}
 use Rattle.vdcp_value.specs.declared.timecode.Timecode.{Timecode}
 
 -- which fault a text can have
-abbrev kind_of_text : List ℕ → ℕ
-kind_of_text text =
+abbrev case_of_text : List ℕ → ℕ
+case_of_text text =
     if is_hex_long text then (if list_all is_hex_digit (drop 2 text) then 5 else 4)
     else if nat_eq (length text) 0 then 0
     else if nat_lt 8 (length text) then 1
     else if list_all is_plain_byte text then 3
     else 2
 
-abbrev kind_of_fault : IdFault → ℕ
-kind_of_fault Empty = 0
-kind_of_fault TooLong = 1
-kind_of_fault (BadByte place) = 2
-kind_of_fault EdgeSpace = 3
-kind_of_fault BadHex = 4
-kind_of_fault HasPlainForm = 5
+abbrev case_of_fault : IdFault → ℕ
+case_of_fault Empty = 0
+case_of_fault TooLong = 1
+case_of_fault (BadByte place) = 2
+case_of_fault EdgeSpace = 3
+case_of_fault BadHex = 4
+case_of_fault HasPlainForm = 5
 
 not_all_plain : (text : List ℕ) (place : ℕ) → 1 ≤ place → place ≤ length text → is_plain_byte (get_or text (place - 1) 0) ≡ false
     → list_all is_plain_byte text ≡ false
 not_all_plain text place low high bad = list_all_at is_plain_byte text (place - 1) 0 (omega (arith, low, high)) bad
 
-hex_kind : (bytes : List ℕ) → length bytes ≡ 8 → list_all is_hex_digit (drop 2 (hex_form bytes)) ≡ true → kind_of_text (hex_form bytes) ≡ 5
-hex_kind bytes eight digits = rw (hex_form_long bytes eight, digits) refl
+hex_case : (bytes : List ℕ) → length bytes ≡ 8 → list_all is_hex_digit (drop 2 (hex_form bytes)) ≡ true → case_of_text (hex_form bytes) ≡ 5
+hex_case bytes eight digits = rw (hex_form_long bytes eight, digits) refl
 
-same_kind : (text : List ℕ) (fault : IdFault) → IsIdFault text fault → kind_of_text text ≡ kind_of_fault fault
-same_kind text Empty h = ap kind_of_text h
-same_kind text TooLong h = grind (arith, h.0, h.1)
-same_kind text (BadByte place) h = grind (arith, h.0, h.1, h.2, not_all_plain text place h.1 h.2 h.4)
-same_kind text EdgeSpace h = grind (arith, h.0, h.1, h.2)
-same_kind text BadHex h = grind (arith, h.0, h.1)
-same_kind text HasPlainForm (bytes, b, e, h) =
-    ap kind_of_text e ∙ hex_kind bytes (length_of_bytes 8 bytes b) (pairs_are_hex bytes (all_below_of 8 bytes b))
+same_case : (text : List ℕ) (fault : IdFault) → IsIdFault text fault → case_of_text text ≡ case_of_fault fault
+same_case text Empty h = ap case_of_text h
+same_case text TooLong h = grind (arith, h.0, h.1)
+same_case text (BadByte place) h = grind (arith, h.0, h.1, h.2, not_all_plain text place h.1 h.2 h.4)
+same_case text EdgeSpace h = grind (arith, h.0, h.1, h.2)
+same_case text BadHex h = grind (arith, h.0, h.1)
+same_case text HasPlainForm (bytes, b, e, h) =
+    ap case_of_text e ∙ hex_case bytes (length_of_bytes 8 bytes b) (pairs_are_hex bytes (all_below_of 8 bytes b))
 
 eq-or-lt : (p q : ℕ) → (p ≡ q) ⊎ ((p < q) ⊎ (q < p))
 eq-or-lt p q =
@@ -91,7 +92,7 @@ one_fault text (BadByte p) (BadByte q) h k = ap BadByte (one_place text p q h k)
 one_fault text EdgeSpace EdgeSpace h k = refl
 one_fault text BadHex BadHex h k = refl
 one_fault text HasPlainForm HasPlainForm h k = refl
-one_fault text a b h k = absurd (omega (arith, sym (same_kind text a h) ∙ same_kind text b k))
+one_fault text a b h k = absurd (omega (arith, sym (same_case text a h) ∙ same_case text b k))
 
 -- a text writes one label, which has one fault
 one_label_fault : (rate : Rate) (text : List ℕ) (a b : TcFault)

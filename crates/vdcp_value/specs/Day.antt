@@ -1,3 +1,4 @@
+-- The labels of a day in order, and the frame number of a label.
 use Rattle.std.specs.List.{flat_map, list_any, range_with_len}
 use Rattle.std.specs.Prelude.{ℕ, suc, List, [], ◌∷◌, ◌&&◌, map, filter, not, nat_eq, Bool, IsTrue, if◌then◌else◌}
 use Rattle.vdcp_value.specs.Labels.{frames_per_second, is_dropped}
@@ -37,7 +38,7 @@ Stands label labels = IsTrue (list_any (is_same label) labels)
 -- how many labels of a list stand before this one
 abbrev pub labels_before : Label → List Label → ℕ
 labels_before label [] = 0
-labels_before label (other ∷ rest) = if is_same label other then 0 else suc (labels_before label rest)
+labels_before label (other ∷ more) = if is_same label other then 0 else suc (labels_before label more)
 
 -- the frame number of a label: how many lawful labels stand before it in the day
 unfoldable pub frame_number : Rate → Label → ℕ

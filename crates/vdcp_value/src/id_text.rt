@@ -48,11 +48,11 @@ pub(crate) fn is_hex_long(text: &[u8]) -> bool
 pub(crate) fn without_end_spaces(bytes: &[u8]) -> &[u8]
     ensures { result.now ≡ without_end_spaces bytes.now }
 {
-    let mut rest = bytes;
-    while let [front @ .., b' '] = rest {
-        rest = front;
+    let mut kept = bytes;
+    while let [front @ .., b' '] = kept {
+        kept = front;
     }
-    rest
+    kept
 }
 
 /// Appends a plain text.

@@ -1,6 +1,7 @@
 -- Example bytes and texts of the words, computed from the tables.
 use Rattle.std.proofs.Common.{◌≡◌, ℕ, true, false, List, [], ◌∷◌, refl, Ok, Some, None}
 use Rattle.std.specs.Prelude.{codes}
+use Rattle.vdcp_value.specs.Ids.{id_of}
 use Rattle.vdcp_value.specs.declared.clip_id.ClipId.{ClipId}
 use Rattle.vdcp_frame.specs.Message.{spelling}
 use Rattle.vdcp_words.specs.declared.command.Command.TheVariants.{Open, Close, Select, PlayCue, CueData, Play, Stop, Status, ActiveId, IdRequest, IdSize}
@@ -11,13 +12,13 @@ use Rattle.vdcp_words.specs.Computed.{command_of, reply_of}
 use Rattle.vdcp_words.specs.Texts.{command_text, reply_text}
 
 abbrev first : ClipId
-first = record { bytes = codes "CLIP0001"; eight = refl }
+first = id_of (codes "CLIP0001")
 
 abbrev second : ClipId
-second = record { bytes = codes "CLIP0002"; eight = refl }
+second = id_of (codes "CLIP0002")
 
 abbrev spaces : ClipId
-spaces = record { bytes = codes "        "; eight = refl }
+spaces = id_of (codes "        ")
 
 abbrev two_seconds : List ℕ
 two_seconds = 0x00 ∷ 0x02 ∷ 0x00 ∷ 0x00 ∷ []

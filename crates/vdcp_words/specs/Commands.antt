@@ -1,3 +1,4 @@
+-- The table of commands: the message of each, and what a message is read as.
 use Rattle.std.specs.Prelude.{ℕ, ◌≡◌, ◌≢◌, ◌<◌, [], ◌∷◌, ◌++◌, length, Result, Ok, Err}
 use Rattle.vdcp_value.specs.Bytes.{AreBytes}
 use Rattle.vdcp_value.specs.Ids.{id_bytes}

@@ -1,3 +1,4 @@
+-- Messages by type, code and data.
 use Rattle.std.specs.Prelude.{ℕ, ◌≡◌, List, []}
 use Rattle.vdcp_frame.specs.Message.{Content, ack, nak, framed}
 

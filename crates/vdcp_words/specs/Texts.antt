@@ -1,3 +1,4 @@
+-- The texts of commands and replies.
 use Rattle.std.specs.Prelude.{ℕ, true, false, List, ◌++◌, codes, Some, None}
 use Rattle.std.specs.List.{flat_map}
 use Rattle.vdcp_value.specs.IdText.{hex_pair}

@@ -7,10 +7,10 @@ ghost use Rattle.vdcp_auto.specs.Turn as turns;
 
 use crate::controller::Controller;
 use crate::exchange::Exchange;
+use crate::meaning;
 use crate::outcome::Outcome;
 use crate::phase::{Mode, Phase, Turn};
 use crate::source::Source;
-use crate::words;
 use vdcp_words::{Command, Reply};
 
 /// The lock byte of OPEN PORT.
@@ -29,7 +29,7 @@ impl<S: Source> Controller<S> {
             Phase::Select => Command::Select(self.port),
             Phase::Seen => Command::Status(STATE),
             Phase::Exists(k) => Command::IdRequest(self.source.at(k).id),
-            Phase::Cue(k) => words::cue_of(&self.source.at(k)),
+            Phase::Cue(k) => meaning::cue_of(&self.source.at(k)),
             Phase::Wait(_) => Command::Status(STATE),
             Phase::Play(_) => Command::Play,
             Phase::Probe(_) => Command::Status(STATE),
@@ -50,11 +50,11 @@ impl<S: Source> Controller<S> {
             ≡ turns.turn_of (plan_of S.items self.now) self.now.state phase exchange.now }
         ensures within { IsTurnIn S.items self.now result }
     {
-        match words::answer_in(exchange) {
-            Some(reply) if words::is_refusal(&reply) => self.on_refusal(phase),
+        match meaning::answer_in(exchange) {
+            Some(reply) if meaning::is_refusal(&reply) => self.on_refusal(phase),
             Some(reply) => self.on_reply(phase, &reply),
             None
-                if words::is_counted(self.mode, exchange)
+                if meaning::is_counted(self.mode, exchange)
                     && self.state.unanswered + 1 >= self.limit => { Turn::Ends(Outcome::Lost) }
             None => self.on_no_answer(phase),
         }
@@ -68,19 +68,19 @@ impl<S: Source> Controller<S> {
         ensures within { IsTurnIn S.items self.now result }
     {
         match phase {
-            Phase::Open if words::is_granted(reply) => Turn::Goes(Phase::Select),
+            Phase::Open if meaning::is_granted(reply) => Turn::Goes(Phase::Select),
             Phase::Open => Turn::Ends(Outcome::Denied),
             Phase::Select => Turn::Goes(self.next(0)),
             Phase::Seen => Turn::Goes(self.next(0)),
-            Phase::Exists(k) if words::is_present(reply) => Turn::Goes(Phase::Cue(k)),
+            Phase::Exists(k) if meaning::is_present(reply) => Turn::Goes(Phase::Cue(k)),
             Phase::Exists(k) => Turn::Ends(Outcome::Missing(k)),
             Phase::Cue(k) => Turn::Goes(Phase::Wait(k)),
             Phase::Wait(k) => self.on_state_in_wait(k, reply),
             Phase::Play(k) => Turn::Settles(k),
-            Phase::Probe(k) if words::is_done(reply) => Turn::Goes(Phase::Play(k)),
-            Phase::Probe(k) if words::is_empty(reply) => Turn::Settles(k),
+            Phase::Probe(k) if meaning::is_done(reply) => Turn::Goes(Phase::Play(k)),
+            Phase::Probe(k) if meaning::is_empty(reply) => Turn::Settles(k),
             Phase::Probe(k) => Turn::Goes(Phase::Probe(k)),
-            Phase::Check(k) if words::names_other(&self.source.at(k), reply) => {
+            Phase::Check(k) if meaning::names_other(&self.source.at(k), reply) => {
                 Turn::Ends(Outcome::Foreign(k))
             }
             Phase::Check(k) => Turn::Goes(self.next(k + 1)),
@@ -131,9 +131,9 @@ impl<S: Source> Controller<S> {
             self.now.limit self.now.state.take self.now.state.tries (Phase.Wait k) reply.now }
         ensures within { IsTurnIn S.items self.now result }
     {
-        if words::is_done(reply) && (!words::is_playing(reply) || self.state.take) {
+        if meaning::is_done(reply) && (!meaning::is_playing(reply) || self.state.take) {
             Turn::Goes(Phase::Play(k))
-        } else if words::is_empty(reply) {
+        } else if meaning::is_empty(reply) {
             self.on_lost_cue(k)
         } else {
             Turn::Goes(Phase::Wait(k))
@@ -160,9 +160,9 @@ impl<S: Source> Controller<S> {
             self.now.limit self.now.state.take self.now.state.tries Phase.Drain reply.now }
         ensures within { IsTurnIn S.items self.now result }
     {
-        if words::is_cueing(reply) || words::is_done(reply) {
+        if meaning::is_cueing(reply) || meaning::is_done(reply) {
             Turn::Ends(Outcome::Strange(self.source.len()))
-        } else if words::is_playing(reply) {
+        } else if meaning::is_playing(reply) {
             Turn::Goes(Phase::Drain)
         } else {
             Turn::Goes(Phase::Close)

@@ -80,7 +80,7 @@ impl Segment {
 }
 
 impl Source for Segment {
-    ghost items = { λ c. record { id = c.id; part = Some (record { start = 0 ∷ 2 ∷ 0 ∷ 0 ∷ []; duration = 0 ∷ 3 ∷ 0 ∷ 0 ∷ [] }) } ∷ [] };
+    ghost items = { λ c. record { id = c.id; part = Some (record { start = 0 ∷ 8 ∷ 0 ∷ 0 ∷ []; duration = 0 ∷ 3 ∷ 0 ∷ 0 ∷ [] }) } ∷ [] };
 
     ghost countable = { Prim.search (rules, common_steps) };
 
@@ -92,7 +92,7 @@ impl Source for Segment {
 
     fn at(&self, _k: usize) -> Item {
         let part = Part {
-            start: [0x00, 0x02, 0x00, 0x00],
+            start: [0x00, 0x08, 0x00, 0x00],
             duration: [0x00, 0x03, 0x00, 0x00],
         };
         Item {

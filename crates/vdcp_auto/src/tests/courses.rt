@@ -7,40 +7,109 @@ use crate::exchange::{Exchange, Heard, Input};
 use crate::outcome::Outcome;
 use crate::rehearsal::{rehearse, rehearse_confirming};
 use linked_list_allocator::LocalHeap;
+use std::process::Abort;
 use std::test::Fail;
 use vdcp_value::ClipId;
 use vdcp_words::{Command, Reply};
 
-/// What happens to a controller, and how many exchanges, which outcome and how many settled events
-/// that gives.
+/// What happens to a controller, and the commands of the exchanges, the outcome and the number of
+/// settled events which that gives.
 #[derive(Clone, Copy)]
 struct Case<'a> {
     name: &'static str,
     clips: Clips,
     inputs: &'a [Input],
-    exchanges: usize,
+    commands: &'a [Command],
     outcome: Option<Outcome>,
     settled: usize,
+}
+
+const SILENCE: Input = Input::Silence;
+
+const OPEN: Command = Command::Open(0x01, 0x01);
+
+const SELECT: Command = Command::Select(0x01);
+
+const STATUS: Command = Command::Status(0x01);
+
+const CLOSE: Command = Command::Close(0x01);
+
+fn check_commands(rt: &impl Abort, log: &[Exchange], commands: &[Command], name: &str) {
+    assert_eq!(rt; log.len(), commands.len(), "{name}");
+    for (exchange, command) in log.iter().zip(commands) {
+        assert_eq!(rt; exchange.command, *command, "{name}");
+    }
 }
 
 #[test]
 fn plain_courses(rt: HostRuntime) -> Result<(), Fail> {
     let one_plays = plays(ONE);
     let two_plays = plays(TWO);
+    let request_one = Command::IdRequest(ClipId::new(ONE));
+    let request_two = Command::IdRequest(ClipId::new(TWO));
+    let request_nine = Command::IdRequest(ClipId::new(NINE));
+    let cue_one = Command::PlayCue(ClipId::new(ONE));
+    let cue_two = Command::PlayCue(ClipId::new(TWO));
     let cases = [
         Case {
             name: "an empty list closes at once",
             clips: Clips::none(),
             inputs: &[GRANTED, ACK, IDLE, ACK],
-            exchanges: 4,
+            commands: &[OPEN, SELECT, STATUS, CLOSE],
             outcome: Some(Outcome::Done),
             settled: 0,
+        },
+        Case {
+            name: "two clips air one after another",
+            clips: Clips::two(ONE, TWO),
+            inputs: &[
+                GRANTED,
+                ACK,
+                PRESENT,
+                ACK,
+                CUED,
+                ACK,
+                NOTHING_PLAYS,
+                PRESENT,
+                ACK,
+                CUED,
+                ACK,
+                NOTHING_PLAYS,
+                IDLE,
+                ACK,
+            ],
+            commands: &[
+                OPEN,
+                SELECT,
+                request_one,
+                cue_one,
+                STATUS,
+                Command::Play,
+                Command::ActiveId,
+                request_two,
+                cue_two,
+                STATUS,
+                Command::Play,
+                Command::ActiveId,
+                STATUS,
+                CLOSE,
+            ],
+            outcome: Some(Outcome::Done),
+            settled: 2,
         },
         Case {
             name: "another clip plays",
             clips: Clips::one(ONE),
             inputs: &[GRANTED, ACK, PRESENT, ACK, CUED, ACK, two_plays],
-            exchanges: 7,
+            commands: &[
+                OPEN,
+                SELECT,
+                request_one,
+                cue_one,
+                STATUS,
+                Command::Play,
+                Command::ActiveId,
+            ],
             outcome: Some(Outcome::Foreign(0)),
             settled: 1,
         },
@@ -48,7 +117,7 @@ fn plain_courses(rt: HostRuntime) -> Result<(), Fail> {
             name: "the cue is gone",
             clips: Clips::one(ONE),
             inputs: &[GRANTED, ACK, PRESENT, ACK, IDLE],
-            exchanges: 5,
+            commands: &[OPEN, SELECT, request_one, cue_one, STATUS],
             outcome: Some(Outcome::Strange(0)),
             settled: 0,
         },
@@ -56,7 +125,7 @@ fn plain_courses(rt: HostRuntime) -> Result<(), Fail> {
             name: "the cue is refused",
             clips: Clips::one(ONE),
             inputs: &[GRANTED, ACK, PRESENT, REFUSAL],
-            exchanges: 4,
+            commands: &[OPEN, SELECT, request_one, cue_one],
             outcome: Some(Outcome::Refused(0)),
             settled: 0,
         },
@@ -64,21 +133,24 @@ fn plain_courses(rt: HostRuntime) -> Result<(), Fail> {
             name: "an unread play is probed and sent again",
             clips: Clips::one(ONE),
             inputs: &[GRANTED, ACK, PRESENT, ACK, CUED, UNREAD, CUED, ACK],
-            exchanges: 8,
+            commands: &[
+                OPEN,
+                SELECT,
+                request_one,
+                cue_one,
+                STATUS,
+                Command::Play,
+                STATUS,
+                Command::Play,
+            ],
             outcome: None,
             settled: 1,
         },
         Case {
             name: "silences under the limit",
             clips: Clips::one(ONE),
-            inputs: &[
-                Input::Silence,
-                Input::Silence,
-                GRANTED,
-                Input::Silence,
-                Input::Silence,
-            ],
-            exchanges: 5,
+            inputs: &[SILENCE, SILENCE, GRANTED, SILENCE, SILENCE],
+            commands: &[OPEN, OPEN, OPEN, SELECT, SELECT],
             outcome: None,
             settled: 0,
         },
@@ -86,7 +158,7 @@ fn plain_courses(rt: HostRuntime) -> Result<(), Fail> {
             name: "the port is denied",
             clips: Clips::one(ONE),
             inputs: &[DENIED],
-            exchanges: 1,
+            commands: &[OPEN],
             outcome: Some(Outcome::Denied),
             settled: 0,
         },
@@ -94,7 +166,7 @@ fn plain_courses(rt: HostRuntime) -> Result<(), Fail> {
             name: "a state without a byte is no answer",
             clips: Clips::none(),
             inputs: &[GRANTED, NO_STATE, ACK],
-            exchanges: 3,
+            commands: &[OPEN, SELECT, SELECT],
             outcome: None,
             settled: 0,
         },
@@ -113,14 +185,31 @@ fn plain_courses(rt: HostRuntime) -> Result<(), Fail> {
                 ACK,
                 Input::Take,
                 CUED_AND_PLAYING,
-                Input::Silence,
+                SILENCE,
                 CUED_AND_PLAYING,
                 ACK,
                 NOTHING_PLAYS,
                 IDLE,
                 ACK,
             ],
-            exchanges: 16,
+            commands: &[
+                OPEN,
+                SELECT,
+                request_one,
+                cue_one,
+                STATUS,
+                Command::Play,
+                Command::ActiveId,
+                request_one,
+                cue_one,
+                STATUS,
+                Command::Play,
+                STATUS,
+                Command::Play,
+                Command::ActiveId,
+                STATUS,
+                CLOSE,
+            ],
             outcome: Some(Outcome::Done),
             settled: 2,
         },
@@ -138,13 +227,29 @@ fn plain_courses(rt: HostRuntime) -> Result<(), Fail> {
                 PRESENT,
                 ACK,
                 CUED,
-                Input::Silence,
+                SILENCE,
                 PLAYING,
                 NOTHING_PLAYS,
                 IDLE,
                 ACK,
             ],
-            exchanges: 15,
+            commands: &[
+                OPEN,
+                SELECT,
+                request_one,
+                cue_one,
+                STATUS,
+                Command::Play,
+                Command::ActiveId,
+                request_one,
+                cue_one,
+                STATUS,
+                Command::Play,
+                STATUS,
+                Command::ActiveId,
+                STATUS,
+                CLOSE,
+            ],
             outcome: Some(Outcome::Done),
             settled: 2,
         },
@@ -163,7 +268,18 @@ fn plain_courses(rt: HostRuntime) -> Result<(), Fail> {
                 IDLE,
                 ACK,
             ],
-            exchanges: 10,
+            commands: &[
+                OPEN,
+                SELECT,
+                request_one,
+                cue_one,
+                STATUS,
+                Command::Play,
+                STATUS,
+                Command::ActiveId,
+                STATUS,
+                CLOSE,
+            ],
             outcome: Some(Outcome::Done),
             settled: 1,
         },
@@ -171,28 +287,32 @@ fn plain_courses(rt: HostRuntime) -> Result<(), Fail> {
             name: "a missing clip ends the list",
             clips: Clips::two(ONE, NINE),
             inputs: &[GRANTED, ACK, PRESENT, ACK, CUED, ACK, NOTHING_PLAYS, ABSENT],
-            exchanges: 8,
+            commands: &[
+                OPEN,
+                SELECT,
+                request_one,
+                cue_one,
+                STATUS,
+                Command::Play,
+                Command::ActiveId,
+                request_nine,
+            ],
             outcome: Some(Outcome::Missing(1)),
             settled: 1,
         },
         Case {
             name: "two silences are under the limit",
             clips: Clips::one(ONE),
-            inputs: &[Input::Silence, Input::Silence],
-            exchanges: 2,
+            inputs: &[SILENCE, SILENCE],
+            commands: &[OPEN, OPEN],
             outcome: None,
             settled: 0,
         },
         Case {
             name: "three silences lose the port",
             clips: Clips::one(ONE),
-            inputs: &[
-                Input::Silence,
-                Input::Silence,
-                Input::Silence,
-                Input::Silence,
-            ],
-            exchanges: 3,
+            inputs: &[SILENCE, SILENCE, SILENCE, SILENCE],
+            commands: &[OPEN, OPEN, OPEN],
             outcome: Some(Outcome::Lost),
             settled: 0,
         },
@@ -214,7 +334,20 @@ fn plain_courses(rt: HostRuntime) -> Result<(), Fail> {
                 CUED_AND_PLAYING,
                 ACK,
             ],
-            exchanges: 12,
+            commands: &[
+                OPEN,
+                SELECT,
+                request_one,
+                cue_one,
+                STATUS,
+                Command::Play,
+                Command::ActiveId,
+                request_two,
+                cue_two,
+                STATUS,
+                STATUS,
+                Command::Play,
+            ],
             outcome: None,
             settled: 2,
         },
@@ -222,14 +355,22 @@ fn plain_courses(rt: HostRuntime) -> Result<(), Fail> {
             name: "a stop is obeyed at once",
             clips: Clips::one(ONE),
             inputs: &[GRANTED, ACK, Input::Stop, ACK, ACK],
-            exchanges: 4,
+            commands: &[OPEN, SELECT, Command::Stop, CLOSE],
             outcome: Some(Outcome::Stopped),
+            settled: 0,
+        },
+        Case {
+            name: "a refusal is an answer, behind which silences count anew",
+            clips: Clips::one(ONE),
+            inputs: &[Input::Stop, SILENCE, SILENCE, REFUSAL, SILENCE, SILENCE],
+            commands: &[Command::Stop, Command::Stop, Command::Stop, CLOSE, CLOSE],
+            outcome: None,
             settled: 0,
         },
     ];
     for case in &cases {
         let log = rehearse(rt.alloc(), case.clips, 0x01, 3, case.inputs)?;
-        assert_eq!(rt; log.len(), case.exchanges, "{}", case.name);
+        check_commands(&rt, &log, case.commands, case.name);
         let mut controller = Controller::new(case.clips, 0x01, 3);
         assert!(rt; !controller.is_confirming());
         drive(&mut controller, case.inputs);
@@ -241,12 +382,17 @@ fn plain_courses(rt: HostRuntime) -> Result<(), Fail> {
 
 #[test]
 fn confirming_courses(rt: HostRuntime) -> Result<(), Fail> {
+    let two_plays = plays(TWO);
+    let request_one = Command::IdRequest(ClipId::new(ONE));
+    let request_two = Command::IdRequest(ClipId::new(TWO));
+    let cue_one = Command::PlayCue(ClipId::new(ONE));
+    let cue_two = Command::PlayCue(ClipId::new(TWO));
     let cases = [
         Case {
             name: "an empty list",
             clips: Clips::none(),
-            inputs: &[GRANTED, Input::Silence, IDLE, IDLE, Input::Silence],
-            exchanges: 5,
+            inputs: &[GRANTED, SILENCE, IDLE, IDLE, SILENCE],
+            commands: &[OPEN, SELECT, STATUS, STATUS, CLOSE],
             outcome: Some(Outcome::Done),
             settled: 0,
         },
@@ -256,21 +402,33 @@ fn confirming_courses(rt: HostRuntime) -> Result<(), Fail> {
             inputs: &[
                 GRANTED,
                 ACK,
-                Input::Silence,
+                SILENCE,
                 IDLE,
                 PRESENT,
                 ACK,
-                Input::Silence,
+                SILENCE,
                 CUED,
                 ACK,
-                Input::Silence,
+                SILENCE,
                 IDLE,
                 NOTHING_PLAYS,
                 IDLE,
                 ACK,
-                Input::Silence,
+                SILENCE,
             ],
-            exchanges: 11,
+            commands: &[
+                OPEN,
+                SELECT,
+                STATUS,
+                request_one,
+                cue_one,
+                STATUS,
+                Command::Play,
+                STATUS,
+                Command::ActiveId,
+                STATUS,
+                CLOSE,
+            ],
             outcome: Some(Outcome::Done),
             settled: 1,
         },
@@ -278,7 +436,7 @@ fn confirming_courses(rt: HostRuntime) -> Result<(), Fail> {
             name: "receipts end no request",
             clips: Clips::one(ONE),
             inputs: &[REFUSAL, ACK],
-            exchanges: 0,
+            commands: &[],
             outcome: None,
             settled: 0,
         },
@@ -288,24 +446,38 @@ fn confirming_courses(rt: HostRuntime) -> Result<(), Fail> {
             inputs: &[
                 GRANTED,
                 ACK,
-                Input::Silence,
+                SILENCE,
                 IDLE,
                 PRESENT,
                 ACK,
-                Input::Silence,
+                SILENCE,
                 CUED,
                 ACK,
-                Input::Silence,
+                SILENCE,
                 CUED,
                 ACK,
-                Input::Silence,
+                SILENCE,
                 IDLE,
                 NOTHING_PLAYS,
                 IDLE,
                 ACK,
-                Input::Silence,
+                SILENCE,
             ],
-            exchanges: 13,
+            commands: &[
+                OPEN,
+                SELECT,
+                STATUS,
+                request_one,
+                cue_one,
+                STATUS,
+                Command::Play,
+                STATUS,
+                Command::Play,
+                STATUS,
+                Command::ActiveId,
+                STATUS,
+                CLOSE,
+            ],
             outcome: Some(Outcome::Done),
             settled: 1,
         },
@@ -313,16 +485,18 @@ fn confirming_courses(rt: HostRuntime) -> Result<(), Fail> {
             name: "two lost cues are under the limit",
             clips: Clips::one(ONE),
             inputs: &[
-                GRANTED,
-                Input::Silence,
-                IDLE,
-                PRESENT,
-                Input::Silence,
-                IDLE,
-                Input::Silence,
-                IDLE,
+                GRANTED, SILENCE, IDLE, PRESENT, SILENCE, IDLE, SILENCE, IDLE,
             ],
-            exchanges: 8,
+            commands: &[
+                OPEN,
+                SELECT,
+                STATUS,
+                request_one,
+                cue_one,
+                STATUS,
+                cue_one,
+                STATUS,
+            ],
             outcome: None,
             settled: 0,
         },
@@ -330,33 +504,165 @@ fn confirming_courses(rt: HostRuntime) -> Result<(), Fail> {
             name: "three lost cues are a refusal",
             clips: Clips::one(ONE),
             inputs: &[
-                GRANTED,
-                Input::Silence,
-                IDLE,
-                PRESENT,
-                Input::Silence,
-                IDLE,
-                Input::Silence,
-                IDLE,
-                Input::Silence,
-                IDLE,
+                GRANTED, SILENCE, IDLE, PRESENT, SILENCE, IDLE, SILENCE, IDLE, SILENCE, IDLE,
             ],
-            exchanges: 10,
+            commands: &[
+                OPEN,
+                SELECT,
+                STATUS,
+                request_one,
+                cue_one,
+                STATUS,
+                cue_one,
+                STATUS,
+                cue_one,
+                STATUS,
+            ],
             outcome: Some(Outcome::Refused(0)),
             settled: 0,
         },
         Case {
+            name: "each event has its own tries",
+            clips: Clips::two(ONE, TWO),
+            inputs: &[
+                GRANTED,
+                SILENCE,
+                IDLE,
+                PRESENT,
+                SILENCE,
+                IDLE,
+                SILENCE,
+                IDLE,
+                SILENCE,
+                CUED,
+                SILENCE,
+                PLAYING,
+                NOTHING_PLAYS,
+                PRESENT,
+                SILENCE,
+                IDLE,
+                SILENCE,
+                IDLE,
+            ],
+            commands: &[
+                OPEN,
+                SELECT,
+                STATUS,
+                request_one,
+                cue_one,
+                STATUS,
+                cue_one,
+                STATUS,
+                cue_one,
+                STATUS,
+                Command::Play,
+                STATUS,
+                Command::ActiveId,
+                request_two,
+                cue_two,
+                STATUS,
+                cue_two,
+                STATUS,
+            ],
+            outcome: None,
+            settled: 1,
+        },
+        Case {
             name: "three unanswered requests lose the port",
             clips: Clips::one(ONE),
-            inputs: &[Input::Silence, Input::Silence, Input::Silence],
-            exchanges: 3,
+            inputs: &[SILENCE, SILENCE, SILENCE],
+            commands: &[OPEN, OPEN, OPEN],
             outcome: Some(Outcome::Lost),
+            settled: 0,
+        },
+        Case {
+            name: "three times it isn't seen whether the port is selected",
+            clips: Clips::one(ONE),
+            inputs: &[
+                GRANTED, SILENCE, SILENCE, SILENCE, SILENCE, SILENCE, SILENCE,
+            ],
+            commands: &[OPEN, SELECT, STATUS, SELECT, STATUS, SELECT, STATUS],
+            outcome: Some(Outcome::Lost),
+            settled: 0,
+        },
+        Case {
+            name: "the port is denied",
+            clips: Clips::one(ONE),
+            inputs: &[DENIED],
+            commands: &[OPEN],
+            outcome: Some(Outcome::Denied),
+            settled: 0,
+        },
+        Case {
+            name: "a missing clip ends the list",
+            clips: Clips::one(ONE),
+            inputs: &[GRANTED, SILENCE, IDLE, ABSENT],
+            commands: &[OPEN, SELECT, STATUS, request_one],
+            outcome: Some(Outcome::Missing(0)),
+            settled: 0,
+        },
+        Case {
+            name: "another clip plays",
+            clips: Clips::one(ONE),
+            inputs: &[
+                GRANTED, SILENCE, IDLE, PRESENT, SILENCE, CUED, SILENCE, IDLE, two_plays,
+            ],
+            commands: &[
+                OPEN,
+                SELECT,
+                STATUS,
+                request_one,
+                cue_one,
+                STATUS,
+                Command::Play,
+                STATUS,
+                Command::ActiveId,
+            ],
+            outcome: Some(Outcome::Foreign(0)),
+            settled: 1,
+        },
+        Case {
+            name: "a stop while a play is awaited",
+            clips: Clips::one(ONE),
+            inputs: &[
+                GRANTED,
+                SILENCE,
+                IDLE,
+                PRESENT,
+                SILENCE,
+                CUED,
+                ACK,
+                Input::Stop,
+                SILENCE,
+                SILENCE,
+                SILENCE,
+            ],
+            commands: &[
+                OPEN,
+                SELECT,
+                STATUS,
+                request_one,
+                cue_one,
+                STATUS,
+                Command::Play,
+                Command::Stop,
+                CLOSE,
+            ],
+            outcome: Some(Outcome::Stopped),
+            settled: 0,
+        },
+        Case {
+            name: "a stop while the stop is awaited",
+            clips: Clips::one(ONE),
+            inputs: &[Input::Stop, ACK, Input::Stop, SILENCE, SILENCE],
+            commands: &[Command::Stop, CLOSE],
+            outcome: Some(Outcome::Stopped),
             settled: 0,
         },
     ];
     for case in &cases {
         let log = rehearse_confirming(rt.alloc(), case.clips, 0x01, 3, case.inputs)?;
-        assert_eq!(rt; log.len(), case.exchanges, "{}", case.name);
+        check_commands(&rt, &log, case.commands, case.name);
         let mut controller = Controller::confirming(case.clips, 0x01, 3);
         assert!(rt; controller.is_confirming());
         drive(&mut controller, case.inputs);
@@ -399,38 +705,58 @@ fn exchanges_of_an_empty_list(rt: HostRuntime) -> Result<(), Fail> {
 }
 
 #[test]
-fn commands_of_an_unread_play(rt: HostRuntime) -> Result<(), Fail> {
+fn a_refused_part(rt: HostRuntime) -> Result<(), Fail> {
     let id = ClipId::new(ONE);
-    let inputs = [GRANTED, ACK, PRESENT, ACK, CUED, UNREAD, CUED, ACK];
-    let log = rehearse(rt.alloc(), Clips::one(ONE), 0x01, 3, &inputs)?;
-    let commands = [
-        Command::Open(0x01, 0x01),
-        Command::Select(0x01),
-        Command::IdRequest(id),
-        Command::PlayCue(id),
-        Command::Status(0x01),
-        Command::Play,
-        Command::Status(0x01),
-        Command::Play,
+    let segment = Segment::new(id);
+    let request = Command::IdRequest(id);
+    let cue = Command::CueData(id, [0x00, 0x08, 0x00, 0x00], [0x00, 0x03, 0x00, 0x00]);
+    let inputs = [GRANTED, ACK, PRESENT, REFUSAL, IDLE];
+    let log = rehearse(rt.alloc(), segment, 0x01, 3, &inputs)?;
+    check_commands(&rt, &log, &[OPEN, SELECT, request, cue], "in plain mode");
+
+    let unheard = [
+        GRANTED, SILENCE, IDLE, PRESENT, REFUSAL, SILENCE, IDLE, REFUSAL, SILENCE, IDLE, REFUSAL,
+        SILENCE, IDLE, IDLE,
     ];
-    assert_eq!(rt; log.len(), commands.len());
-    for (exchange, command) in log.iter().zip(&commands) {
-        assert_eq!(rt; exchange.command, *command);
-    }
+    let log = rehearse_confirming(rt.alloc(), segment, 0x01, 3, &unheard)?;
+    let commands = [
+        OPEN, SELECT, STATUS, request, cue, STATUS, cue, STATUS, cue, STATUS,
+    ];
+    check_commands(&rt, &log, &commands, "in confirm mode");
     Ok(())
 }
 
 #[test]
-fn a_part_is_cued_with_its_data(rt: HostRuntime) -> Result<(), Fail> {
-    let id = ClipId::new(ONE);
-    let segment = Segment::new(id);
-    let log = rehearse(rt.alloc(), segment, 0x01, 3, &[GRANTED, ACK, PRESENT, ACK])?;
-    assert_eq!(rt; log.len(), 4);
-    assert_eq!(rt;
-        log[3].command,
-        Command::CueData(id, [0x00, 0x02, 0x00, 0x00], [0x00, 0x03, 0x00, 0x00])
-    );
-    Ok(())
+fn a_stop_while_play_is_awaited(rt: HostRuntime) {
+    let mut controller = Controller::new(Clips::one(ONE), 0x01, 3);
+    drive(&mut controller, &[GRANTED, ACK, PRESENT, ACK, CUED]);
+    assert_eq!(rt; controller.tick(), Some(Command::Play));
+    controller.stop();
+    let silent = Exchange {
+        command: Command::Play,
+        heard: None,
+    };
+    assert_eq!(rt; controller.receive(None), Some(silent));
+    assert_eq!(rt; controller.tick(), Some(Command::Stop));
+    controller.hear(&Heard::Reply(Reply::Ack));
+    assert_eq!(rt; controller.tick(), Some(CLOSE));
+    controller.hear(&Heard::Reply(Reply::Ack));
+    assert_eq!(rt; controller.outcome(), Some(Outcome::Stopped));
+    assert_eq!(rt; controller.settled(), 0);
+    controller.stop();
+    assert_eq!(rt; controller.outcome(), Some(Outcome::Stopped));
+    assert!(rt; !controller.is_ready());
+    assert_eq!(rt; controller.tick(), None);
+}
+
+#[test]
+fn an_unanswered_play_is_lost_at_limit_one(rt: HostRuntime) {
+    let mut controller = Controller::new(Clips::one(ONE), 0x01, 1);
+    drive(&mut controller, &[GRANTED, ACK, PRESENT, ACK, CUED]);
+    assert!(rt; controller.is_ready());
+    assert_eq!(rt; controller.tick(), Some(Command::Play));
+    controller.timeout();
+    assert_eq!(rt; controller.outcome(), Some(Outcome::Lost));
 }
 
 #[test]

@@ -4,7 +4,6 @@ use super::clips::{
 };
 use crate::controller::Controller;
 use crate::exchange::Input;
-use crate::outcome::Outcome;
 use crate::source::Source;
 use vdcp_value::ClipId;
 use vdcp_words::Command;
@@ -80,18 +79,6 @@ fn stop_after_a_lost_play_and_before_selection_is_seen(rt: HostRuntime) {
     let mut unseen = Controller::confirming(Clips::one(ONE), 0x01, 3);
     drive(&mut unseen, &[GRANTED, SILENCE, Input::Stop]);
     assert_eq!(rt; unseen.tick(), Some(Command::Stop));
-}
-
-#[test]
-fn stop_while_play_is_awaited(rt: HostRuntime) {
-    let mut controller = Controller::new(Clips::one(ONE), 0x01, 3);
-    drive(&mut controller, &CUE);
-    assert_eq!(rt; controller.tick(), Some(Command::Play));
-    controller.stop();
-    controller.timeout();
-    drive(&mut controller, &[ACK, ACK]);
-    assert_eq!(rt; controller.outcome(), Some(Outcome::Stopped));
-    assert_eq!(rt; controller.settled(), 0);
 }
 
 #[test]

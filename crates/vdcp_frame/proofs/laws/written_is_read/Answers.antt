@@ -1,4 +1,6 @@
+-- What was written is read again.
 use Rattle.vdcp_frame.proofs.ReadingLemmas.{read_again, read_alone}
+use Rattle.vdcp_frame.proofs.SpellingLemmas.{written_computed}
 use Rattle.vdcp_frame.proofs.laws.written_is_read.Goals as goal
 
 pub returns-clause-first : goal.returns-clause-first
@@ -6,3 +8,6 @@ returns-clause-first c = read_again 4096
 
 pub returns-clause-alone : goal.returns-clause-alone
 returns-clause-alone c = read_alone 4096
+
+pub returns-clause-computed : goal.returns-clause-computed
+returns-clause-computed c = written_computed

@@ -42,7 +42,7 @@ returns-in-Ok-false-clause-refused g c =
     let some : c.in_ok-next_row.field-0 ≡ true = grind (arith, common_steps) in
     let few : c.loop-read.read < most_rows = omega arith in
     of_bytes (g.R.Read.remaining c.args.reader) (λ rows. IsCatalogueFault c.args.rate rows (Twice (c.loop-read.read + 1)))
-    (given_twice c.args.rate (option_map rows_of (g.R.Read.remaining c.args.reader)) (rows_left g.R.Read.remaining c.loop-read.rows)
+    (given_twice c.an_id_is_its_bytes.ensures.same c.args.rate (option_map rows_of (g.R.Read.remaining c.args.reader)) (rows_left g.R.Read.remaining c.loop-read.rows)
     (rows_left g.R.Read.remaining c.next_row.new.reader) c.loop-read.read c.loop-read.table (fields_of c.next_row.new.row) (c.in_ok-id.id, c.in_ok-id.length)
     c.loop-read.invariant.given (rw some at c.in_ok-next_row.ensures.takes) few c.in_ok-id.ensures.row c.in_ok-id.ensures.can_last
     (c.in-Ok-false.ensures.there c.in-Ok-false.field-0-test))

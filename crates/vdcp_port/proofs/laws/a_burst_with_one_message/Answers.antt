@@ -1,3 +1,4 @@
+-- A burst with one message.
 use Rattle.vdcp_port.proofs.FewMessages.{sent_with_one, aired_with_one, after_with_one}
 use Rattle.vdcp_port.proofs.laws.a_burst_with_one_message.Goals as goal
 

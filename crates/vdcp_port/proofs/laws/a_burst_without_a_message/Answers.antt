@@ -1,3 +1,4 @@
+-- A burst without a message.
 use Rattle.std.proofs.Common.{ap}
 use Rattle.vdcp_port.specs.Answers.{aired_on_way, after_messages}
 use Rattle.vdcp_port.proofs.FewMessages.{sent_for_none}

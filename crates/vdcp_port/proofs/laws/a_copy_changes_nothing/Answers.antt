@@ -1,3 +1,4 @@
+-- A message that comes again.
 use Rattle.vdcp_port.proofs.TableLaws.{copy_answer, copy_port, copy_air}
 use Rattle.vdcp_port.proofs.laws.a_copy_changes_nothing.Goals as goal
 

@@ -1,3 +1,4 @@
+-- A refusal keeps the port.
 use Rattle.std.proofs.Common.{refl}
 use Rattle.vdcp_port.proofs.Refusals.{refusal_keeps}
 use Rattle.vdcp_port.proofs.laws.a_refusal_changes_nothing.Goals as goal

@@ -1,3 +1,4 @@
+-- Counts run down by frames.
 use Rattle.vdcp_port.proofs.Frames.{cues_on, cues_out, plays_on, plays_out}
 use Rattle.vdcp_port.proofs.laws.counts_are_frames.Goals as goal
 

@@ -1,3 +1,4 @@
+-- Messages after messages.
 use Rattle.vdcp_port.proofs.Answering.{answers_to_both, bytes_for_both, aired_by_both, after_both}
 use Rattle.vdcp_port.proofs.laws.messages_after_messages.Goals as goal
 

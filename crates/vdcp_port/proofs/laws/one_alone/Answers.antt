@@ -1,3 +1,4 @@
+-- One message, and one reply, alone.
 use Rattle.vdcp_port.proofs.Answering.{bytes_for_alone, aired_by_alone, bytes_of_one}
 use Rattle.vdcp_port.proofs.laws.one_alone.Goals as goal
 

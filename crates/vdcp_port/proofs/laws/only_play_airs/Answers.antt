@@ -1,3 +1,4 @@
+-- What airs is what PLAY finds cued.
 use Rattle.vdcp_port.proofs.TableLaws.{message_airs, message_airing}
 use Rattle.vdcp_port.proofs.laws.only_play_airs.Goals as goal
 

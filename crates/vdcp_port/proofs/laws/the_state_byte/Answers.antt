@@ -1,3 +1,4 @@
+-- There are six state bytes.
 use Rattle.vdcp_port.proofs.StateByte.{one_of_six}
 use Rattle.vdcp_port.proofs.laws.the_state_byte.Goals as goal
 

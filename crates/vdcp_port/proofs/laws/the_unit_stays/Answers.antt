@@ -1,3 +1,4 @@
+-- The unit address stays.
 use Rattle.vdcp_frame.specs.Burst.{messages_of}
 use Rattle.vdcp_port.proofs.Units.{unit_of_next, unit_of_after, unit_of_frame}
 use Rattle.vdcp_port.proofs.laws.the_unit_stays.Goals as goal

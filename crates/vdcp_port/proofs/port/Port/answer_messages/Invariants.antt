@@ -1,3 +1,4 @@
+-- The walk over a burst: what is answered so far, and the room that is left.
 use Rattle.std.proofs.Common.{◌≤◌, ◌+◌, ◌*◌, ◌-◌, length, take, min}
 use Rattle.vdcp_port.proofs.Answering.{Walked}
 use Rattle.vdcp_port.proofs.port.Port.answer_messages.Given as goal

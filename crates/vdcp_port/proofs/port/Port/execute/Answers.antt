@@ -1,3 +1,4 @@
+-- OPEN, whatever its lock byte.
 use Rattle.vdcp_port.proofs.port.Port.execute.Goals as goal
 
 pub returns-in-Open : goal.returns-in-Open

@@ -1,3 +1,4 @@
+-- A frame later the slots are sound.
 use Rattle.vdcp_port.proofs.port.Port.frame.Goals as goal
 
 pub invariant_of-self : goal.invariant_of-self

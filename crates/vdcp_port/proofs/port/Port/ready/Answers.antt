@@ -1,3 +1,4 @@
+-- With the cue done the slots are sound.
 use Rattle.vdcp_port.proofs.port.Port.ready.Goals as goal
 
 pub invariant_of-self : goal.invariant_of-self

@@ -1,3 +1,4 @@
+-- A search of the shelf.
 use Rattle.std.proofs.Common.{◌≡◌, drop}
 use Rattle.vdcp_port.specs.Clips.{length_of}
 use Rattle.vdcp_port.proofs.tests.ShelfCatalogue.length.Given as goal

@@ -1,0 +1,180 @@
+//! What replies, commands and exchanges mean to a controller.
+ghost use Rattle.std.specs.Prelude.{◌≡◌};
+ghost use Rattle.vdcp_auto.specs.Replies as replies;
+ghost use Rattle.vdcp_auto.specs.Commands as commands;
+ghost use Rattle.vdcp_auto.specs.Log as log;
+ghost use Rattle.vdcp_auto.specs.Table as table;
+ghost use Rattle.vdcp_auto.specs.Turn as turn;
+
+use crate::exchange::{Exchange, Heard};
+use crate::phase::Mode;
+use vdcp_value::Item;
+use vdcp_words::{Command, Reply};
+
+/// The bit of a state byte that says that something is being cued.
+const CUEING: u8 = 0x02;
+/// The bit of a state byte that says that a clip plays.
+const PLAYING: u8 = 0x04;
+/// The bit of a state byte that says that the cue is done.
+const CUE_DONE: u8 = 0x80;
+
+pub fn is_receipt(reply: &Reply) -> bool
+    ensures { result ≡ replies.is_receipt reply.now }
+{
+    matches!(reply, Reply::Ack | Reply::Nak(_))
+}
+
+pub fn is_refusal(reply: &Reply) -> bool
+    ensures { result ≡ replies.is_refusal reply.now }
+{
+    matches!(reply, Reply::Nak(0x01))
+}
+
+pub fn is_granted(reply: &Reply) -> bool
+    ensures { result ≡ replies.is_granted reply.now }
+{
+    matches!(reply, Reply::Opened(true))
+}
+
+pub fn is_present(reply: &Reply) -> bool
+    ensures { result ≡ replies.is_present reply.now }
+{
+    matches!(reply, Reply::Present(true))
+}
+
+/// The state byte is there, and the bit is on in it.
+fn has_on(bit: u8, reply: &Reply) -> bool
+    ensures { result ≡ replies.has_on bit reply.now }
+{
+    match reply {
+        Reply::State(_, Some(byte)) => *byte & bit != 0,
+        _ => false,
+    }
+}
+
+/// The state byte is there, and the bit is off in it.
+fn has_off(bit: u8, reply: &Reply) -> bool
+    ensures { result ≡ replies.has_off bit reply.now }
+{
+    match reply {
+        Reply::State(_, Some(byte)) => *byte & bit == 0,
+        _ => false,
+    }
+}
+
+pub fn is_done(reply: &Reply) -> bool
+    ensures { result ≡ replies.is_done reply.now }
+{
+    has_on(CUE_DONE, reply)
+}
+
+pub fn is_playing(reply: &Reply) -> bool
+    ensures { result ≡ replies.is_playing reply.now }
+{
+    has_on(PLAYING, reply)
+}
+
+pub fn is_cueing(reply: &Reply) -> bool
+    ensures { result ≡ replies.is_cueing reply.now }
+{
+    has_on(CUEING, reply)
+}
+
+/// Nothing is cued, nor being cued.
+pub fn is_empty(reply: &Reply) -> bool
+    ensures { result ≡ replies.is_empty reply.now }
+{
+    has_off(CUEING, reply) && has_off(CUE_DONE, reply)
+}
+
+/// Whether the reply names a clip, and not this item's.
+pub fn names_other(item: &Item, reply: &Reply) -> bool
+    ensures { result ≡ table.names_other (Some item.now) reply.now }
+{
+    match reply {
+        Reply::Active(Some(id)) => *id != item.id,
+        _ => false,
+    }
+}
+
+/// What cues the item.
+pub fn cue_of(item: &Item) -> Command
+    ensures { result ≡ commands.cue_of item.now }
+{
+    match item.part {
+        None => Command::PlayCue(item.id),
+        Some(part) => Command::CueData(item.id, part.start, part.duration),
+    }
+}
+
+/// A request for a reply of its own. The other commands are answered by ACK.
+pub fn is_sense(command: &Command) -> bool
+    ensures { result ≡ commands.is_sense command.now }
+{
+    match command {
+        Command::Open(_, _)
+        | Command::Status(_)
+        | Command::ActiveId
+        | Command::IdRequest(_)
+        | Command::IdSize(_) => true,
+        Command::Close(_)
+        | Command::Select(_)
+        | Command::PlayCue(_)
+        | Command::CueData(_, _, _)
+        | Command::Play
+        | Command::Stop => false,
+    }
+}
+
+/// The reply is of the kind that the command asks for.
+fn fits(command: &Command, reply: &Reply) -> bool
+    ensures { result ≡ commands.fits command.now reply.now }
+{
+    match command {
+        Command::Open(_, _) => matches!(reply, Reply::Opened(_)),
+        Command::Status(_) => matches!(reply, Reply::State(_, Some(_))),
+        Command::ActiveId => matches!(reply, Reply::Active(_)),
+        Command::IdRequest(_) => matches!(reply, Reply::Present(_)),
+        Command::IdSize(_) => matches!(reply, Reply::Size(_)),
+        Command::Close(_)
+        | Command::Select(_)
+        | Command::PlayCue(_)
+        | Command::CueData(_, _, _)
+        | Command::Play
+        | Command::Stop => matches!(reply, Reply::Ack),
+    }
+}
+
+/// The reply that answers the exchange, where it is answered.
+pub fn answer_in(exchange: &Exchange) -> Option<Reply>
+    ensures { result ≡ log.answer_in exchange.now }
+{
+    match exchange.heard {
+        Some(Heard::Reply(reply)) if is_refusal(&reply) || fits(&exchange.command, &reply) => {
+            Some(reply)
+        }
+        _ => None,
+    }
+}
+
+/// Unanswered exchanges of this command are counted.
+pub fn is_counted(mode: Mode, exchange: &Exchange) -> bool
+    ensures { result ≡ log.is_counted mode exchange.now }
+{
+    match mode {
+        Mode::Plain => true,
+        Mode::Confirming => is_sense(&exchange.command),
+    }
+}
+
+/// What came, or silence, ends the exchange of the command.
+pub fn is_end(mode: Mode, command: &Command, came: &Option<Heard>) -> bool
+    ensures { result ≡ turn.is_end mode command.now came.now }
+{
+    match (mode, came) {
+        (Mode::Plain, _) => true,
+        (Mode::Confirming, None) => true,
+        (Mode::Confirming, Some(Heard::Other)) => is_sense(command),
+        (Mode::Confirming, Some(Heard::Reply(reply))) => is_sense(command) && !is_receipt(reply),
+    }
+}
