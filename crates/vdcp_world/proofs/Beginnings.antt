@@ -89,8 +89,8 @@ begins_is other bytes ms ns end r only first all reads held begun = either r (is
         let short = reads.front in
         let (a, b, s, f) = beginning_of ms others short.whole (subst (λ x. SpellsAll x short.whole) more short.spelt) in
         let whole : short.whole ≡ bytes ++ b = f ∙ ap (λ (x : List ℕ). x ++ b) (one_list only ms a bytes s all) in
-        begun (b ++ (short.rest ++ drop 4096 other))
+        begun (b ++ (short.remainder ++ drop 4096 other))
         (sym (take-append-drop 4096 other)
-        ∙ ap (λ (x : List ℕ). x ++ drop 4096 other) (short.parts ∙ ap (λ (x : List ℕ). x ++ short.rest) whole)
-        ∙ append_assoc (bytes ++ b) short.rest (drop 4096 other)
-        ∙ append_assoc bytes b (short.rest ++ drop 4096 other))
+        ∙ ap (λ (x : List ℕ). x ++ drop 4096 other) (short.parts ∙ ap (λ (x : List ℕ). x ++ short.remainder) whole)
+        ∙ append_assoc (bytes ++ b) short.remainder (drop 4096 other)
+        ∙ append_assoc bytes b (short.remainder ++ drop 4096 other))
