@@ -2,3 +2,14 @@ mod Examples
 pub mod First
 pub mod Beginnings
 pub mod Reached
+pub mod Below
+pub mod PhaseTable
+pub mod Exchanges
+pub mod Readings
+pub mod Slots
+pub mod OnTheWay
+pub mod WayLemmas
+pub mod WayKept
+pub mod TableKept
+pub mod Kept
+pub mod HeadlineProof

@@ -35,6 +35,10 @@ step_reached c e r = record {
   led = ap (λ x. after_event x e) r.led ∙ sym (after_all (new_channel r.plan r.clips r.unit r.cue_frames) r.events (e ∷ []));
 }
 
+pub events_reached : (c : Channel) (events : List Event) → IsReached c → IsReached (after_events c events)
+events_reached c [] r = r
+events_reached c (e ∷ events) r = events_reached (after_event c e) events (step_reached c e r)
+
 -- a step that was taken or refused leaves such a channel
 pub after_step : {A E : Type 0} (result : Result A E) (old now : Channel) (e : Event)
     → OnOk result (now ≡ after_event old e) → OnErr result (now ≡ old) → IsReached old → IsReached now

@@ -1,3 +1,4 @@
 pub mod Beginnings
 pub mod Channel
 pub mod Rounds
+pub mod Headline

@@ -16,6 +16,7 @@ mod burst;
 mod damage;
 mod event;
 mod heard;
+pub mod laws;
 mod link;
 mod script;
 mod world;

@@ -1,4 +1,5 @@
 mod clips;
+mod headline;
 mod memory;
 mod nothing;
 mod rows;

@@ -1,10 +1,15 @@
-ghost use Rattle.std.specs.Prelude.{◌≡◌, ◌≤◌, ◌<◌, ◌++◌, List, OnOk, OnErr};
+ghost use Rattle.std.specs.Prelude.{◌≡◌, ◌+◌, ◌≤◌, ◌<◌, ◌++◌, List, length, IfSome, OnOk, OnErr};
+ghost use Rattle.vdcp_auto.specs.RuleBook.{KeepsRules};
+ghost use Rattle.vdcp_auto.specs.Settled.{settled};
 ghost use Rattle.vdcp_auto.specs.Turn.{outcome_of};
+ghost use Rattle.vdcp_value.specs.declared.part.Item.{Item};
 ghost use Rattle.vdcp_auto.specs.declared.phase.Mode.TheVariants.{Plain, Confirming};
 ghost use Rattle.vdcp_world.specs.declared.event.Event.{Event};
 ghost use Rattle.vdcp_world.specs.Channel.{new_channel, after_event, after_events, make_of};
+ghost use Rattle.vdcp_world.specs.Headline.{Headline, Means};
 
 use crate::event::Event;
+use crate::laws::reached_keeps_the_headline;
 use crate::link::Link;
 use std::alloc::{AllocError, Allocator};
 use std::marker::Model;
@@ -17,6 +22,10 @@ use vdcp_value::Item;
 ///
 /// - `step` and `run` bring in what happens.
 /// - `aired`, `reported`, `log` and `outcome` only look.
+///
+/// Whatever happens, what went to air is a beginning of the playlist, each event once and in order, and
+/// the events reported as aired are a beginning of these, shorter by one at most: each call that changes
+/// a world or makes one says so of it (`headline`), and each that looks says it of its answer.
 ///
 /// It takes memory for what went to air and for the log, and for nothing else.
 #[derive(Drop)]
@@ -42,9 +51,10 @@ impl<S: Source, C: Catalogue, A: Allocator + Copy> World<S, C, A> {
         requires unit { unit ≤ 15 }
         requires some { 1 ≤ limit }
         requires few { limit ≤ 1000 }
-        ensures { result ≡ new_channel
+        ensures new { result ≡ new_channel
             (record { mode = Plain; list = S.items source; port = port; limit = limit })
             (C.clips catalogue) unit 1 }
+        ensures headline { Headline result }
     {
         World::with_clock(alloc, source, catalogue, unit, port, limit, 1)
     }
@@ -64,10 +74,12 @@ impl<S: Source, C: Catalogue, A: Allocator + Copy> World<S, C, A> {
         requires few { limit ≤ 1000 }
         requires some_frames { 1 ≤ cue_frames }
         requires few_frames { cue_frames ≤ 1000 }
-        ensures { result ≡ new_channel
+        ensures new { result ≡ new_channel
             (record { mode = Plain; list = S.items source; port = port; limit = limit })
             (C.clips catalogue) unit cue_frames }
+        ensures headline { Headline result }
     {
+        reached_keeps_the_headline();
         World {
             link: Link::new(
                 alloc,
@@ -93,10 +105,12 @@ impl<S: Source, C: Catalogue, A: Allocator + Copy> World<S, C, A> {
         requires few { limit ≤ 1000 }
         requires some_frames { 1 ≤ cue_frames }
         requires few_frames { cue_frames ≤ 1000 }
-        ensures { result ≡ new_channel
+        ensures new { result ≡ new_channel
             (record { mode = Confirming; list = S.items source; port = port; limit = limit })
             (C.clips catalogue) unit cue_frames }
+        ensures headline { Headline result }
     {
+        reached_keeps_the_headline();
         World {
             link: Link::new(
                 alloc,
@@ -112,7 +126,9 @@ impl<S: Source, C: Catalogue, A: Allocator + Copy> World<S, C, A> {
         ensures step { OnOk result (self.new ≡ after_event self.old event.now) }
         ensures refused { OnErr result (self.new ≡ self.old) }
         ensures make { make_of self.new ≡ make_of self.old }
+        ensures headline { Headline self.new }
     {
+        reached_keeps_the_headline();
         self.link.step(event)
     }
 
@@ -122,38 +138,52 @@ impl<S: Source, C: Catalogue, A: Allocator + Copy> World<S, C, A> {
         ensures run { OnOk result (self.new ≡ after_events self.old events.now) }
         ensures front { (done left : List Event) × (events.now ≡ done ++ left) × (self.new ≡ after_events self.old done) }
         ensures make { make_of self.new ≡ make_of self.old }
+        ensures headline { Headline self.new }
     {
+        reached_keeps_the_headline();
+        let _ = &self.link;
         for event in events {
             self.step(event)?;
         }
         Ok(())
     }
 
-    /// What went to air, in order.
+    /// What went to air, in order: a beginning of the playlist.
     pub fn aired(&self) -> &[Item]
-        ensures { result.now ≡ self.now.aired }
+        ensures items { result.now ≡ self.now.aired }
+        ensures beginning { (more : List Item) × (self.now.plan.list ≡ result.now ++ more) }
     {
+        reached_keeps_the_headline();
         self.link.aired()
     }
 
-    /// How many events of the playlist the controller knows to have been aired.
+    /// How many events of the playlist the controller knows to have been aired: all that went to air, or
+    /// one fewer.
     pub fn reported(&self) -> usize
-        ensures { result ≡ self.now.state.settled }
+        ensures count { result ≡ self.now.state.settled }
+        ensures settled { result ≡ settled self.now.plan.mode self.now.log }
+        ensures aired { result ≤ length self.now.aired }
+        ensures but_one { length self.now.aired ≤ result + 1 }
     {
+        reached_keeps_the_headline();
         self.link.reported()
     }
 
-    /// The exchanges that have ended, in order.
+    /// The exchanges that have ended, in order. The rule book allows each command where it stands.
     pub fn log(&self) -> &[Exchange]
-        ensures { result.now ≡ self.now.log }
+        ensures exchanges { result.now ≡ self.now.log }
+        ensures keeps_rules { KeepsRules self.now.plan.mode self.now.plan.list result.now }
     {
+        reached_keeps_the_headline();
         self.link.log()
     }
 
     /// How the controller ended; `None` while it goes on.
     pub fn outcome(&self) -> Option<Outcome>
-        ensures { result ≡ outcome_of self.now.state.stage }
+        ensures outcome { result ≡ outcome_of self.now.state.stage }
+        ensures means { IfSome result (Means self.now.port.clips self.now.plan self.now.aired self.now.log) }
     {
+        reached_keeps_the_headline();
         self.link.outcome()
     }
 }

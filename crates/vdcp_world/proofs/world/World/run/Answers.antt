@@ -1,6 +1,7 @@
-use Rattle.std.proofs.Common.{take, drop, sym, ap, ◌∙◌, take-append-drop, arith}
+use Rattle.std.proofs.Common.{take, drop, sym, ap, subst, ◌∙◌, take-append-drop, arith}
 use Rattle.vdcp_world.specs.Channel.{after_event, make_of}
-use Rattle.vdcp_world.proofs.Reached.{one_more, make_after_all}
+use Rattle.vdcp_world.specs.Channel.{IsReached}
+use Rattle.vdcp_world.proofs.Reached.{one_more, make_after_all, events_reached}
 use Rattle.vdcp_world.proofs.world.World.run.Goals as goal
 
 pub returns-in_err-step-clause-front : goal.returns-in_err-step-clause-front
@@ -20,3 +21,9 @@ returns-in_err-step-clause-make g c =
 
 pub returns-clause-make : goal.returns-clause-make
 returns-clause-make g c = ap make_of c.loop-event.invariant ∙ make_after_all c.args.self.now (take c.loop-event.event-index c.args.events.now)
+
+pub returns-clause-headline : goal.returns-clause-headline
+returns-clause-headline g c =
+    let reached : IsReached c.args.self.now = rw (← c.self.view_is) c.self.invariant in
+    c.reached_keeps_the_headline.ensures c.loop-event.self
+    (subst IsReached (sym c.loop-event.invariant) (events_reached c.args.self.now (take c.loop-event.event-index c.args.events.now) reached))

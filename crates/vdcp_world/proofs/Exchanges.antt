@@ -1,0 +1,246 @@
+-- A tick and the end of an exchange, in the phase table.
+use Rattle.std.proofs.Common.{◌≡◌, ℕ, ◌+◌, ◌<◌, ◌≤◌, ◌⊎◌, inl, inr, Bool, true, false, ◌||◌, ◌&&◌, not, List, length, take, Option, Some, None, refl, ap, sym, subst, arith, ◌∙◌, length-take}
+use Rattle.std.specs.Option.{option_map}
+use Rattle.std.specs.Prelude.{slice_get, if◌then◌else◌}
+use Rattle.vdcp_value.specs.declared.clip_id.ClipId.{ClipId}
+use Rattle.vdcp_value.specs.declared.part.Item.{Item}
+use Rattle.vdcp_value.specs.declared.part.Part.{Part}
+use Rattle.vdcp_value.specs.declared.timecode.Timecode.{Timecode}
+use Rattle.vdcp_words.specs.declared.command.Command.{Command}
+use Rattle.vdcp_words.specs.declared.command.Command.TheVariants as command
+use Rattle.vdcp_words.specs.declared.reply.Reply.{Reply}
+use Rattle.vdcp_words.specs.declared.reply.Reply.TheVariants as reply
+use Rattle.vdcp_port.specs.Port.{PortState, Cued, empty, cueing, done}
+use Rattle.vdcp_auto.specs.Commands.{cue_for, cue_of, is_presence, is_sense, fits}
+use Rattle.vdcp_auto.specs.Log.{answer_to}
+use Rattle.vdcp_auto.specs.Replies.{is_ack, is_done, is_empty, is_receipt, is_refusal}
+use Rattle.vdcp_auto.specs.Table.{command_in, next, on_reply, on_refusal}
+use Rattle.vdcp_auto.specs.Turn.{is_end, on_answer, on_unanswered, stage_after, settled_after, phase_to_send}
+use Rattle.vdcp_auto.specs.declared.phase.Mode.{Mode}
+use Rattle.vdcp_auto.specs.declared.phase.Mode.TheVariants.{Plain, Confirming}
+use Rattle.vdcp_auto.specs.declared.phase.Stage.{Stage}
+use Rattle.vdcp_auto.specs.declared.phase.Stage.TheVariants.{Ready, Awaiting, Ended}
+use Rattle.vdcp_auto.specs.declared.phase.Phase.{Phase}
+use Rattle.vdcp_auto.specs.declared.phase.Turn.{Turn}
+use Rattle.vdcp_auto.specs.declared.exchange.Heard.{Heard}
+use Rattle.vdcp_auto.specs.declared.exchange.Heard.TheVariants as heard
+use Rattle.vdcp_auto.specs.declared.phase.Phase.TheVariants as phase
+use Rattle.vdcp_world.proofs.PhaseTable.{Aired, Idle, Coming, Standing, Near, Place, PlaceReady, PlaceEnded, PlaceAt, Tells, Firm, FirmAt, FirmEnded, FirmIn, FirmTells, TellsIn, Told, is_asked, knows, refuses}
+
+pub taken : (list : List Item) (k : ℕ) → k ≤ length list → length (take k list) ≡ k
+taken list k l = simp length-take (omega arith)
+
+-- each phase keeps what is said of aired and settled
+pub near : (list : List Item) (cued : Cued) (aired : List Item) (settled : ℕ) (q : Phase) → Place list cued aired settled q → Near list aired settled
+near list cued aired settled q h = grind (arith, taken)
+
+-- in Wait, plain mode hears of a cue
+abbrev pub HearsCue : Mode → Phase → Reply → Type 0
+HearsCue Plain (phase.Wait k) r = is_empty r ≡ false
+HearsCue mode q r = Unit {0}
+
+-- ---- an answer
+
+pub replied_place : (list : List Item) (clips : List (ClipId × Timecode)) (cued : Cued) (aired : List Item) (mode : Mode) (settled limit tries : ℕ)
+    (wish : Bool) (q : Phase) (r : Reply)
+    → Place list cued aired settled q → Tells list clips cued aired q r → HearsCue mode q r → is_asked q r ≡ true
+    → PlaceAt list clips cued aired (settled_after (on_reply mode list limit wish tries q r) settled) (stage_after (on_reply mode list limit wish tries q r))
+replied_place list clips cued aired mode settled limit tries wish phase.Open r h t c f = grind (arith, near)
+replied_place list clips cued aired mode settled limit tries wish phase.Select r h t c f = grind (arith, near)
+replied_place list clips cued aired mode settled limit tries wish phase.Seen r h t c f = grind (arith, near)
+replied_place list clips cued aired mode settled limit tries wish (phase.Exists k) r h t c f = grind (arith, near)
+replied_place list clips cued aired mode settled limit tries wish (phase.Cue k) r h t c f = grind (arith, near)
+replied_place list clips cued aired Plain settled limit tries wish (phase.Wait k) r h t c f = grind (arith, near)
+replied_place list clips cued aired Confirming settled limit tries wish (phase.Wait k) r h t c f = grind (arith, near)
+replied_place list clips cued aired mode settled limit tries wish (phase.Play k) r h t c f = grind (arith, near)
+replied_place list clips cued aired mode settled limit tries wish (phase.Probe k) r h t c f = grind (arith, near)
+replied_place list clips cued aired mode settled limit tries wish (phase.Check k) r h t c f = grind (arith, near)
+replied_place list clips cued aired mode settled limit tries wish phase.Drain r h t c f = grind (arith, near)
+replied_place list clips cued aired mode settled limit tries wish phase.Close r h t c f = grind (arith, near)
+replied_place list clips cued aired mode settled limit tries wish phase.Halt r h t c f = grind (arith, near)
+replied_place list clips cued aired mode settled limit tries wish phase.HaltClose r h t c f = grind (arith, near)
+
+pub refused_place : (list : List Item) (clips : List (ClipId × Timecode)) (p : PortState) (aired : List Item) (settled : ℕ) (q : Phase) (r : Reply)
+    → Place list p.cued aired settled q → Firm list clips p q → FirmTells list clips p q r → is_refusal r ≡ true
+    → PlaceAt list clips p.cued aired (settled_after (on_refusal (length list) q) settled) (stage_after (on_refusal (length list) q))
+refused_place list clips p aired settled q r h firm t e = grind (arith, near)
+
+pub replied_firm : (list : List Item) (clips : List (ClipId × Timecode)) (p : PortState) (aired : List Item) (limit tries : ℕ) (wish : Bool) (q : Phase)
+    (r : Reply)
+    → Firm list clips p q → Tells list clips p.cued aired q r → FirmTells list clips p q r → is_asked q r ≡ true
+    → FirmAt list clips p (stage_after (on_reply Plain list limit wish tries q r))
+replied_firm list clips p aired limit tries wish q r h t c f = grind arith
+
+pub refused_firm : (list : List Item) (clips : List (ClipId × Timecode)) (p : PortState) (q : Phase) (r : Reply)
+    → Firm list clips p q → FirmTells list clips p q r → is_refusal r ≡ true
+    → FirmAt list clips p (stage_after (on_refusal (length list) q))
+refused_firm list clips p q r h t e = grind arith
+
+-- ---- silence, and a tick
+
+pub silence_place : (list : List Item) (clips : List (ClipId × Timecode)) (cued : Cued) (aired : List Item) (mode : Mode) (settled limit unanswered : ℕ)
+    (counts : Bool) (q : Phase)
+    → Place list cued aired settled q
+    → PlaceAt list clips cued aired (settled_after (on_unanswered mode limit unanswered counts q) settled)
+    (stage_after (on_unanswered mode limit unanswered counts q))
+silence_place list clips cued aired mode settled limit unanswered counts q h = grind (arith, near)
+
+pub silence_firm : (list : List Item) (clips : List (ClipId × Timecode)) (p : PortState) (limit unanswered : ℕ) (counts : Bool) (q : Phase)
+    → Firm list clips p q → FirmAt list clips p (stage_after (on_unanswered Plain limit unanswered counts q))
+silence_firm list clips p limit unanswered counts q h = grind arith
+
+pub sent_place : (list : List Item) (cued : Cued) (aired : List Item) (settled : ℕ) (q : Phase) → PlaceReady list cued aired settled q
+    → Place list cued aired settled q
+sent_place list cued aired settled q h = grind arith
+
+pub tick_place : (list : List Item) (cued : Cued) (aired : List Item) (settled : ℕ) (stop : Bool) (q : Phase)
+    → PlaceReady list cued aired settled q → Place list cued aired settled (phase_to_send stop q)
+tick_place list cued aired settled true q h = near list cued aired settled q (sent_place list cued aired settled q h)
+tick_place list cued aired settled false q h = sent_place list cued aired settled q h
+
+pub tick_firm : (list : List Item) (clips : List (ClipId × Timecode)) (p : PortState) (stop : Bool) (q : Phase) → Firm list clips p q
+    → Firm list clips p (phase_to_send stop q)
+tick_firm list clips p true q h = tt
+tick_firm list clips p false q h = h
+
+-- ---- the end of an awaited exchange
+
+-- the reply is of the kind that the phase's command asks for
+pub fits_asked : (list : List Item) (port : ℕ) (q : Phase) (c : Command) (r : Reply) → command_in list port q ≡ Some c → fits c r ≡ true → is_asked q r ≡ true
+fits_asked list port phase.Open c r e f = cc
+fits_asked list port phase.Select c r e f = cc
+fits_asked list port phase.Seen c r e f = cc
+fits_asked list port (phase.Exists k) c r e f = of_request (slice_get list k) e
+  where
+    of_request : (o : Option Item) → option_map (λ item. command.IdRequest item.id) o ≡ Some c → is_presence r ≡ true
+    of_request None e = cc
+    of_request (Some item) e = cc
+fits_asked list port (phase.Cue k) c r e f = of_cue (slice_get list k) e
+  where
+    of_part : (id : ClipId) (part : Option Part) → cue_for id part ≡ c → is_ack r ≡ true
+    of_part id None e = cc
+    of_part id (Some part) e = cc
+
+    same : (a b : Command) → Some a ≡ Some b → a ≡ b
+    same a b e = cc
+
+    of_cue : (o : Option Item) → option_map cue_of o ≡ Some c → is_ack r ≡ true
+    of_cue None e = cc
+    of_cue (Some item) e = of_part item.id item.part (same (cue_of item) c e)
+fits_asked list port (phase.Wait k) c r e f = cc
+fits_asked list port (phase.Play k) c r e f = cc
+fits_asked list port (phase.Probe k) c r e f = cc
+fits_asked list port (phase.Check k) c r e f = cc
+fits_asked list port phase.Drain c r e f = cc
+fits_asked list port phase.Close c r e f = cc
+fits_asked list port phase.Halt c r e f = cc
+fits_asked list port phase.HaltClose c r e f = cc
+
+-- where a reply leads, or none
+abbrev pub turn_by : Mode → List Item → ℕ → Bool → ℕ → ℕ → Bool → Phase → Option Reply → Turn
+turn_by mode list limit take tries unanswered counts q (Some r) = on_answer mode list limit take tries q r
+turn_by mode list limit take tries unanswered counts q None = on_unanswered mode limit unanswered counts q
+
+pub record Behind (mode : Mode) (list : List Item) (clips : List (ClipId × Timecode)) (p : PortState) (aired : List Item) (settled : ℕ)
+    (turn : Turn) : Type 0 where
+  pub place : PlaceAt list clips p.cued aired (settled_after turn settled) (stage_after turn)
+  pub firm : FirmIn mode list clips p (stage_after turn)
+
+either : (a b : Bool) → (a || b) ≡ true → (a ≡ true) ⊎ ((a ≡ false) × (b ≡ true))
+either true b e = inl refl
+either false b e = inr (refl, e)
+
+on_refused : (mode : Mode) (list : List Item) (limit tries : ℕ) (take : Bool) (q : Phase) (r : Reply) → is_refusal r ≡ true
+    → on_answer mode list limit take tries q r ≡ on_refusal (length list) q
+on_refused mode list limit tries take q r e = ap (λ b. if b then on_refusal (length list) q else on_reply mode list limit take tries q r) e
+
+on_replied : (mode : Mode) (list : List Item) (limit tries : ℕ) (take : Bool) (q : Phase) (r : Reply) → is_refusal r ≡ false
+    → on_answer mode list limit take tries q r ≡ on_reply mode list limit take tries q r
+on_replied mode list limit tries take q r e = ap (λ b. if b then on_refusal (length list) q else on_reply mode list limit take tries q r) e
+
+hears_cue : (list : List Item) (clips : List (ClipId × Timecode)) (p : PortState) (q : Phase) (r : Reply) → FirmTells list clips p q r → HearsCue Plain q r
+hears_cue list clips p q r t = grind arith
+
+answered_plain : (list : List Item) (clips : List (ClipId × Timecode)) (p : PortState) (aired : List Item) (settled limit tries : ℕ) (take : Bool) (q : Phase)
+    (r : Reply)
+    → Place list p.cued aired settled q → Firm list clips p q → Tells list clips p.cued aired q r → FirmTells list clips p q r
+    → (is_refusal r ≡ true) ⊎ ((is_refusal r ≡ false) × (is_asked q r ≡ true))
+    → Behind Plain list clips p aired settled (on_answer Plain list limit take tries q r)
+answered_plain list clips p aired settled limit tries take q r h firm t u (inl e) =
+    subst (λ turn. Behind Plain list clips p aired settled turn) (sym (on_refused Plain list limit tries take q r e)) (record {
+      place = refused_place list clips p aired settled q r h firm u e;
+      firm = refused_firm list clips p q r firm u e;
+    })
+answered_plain list clips p aired settled limit tries take q r h firm t u (inr (e, asked)) =
+    subst (λ turn. Behind Plain list clips p aired settled turn) (sym (on_replied Plain list limit tries take q r e)) (record {
+      place = replied_place list clips p.cued aired Plain settled limit tries take q r h t (hears_cue list clips p q r u) asked;
+      firm = replied_firm list clips p aired limit tries take q r firm t u asked;
+    })
+
+answered_confirming : (list : List Item) (clips : List (ClipId × Timecode)) (p : PortState) (aired : List Item) (settled limit tries : ℕ) (take : Bool)
+    (q : Phase) (r : Reply)
+    → Place list p.cued aired settled q → Tells list clips p.cued aired q r → is_refusal r ≡ false → is_asked q r ≡ true
+    → Behind Confirming list clips p aired settled (on_answer Confirming list limit take tries q r)
+answered_confirming list clips p aired settled limit tries take q r h t e asked =
+    subst (λ turn. Behind Confirming list clips p aired settled turn) (sym (on_replied Confirming list limit tries take q r e)) (record {
+      place = replied_place list clips p.cued aired Confirming settled limit tries take q r h t tt asked;
+      firm = tt;
+    })
+
+unanswered_place : (mode : Mode) (list : List Item) (clips : List (ClipId × Timecode)) (p : PortState) (aired : List Item) (settled limit unanswered : ℕ)
+    (counts : Bool) (q : Phase)
+    → Place list p.cued aired settled q → FirmIn mode list clips p (Awaiting q)
+    → Behind mode list clips p aired settled (on_unanswered mode limit unanswered counts q)
+unanswered_place Plain list clips p aired settled limit unanswered counts q h firm = record {
+  place = silence_place list clips p.cued aired Plain settled limit unanswered counts q h;
+  firm = silence_firm list clips p limit unanswered counts q firm;
+}
+unanswered_place Confirming list clips p aired settled limit unanswered counts q h firm = record {
+  place = silence_place list clips p.cued aired Confirming settled limit unanswered counts q h;
+  firm = tt;
+}
+
+-- a reply that ends an exchange in confirm mode is no receipt
+no_receipt : (c : Command) (r : Reply) → is_end Confirming c (Some (heard.Reply r)) ≡ true → is_receipt r ≡ false
+no_receipt c r e = of (is_sense c) (is_receipt r) e
+  where
+    of : (a b : Bool) → (a && not b) ≡ true → b ≡ false
+    of a b e = grind arith
+
+no_refusal : (r : Reply) → is_receipt r ≡ false → is_refusal r ≡ false
+no_refusal r e = grind arith
+
+-- where what came leads, if it ends the exchange of the awaited command
+pub turn_place : (mode : Mode) (list : List Item) (clips : List (ClipId × Timecode)) (p : PortState) (aired : List Item)
+    (settled port limit tries unanswered : ℕ) (take counts : Bool)
+    (q : Phase) (c : Command) (came : Option Heard) → command_in list port q ≡ Some c → is_end mode c came ≡ true
+    → Place list p.cued aired settled q → FirmIn mode list clips p (Awaiting q) → Told mode list clips p aired q came
+    → Behind mode list clips p aired settled (turn_by mode list limit take tries unanswered counts q (answer_to c came))
+turn_place mode list clips p aired settled port limit tries unanswered take counts q c None e ends h firm told =
+    unanswered_place mode list clips p aired settled limit unanswered counts q h firm
+turn_place mode list clips p aired settled port limit tries unanswered take counts q c (Some heard.Other) e ends h firm told =
+    unanswered_place mode list clips p aired settled limit unanswered counts q h firm
+turn_place mode list clips p aired settled port limit tries unanswered take counts q c (Some (heard.Reply r)) e ends h firm told =
+    by (is_refusal r || fits c r) refl
+  where
+    answered : (mode : Mode) → is_end mode c (Some (heard.Reply r)) ≡ true → FirmIn mode list clips p (Awaiting q) → TellsIn mode list clips p aired q r
+        → (is_refusal r ≡ true) ⊎ ((is_refusal r ≡ false) × (is_asked q r ≡ true))
+        → Behind mode list clips p aired settled (on_answer mode list limit take tries q r)
+    answered Plain ends firm t which = answered_plain list clips p aired settled limit tries take q r h firm t.0 t.1 which
+    answered Confirming ends firm t (inl refused) =
+        let none = no_refusal r (no_receipt c r ends) in
+        absurd (impossible (sym refused ∙ none))
+      where
+        impossible : true ≡ false → ⊥
+        impossible e = cc
+    answered Confirming ends firm t (inr (none, asked)) =
+        answered_confirming list clips p aired settled limit tries take q r h (t (no_receipt c r ends)) none asked
+
+    asked_of : (is_refusal r ≡ true) ⊎ ((is_refusal r ≡ false) × (fits c r ≡ true)) → (is_refusal r ≡ true) ⊎ ((is_refusal r ≡ false) × (is_asked q r ≡ true))
+    asked_of (inl e) = inl e
+    asked_of (inr (none, f)) = inr (none, fits_asked list port q c r e f)
+
+    by : (b : Bool) → (is_refusal r || fits c r) ≡ b
+        → Behind mode list clips p aired settled (turn_by mode list limit take tries unanswered counts q (if b then Some r else None))
+    by true f = answered mode ends firm (told r refl) (asked_of (either (is_refusal r) (fits c r) f))
+    by false f = unanswered_place mode list clips p aired settled limit unanswered counts q h firm

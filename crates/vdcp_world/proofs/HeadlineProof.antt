@@ -1,0 +1,231 @@
+-- The headline of every channel that events have led to.
+use Rattle.std.proofs.Common.{ℕ, ◌+◌, ◌≡◌, ◌<◌, ◌≤◌, Bool, true, false, not, ◌&&◌, List, [], ◌∷◌, ◌++◌, All, length, take, drop, refl, arith, sym, ap, subst, ◌∙◌, inl, take-append-drop}
+use Rattle.std.proofs.Math.Seq.{take-length}
+use Rattle.std.specs.Prelude.{Option, None, Some, IsTrue, IsSome, IfSome, IsSomeAnd, slice_get, is_some}
+use Rattle.vdcp_value.specs.Parts.{IsItem}
+use Rattle.vdcp_value.specs.declared.clip_id.ClipId.{ClipId}
+use Rattle.vdcp_value.specs.declared.part.Item.{Item}
+use Rattle.vdcp_value.specs.declared.part.Part.{Part}
+use Rattle.vdcp_value.specs.declared.timecode.Timecode.{Timecode}
+use Rattle.vdcp_port.specs.Clips.{length_of, is_known, is_playable, can_cue}
+use Rattle.vdcp_port.specs.Port.{PortState, Cued}
+use Rattle.vdcp_auto.specs.Course as call
+use Rattle.vdcp_auto.specs.Course.{Reached, begun, called, Receive, logged}
+use Rattle.vdcp_auto.specs.Endings.{IsLost, IsRefused}
+use Rattle.vdcp_auto.specs.Law.{IsLawful}
+use Rattle.vdcp_auto.specs.Plan.{Plan}
+use Rattle.vdcp_auto.specs.Settled.{settled}
+use Rattle.vdcp_auto.specs.Turn.{outcome_of}
+use Rattle.vdcp_auto.specs.declared.exchange.Exchange.{Exchange}
+use Rattle.vdcp_auto.specs.declared.exchange.Heard.{Heard}
+use Rattle.vdcp_auto.specs.declared.exchange.Heard.TheVariants as heard
+use Rattle.vdcp_auto.specs.declared.outcome.Outcome.{Outcome}
+use Rattle.vdcp_auto.specs.declared.outcome.Outcome.TheVariants as outcome
+use Rattle.vdcp_auto.specs.declared.phase.Mode.{Mode}
+use Rattle.vdcp_auto.specs.declared.phase.Mode.TheVariants.{Plain, Confirming}
+use Rattle.vdcp_auto.specs.declared.phase.Phase.TheVariants.{Open}
+use Rattle.vdcp_auto.specs.declared.phase.Stage.{Stage}
+use Rattle.vdcp_auto.specs.declared.phase.Stage.TheVariants.{Ready, Awaiting, Ended}
+use Rattle.vdcp_auto.specs.declared.phase.State.{State}
+use Rattle.vdcp_words.specs.declared.reply.Reply.{Reply}
+use Rattle.vdcp_words.specs.declared.reply.Reply.TheVariants as reply
+use Rattle.vdcp_world.specs.Channel.{Channel, new_channel, after_event, after_events, IsReached, state_hearing, log_hearing, state_waiting, log_waiting, state_straying, log_straying}
+use Rattle.vdcp_auto.specs.Heard.{heard_in}
+use Rattle.vdcp_world.specs.Headline.{IsUnknownAt, IsOutside, IsRefusedIn, AreReported, Means, Headline}
+use Rattle.vdcp_world.specs.declared.event.Event.{Event}
+use Rattle.vdcp_world.specs.declared.event.Event.TheVariants as event
+use Rattle.vdcp_world.proofs.Below.{Below}
+use Rattle.vdcp_world.proofs.Exchanges.{near, taken, sent_place}
+use Rattle.vdcp_world.proofs.Kept.{IsKept, kept_event}
+use Rattle.vdcp_world.proofs.PhaseTable.{Aired, Near, Place, PlaceAt, PlaceEnded, FirmEnded, FirmIn, knows, refuses}
+use Rattle.vdcp_world.proofs.TableKept.{Stands, no_item}
+
+-- ---- channels that events have led to
+
+none_taken : (list : List Item) → [] ≡ take 0 list
+none_taken [] = refl
+none_taken (item ∷ list) = refl
+
+firm_new : (mode : Mode) (list : List Item) (clips : List (ClipId × Timecode)) (p : PortState) → FirmIn mode list clips p (Ready Open)
+firm_new Plain list clips p = tt
+firm_new Confirming list clips p = tt
+
+kept_new : (plan : Plan) (clips : List (ClipId × Timecode)) (unit cue_frames : ℕ) → unit ≤ 15 → plan.port < 256 → All IsItem plan.list
+    → IsKept (new_channel plan clips unit cue_frames)
+kept_new plan clips unit cue_frames u h items = record {
+  unit_fits = omega (arith, u);
+  port_fits = h;
+  of_bytes = items;
+  way = inl refl;
+  stands = record {
+    numbered = refl;
+    plays = tt;
+    place = (record { aired_is = none_taken plan.list; within = omega arith; cued_is = refl }, refl);
+    firm = firm_new plan.mode plan.list clips (new_channel plan clips unit cue_frames).port.state;
+  };
+  told = tt;
+}
+
+kept_events : Below → (c : Channel) (es : List Event) → IsKept c → IsKept (after_events c es)
+kept_events below c [] k = k
+kept_events below c (e ∷ es) k = kept_events below (after_event c e) es (kept_event below c e k)
+
+pub reached_kept : Below → (c : Channel) → IsReached c → IsKept c
+reached_kept below c r = subst IsKept (sym r.led) (kept_events below _ r.events
+    (kept_new r.plan r.clips r.unit r.cue_frames r.unit_fits r.port_fits r.of_bytes))
+
+-- ---- their controllers
+
+hears_reached : (plan : Plan) (state : State) (log : List Exchange) (h : Option Heard) → Reached plan state log
+    → Reached plan (state_hearing plan h state) (log_hearing plan h state log)
+hears_reached plan state log None r = r
+hears_reached plan state log (Some h) r = called r (Receive (Some h))
+
+waits_reached : (plan : Plan) (state : State) (log : List Exchange) (down up : List ℕ) → Reached plan state log
+    → Reached plan (state_waiting plan down up state) (log_waiting plan down up state log)
+waits_reached plan state log [] [] r = called r (Receive None)
+waits_reached plan state log [] (b ∷ up) r = r
+waits_reached plan state log (b ∷ down) up r = r
+
+strays_reached : (mode : Mode) (plan : Plan) (state : State) (log : List Exchange) (h : Reply) → Reached plan state log
+    → Reached plan (state_straying mode plan h state) (log_straying mode plan h state log)
+strays_reached Plain plan state log h r = r
+strays_reached Confirming plan state log h r = called r (Receive (Some (heard.Reply h)))
+
+controller_event : (c : Channel) (e : Event) → Reached c.plan c.state c.log → Reached (after_event c e).plan (after_event c e).state (after_event c e).log
+controller_event c event.Tick r = called r call.Tick
+controller_event c event.Down r = r
+controller_event c event.Up r = hears_reached c.plan c.state c.log (heard_in c.port.state.unit c.up) r
+controller_event c event.DownCopy r = r
+controller_event c event.UpCopy r = hears_reached c.plan c.state c.log (heard_in c.port.state.unit c.up) r
+controller_event c event.LoseDown r = r
+controller_event c event.LoseUp r = r
+controller_event c (event.AlterDown bytes) r = r
+controller_event c (event.AlterUp bytes) r = r
+controller_event c event.Timeout r = waits_reached c.plan c.state c.log c.down c.up r
+controller_event c event.Ready r = r
+controller_event c event.End r = r
+controller_event c event.Frame r = r
+controller_event c event.Take r = called r call.Take
+controller_event c event.Stop r = called r call.Stop
+controller_event c event.StrayAck r = strays_reached c.plan.mode c.plan c.state c.log reply.Ack r
+controller_event c (event.StrayNak byte) r = strays_reached c.plan.mode c.plan c.state c.log (reply.Nak byte) r
+
+controller_events : (c : Channel) (es : List Event) → Reached c.plan c.state c.log
+    → Reached (after_events c es).plan (after_events c es).state (after_events c es).log
+controller_events c [] r = r
+controller_events c (e ∷ es) r = controller_events (after_event c e) es (controller_event c e r)
+
+pub controller_reached : (c : Channel) → IsReached c → Reached c.plan c.state c.log
+controller_reached c r =
+    subst (λ (x : Channel). Reached x.plan x.state x.log) (sym r.led)
+    (controller_events (new_channel r.plan r.clips r.unit r.cue_frames) r.events (begun r.some r.few))
+
+-- ---- what went to air and what is reported
+
+near_aired : (list aired : List Item) (settled k : ℕ) → Aired list aired k → settled ≡ k → Near list aired settled
+near_aired list aired settled k a e =
+    let size : length aired ≡ k = ap length a.aired_is ∙ taken list k a.within in
+    record {
+      aired_is = a.aired_is ∙ sym (ap (λ (n : ℕ). take n list) size);
+      within = omega (arith, size, a.within);
+      low = omega (arith, size, e);
+      high = omega (arith, size, e);
+    }
+
+near_at : (list : List Item) (clips : List (ClipId × Timecode)) (cued : Cued) (aired : List Item) (settled : ℕ) (stage : Stage)
+    → PlaceAt list clips cued aired settled stage → Near list aired settled
+near_at list clips cued aired settled (Ready q) h = near list cued aired settled q (sent_place list cued aired settled q h)
+near_at list clips cued aired settled (Awaiting q) h = near list cued aired settled q h
+near_at list clips cued aired settled (Ended outcome.Done) h = near_aired list aired settled (length list) h.0 h.1
+near_at list clips cued aired settled (Ended outcome.Stopped) h = h
+near_at list clips cued aired settled (Ended outcome.Lost) h = h
+near_at list clips cued aired settled (Ended outcome.Denied) h = absurd h
+near_at list clips cued aired settled (Ended (outcome.Missing k)) h = near_aired list aired settled k h.0 h.1
+near_at list clips cued aired settled (Ended (outcome.Refused k)) h = near_aired list aired settled k h.0 h.1
+near_at list clips cued aired settled (Ended (outcome.Foreign k)) h = absurd h
+near_at list clips cued aired settled (Ended (outcome.Strange k)) h = absurd h
+
+begins : (list aired : List Item) (settled : ℕ) → Near list aired settled → (more : List Item) × (list ≡ aired ++ more)
+begins list aired settled n =
+    (drop (length aired) list, sym (take-append-drop (length aired) list) ∙ ap (λ (front : List Item). front ++ drop (length aired) list) (sym n.aired_is))
+
+-- ---- what the outcome means
+
+unknown_at : (clips : List (ClipId × Timecode)) (list : List Item) (k : ℕ) (o : Option Item) → slice_get list k ≡ o → k < length list
+    → knows clips o ≡ false → IsUnknownAt clips list k
+unknown_at clips list k None is below e = absurd (no_item list k below is)
+unknown_at clips list k (Some item) is below e = subst (λ (o : Option Item). IsSomeAnd o (λ item. is_known clips item.id ≡ false)) (sym is) e
+
+outside : (clips : List (ClipId × Timecode)) (item : Item) → refuses clips (Some item) ≡ true → IsOutside clips item
+outside clips item e = record {
+  is_part = part item.part (length_of clips item.id) e;
+  known = first (is_known clips item.id) (not (is_playable clips item)) e;
+  does_not_fit = second (is_known clips item.id) (is_playable clips item) e;
+}
+  where
+    first : (a b : Bool) → (a && b) ≡ true → IsTrue a
+    first true b e = refl
+    first false b e = cc
+
+    second : (a b : Bool) → (a && not b) ≡ true → b ≡ false
+    second a b e = grind arith
+
+    part : (o : Option Part) (clip : Option Timecode) → (is_some clip && not (can_cue clip o)) ≡ true → IsSome o
+    part None None e = cc
+    part None (Some clip) e = cc
+    part (Some p) clip e = refl
+
+outside_at : (clips : List (ClipId × Timecode)) (list : List Item) (k : ℕ) (o : Option Item) → slice_get list k ≡ o → refuses clips o ≡ true
+    → IsSomeAnd (slice_get list k) (IsOutside clips)
+outside_at clips list k None is e = cc
+outside_at clips list k (Some item) is e = subst (λ (o : Option Item). IsSomeAnd o (IsOutside clips)) (sym is) (outside clips item e)
+
+exactly : (plan : Plan) (aired : List Item) (log : List Exchange) (reported k : ℕ) → Aired plan.list aired k → reported ≡ k → reported ≡ settled plan.mode log
+    → AreReported plan aired log k
+exactly plan aired log reported k a e counted = record {
+  aired_count = ap length a.aired_is ∙ taken plan.list k a.within;
+  reported_count = sym counted ∙ e;
+}
+
+refused_in : (mode : Mode) (clips : List (ClipId × Timecode)) (plan : Plan) (log : List Exchange) (p : PortState) (k : ℕ)
+    → FirmIn mode plan.list clips p (Ended (outcome.Refused k)) → (mode ≡ Confirming → IsRefused plan.list plan.limit log k) → IsRefusedIn mode clips plan log k
+refused_in Plain clips plan log p k firm by_log = outside_at clips plan.list k (slice_get plan.list k) refl firm
+refused_in Confirming clips plan log p k firm by_log = by_log refl
+
+means : (c : Channel) (o : Outcome) → PlaceEnded c.plan.list c.port.clips c.aired c.state.settled o
+    → FirmIn c.plan.mode c.plan.list c.port.clips c.port.state (Ended o)
+    → IsLawful c.plan c.state c.log → outcome_of c.state.stage ≡ Some o → Means c.port.clips c.plan c.aired c.log o
+means c outcome.Done h firm l e =
+    (h.0.aired_is ∙ take-length c.plan.list, exactly c.plan c.aired c.log c.state.settled (length c.plan.list) h.0 h.1 l.is_settled)
+means c outcome.Stopped h firm l e = tt
+means c outcome.Lost h firm l e = l.is_lost.0 e
+means c outcome.Denied h firm l e = h
+means c (outcome.Missing k) h firm l e =
+    (unknown_at c.port.clips c.plan.list k (slice_get c.plan.list k) refl h.2 h.3, exactly c.plan c.aired c.log c.state.settled k h.0 h.1 l.is_settled)
+means c (outcome.Refused k) h firm l e = (
+  refused_in c.plan.mode c.port.clips c.plan c.log c.port.state k firm (λ confirms. l.is_refused confirms k e),
+  exactly c.plan c.aired c.log c.state.settled k h.0 h.1 l.is_settled,
+)
+means c (outcome.Foreign k) h firm l e = h
+means c (outcome.Strange k) h firm l e = h
+
+means_at : (c : Channel) (stage : Stage) → c.state.stage ≡ stage → Stands c.plan c.port.clips c.port.state c.aired c.state.settled stage
+    → IsLawful c.plan c.state c.log
+    → IfSome (outcome_of stage) (Means c.port.clips c.plan c.aired c.log)
+means_at c (Ready q) e s l = tt
+means_at c (Awaiting q) e s l = tt
+means_at c (Ended o) e s l = means c o s.place s.firm l (ap outcome_of e)
+
+pub headline : (c : Channel) → IsKept c → IsLawful c.plan c.state c.log → Headline c
+headline c k l =
+    let near = near_at c.plan.list c.port.clips c.port.state.cued c.aired c.state.settled c.state.stage k.stands.place in
+    record {
+      beginning = begins c.plan.list c.aired c.state.settled near;
+      reported = near.low;
+      but_one = near.high;
+      is_settled = l.is_settled;
+      keeps_rules = l.keeps_rules;
+      may_await = l.may_await;
+      ended = means_at c c.state.stage refl k.stands l;
+    }

@@ -1,0 +1,10 @@
+use Rattle.vdcp_world.proofs.world.World.reported.Goals as goal
+
+pub returns-clause-settled : goal.returns-clause-settled
+returns-clause-settled g c = rw (← c.self.view_is, c.reported.ensures) (c.reached_keeps_the_headline.ensures _ c.self.invariant).is_settled
+
+pub returns-clause-aired : goal.returns-clause-aired
+returns-clause-aired g c = rw (← c.self.view_is, c.reported.ensures) (c.reached_keeps_the_headline.ensures _ c.self.invariant).reported
+
+pub returns-clause-but_one : goal.returns-clause-but_one
+returns-clause-but_one g c = rw (← c.self.view_is, c.reported.ensures) (c.reached_keeps_the_headline.ensures _ c.self.invariant).but_one
