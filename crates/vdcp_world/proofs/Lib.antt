@@ -13,3 +13,6 @@ pub mod WayKept
 pub mod TableKept
 pub mod Kept
 pub mod HeadlineProof
+pub mod GoodRound
+pub mod RoundsLeft
+pub mod BoundedEndProof
