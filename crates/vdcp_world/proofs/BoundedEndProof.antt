@@ -36,6 +36,7 @@ use Rattle.vdcp_world.specs.Rounds.{round, good_round, times}
 use Rattle.vdcp_world.specs.declared.event.Event.{Event}
 use Rattle.vdcp_world.specs.declared.event.Event.TheVariants as event
 use Rattle.vdcp_world.proofs.Below.{Below}
+use Rattle.vdcp_world.proofs.ConfirmedRounds.{left_before, left_behind, left_from, Before, Executed, Comes, senses, sense_of, before_stays, Steps, sense_steps, Stays, receipt_stays}
 use Rattle.vdcp_world.proofs.Exchanges.{sent_place, turn_by}
 use Rattle.vdcp_world.proofs.GoodRound.{Exchanged, exchanged, exchange, waits_still, hears_still, gives_own, turns_on}
 use Rattle.vdcp_world.proofs.HeadlineProof.{reached_kept, controller_reached}

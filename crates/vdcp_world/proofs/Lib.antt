@@ -15,4 +15,5 @@ pub mod Kept
 pub mod HeadlineProof
 pub mod GoodRound
 pub mod RoundsLeft
+pub mod ConfirmedRounds
 pub mod BoundedEndProof

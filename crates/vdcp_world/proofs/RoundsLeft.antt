@@ -77,7 +77,7 @@ abbrev pub plays : List (ClipId × Timecode) → Option Item → Bool
 plays clips None = true
 plays clips (Some item) = is_playable clips item
 
-known_of : (clip : Option Timecode) (part : Option Part) → can_cue clip part ≡ true → is_some clip ≡ true
+pub known_of : (clip : Option Timecode) (part : Option Part) → can_cue clip part ≡ true → is_some clip ≡ true
 known_of None part e = cc
 known_of (Some clip) part e = refl
 
