@@ -10,18 +10,23 @@ use Rattle.vdcp_words.specs.declared.reply.Reply.{Reply}
 use Rattle.vdcp_port.specs.Answers.{sent_for, after_burst}
 use Rattle.vdcp_port.specs.Clock.{ClockedPort, after_change, after_ready, after_ended}
 use Rattle.vdcp_port.specs.Row.{command_row}
+use Rattle.vdcp_auto.specs.Commands.{is_sense}
 use Rattle.vdcp_auto.specs.Heard.{heard_in}
+use Rattle.vdcp_auto.specs.Log.{is_counted}
 use Rattle.vdcp_auto.specs.Plan.{Plan}
-use Rattle.vdcp_auto.specs.Table.{command_in}
-use Rattle.vdcp_auto.specs.Turn.{awaited, given, given_in, ticked, tick_in, sent, phase_to_send, came_to, exchange_of, ended_in, is_end, turn_of, turned, unanswered_after}
+use Rattle.vdcp_auto.specs.Table.{command_in, on_no_answer}
+use Rattle.vdcp_auto.specs.Turn.{awaited, awaited_in, given, given_in, ticked, tick_in, sent, phase_to_send, came_to, exchange_of, ended_in, is_end, on_unanswered, turn_of, turned, unanswered_after}
 use Rattle.vdcp_auto.specs.declared.exchange.Exchange.{Exchange}
 use Rattle.vdcp_auto.specs.declared.exchange.Heard.{Heard}
 use Rattle.vdcp_auto.specs.declared.exchange.Heard.TheVariants as heard
 use Rattle.vdcp_auto.specs.declared.outcome.Outcome.{Outcome}
+use Rattle.vdcp_auto.specs.declared.phase.Mode.{Mode}
+use Rattle.vdcp_auto.specs.declared.phase.Mode.TheVariants.{Confirming}
 use Rattle.vdcp_auto.specs.declared.phase.Phase.{Phase}
 use Rattle.vdcp_auto.specs.declared.phase.Stage.{Stage}
 use Rattle.vdcp_auto.specs.declared.phase.Stage.TheVariants.{Ready, Awaiting, Ended}
 use Rattle.vdcp_auto.specs.declared.phase.State.{State}
+use Rattle.vdcp_auto.specs.declared.phase.Turn.{Turn}
 use Rattle.vdcp_world.specs.Channel.{Channel, after_event, after_events, down_behind, up_behind, answered, state_hearing, state_waiting}
 use Rattle.vdcp_world.specs.Rounds.{round}
 use Rattle.vdcp_world.specs.declared.event.Event.{Event}
@@ -124,3 +129,24 @@ pub hears_still : (plan : Plan) (h : Option Heard) (state : State) → awaited p
 hears_still plan None state e = refl
 hears_still plan (Some h) state e =
     ap (λ (o : Option Command). option_map_or (λ x. ended_in plan state.stage x state) (exchange_of plan.mode (Some h) o) state) e
+
+-- and the time-out of an exchange in confirm mode whose command a receipt answers
+pub waits_over : (plan : Plan) (state : State) (q : Phase) (d : Command) → plan.mode ≡ Confirming → state.stage ≡ Awaiting q
+    → command_in plan.list plan.port q ≡ Some d → is_sense d ≡ false
+    → came_to plan None state
+    ≡ turned (on_no_answer Confirming q) (unanswered_after plan.mode (record { command = d; heard = None }) state.unanswered) state
+waits_over plan state q d confirms e is no_sense =
+    ap (λ (stage : Stage). option_map_or (λ x. ended_in plan stage x state) (exchange_of plan.mode None (awaited_in plan stage)) state) e
+    ∙ ap (λ (o : Option Command). of (exchange_of plan.mode None o)) is
+    ∙ ap (λ (mode : Mode). of (if is_end mode d None then Some silent else None)) confirms
+    ∙ ap (λ (mode : Mode). to (on_unanswered mode plan.limit state.unanswered (is_counted mode silent) q)) confirms
+    ∙ ap (λ (b : Bool). to (on_unanswered Confirming plan.limit state.unanswered b q)) no_sense
+  where
+    silent : Exchange
+    silent = record { command = d; heard = None }
+
+    of : Option Exchange → State
+    of o = option_map_or (λ x. ended_in plan (Awaiting q) x state) o state
+
+    to : Turn → State
+    to turn = turned turn (unanswered_after plan.mode silent state.unanswered) state
