@@ -1,29 +1,26 @@
 -- The bounded end of every channel that events have led to.
-use Rattle.std.proofs.Common.{ℕ, zero, suc, ◌+◌, ◌-◌, ◌*◌, ◌≡◌, ◌<◌, ◌≤◌, Bool, true, false, ◌&&◌, not, List, [], ◌∷◌, ◌++◌, All, length, get_or, refl, sym, ap, subst, ◌∙◌, arith}
+use Rattle.std.proofs.Common.{ℕ, zero, suc, ◌+◌, ◌-◌, ◌*◌, ◌≡◌, ◌<◌, ◌≤◌, Bool, true, false, ◌&&◌, not, List, [], ◌∷◌, All, length, refl, sym, ap, subst, ◌∙◌, arith}
 use Rattle.std.proofs.Math.Seq.{take-length}
 use Rattle.std.proofs.lemmas.List.Elements.{All-get_or}
 use Rattle.std.proofs.lemmas.Option.{slice_get_within, get_or_from_slice_get}
-use Rattle.std.specs.List.{list_any}
 use Rattle.std.specs.Prelude.{Option, None, Some, IsTrue, slice_get}
 use Rattle.vdcp_value.specs.declared.clip_id.ClipId.{ClipId}
 use Rattle.vdcp_value.specs.declared.part.Item.{Item}
 use Rattle.vdcp_value.specs.declared.timecode.Timecode.{Timecode}
 use Rattle.vdcp_words.specs.declared.command.Command.{Command}
 use Rattle.vdcp_words.specs.declared.command.Command.TheVariants as command
-use Rattle.vdcp_words.specs.declared.reply.Reply.{Reply}
 use Rattle.vdcp_port.specs.Clips.{is_playable}
 use Rattle.vdcp_port.specs.Clock.{ClockedPort}
 use Rattle.vdcp_port.specs.Port.{PortState, Cued, empty, cueing, done, made_ready, is_cueing as is_cueing_slot}
 use Rattle.vdcp_auto.specs.Commands.{is_sense}
 use Rattle.vdcp_auto.specs.Course.{Reached}
 use Rattle.vdcp_auto.specs.Law.{IsLawful}
-use Rattle.vdcp_auto.specs.Log.{answer_in, is_counted, is_stop}
+use Rattle.vdcp_auto.specs.Log.{answer_in, is_counted}
 use Rattle.vdcp_auto.specs.Plan.{Plan}
 use Rattle.vdcp_auto.specs.Replies.{is_receipt}
 use Rattle.vdcp_auto.specs.Table.{command_in, is_halting, on_no_answer}
-use Rattle.vdcp_auto.specs.Turn.{start, stage_after, settled_after, is_ready, outcome_of, awaited, awaited_in, ticked, tick_in, sent, take_after_sending, came_to, exchange_of, ended_in, is_end, turn_of, turned, unanswered_after}
+use Rattle.vdcp_auto.specs.Turn.{start, stage_after, settled_after, is_ready, outcome_of, awaited_in, ticked, tick_in, sent, take_after_sending, is_end, turn_of, turned, unanswered_after}
 use Rattle.vdcp_auto.specs.declared.exchange.Exchange.{Exchange}
-use Rattle.vdcp_auto.specs.declared.exchange.Heard.{Heard}
 use Rattle.vdcp_auto.specs.declared.exchange.Heard.TheVariants as heard
 use Rattle.vdcp_auto.specs.declared.outcome.Outcome.{Outcome}
 use Rattle.vdcp_auto.specs.declared.outcome.Outcome.TheVariants as outcome
@@ -37,9 +34,8 @@ use Rattle.vdcp_auto.specs.declared.phase.State.{State}
 use Rattle.vdcp_auto.specs.declared.phase.Turn.{Turn}
 use Rattle.vdcp_auto.specs.declared.phase.Turn.TheVariants as turn
 use Rattle.vdcp_world.specs.BoundedEnd.{IsDone, IsAllPlayable, CanGoOn, CanBegin, rounds_to_go_on, rounds_from_new, BoundedEnd}
-use Rattle.vdcp_world.specs.Channel.{Channel, Make, IsReached, after_event, after_events, state_hearing, state_waiting}
+use Rattle.vdcp_world.specs.Channel.{Channel, Make, IsReached, after_events, state_hearing, state_waiting}
 use Rattle.vdcp_world.specs.Rounds.{round, good_round, times}
-use Rattle.vdcp_world.specs.declared.event.Event.{Event}
 use Rattle.vdcp_world.specs.declared.event.Event.TheVariants as event
 use Rattle.vdcp_world.proofs.Below.{Below}
 use Rattle.vdcp_world.proofs.ConfirmedRounds.{left_before, left_behind, left_from, Before, Executed, Comes, senses, sense_of, before_stays, Steps, sense_steps, Stays, receipt_stays}
@@ -50,7 +46,7 @@ use Rattle.vdcp_world.proofs.Kept.{IsKept, kept_event}
 use Rattle.vdcp_world.proofs.PhaseTable.{PlaceAt, PlaceReady, Firm, FirmIn, answer_after, port_after}
 use Rattle.vdcp_world.proofs.Reached.{events_reached, make_after_all}
 use Rattle.vdcp_world.proofs.RoundsLeft.{left, left_at, Goes, Nears, answer_at, plays, plain_nears, left_most}
-use Rattle.vdcp_world.proofs.TableKept.{Stands, gives_some, turn_same}
+use Rattle.vdcp_world.proofs.TableKept.{gives_some, turn_same}
 
 -- ---- where it ends
 

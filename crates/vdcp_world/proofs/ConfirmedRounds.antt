@@ -1,5 +1,5 @@
 -- In confirm mode: how many good rounds a stage has before it at most, and that each good round leaves fewer.
-use Rattle.std.proofs.Common.{◌≡◌, ℕ, ◌+◌, ◌-◌, ◌*◌, ◌<◌, ◌≤◌, ◌⊎◌, inl, inr, Bool, true, false, ◌||◌, ◌&&◌, not, nat_lt, List, length, Option, is_some, Some, None, refl, ap, sym, subst, arith, ◌∙◌}
+use Rattle.std.proofs.Common.{◌≡◌, ℕ, ◌+◌, ◌-◌, ◌*◌, ◌<◌, Bool, true, false, nat_lt, List, length, Option, Some, None, refl, arith}
 use Rattle.std.specs.Option.{option_map}
 use Rattle.std.specs.Prelude.{slice_get, if◌then◌else◌}
 use Rattle.vdcp_value.specs.declared.clip_id.ClipId.{ClipId}
@@ -10,23 +10,21 @@ use Rattle.vdcp_words.specs.declared.command.Command.{Command}
 use Rattle.vdcp_words.specs.declared.command.Command.TheVariants as command
 use Rattle.vdcp_words.specs.declared.reply.Reply.{Reply}
 use Rattle.vdcp_words.specs.declared.reply.Reply.TheVariants as reply
-use Rattle.vdcp_port.specs.Clips.{length_of, is_known, is_playable, can_cue}
+use Rattle.vdcp_port.specs.Clips.{length_of, is_known, is_playable}
 use Rattle.vdcp_port.specs.Port.{PortState, Cued, empty, cueing, done, is_selected, is_open, made_ready, ready_state, ended_state, is_empty as is_empty_slot, is_cueing as is_cueing_slot}
 use Rattle.vdcp_auto.specs.Commands.{cue_for, cue_of, is_sense}
 use Rattle.vdcp_auto.specs.Replies.{is_receipt}
 use Rattle.vdcp_auto.specs.Table.{command_in, next}
 use Rattle.vdcp_auto.specs.Turn.{stage_after, settled_after}
-use Rattle.vdcp_auto.specs.declared.outcome.Outcome.{Outcome}
 use Rattle.vdcp_auto.specs.declared.outcome.Outcome.TheVariants as outcome
-use Rattle.vdcp_auto.specs.declared.phase.Mode.{Mode}
-use Rattle.vdcp_auto.specs.declared.phase.Mode.TheVariants.{Plain, Confirming}
+use Rattle.vdcp_auto.specs.declared.phase.Mode.TheVariants.{Confirming}
 use Rattle.vdcp_auto.specs.declared.phase.Phase.{Phase}
 use Rattle.vdcp_auto.specs.declared.phase.Phase.TheVariants as phase
 use Rattle.vdcp_auto.specs.declared.phase.Stage.{Stage}
 use Rattle.vdcp_auto.specs.declared.phase.Stage.TheVariants.{Ready, Awaiting, Ended}
 use Rattle.vdcp_auto.specs.declared.phase.Turn.{Turn}
 use Rattle.vdcp_world.proofs.Exchanges.{turn_by}
-use Rattle.vdcp_world.proofs.PhaseTable.{Idle, Coming, Standing, Place, PlaceReady, answer_after, port_after}
+use Rattle.vdcp_world.proofs.PhaseTable.{PlaceReady, answer_after, port_after}
 use Rattle.vdcp_world.proofs.RoundsLeft.{answer_at, plays, known_of}
 
 -- where so many events aren't settled, before the phase's command is sent

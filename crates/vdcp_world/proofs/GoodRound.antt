@@ -1,5 +1,5 @@
 -- A good round, from bytes to bytes: what the controller sends, what the port answers, and what is heard.
-use Rattle.std.proofs.Common.{ℕ, ◌≡◌, ◌<◌, ◌≤◌, Bool, true, false, List, [], ◌∷◌, ◌++◌, refl, sym, ap, subst, ◌∙◌, arith, if◌then◌else◌}
+use Rattle.std.proofs.Common.{ℕ, ◌≡◌, Bool, true, false, List, [], ◌∷◌, refl, sym, ap, subst, ◌∙◌, arith, if◌then◌else◌}
 use Rattle.std.specs.Option.{option_map_or}
 use Rattle.std.specs.Prelude.{Option, None, Some, IfSome}
 use Rattle.vdcp_frame.specs.Burst.{messages_of}
@@ -8,7 +8,7 @@ use Rattle.vdcp_words.specs.Commands.{command_message, IsWritableCommand}
 use Rattle.vdcp_words.specs.declared.command.Command.{Command}
 use Rattle.vdcp_words.specs.declared.reply.Reply.{Reply}
 use Rattle.vdcp_port.specs.Answers.{sent_for, after_burst}
-use Rattle.vdcp_port.specs.Clock.{ClockedPort, after_change, after_ready, after_ended}
+use Rattle.vdcp_port.specs.Clock.{ClockedPort, after_change}
 use Rattle.vdcp_port.specs.Row.{command_row}
 use Rattle.vdcp_auto.specs.Commands.{is_sense}
 use Rattle.vdcp_auto.specs.Heard.{heard_in}
@@ -19,17 +19,15 @@ use Rattle.vdcp_auto.specs.Turn.{awaited, awaited_in, given, given_in, ticked, t
 use Rattle.vdcp_auto.specs.declared.exchange.Exchange.{Exchange}
 use Rattle.vdcp_auto.specs.declared.exchange.Heard.{Heard}
 use Rattle.vdcp_auto.specs.declared.exchange.Heard.TheVariants as heard
-use Rattle.vdcp_auto.specs.declared.outcome.Outcome.{Outcome}
 use Rattle.vdcp_auto.specs.declared.phase.Mode.{Mode}
 use Rattle.vdcp_auto.specs.declared.phase.Mode.TheVariants.{Confirming}
 use Rattle.vdcp_auto.specs.declared.phase.Phase.{Phase}
 use Rattle.vdcp_auto.specs.declared.phase.Stage.{Stage}
-use Rattle.vdcp_auto.specs.declared.phase.Stage.TheVariants.{Ready, Awaiting, Ended}
+use Rattle.vdcp_auto.specs.declared.phase.Stage.TheVariants.{Ready, Awaiting}
 use Rattle.vdcp_auto.specs.declared.phase.State.{State}
 use Rattle.vdcp_auto.specs.declared.phase.Turn.{Turn}
-use Rattle.vdcp_world.specs.Channel.{Channel, after_event, after_events, down_behind, up_behind, answered, state_hearing, state_waiting}
+use Rattle.vdcp_world.specs.Channel.{Channel, after_events, down_behind, up_behind, answered, state_hearing, state_waiting}
 use Rattle.vdcp_world.specs.Rounds.{round}
-use Rattle.vdcp_world.specs.declared.event.Event.{Event}
 use Rattle.vdcp_world.specs.declared.event.Event.TheVariants as event
 use Rattle.vdcp_world.proofs.Below.{Below}
 use Rattle.vdcp_world.proofs.Kept.{IsKept, keeps_unit}

@@ -1,5 +1,5 @@
 -- The bounded end: so many good rounds bring the whole playlist to air.
-use Rattle.std.specs.Prelude.{ℕ, ◌+◌, ◌-◌, ◌*◌, ◌≡◌, ◌≤◌, false, IsTrue, Some, List, All, length}
+use Rattle.std.specs.Prelude.{ℕ, ◌+◌, ◌-◌, ◌*◌, ◌≡◌, ◌≤◌, false, IsTrue, Some, All, length}
 use Rattle.std.specs.List.{list_any}
 use Rattle.vdcp_port.specs.Clips.{is_playable}
 use Rattle.vdcp_auto.specs.Log.{is_stop}
