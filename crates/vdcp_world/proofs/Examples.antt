@@ -102,11 +102,38 @@ state byte = reply.State 1 (Some byte)
 nothing_to_play : seen (after_events (new Plain []) (good 4)) ≡ ends [] 0 4 (Some Done)
 nothing_to_play = refl
 
+nothing_to_play_is_not_done_in_3_rounds : seen (after_events (new Plain []) (good 3)) ≡ ends [] 0 3 None
+nothing_to_play_is_not_done_in_3_rounds = refl
+
 two_events : seen (after_events (new Plain both) (good 14)) ≡ ends both 2 14 (Some Done)
 two_events = refl
 
 two_events_are_not_done_in_13_rounds : seen (after_events (new Plain both) (good 13)) ≡ ends both 2 13 None
 two_events_are_not_done_in_13_rounds = refl
+
+-- of one event PLAY is lost, or its answer
+
+abbrev one_lost_play : Channel
+one_lost_play = after_events (new Plain one) (good 5 ++ Tick ∷ LoseDown ∷ Timeout ∷ [])
+
+one_lost_play_takes_5_rounds : seen (after_events one_lost_play (good 5)) ≡ ends one 1 11 (Some Done)
+one_lost_play_takes_5_rounds = refl
+
+one_lost_play_is_not_done_in_4_rounds : seen (after_events one_lost_play (good 4)) ≡ ends one 1 10 None
+one_lost_play_is_not_done_in_4_rounds = refl
+
+abbrev one_lost_answer : Channel
+one_lost_answer = after_events (new Plain one) (good 5 ++ Tick ∷ Down ∷ LoseUp ∷ Timeout ∷ [])
+
+one_lost_answer_takes_4_rounds : seen (after_events one_lost_answer (good 4)) ≡ ends one 1 10 (Some Done)
+one_lost_answer_takes_4_rounds = refl
+
+one_lost_answer_is_not_done_in_3_rounds : seen (after_events one_lost_answer (good 3)) ≡ ends one 1 9 None
+one_lost_answer_is_not_done_in_3_rounds = refl
+
+-- a STOP that is lost has spent the wish, and is sent again
+lost_stop : seen (after_events (new Plain one) (Stop ∷ Tick ∷ LoseDown ∷ Timeout ∷ good 9)) ≡ ends [] 0 3 (Some Stopped)
+lost_stop = refl
 
 -- PLAY is lost while the clip before still plays, and is sent again
 abbrev lost_play : Channel
@@ -266,6 +293,15 @@ time_out_while_something_is_on_the_way = refl
 
 one_event_confirmed : seen (after_events (new Confirming one) (good 12)) ≡ ends one 1 11 (Some Done)
 one_event_confirmed = refl
+
+one_event_is_not_confirmed_in_11_rounds : seen (after_events (new Confirming one) (good 11)) ≡ ends one 1 10 None
+one_event_is_not_confirmed_in_11_rounds = refl
+
+nothing_confirmed : seen (after_events (new Confirming []) (good 6)) ≡ ends [] 0 5 (Some Done)
+nothing_confirmed = refl
+
+nothing_is_not_confirmed_in_5_rounds : seen (after_events (new Confirming []) (good 5)) ≡ ends [] 0 4 None
+nothing_is_not_confirmed_in_5_rounds = refl
 
 receipts_from_nowhere : seen (after_events (new Confirming one) (Tick ∷ StrayNak 0x01 ∷ AlterUp (0x04 ∷ []) ∷ Up ∷ [])) ≡ ends [] 0 0 None
 receipts_from_nowhere = refl

@@ -54,7 +54,7 @@ pub record Delivered (plan : Plan) (state : State) (aired : List Item) (unit : �
   pub still : ToldAt plan.mode plan.list p.clips p.state (aired ++ more) state.stage up
   pub sent : ToldAt plan.mode plan.list p.clips p.state (aired ++ more) state.stage answer
 
-keeps_unit : (change : Change) (p : ClockedPort) → (after_change change p).state.unit ≡ p.state.unit
+pub keeps_unit : (change : Change) (p : ClockedPort) → (after_change change p).state.unit ≡ p.state.unit
 keeps_unit keeps p = refl
 keeps_unit opens p = refl
 keeps_unit closes p = refl

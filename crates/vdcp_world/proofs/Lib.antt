@@ -13,3 +13,7 @@ pub mod WayKept
 pub mod TableKept
 pub mod Kept
 pub mod HeadlineProof
+pub mod GoodRound
+pub mod RoundsLeft
+pub mod ConfirmedRounds
+pub mod BoundedEndProof

@@ -1,5 +1,6 @@
 -- Channels that events have led to, and what they keep of a channel.
-use Rattle.std.proofs.Common.{ℕ, ◌+◌, ◌≡◌, ◌<◌, ◌≤◌, Bool, true, false, All, List, [], ◌∷◌, ◌++◌, length, take, get_or, refl, sym, ap, subst, ◌∙◌, if◌then◌else◌}
+use Rattle.std.proofs.Common.{ℕ, ◌+◌, ◌≡◌, ◌<◌, ◌≤◌, Bool, true, false, All, List, [], ◌∷◌, ◌++◌, length, take, get_or, refl, sym, ap, subst, arith, ◌∙◌, if◌then◌else◌}
+use Rattle.std.proofs.Math.Seq.{take-length}
 use Rattle.std.proofs.lemmas.List.{take_more}
 use Rattle.std.specs.Prelude.{Result, Ok, Err, OnOk, OnErr}
 use Rattle.vdcp_value.specs.Parts.{IsItem}
@@ -68,6 +69,12 @@ pub one_more : (c : Channel) (es : List Event) (i : ℕ) (e : Event) → i < len
 one_more c es i e below is =
     let taken : take (i + 1) es ≡ take i es ++ e ∷ [] = take_more es i e below ∙ ap (λ x. take i es ++ x ∷ []) (sym is) in
     ap (after_events c) taken ∙ after_all c (take i es) (e ∷ [])
+
+-- all events of a list
+pub all_happened : (c now : Channel) (es : List Event) (i : ℕ) → length es ≤ i → i ≤ length es → now ≡ after_events c (take i es) → now ≡ after_events c es
+all_happened c now es i low high is =
+    let all : i ≡ length es = omega (arith, low, high) in
+    is ∙ ap (λ (n : ℕ). after_events c (take n es)) all ∙ ap (after_events c) (take-length es)
 
 -- ---- what a channel was made with stays
 

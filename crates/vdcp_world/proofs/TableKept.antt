@@ -111,7 +111,7 @@ none_of f (Some item) e = cc
 some_at : (list : List Item) (k : ℕ) (f : Item → Command) → k < length list → option_map f (slice_get list k) ≡ None → ⊥
 some_at list k f below none = no_item list k below (none_of f (slice_get list k) none)
 
-gives_some : (list : List Item) (port : ℕ) (cued : Cued) (aired : List Item) (settled : ℕ) (q : Phase) → Place list cued aired settled q
+pub gives_some : (list : List Item) (port : ℕ) (cued : Cued) (aired : List Item) (settled : ℕ) (q : Phase) → Place list cued aired settled q
     → command_in list port q ≡ None → ⊥
 gives_some list port cued aired settled phase.Open h e = cc
 gives_some list port cued aired settled phase.Select h e = cc
@@ -143,7 +143,7 @@ tick_told plan clips p aired state h s none told = by state.stage s none
 
 -- ---- something comes, or nothing in time
 
-turn_same : (plan : Plan) (take : Bool) (tries unanswered : ℕ) (counts : Bool) (q : Phase) (o : Option Reply)
+pub turn_same : (plan : Plan) (take : Bool) (tries unanswered : ℕ) (counts : Bool) (q : Phase) (o : Option Reply)
     → turn_by plan.mode plan.list plan.limit take tries unanswered counts q o ≡ turn_on plan take tries unanswered counts q o
 turn_same plan take tries unanswered counts q None = refl
 turn_same plan take tries unanswered counts q (Some r) = refl

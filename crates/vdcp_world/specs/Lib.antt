@@ -2,3 +2,4 @@ pub mod Beginnings
 pub mod Channel
 pub mod Rounds
 pub mod Headline
+pub mod BoundedEnd

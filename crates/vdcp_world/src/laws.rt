@@ -1,5 +1,6 @@
-//! The law of the definitions that the contracts of this crate cite. The function does nothing: its
-//! contract is the law, and a caller whose proof needs it calls it.
+//! The laws of the definitions that the contracts of this crate cite. The functions do nothing: their
+//! contracts are the laws, and a caller whose proof needs one calls it.
+ghost use Rattle.vdcp_world.specs.BoundedEnd.{BoundedEnd};
 ghost use Rattle.vdcp_world.specs.Channel.{Channel, IsReached};
 ghost use Rattle.vdcp_world.specs.Headline.{Headline};
 
@@ -18,6 +19,29 @@ ghost use Rattle.vdcp_world.specs.Headline.{Headline};
 /// - the controller never ends Denied, Foreign or Strange.
 pub fn reached_keeps_the_headline()
     ensures { (c : Channel) → IsReached c → Headline c }
+{
+    vdcp_frame::laws::a_spelling_is_its_message();
+    vdcp_words::laws::command_is_read_first();
+    vdcp_words::laws::reply_is_read_first();
+    vdcp_words::laws::written_reply_is_read();
+    vdcp_port::laws::a_command_has_its_own_row();
+    vdcp_port::laws::a_command_is_answered();
+    vdcp_port::laws::a_burst_without_a_message();
+    vdcp_port::laws::a_burst_with_one_message();
+    vdcp_port::laws::the_unit_stays();
+    vdcp_auto::laws::commands_can_be_written();
+    vdcp_auto::laws::a_receipt_confirms_nothing();
+    vdcp_auto::laws::reached_is_lawful();
+}
+
+/// In plain mode, from whatever channel that events have led to, in which nothing is awaited, the
+/// controller hasn't ended, and no stop is wished for or was sent; and in confirm mode from a new channel:
+/// where each item of the playlist is in the catalogue, and each part fits its clip, so many good rounds
+/// bring the whole playlist to air, all of it reported, and the controller to Done. In plain mode five
+/// rounds for each event that isn't reported, and four, are enough, and in confirm mode six for each event,
+/// and six; and whatever number above. That good rounds ever come isn't said.
+pub fn good_rounds_bring_all_to_air()
+    ensures { (c : Channel) → IsReached c → BoundedEnd c }
 {
     vdcp_frame::laws::a_spelling_is_its_message();
     vdcp_words::laws::command_is_read_first();

@@ -1,4 +1,4 @@
-ghost use Rattle.std.specs.Prelude.{◌≡◌, ◌+◌, ◌≤◌, ◌<◌, ◌++◌, List, length, IfSome, OnOk, OnErr};
+ghost use Rattle.std.specs.Prelude.{ℕ, ◌≡◌, ◌+◌, ◌≤◌, ◌<◌, ◌++◌, List, length, IfSome, OnOk, OnErr};
 ghost use Rattle.vdcp_auto.specs.RuleBook.{KeepsRules};
 ghost use Rattle.vdcp_auto.specs.Settled.{settled};
 ghost use Rattle.vdcp_auto.specs.Turn.{outcome_of};
@@ -7,9 +7,11 @@ ghost use Rattle.vdcp_auto.specs.declared.phase.Mode.TheVariants.{Plain, Confirm
 ghost use Rattle.vdcp_world.specs.declared.event.Event.{Event};
 ghost use Rattle.vdcp_world.specs.Channel.{new_channel, after_event, after_events, make_of};
 ghost use Rattle.vdcp_world.specs.Headline.{Headline, Means};
+ghost use Rattle.vdcp_world.specs.Rounds.{good_round, times};
+ghost use Rattle.vdcp_world.specs.BoundedEnd.{IsDone, CanGoOn, CanBegin, rounds_to_go_on, rounds_from_new};
 
 use crate::event::Event;
-use crate::laws::reached_keeps_the_headline;
+use crate::laws::{good_rounds_bring_all_to_air, reached_keeps_the_headline};
 use crate::link::Link;
 use std::alloc::{AllocError, Allocator};
 use std::marker::Model;
@@ -134,13 +136,26 @@ impl<S: Source, C: Catalogue, A: Allocator + Copy> World<S, C, A> {
 
     /// The events happen, in order, up to the first for which memory is refused: the answer is then
     /// `AllocError`, and those before it have happened.
+    ///
+    /// A good round is the events `Timeout`, `Ready`, `End`, `Tick`, `Down`, `Up`. Where each item of the
+    /// playlist is in the catalogue, and each part fits its clip, a run of so many good rounds that answers
+    /// `Ok` leaves the controller Done, the whole playlist aired, and all of it reported:
+    ///
+    /// - in plain mode (`plain_end`), whatever happened before, while nothing is awaited, the controller hasn't
+    ///   ended, and no stop is wished for or was sent: five for each event that isn't reported, and four, or more;
+    /// - in confirm mode (`confirming_end`), of a new world: six for each event, and six, or more.
     pub fn run(&mut self, events: &[Event]) -> Result<(), AllocError>
         ensures run { OnOk result (self.new ≡ after_events self.old events.now) }
         ensures front { (done left : List Event) × (events.now ≡ done ++ left) × (self.new ≡ after_events self.old done) }
         ensures make { make_of self.new ≡ make_of self.old }
         ensures headline { Headline self.new }
+        ensures plain_end { (n : ℕ) → events.now ≡ times n good_round → CanGoOn self.old → rounds_to_go_on self.old ≤ n →
+            OnOk result (IsDone self.new) }
+        ensures confirming_end { (n : ℕ) → events.now ≡ times n good_round → CanBegin self.old → rounds_from_new self.old ≤ n →
+            OnOk result (IsDone self.new) }
     {
         reached_keeps_the_headline();
+        good_rounds_bring_all_to_air();
         let _ = &self.link;
         for event in events {
             self.step(event)?;

@@ -1,7 +1,7 @@
 use Rattle.std.proofs.Common.{take, drop, sym, ap, subst, ◌∙◌, take-append-drop, arith}
-use Rattle.vdcp_world.specs.Channel.{after_event, make_of}
-use Rattle.vdcp_world.specs.Channel.{IsReached}
-use Rattle.vdcp_world.proofs.Reached.{one_more, make_after_all, events_reached}
+use Rattle.vdcp_world.specs.BoundedEnd.{IsDone}
+use Rattle.vdcp_world.specs.Channel.{IsReached, after_event, after_events, make_of}
+use Rattle.vdcp_world.proofs.Reached.{one_more, all_happened, make_after_all, events_reached}
 use Rattle.vdcp_world.proofs.world.World.run.Goals as goal
 
 pub returns-in_err-step-clause-front : goal.returns-in_err-step-clause-front
@@ -27,3 +27,18 @@ returns-clause-headline g c =
     let reached : IsReached c.args.self.now = rw (← c.self.view_is) c.self.invariant in
     c.reached_keeps_the_headline.ensures c.loop-event.self
     (subst IsReached (sym c.loop-event.invariant) (events_reached c.args.self.now (take c.loop-event.event-index c.args.events.now) reached))
+
+pub returns-clause-plain_end : goal.returns-clause-plain_end
+returns-clause-plain_end g c = λ n is can enough.
+    let reached : IsReached c.args.self.now = rw (← c.self.view_is) c.self.invariant in
+    let happened = all_happened c.args.self.now c.loop-event.self c.args.events.now c.loop-event.event-index c.loop-event-test.false
+    c.loop-event.auto.event-index-end c.loop-event.invariant in
+    subst IsDone (sym (happened ∙ ap (after_events c.args.self.now) is)) ((c.good_rounds_bring_all_to_air.ensures c.args.self.now reached).plain can n enough)
+
+pub returns-clause-confirming_end : goal.returns-clause-confirming_end
+returns-clause-confirming_end g c = λ n is can enough.
+    let reached : IsReached c.args.self.now = rw (← c.self.view_is) c.self.invariant in
+    let happened = all_happened c.args.self.now c.loop-event.self c.args.events.now c.loop-event.event-index c.loop-event-test.false
+    c.loop-event.auto.event-index-end c.loop-event.invariant in
+    subst IsDone (sym (happened ∙ ap (after_events c.args.self.now) is))
+    ((c.good_rounds_bring_all_to_air.ensures c.args.self.now reached).confirming can n enough)
