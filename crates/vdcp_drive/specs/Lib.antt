@@ -1,0 +1,9 @@
+pub mod Wires
+pub mod Bursts
+pub mod Lines
+pub mod Serving
+pub mod Served
+pub mod Heard
+pub mod After
+pub mod Hearing
+pub mod Driven
