@@ -10,7 +10,7 @@ use Rattle.vdcp_cli.specs.declared.vectors.Tally.{Tally}
 use Rattle.vdcp_frame.proofs.BurstLemmas.{reads_computed}
 use Rattle.vdcp_frame.proofs.ReadingLemmas.{one_reading}
 use Rattle.vdcp_frame.specs.Burst.{messages_of, end_of}
-use Rattle.vdcp_frame.specs.Message.{AreBytes, Content}
+use Rattle.vdcp_frame.specs.Message.{AreOctets, Content}
 use Rattle.vdcp_frame.specs.Reading.{End, Reads}
 use Rattle.vdcp_list.specs.Reading.{TakesRow}
 use Rattle.vdcp_list.specs.Rows.{Row, most_rows, rows_of}
@@ -166,7 +166,7 @@ if_ok P (Ok y) x h e = let same : y ≡ x = cc e in subst P same h
 if_ok P (Err f) x h e = cc e
 
 -- the one reading of a burst, joined
-pub joined_is : (burst : List ℕ) (ms : List Content) (end : End) → AreBytes burst → Reads burst ms end
+pub joined_is : (burst : List ℕ) (ms : List Content) (end : End) → AreOctets burst → Reads burst ms end
     → joined_text ms ++ end_text end ≡ joined_reading burst
 joined_is burst ms end bytes reads =
     let one = one_reading 4096 burst ms (messages_of burst) end (end_of burst) reads (reads_computed 4096 burst bytes) in

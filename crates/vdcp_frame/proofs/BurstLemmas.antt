@@ -2,64 +2,64 @@
 use Rattle.std.proofs.Common.{◌≡◌, ℕ, zero, suc, ◌-◌, ◌<◌, ◌≤◌, cond, ltb, List, [], ◌++◌, length, take, drop, refl, sym, ap, subst, ◌∙◌, append_assoc, arith, length-append}
 use Rattle.std.proofs.lemmas.List.{take-append-drop, length-drop, nil_from_length}
 use Rattle.std.proofs.lemmas.List.Elements.{All-take, All-drop}
-use Rattle.vdcp_frame.specs.Message.{Content, AreBytes}
+use Rattle.vdcp_frame.specs.Message.{Content, AreOctets}
 use Rattle.vdcp_frame.specs.Reading.{SpellsAll, HasNoFront, Ends, long_end, ReadsShort, ReadsUpTo}
 use Rattle.vdcp_frame.specs.Head.{Head, nothing, part, wrong, found, head_of, HeadIs}
-use Rattle.vdcp_frame.specs.Burst.{messages_at, rest_at, messages_within, rest_within, end_at, short_end}
+use Rattle.vdcp_frame.specs.Burst.{messages_at, left_at, messages_within, left_within, end_at, short_end}
 use Rattle.vdcp_frame.proofs.HeadLemmas.{head_is}
 use Rattle.vdcp_frame.proofs.ReadingLemmas.{nil_no_front}
 
--- messages, and a rest that begins with none
-record Split (bytes : List ℕ) (ms : List Content) (rest : List ℕ) : Type 0 where
+-- messages, and a remainder that begins with none
+record Split (bytes : List ℕ) (ms : List Content) (remainder : List ℕ) : Type 0 where
   whole : List ℕ
-  parts : bytes ≡ whole ++ rest
+  parts : bytes ≡ whole ++ remainder
   spelt : SpellsAll ms whole
-  fits : AreBytes rest
-  none : HasNoFront rest
+  fits : AreOctets remainder
+  none : HasNoFront remainder
 
-at_once : (bytes : List ℕ) → AreBytes bytes → HasNoFront bytes → Split bytes [] bytes
+at_once : (bytes : List ℕ) → AreOctets bytes → HasNoFront bytes → Split bytes [] bytes
 at_once bytes fits none = record { whole = []; parts = refl; spelt = refl; fits = fits; none = none }
 
-split_at : (n : ℕ) (bytes : List ℕ) (head : Head) → length bytes ≤ suc n → AreBytes bytes → HeadIs bytes head →
-    ((rest : List ℕ) → length rest ≤ n → AreBytes rest → Split rest (messages_within n rest) (rest_within n rest)) →
-    Split bytes (messages_at head (λ size. messages_within n (drop size bytes))) (rest_at head bytes (λ size. rest_within n (drop size bytes)))
+split_at : (n : ℕ) (bytes : List ℕ) (head : Head) → length bytes ≤ suc n → AreOctets bytes → HeadIs bytes head →
+    ((remainder : List ℕ) → length remainder ≤ n → AreOctets remainder → Split remainder (messages_within n remainder) (left_within n remainder)) →
+    Split bytes (messages_at head (λ size. messages_within n (drop size bytes))) (left_at head bytes (λ size. left_within n (drop size bytes)))
 split_at n bytes nothing le fits is more = at_once bytes fits (subst HasNoFront (sym is) nil_no_front)
 split_at n bytes part le fits is more = at_once bytes fits is.no_front
-split_at n bytes (wrong kind size) le fits is more = at_once bytes fits is.no_front
+split_at n bytes (wrong which size) le fits is more = at_once bytes fits is.no_front
 split_at n bytes (found m size) le fits is more =
     let tail : List ℕ = drop size bytes in
     let s = more tail (omega (arith, is.some, is.within, length-drop size bytes)) (All-drop (λ b. b < 256) size bytes fits) in
     record {
       whole = take size bytes ++ s.whole;
-      parts = sym (take-append-drop size bytes) ∙ ap (λ (t : List ℕ). take size bytes ++ t) s.parts ∙ sym (append_assoc (take size bytes) s.whole (rest_within n tail));
+      parts = sym (take-append-drop size bytes) ∙ ap (λ (t : List ℕ). take size bytes ++ t) s.parts ∙ sym (append_assoc (take size bytes) s.whole (left_within n tail));
       spelt = (take size bytes, s.whole, is.spelt, s.spelt, refl);
       fits = s.fits;
       none = s.none;
     }
 
-split_within : (n : ℕ) (bytes : List ℕ) → length bytes ≤ n → AreBytes bytes → Split bytes (messages_within n bytes) (rest_within n bytes)
+split_within : (n : ℕ) (bytes : List ℕ) → length bytes ≤ n → AreOctets bytes → Split bytes (messages_within n bytes) (left_within n bytes)
 split_within zero bytes le fits = at_once bytes fits (subst HasNoFront (sym (nil_from_length bytes (omega arith))) nil_no_front)
 split_within (suc n) bytes le fits = split_at n bytes (head_of bytes) le fits (head_is bytes fits) (split_within n)
 
-ends_at : (before : ℕ) (rest : List ℕ) (head : Head) → HeadIs rest head → HasNoFront rest → Ends before rest (end_at before rest head)
-ends_at before rest nothing is none = is
-ends_at before rest part is none = (is.some, is.begins, refl)
-ends_at before rest (wrong kind size) is none = (size, is.first, refl, is.which)
-ends_at before rest (found m size) is none = absurd (none m (take size rest) (drop size rest) is.spelt (sym (take-append-drop size rest)))
+ends_at : (before : ℕ) (remainder : List ℕ) (head : Head) → HeadIs remainder head → HasNoFront remainder → Ends before remainder (end_at before remainder head)
+ends_at before remainder nothing is none = is
+ends_at before remainder part is none = (is.some, is.begins, refl)
+ends_at before remainder (wrong which size) is none = (size, is.first, refl, is.fault_is)
+ends_at before remainder (found m size) is none = absurd (none m (take size remainder) (drop size remainder) is.spelt (sym (take-append-drop size remainder)))
 
-reads_short : (bytes : List ℕ) → AreBytes bytes → ReadsShort bytes (messages_within (length bytes) bytes) (short_end bytes)
+reads_short : (bytes : List ℕ) → AreOctets bytes → ReadsShort bytes (messages_within (length bytes) bytes) (short_end bytes)
 reads_short bytes fits =
     let s = split_within (length bytes) bytes (omega arith) fits in
-    let rest : List ℕ = rest_within (length bytes) bytes in
-    let before : length s.whole ≡ length bytes - length rest = omega (arith, ap (length {A = ℕ}) s.parts, length-append s.whole rest) in
+    let remainder : List ℕ = left_within (length bytes) bytes in
+    let before : length s.whole ≡ length bytes - length remainder = omega (arith, ap (length {A = ℕ}) s.parts, length-append s.whole remainder) in
     record {
       whole = s.whole;
-      rest = rest;
+      remainder = remainder;
       parts = s.parts;
       spelt = s.spelt;
       no_front = s.none;
-      ends = subst (λ (n : ℕ). Ends n rest (short_end bytes)) (sym before) (ends_at (length bytes - length rest) rest (head_of rest) (head_is rest s.fits) s.none);
+      ends = subst (λ (n : ℕ). Ends n remainder (short_end bytes)) (sym before) (ends_at (length bytes - length remainder) remainder (head_of remainder) (head_is remainder s.fits) s.none);
     }
 
-pub reads_computed : (limit : ℕ) (burst : List ℕ) → AreBytes burst → ReadsUpTo limit burst (messages_within (length (take limit burst)) (take limit burst)) (cond (ltb limit (length burst)) (long_end limit (short_end (take limit burst))) (short_end (take limit burst)))
+pub reads_computed : (limit : ℕ) (burst : List ℕ) → AreOctets burst → ReadsUpTo limit burst (messages_within (length (take limit burst)) (take limit burst)) (cond (ltb limit (length burst)) (long_end limit (short_end (take limit burst))) (short_end (take limit burst)))
 reads_computed limit burst fits = record { short = short_end (take limit burst); front = reads_short (take limit burst) (All-take (λ b. b < 256) limit burst fits); long = refl }

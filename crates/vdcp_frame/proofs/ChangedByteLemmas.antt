@@ -4,7 +4,7 @@ use Rattle.std.proofs.lemmas.List.{length-set, append-nil}
 use Rattle.std.proofs.lemmas.List.Elements.{All-push, All-set, All-cons, All-get_or}
 use Rattle.std.proofs.lemmas.List.Sums.{sum_by-cons, sum_by_push, sum_by-set}
 use Rattle.vdcp_frame.specs.declared.message.Fault.TheVariants.{BadSum}
-use Rattle.vdcp_frame.specs.Message.{Content, framed, AreBytes, Spells}
+use Rattle.vdcp_frame.specs.Message.{Content, framed, AreOctets, Spells}
 use Rattle.vdcp_frame.specs.Reading.{SpellsAll, fault, ReadsUpTo}
 use Rattle.vdcp_frame.specs.Head.{wrong, head_of, IsWrong, HeadIs}
 use Rattle.vdcp_frame.proofs.HeadLemmas.{head_is, spelt_list}
@@ -21,7 +21,7 @@ sum_changed body i byte lt fits was ne p q =
     ne (same_part (sum body) (sum (set body i byte)) byte (get_or body i 0) fits was e p q)
 
 -- the bytes of a frame from CMD-1 on
-body_bytes : (x code : ℕ) (rest : List ℕ) (check : ℕ) → x < 256 → code < 256 → check < 256 → AreBytes rest → AreBytes (x ∷ code ∷ (rest ++ check ∷ []))
+body_bytes : (x code : ℕ) (rest : List ℕ) (check : ℕ) → x < 256 → code < 256 → check < 256 → AreOctets rest → AreOctets (x ∷ code ∷ (rest ++ check ∷ []))
 body_bytes x code rest check x_fits code_fits check_fits fits =
     All-cons (λ b. b < 256) x (code ∷ (rest ++ check ∷ [])) x_fits
     (All-cons (λ b. b < 256) code (rest ++ check ∷ []) code_fits (All-push (λ b. b < 256) rest check fits check_fits))
@@ -31,7 +31,7 @@ body_sum x code rest check =
     omega (arith, sum_by-cons (λ (y : ℕ). y) x (code ∷ (rest ++ check ∷ [])), sum_by-cons (λ (y : ℕ). y) code (rest ++ check ∷ []), sum_by_push (λ (y : ℕ). y) rest check)
 
 -- a changed frame is wrong at its last byte
-changed_wrong : (n : ℕ) (body : List ℕ) (j byte : ℕ) → n ≤ 253 → length body ≡ n + 3 → sum body % 256 ≡ 0 → AreBytes body → j < length body → byte < 256 → byte ≢ get_or body j 0 →
+changed_wrong : (n : ℕ) (body : List ℕ) (j byte : ℕ) → n ≤ 253 → length body ≡ n + 3 → sum body % 256 ≡ 0 → AreOctets body → j < length body → byte < 256 → byte ≢ get_or body j 0 →
     IsWrong (2 ∷ suc (suc n) ∷ set body j byte) BadSum (n + 5)
 changed_wrong n body j byte small size adds_up fits lt byte_fits ne =
     let was : get_or body j 0 < 256 = All-get_or (λ b. b < 256) body j 0 lt fits in
@@ -39,7 +39,7 @@ changed_wrong n body j byte small size adds_up fits lt byte_fits ne =
     let new_size : length (set body j byte) ≡ n + 3 = length-set body j byte ∙ size in
     let is : head_of (2 ∷ suc (suc n) ∷ set body j byte) ≡ wrong BadSum (n + 5) =
     ap (λ (b : List ℕ). head_of (2 ∷ suc (suc n) ∷ b)) (sym (append-nil (set body j byte))) ∙ frame_bad n (set body j byte) [] new_size bad in
-    let all_fits : AreBytes (2 ∷ suc (suc n) ∷ set body j byte) =
+    let all_fits : AreOctets (2 ∷ suc (suc n) ∷ set body j byte) =
     All-cons (λ b. b < 256) 2 (suc (suc n) ∷ set body j byte) (omega arith)
     (All-cons (λ b. b < 256) (suc (suc n)) (set body j byte) (omega arith) (All-set (λ b. b < 256) body j byte byte_fits fits)) in
     subst (HeadIs (2 ∷ suc (suc n) ∷ set body j byte)) is (head_is (2 ∷ suc (suc n) ∷ set body j byte) all_fits)

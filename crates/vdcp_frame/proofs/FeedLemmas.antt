@@ -17,11 +17,11 @@ not_long (start ∷ []) e = cc
 not_long (start ∷ count ∷ []) e = cc
 not_long (start ∷ count ∷ byte ∷ bytes) e = cc
 
-fault_taken : (taken : ℕ) (held piece : List ℕ) (n : ℕ) (kind : Fault) → TakesWrong taken held piece n kind → TakesFault taken held piece n kind
+fault_taken : (taken : ℕ) (held piece : List ℕ) (n : ℕ) (which : Fault) → TakesWrong taken held piece n which → TakesFault taken held piece n which
 fault_taken taken held piece n BadStart t = t
 fault_taken taken held piece n (BadCount count) t = t
 fault_taken taken held piece n BadSum t = t
-fault_taken taken held piece n Long t = absurd (not_long (take (length (held ++ take n piece)) (held ++ take n piece)) t.first.which)
+fault_taken taken held piece n Long t = absurd (not_long (take (length (held ++ take n piece)) (held ++ take n piece)) t.first.fault_is)
 
 -- a reader behind a fault
 pub now_failed : (now : Progress) (f : Bool) (t : ℕ) (p : Partial) → cond f failed (reading t (held_bytes p)) ≡ now → f ≡ true → now ≡ failed
@@ -82,20 +82,20 @@ module _ (now : Progress) (f : Bool) (t : ℕ) (p new : Partial) (piece : List �
       } in
       subst (λ (o : Progress). Gives o piece (n + 1) (wrong Long 4097)) (sym now_is) (takes, sym takes.past)
 
-  pub wrong_gives : (kind : Fault) → BringsWrong (held_bytes p) (take k piece) n kind new → Gives now piece n (wrong kind (t + n))
-  wrong_gives kind b =
-      let takes : TakesWrong t (held_bytes p) piece n kind = record {
+  pub wrong_gives : (which : Fault) → BringsWrong (held_bytes p) (take k piece) n which new → Gives now piece n (wrong which (t + n))
+  wrong_gives which b =
+      let takes : TakesWrong t (held_bytes p) piece n which = record {
         some = b.some;
         within = n_within;
         limit = omega (arith, n_fits);
-        first = subst (λ (l : List ℕ). IsWrong (held_bytes p ++ l) kind (length (held_bytes p ++ l))) same b.first;
+        first = subst (λ (l : List ℕ). IsWrong (held_bytes p ++ l) which (length (held_bytes p ++ l))) same b.first;
       } in
-      subst (λ (o : Progress). Gives o piece n (wrong kind (t + n))) (sym now_is) (fault_taken t (held_bytes p) piece n kind takes, refl)
+      subst (λ (o : Progress). Gives o piece n (wrong which (t + n))) (sym now_is) (fault_taken t (held_bytes p) piece n which takes, refl)
 
-  pub fault_after : (m : ℕ) (kind : Fault) (place : ℕ) → failed ≡ fed now piece m (wrong kind place)
-  fault_after m kind place = ap (λ (o : Progress). fed o piece m (wrong kind place)) (sym now_is)
+  pub fault_after : (m : ℕ) (which : Fault) (place : ℕ) → failed ≡ fed now piece m (wrong which place)
+  fault_after m which place = ap (λ (o : Progress). fed o piece m (wrong which place)) (sym now_is)
 
-fault_some : (taken : ℕ) (held piece : List ℕ) (n : ℕ) (kind : Fault) → TakesFault taken held piece n kind → 0 < n
+fault_some : (taken : ℕ) (held piece : List ℕ) (n : ℕ) (which : Fault) → TakesFault taken held piece n which → 0 < n
 fault_some taken held piece n BadStart t = t.some
 fault_some taken held piece n (BadCount count) t = t.some
 fault_some taken held piece n BadSum t = t.some
@@ -105,7 +105,7 @@ fault_some taken held piece n Long t = t.some
 pub gives_some : (old : Progress) (piece : List ℕ) (n : ℕ) (answer : Answer) → Gives old piece n answer → 0 < length piece → 0 < n
 gives_some (reading taken held) piece n (message m) g some = g.some
 gives_some (reading taken held) piece n more g some = omega (arith, g.all)
-gives_some (reading taken held) piece n (wrong kind place) g some = fault_some taken held piece n kind g.0
+gives_some (reading taken held) piece n (wrong which place) g some = fault_some taken held piece n which g.0
 gives_some failed piece n (message m) g some = absurd g
 gives_some failed piece n more g some = omega arith
-gives_some failed piece n (wrong kind place) g some = absurd g
+gives_some failed piece n (wrong which place) g some = absurd g

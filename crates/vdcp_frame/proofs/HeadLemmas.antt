@@ -6,7 +6,7 @@ use Rattle.std.proofs.lemmas.List.{take-append-drop, length-take, append-nil, ta
 use Rattle.std.proofs.lemmas.List.Elements.{All-nil, All-replicate, All-append, All-take, All-head, All-tail, All-get_or}
 use Rattle.vdcp_frame.specs.declared.message.Fault.{Fault}
 use Rattle.vdcp_frame.specs.declared.message.Fault.TheVariants.{BadStart, BadCount, BadSum}
-use Rattle.vdcp_frame.specs.Message.{Content, ack, nak, framed, AreBytes, SpellsFrame, Spells, check_byte}
+use Rattle.vdcp_frame.specs.Message.{Content, ack, nak, framed, AreOctets, SpellsFrame, Spells, check_byte}
 use Rattle.vdcp_frame.specs.Reading.{Begins, HasNoFront}
 use Rattle.vdcp_frame.specs.Head.{Head, nothing, part, wrong, found, data_head, body_head, frame_head, nak_head, head_of, IsPart, IsWrong, IsFound, HeadIs}
 
@@ -61,7 +61,7 @@ head_of-spelt (framed kind unit code rest) front more s =
 abbrev IsNoMessage : Head → Type 0
 IsNoMessage nothing = Unit {0}
 IsNoMessage part = Unit {0}
-IsNoMessage (wrong kind size) = Unit {0}
+IsNoMessage (wrong which size) = Unit {0}
 IsNoMessage (found message size) = ⊥
 
 no_front_of : (bytes : List ℕ) (head : Head) → head_of bytes ≡ head → IsNoMessage head → HasNoFront bytes
@@ -71,10 +71,10 @@ no_front_of bytes head e none m front more s parts =
     subst P (sym is) none
 
 -- bytes that begin a spelling are wrong nowhere
-not_wrong : (bytes : List ℕ) (kind : Fault) (size : ℕ) → ((more : List ℕ) → head_of (bytes ++ more) ≡ wrong kind size) → Begins bytes → ⊥
-not_wrong bytes kind size stays b =
+not_wrong : (bytes : List ℕ) (which : Fault) (size : ℕ) → ((more : List ℕ) → head_of (bytes ++ more) ≡ wrong which size) → Begins bytes → ⊥
+not_wrong bytes which size stays b =
     let is = head_of-spelt b.message (bytes ++ b.more) [] b.spelt in
-    let same : wrong kind size ≡ found b.message (length (bytes ++ b.more)) = sym (stays b.more) ∙ ap head_of (sym (append-nil (bytes ++ b.more))) ∙ is in
+    let same : wrong which size ≡ found b.message (length (bytes ++ b.more)) = sym (stays b.more) ∙ ap head_of (sym (append-nil (bytes ++ b.more))) ∙ is in
     absurd cc
 
 -- ---- beginnings
@@ -88,7 +88,7 @@ Begins-take k bytes h = Begins-front (take k bytes) (drop k bytes) (subst Begins
 pub Begins-spelt : (m : Content) (bytes : List ℕ) → Spells m bytes → Begins bytes
 Begins-spelt m bytes s = record { message = m; more = []; spelt = subst (Spells m) (sym (append-nil bytes)) s }
 
-pub frame_spelt : (x code : ℕ) (rest : List ℕ) (check : ℕ) → x < 256 → code < 256 → check < 256 → AreBytes rest → length rest ≤ 253 → (x + code + sum rest + check) % 256 ≡ 0 →
+pub frame_spelt : (x code : ℕ) (rest : List ℕ) (check : ℕ) → x < 256 → code < 256 → check < 256 → AreOctets rest → length rest ≤ 253 → (x + code + sum rest + check) % 256 ≡ 0 →
     Spells (framed (x / 16) (x % 16) code rest) (2 ∷ suc (suc (length rest)) ∷ x ∷ code ∷ (rest ++ check ∷ []))
 frame_spelt x code rest check x_fits code_fits byte fits size adds_up =
     let whole : 16 * (x / 16) + x % 16 ≡ x = omega arith in
@@ -108,7 +108,7 @@ pub check_byte-adds_up : (total : ℕ) → (total + check_byte total) % 256 ≡ 
 check_byte-adds_up total = omega arith
 
 -- whatever check byte would do, the bytes before it begin a spelling
-Begins-body : (x code : ℕ) (rest : List ℕ) → x < 256 → code < 256 → AreBytes rest → length rest ≤ 253 → Begins (2 ∷ suc (suc (length rest)) ∷ x ∷ code ∷ rest)
+Begins-body : (x code : ℕ) (rest : List ℕ) → x < 256 → code < 256 → AreOctets rest → length rest ≤ 253 → Begins (2 ∷ suc (suc (length rest)) ∷ x ∷ code ∷ rest)
 Begins-body x code rest x_fits code_fits fits size =
     let total = x + code + sum rest in
     Begins-front (2 ∷ suc (suc (length rest)) ∷ x ∷ code ∷ rest) (check_byte total ∷ [])
@@ -116,7 +116,7 @@ Begins-body x code rest x_fits code_fits fits size =
     (frame_spelt x code rest (check_byte total) x_fits code_fits (check_byte-fits total) fits size (check_byte-adds_up total)))
 
 -- with fewer data bytes than its count says, filled up with zeros
-Begins-short : (n x code : ℕ) (tail : List ℕ) → n ≤ 253 → x < 256 → code < 256 → AreBytes tail → length tail ≤ n → Begins (2 ∷ suc (suc n) ∷ x ∷ code ∷ tail)
+Begins-short : (n x code : ℕ) (tail : List ℕ) → n ≤ 253 → x < 256 → code < 256 → AreOctets tail → length tail ≤ n → Begins (2 ∷ suc (suc n) ∷ x ∷ code ∷ tail)
 Begins-short n x code tail n_fits x_fits code_fits fits short =
     let zeros : List ℕ = replicate (n - length tail) 0 in
     let size : length (tail ++ zeros) ≡ n = omega (arith, length-append tail zeros, length-replicate {A = ℕ} (n - length tail) 0) in
@@ -160,7 +160,7 @@ wrong_start b bs e = record {
     shorter = shorter_than (b ∷ bs) 0 Begins-nil;
   };
   no_front = no_front_of (b ∷ bs) (wrong BadStart 1) (e bs) tt;
-  which = refl;
+  fault_is = refl;
 }
 
 wrong_count : (count : ℕ) (body : List ℕ) → ((more : List ℕ) → head_of (2 ∷ count ∷ more) ≡ wrong (BadCount count) 2) → IsWrong (2 ∷ count ∷ body) (BadCount count) 2
@@ -171,10 +171,10 @@ wrong_count count body e = record {
     shorter = shorter_than (2 ∷ count ∷ body) 1 Begins-start;
   };
   no_front = no_front_of (2 ∷ count ∷ body) (wrong (BadCount count) 2) (e body) tt;
-  which = refl;
+  fault_is = refl;
 }
 
-module _ (n x code : ℕ) (tail : List ℕ) (n_fits : n ≤ 253) (x_fits : x < 256) (code_fits : code < 256) (fits : AreBytes tail) where
+module _ (n x code : ℕ) (tail : List ℕ) (n_fits : n ≤ 253) (x_fits : x < 256) (code_fits : code < 256) (fits : AreOctets tail) where
   data_part : length tail ≤ n → HeadIs (2 ∷ suc (suc n) ∷ x ∷ code ∷ tail) (data_head n x code tail)
   data_part short =
       let is : ltb n (length tail) ≡ false = le-ltb _ _ short in
@@ -213,7 +213,7 @@ module _ (n x code : ℕ) (tail : List ℕ) (n_fits : n ≤ 253) (x_fits : x < 2
           shorter = subst (λ (m : ℕ). (k : ℕ) → k < m → Begins (take k (2 ∷ suc (suc n) ∷ x ∷ code ∷ tail))) five (shorter_than (2 ∷ suc (suc n) ∷ x ∷ code ∷ tail) (n + 4) begins);
         };
         no_front = no_front_of (2 ∷ suc (suc n) ∷ x ∷ code ∷ tail) (wrong BadSum (n + 5)) is tt;
-        which = rw (data_whole long) refl;
+        fault_is = rw (data_whole long) refl;
       }
 
   data_is : HeadIs (2 ∷ suc (suc n) ∷ x ∷ code ∷ tail) (data_head n x code tail)
@@ -227,14 +227,14 @@ module _ (n x code : ℕ) (tail : List ℕ) (n_fits : n ≤ 253) (x_fits : x < 2
         | inr short ↦ data_part short
       ]
 
-body_is : (n : ℕ) (body : List ℕ) → n ≤ 253 → AreBytes body → HeadIs (2 ∷ suc (suc n) ∷ body) (body_head n body)
+body_is : (n : ℕ) (body : List ℕ) → n ≤ 253 → AreOctets body → HeadIs (2 ∷ suc (suc n) ∷ body) (body_head n body)
 body_is n [] n_fits fits = part_is 2 (suc (suc n) ∷ []) refl (Begins-count n n_fits)
 body_is n (x ∷ []) n_fits fits = part_is 2 (suc (suc n) ∷ x ∷ []) refl (Begins-counted n x n_fits (All-head (λ b. b < 256) x [] fits))
 body_is n (x ∷ code ∷ tail) n_fits fits =
     let rest_fits = All-tail (λ b. b < 256) x (code ∷ tail) fits in
     data_is n x code tail n_fits (All-head (λ b. b < 256) x (code ∷ tail) fits) (All-head (λ b. b < 256) code tail rest_fits) (All-tail (λ b. b < 256) code tail rest_fits)
 
-frame_is : (bytes : List ℕ) → AreBytes bytes → HeadIs (2 ∷ bytes) (frame_head bytes)
+frame_is : (bytes : List ℕ) → AreOctets bytes → HeadIs (2 ∷ bytes) (frame_head bytes)
 frame_is [] fits = part_is 2 [] refl Begins-start
 frame_is (zero ∷ body) fits = wrong_count 0 body (λ more. refl)
 frame_is (suc zero ∷ body) fits = wrong_count 1 body (λ more. refl)
@@ -242,12 +242,12 @@ frame_is (suc (suc n) ∷ body) fits =
     let count_fits = All-head (λ b. b < 256) (suc (suc n)) body fits in
     body_is n body (omega arith) (All-tail (λ b. b < 256) (suc (suc n)) body fits)
 
-nak_is : (bytes : List ℕ) → AreBytes bytes → HeadIs (5 ∷ bytes) (nak_head bytes)
+nak_is : (bytes : List ℕ) → AreOctets bytes → HeadIs (5 ∷ bytes) (nak_head bytes)
 nak_is [] fits = part_is 5 [] refl Begins-nak
 nak_is (byte ∷ bytes) fits = record { some = omega arith; within = omega arith; spelt = (All-head (λ b. b < 256) byte bytes fits, refl) }
 
 -- the answer of head_of means what it says
-pub head_is : (bytes : List ℕ) → AreBytes bytes → HeadIs bytes (head_of bytes)
+pub head_is : (bytes : List ℕ) → AreOctets bytes → HeadIs bytes (head_of bytes)
 head_is [] fits = refl
 head_is (b ∷ bytes) fits =
     let rest_fits = All-tail (λ b. b < 256) b bytes fits in

@@ -10,7 +10,7 @@ use Rattle.vdcp_frame.specs.declared.held.Held.TheVariants as held
 use Rattle.vdcp_frame.specs.declared.held.Found.{Found}
 use Rattle.vdcp_frame.specs.declared.held.Found.TheVariants as found
 use Rattle.vdcp_frame.specs.declared.held.Partial.{Partial}
-use Rattle.vdcp_frame.specs.Message.{Content, ack, nak, framed, AreBytes, Spells}
+use Rattle.vdcp_frame.specs.Message.{Content, ack, nak, framed, AreOctets, Spells}
 use Rattle.vdcp_frame.specs.Head as head
 use Rattle.vdcp_frame.specs.Head.{head_of, body_head, HeadIs}
 use Rattle.vdcp_frame.specs.Reader.{IsUnfinished}
@@ -30,12 +30,12 @@ Brings-first old byte bytes n found.Nothing new b = (omega (arith, b.0), b.1 ∙
 Brings-first old byte bytes n found.Ack new b = (subst (λ (l : List ℕ). head_of l ≡ head.found ack (length l)) (taken_first old byte bytes n) b.0, b.1)
 Brings-first old byte bytes n (found.Nak other) new b = (subst (λ (l : List ℕ). head_of l ≡ head.found (nak other) (length l)) (taken_first old byte bytes n) b.0, b.1)
 Brings-first old byte bytes n (found.Frame len) new b = (subst (λ (l : List ℕ). IsWhole l len new.buffer) (taken_first old byte bytes n) b.0, b.1)
-Brings-first old byte bytes n (found.Wrong kind) new b = (subst (λ (l : List ℕ). head_of l ≡ head.wrong kind (length l)) (taken_first old byte bytes n) b.0, b.1)
+Brings-first old byte bytes n (found.Wrong which) new b = (subst (λ (l : List ℕ). head_of l ≡ head.wrong which (length l)) (taken_first old byte bytes n) b.0, b.1)
 
 -- the same as a slice pattern cuts the piece
-pub Brings-rest : (old bytes : List ℕ) (n : ℕ) (f : Found) (new : Partial) → 1 ≤ length bytes → Brings (old ++ get_or bytes 0 0 ∷ []) (take (length bytes - 1) (drop 1 bytes)) n f new → Brings old bytes (n + 1) f new
-Brings-rest old [] n f new some b = absurd (omega arith)
-Brings-rest old (byte ∷ bytes) n f new some b =
+pub Brings-behind : (old bytes : List ℕ) (n : ℕ) (f : Found) (new : Partial) → 1 ≤ length bytes → Brings (old ++ get_or bytes 0 0 ∷ []) (take (length bytes - 1) (drop 1 bytes)) n f new → Brings old bytes (n + 1) f new
+Brings-behind old [] n f new some b = absurd (omega arith)
+Brings-behind old (byte ∷ bytes) n f new some b =
     let all : take (length (byte ∷ bytes) - 1) bytes ≡ bytes = take_all (length (byte ∷ bytes) - 1) bytes (omega arith) in
     Brings-first old byte bytes n f new (subst (λ (l : List ℕ). Brings (old ++ byte ∷ []) l n f new) all b)
 
@@ -44,7 +44,7 @@ Brings-rest old (byte ∷ bytes) n f new some b =
 abbrev IsOpen : head.Head → Type 0
 IsOpen head.nothing = Unit {0}
 IsOpen head.part = Unit {0}
-IsOpen (head.wrong kind size) = ⊥
+IsOpen (head.wrong which size) = ⊥
 IsOpen (head.found message size) = ⊥
 
 body_open : (n : ℕ) (body : List ℕ) → length body ≤ suc (suc n) → IsOpen (body_head n body)
@@ -63,7 +63,7 @@ begun_open held.Nak buffer b = tt
 begun_open held.Frame buffer b = tt
 begun_open (held.Body count len total) buffer b = counted_open count (take len buffer) b.counted (omega (arith, b.lacks, length-take len buffer))
 
-begun_bytes : (h : Held) (buffer : List ℕ) → AreBegun h buffer → AreBytes (bytes_of h buffer)
+begun_bytes : (h : Held) (buffer : List ℕ) → AreBegun h buffer → AreOctets (bytes_of h buffer)
 begun_bytes held.Nothing buffer b = All-nil (λ x. x < 256)
 begun_bytes held.Nak buffer b = All-cons (λ x. x < 256) 5 [] (omega arith) (All-nil (λ x. x < 256))
 begun_bytes held.Frame buffer b = All-cons (λ x. x < 256) 2 [] (omega arith) (All-nil (λ x. x < 256))
@@ -73,7 +73,7 @@ begun_bytes (held.Body count len total) buffer b =
 unfinished_at : (bytes : List ℕ) (h : head.Head) → HeadIs bytes h → IsOpen h → IsUnfinished bytes
 unfinished_at bytes head.nothing is o = subst IsUnfinished (sym is) unfinished_nil
 unfinished_at bytes head.part is o = record { begins = is.begins; no_front = is.no_front }
-unfinished_at bytes (head.wrong kind size) is o = absurd o
+unfinished_at bytes (head.wrong which size) is o = absurd o
 unfinished_at bytes (head.found message size) is o = absurd o
 
 begun_unfinished : (h : Held) (buffer : List ℕ) → AreBegun h buffer → IsUnfinished (bytes_of h buffer)
@@ -104,7 +104,7 @@ whole_is frame len buffer w =
     ∙ ap (λ (r : List ℕ). head.found (framed (get_or buffer 0 0 / 16) (get_or buffer 0 0 % 16) (get_or buffer 1 0) r) (n + 5)) rest
     ∙ ap (λ (k : ℕ). head.found (frame_in len buffer) k) total
 
-module _ (old bytes : List ℕ) (n : ℕ) (new : Partial) (o : IsOpen (head_of old)) (fits : AreBytes (old ++ take n bytes)) where
+module _ (old bytes : List ℕ) (n : ℕ) (new : Partial) (o : IsOpen (head_of old)) (fits : AreOctets (old ++ take n bytes)) where
   yields_message : (m : Content) → head_of (old ++ take n bytes) ≡ head.found m (length (old ++ take n bytes)) → held_bytes new ≡ [] → BringsMessage old bytes n m new
   yields_message m e done =
       let is = subst (HeadIs (old ++ take n bytes)) e (head_is (old ++ take n bytes) fits) in
@@ -114,9 +114,9 @@ module _ (old bytes : List ℕ) (n : ℕ) (new : Partial) (o : IsOpen (head_of o
         done = done;
       }
 
-  yields_wrong : (kind : Fault) → head_of (old ++ take n bytes) ≡ head.wrong kind (length (old ++ take n bytes)) → held_bytes new ≡ [] → BringsWrong old bytes n kind new
-  yields_wrong kind e done = record {
-    some = some_taken old bytes n (head.wrong kind (length (old ++ take n bytes))) o e (λ x. x);
+  yields_wrong : (which : Fault) → head_of (old ++ take n bytes) ≡ head.wrong which (length (old ++ take n bytes)) → held_bytes new ≡ [] → BringsWrong old bytes n which new
+  yields_wrong which e done = record {
+    some = some_taken old bytes n (head.wrong which (length (old ++ take n bytes))) o e (λ x. x);
     first = subst (HeadIs (old ++ take n bytes)) e (head_is (old ++ take n bytes) fits);
     done = done;
   }
@@ -131,21 +131,21 @@ module _ (old bytes : List ℕ) (n : ℕ) (new : Partial) (o : IsOpen (head_of o
     message = yields_message (frame_in len new.buffer) (whole_is (old ++ take n bytes) len new.buffer w) done;
   }
 
-yields : (old bytes : List ℕ) (n : ℕ) (f : Found) (new : Partial) → IsOpen (head_of old) → AreBytes (old ++ take n bytes) → IsPartial new → Brings old bytes n f new → Yields old bytes n f new
+yields : (old bytes : List ℕ) (n : ℕ) (f : Found) (new : Partial) → IsOpen (head_of old) → AreOctets (old ++ take n bytes) → IsPartial new → Brings old bytes n f new → Yields old bytes n f new
 yields old bytes n found.Nothing new o fits p b = yields_all old bytes n new o fits b.0 b.1 p
 yields old bytes n found.Ack new o fits p b = yields_message old bytes n new o fits ack b.0 b.1
 yields old bytes n (found.Nak byte) new o fits p b = yields_message old bytes n new o fits (nak byte) b.0 b.1
 yields old bytes n (found.Frame len) new o fits p b = yields_frame old bytes n new o fits len b.0 b.1
-yields old bytes n (found.Wrong kind) new o fits p b = yields_wrong old bytes n new o fits kind b.0 b.1
+yields old bytes n (found.Wrong which) new o fits p b = yields_wrong old bytes n new o fits which b.0 b.1
 
 -- behind what is held, the bytes bring what their spellings say
-pub yields_from : (h : Held) (buffer bytes : List ℕ) (n : ℕ) (f : Found) (new : Partial) → AreBegun h buffer → AreBytes bytes → IsPartial new → Brings (bytes_of h buffer) bytes n f new → Yields (bytes_of h buffer) bytes n f new
+pub yields_from : (h : Held) (buffer bytes : List ℕ) (n : ℕ) (f : Found) (new : Partial) → AreBegun h buffer → AreOctets bytes → IsPartial new → Brings (bytes_of h buffer) bytes n f new → Yields (bytes_of h buffer) bytes n f new
 yields_from h buffer bytes n f new b fits p brings =
     yields (bytes_of h buffer) bytes n f new (begun_open h buffer b)
     (All-append (λ x. x < 256) (bytes_of h buffer) (take n bytes) (begun_bytes h buffer b) (All-take (λ x. x < 256) n bytes fits)) p brings
 
 -- a piece that doesn't fill the frame leaves it begun
-pub begun_more : (count len total : ℕ) (old new piece : List ℕ) (n extra : ℕ) → IsBegun count len total old → n ≡ length piece → take (len + n) new ≡ take len old ++ piece → AreBytes piece → extra ≡ sum piece → extra ≤ 255 * length piece → len + n ≤ count →
+pub begun_more : (count len total : ℕ) (old new piece : List ℕ) (n extra : ℕ) → IsBegun count len total old → n ≡ length piece → take (len + n) new ≡ take len old ++ piece → AreOctets piece → extra ≡ sum piece → extra ≤ 255 * length piece → len + n ≤ count →
     IsBegun count (len + n) (total + extra) new
 begun_more count len total old new piece n extra b size is fits adds bound lacks = record {
   counted = b.counted;
@@ -153,5 +153,5 @@ begun_more count len total old new piece n extra b size is fits adds bound lacks
   lacks = lacks;
   adds_up = omega (arith, b.adds_up, adds, ap sum is, sum_by-append (λ (x : ℕ). x) (take len old) piece);
   bound = omega (arith, b.bound, bound, size);
-  fits = subst AreBytes (sym is) (All-append (λ x. x < 256) (take len old) piece b.fits fits);
+  fits = subst AreOctets (sym is) (All-append (λ x. x < 256) (take len old) piece b.fits fits);
 }

@@ -1,9 +1,12 @@
+-- The lemmas, file by file.
 pub mod HeadLemmas
 pub mod ReadingLemmas
 pub mod BurstLemmas
+pub mod SpellingLemmas
 pub mod FrameLemmas
 pub mod ChangedByteLemmas
 pub mod ReaderLemmas
 pub mod PieceLemmas
 pub mod HeldLemmas
 pub mod FeedLemmas
+pub mod FollowLemmas

@@ -14,7 +14,7 @@ abbrev Tracks : List ℕ → List Content → Option End → Progress → Type 0
 Tracks burst ms None (reading taken held) = FollowsReading burst ms taken held
 Tracks burst ms None failed = ⊥
 Tracks burst ms (Some end) (reading taken held) = ⊥
-Tracks burst ms (Some end) failed = (rest : List ℕ) → Reads (burst ++ rest) ms end
+Tracks burst ms (Some end) failed = (remainder : List ℕ) → Reads (burst ++ remainder) ms end
 
 abbrev or_else : Option End → Option End → Option End
 or_else None later = later
@@ -25,26 +25,26 @@ tracks_call : (burst : List ℕ) (ms : List Content) (e : Option End) (old : Pro
     Tracks (burst ++ take n piece) (ms ++ with_message answer []) (or_else e (or_fault answer None)) (fed old piece n answer)
 tracks_call burst ms None (reading taken held) piece n (message m) g t = follows_message burst ms taken held piece n m t g
 tracks_call burst ms None (reading taken held) piece n more g t = subst (λ (l : List Content). FollowsReading (burst ++ take n piece) l (taken + n) (held ++ take n piece)) (sym (append-nil ms)) (follows_more burst ms taken held piece n t g)
-tracks_call burst ms None (reading taken held) piece n (wrong kind place) g t = λ rest.
-    subst (λ (l : List Content). Reads ((burst ++ take n piece) ++ rest) l (fault kind place)) (sym (append-nil ms))
-    (subst (λ (p : ℕ). Reads ((burst ++ take n piece) ++ rest) ms (fault kind p)) (sym g.1) (follows_fault burst ms taken held piece n kind t g.0 rest))
+tracks_call burst ms None (reading taken held) piece n (wrong which place) g t = λ remainder.
+    subst (λ (l : List Content). Reads ((burst ++ take n piece) ++ remainder) l (fault which place)) (sym (append-nil ms))
+    (subst (λ (p : ℕ). Reads ((burst ++ take n piece) ++ remainder) ms (fault which p)) (sym g.1) (follows_fault burst ms taken held piece n which t g.0 remainder))
 tracks_call burst ms None failed piece n answer g t = absurd t
 tracks_call burst ms (Some end) (reading taken held) piece n answer g t = absurd t
 tracks_call burst ms (Some end) failed piece n (message m) g t = absurd g
-tracks_call burst ms (Some end) failed piece n more g t = λ rest.
-    subst (λ (l : List Content). Reads ((burst ++ take n piece) ++ rest) l end) (sym (append-nil ms))
-    (subst (λ (b : List ℕ). Reads b ms end) (sym (append_assoc burst (take n piece) rest)) (t (take n piece ++ rest)))
-tracks_call burst ms (Some end) failed piece n (wrong kind place) g t = absurd g
+tracks_call burst ms (Some end) failed piece n more g t = λ remainder.
+    subst (λ (l : List Content). Reads ((burst ++ take n piece) ++ remainder) l end) (sym (append-nil ms))
+    (subst (λ (b : List ℕ). Reads b ms end) (sym (append_assoc burst (take n piece) remainder)) (t (take n piece ++ remainder)))
+tracks_call burst ms (Some end) failed piece n (wrong which place) g t = absurd g
 
 with_message-append : (answer : Answer) (ms : List Content) → with_message answer [] ++ ms ≡ with_message answer ms
 with_message-append (message m) ms = refl
 with_message-append more ms = refl
-with_message-append (wrong kind place) ms = refl
+with_message-append (wrong which place) ms = refl
 
 or_else-fault : (e : Option End) (answer : Answer) (later : Option End) → or_else (or_else e (or_fault answer None)) later ≡ or_else e (or_fault answer later)
 or_else-fault None (message m) later = refl
 or_else-fault None more later = refl
-or_else-fault None (wrong kind place) later = refl
+or_else-fault None (wrong which place) later = refl
 or_else-fault (Some end) answer later = refl
 
 moved : {burst other : List ℕ} {ms ns : List Content} {e f : Option End} (new : Progress) → burst ≡ other → ms ≡ ns → e ≡ f → Tracks burst ms e new → Tracks other ns f new
@@ -64,12 +64,12 @@ tracks_piece burst ms e old piece [] new f t =
 tracks_piece burst ms e old piece (call ∷ calls) new f t =
     let given : List Content = with_message call.answer [] in
     let first = tracks_call burst ms e old piece call.count call.answer f.0 t in
-    let rest = tracks_piece (burst ++ take call.count piece) (ms ++ given) (or_else e (or_fault call.answer None)) (fed old piece call.count call.answer) (drop call.count piece) calls new f.1 first in
+    let remainder = tracks_piece (burst ++ take call.count piece) (ms ++ given) (or_else e (or_fault call.answer None)) (fed old piece call.count call.answer) (drop call.count piece) calls new f.1 first in
     moved new
     (append_assoc burst (take call.count piece) (drop call.count piece) ∙ ap (λ (p : List ℕ). burst ++ p) (take-append-drop call.count piece))
     (append_assoc ms given (messages_given calls) ∙ ap (λ (l : List Content). ms ++ l) (with_message-append call.answer (messages_given calls)))
     (or_else-fault e call.answer (fault_given calls))
-    rest
+    remainder
 
 messages_given-append : (calls others : List Call) → messages_given (calls ++ others) ≡ messages_given calls ++ messages_given others
 messages_given-append [] others = refl
@@ -83,7 +83,7 @@ messages_given-append (call ∷ calls) others =
 or_fault-else : (answer : Answer) (first later : Option End) → or_fault answer (or_else first later) ≡ or_else (or_fault answer first) later
 or_fault-else (message m) first later = refl
 or_fault-else more first later = refl
-or_fault-else (wrong kind place) first later = refl
+or_fault-else (wrong which place) first later = refl
 
 fault_given-append : (calls others : List Call) → fault_given (calls ++ others) ≡ or_else (fault_given calls) (fault_given others)
 fault_given-append [] others = refl
@@ -103,12 +103,12 @@ tracks_all burst ms e old (piece ∷ pieces) [] new f t = absurd f
 tracks_all burst ms e old (piece ∷ pieces) (calls ∷ others) new f t =
     let later : List Call = flat_map (λ c. c) others in
     let first = tracks_piece burst ms e old piece calls f.0 f.1 t in
-    let rest = tracks_all (burst ++ piece) (ms ++ messages_given calls) (or_else e (fault_given calls)) f.0 pieces others new f.2 first in
+    let remainder = tracks_all (burst ++ piece) (ms ++ messages_given calls) (or_else e (fault_given calls)) f.0 pieces others new f.2 first in
     moved new
     (append_assoc burst piece (flat_map (λ p. p) pieces))
     (append_assoc ms (messages_given calls) (messages_given later) ∙ ap (λ (l : List Content). ms ++ l) (sym (messages_given-append calls later)))
     (or_else-assoc e (fault_given calls) (fault_given later) ∙ ap (or_else e) (sym (fault_given-append calls later)))
-    rest
+    remainder
 
 reads_tracked : (burst : List ℕ) (ms : List Content) (e : Option End) (new : Progress) → Tracks burst ms e new → Reads burst ms (unwrap_or e (silent_end (ended_of new)))
 reads_tracked burst ms None (reading taken []) t = ends_follows burst ms taken [] t

@@ -11,7 +11,7 @@ use Rattle.vdcp_frame.specs.Reader.{Answer, message, more, wrong, IsUnfinished, 
 use Rattle.vdcp_frame.proofs.HeadLemmas.{Begins-nil}
 use Rattle.vdcp_frame.proofs.ReadingLemmas.{nil_no_front, SpellsAll-push, wrong_reads}
 
--- ---- an unfinished rest
+-- ---- an unfinished remainder
 
 abbrev pub unfinished_end : List ℕ → End
 unfinished_end [] = clean
@@ -29,7 +29,7 @@ unfinished_reads : (limit : ℕ) (burst : List ℕ) (ms : List Content) (whole h
     ReadsUpTo limit burst ms (cond (ltb limit (length burst)) (long_end limit (unfinished_end held)) (unfinished_end held))
 unfinished_reads limit burst ms whole held parts all h = record {
   short = unfinished_end held;
-  front = record { whole = whole; rest = held; parts = parts; spelt = all; no_front = h.no_front; ends = ends_unfinished (length whole) held h };
+  front = record { whole = whole; remainder = held; parts = parts; spelt = all; no_front = h.no_front; ends = ends_unfinished (length whole) held h };
   long = refl;
 }
 
@@ -40,13 +40,13 @@ short_reads limit ms whole held all h room =
     (unfinished_reads limit (whole ++ held) ms whole held (take_all limit (whole ++ held) room) all h)
 
 -- a burst past it
-pub long_reads : (limit : ℕ) (ms : List Content) (whole held rest : List ℕ) → SpellsAll ms whole → IsUnfinished held → length (whole ++ held) ≡ limit → 0 < length rest → ReadsUpTo limit ((whole ++ held) ++ rest) ms (fault Long (limit + 1))
-long_reads limit ms whole held rest all h size some =
-    let burst : List ℕ = (whole ++ held) ++ rest in
-    let past : limit < length burst = omega (arith, length-append (whole ++ held) rest) in
+pub long_reads : (limit : ℕ) (ms : List Content) (whole held remainder : List ℕ) → SpellsAll ms whole → IsUnfinished held → length (whole ++ held) ≡ limit → 0 < length remainder → ReadsUpTo limit ((whole ++ held) ++ remainder) ms (fault Long (limit + 1))
+long_reads limit ms whole held remainder all h size some =
+    let burst : List ℕ = (whole ++ held) ++ remainder in
+    let past : limit < length burst = omega (arith, length-append (whole ++ held) remainder) in
     subst (ReadsUpTo limit burst ms) (long_unfinished limit held)
     (subst (λ (b : Bool). ReadsUpTo limit burst ms (cond b (long_end limit (unfinished_end held)) (unfinished_end held))) (lt-ltb limit (length burst) past)
-    (unfinished_reads limit burst ms whole held (take_at (whole ++ held) rest limit size) all h))
+    (unfinished_reads limit burst ms whole held (take_at (whole ++ held) remainder limit size) all h))
 
 -- ---- one call of feed
 
@@ -81,17 +81,17 @@ follows_more burst ms taken held piece n f t = record {
   limit = t.limit;
 }
 
-follows_wrong : (burst : List ℕ) (ms : List Content) (taken : ℕ) (held piece : List ℕ) (n : ℕ) (kind : Fault) → FollowsReading burst ms taken held → TakesWrong taken held piece n kind → FollowsFault (burst ++ take n piece) ms kind (taken + n)
-follows_wrong burst ms taken held piece n kind f t rest =
+follows_wrong : (burst : List ℕ) (ms : List Content) (taken : ℕ) (held piece : List ℕ) (n : ℕ) (which : Fault) → FollowsReading burst ms taken held → TakesWrong taken held piece n which → FollowsFault (burst ++ take n piece) ms which (taken + n)
+follows_wrong burst ms taken held piece n which f t remainder =
     let w : List ℕ = held ++ take n piece in
     let front : burst ++ take n piece ≡ f.whole ++ w = ap (λ (b : List ℕ). b ++ take n piece) f.parts ∙ joined f.whole held (take n piece) in
     let size : length f.whole + length w ≡ taken + n = omega (arith, grown burst piece taken n f.count t.within, ap (length {A = ℕ}) front, length-append f.whole w) in
-    subst (λ (p : ℕ). Reads ((burst ++ take n piece) ++ rest) ms (fault kind p)) size
-    (subst (λ (b : List ℕ). Reads (b ++ rest) ms (fault kind (length f.whole + length w))) (sym front)
-    (wrong_reads 4096 ms f.whole w rest kind f.spelt t.first (omega (arith, t.limit))))
+    subst (λ (p : ℕ). Reads ((burst ++ take n piece) ++ remainder) ms (fault which p)) size
+    (subst (λ (b : List ℕ). Reads (b ++ remainder) ms (fault which (length f.whole + length w))) (sym front)
+    (wrong_reads 4096 ms f.whole w remainder which f.spelt t.first (omega (arith, t.limit))))
 
 follows_long : (burst : List ℕ) (ms : List Content) (taken : ℕ) (held piece : List ℕ) (n : ℕ) → FollowsReading burst ms taken held → TakesLong taken held piece n → FollowsFault (burst ++ take n piece) ms Long (taken + n)
-follows_long burst ms taken held piece n f t rest =
+follows_long burst ms taken held piece n f t remainder =
     let w : List ℕ = held ++ take (n - 1) piece in
     let last : List ℕ = drop (n - 1) (take n piece) in
     let split : take n piece ≡ take (n - 1) piece ++ last =
@@ -101,12 +101,12 @@ follows_long burst ms taken held piece n f t rest =
     ∙ sym (append_assoc (f.whole ++ held) (take (n - 1) piece) last) ∙ ap (λ (b : List ℕ). b ++ last) (joined f.whole held (take (n - 1) piece)) in
     let size : length (f.whole ++ w) ≡ 4096 =
     omega (arith, f.count, t.past, t.some, t.within, ap (length {A = ℕ}) f.parts, length-append f.whole held, length-append f.whole w, length-append held (take (n - 1) piece), length-take (n - 1) piece) in
-    let some : 0 < length (last ++ rest) = omega (arith, t.some, t.within, length-append last rest, length-drop (n - 1) (take n piece), length-take n piece) in
-    let long : Reads ((f.whole ++ w) ++ (last ++ rest)) ms (fault Long 4097) = long_reads 4096 ms f.whole w (last ++ rest) f.spelt t.unfinished size some in
-    subst (λ (p : ℕ). Reads ((burst ++ take n piece) ++ rest) ms (fault Long p)) (sym t.past)
-    (subst (λ (b : List ℕ). Reads b ms (fault Long 4097)) (sym (ap (λ (b : List ℕ). b ++ rest) front ∙ append_assoc (f.whole ++ w) last rest)) long)
+    let some : 0 < length (last ++ remainder) = omega (arith, t.some, t.within, length-append last remainder, length-drop (n - 1) (take n piece), length-take n piece) in
+    let long : Reads ((f.whole ++ w) ++ (last ++ remainder)) ms (fault Long 4097) = long_reads 4096 ms f.whole w (last ++ remainder) f.spelt t.unfinished size some in
+    subst (λ (p : ℕ). Reads ((burst ++ take n piece) ++ remainder) ms (fault Long p)) (sym t.past)
+    (subst (λ (b : List ℕ). Reads b ms (fault Long 4097)) (sym (ap (λ (b : List ℕ). b ++ remainder) front ∙ append_assoc (f.whole ++ w) last remainder)) long)
 
-pub follows_fault : (burst : List ℕ) (ms : List Content) (taken : ℕ) (held piece : List ℕ) (n : ℕ) (kind : Fault) → FollowsReading burst ms taken held → TakesFault taken held piece n kind → FollowsFault (burst ++ take n piece) ms kind (taken + n)
+pub follows_fault : (burst : List ℕ) (ms : List Content) (taken : ℕ) (held piece : List ℕ) (n : ℕ) (which : Fault) → FollowsReading burst ms taken held → TakesFault taken held piece n which → FollowsFault (burst ++ take n piece) ms which (taken + n)
 follows_fault burst ms taken held piece n BadStart f t = follows_wrong burst ms taken held piece n BadStart f t
 follows_fault burst ms taken held piece n (BadCount count) f t = follows_wrong burst ms taken held piece n (BadCount count) f t
 follows_fault burst ms taken held piece n BadSum f t = follows_wrong burst ms taken held piece n BadSum f t
@@ -116,12 +116,12 @@ follows_fault burst ms taken held piece n Long f t = follows_long burst ms taken
 pub gives_follows : (burst : List ℕ) (ms : List Content) (old : Progress) (piece : List ℕ) (n : ℕ) (answer : Answer) → Gives old piece n answer → Follows burst ms old → FollowsNext (burst ++ take n piece) ms answer (fed old piece n answer)
 gives_follows burst ms (reading taken held) piece n (message m) g f = follows_message burst ms taken held piece n m f g
 gives_follows burst ms (reading taken held) piece n more g f = follows_more burst ms taken held piece n f g
-gives_follows burst ms (reading taken held) piece n (wrong kind place) g f =
-    (subst (FollowsFault (burst ++ take n piece) ms kind) (sym g.1) (follows_fault burst ms taken held piece n kind f g.0), refl)
+gives_follows burst ms (reading taken held) piece n (wrong which place) g f =
+    (subst (FollowsFault (burst ++ take n piece) ms which) (sym g.1) (follows_fault burst ms taken held piece n which f g.0), refl)
 gives_follows burst ms failed piece n (message m) g f = absurd g
 gives_follows burst ms failed piece n more g f =
-    (f.0, f.1, λ rest. subst (λ (b : List ℕ). Reads b ms (fault f.0 f.1)) (sym (append_assoc burst (take n piece) rest)) (f.2 (take n piece ++ rest)))
-gives_follows burst ms failed piece n (wrong kind place) g f = absurd g
+    (f.0, f.1, λ remainder. subst (λ (b : List ℕ). Reads b ms (fault f.0 f.1)) (sym (append_assoc burst (take n piece) remainder)) (f.2 (take n piece ++ remainder)))
+gives_follows burst ms failed piece n (wrong which place) g f = absurd g
 
 -- ---- a silence
 

@@ -97,27 +97,27 @@ no_wrong_nil bytes n w e =
     let none : take n bytes ≡ [] = ap (λ (b : List ℕ). take n b) e ∙ take_all n [] (omega arith) in
     w.wrong (subst Begins (sym none) Begins-nil)
 
-one_end : (before : ℕ) (rest : List ℕ) (e f : End) → Ends before rest e → Ends before rest f → e ≡ f
-one_end before rest clean clean p q = refl
-one_end before rest clean (cut count) p q = absurd (q.0 p)
-one_end before rest clean (fault kind place) p q = absurd (no_wrong_nil rest q.0 q.1 p)
-one_end before rest (cut count) clean p q = absurd (p.0 q)
-one_end before rest (cut count) (cut other) p q = ap cut (p.2 ∙ sym q.2)
-one_end before rest (cut count) (fault kind place) p q = absurd (no_wrong_part rest q.0 q.1 p.1)
-one_end before rest (fault kind place) clean p q = absurd (no_wrong_nil rest p.0 p.1 q)
-one_end before rest (fault kind place) (cut count) p q = absurd (no_wrong_part rest p.0 p.1 q.1)
-one_end before rest (fault kind place) (fault other there) p q =
-    let n_is : p.0 ≡ q.0 = one_first_wrong rest p.0 q.0 p.1 q.1 in
-    let kinds : kind ≡ other = p.3 ∙ ap (λ (n : ℕ). fault_of (take n rest)) n_is ∙ sym q.3 in
+one_end : (before : ℕ) (remainder : List ℕ) (e f : End) → Ends before remainder e → Ends before remainder f → e ≡ f
+one_end before remainder clean clean p q = refl
+one_end before remainder clean (cut count) p q = absurd (q.0 p)
+one_end before remainder clean (fault which place) p q = absurd (no_wrong_nil remainder q.0 q.1 p)
+one_end before remainder (cut count) clean p q = absurd (p.0 q)
+one_end before remainder (cut count) (cut other) p q = ap cut (p.2 ∙ sym q.2)
+one_end before remainder (cut count) (fault which place) p q = absurd (no_wrong_part remainder q.0 q.1 p.1)
+one_end before remainder (fault which place) clean p q = absurd (no_wrong_nil remainder p.0 p.1 q)
+one_end before remainder (fault which place) (cut count) p q = absurd (no_wrong_part remainder p.0 p.1 q.1)
+one_end before remainder (fault which place) (fault other there) p q =
+    let n_is : p.0 ≡ q.0 = one_first_wrong remainder p.0 q.0 p.1 q.1 in
+    let kinds : which ≡ other = p.3 ∙ ap (λ (n : ℕ). fault_of (take n remainder)) n_is ∙ sym q.3 in
     let places : place ≡ there = p.2 ∙ ap (λ (n : ℕ). before + n) n_is ∙ sym q.2 in
     cc
 
 one_short : (bytes : List ℕ) (ms ns : List Content) (e f : End) → ReadsShort bytes ms e → ReadsShort bytes ns f → (ms ≡ ns) × (e ≡ f)
 one_short bytes ms ns e f p q =
-    let same = same_whole ms ns p.whole q.whole p.rest q.rest p.spelt q.spelt p.no_front q.no_front (sym p.parts ∙ q.parts) in
-    let there : Ends (length p.whole) p.rest f =
-    subst (λ (w : List ℕ). Ends (length w) p.rest f) (sym same.1) (subst (λ (r : List ℕ). Ends (length q.whole) r f) (sym same.2) q.ends) in
-    (same.0, one_end (length p.whole) p.rest e f p.ends there)
+    let same = same_whole ms ns p.whole q.whole p.remainder q.remainder p.spelt q.spelt p.no_front q.no_front (sym p.parts ∙ q.parts) in
+    let there : Ends (length p.whole) p.remainder f =
+    subst (λ (w : List ℕ). Ends (length w) p.remainder f) (sym same.1) (subst (λ (r : List ℕ). Ends (length q.whole) r f) (sym same.2) q.ends) in
+    (same.0, one_end (length p.whole) p.remainder e f p.ends there)
 
 -- a burst has one reading at most
 pub one_reading : (limit : ℕ) (burst : List ℕ) (ms ns : List Content) (e f : End) → ReadsUpTo limit burst ms e → ReadsUpTo limit burst ns f → (ms ≡ ns) × (e ≡ f)
@@ -153,7 +153,7 @@ module _ (limit : ℕ) (burst : List ℕ) (from : ℕ) (within : from ≤ limit)
       subst (SpellsAll (ms ++ m ∷ [])) (sym whole) (SpellsAll-push ms m (take from burst) (take size (left limit burst from)) all f.spelt)
 
   reads_left : (ms : List Content) (end : End) → SpellsAll ms (take from burst) → HasNoFront (left limit burst from) → Ends (length (take from burst)) (left limit burst from) end → ReadsShort (take limit burst) ms end
-  reads_left ms end all none ends = record { whole = take from burst; rest = left limit burst from; parts = left_parts; spelt = all; no_front = none; ends = ends }
+  reads_left ms end all none ends = record { whole = take from burst; remainder = left limit burst from; parts = left_parts; spelt = all; no_front = none; ends = ends }
 
   reads_end : (ms : List Content) (end : End) → SpellsAll ms (take from burst) → HasNoFront (left limit burst from) → Ends (length (take from burst)) (left limit burst from) end →
       ReadsUpTo limit burst ms (cond (ltb limit (length burst)) (long_end limit end) end)
@@ -169,11 +169,11 @@ module _ (limit : ℕ) (burst : List ℕ) (from : ℕ) (within : from ≤ limit)
   reads_part ms all p = reads_end ms (cut (length (left limit burst from))) all p.no_front (p.some, p.begins, refl)
 
   -- what is left begins with a fault
-  pub reads_wrong : (ms : List Content) (kind : Fault) (size : ℕ) → from ≤ length burst → SpellsAll ms (take from burst) → IsWrong (left limit burst from) kind size → ReadsUpTo limit burst ms (fault kind (from + size))
-  reads_wrong ms kind size fits all w =
+  pub reads_wrong : (ms : List Content) (which : Fault) (size : ℕ) → from ≤ length burst → SpellsAll ms (take from burst) → IsWrong (left limit burst from) which size → ReadsUpTo limit burst ms (fault which (from + size))
+  reads_wrong ms which size fits all w =
       let before : length (take from burst) ≡ from = omega (arith, length-take from burst) in
-      let ends : Ends (length (take from burst)) (left limit burst from) (fault kind (from + size)) = (size, w.first, ap (λ (n : ℕ). n + size) (sym before), w.which) in
-      subst (ReadsUpTo limit burst ms) (either_way (ltb limit (length burst)) (fault kind (from + size))) (reads_end ms (fault kind (from + size)) all w.no_front ends)
+      let ends : Ends (length (take from burst)) (left limit burst from) (fault which (from + size)) = (size, w.first, ap (λ (n : ℕ). n + size) (sym before), w.fault_is) in
+      subst (ReadsUpTo limit burst ms) (either_way (ltb limit (length burst)) (fault which (from + size))) (reads_end ms (fault which (from + size)) all w.no_front ends)
 
   -- a burst that isn't too long ends behind a whole message
   pub reads_clean : (ms : List Content) → length burst ≤ limit → left limit burst from ≡ [] → SpellsAll ms (take from burst) → ReadsUpTo limit burst ms clean
@@ -225,15 +225,15 @@ the_spelling m bytes s =
 -- ---- written messages are read again
 
 -- the messages of a longer list begin with those of a front
-goes_on : (ms ns : List Content) (a b more rest : List ℕ) → SpellsAll ms a → SpellsAll ns b → HasNoFront rest → a ++ more ≡ b ++ rest → (others : List Content) × (ns ≡ ms ++ others)
-goes_on [] ns a b more rest p q none e = (ns, refl)
-goes_on (m ∷ ms) [] a b more rest p q none e =
-    absurd (none m p.0 (p.1 ++ more) p.2 (sym (ap (λ (f : List ℕ). f ++ rest) q) ∙ sym e ∙ ap (λ (f : List ℕ). f ++ more) p.4 ∙ append_assoc p.0 p.1 more))
-goes_on (m ∷ ms) (n ∷ ns) a b more rest p q none e =
-    let joined : p.0 ++ (p.1 ++ more) ≡ q.0 ++ (q.1 ++ rest) =
-    sym (ap (λ (f : List ℕ). f ++ more) p.4 ∙ append_assoc p.0 p.1 more) ∙ e ∙ ap (λ (f : List ℕ). f ++ rest) q.4 ∙ append_assoc q.0 q.1 rest in
-    let first = one_front m n p.0 q.0 (p.1 ++ more) (q.1 ++ rest) p.2 q.2 joined in
-    let tail = goes_on ms ns p.1 q.1 more rest p.3 q.3 none first.2 in
+goes_on : (ms ns : List Content) (a b more remainder : List ℕ) → SpellsAll ms a → SpellsAll ns b → HasNoFront remainder → a ++ more ≡ b ++ remainder → (others : List Content) × (ns ≡ ms ++ others)
+goes_on [] ns a b more remainder p q none e = (ns, refl)
+goes_on (m ∷ ms) [] a b more remainder p q none e =
+    absurd (none m p.0 (p.1 ++ more) p.2 (sym (ap (λ (f : List ℕ). f ++ remainder) q) ∙ sym e ∙ ap (λ (f : List ℕ). f ++ more) p.4 ∙ append_assoc p.0 p.1 more))
+goes_on (m ∷ ms) (n ∷ ns) a b more remainder p q none e =
+    let joined : p.0 ++ (p.1 ++ more) ≡ q.0 ++ (q.1 ++ remainder) =
+    sym (ap (λ (f : List ℕ). f ++ more) p.4 ∙ append_assoc p.0 p.1 more) ∙ e ∙ ap (λ (f : List ℕ). f ++ remainder) q.4 ∙ append_assoc q.0 q.1 remainder in
+    let first = one_front m n p.0 q.0 (p.1 ++ more) (q.1 ++ remainder) p.2 q.2 joined in
+    let tail = goes_on ms ns p.1 q.1 more remainder p.3 q.3 none first.2 in
     (tail.0, cc (first.0, tail.1))
 
 pub front_up_to : (limit : ℕ) (bytes more : List ℕ) → length bytes ≤ limit → take limit (bytes ++ more) ≡ bytes ++ take (limit - length bytes) more
@@ -243,7 +243,7 @@ front_up_to limit bytes more fits =
 
 pub read_again : (limit : ℕ) (ms ns : List Content) (bytes more : List ℕ) (end : End) → SpellsAll ms bytes → length bytes ≤ limit → ReadsUpTo limit (bytes ++ more) ns end → (others : List Content) × (ns ≡ ms ++ others)
 read_again limit ms ns bytes more end all fits reads =
-    goes_on ms ns bytes reads.front.whole (take (limit - length bytes) more) reads.front.rest all reads.front.spelt reads.front.no_front
+    goes_on ms ns bytes reads.front.whole (take (limit - length bytes) more) reads.front.remainder all reads.front.spelt reads.front.no_front
     (sym (front_up_to limit bytes more fits) ∙ reads.front.parts)
 
 pub read_alone : (limit : ℕ) (ms : List Content) (bytes : List ℕ) → SpellsAll ms bytes → length bytes ≤ limit → ReadsUpTo limit bytes ms clean
@@ -251,19 +251,19 @@ read_alone limit ms bytes all fits =
     let short : take limit bytes ≡ bytes = take_all limit bytes fits in
     record {
       short = clean;
-      front = record { whole = bytes; rest = []; parts = short ∙ sym (append-nil bytes); spelt = all; no_front = nil_no_front; ends = refl };
+      front = record { whole = bytes; remainder = []; parts = short ∙ sym (append-nil bytes); spelt = all; no_front = nil_no_front; ends = refl };
       long = ap (λ (b : Bool). cond b (long_end limit clean) clean) (sym (le-ltb limit (length bytes) fits));
     }
 
 -- ---- bytes behind a fault change nothing
 
-pub IsWrong-more : (w rest : List ℕ) (kind : Fault) → IsWrong w kind (length w) → IsWrong (w ++ rest) kind (length w)
-IsWrong-more w rest kind h =
-    let same : (k : ℕ) → k ≤ length w → take k (w ++ rest) ≡ take k w = λ k le. take-append-le k w rest le in
+pub IsWrong-more : (w remainder : List ℕ) (which : Fault) → IsWrong w which (length w) → IsWrong (w ++ remainder) which (length w)
+IsWrong-more w remainder which h =
+    let same : (k : ℕ) → k ≤ length w → take k (w ++ remainder) ≡ take k w = λ k le. take-append-le k w remainder le in
     let at_end = same (length w) (omega arith) in
     record {
       first = record {
-        within = omega (arith, length-append w rest);
+        within = omega (arith, length-append w remainder);
         wrong = λ b. h.first.wrong (subst Begins at_end b);
         shorter = λ k lt. let le : k ≤ length w = omega arith in subst Begins (sym (same k le)) (h.first.shorter k lt);
       };
@@ -271,28 +271,28 @@ IsWrong-more w rest kind h =
         | inl longer ↦
             let front_is : front ≡ w ++ drop (length w) front =
             sym (take-append-drop (length w) front)
-            ∙ ap (λ (f : List ℕ). f ++ drop (length w) front) (sym (take-append-le (length w) front tail (omega arith)) ∙ ap (λ (f : List ℕ). take (length w) f) (sym e) ∙ take_at w rest (length w) refl) in
+            ∙ ap (λ (f : List ℕ). f ++ drop (length w) front) (sym (take-append-le (length w) front tail (omega arith)) ∙ ap (λ (f : List ℕ). take (length w) f) (sym e) ∙ take_at w remainder (length w) refl) in
             let begins : Begins w = record { message = m; more = drop (length w) front; spelt = subst (Spells m) front_is s } in
             h.first.wrong (subst Begins (sym (take_all (length w) w (omega arith))) begins)
         | inr fits ↦
             let front_is : front ≡ take (length front) w =
-            sym (take_at front tail (length front) refl) ∙ ap (λ (f : List ℕ). take (length front) f) (sym e) ∙ take-append-le (length front) w rest fits in
+            sym (take_at front tail (length front) refl) ∙ ap (λ (f : List ℕ). take (length front) f) (sym e) ∙ take-append-le (length front) w remainder fits in
             h.no_front m front (drop (length front) w) s (sym (take-append-drop (length front) w) ∙ ap (λ (f : List ℕ). f ++ drop (length front) w) (sym front_is))
       ];
-      which = h.which ∙ ap fault_of (sym at_end);
+      fault_is = h.fault_is ∙ ap fault_of (sym at_end);
     }
 
 -- a burst that is wrong behind whole messages, whatever follows
-pub wrong_reads : (limit : ℕ) (ms : List Content) (whole w rest : List ℕ) (kind : Fault) → SpellsAll ms whole → IsWrong w kind (length w) → length whole + length w ≤ limit →
-    ReadsUpTo limit ((whole ++ w) ++ rest) ms (fault kind (length whole + length w))
-wrong_reads limit ms whole w rest kind all h room =
+pub wrong_reads : (limit : ℕ) (ms : List Content) (whole w remainder : List ℕ) (which : Fault) → SpellsAll ms whole → IsWrong w which (length w) → length whole + length w ≤ limit →
+    ReadsUpTo limit ((whole ++ w) ++ remainder) ms (fault which (length whole + length w))
+wrong_reads limit ms whole w remainder which all h room =
     let front : List ℕ = whole ++ w in
     let size : length front ≡ length whole + length w = length-append whole w in
-    let tail : List ℕ = take (limit - length front) rest in
-    let read : take limit (front ++ rest) ≡ whole ++ (w ++ tail) = front_up_to limit front rest (omega arith) ∙ append_assoc whole w tail in
-    let there = IsWrong-more w tail kind h in
+    let tail : List ℕ = take (limit - length front) remainder in
+    let read : take limit (front ++ remainder) ≡ whole ++ (w ++ tail) = front_up_to limit front remainder (omega arith) ∙ append_assoc whole w tail in
+    let there = IsWrong-more w tail which h in
     record {
-      short = fault kind (length whole + length w);
-      front = record { whole = whole; rest = w ++ tail; parts = read; spelt = all; no_front = there.no_front; ends = (length w, there.first, refl, there.which) };
-      long = sym (either_way (ltb limit (length (front ++ rest))) (fault kind (length whole + length w)));
+      short = fault which (length whole + length w);
+      front = record { whole = whole; remainder = w ++ tail; parts = read; spelt = all; no_front = there.no_front; ends = (length w, there.first, refl, there.fault_is) };
+      long = sym (either_way (ltb limit (length (front ++ remainder))) (fault which (length whole + length w)));
     }

@@ -1,3 +1,4 @@
+-- What stands at the front of some bytes.
 use Rattle.std.specs.Prelude.{ℕ, zero, suc, ◌≡◌, ◌≢◌, ◌+◌, ◌/◌, ◌%◌, ◌<◌, ◌≤◌, ◌==◌, List, [], ◌∷◌, length, take, sum, nat_lt, slice_index, if◌then◌else◌}
 use Rattle.vdcp_frame.specs.declared.message.Fault.{Fault}
 use Rattle.vdcp_frame.specs.declared.message.Fault.TheVariants.{BadStart, BadCount, BadSum}
@@ -9,7 +10,7 @@ use Rattle.vdcp_frame.specs.Reading.{Begins, HasNoFront, IsFirstWrong, fault_of}
 pub data Head : Type 0 where
   nothing : Head
   part : Head
-  wrong : (kind : Fault) (size : ℕ) → Head
+  wrong : (which : Fault) (size : ℕ) → Head
   found : (message : Content) (size : ℕ) → Head
 
 -- the frame with n bytes of data, from its first data byte on
@@ -53,10 +54,10 @@ pub record IsPart (bytes : List ℕ) : Type 0 where
   pub begins : Begins bytes
   pub no_front : HasNoFront bytes
 
-pub record IsWrong (bytes : List ℕ) (kind : Fault) (size : ℕ) : Type 0 where
+pub record IsWrong (bytes : List ℕ) (which : Fault) (size : ℕ) : Type 0 where
   pub first : IsFirstWrong bytes size
   pub no_front : HasNoFront bytes
-  pub which : kind ≡ fault_of (take size bytes)
+  pub fault_is : which ≡ fault_of (take size bytes)
 
 pub record IsFound (bytes : List ℕ) (message : Content) (size : ℕ) : Type 0 where
   pub some : 0 < size
@@ -66,5 +67,5 @@ pub record IsFound (bytes : List ℕ) (message : Content) (size : ℕ) : Type 0 
 abbrev pub HeadIs : List ℕ → Head → Type 0
 HeadIs bytes nothing = bytes ≡ []
 HeadIs bytes part = IsPart bytes
-HeadIs bytes (wrong kind size) = IsWrong bytes kind size
+HeadIs bytes (wrong which size) = IsWrong bytes which size
 HeadIs bytes (found message size) = IsFound bytes message size

@@ -1,3 +1,4 @@
+-- What a streaming reader holds of a message, and what more bytes bring to it.
 use Rattle.std.specs.Prelude.{ℕ, ◌≡◌, ◌-◌, ◌*◌, ◌/◌, ◌%◌, ◌<◌, ◌≤◌, List, [], ◌∷◌, ◌++◌, length, take, drop, sum, slice_index}
 use Rattle.vdcp_frame.specs.declared.message.Fault.{Fault}
 use Rattle.vdcp_frame.specs.declared.held.Held.{Held}
@@ -5,7 +6,7 @@ use Rattle.vdcp_frame.specs.declared.held.Held.TheVariants as held
 use Rattle.vdcp_frame.specs.declared.held.Found.{Found}
 use Rattle.vdcp_frame.specs.declared.held.Found.TheVariants as found
 use Rattle.vdcp_frame.specs.declared.held.Partial.{Partial}
-use Rattle.vdcp_frame.specs.Message.{Content, ack, nak, framed, AreBytes, Spells}
+use Rattle.vdcp_frame.specs.Message.{Content, ack, nak, framed, AreOctets, Spells}
 use Rattle.vdcp_frame.specs.Head as head
 use Rattle.vdcp_frame.specs.Head.{head_of, IsWrong}
 use Rattle.vdcp_frame.specs.Reader.{IsUnfinished}
@@ -27,7 +28,7 @@ pub record IsBegun (count len total : ℕ) (buffer : List ℕ) : Type 0 where
   pub lacks : len ≤ count
   pub adds_up : total ≡ sum (take len buffer)
   pub bound : total ≤ 255 * len
-  pub fits : AreBytes (take len buffer)
+  pub fits : AreOctets (take len buffer)
 
 abbrev pub AreBegun : Held → List ℕ → Type 0
 AreBegun held.Nothing buffer = Unit {0}
@@ -52,7 +53,7 @@ Brings old bytes n found.Nothing new = (n ≡ length bytes) × (held_bytes new �
 Brings old bytes n found.Ack new = (head_of (old ++ take n bytes) ≡ head.found ack (length (old ++ take n bytes))) × (held_bytes new ≡ [])
 Brings old bytes n (found.Nak byte) new = (head_of (old ++ take n bytes) ≡ head.found (nak byte) (length (old ++ take n bytes))) × (held_bytes new ≡ [])
 Brings old bytes n (found.Frame len) new = IsWhole (old ++ take n bytes) len new.buffer × (held_bytes new ≡ [])
-Brings old bytes n (found.Wrong kind) new = (head_of (old ++ take n bytes) ≡ head.wrong kind (length (old ++ take n bytes))) × (held_bytes new ≡ [])
+Brings old bytes n (found.Wrong which) new = (head_of (old ++ take n bytes) ≡ head.wrong which (length (old ++ take n bytes))) × (held_bytes new ≡ [])
 
 -- the message that lies in the buffer with so many bytes behind its count
 abbrev pub frame_in : ℕ → List ℕ → Content
@@ -68,9 +69,9 @@ pub record BringsFrame (old bytes : List ℕ) (n len : ℕ) (new : Partial) : Ty
   pub most : len ≤ 256
   pub message : BringsMessage old bytes n (frame_in len new.buffer) new
 
-pub record BringsWrong (old bytes : List ℕ) (n : ℕ) (kind : Fault) (new : Partial) : Type 0 where
+pub record BringsWrong (old bytes : List ℕ) (n : ℕ) (which : Fault) (new : Partial) : Type 0 where
   pub some : 0 < n
-  pub first : IsWrong (old ++ take n bytes) kind (length (old ++ take n bytes))
+  pub first : IsWrong (old ++ take n bytes) which (length (old ++ take n bytes))
   pub done : held_bytes new ≡ []
 
 pub record BringsAll (old bytes : List ℕ) (n : ℕ) (new : Partial) : Type 0 where
@@ -84,4 +85,4 @@ Yields old bytes n found.Nothing new = BringsAll old bytes n new
 Yields old bytes n found.Ack new = BringsMessage old bytes n ack new
 Yields old bytes n (found.Nak byte) new = BringsMessage old bytes n (nak byte) new
 Yields old bytes n (found.Frame len) new = BringsFrame old bytes n len new
-Yields old bytes n (found.Wrong kind) new = BringsWrong old bytes n kind new
+Yields old bytes n (found.Wrong which) new = BringsWrong old bytes n which new

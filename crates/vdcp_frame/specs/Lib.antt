@@ -1,3 +1,4 @@
+-- The definitions, file by file.
 pub mod Message
 pub mod Reading
 pub mod Head

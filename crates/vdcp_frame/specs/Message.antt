@@ -1,3 +1,4 @@
+-- A message, and the bytes that spell it.
 use Rattle.std.specs.Prelude.{ℕ, ◌≡◌, ◌+◌, ◌*◌, ◌%◌, ◌-◌, ◌<◌, ◌≤◌, List, [], ◌∷◌, ◌++◌, length, sum, All}
 use Rattle.vdcp_frame.specs.declared.message.Message.{Message}
 use Rattle.vdcp_frame.specs.declared.message.Message.TheVariants.{Ack, Nak, Framed}
@@ -13,15 +14,15 @@ content_of Ack = ack
 content_of (Nak byte) = nak byte
 content_of (Framed kind unit code rest) = framed kind unit code rest.now
 
-abbrev pub AreBytes : List ℕ → Type 0
-AreBytes bytes = All (λ b. b < 256) bytes
+abbrev pub AreOctets : List ℕ → Type 0
+AreOctets bytes = All (λ b. b < 256) bytes
 
 -- what a message may hold: numbers that fit, and at most 253 bytes of data
 pub record FitsFrame (kind unit code : ℕ) (rest : List ℕ) : Type 0 where
   pub kind_fits : kind < 16
   pub unit_fits : unit < 16
   pub code_fits : code < 256
-  pub rest_fits : AreBytes rest
+  pub rest_fits : AreOctets rest
   pub rest_size : length rest ≤ 253
 
 abbrev pub Fits : Content → Type 0

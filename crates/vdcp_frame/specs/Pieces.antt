@@ -1,3 +1,4 @@
+-- A burst that is fed in pieces: the calls, and what they give.
 use Rattle.std.specs.Prelude.{ℕ, ◌≡◌, List, [], ◌∷◌, Option, Some, None, drop, unwrap_or}
 use Rattle.vdcp_frame.specs.declared.got.Ended.{Ended}
 use Rattle.vdcp_frame.specs.declared.got.Ended.TheVariants as silence
@@ -28,7 +29,7 @@ FeedsAll old (piece ∷ pieces) [] new = ⊥
 abbrev pub with_message : Answer → List Content → List Content
 with_message (message m) ms = m ∷ ms
 with_message more ms = ms
-with_message (wrong kind place) ms = ms
+with_message (wrong which place) ms = ms
 
 abbrev pub messages_given : List Call → List Content
 messages_given [] = []
@@ -38,7 +39,7 @@ messages_given (call ∷ calls) = with_message call.answer (messages_given calls
 abbrev pub or_fault : Answer → Option End → Option End
 or_fault (message m) later = later
 or_fault more later = later
-or_fault (wrong kind place) later = Some (fault kind place)
+or_fault (wrong which place) later = Some (fault which place)
 
 abbrev pub fault_given : List Call → Option End
 fault_given [] = None

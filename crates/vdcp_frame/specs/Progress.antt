@@ -1,3 +1,4 @@
+-- How far a streaming reader is.
 use Rattle.std.specs.Prelude.{ℕ, List}
 
 -- how far a reader is in a burst: how many bytes it took, and which of these it holds, since they

@@ -1,3 +1,4 @@
+-- The reading of a burst: its messages and its end.
 use Rattle.std.specs.Prelude.{ℕ, ◌≡◌, ◌≢◌, ◌+◌, ◌<◌, ◌≤◌, List, [], ◌∷◌, ◌++◌, length, take, nat_lt, if◌then◌else◌}
 use Rattle.vdcp_frame.specs.declared.message.Fault.{Fault}
 use Rattle.vdcp_frame.specs.declared.message.Fault.TheVariants.{BadStart, BadCount, BadSum, Long}
@@ -6,7 +7,7 @@ use Rattle.vdcp_frame.specs.Message.{Content, Spells}
 -- the bytes are the spellings of the messages, one after another
 abbrev pub SpellsAll : List Content → List ℕ → Type 0
 SpellsAll [] bytes = bytes ≡ []
-SpellsAll (m ∷ ms) bytes = (first rest : List ℕ) × Spells m first × SpellsAll ms rest × (bytes ≡ first ++ rest)
+SpellsAll (m ∷ ms) bytes = (first remainder : List ℕ) × Spells m first × SpellsAll ms remainder × (bytes ≡ first ++ remainder)
 
 -- the bytes are whole messages, one after another
 abbrev pub AreMessages : List ℕ → Type 0
@@ -32,7 +33,7 @@ pub record IsFirstWrong (bytes : List ℕ) (n : ℕ) : Type 0 where
 pub data End : Type 0 where
   clean : End
   cut : (count : ℕ) → End
-  fault : (kind : Fault) (place : ℕ) → End
+  fault : (which : Fault) (place : ℕ) → End
 
 -- which fault it is, by the shortest front that begins no spelling
 abbrev pub fault_of : List ℕ → Fault
@@ -41,26 +42,26 @@ fault_of (start ∷ []) = BadStart
 fault_of (start ∷ count ∷ []) = BadCount count
 fault_of (start ∷ count ∷ byte ∷ bytes) = BadSum
 
--- how a burst ends that has this rest behind so many bytes of whole messages
+-- how a burst ends that has this remainder behind so many bytes of whole messages
 abbrev pub Ends : ℕ → List ℕ → End → Type 0
-Ends before rest clean = rest ≡ []
-Ends before rest (cut count) = (rest ≢ []) × Begins rest × (count ≡ length rest)
-Ends before rest (fault kind place) = (n : ℕ) × IsFirstWrong rest n × (place ≡ before + n) × (kind ≡ fault_of (take n rest))
+Ends before remainder clean = remainder ≡ []
+Ends before remainder (cut count) = (remainder ≢ []) × Begins remainder × (count ≡ length remainder)
+Ends before remainder (fault which place) = (n : ℕ) × IsFirstWrong remainder n × (place ≡ before + n) × (which ≡ fault_of (take n remainder))
 
--- the messages' spellings, then a rest that begins with no spelling, and what end the rest makes
+-- the messages' spellings, then a remainder that begins with no spelling, and what end the remainder makes
 pub record ReadsShort (bytes : List ℕ) (ms : List Content) (end : End) : Type 0 where
   pub whole : List ℕ
-  pub rest : List ℕ
-  pub parts : bytes ≡ whole ++ rest
+  pub remainder : List ℕ
+  pub parts : bytes ≡ whole ++ remainder
   pub spelt : SpellsAll ms whole
-  pub no_front : HasNoFront rest
-  pub ends : Ends (length whole) rest end
+  pub no_front : HasNoFront remainder
+  pub ends : Ends (length whole) remainder end
 
 -- the end of a burst that goes on behind the bytes that are read
 abbrev pub long_end : ℕ → End → End
 long_end limit clean = fault Long (limit + 1)
 long_end limit (cut count) = fault Long (limit + 1)
-long_end limit (fault kind place) = fault kind place
+long_end limit (fault which place) = fault which place
 
 -- of the bytes at most so many are read
 pub record ReadsUpTo (limit : ℕ) (burst : List ℕ) (ms : List Content) (end : End) : Type 0 where
@@ -68,6 +69,10 @@ pub record ReadsUpTo (limit : ℕ) (burst : List ℕ) (ms : List Content) (end :
   pub front : ReadsShort (take limit burst) ms short
   pub long : end ≡ (if nat_lt limit (length burst) then long_end limit short else short)
 
+-- so many bytes of a burst are read
+abbrev pub burst_limit : ℕ
+burst_limit = 4096
+
 -- the reading of a burst: its messages and its end
 abbrev pub Reads : List ℕ → List Content → End → Type 0
-Reads burst ms end = ReadsUpTo 4096 burst ms end
+Reads burst ms end = ReadsUpTo burst_limit burst ms end

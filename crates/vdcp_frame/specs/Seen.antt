@@ -1,3 +1,4 @@
+-- What a head of the code says of some bytes.
 use Rattle.std.specs.Prelude.{ℕ, List}
 use Rattle.vdcp_frame.specs.declared.head.Head.{Head}
 use Rattle.vdcp_frame.specs.declared.head.Head.TheVariants as head
@@ -9,7 +10,7 @@ use Rattle.vdcp_frame.specs.Head.{HeadIs}
 abbrev pub seen : Head → spec.Head
 seen head.Nothing = spec.nothing
 seen head.Part = spec.part
-seen (head.Wrong kind size) = spec.wrong kind size
+seen (head.Wrong which size) = spec.wrong which size
 seen (head.Found message size) = spec.found (content_of message) size
 
 -- what a head of the code says of the bytes

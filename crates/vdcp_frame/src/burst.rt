@@ -1,6 +1,6 @@
 ghost use Rattle.std.specs.Prelude.{◌≡◌, ◌<◌, ◌≤◌, ◌++◌, ◌∷◌, [], List, length, take, drop, slice_range};
 ghost use Rattle.vdcp_frame.specs.Message.{Content, Spells};
-ghost use Rattle.vdcp_frame.specs.Reading.{SpellsAll, AreMessages, Reads};
+ghost use Rattle.vdcp_frame.specs.Reading.{SpellsAll, AreMessages, burst_limit, Reads};
 ghost use Rattle.vdcp_frame.specs.Step.{IfMessage, IfEnd};
 
 use crate::head::Head;
@@ -58,7 +58,7 @@ pub fn read_at(burst: &[u8], from: usize) -> Step<'_>
 fn left(burst: &[u8], from: usize) -> &[u8]
     requires limit { from ≤ LIMIT }
     requires within { from ≤ length burst.now }
-    ensures { result.now ≡ drop from (take 4096 burst.now) }
+    ensures { result.now ≡ drop from (take burst_limit burst.now) }
 {
     &burst[from..burst.len().min(LIMIT)]
 }

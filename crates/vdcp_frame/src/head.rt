@@ -39,7 +39,7 @@ impl Head<'_> {
             [ACK, ..] => Head::Found(Message::Ack, 1),
             [NAK] => Head::Part,
             [NAK, byte, ..] => Head::Found(Message::Nak(*byte), 2),
-            [FRAME, rest @ ..] => Head::of_frame(rest),
+            [FRAME, left @ ..] => Head::of_frame(left),
             [_, ..] => Head::Wrong(Fault::BadStart, 1),
         }
     }

@@ -92,12 +92,12 @@ impl Partial {
     {
         match bytes {
             [ACK, ..] => (1, Found::Ack),
-            [NAK, rest @ ..] => {
-                let (size, found) = self.finish_nak(rest);
+            [NAK, left @ ..] => {
+                let (size, found) = self.finish_nak(left);
                 (size + 1, found)
             }
-            [FRAME, rest @ ..] => {
-                let (size, found) = self.count(rest);
+            [FRAME, left @ ..] => {
+                let (size, found) = self.count(left);
                 (size + 1, found)
             }
             [_, ..] => (1, Found::Wrong(Fault::BadStart)),
@@ -130,8 +130,8 @@ impl Partial {
     {
         match bytes {
             [count, ..] if *count < 2 => (1, Found::Wrong(Fault::BadCount(*count))),
-            [count, rest @ ..] => {
-                let (size, found) = self.body(*count, 0, 0, rest);
+            [count, left @ ..] => {
+                let (size, found) = self.body(*count, 0, 0, left);
                 (size + 1, found)
             }
             [] => {

@@ -1,12 +1,13 @@
 //! Laws of the definitions that the contracts cite. Each holds for all that it names; the functions
 //! do nothing.
-ghost use Rattle.std.specs.Prelude.{◌≡◌, ◌≢◌, ℕ, ◌+◌, ◌<◌, ◌≤◌, ◌++◌, [], List, flat_map, length, slice_index, slice_set};
-ghost use Rattle.vdcp_frame.specs.Message.{Content, framed, AreBytes, Fits, Spells, spelling};
-ghost use Rattle.vdcp_frame.specs.Reading.{SpellsAll, Reads, End, clean, fault};
+ghost use Rattle.std.specs.Prelude.{◌≡◌, ◌≢◌, ℕ, ◌+◌, ◌<◌, ◌≤◌, ◌++◌, [], ◌∷◌, List, flat_map, length, slice_index, slice_set};
+ghost use Rattle.vdcp_frame.specs.Message.{Content, framed, AreOctets, Fits, Spells, spelling};
+ghost use Rattle.vdcp_frame.specs.Reading.{SpellsAll, End, clean, fault, burst_limit, Reads};
 ghost use Rattle.vdcp_frame.specs.Burst.{messages_of, end_of};
 ghost use Rattle.vdcp_frame.specs.Progress.{Progress, reading};
-ghost use Rattle.vdcp_frame.specs.Reader.{ended_of};
-ghost use Rattle.vdcp_frame.specs.Pieces.{Call, FeedsAll, messages_given, end_given};
+ghost use Rattle.vdcp_frame.specs.Reader.{Answer, ended_of, Follows, FollowsNext, IsEnd, ReadsAs};
+ghost use Rattle.vdcp_frame.specs.Pieces.{Call, FeedsAll, with_message, messages_given, end_given};
+ghost use Rattle.vdcp_frame.specs.declared.got.Ended.{Ended};
 ghost use Rattle.vdcp_frame.specs.declared.message.Fault.TheVariants.{BadSum};
 
 /// Where one spelling begins with another, the two are the same, and of the same message.
@@ -21,11 +22,20 @@ pub fn one_spelling()
     ensures only { (m : Content) (bytes : List ℕ) → Spells m bytes → Fits m × (bytes ≡ spelling m) }
 {}
 
+/// What is spelt is bytes: 1 to 258 for a message.
+pub fn what_is_spelt_is_bytes()
+    ensures message { (m : Content) (bytes : List ℕ) → Spells m bytes → AreOctets bytes }
+    ensures size { (m : Content) (bytes : List ℕ) → Spells m bytes → (0 < length bytes) × (length bytes ≤ 258) }
+    ensures messages { (ms : List Content) (bytes : List ℕ) → SpellsAll ms bytes → AreOctets bytes }
+{}
+
 /// Each burst has exactly one reading: that of `messages_of` and `end_of`.
 pub fn one_reading()
-    ensures some { (burst : List ℕ) → AreBytes burst → Reads burst (messages_of burst) (end_of burst) }
+    ensures some { (burst : List ℕ) → AreOctets burst → Reads burst (messages_of burst) (end_of burst) }
     ensures only { (burst : List ℕ) (ms ns : List Content) (e f : End) →
         Reads burst ms e → Reads burst ns f → (ms ≡ ns) × (e ≡ f) }
+    ensures computed { (burst : List ℕ) (ms : List Content) (end : End) → AreOctets burst →
+        Reads burst ms end → (ms ≡ messages_of burst) × (end ≡ end_of burst) }
 {}
 
 /// A framed message of which exactly one byte from CMD-1 to the checksum is changed reads as a bad
@@ -34,7 +44,7 @@ pub fn one_changed_byte()
     ensures { (kind unit code : ℕ) (rest frame : List ℕ) (i byte : ℕ) (ms : List Content) (before more : List ℕ) →
         Spells (framed kind unit code rest) frame →
         2 ≤ i → i < length frame → byte < 256 → byte ≢ slice_index frame i →
-        SpellsAll ms before → length before + length frame ≤ 4096 →
+        SpellsAll ms before → length before + length frame ≤ burst_limit →
         Reads ((before ++ slice_set frame i byte) ++ more) ms (fault BadSum (length before + length frame)) }
 {}
 
@@ -42,10 +52,53 @@ pub fn one_changed_byte()
 /// ones read from it, with anything behind them; with nothing behind them they are all of it.
 pub fn written_is_read()
     ensures first { (ms ns : List Content) (bytes more : List ℕ) (end : End) →
-        SpellsAll ms bytes → length bytes ≤ 4096 → Reads (bytes ++ more) ns end →
+        SpellsAll ms bytes → length bytes ≤ burst_limit → Reads (bytes ++ more) ns end →
         (others : List Content) × (ns ≡ ms ++ others) }
     ensures alone { (ms : List Content) (bytes : List ℕ) →
-        SpellsAll ms bytes → length bytes ≤ 4096 → Reads bytes ms clean }
+        SpellsAll ms bytes → length bytes ≤ burst_limit → Reads bytes ms clean }
+{}
+
+/// A spelling alone reads as its one message, and with anything behind it as this message first.
+pub fn a_spelling_is_its_message()
+    ensures alone { (m : Content) (ms : List Content) (end : End) → Fits m →
+        Reads (spelling m) ms end → (ms ≡ m ∷ []) × (end ≡ clean) }
+    ensures first { (m : Content) (more : List ℕ) (ms : List Content) (end : End) → Fits m →
+        Reads (spelling m ++ more) ms end → (others : List Content) × (ms ≡ m ∷ others) }
+    ensures messages { (m : Content) → Fits m → messages_of (spelling m) ≡ m ∷ [] }
+    ensures end { (m : Content) → Fits m → end_of (spelling m) ≡ clean }
+    ensures before { (m : Content) (more : List ℕ) → Fits m → AreOctets more →
+        (others : List Content) × (messages_of (spelling m ++ more) ≡ m ∷ others) }
+{}
+
+/// A reader follows the empty burst at its start, and behind each call of `feed` the burst with the
+/// bytes taken and the message given.
+pub fn what_is_fed_is_followed()
+    ensures start { Follows [] [] (reading 0 []) }
+    ensures next { (burst : List ℕ) (ms : List Content) (answer : Answer) (new : Progress) →
+        FollowsNext burst ms answer new → Follows burst (ms ++ with_message answer []) new }
+{}
+
+/// What a reader has followed is read: where the burst ends here, its messages are those given so
+/// far and its end is what a silence tells; where it goes on, its messages begin with those.
+pub fn what_is_followed_is_read()
+    ensures read { (burst : List ℕ) (ms : List Content) (p : Progress) →
+        Follows burst ms p → ReadsAs burst ms (ended_of p) }
+    ensures first { (burst more : List ℕ) (ms ns : List Content) (p : Progress) (end : End) →
+        Follows burst ms p → Reads (burst ++ more) ns end → (others : List Content) × (ns ≡ ms ++ others) }
+    ensures messages { (burst : List ℕ) (ms : List Content) (p : Progress) → AreOctets burst →
+        Follows burst ms p → ms ≡ messages_of burst }
+    ensures end { (burst : List ℕ) (ms : List Content) (p : Progress) → AreOctets burst →
+        Follows burst ms p → IsEnd (ended_of p) (end_of burst) }
+    ensures further { (burst more : List ℕ) (ms : List Content) (p : Progress) → AreOctets (burst ++ more) →
+        Follows burst ms p → (others : List Content) × (messages_of (burst ++ more) ≡ ms ++ others) }
+{}
+
+/// The reading that a silence tells is the computed one.
+pub fn what_a_silence_tells_is_computed()
+    ensures messages { (burst : List ℕ) (ms : List Content) (ended : Ended) → AreOctets burst →
+        ReadsAs burst ms ended → ms ≡ messages_of burst }
+    ensures end { (burst : List ℕ) (ms : List Content) (ended : Ended) → AreOctets burst →
+        ReadsAs burst ms ended → IsEnd ended (end_of burst) }
 {}
 
 /// However a burst is cut into pieces, the messages that a new reader gives for them, their order,

@@ -24,12 +24,13 @@ impl Model for Reader {
     ghost use Rattle.std.specs.Prelude.{◌≤◌, if◌then◌else◌};
     ghost use Rattle.vdcp_frame.specs.Progress.{Progress, reading, failed as behind_fault};
     ghost use Rattle.vdcp_frame.specs.Held.{held_bytes, IsPartial};
+    ghost use Rattle.vdcp_frame.specs.Reading.{burst_limit};
 
     ghost Value = { Progress };
 
     ghost view = { λ r. if r.failed then behind_fault else reading r.taken (held_bytes r.partial) };
 
-    ghost invariant = { λ r. IsPartial r.partial × (r.taken ≤ 4096) };
+    ghost invariant = { λ r. IsPartial r.partial × (r.taken ≤ burst_limit) };
 }
 
 impl Reader {

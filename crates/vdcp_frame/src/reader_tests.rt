@@ -1,9 +1,10 @@
 ghost use Rattle.std.specs.Prelude.{◌≡◌, ◌<◌, ◌≤◌, ◌++◌, List, ℕ, length, take};
-ghost use Rattle.vdcp_frame.specs.Message.{Content};
-ghost use Rattle.vdcp_frame.specs.Reader.{Follows};
+ghost use Rattle.vdcp_frame.specs.Burst.{messages_of, end_of};
+ghost use Rattle.vdcp_frame.specs.Message.{Content, AreOctets};
+ghost use Rattle.vdcp_frame.specs.Reader.{Follows, IsEnd};
 
 use crate::tests::reading_of;
-use crate::{Ended, Fault, Got, Message, Reader, Step};
+use crate::{Ended, Fault, Got, Message, Reader, Step, laws};
 use std::alloc::Global;
 use std::process::Abort;
 use std::test::Fail;
@@ -26,7 +27,8 @@ fn feed_once(reader: &mut Reader, piece: &[u8]) -> (usize, usize)
 
 // A server's loop over a piece: it feeds it to its end, and counts the messages.
 fn count_messages(reader: &mut Reader, piece: &[u8]) -> usize
-    ensures { (burst : List ℕ) (ms : List Content) → Follows burst ms reader.old →
+    ensures most { result ≤ length piece.now }
+    ensures follows { (burst : List ℕ) (ms : List Content) → Follows burst ms reader.old →
         (ns : List Content) × (length ns ≡ result) × Follows (burst ++ piece.now) (ms ++ ns) reader.new }
 {
     let mut at = 0;
@@ -37,6 +39,43 @@ fn count_messages(reader: &mut Reader, piece: &[u8]) -> usize
         count += messages;
     }
     count
+}
+
+// A server whose peer falls silent: from the calls to the burst's messages and its end.
+fn read_two_pieces(first: &[u8], second: &[u8]) -> (usize, Ended)
+    ensures messages { result.0 ≡ length (messages_of (first.now ++ second.now)) }
+    ensures end { IsEnd result.1 (end_of (first.now ++ second.now)) }
+{
+    laws::what_a_silence_tells_is_computed();
+    let mut reader = Reader::new();
+    let count = count_messages(&mut reader, first) + count_messages(&mut reader, second);
+    (count, reader.silence())
+}
+
+// A server whose peer closes inside a burst: what it answered are the first messages of any that
+// goes on.
+fn read_until_closed(first: &[u8], second: &[u8]) -> usize
+    ensures messages { result ≡ length (messages_of (first.now ++ second.now)) }
+    ensures further { (more : List ℕ) → AreOctets ((first.now ++ second.now) ++ more) → (others : List Content)
+        × (messages_of ((first.now ++ second.now) ++ more) ≡ messages_of (first.now ++ second.now) ++ others) }
+{
+    laws::what_is_followed_is_read();
+    let mut reader = Reader::new();
+    count_messages(&mut reader, first) + count_messages(&mut reader, second)
+}
+
+#[test]
+fn two_pieces_are_read(rt: HostRuntime) {
+    let burst = [0x04, 0x02, 0x02, 0x10, 0x01, 0xEF, 0x02];
+    for cut in 0..=7 {
+        let (first, second) = burst.split_at(cut);
+        assert_eq!(rt;
+            read_two_pieces(first, second),
+            (2, Ended::Cut(1)),
+            "in {cut:?}"
+        );
+        assert_eq!(rt; read_until_closed(first, second), 2, "in {cut:?}");
+    }
 }
 
 // What a burst still has to give: its messages from here on, and its end.
@@ -84,7 +123,7 @@ fn end_burst(rt: &impl Abort, reader: &mut Reader, expected: &Expected) {
 }
 
 // The burst in pieces, cut at the place and then after every `step` bytes, reads as it does whole.
-fn read_in_pieces(
+pub(crate) fn read_in_pieces(
     rt: &impl Abort,
     burst: &[u8],
     cut: usize,
@@ -99,9 +138,9 @@ fn read_in_pieces(
         given: 0,
         failed: false,
     };
-    let (first, rest) = burst.split_at(cut.min(burst.len()));
+    let (first, left) = burst.split_at(cut.min(burst.len()));
     feed_to_end(rt, &mut reader, first, &mut expected);
-    for piece in rest.chunks(step.max(1)) {
+    for piece in left.chunks(step.max(1)) {
         feed_to_end(rt, &mut reader, piece, &mut expected);
     }
     end_burst(rt, &mut reader, &expected);
@@ -167,7 +206,7 @@ fn after_a_fault_all_is_taken_until_the_silence(rt: HostRuntime) {
 }
 
 // By `read_at`, and by `feed` byte by byte.
-fn is_read_as(
+pub(crate) fn is_read_as(
     rt: &impl Abort,
     alloc: Global,
     burst: &[u8],

@@ -236,20 +236,3 @@ fn the_largest_message_is_written_and_read(rt: HostRuntime) {
     assert_eq!(rt; write(&largest, &mut out), Err(Full));
     assert_eq!(rt; out.len(), 258);
 }
-
-#[test]
-fn a_burst_is_read_up_to_its_limit(rt: HostRuntime) -> Result<(), Fail> {
-    let mut burst = Vec::new(rt.alloc());
-    for _ in 0..820 {
-        burst.extend_from_slice(&[0x02, 0x02, 0x10, 0x01, 0xEF])?;
-    }
-    let (messages, end) = reading_of(rt.alloc(), burst.as_slice())?;
-    assert_eq!(rt; messages.len(), 819);
-    assert_eq!(rt; end, Step::Fault(Fault::Long, 4097));
-    drop(messages);
-    burst.truncate(4096);
-    let (messages, end) = reading_of(rt.alloc(), burst.as_slice())?;
-    assert_eq!(rt; messages.len(), 819);
-    assert_eq!(rt; end, Step::Cut(1));
-    Ok(())
-}

@@ -1,3 +1,4 @@
+-- What is left to read is a slice of the burst.
 use Rattle.std.proofs.Common.{◌≡◌, ◌≤◌, ℕ, ◌+◌, ◌-◌, List, length, take, drop, min, sym, ap, ◌∙◌, arith}
 use Rattle.std.proofs.lemmas.List.{drop-take, take_min}
 use Rattle.vdcp_frame.proofs.burst.left.Goals as goal

@@ -1,3 +1,4 @@
+-- What a head found behind the first bytes says of the burst.
 use Rattle.std.proofs.Common.{ℕ, List, inl, inr, subst, ◌∙◌, sym}
 use Rattle.vdcp_frame.specs.Message.{content_of}
 use Rattle.vdcp_frame.specs.Head.{IsPart, IsWrong, IsFound}

@@ -1,3 +1,4 @@
+-- The total so far is the sum of the bytes so far.
 use Rattle.std.proofs.Common.{◌≡◌, ◌≤◌, ◌*◌, sum, take}
 use Rattle.vdcp_frame.proofs.head.total_of.Given as goal
 

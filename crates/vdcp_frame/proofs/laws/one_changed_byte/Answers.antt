@@ -1,3 +1,4 @@
+-- One changed byte of a frame is a bad sum.
 use Rattle.vdcp_frame.proofs.ChangedByteLemmas.{changed_byte}
 use Rattle.vdcp_frame.proofs.laws.one_changed_byte.Goals as goal
 

@@ -1,3 +1,4 @@
+-- What was written is read again.
 use Rattle.vdcp_frame.proofs.ReadingLemmas.{read_again, read_alone}
 use Rattle.vdcp_frame.proofs.laws.written_is_read.Goals as goal
 

@@ -1,4 +1,5 @@
-use Rattle.std.proofs.Common.{◌≡◌, ℕ, ◌+◌, ◌-◌, ◌<◌, ◌≤◌, List, [], ◌++◌, length, take, drop, refl, sym, ap, subst, ◌∙◌, append_assoc, arith, length-append}
+-- One more call of a loop over a piece.
+use Rattle.std.proofs.Common.{◌≡◌, ℕ, ◌+◌, ◌-◌, ◌<◌, List, [], ◌++◌, length, take, drop, refl, sym, ap, subst, ◌∙◌, append_assoc, arith, length-append}
 use Rattle.std.proofs.lemmas.List.{append-nil, take_all, take_rest, length-drop}
 use Rattle.std.proofs.Math.Seq.{take-add}
 use Rattle.vdcp_frame.specs.Message.{Content}
@@ -45,8 +46,8 @@ piece-preserved c =
       subst (λ (b : List ℕ). Counts c.args.reader.now c.feed_once-taken.new.reader b (c.piece.count + c.feed_once-taken.result.1)) front next,
     )
 
-pub returns : goal.returns
+pub returns-clause-follows : goal.returns-clause-follows
 unfolding Counts
-returns c =
+returns-clause-follows c =
     let all : take c.piece.at c.args.piece.now ≡ c.args.piece.now = take_all c.piece.at c.args.piece.now (omega arith) in
     subst (λ (b : List ℕ). Counts c.args.reader.now c.piece.reader b c.piece.count) all c.piece.invariant.2

@@ -1,3 +1,4 @@
+-- A loop over a piece: the front that was fed gave as many messages as are counted.
 use Rattle.std.proofs.Common.{◌≡◌, ℕ, ◌-◌, ◌≤◌, List, ◌++◌, length, take}
 use Rattle.vdcp_frame.specs.Message.{Content}
 use Rattle.vdcp_frame.specs.Reader.{Follows}

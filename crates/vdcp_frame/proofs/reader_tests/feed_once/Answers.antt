@@ -1,22 +1,23 @@
-use Rattle.std.proofs.Common.{◌≡◌, ℕ, ◌<◌, ◌≤◌, List, [], ◌∷◌, ◌++◌, length, take, refl, sym, subst, arith}
+-- One call of feed, with what it gave counted.
+use Rattle.std.proofs.Common.{◌≡◌, ℕ, List, [], ◌∷◌, ◌++◌, length, take, refl, sym, subst}
 use Rattle.std.proofs.lemmas.List.{append-nil}
 use Rattle.vdcp_frame.specs.declared.got.Got.{Got}
 use Rattle.vdcp_frame.specs.Message.{Content, content_of}
-use Rattle.vdcp_frame.specs.Progress.{Progress, reading, failed}
-use Rattle.vdcp_frame.specs.Reader.{Answer, message, more, wrong, answer_of, Gives, fed, Follows, FollowsNext}
+use Rattle.vdcp_frame.specs.Progress.{Progress, failed}
+use Rattle.vdcp_frame.specs.Reader.{Answer, message, more, wrong, answer_of, fed, Follows, FollowsNext}
 use Rattle.vdcp_frame.proofs.reader_tests.feed_once.Goals as goal
 
 number : Answer → ℕ
 number (message m) = 1
 number more = 0
-number (wrong kind place) = 0
+number (wrong which place) = 0
 
 counted : (burst : List ℕ) (ms : List Content) (answer : Answer) (new : Progress) → FollowsNext burst ms answer new → (ns : List Content) × (length ns ≡ number answer) × Follows burst (ms ++ ns) new
 unfolding number
 counted burst ms (message m) new f = (m ∷ [], refl, f)
 counted burst ms more new f = ([], refl, subst (λ (l : List Content). Follows burst l new) (sym (append-nil ms)) f)
-counted burst ms (wrong kind place) new f =
-    let there : Follows burst ms failed = (kind, place, f.0) in
+counted burst ms (wrong which place) new f =
+    let there : Follows burst ms failed = (which, place, f.0) in
     ([], refl, subst (λ (l : List Content). Follows burst l new) (sym (append-nil ms)) (subst (Follows burst ms) (sym f.1) there))
 
 pub returns-in-Message-clause-follows : goal.returns-in-Message-clause-follows

@@ -1,3 +1,4 @@
+-- A loop over a piece ends.
 use Rattle.std.proofs.Common.{length, ◌-◌}
 use Rattle.vdcp_frame.proofs.reader_tests.feed_to_end.Given as goal
 

@@ -1,3 +1,4 @@
+-- What is written is the spelling.
 use Rattle.vdcp_frame.specs.Message.{framed, Content}
 use Rattle.vdcp_frame.proofs.ReadingLemmas.{Spells-spelling}
 use Rattle.vdcp_frame.proofs.spelling.write.Goals as goal

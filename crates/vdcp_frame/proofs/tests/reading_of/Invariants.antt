@@ -1,3 +1,4 @@
+-- A loop over a burst: the messages so far are spelt by the bytes so far.
 use Rattle.std.proofs.Common.{◌≤◌, ◌-◌, length, take, map}
 use Rattle.vdcp_frame.specs.Message.{content_of}
 use Rattle.vdcp_frame.specs.Reading.{SpellsAll}

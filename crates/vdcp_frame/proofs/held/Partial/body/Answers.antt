@@ -1,10 +1,11 @@
+-- Behind the count: a whole frame with a bad sum, and a frame that still lacks bytes.
 use Rattle.std.proofs.Common.{◌≡◌, ℕ, ◌+◌, ◌<◌, ◌%◌, List, ◌++◌, length, take, sum, ap, sym, ◌∙◌, arith, rules, length-append}
 use Rattle.std.proofs.lemmas.List.{length-take}
 use Rattle.std.proofs.lemmas.List.Sums.{sum_by-append}
 use Rattle.vdcp_frame.specs.declared.held.Held.{Held}
 use Rattle.vdcp_frame.specs.Held.{bytes_of}
 use Rattle.std.proofs.lemmas.List.Elements.{All-take, All-from_get_or}
-use Rattle.vdcp_frame.specs.Message.{AreBytes}
+use Rattle.vdcp_frame.specs.Message.{AreOctets}
 use Rattle.vdcp_frame.proofs.HeldLemmas.{begun_more}
 use Rattle.vdcp_frame.proofs.FrameLemmas.{counted_bad}
 use Rattle.vdcp_frame.proofs.held.Partial.body.Goals as goal
@@ -23,6 +24,6 @@ pub returns-then-size-missing-clause-partial : goal.returns-then-size-missing-cl
 returns-then-size-missing-clause-partial c =
     let piece : List ℕ = take c.min-size.result c.args.bytes.now in
     let size : c.min-size.result ≡ length piece = omega (arith, length-take c.min-size.result c.args.bytes.now) in
-    let fits : AreBytes piece = All-take (λ b. b < 256) c.min-size.result c.args.bytes.now (All-from_get_or (λ b. b < 256) c.args.bytes.now 0 (λ i h. omega (arith, c.type_inv.bytes i))) in
+    let fits : AreOctets piece = All-take (λ b. b < 256) c.min-size.result c.args.bytes.now (All-from_get_or (λ b. b < 256) c.args.bytes.now 0 (λ i h. omega (arith, c.type_inv.bytes i))) in
     begun_more c.args.count c.args.len c.args.total c.args.self.now.buffer c.put.new.buffer piece c.min-size.result c.total_of.result c.requires.begun size
     (ap (λ (n : ℕ). take (c.args.len + n) c.put.new.buffer) size ∙ c.put.ensures) fits c.total_of.ensures.total c.total_of.ensures.bound (omega (arith, c.from.ensures))

@@ -1,3 +1,4 @@
+-- What a call gives, from what its bytes brought.
 use Rattle.std.proofs.Common.{◌≡◌, ℕ, ◌+◌, List, length, take, refl, subst, sym, ap, ◌∙◌, arith}
 use Rattle.std.proofs.lemmas.List.{length-take}
 use Rattle.vdcp_frame.specs.declared.held.Found.{Found}

@@ -1,3 +1,4 @@
+-- A silence ends the reading.
 use Rattle.std.proofs.Common.{◌≡◌, sym, subst, rules}
 use Rattle.vdcp_frame.specs.Reader.{ended_of, ReadsAs}
 use Rattle.vdcp_frame.proofs.ReaderLemmas.{silence_reads}
