@@ -12,7 +12,7 @@ use Rattle.vdcp_auto.specs.declared.phase.Mode.{Mode}
 use Rattle.vdcp_auto.specs.declared.phase.Phase.{Phase}
 use Rattle.vdcp_auto.specs.declared.phase.Phase.TheVariants as phase
 use Rattle.vdcp_auto.specs.declared.phase.Stage.{Stage}
-use Rattle.vdcp_auto.specs.declared.phase.Stage.TheVariants.{Running, Ended}
+use Rattle.vdcp_auto.specs.declared.phase.Stage.TheVariants.{Ready, Awaiting, Ended}
 use Rattle.vdcp_auto.specs.declared.phase.State.{State}
 use Rattle.vdcp_auto.specs.Commands.{cue_for, cue_of}
 use Rattle.vdcp_auto.specs.Plan.{Plan}
@@ -69,41 +69,47 @@ stop_phase : (mode : Mode) (list : List Item) (m : Memo) (awaiting stop : Bool) 
     → InPhase mode list m awaiting (if can_stop p then true else stop) tries p
 stop_phase mode list m awaiting stop tries p holds = grind arith
 
-abbrev state : Stage → Bool → Bool → Bool → ℕ → ℕ → ℕ → State
-state stage awaiting take stop unanswered settled tries =
-    record { stage = stage; awaiting = awaiting; take = take; stop = stop; unanswered = unanswered; settled = settled; tries = tries }
+abbrev pub state : Stage → Bool → Bool → ℕ → ℕ → ℕ → State
+state stage take stop unanswered settled tries =
+    record { stage = stage; take = take; stop = stop; unanswered = unanswered; settled = settled; tries = tries }
 
-tick_holds : (plan : Plan) (m : Memo) (stage : Stage) (awaiting take stop : Bool) (unanswered settled tries : ℕ)
-    → Holds plan m (state stage awaiting take stop unanswered settled tries) → Holds plan m (ticked (state stage awaiting take stop unanswered settled tries))
-tick_holds plan m stage true take stop unanswered settled tries holds = holds
-tick_holds plan m (Ended outcome) false take stop unanswered settled tries holds = holds
-tick_holds plan m (Running p) false take stop unanswered settled tries holds = record {
+tick_holds : (plan : Plan) (m : Memo) (stage : Stage) (take stop : Bool) (unanswered settled tries : ℕ)
+    → Holds plan m (state stage take stop unanswered settled tries) → Holds plan m (ticked (state stage take stop unanswered settled tries))
+tick_holds plan m (Awaiting p) take stop unanswered settled tries holds = holds
+tick_holds plan m (Ended outcome) take stop unanswered settled tries holds = holds
+tick_holds plan m (Ready p) take stop unanswered settled tries holds = record {
   settled = holds.settled;
   not_early = holds.not_early;
   row = holds.row;
   stage = tick_phase plan.mode plan.list m tries stop p holds.stage;
 }
 
-stop_holds : (plan : Plan) (m : Memo) (stage : Stage) (awaiting take stop : Bool) (unanswered settled tries : ℕ)
-    → Holds plan m (state stage awaiting take stop unanswered settled tries) → Holds plan m (stopped (state stage awaiting take stop unanswered settled tries))
-stop_holds plan m (Ended outcome) awaiting take stop unanswered settled tries holds = record {
+stop_holds : (plan : Plan) (m : Memo) (stage : Stage) (take stop : Bool) (unanswered settled tries : ℕ)
+    → Holds plan m (state stage take stop unanswered settled tries) → Holds plan m (stopped (state stage take stop unanswered settled tries))
+stop_holds plan m (Ended outcome) take stop unanswered settled tries holds = record {
   settled = holds.settled;
   not_early = holds.not_early;
   row = holds.row;
   stage = holds.stage;
 }
-stop_holds plan m (Running p) awaiting take stop unanswered settled tries holds = record {
+stop_holds plan m (Ready p) take stop unanswered settled tries holds = record {
   settled = holds.settled;
   not_early = holds.not_early;
   row = holds.row;
-  stage = stop_phase plan.mode plan.list m awaiting stop tries p holds.stage;
+  stage = stop_phase plan.mode plan.list m false stop tries p holds.stage;
+}
+stop_holds plan m (Awaiting p) take stop unanswered settled tries holds = record {
+  settled = holds.settled;
+  not_early = holds.not_early;
+  row = holds.row;
+  stage = stop_phase plan.mode plan.list m true stop tries p holds.stage;
 }
 
 pub ticked_holds : (plan : Plan) (m : Memo) (s : State) → Holds plan m s → Holds plan m (ticked s)
-ticked_holds plan m s holds = tick_holds plan m s.stage s.awaiting s.take s.stop s.unanswered s.settled s.tries holds
+ticked_holds plan m s holds = tick_holds plan m s.stage s.take s.stop s.unanswered s.settled s.tries holds
 
 pub stopped_holds : (plan : Plan) (m : Memo) (s : State) → Holds plan m s → Holds plan m (stopped s)
-stopped_holds plan m s holds = stop_holds plan m s.stage s.awaiting s.take s.stop s.unanswered s.settled s.tries holds
+stopped_holds plan m s holds = stop_holds plan m s.stage s.take s.stop s.unanswered s.settled s.tries holds
 
 pub taken_holds : (plan : Plan) (m : Memo) (s : State) → Holds plan m s → Holds plan m (taken s)
 taken_holds plan m s holds = record { settled = holds.settled; not_early = holds.not_early; row = holds.row; stage = holds.stage }
@@ -120,11 +126,11 @@ not_early_yet limit row early before below = grind arith
 
 -- what holds while a phase awaits its answer
 abbrev waiting : Plan → Memo → Phase → Bool → Bool → ℕ → State
-waiting plan m p take stop tries = state (Running p) true take stop m.row m.count tries
+waiting plan m p take stop tries = state (Awaiting p) take stop m.row m.count tries
 
 end_holds : (plan : Plan) (m : Memo) (p : Phase) (take stop : Bool) (tries : ℕ) (c : Command) (came : Option Heard)
     → Sends plan.list plan.port p c → is_end plan.mode c came ≡ true → Holds plan m (waiting plan m p take stop tries)
-    → Holds plan (remember plan.mode plan.limit m (exchange c came)) (ended_in plan (Running p) (exchange c came) (waiting plan m p take stop tries))
+    → Holds plan (remember plan.mode plan.limit m (exchange c came)) (ended_in plan (Awaiting p) (exchange c came) (waiting plan m p take stop tries))
 end_holds plan m p take stop tries c came s ends holds =
     let keeps = kept plan.mode plan.list plan.limit plan.port m take stop tries s came ends holds.stage in
     record {
@@ -137,35 +143,35 @@ end_holds plan m p take stop tries c came s ends holds =
 come_if : (plan : Plan) (m : Memo) (p : Phase) (take stop : Bool) (tries : ℕ) (c : Command) (came : Option Heard)
     → Sends plan.list plan.port p c → Holds plan m (waiting plan m p take stop tries) → (ends : Bool) → is_end plan.mode c came ≡ ends
     → Holds plan (remembered plan m (if ends then Some (exchange c came) else None))
-    (option_map_or (λ e. ended_in plan (Running p) e (waiting plan m p take stop tries)) (if ends then Some (exchange c came) else None) (waiting plan m p take stop tries))
+    (option_map_or (λ e. ended_in plan (Awaiting p) e (waiting plan m p take stop tries)) (if ends then Some (exchange c came) else None) (waiting plan m p take stop tries))
 come_if plan m p take stop tries c came s holds true is = end_holds plan m p take stop tries c came s is holds
 come_if plan m p take stop tries c came s holds false is = holds
 
 come_for : (plan : Plan) (m : Memo) (p : Phase) (take stop : Bool) (tries : ℕ) (came : Option Heard) (c : Option Command)
     → command_in plan.list plan.port p ≡ c → Holds plan m (waiting plan m p take stop tries)
     → Holds plan (remembered plan m (exchange_of plan.mode came c))
-    (option_map_or (λ e. ended_in plan (Running p) e (waiting plan m p take stop tries)) (exchange_of plan.mode came c) (waiting plan m p take stop tries))
+    (option_map_or (λ e. ended_in plan (Awaiting p) e (waiting plan m p take stop tries)) (exchange_of plan.mode came c) (waiting plan m p take stop tries))
 come_for plan m p take stop tries came None is holds = holds
 come_for plan m p take stop tries came (Some c) is holds =
     come_if plan m p take stop tries c came (sends_of plan.list plan.port p c is) holds (is_end plan.mode c came) refl
 
 come_waiting : (plan : Plan) (m : Memo) (p : Phase) (take stop : Bool) (unanswered settled tries : ℕ) (came : Option Heard)
     → unanswered ≡ m.row → settled ≡ m.count
-    → Holds plan m (state (Running p) true take stop unanswered settled tries)
-    → Holds plan (remembered plan m (ended_by plan came (state (Running p) true take stop unanswered settled tries))) (came_to plan came (state (Running p) true take stop unanswered settled tries))
+    → Holds plan m (state (Awaiting p) take stop unanswered settled tries)
+    → Holds plan (remembered plan m (ended_by plan came (state (Awaiting p) take stop unanswered settled tries))) (came_to plan came (state (Awaiting p) take stop unanswered settled tries))
 come_waiting plan m p take stop unanswered settled tries came row count holds =
     let P : ℕ → ℕ → Type 0 =
-    λ u n. Holds plan m (state (Running p) true take stop u n tries)
-    → Holds plan (remembered plan m (ended_by plan came (state (Running p) true take stop u n tries))) (came_to plan came (state (Running p) true take stop u n tries)) in
+    λ u n. Holds plan m (state (Awaiting p) take stop u n tries)
+    → Holds plan (remembered plan m (ended_by plan came (state (Awaiting p) take stop u n tries))) (came_to plan came (state (Awaiting p) take stop u n tries)) in
     let here : P m.row m.count = come_for plan m p take stop tries came (command_in plan.list plan.port p) refl in
     subst (λ n. P unanswered n) (sym count) (subst (λ u. P u m.count) (sym row) here) holds
 
-come_holds : (plan : Plan) (m : Memo) (stage : Stage) (awaiting take stop : Bool) (unanswered settled tries : ℕ) (came : Option Heard)
-    → Holds plan m (state stage awaiting take stop unanswered settled tries)
-    → Holds plan (remembered plan m (ended_by plan came (state stage awaiting take stop unanswered settled tries))) (came_to plan came (state stage awaiting take stop unanswered settled tries))
-come_holds plan m stage false take stop unanswered settled tries came holds = holds
-come_holds plan m (Ended outcome) true take stop unanswered settled tries came holds = holds
-come_holds plan m (Running p) true take stop unanswered settled tries came holds = come_waiting plan m p take stop unanswered settled tries came holds.row.0 holds.settled holds
+come_holds : (plan : Plan) (m : Memo) (stage : Stage) (take stop : Bool) (unanswered settled tries : ℕ) (came : Option Heard)
+    → Holds plan m (state stage take stop unanswered settled tries)
+    → Holds plan (remembered plan m (ended_by plan came (state stage take stop unanswered settled tries))) (came_to plan came (state stage take stop unanswered settled tries))
+come_holds plan m (Ready p) take stop unanswered settled tries came holds = holds
+come_holds plan m (Ended outcome) take stop unanswered settled tries came holds = holds
+come_holds plan m (Awaiting p) take stop unanswered settled tries came holds = come_waiting plan m p take stop unanswered settled tries came holds.row.0 holds.settled holds
 
 pub came_holds : (plan : Plan) (m : Memo) (s : State) (came : Option Heard) → Holds plan m s → Holds plan (remembered plan m (ended_by plan came s)) (came_to plan came s)
-came_holds plan m s came holds = come_holds plan m s.stage s.awaiting s.take s.stop s.unanswered s.settled s.tries came holds
+came_holds plan m s came holds = come_holds plan m s.stage s.take s.stop s.unanswered s.settled s.tries came holds

@@ -3,7 +3,6 @@ use Rattle.std.specs.Prelude.{◌≡◌, Bool, true, false, not, ◌||◌, ◌&&
 use Rattle.std.specs.List.{list_any}
 use Rattle.std.proofs.Common.{inl, inr, sym, ap, ◌∙◌, arith}
 use Rattle.std.proofs.lemmas.Bool.{or_left, or_right, and_from}
-use Rattle.vdcp_value.specs.declared.clip_id.ClipId.{ClipId}
 use Rattle.vdcp_value.specs.declared.part.Item.{Item}
 use Rattle.vdcp_words.specs.declared.command.Command.{Command}
 use Rattle.vdcp_words.specs.declared.command.Command.TheVariants as command
@@ -16,16 +15,7 @@ use Rattle.vdcp_auto.specs.Settled.{settled}
 use Rattle.vdcp_auto.specs.Commands.{is_cue_command}
 use Rattle.vdcp_auto.specs.Log.{is_cue, is_play, is_done_status}
 use Rattle.vdcp_auto.specs.RuleBook.{May, MayPlay, MayClose}
-
-abbrev clip : ClipId
-clip = record { bytes = 0x43 ∷ 0x4c ∷ 0x49 ∷ 0x50 ∷ 0x30 ∷ 0x30 ∷ 0x30 ∷ 0x31 ∷ []; eight = refl }
-
--- a playlist of one clip, and of the same clip twice
-abbrev once : List Item
-once = record { id = clip; part = None } ∷ []
-
-abbrev twice : List Item
-twice = record { id = clip; part = None } ∷ record { id = clip; part = None } ∷ []
+use Rattle.vdcp_auto.proofs.Examples.{clip_one as clip, one as once, one_twice as twice}
 
 abbrev answered : Command → Reply → Exchange
 answered c r = record { command = c; heard = Some (heard.Reply r) }

@@ -8,7 +8,7 @@ use Rattle.vdcp_auto.specs.declared.phase.Mode.TheVariants.{Plain, Confirming}
 use Rattle.vdcp_auto.specs.declared.phase.Phase.{Phase}
 use Rattle.vdcp_auto.specs.declared.phase.Phase.TheVariants as phase
 use Rattle.vdcp_auto.specs.declared.phase.Stage.{Stage}
-use Rattle.vdcp_auto.specs.declared.phase.Stage.TheVariants.{Running, Ended}
+use Rattle.vdcp_auto.specs.declared.phase.Stage.TheVariants.{Ready, Awaiting, Ended}
 use Rattle.vdcp_auto.specs.declared.phase.State.{State}
 use Rattle.vdcp_auto.specs.RuleBook.{CuesItemAt}
 use Rattle.vdcp_auto.specs.Plan.{Plan}
@@ -47,7 +47,7 @@ InPhase mode list m awaiting stop tries (phase.Check k) =
 InPhase mode list m awaiting stop tries phase.Drain = IsGoing m × (m.count ≡ length list) × (m.opened ≡ false)
 InPhase mode list m awaiting stop tries phase.Close =
     (m.count ≡ length list) × (m.opened ≡ false) × (m.closed ≡ true → stop ≡ false) × (awaiting ≡ true → stop ≡ false)
-InPhase mode list m awaiting stop tries phase.Halt = (m.closed ≡ false) × (stop ≡ false)
+InPhase mode list m awaiting stop tries phase.Halt = (m.closed ≡ false) × (stop ≡ false) × (awaiting ≡ false → m.stopped ≡ true)
 InPhase mode list m awaiting stop tries phase.HaltClose = (m.stopped ≡ true) × (stop ≡ false)
 
 -- what an end means
@@ -57,13 +57,15 @@ AtEnd mode list limit m (Missing k) = m.count ≡ k
 AtEnd mode list limit m (Refused k) = mode ≡ Confirming → TrialIs list k limit m
 AtEnd mode list limit m _ = Unit {0}
 
-abbrev pub AtStage : Mode → List Item → ℕ → Memo → Bool → Bool → ℕ → Stage → Type 0
-AtStage mode list limit m awaiting stop tries (Running p) = InPhase mode list m awaiting stop tries p
-AtStage mode list limit m awaiting stop tries (Ended outcome) = AtEnd mode list limit m outcome
+abbrev pub AtStage : Mode → List Item → ℕ → Memo → Bool → ℕ → Stage → Type 0
+AtStage mode list limit m stop tries (Ready p) = InPhase mode list m false stop tries p
+AtStage mode list limit m stop tries (Awaiting p) = InPhase mode list m true stop tries p
+AtStage mode list limit m stop tries (Ended outcome) = AtEnd mode list limit m outcome
 
 -- fewer exchanges in a row than the limit are unanswered, unless that ended the controller
 abbrev pub RowIs : ℕ → ℕ → ℕ → Stage → Type 0
-RowIs limit row unanswered (Running p) = (unanswered ≡ row) × (row < limit)
+RowIs limit row unanswered (Ready p) = (unanswered ≡ row) × (row < limit)
+RowIs limit row unanswered (Awaiting p) = (unanswered ≡ row) × (row < limit)
 RowIs limit row unanswered (Ended Lost) = limit ≤ row
 RowIs limit row unanswered (Ended _) = row < limit
 
@@ -72,4 +74,4 @@ pub record Holds (plan : Plan) (m : Memo) (state : State) : Type 0 where
   pub settled : state.settled ≡ m.count
   pub not_early : m.early ≡ false
   pub row : RowIs plan.limit m.row state.unanswered state.stage
-  pub stage : AtStage plan.mode plan.list plan.limit m state.awaiting state.stop state.tries state.stage
+  pub stage : AtStage plan.mode plan.list plan.limit m state.stop state.tries state.stage

@@ -1,22 +1,19 @@
 -- The law of a controller that calls have led to.
-use Rattle.std.proofs.Common.{◌≡◌, ◌≢◌, ℕ, ◌+◌, ◌≤◌, ◌<◌, Bool, true, false, cond, not, ◌||◌, ◌&&◌, Option, None, Some, List, [], ◌∷◌, ◌++◌, refl, arith, sym, ap, subst, ◌∙◌, inl, inr, append_assoc}
-use Rattle.std.specs.Prelude.{if◌then◌else◌, nat_le, is_some, IfSome}
-use Rattle.std.specs.Option.{option_to_list}
+use Rattle.std.proofs.Common.{◌≡◌, ◌≢◌, ℕ, ◌+◌, ◌≤◌, ◌<◌, Bool, true, false, cond, not, ◌||◌, ◌&&◌, Option, None, Some, List, [], ◌∷◌, ◌++◌, refl, arith, sym, ap, subst, ◌∙◌, inl, inr}
+use Rattle.std.specs.Prelude.{if◌then◌else◌, nat_le, IfSome}
 use Rattle.std.specs.List.{list_any}
-use Rattle.std.proofs.lemmas.List.{append-nil}
 use Rattle.vdcp_value.specs.declared.part.Item.{Item}
 use Rattle.vdcp_words.specs.declared.command.Command.{Command}
 use Rattle.vdcp_auto.specs.declared.exchange.Exchange.{Exchange}
 use Rattle.vdcp_auto.specs.declared.exchange.Heard.{Heard}
 use Rattle.vdcp_auto.specs.declared.exchange.Input.{Input}
-use Rattle.vdcp_auto.specs.declared.exchange.Input.TheVariants as input
 use Rattle.vdcp_auto.specs.declared.outcome.Outcome.{Outcome}
 use Rattle.vdcp_auto.specs.declared.outcome.Outcome.TheVariants.{Done, Stopped, Lost, Denied, Missing, Refused, Foreign, Strange}
 use Rattle.vdcp_auto.specs.declared.phase.Mode.{Mode}
 use Rattle.vdcp_auto.specs.declared.phase.Mode.TheVariants.{Plain, Confirming}
 use Rattle.vdcp_auto.specs.declared.phase.Phase.{Phase}
 use Rattle.vdcp_auto.specs.declared.phase.Stage.{Stage}
-use Rattle.vdcp_auto.specs.declared.phase.Stage.TheVariants.{Running, Ended}
+use Rattle.vdcp_auto.specs.declared.phase.Stage.TheVariants.{Ready, Awaiting, Ended}
 use Rattle.vdcp_auto.specs.declared.phase.State.{State}
 use Rattle.vdcp_auto.specs.Log.{is_cue, is_stop, is_close, is_grant, is_acked}
 use Rattle.vdcp_auto.specs.Settled.{has_open_play, settled}
@@ -24,7 +21,7 @@ use Rattle.vdcp_auto.specs.RuleBook.{CuesItemAt, IsTaken, MayPlay, Row, May, Kee
 use Rattle.vdcp_auto.specs.Endings.{counted, IsRefused}
 use Rattle.vdcp_auto.specs.Plan.{Plan}
 use Rattle.vdcp_auto.specs.Turn.{start, ticked, awaited_in, awaited, given, is_end, exchange_of, ended_by, came_to, taken, stopped, outcome_of}
-use Rattle.vdcp_auto.specs.Course.{course_from, course, Tick, Receive, Take, Stop, logged, Reached, begun, called}
+use Rattle.vdcp_auto.specs.Course.{course, Tick, Receive, Take, Stop, logged, Reached, begun, called}
 use Rattle.vdcp_auto.specs.Law.{IsLawful}
 use Rattle.vdcp_auto.proofs.Lists.{cut}
 use Rattle.vdcp_auto.proofs.Memo.{Memo, blank, opens, settles_now, remember}
@@ -32,7 +29,9 @@ use Rattle.vdcp_auto.proofs.LookBacks.{has_open_play-push, settled-push, LastCue
 use Rattle.vdcp_auto.proofs.Runs.{Run, no_run, run_more, run_is, run_has, IsFirst, first_none, first_push as still_first}
 use Rattle.vdcp_auto.proofs.Keeps.{InPhase, CueIs, TrialIs, IsGoing, RowIs, AtEnd, AtStage, Holds}
 use Rattle.vdcp_auto.proofs.Steps.{Sends, sends_open, sends_select, sends_seen, sends_exists, sends_whole, sends_part, sends_wait, sends_play, sends_probe, sends_check, sends_drain, sends_close, sends_halt, sends_halt_close}
-use Rattle.vdcp_auto.proofs.Calls.{sends_of, begun_holds, ticked_holds, stopped_holds, taken_holds, remembered, came_holds}
+use Rattle.vdcp_auto.proofs.Courses.{reached_after}
+use Rattle.vdcp_auto.proofs.Sending.{gives_ready, awaits_answer, stopped_before}
+use Rattle.vdcp_auto.proofs.Calls.{sends_of, begun_holds, ticked_holds, state as state_at, stopped_holds, taken_holds, remembered, came_holds}
 
 -- What a log leaves behind.
 
@@ -170,12 +169,12 @@ may_send mode list limit port log m stop tries sends_halt_close a holds = record
   after_close = λ h. refl;
 }
 
-may_await : (plan : Plan) (log : List Exchange) (m : Memo) (awaiting stop : Bool) (unanswered tries : ℕ) (stage : Stage) (c : Command)
-    → Agrees plan.mode plan.limit log m → AtStage plan.mode plan.list plan.limit m awaiting stop tries stage
-    → awaited_in plan awaiting stage ≡ Some c → May plan.mode plan.list log c
-may_await plan log m false stop unanswered tries stage c a holds is = cc
-may_await plan log m true stop unanswered tries (Ended outcome) c a holds is = cc
-may_await plan log m true stop unanswered tries (Running p) c a holds is =
+may_await : (plan : Plan) (log : List Exchange) (m : Memo) (stop : Bool) (tries : ℕ) (stage : Stage) (c : Command)
+    → Agrees plan.mode plan.limit log m → AtStage plan.mode plan.list plan.limit m stop tries stage
+    → awaited_in plan stage ≡ Some c → May plan.mode plan.list log c
+may_await plan log m stop tries (Ready p) c a holds is = cc
+may_await plan log m stop tries (Ended outcome) c a holds is = cc
+may_await plan log m stop tries (Awaiting p) c a holds is =
     may_send plan.mode plan.list plan.limit plan.port log m stop tries (sends_of plan.list plan.port p c is) a holds
 
 -- Every reached controller.
@@ -189,7 +188,7 @@ record Known (plan : Plan) (state : State) (log : List Exchange) : Type 0 where
 
 may_next : (plan : Plan) (state : State) (log : List Exchange) (c : Command) → Known plan state log → awaited plan state ≡ Some c → May plan.mode plan.list log c
 may_next plan state log c known is =
-    may_await plan log known.memo state.awaiting state.stop state.unanswered state.tries state.stage c known.agrees known.holds.stage is
+    may_await plan log known.memo state.stop state.tries state.stage c known.agrees known.holds.stage is
 
 -- the exchange that ends is that of the awaited command
 ended_if : (came : Option Heard) (c : Command) (e : Exchange) (ends : Bool) → (if ends then Some (record { command = c; heard = came }) else None) ≡ Some e → c ≡ e.command
@@ -258,7 +257,8 @@ known plan (called {state} {log} r Stop) = known_quiet plan state (stopped state
 -- The ends.
 
 lost_row : (limit row unanswered : ℕ) (stage : Stage) → RowIs limit row unanswered stage → outcome_of stage ≡ Some Lost → limit ≤ row
-lost_row limit row unanswered (Running p) is lost = cc
+lost_row limit row unanswered (Ready p) is lost = cc
+lost_row limit row unanswered (Awaiting p) is lost = cc
 lost_row limit row unanswered (Ended Lost) is lost = is
 lost_row limit row unanswered (Ended Done) is lost = cc
 lost_row limit row unanswered (Ended Stopped) is lost = cc
@@ -269,7 +269,8 @@ lost_row limit row unanswered (Ended (Foreign k)) is lost = cc
 lost_row limit row unanswered (Ended (Strange k)) is lost = cc
 
 row_lost : (limit row unanswered : ℕ) (stage : Stage) → RowIs limit row unanswered stage → (row < limit → ⊥) → outcome_of stage ≡ Some Lost
-row_lost limit row unanswered (Running p) is long = absurd (long is.1)
+row_lost limit row unanswered (Ready p) is long = absurd (long is.1)
+row_lost limit row unanswered (Awaiting p) is long = absurd (long is.1)
 row_lost limit row unanswered (Ended Lost) is long = refl
 row_lost limit row unanswered (Ended Done) is long = absurd (long is)
 row_lost limit row unanswered (Ended Stopped) is long = absurd (long is)
@@ -279,10 +280,11 @@ row_lost limit row unanswered (Ended (Refused k)) is long = absurd (long is)
 row_lost limit row unanswered (Ended (Foreign k)) is long = absurd (long is)
 row_lost limit row unanswered (Ended (Strange k)) is long = absurd (long is)
 
-at_outcome : (mode : Mode) (list : List Item) (limit : ℕ) (m : Memo) (awaiting stop : Bool) (tries : ℕ) (stage : Stage) (outcome : Outcome)
-    → AtStage mode list limit m awaiting stop tries stage → outcome_of stage ≡ Some outcome → AtEnd mode list limit m outcome
-at_outcome mode list limit m awaiting stop tries (Running p) outcome holds is = cc
-at_outcome mode list limit m awaiting stop tries (Ended end) outcome holds is = let same : end ≡ outcome = cc in subst (AtEnd mode list limit m) same holds
+at_outcome : (mode : Mode) (list : List Item) (limit : ℕ) (m : Memo) (stop : Bool) (tries : ℕ) (stage : Stage) (outcome : Outcome)
+    → AtStage mode list limit m stop tries stage → outcome_of stage ≡ Some outcome → AtEnd mode list limit m outcome
+at_outcome mode list limit m stop tries (Ready p) outcome holds is = cc
+at_outcome mode list limit m stop tries (Awaiting p) outcome holds is = cc
+at_outcome mode list limit m stop tries (Ended end) outcome holds is = let same : end ≡ outcome = cc in subst (AtEnd mode list limit m) same holds
 
 refused : (plan : Plan) (log : List Exchange) (m : Memo) (k : ℕ) → plan.mode ≡ Confirming → Agrees plan.mode plan.limit log m
     → TrialIs plan.list k plan.limit m → IsRefused plan.list plan.limit log k
@@ -302,9 +304,11 @@ each : (o : Option Command) (P : Command → Type 0) → ((c : Command) → o �
 each None P h = tt
 each (Some c) P h = h c refl
 
-given_awaited : (awaiting : Bool) (next : Option Command) (c : Command) → (if awaiting then None else next) ≡ Some c → next ≡ Some c
-given_awaited true next c is = cc
-given_awaited false next c is = is
+given_awaited : (plan : Plan) (stage : Stage) (take stop : Bool) (unanswered settled tries : ℕ) (c : Command)
+    → given plan (state_at stage take stop unanswered settled tries) ≡ Some c → awaited plan (ticked (state_at stage take stop unanswered settled tries)) ≡ Some c
+given_awaited plan (Ready p) take stop unanswered settled tries c is = is
+given_awaited plan (Awaiting p) take stop unanswered settled tries c is = cc
+given_awaited plan (Ended outcome) take stop unanswered settled tries c is = cc
 
 pub lawful : (plan : Plan) (state : State) (log : List Exchange) → Reached plan state log → IsLawful plan state log
 lawful plan state log reached =
@@ -312,11 +316,14 @@ lawful plan state log reached =
     let a = k.agrees in
     let h = k.holds in
     let end : (outcome : Outcome) → outcome_of state.stage ≡ Some outcome → AtEnd plan.mode plan.list plan.limit k.memo outcome =
-    λ outcome is. at_outcome plan.mode plan.list plan.limit k.memo state.awaiting state.stop state.tries state.stage outcome h.stage is in
+    λ outcome is. at_outcome plan.mode plan.list plan.limit k.memo state.stop state.tries state.stage outcome h.stage is in
     record {
       keeps_rules = k.rules;
       may_await = each (awaited plan state) _ (λ c is. may_next plan state log c k is);
-      may_give = each (given plan state) _ (λ c is. may_next plan (ticked state) log c (known plan (called reached Tick)) (given_awaited state.awaiting (awaited plan (ticked state)) c is));
+      may_give = each (given plan state) _ (λ c is. may_next plan (ticked state) log c (known plan (called reached Tick)) (given_awaited plan state.stage state.take state.stop state.unanswered state.settled state.tries c is));
+      gives = gives_ready plan k.memo state.stop state.tries state.stage h.stage;
+      awaits = awaits_answer plan k.memo state.stop state.tries state.stage h.stage;
+      is_stopped = λ p is halts. a.stops ∙ stopped_before plan.mode plan.list plan.limit k.memo state.stop state.tries state.stage p h.stage is halts;
       is_settled = h.settled ∙ sym a.count;
       is_lost = (
         λ lost. record {
@@ -330,34 +337,6 @@ lawful plan state log reached =
       is_missing = λ place is. a.count ∙ end (Missing place) is;
     }
 
--- Courses.
-
--- the course's first exchange, if there is one, joins the log
-logged_first : (log : List Exchange) (o : Option Exchange) (rest : List Exchange) → logged log o ++ rest ≡ log ++ (option_to_list o ++ rest)
-logged_first log None rest = refl
-logged_first log (Some e) rest = append_assoc log (e ∷ []) rest
-
-course_if : (plan : Plan) (log : List Exchange) (o : Option Exchange) (rest : List Exchange) (goes : Bool)
-    → KeepsRules plan.mode plan.list log → KeepsRules plan.mode plan.list (logged log o ++ rest)
-    → KeepsRules plan.mode plan.list (log ++ (if goes then option_to_list o ++ rest else []))
-course_if plan log o rest true now later = subst (KeepsRules plan.mode plan.list) (logged_first log o rest) later
-course_if plan log o rest false now later = subst (KeepsRules plan.mode plan.list) (sym (append-nil log)) now
-
-course_keeps : (plan : Plan) (inputs : List Input) (state : State) (log : List Exchange) → Reached plan state log
-    → KeepsRules plan.mode plan.list (log ++ course_from plan state inputs)
-course_keeps plan [] state log reached = subst (KeepsRules plan.mode plan.list) (sym (append-nil log)) (lawful plan state log reached).keeps_rules
-course_keeps plan (input.Take ∷ inputs) state log reached = course_keeps plan inputs (taken state) log (called reached Take)
-course_keeps plan (input.Stop ∷ inputs) state log reached = course_keeps plan inputs (stopped state) log (called reached Stop)
-course_keeps plan (input.Heard h ∷ inputs) state log reached =
-    let next = ended_by plan (Some h) (ticked state) in
-    course_if plan log next (course_from plan (came_to plan (Some h) (ticked state)) inputs) (is_some (awaited plan (ticked state)))
-    (lawful plan state log reached).keeps_rules
-    (course_keeps plan inputs (came_to plan (Some h) (ticked state)) (logged log next) (called (called reached Tick) (Receive (Some h))))
-course_keeps plan (input.Silence ∷ inputs) state log reached =
-    let next = ended_by plan None (ticked state) in
-    course_if plan log next (course_from plan (came_to plan None (ticked state)) inputs) (is_some (awaited plan (ticked state)))
-    (lawful plan state log reached).keeps_rules
-    (course_keeps plan inputs (came_to plan None (ticked state)) (logged log next) (called (called reached Tick) (Receive None)))
-
+-- the rule book allows each command of a course
 pub KeepsRules-course : (plan : Plan) (inputs : List Input) → 1 ≤ plan.limit → plan.limit ≤ 1000 → KeepsRules plan.mode plan.list (course plan inputs)
-KeepsRules-course plan inputs some few = course_keeps plan inputs start [] (begun some few)
+KeepsRules-course plan inputs some few = (lawful plan _ _ (reached_after plan inputs start [] (begun some few))).keeps_rules

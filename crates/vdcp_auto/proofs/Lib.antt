@@ -1,3 +1,6 @@
+mod Examples
+mod HeardRows
+mod PhaseTable
 mod WorkedRows
 mod LogRows
 pub mod Lists
@@ -8,5 +11,8 @@ pub mod Keeps
 pub mod Steps
 pub mod Rows
 pub mod Calls
+pub mod Sending
+pub mod Courses
+pub mod Receipts
 pub mod Law
 mod Forbidden

@@ -1,9 +1,7 @@
 -- More small logs: what they settle, which cue may follow them, and where silences count.
-use Rattle.std.specs.Prelude.{◌≡◌, ℕ, true, None, Some, slice_index, List, [], ◌∷◌, refl}
+use Rattle.std.specs.Prelude.{◌≡◌, ℕ, true, None, Some, slice_index, [], ◌∷◌, refl}
 use Rattle.std.proofs.Common.{arith, ap, lit≤}
 use Rattle.vdcp_value.specs.Ids.{id_bytes}
-use Rattle.vdcp_value.specs.declared.clip_id.ClipId.{ClipId}
-use Rattle.vdcp_value.specs.declared.part.Item.{Item}
 use Rattle.vdcp_words.specs.declared.command.Command.{Command}
 use Rattle.vdcp_words.specs.declared.command.Command.TheVariants as command
 use Rattle.vdcp_words.specs.declared.reply.Reply.{Reply}
@@ -14,15 +12,7 @@ use Rattle.vdcp_auto.specs.declared.phase.Mode.TheVariants.{Plain, Confirming}
 use Rattle.vdcp_auto.specs.Settled.{has_open_play, settled}
 use Rattle.vdcp_auto.specs.RuleBook.{May}
 use Rattle.vdcp_auto.specs.Endings.{EndsUnanswered}
-
-abbrev clip_one : ClipId
-clip_one = record { bytes = 0x43 ∷ 0x4c ∷ 0x49 ∷ 0x50 ∷ 0x30 ∷ 0x30 ∷ 0x30 ∷ 0x31 ∷ []; eight = refl }
-
-abbrev clip_two : ClipId
-clip_two = record { bytes = 0x43 ∷ 0x4c ∷ 0x49 ∷ 0x50 ∷ 0x30 ∷ 0x30 ∷ 0x30 ∷ 0x32 ∷ []; eight = refl }
-
-abbrev list : List Item
-list = record { id = clip_one; part = None } ∷ record { id = clip_two; part = None } ∷ []
+use Rattle.vdcp_auto.proofs.Examples.{clip_one, clip_two, two as list}
 
 abbrev came : Command → Reply → Exchange
 came c r = record { command = c; heard = Some (heard.Reply r) }

@@ -12,7 +12,7 @@ use Rattle.vdcp_auto.specs.declared.phase.Turn.TheVariants.{Goes, Settles, Retri
 use Rattle.vdcp_auto.specs.Replies.{is_refusal}
 use Rattle.vdcp_auto.specs.Log.{answer_in, is_counted}
 use Rattle.vdcp_auto.specs.Plan.{Plan}
-use Rattle.vdcp_auto.specs.Table.{on_lost_cue, on_reply, on_refusal, on_silence}
+use Rattle.vdcp_auto.specs.Table.{on_lost_cue, on_reply, on_refusal, on_no_answer}
 use Rattle.vdcp_auto.specs.Turn.{turn_on, stage_after, unanswered_after}
 use Rattle.vdcp_auto.proofs.Memo.{row_after}
 use Rattle.vdcp_auto.proofs.Keeps.{RowIs}
@@ -35,8 +35,8 @@ no_loss_reply mode list limit take tries p r = grind arith
 no_loss_refusal : (n : ℕ) (p : Phase) → is_loss (on_refusal n p) ≡ false
 no_loss_refusal n p = grind arith
 
-no_loss_silence : (mode : Mode) (p : Phase) → is_loss (on_silence mode p) ≡ false
-no_loss_silence mode p = grind arith
+no_loss_no_answer : (mode : Mode) (p : Phase) → is_loss (on_no_answer mode p) ≡ false
+no_loss_no_answer mode p = grind arith
 
 row_at : (limit row : ℕ) (t : Turn) → is_loss t ≡ false → row < limit → RowIs limit row row (stage_after t)
 row_at limit row (Goes p) known below = (refl, below)
@@ -69,7 +69,7 @@ row_answered limit row false t known below = row_at limit row t known below
 row_on : (plan : Plan) (take : Bool) (tries row : ℕ) (counts : Bool) (p : Phase) (answer : Option Reply) → row < plan.limit
     → RowIs plan.limit (counted_row row counts (is_some answer)) (counted_row row counts (is_some answer)) (stage_after (turn_on plan take tries row counts p answer))
 row_on plan take tries row counts p None below =
-    row_unanswered plan.limit row counts (on_silence plan.mode p) (no_loss_silence plan.mode p) below (nat_le plan.limit (row + 1)) refl
+    row_unanswered plan.limit row counts (on_no_answer plan.mode p) (no_loss_no_answer plan.mode p) below (nat_le plan.limit (row + 1)) refl
 row_on plan take tries row counts p (Some r) below =
     row_answered plan.limit row counts _ (either (is_refusal r) _ _ (no_loss_refusal (length plan.list) p) (no_loss_reply plan.mode plan.list plan.limit take tries p r)) below
 

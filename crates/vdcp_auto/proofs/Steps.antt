@@ -20,7 +20,7 @@ use Rattle.vdcp_auto.specs.Replies.{is_refusal, is_done, is_empty}
 use Rattle.vdcp_auto.specs.Commands.{fits, is_state, is_sense}
 use Rattle.vdcp_auto.specs.Log.{answer_in, is_answered, is_counted, is_grant, is_done_status, is_empty_status, is_play, is_acked}
 use Rattle.vdcp_auto.specs.RuleBook.{CuesItemAt}
-use Rattle.vdcp_auto.specs.Table.{on_reply, on_refusal, on_silence}
+use Rattle.vdcp_auto.specs.Table.{on_reply, on_refusal, on_no_answer}
 use Rattle.vdcp_auto.specs.Turn.{is_end, turn_on, stage_after, settled_after, tries_after}
 use Rattle.vdcp_auto.proofs.Memo.{Memo, remember}
 use Rattle.vdcp_auto.proofs.Keeps.{InPhase, AtStage}
@@ -31,7 +31,7 @@ exchange c h = record { command = c; heard = h }
 -- the turn on an exchange keeps what holds of the phase
 abbrev pub Kept : Mode → List Item → ℕ → Memo → Bool → ℕ → Exchange → Turn → Type 0
 Kept mode list limit m stop tries e turn =
-    AtStage mode list limit (remember mode limit m e) false stop (tries_after turn tries) (stage_after turn)
+    AtStage mode list limit (remember mode limit m e) stop (tries_after turn tries) (stage_after turn)
     × (settled_after turn m.count ≡ (remember mode limit m e).count)
 
 -- nothing is to be learned from the exchange
@@ -73,7 +73,7 @@ pub data Sends (list : List Item) (port : ℕ) : Phase → Command → Type 0 wh
 silent_plain : (list : List Item) (limit port : ℕ) (m : Memo) (stop : Bool) (tries : ℕ) (h : Option Heard) {p : Phase} {c : Command}
     → Sends list port p c → IsMute (exchange c h) → is_answered (exchange c h) ≡ false
     → InPhase Plain list m true stop tries p
-    → Kept Plain list limit m stop tries (exchange c h) (on_silence Plain p)
+    → Kept Plain list limit m stop tries (exchange c h) (on_no_answer Plain p)
 silent_plain list limit port m stop tries h sends_open mute unanswered holds = grind arith
 silent_plain list limit port m stop tries h sends_select mute unanswered holds = grind arith
 silent_plain list limit port m stop tries h sends_seen mute unanswered holds = grind arith
@@ -113,7 +113,7 @@ refused_plain list limit port m stop tries h sends_halt_close mute answered hold
 silent_confirming : (list : List Item) (limit port : ℕ) (m : Memo) (stop : Bool) (tries : ℕ) (h : Option Heard) {p : Phase} {c : Command}
     → Sends list port p c → IsMute (exchange c h) → is_answered (exchange c h) ≡ false
     → InPhase Confirming list m true stop tries p
-    → Kept Confirming list limit m stop tries (exchange c h) (on_silence Confirming p)
+    → Kept Confirming list limit m stop tries (exchange c h) (on_no_answer Confirming p)
 silent_confirming list limit port m stop tries h sends_open mute unanswered holds = grind arith
 silent_confirming list limit port m stop tries h sends_select mute unanswered holds = grind arith
 silent_confirming list limit port m stop tries h sends_seen mute unanswered holds = grind arith
@@ -182,7 +182,7 @@ mute_unfit c r unfit = record { no_grant = grind arith; no_done = grind arith; n
 silent : (mode : Mode) (list : List Item) (limit port : ℕ) (m : Memo) (stop : Bool) (tries : ℕ) (h : Option Heard) {p : Phase} {c : Command}
     → Sends list port p c → IsMute (exchange c h) → is_answered (exchange c h) ≡ false
     → InPhase mode list m true stop tries p
-    → Kept mode list limit m stop tries (exchange c h) (on_silence mode p)
+    → Kept mode list limit m stop tries (exchange c h) (on_no_answer mode p)
 silent Plain = silent_plain
 silent Confirming = silent_confirming
 
@@ -193,7 +193,7 @@ nothing_settles Confirming limit m e mute = grind arith
 unanswered : (mode : Mode) (list : List Item) (limit port : ℕ) (m : Memo) (stop : Bool) (tries : ℕ) (h : Option Heard) {p : Phase} {c : Command}
     → Sends list port p c → IsMute (exchange c h) → is_answered (exchange c h) ≡ false
     → InPhase mode list m true stop tries p
-    → (lost : Bool) → Kept mode list limit m stop tries (exchange c h) (cond lost (Ends Lost) (on_silence mode p))
+    → (lost : Bool) → Kept mode list limit m stop tries (exchange c h) (cond lost (Ends Lost) (on_no_answer mode p))
 unanswered mode list limit port m stop tries h {p} {c} s mute no_answer holds true = (tt, nothing_settles mode limit m (exchange c h) mute)
 unanswered mode list limit port m stop tries h s mute no_answer holds false = silent mode list limit port m stop tries h s mute no_answer holds
 
@@ -234,7 +234,7 @@ kept_answer mode list limit port m take stop tries {p} {c} s r ends holds false 
 kept_answer mode list limit port m take stop tries {p} {c} s r ends holds false false is kind =
     let e = exchange c (Some (heard.Reply r)) in
     let lost = is_counted mode e && nat_le limit (m.row + 1) in
-    let turn : turn_at mode list limit port m take tries p e ≡ cond lost (Ends Lost) (on_silence mode p) = rw (is, kind) refl in
+    let turn : turn_at mode list limit port m take tries p e ≡ cond lost (Ends Lost) (on_no_answer mode p) = rw (is, kind) refl in
     subst (λ t. Kept mode list limit m stop tries e t) (sym turn)
     (unanswered mode list limit port m stop tries (Some (heard.Reply r)) s (mute_unfit c r kind) (rw (is, kind) refl) holds lost)
 

@@ -1,83 +1,28 @@
 -- Courses of a controller, computed from the definitions.
-use Rattle.std.specs.Prelude.{◌≡◌, ℕ, true, false, if◌then◌else◌, Option, None, Some, List, [], ◌∷◌, length, map, is_some, refl}
-use Rattle.vdcp_value.specs.declared.clip_id.ClipId.{ClipId}
-use Rattle.vdcp_value.specs.declared.part.Item.{Item}
+use Rattle.std.specs.Prelude.{◌≡◌, ℕ, false, Option, None, Some, List, [], ◌∷◌, length, map, refl}
 use Rattle.vdcp_words.specs.declared.command.Command.TheVariants as command
-use Rattle.vdcp_words.specs.declared.reply.Reply.{Reply}
 use Rattle.vdcp_words.specs.declared.reply.Reply.TheVariants as reply
-use Rattle.vdcp_auto.specs.declared.exchange.Heard.TheVariants as heard
 use Rattle.vdcp_auto.specs.declared.exchange.Input.{Input}
 use Rattle.vdcp_auto.specs.declared.exchange.Input.TheVariants as input
 use Rattle.vdcp_auto.specs.declared.outcome.Outcome.{Outcome}
 use Rattle.vdcp_auto.specs.declared.outcome.Outcome.TheVariants.{Done, Stopped, Lost, Denied, Missing, Refused, Foreign, Strange}
-use Rattle.vdcp_auto.specs.declared.phase.Mode.{Mode}
 use Rattle.vdcp_auto.specs.declared.phase.Mode.TheVariants.{Plain, Confirming}
 use Rattle.vdcp_auto.specs.declared.phase.State.{State}
 use Rattle.vdcp_auto.specs.Settled.{settled}
 use Rattle.vdcp_auto.specs.Plan.{Plan}
-use Rattle.vdcp_auto.specs.Turn.{start, ticked, awaited, came_to, taken, stopped, outcome_of}
-use Rattle.vdcp_auto.specs.Course.{course}
-
-abbrev clip_one : ClipId
-clip_one = record { bytes = 0x43 ∷ 0x4c ∷ 0x49 ∷ 0x50 ∷ 0x30 ∷ 0x30 ∷ 0x30 ∷ 0x31 ∷ []; eight = refl }
-
-abbrev clip_two : ClipId
-clip_two = record { bytes = 0x43 ∷ 0x4c ∷ 0x49 ∷ 0x50 ∷ 0x30 ∷ 0x30 ∷ 0x30 ∷ 0x32 ∷ []; eight = refl }
-
-abbrev clip_nine : ClipId
-clip_nine = record { bytes = 0x43 ∷ 0x4c ∷ 0x49 ∷ 0x50 ∷ 0x30 ∷ 0x30 ∷ 0x30 ∷ 0x39 ∷ []; eight = refl }
-
-abbrev whole : ClipId → Item
-whole id = record { id = id; part = None }
-
-abbrev plan : Mode → List Item → Plan
-plan mode list = record { mode = mode; list = list; port = 1; limit = 3 }
-
--- what comes
-abbrev hear : Reply → Input
-hear r = input.Heard (heard.Reply r)
-
-abbrev granted : Input
-granted = hear (reply.Opened true)
-
-abbrev ack : Input
-ack = hear reply.Ack
-
-abbrev nak : ℕ → Input
-nak byte = hear (reply.Nak byte)
-
-abbrev present : Input
-present = hear (reply.Present true)
-
-abbrev state : ℕ → Input
-state byte = hear (reply.State 1 (Some byte))
-
-abbrev active : Option ClipId → Input
-active id = hear (reply.Active id)
-
-abbrev silence : Input
-silence = input.Silence
-
--- the controller after these inputs
-abbrev after : Plan → State → List Input → State
-after p s [] = s
-after p s (input.Take ∷ inputs) = after p (taken s) inputs
-after p s (input.Stop ∷ inputs) = after p (stopped s) inputs
-after p s (input.Heard h ∷ inputs) = if is_some (awaited p (ticked s)) then after p (came_to p (Some h) (ticked s)) inputs else s
-after p s (input.Silence ∷ inputs) = if is_some (awaited p (ticked s)) then after p (came_to p None (ticked s)) inputs else s
+use Rattle.vdcp_auto.specs.Turn.{ticked, came_to, stopped, outcome_of}
+use Rattle.vdcp_auto.specs.Course.{course, after_inputs_from, after_inputs}
+use Rattle.vdcp_auto.proofs.Examples.{clip_one, clip_two, clip_nine, whole, one, two, one_twice, plan, hear, granted, ack, nak, present, state, active, silence}
 
 -- the inputs give so many exchanges, this outcome and this number of settled events, which is also
 -- what the log shows to be settled
 abbrev Gives : Plan → List Input → ℕ → Option Outcome → ℕ → Type 0
 Gives p inputs exchanges outcome reported =
-    (length (course p inputs) ≡ exchanges) × (outcome_of (after p start inputs).stage ≡ outcome)
-    × ((after p start inputs).settled ≡ reported) × (settled p.mode (course p inputs) ≡ reported)
+    (length (course p inputs) ≡ exchanges) × (outcome_of (after_inputs p inputs).stage ≡ outcome)
+    × ((after_inputs p inputs).settled ≡ reported) × (settled p.mode (course p inputs) ≡ reported)
 
 empty_list_closes_at_once : Gives (plan Plain []) (granted ∷ ack ∷ state 0x01 ∷ ack ∷ []) 4 (Some Done) 0
 empty_list_closes_at_once = (refl, refl, refl, refl)
-
-abbrev one : List Item
-one = whole clip_one ∷ []
 
 foreign_clip_ends_foreign : Gives (plan Plain one) (granted ∷ ack ∷ present ∷ ack ∷ state 0x80 ∷ ack ∷ active (Some clip_two) ∷ []) 7 (Some (Foreign 0)) 1
 foreign_clip_ends_foreign = (refl, refl, refl, refl)
@@ -114,9 +59,6 @@ state_without_byte_commands = refl
 abbrev first_play : List Input → List Input
 first_play rest = granted ∷ ack ∷ present ∷ ack ∷ state 0x80 ∷ ack ∷ rest
 
-abbrev one_twice : List Item
-one_twice = whole clip_one ∷ whole clip_one ∷ []
-
 lost_play_is_sent_again :
     Gives (plan Plain one_twice)
     (first_play (active (Some clip_one) ∷ present ∷ ack ∷ input.Take ∷ state 0x84 ∷ silence ∷ state 0x84 ∷ ack ∷ active None ∷ state 0x01 ∷ ack ∷ []))
@@ -144,7 +86,7 @@ three_silences_end_lost : Gives (plan Plain one) (silence ∷ silence ∷ silenc
 three_silences_end_lost = (refl, refl, refl, refl)
 
 two_clips_air_after_a_take :
-    Gives (plan Plain (whole clip_one ∷ whole clip_two ∷ []))
+    Gives (plan Plain two)
     (first_play (active (Some clip_one) ∷ present ∷ ack ∷ state 0x84 ∷ input.Take ∷ state 0x84 ∷ ack ∷ []))
     12 None 2
 two_clips_air_after_a_take = (refl, refl, refl, refl)
@@ -152,10 +94,10 @@ two_clips_air_after_a_take = (refl, refl, refl, refl)
 -- A stop while the answer to PLAY is awaited: the exchange ends first.
 
 abbrev stop_during_play : State
-stop_during_play = stopped (ticked (after (plan Plain one) start (granted ∷ ack ∷ present ∷ ack ∷ state 0x80 ∷ [])))
+stop_during_play = stopped (ticked (after_inputs (plan Plain one) (granted ∷ ack ∷ present ∷ ack ∷ state 0x80 ∷ [])))
 
 abbrev after_stop_during_play : State
-after_stop_during_play = after (plan Plain one) (came_to (plan Plain one) None stop_during_play) (ack ∷ ack ∷ [])
+after_stop_during_play = after_inputs_from (plan Plain one) (came_to (plan Plain one) None stop_during_play) (ack ∷ ack ∷ [])
 
 stop_during_play_ends_stopped : (outcome_of after_stop_during_play.stage ≡ Some Stopped) × (after_stop_during_play.settled ≡ 0)
 stop_during_play_ends_stopped = (refl, refl)

@@ -4,7 +4,7 @@ use Rattle.vdcp_value.specs.declared.part.Item.{Item}
 use Rattle.vdcp_auto.specs.declared.phase.Phase.{Phase}
 use Rattle.vdcp_auto.specs.declared.phase.Phase.TheVariants as phase
 use Rattle.vdcp_auto.specs.declared.phase.Stage.{Stage}
-use Rattle.vdcp_auto.specs.declared.phase.Stage.TheVariants.{Running, Ended}
+use Rattle.vdcp_auto.specs.declared.phase.Stage.TheVariants.{Ready, Awaiting, Ended}
 use Rattle.vdcp_auto.specs.declared.phase.Turn.{Turn}
 use Rattle.vdcp_auto.specs.declared.phase.Turn.TheVariants.{Goes, Settles, Retries, Ends}
 use Rattle.vdcp_auto.specs.Plan.{View}
@@ -29,7 +29,8 @@ IsTurnOf n limit tries (Ends outcome) = Unit {0}
 -- a controller that goes on is in such a phase, and fewer exchanges in a row than the limit are
 -- unanswered
 abbrev pub IsStageOf : ℕ → ℕ → ℕ → Stage → Type 0
-IsStageOf n limit unanswered (Running p) = IsPhaseOf n p × (unanswered < limit)
+IsStageOf n limit unanswered (Ready p) = IsPhaseOf n p × (unanswered < limit)
+IsStageOf n limit unanswered (Awaiting p) = IsPhaseOf n p × (unanswered < limit)
 IsStageOf n limit unanswered (Ended outcome) = Unit {0}
 
 -- the same for a controller as callers see it, where items gives a source's list

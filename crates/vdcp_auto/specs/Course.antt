@@ -30,6 +30,28 @@ course_from plan state (input.Silence ∷ inputs) =
 abbrev pub course : Plan → List Input → List Exchange
 course plan inputs = course_from plan start inputs
 
+-- the controller after one input. Before something comes, or silence, it is ticked
+abbrev pub after_input : Plan → State → Input → State
+after_input plan state (input.Heard h) = came_to plan (Some h) (ticked state)
+after_input plan state input.Silence = came_to plan None (ticked state)
+after_input plan state input.Take = taken state
+after_input plan state input.Stop = stopped state
+
+-- the exchange that one input ends
+abbrev pub ended_by_input : Plan → State → Input → Option Exchange
+ended_by_input plan state (input.Heard h) = ended_by plan (Some h) (ticked state)
+ended_by_input plan state input.Silence = ended_by plan None (ticked state)
+ended_by_input plan state input.Take = None
+ended_by_input plan state input.Stop = None
+
+abbrev pub after_inputs_from : Plan → State → List Input → State
+after_inputs_from plan state [] = state
+after_inputs_from plan state (x ∷ inputs) = after_inputs_from plan (after_input plan state x) inputs
+
+-- the controller that the course of a new one leaves
+abbrev pub after_inputs : Plan → List Input → State
+after_inputs plan inputs = after_inputs_from plan start inputs
+
 -- a call of a controller that can change it
 pub data Call : Type 0 where
   Tick : Call

@@ -1,5 +1,6 @@
 pub mod Replies
 pub mod Commands
+pub mod Heard
 pub mod Log
 pub mod Settled
 pub mod RuleBook

@@ -97,22 +97,28 @@ on_refusal n phase.HaltClose = Ends Stopped
 
 -- where an unanswered exchange leads, short of the limit. In confirm mode the time-out is the end
 -- of each command that only a receipt answers
-abbrev pub on_silence : Mode → Phase → Turn
-on_silence Plain (phase.Play k) = Goes (phase.Probe k)
-on_silence Plain p = Goes p
-on_silence Confirming phase.Open = Goes phase.Open
-on_silence Confirming phase.Select = Goes phase.Seen
-on_silence Confirming phase.Seen = Goes phase.Select
-on_silence Confirming (phase.Exists k) = Goes (phase.Exists k)
-on_silence Confirming (phase.Cue k) = Goes (phase.Wait k)
-on_silence Confirming (phase.Wait k) = Goes (phase.Wait k)
-on_silence Confirming (phase.Play k) = Goes (phase.Probe k)
-on_silence Confirming (phase.Probe k) = Goes (phase.Probe k)
-on_silence Confirming (phase.Check k) = Goes (phase.Check k)
-on_silence Confirming phase.Drain = Goes phase.Drain
-on_silence Confirming phase.Close = Ends Done
-on_silence Confirming phase.Halt = Goes phase.HaltClose
-on_silence Confirming phase.HaltClose = Ends Stopped
+abbrev pub on_no_answer : Mode → Phase → Turn
+on_no_answer Plain (phase.Play k) = Goes (phase.Probe k)
+on_no_answer Plain p = Goes p
+on_no_answer Confirming phase.Open = Goes phase.Open
+on_no_answer Confirming phase.Select = Goes phase.Seen
+on_no_answer Confirming phase.Seen = Goes phase.Select
+on_no_answer Confirming (phase.Exists k) = Goes (phase.Exists k)
+on_no_answer Confirming (phase.Cue k) = Goes (phase.Wait k)
+on_no_answer Confirming (phase.Wait k) = Goes (phase.Wait k)
+on_no_answer Confirming (phase.Play k) = Goes (phase.Probe k)
+on_no_answer Confirming (phase.Probe k) = Goes (phase.Probe k)
+on_no_answer Confirming (phase.Check k) = Goes (phase.Check k)
+on_no_answer Confirming phase.Drain = Goes phase.Drain
+on_no_answer Confirming phase.Close = Ends Done
+on_no_answer Confirming phase.Halt = Goes phase.HaltClose
+on_no_answer Confirming phase.HaltClose = Ends Stopped
+
+-- the phases behind the operator's stop
+abbrev pub is_halting : Phase → Bool
+is_halting phase.Halt = true
+is_halting phase.HaltClose = true
+is_halting _ = false
 
 -- whether the operator's stop counts in this phase
 abbrev pub can_stop : Phase → Bool

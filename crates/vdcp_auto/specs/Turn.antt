@@ -14,7 +14,7 @@ use Rattle.vdcp_auto.specs.declared.phase.Mode.TheVariants.{Plain, Confirming}
 use Rattle.vdcp_auto.specs.declared.phase.Phase.{Phase}
 use Rattle.vdcp_auto.specs.declared.phase.Phase.TheVariants as phase
 use Rattle.vdcp_auto.specs.declared.phase.Stage.{Stage}
-use Rattle.vdcp_auto.specs.declared.phase.Stage.TheVariants.{Running, Ended}
+use Rattle.vdcp_auto.specs.declared.phase.Stage.TheVariants.{Ready, Awaiting, Ended}
 use Rattle.vdcp_auto.specs.declared.phase.State.{State}
 use Rattle.vdcp_auto.specs.declared.phase.Turn.{Turn}
 use Rattle.vdcp_auto.specs.declared.phase.Turn.TheVariants.{Goes, Settles, Retries, Ends}
@@ -22,14 +22,13 @@ use Rattle.vdcp_auto.specs.Replies.{is_receipt, is_refusal}
 use Rattle.vdcp_auto.specs.Commands.{is_sense}
 use Rattle.vdcp_auto.specs.Log.{answer_in, is_answered, is_counted}
 use Rattle.vdcp_auto.specs.Plan.{Plan, View}
-use Rattle.vdcp_auto.specs.Table.{command_in, on_reply, on_refusal, on_silence, can_stop}
+use Rattle.vdcp_auto.specs.Table.{command_in, on_reply, on_refusal, on_no_answer, can_stop}
 
 -- where each controller begins
 abbrev pub start : State
 start =
     record {
-      stage = Running phase.Open;
-      awaiting = false;
+      stage = Ready phase.Open;
       take = false;
       stop = false;
       unanswered = 0;
@@ -42,8 +41,22 @@ abbrev pub new_controller : {S : Type 0} → S → Mode → ℕ → ℕ → View
 new_controller source mode port limit =
     record { source = source; mode = mode; port = port; limit = limit; state = start }
 
+-- nothing is awaited, and it hasn't ended
+abbrev pub is_ready : Stage → Bool
+is_ready (Ready p) = true
+is_ready (Awaiting p) = false
+is_ready (Ended outcome) = false
+
+-- an answer is awaited
+abbrev pub is_awaiting : Stage → Bool
+is_awaiting (Ready p) = false
+is_awaiting (Awaiting p) = true
+is_awaiting (Ended outcome) = false
+
+-- how it ended, if it has
 abbrev pub outcome_of : Stage → Option Outcome
-outcome_of (Running p) = None
+outcome_of (Ready p) = None
+outcome_of (Awaiting p) = None
 outcome_of (Ended outcome) = Some outcome
 
 -- Tick.
@@ -60,8 +73,7 @@ take_after_sending _ take = take
 abbrev pub sent : Phase → State → State
 sent p state =
     record {
-      stage = Running p;
-      awaiting = true;
+      stage = Awaiting p;
       take = take_after_sending p state.take;
       stop = false;
       unanswered = state.unanswered;
@@ -69,27 +81,32 @@ sent p state =
       tries = state.tries;
     }
 
-abbrev pub tick_in : Bool → Stage → State → State
-tick_in true stage state = state
-tick_in false (Ended outcome) state = state
-tick_in false (Running p) state = sent (phase_to_send state.stop p) state
+abbrev pub tick_in : Stage → State → State
+tick_in (Ready p) state = sent (phase_to_send state.stop p) state
+tick_in (Awaiting p) state = state
+tick_in (Ended outcome) state = state
 
 -- the controller after a tick: nothing changes while an answer is awaited and after an end
 abbrev pub ticked : State → State
-ticked state = tick_in state.awaiting state.stage state
+ticked state = tick_in state.stage state
 
-abbrev pub awaited_in : Plan → Bool → Stage → Option Command
-awaited_in plan true (Running p) = command_in plan.list plan.port p
-awaited_in plan true (Ended outcome) = None
-awaited_in plan false stage = None
+abbrev pub awaited_in : Plan → Stage → Option Command
+awaited_in plan (Ready p) = None
+awaited_in plan (Awaiting p) = command_in plan.list plan.port p
+awaited_in plan (Ended outcome) = None
 
 -- the command whose answer is awaited
 abbrev pub awaited : Plan → State → Option Command
-awaited plan state = awaited_in plan state.awaiting state.stage
+awaited plan state = awaited_in plan state.stage
+
+abbrev pub given_in : Plan → Bool → Stage → Option Command
+given_in plan stop (Ready p) = command_in plan.list plan.port (phase_to_send stop p)
+given_in plan stop (Awaiting p) = None
+given_in plan stop (Ended outcome) = None
 
 -- what a tick gives
 abbrev pub given : Plan → State → Option Command
-given plan state = if state.awaiting then None else awaited plan (ticked state)
+given plan state = given_in plan state.stop state.stage
 
 -- The end of an exchange.
 
@@ -109,7 +126,7 @@ on_answer mode list limit take tries p r =
 -- where an unanswered exchange leads, one more in a row if it counts: the limit goes first
 abbrev pub on_unanswered : Mode → ℕ → ℕ → Bool → Phase → Turn
 on_unanswered mode limit unanswered counts p =
-    if counts && nat_le limit (unanswered + 1) then Ends Lost else on_silence mode p
+    if counts && nat_le limit (unanswered + 1) then Ends Lost else on_no_answer mode p
 
 abbrev pub turn_on : Plan → Bool → ℕ → ℕ → Bool → Phase → Option Reply → Turn
 turn_on plan take tries unanswered counts p (Some r) =
@@ -123,9 +140,9 @@ turn_of plan state p e =
     turn_on plan state.take state.tries state.unanswered (is_counted plan.mode e) p (answer_in e)
 
 abbrev pub stage_after : Turn → Stage
-stage_after (Goes p) = Running p
-stage_after (Settles k) = Running (phase.Check k)
-stage_after (Retries k) = Running (phase.Cue k)
+stage_after (Goes p) = Ready p
+stage_after (Settles k) = Ready (phase.Check k)
+stage_after (Retries k) = Ready (phase.Cue k)
 stage_after (Ends outcome) = Ended outcome
 
 abbrev pub settled_after : Turn → ℕ → ℕ
@@ -150,7 +167,6 @@ abbrev pub turned : Turn → ℕ → State → State
 turned turn unanswered state =
     record {
       stage = stage_after turn;
-      awaiting = false;
       take = state.take;
       stop = state.stop;
       unanswered = unanswered;
@@ -159,7 +175,8 @@ turned turn unanswered state =
     }
 
 abbrev pub ended_in : Plan → Stage → Exchange → State → State
-ended_in plan (Running p) e state =
+ended_in plan (Ready p) e state = state
+ended_in plan (Awaiting p) e state =
     turned (turn_of plan state p e) (unanswered_after plan.mode e state.unanswered) state
 ended_in plan (Ended outcome) e state = state
 
@@ -183,7 +200,8 @@ abbrev pub taken : State → State
 taken state = record state { take = true }
 
 abbrev pub stop_in : Stage → Bool → Bool
-stop_in (Running p) stop = if can_stop p then true else stop
+stop_in (Ready p) stop = if can_stop p then true else stop
+stop_in (Awaiting p) stop = if can_stop p then true else stop
 stop_in (Ended outcome) stop = stop
 
 -- the wish to stop; in Close, Halt, HaltClose and after an end nothing changes

@@ -1,6 +1,7 @@
-ghost use Rattle.std.specs.Prelude.{◌≡◌, ◌↔◌, ◌<◌, ◌≤◌, ◌^◌, Some, None, IsTrue};
+ghost use Rattle.std.specs.Prelude.{◌≡◌, ◌↔◌, ◌<◌, ◌≤◌, ◌^◌, Some, None, IsTrue, is_some, IfSome};
 ghost use Rattle.vdcp_auto.specs.Plan.{plan_of};
 ghost use Rattle.vdcp_auto.specs.Turn as turns;
+ghost use Rattle.vdcp_words.specs.Commands.{IsWritableCommand};
 
 use crate::exchange::{Exchange, Heard};
 use crate::outcome::Outcome;
@@ -91,18 +92,20 @@ impl<S: Source> Controller<S> {
 
     /// A command was given, and its exchange hasn't ended.
     pub fn awaiting(&self) -> bool
-        ensures { result ≡ self.now.state.awaiting }
+        ensures awaiting { result ≡ turns.is_awaiting self.now.state.stage }
+        ensures awaited { result ≡ is_some (turns.awaited (plan_of S.items self.now) self.now.state) }
     {
-        self.state.awaiting
+        matches!(self.state.stage, Stage::Awaiting(_))
     }
 
     /// The command whose answer is awaited.
     pub fn awaited(&self) -> Option<Command>
-        ensures { result ≡ turns.awaited (plan_of S.items self.now) self.now.state }
+        ensures awaited { result ≡ turns.awaited (plan_of S.items self.now) self.now.state }
+        ensures writable { IfSome result IsWritableCommand }
     {
         match self.state.stage {
-            Stage::Running(phase) if self.awaiting() => Some(self.command_in(phase)),
-            Stage::Running(_) | Stage::Ended(_) => None,
+            Stage::Awaiting(phase) => Some(self.command_in(phase)),
+            Stage::Ready(_) | Stage::Ended(_) => None,
         }
     }
 
@@ -118,7 +121,7 @@ impl<S: Source> Controller<S> {
         ensures { result ≡ turns.outcome_of self.now.state.stage }
     {
         match self.state.stage {
-            Stage::Running(_) => None,
+            Stage::Ready(_) | Stage::Awaiting(_) => None,
             Stage::Ended(outcome) => Some(outcome),
         }
     }
@@ -157,17 +160,17 @@ impl<S: Source> Controller<S> {
           state = turns.came_to (plan_of S.items self.old) came self.old.state;
         } }
     {
-        let command = self.awaited()?;
-        if !words::is_end(self.mode, &command, &came) {
+        let Stage::Awaiting(phase) = self.state.stage else {
             return None;
-        }
+        };
         let exchange = Exchange {
-            command,
+            command: self.command_in(phase),
             heard: came,
         };
-        if let Stage::Running(phase) = self.state.stage {
-            self.end(phase, &exchange);
+        if !words::is_end(self.mode, &exchange.command, &came) {
+            return None;
         }
+        self.end(phase, &exchange);
         Some(exchange)
     }
 
@@ -185,8 +188,12 @@ impl<S: Source> Controller<S> {
         ensures { self.new ≡ record self.old { state = turns.stopped self.old.state } }
     {
         match self.state.stage {
-            Stage::Running(phase) if phase.can_stop() => self.state.stop = true,
-            Stage::Running(_) | Stage::Ended(_) => {}
+            Stage::Ready(phase) | Stage::Awaiting(phase) => {
+                if phase.can_stop() {
+                    self.state.stop = true;
+                }
+            }
+            Stage::Ended(_) => {}
         }
     }
 
@@ -194,14 +201,13 @@ impl<S: Source> Controller<S> {
     /// end.
     pub fn tick(&mut self) -> Option<Command>
         ensures command { result ≡ turns.given (plan_of S.items self.old) self.old.state }
+        ensures ready { is_some result ≡ turns.is_ready self.old.state.stage }
+        ensures writable { IfSome result IsWritableCommand }
         ensures after { self.new ≡ record self.old { state = turns.ticked self.old.state } }
     {
-        let Stage::Running(current) = self.state.stage else {
+        let Stage::Ready(current) = self.state.stage else {
             return None;
         };
-        if self.awaiting() {
-            return None;
-        }
         let phase = if self.state.stop {
             Phase::Halt
         } else {
@@ -209,8 +215,7 @@ impl<S: Source> Controller<S> {
         };
         let command = self.command_in(phase);
         self.state = State {
-            stage: Stage::Running(phase),
-            awaiting: true,
+            stage: Stage::Awaiting(phase),
             take: self.state.take && !matches!(phase, Phase::Play(_)),
             stop: false,
             ..self.state
@@ -220,9 +225,9 @@ impl<S: Source> Controller<S> {
 
     /// Ends the awaited exchange.
     fn end(&mut self, phase: Phase, exchange: &Exchange)
-        requires { self.old.state.stage ≡ Stage.Running phase }
+        requires { self.old.state.stage ≡ Stage.Awaiting phase }
         ensures { self.new ≡ record self.old {
-          state = turns.ended_in (plan_of S.items self.old) (Stage.Running phase) exchange.now self.old.state;
+          state = turns.ended_in (plan_of S.items self.old) (Stage.Awaiting phase) exchange.now self.old.state;
         } }
     {
         let turn = self.turn_of(phase, exchange);
@@ -233,7 +238,6 @@ impl<S: Source> Controller<S> {
             Some(_) | None => self.state.unanswered,
         };
         self.state = State {
-            awaiting: false,
             unanswered,
             ..state_after(turn, self.state)
         };
@@ -252,21 +256,21 @@ fn state_after(turn: Turn, state: State) -> State
 {
     match turn {
         Turn::Goes(Phase::Exists(k)) => State {
-            stage: Stage::Running(Phase::Exists(k)),
+            stage: Stage::Ready(Phase::Exists(k)),
             tries: 0,
             ..state
         },
         Turn::Goes(phase) => State {
-            stage: Stage::Running(phase),
+            stage: Stage::Ready(phase),
             ..state
         },
         Turn::Settles(k) => State {
-            stage: Stage::Running(Phase::Check(k)),
+            stage: Stage::Ready(Phase::Check(k)),
             settled: k + 1,
             ..state
         },
         Turn::Retries(k) => State {
-            stage: Stage::Running(Phase::Cue(k)),
+            stage: Stage::Ready(Phase::Cue(k)),
             tries: state.tries + 1,
             ..state
         },

@@ -1,3 +1,8 @@
+ghost use Rattle.std.specs.Prelude.{◌≡◌};
+ghost use Rattle.vdcp_frame.specs.Message.{content_of};
+ghost use Rattle.vdcp_auto.specs.Heard.{heard_as};
+
+use vdcp_frame::Message;
 use vdcp_words::{Command, Reply};
 
 /// What came for a command.
@@ -7,6 +12,24 @@ pub enum Heard {
     Reply(Reply),
     /// Something else: no reply, or a message of another unit.
     Other,
+}
+
+impl Heard {
+    /// What who asked this unit hears in a message: the reply that it carries, or Other where it
+    /// carries none or is framed by another unit. ACK and NAK name no unit, and are heard from each.
+    pub fn of_message(message: &Message, unit: u8) -> Heard
+        ensures { result ≡ heard_as unit (content_of message.now) }
+    {
+        if let Message::Framed { unit: from, .. } = message {
+            if *from != unit {
+                return Heard::Other;
+            }
+        }
+        match Reply::read(message) {
+            Ok(reply) => Heard::Reply(reply),
+            Err(_) => Heard::Other,
+        }
+    }
 }
 
 /// What happens to a controller in a rehearsal.

@@ -1,10 +1,17 @@
 //! The laws of the definitions that the contracts of this crate cite. The functions do nothing: their
 //! contracts are the laws, and a caller whose proof needs one calls it.
-ghost use Rattle.std.specs.Prelude.{List};
+ghost use Rattle.std.specs.Prelude.{◌≡◌, ◌≤◌, ◌<◌, true, None, IfSome, List, Option, [], ◌∷◌, ◌++◌, All};
+ghost use Rattle.vdcp_value.specs.Parts.{IsItem};
+ghost use Rattle.vdcp_words.specs.Commands.{IsWritableCommand};
+ghost use Rattle.vdcp_auto.specs.declared.exchange.Heard.{Heard};
+ghost use Rattle.vdcp_auto.specs.declared.exchange.Input.{Input};
+ghost use Rattle.vdcp_auto.specs.declared.phase.Mode.TheVariants.{Confirming};
 ghost use Rattle.vdcp_auto.specs.declared.exchange.Exchange.{Exchange};
 ghost use Rattle.vdcp_auto.specs.declared.phase.State.{State};
 ghost use Rattle.vdcp_auto.specs.Plan.{Plan};
-ghost use Rattle.vdcp_auto.specs.Course.{Reached};
+ghost use Rattle.vdcp_auto.specs.Heard.{hears_receipt};
+ghost use Rattle.vdcp_auto.specs.Turn.{awaited, given, ended_by, came_to};
+ghost use Rattle.vdcp_auto.specs.Course.{course, course_from, after_input, ended_by_input, after_inputs, after_inputs_from, logged, Reached};
 ghost use Rattle.vdcp_auto.specs.Law.{IsLawful};
 
 /// Whatever calls a new controller had, in whatever order (ticks, replies of any kind, time-outs, takes
@@ -12,6 +19,9 @@ ghost use Rattle.vdcp_auto.specs.Law.{IsLawful};
 /// exchanges that these calls ended holds:
 ///
 /// - the rule book allows each command of the log where it stands, and the one that is awaited now;
+/// - the next tick gives a command exactly where nothing is awaited and the controller hasn't ended,
+///   and a command is awaited exactly where the controller awaits its answer;
+/// - where the next command is that of Halt or HaltClose, a STOP was sent before;
 /// - the controller's count of settled events is what the log shows to be settled;
 /// - the controller has ended Lost exactly where the log's last `limit` exchanges (in confirm mode,
 ///   requests) have no answer, and where that was true at no earlier point of the log;
@@ -20,4 +30,40 @@ ghost use Rattle.vdcp_auto.specs.Law.{IsLawful};
 /// - Done means that every event is settled, and Missing(k) that the events before k are.
 pub fn reached_is_lawful()
     ensures { (plan : Plan) (state : State) (log : List Exchange) → Reached plan state log → IsLawful plan state log }
+{}
+
+/// Where the playlist's items are of bytes and the port's number is one, the command that is awaited and
+/// the one that the next tick gives can be written.
+pub fn commands_can_be_written()
+    ensures awaited { (plan : Plan) (state : State) → All IsItem plan.list → plan.port < 256 →
+        IfSome (awaited plan state) IsWritableCommand }
+    ensures given { (plan : Plan) (state : State) → All IsItem plan.list → plan.port < 256 →
+        IfSome (given plan state) IsWritableCommand }
+{}
+
+/// The course of inputs behind others is that of the controller which the others leave; and one more
+/// input adds the exchange that it ends, if it ends one, at the end.
+pub fn courses_follow_one_another()
+    ensures course { (plan : Plan) (xs ys : List Input) →
+        course plan (xs ++ ys) ≡ course plan xs ++ course_from plan (after_inputs plan xs) ys }
+    ensures left { (plan : Plan) (xs ys : List Input) →
+        after_inputs plan (xs ++ ys) ≡ after_inputs_from plan (after_inputs plan xs) ys }
+    ensures one_more { (plan : Plan) (xs : List Input) (x : Input) →
+        course plan (xs ++ x ∷ []) ≡ logged (course plan xs) (ended_by_input plan (after_inputs plan xs) x) }
+    ensures left_by_one_more { (plan : Plan) (xs : List Input) (x : Input) →
+        after_inputs plan (xs ++ x ∷ []) ≡ after_input plan (after_inputs plan xs) x }
+{}
+
+/// The controller that a course leaves is one that calls lead to, and the course is its log.
+pub fn a_course_is_reached()
+    ensures { (plan : Plan) (inputs : List Input) → 1 ≤ plan.limit → plan.limit ≤ 1000 →
+        Reached plan (after_inputs plan inputs) (course plan inputs) }
+{}
+
+/// In confirm mode an ACK or a NAK ends no exchange and changes nothing, wherever the controller is.
+pub fn a_receipt_confirms_nothing()
+    ensures ends { (plan : Plan) (state : State) (came : Option Heard) →
+        plan.mode ≡ Confirming → hears_receipt came ≡ true → ended_by plan came state ≡ None }
+    ensures changes { (plan : Plan) (state : State) (came : Option Heard) →
+        plan.mode ≡ Confirming → hears_receipt came ≡ true → came_to plan came state ≡ state }
 {}

@@ -88,10 +88,13 @@ impl Phase {
     }
 }
 
-/// A controller goes on in a phase, or has ended.
+/// A controller is ready to send in a phase, awaits the answer to what it sent there, or has ended.
 #[derive(Clone, Copy, Debug, PartialEq, Eq)]
 pub enum Stage {
-    Running(Phase),
+    /// The next tick gives this phase's command, or STOP where the operator wants to stop.
+    Ready(Phase),
+    /// This phase's command was given, and its exchange hasn't ended.
+    Awaiting(Phase),
     Ended(Outcome),
 }
 
@@ -112,8 +115,6 @@ pub enum Turn {
 #[derive(Clone, Copy, Debug, PartialEq, Eq)]
 pub struct State {
     pub stage: Stage,
-    /// A command was given, and its exchange hasn't ended.
-    pub awaiting: bool,
     /// The wish to take: the next event is to be played though the last one still plays.
     pub take: bool,
     /// The wish to stop: the next command is to be STOP.
@@ -134,8 +135,7 @@ impl State {
         ensures { result ≡ start }
     {
         State {
-            stage: Stage::Running(Phase::Open),
-            awaiting: false,
+            stage: Stage::Ready(Phase::Open),
             take: false,
             stop: false,
             unanswered: 0,

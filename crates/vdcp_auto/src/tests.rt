@@ -2,4 +2,5 @@
 mod clips;
 mod courses;
 mod desk;
+mod heard;
 mod wishes;

@@ -56,7 +56,7 @@ impl<S: Source> Controller<S> {
             None
                 if words::is_counted(self.mode, exchange)
                     && self.state.unanswered + 1 >= self.limit => { Turn::Ends(Outcome::Lost) }
-            None => self.on_silence(phase),
+            None => self.on_no_answer(phase),
         }
     }
 
@@ -113,14 +113,14 @@ impl<S: Source> Controller<S> {
     }
 
     /// Where an unanswered exchange leads, short of the limit.
-    fn on_silence(&self, phase: Phase) -> Turn
+    fn on_no_answer(&self, phase: Phase) -> Turn
         requires { IsPhaseIn S.items self.now phase }
-        ensures turn { result ≡ table.on_silence self.now.mode phase }
+        ensures turn { result ≡ table.on_no_answer self.now.mode phase }
         ensures within { IsTurnIn S.items self.now result }
     {
         match self.mode {
-            Mode::Plain => on_silence_in_plain(phase),
-            Mode::Confirming => on_silence_in_confirming(phase),
+            Mode::Plain => on_no_answer_in_plain(phase),
+            Mode::Confirming => on_no_answer_in_confirming(phase),
         }
     }
 
@@ -183,8 +183,8 @@ impl<S: Source> Controller<S> {
 }
 
 /// Where an unanswered exchange leads in plain mode, short of the limit.
-fn on_silence_in_plain(phase: Phase) -> Turn
-    ensures { result ≡ table.on_silence Mode.Plain phase }
+fn on_no_answer_in_plain(phase: Phase) -> Turn
+    ensures { result ≡ table.on_no_answer Mode.Plain phase }
 {
     match phase {
         Phase::Play(sent) => Turn::Goes(Phase::Probe(sent)),
@@ -205,8 +205,8 @@ fn on_silence_in_plain(phase: Phase) -> Turn
 
 /// Where an unanswered exchange leads in confirm mode, short of the limit. A command that only a
 /// receipt answers ends by its time-out.
-fn on_silence_in_confirming(phase: Phase) -> Turn
-    ensures { result ≡ table.on_silence Mode.Confirming phase }
+fn on_no_answer_in_confirming(phase: Phase) -> Turn
+    ensures { result ≡ table.on_no_answer Mode.Confirming phase }
 {
     match phase {
         Phase::Select => Turn::Goes(Phase::Seen),
