@@ -1,117 +1,164 @@
--- Answers to one message after others.
-use Rattle.std.proofs.Common.{ℕ, ◌<◌, ◌≡◌, get_or, List, [], ◌∷◌, ◌++◌, refl, sym, ap, ap₂, ◌∙◌, append_assoc, append-nil}
+-- Answers to messages after messages, and to a burst as it is read.
+use Rattle.std.proofs.Common.{ℕ, ◌<◌, ◌≤◌, ◌≡◌, get_or, List, [], ◌∷◌, ◌++◌, length, arith, refl, sym, ap, ap₂, subst, ◌∙◌, append_assoc, append-nil}
 use Rattle.std.proofs.lemmas.Grind.{flat_map-append}
 use Rattle.std.proofs.lemmas.List.Elements.{All-from_get_or}
-use Rattle.std.specs.Option.{option_to_list}
+use Rattle.std.specs.Option.{option_or, option_to_list}
+use Rattle.std.specs.Prelude.{Option, None, Some}
 use Rattle.vdcp_value.specs.declared.part.Item.{Item}
 use Rattle.vdcp_frame.specs.Message.{Content}
 use Rattle.vdcp_frame.proofs.BurstLemmas.{reads_computed}
 use Rattle.vdcp_frame.proofs.ReadingLemmas.{one_reading}
 use Rattle.vdcp_frame.specs.Burst.{messages_of, end_of}
-use Rattle.vdcp_frame.specs.Reading.{SpellsAll, Reads}
+use Rattle.vdcp_frame.specs.Message.{AreOctets}
+use Rattle.vdcp_frame.specs.Reader.{ReadsAs}
+use Rattle.vdcp_frame.specs.Reading.{SpellsAll, Reads, End, clean, cut, fault}
+use Rattle.vdcp_frame.specs.declared.got.Ended.{Ended}
+use Rattle.vdcp_frame.specs.declared.got.Ended.TheVariants as silence
 use Rattle.vdcp_words.specs.declared.reply.Reply.{Reply}
-use Rattle.vdcp_port.specs.Answers.{answers_to, aired_on_way, after_messages, end_answers, reply_bytes, answer_bytes, sent_bytes, sent_for, aired_for, after_burst, HasAnsweredAll}
-use Rattle.vdcp_port.specs.Clock.{ClockedPort, answer_to, after_message, aired_by, row_at}
-use Rattle.vdcp_port.specs.Port.{PortState}
-use Rattle.vdcp_port.specs.Row.{Change, keeps, opens, closes, selects, cues, airs, stops, changed}
+use Rattle.vdcp_port.specs.Answers.{answers_to, aired_on_way, after_messages, end_answers, reply_at_end, reply_bytes, answer_bytes, bytes_for, bytes_for_all, bytes_at_end, items_for, sent_bytes, sent_for, aired_for, after_burst, HasAnsweredAll}
+use Rattle.vdcp_port.specs.Clock.{ClockedPort, answer_to, after_message, aired_by}
+use Rattle.vdcp_port.proofs.Bursts.{one_at_most}
+use Rattle.vdcp_port.proofs.Units.{unit_of_after}
 
-pub unit_of_changed : (change : Change) (p : PortState) → (changed change p).unit ≡ p.unit
-unit_of_changed keeps p = refl
-unit_of_changed opens p = refl
-unit_of_changed closes p = refl
-unit_of_changed selects p = refl
-unit_of_changed (cues item) p = refl
-unit_of_changed (airs item) p = refl
-unit_of_changed stops p = refl
+-- messages after messages
 
--- messages leave the unit address
-pub unit_of_after : (p : ClockedPort) (ms : List Content) → (after_messages p ms).state.unit ≡ p.state.unit
-unit_of_after p [] = refl
-unit_of_after p (m ∷ ms) = unit_of_after (after_message p m) ms ∙ unit_of_changed (row_at p m).change p.state
+pub answers_to_both : (p : ClockedPort) (ms ns : List Content) → answers_to p (ms ++ ns) ≡ answers_to p ms ++ answers_to (after_messages p ms) ns
+answers_to_both p [] ns = refl
+answers_to_both p (m ∷ ms) ns =
+    ap (λ (later : List Reply). option_to_list (answer_to p m) ++ later) (answers_to_both (after_message p m) ms ns)
+    ∙ sym (append_assoc (option_to_list (answer_to p m)) _ _)
 
-answers_push : (p : ClockedPort) (ms : List Content) (m : Content)
-    → answers_to p (ms ++ m ∷ []) ≡ answers_to p ms ++ option_to_list (answer_to (after_messages p ms) m)
-answers_push p [] m = append-nil (option_to_list (answer_to p m))
-answers_push p (n ∷ ms) m =
-    ap (λ (rest : List Reply). option_to_list (answer_to p n) ++ rest) (answers_push (after_message p n) ms m)
-    ∙ sym (append_assoc (option_to_list (answer_to p n)) _ _)
+pub aired_by_both : (p : ClockedPort) (ms ns : List Content) → aired_on_way p (ms ++ ns) ≡ aired_on_way p ms ++ aired_on_way (after_messages p ms) ns
+aired_by_both p [] ns = refl
+aired_by_both p (m ∷ ms) ns =
+    ap (λ (later : List Item). option_to_list (aired_by p m) ++ later) (aired_by_both (after_message p m) ms ns)
+    ∙ sym (append_assoc (option_to_list (aired_by p m)) _ _)
+
+pub after_both : (p : ClockedPort) (ms ns : List Content) → after_messages p (ms ++ ns) ≡ after_messages (after_messages p ms) ns
+after_both p [] ns = refl
+after_both p (m ∷ ms) ns = after_both (after_message p m) ms ns
+
+pub bytes_for_both : (p : ClockedPort) (ms ns : List Content) → bytes_for_all p (ms ++ ns) ≡ bytes_for_all p ms ++ bytes_for_all (after_messages p ms) ns
+bytes_for_both p ms ns =
+    ap (answer_bytes p.state.unit) (answers_to_both p ms ns)
+    ∙ flat_map-append (reply_bytes p.state.unit) (answers_to p ms) (answers_to (after_messages p ms) ns)
+    ∙ ap (λ unit. bytes_for_all p ms ++ answer_bytes unit (answers_to (after_messages p ms) ns)) (sym (unit_of_after p ms))
+
+-- one more message
+
+pub bytes_for_alone : (p : ClockedPort) (m : Content) → bytes_for_all p (m ∷ []) ≡ bytes_for p m
+bytes_for_alone p m = ap (answer_bytes p.state.unit) (append-nil (option_to_list (answer_to p m)))
+
+pub aired_by_alone : (p : ClockedPort) (m : Content) → aired_on_way p (m ∷ []) ≡ items_for p m
+aired_by_alone p m = append-nil (items_for p m)
+
+bytes_push : (p : ClockedPort) (ms : List Content) (m : Content) → bytes_for_all p (ms ++ m ∷ []) ≡ bytes_for_all p ms ++ bytes_for (after_messages p ms) m
+bytes_push p ms m = bytes_for_both p ms (m ∷ []) ∙ ap (λ (bytes : List ℕ). bytes_for_all p ms ++ bytes) (bytes_for_alone (after_messages p ms) m)
 
 aired_push : (p : ClockedPort) (ms : List Content) (m : Content)
     → aired_on_way p (ms ++ m ∷ []) ≡ aired_on_way p ms ++ option_to_list (aired_by (after_messages p ms) m)
-aired_push p [] m = append-nil (option_to_list (aired_by p m))
-aired_push p (n ∷ ms) m =
-    ap (λ (rest : List Item). option_to_list (aired_by p n) ++ rest) (aired_push (after_message p n) ms m)
-    ∙ sym (append_assoc (option_to_list (aired_by p n)) _ _)
+aired_push p ms m = aired_by_both p ms (m ∷ []) ∙ ap (λ (items : List Item). aired_on_way p ms ++ items) (aired_by_alone (after_messages p ms) m)
 
-after_push : (p : ClockedPort) (ms : List Content) (m : Content) → after_messages p (ms ++ m ∷ []) ≡ after_message (after_messages p ms) m
-after_push p [] m = refl
-after_push p (n ∷ ms) m = after_push (after_message p n) ms m
+-- where one item at most airs, the first one that airs is all of them
+first_of_one : (a b : Option Item) → length (option_to_list a ++ option_to_list b) ≤ 1 → option_to_list (option_or a b) ≡ option_to_list a ++ option_to_list b
+first_of_one None b most = refl
+first_of_one (Some a) None most = refl
+first_of_one (Some a) (Some b) most = absurd (omega (arith, most))
 
--- a port has answered the messages that some bytes spell, and appended the answers and what went to air
-pub record HasAnswered (old now : ClockedPort) (front : List ℕ) (out_old out_new : List ℕ) (aired_old aired_new : List Item) (ms : List Content) : Type 0 where
+-- a port has answered the messages that some bytes spell, and appended the answers; this item went to air
+pub record HasAnswered (old now : ClockedPort) (front out_old out_new : List ℕ) (aired : Option Item) (ms : List Content) : Type 0 where
   pub spelt : SpellsAll ms front
-  pub sent : out_new ≡ out_old ++ answer_bytes old.state.unit (answers_to old ms)
-  pub airs : aired_new ≡ aired_old ++ aired_on_way old ms
+  pub sent : out_new ≡ out_old ++ bytes_for_all old ms
+  pub airs : option_to_list aired ≡ aired_on_way old ms
   pub leaves : now ≡ after_messages old ms
 
 -- one more message is answered
-pub answers_more : (old now next : ClockedPort) (front longer out_0 out_1 out_2 : List ℕ) (aired_0 aired_1 aired_2 : List Item) (ms : List Content) (m : Content)
-    → HasAnswered old now front out_0 out_1 aired_0 aired_1 ms
+pub answers_more : (old now next : ClockedPort) (front longer out_0 out_1 out_2 : List ℕ) (aired more both : Option Item) (ms : List Content) (m : Content)
+    → HasAnswered old now front out_0 out_1 aired ms
     → SpellsAll (ms ++ m ∷ []) longer
-    → out_2 ≡ out_1 ++ answer_bytes now.state.unit (option_to_list (answer_to now m))
-    → aired_2 ≡ aired_1 ++ option_to_list (aired_by now m)
+    → out_2 ≡ out_1 ++ bytes_for now m
+    → more ≡ aired_by now m
     → next ≡ after_message now m
-    → HasAnswered old next longer out_0 out_2 aired_0 aired_2 (ms ++ m ∷ [])
-answers_more old now next front longer out_0 out_1 out_2 aired_0 aired_1 aired_2 ms m h spelt sent items leaves =
-    let unit = old.state.unit in
-    let answered = answer_to (after_messages old ms) m in
-    let unit_is : now.state.unit ≡ unit = ap (λ (p : ClockedPort). p.state.unit) h.leaves ∙ unit_of_after old ms in
-    let answer_is : answer_to now m ≡ answered = ap (λ (p : ClockedPort). answer_to p m) h.leaves in
-    let item_is : aired_by now m ≡ aired_by (after_messages old ms) m = ap (λ (p : ClockedPort). aired_by p m) h.leaves in
+    → both ≡ option_or aired more
+    → HasAnswered old next longer out_0 out_2 both (ms ++ m ∷ [])
+answers_more old now next front longer out_0 out_1 out_2 aired more both ms m h spelt sent item leaves first =
+    let item_is : more ≡ aired_by (after_messages old ms) m = item ∙ ap (λ (p : ClockedPort). aired_by p m) h.leaves in
+    let items_are : option_to_list aired ++ option_to_list more ≡ aired_on_way old (ms ++ m ∷ []) =
+    ap₂ (λ (a b : List Item). a ++ b) h.airs (ap option_to_list item_is) ∙ sym (aired_push old ms m) in
     record {
       spelt = spelt;
-      sent = sent ∙ ap₂ (λ (a b : List ℕ). a ++ b) h.sent (ap₂ (λ u r. answer_bytes u (option_to_list r)) unit_is answer_is)
-          ∙ append_assoc out_0 (answer_bytes unit (answers_to old ms)) (answer_bytes unit (option_to_list answered))
-          ∙ ap (λ (bytes : List ℕ). out_0 ++ bytes)
-          (sym (flat_map-append (reply_bytes unit) (answers_to old ms) (option_to_list answered))
-          ∙ ap (answer_bytes unit) (sym (answers_push old ms m)));
-      airs = items ∙ ap₂ (λ (a b : List Item). a ++ b) h.airs (ap option_to_list item_is)
-          ∙ append_assoc aired_0 (aired_on_way old ms) _
-          ∙ ap (λ (more : List Item). aired_0 ++ more) (sym (aired_push old ms m));
-      leaves = leaves ∙ ap (λ (p : ClockedPort). after_message p m) h.leaves ∙ sym (after_push old ms m);
+      sent = sent ∙ ap₂ (λ (a b : List ℕ). a ++ b) h.sent (ap (λ (p : ClockedPort). bytes_for p m) h.leaves)
+          ∙ append_assoc out_0 (bytes_for_all old ms) (bytes_for (after_messages old ms) m)
+          ∙ ap (λ (bytes : List ℕ). out_0 ++ bytes) (sym (bytes_push old ms m));
+      airs = ap option_to_list first
+          ∙ first_of_one aired more (subst (λ (items : List Item). length items ≤ 1) (sym items_are) (one_at_most old (ms ++ m ∷ [])))
+          ∙ items_are;
+      leaves = leaves ∙ ap (λ (p : ClockedPort). after_message p m) h.leaves ∙ sym (after_both old ms (m ∷ []));
     }
 
 -- the messages that some bytes spell are answered
-pub record Walked (old now : ClockedPort) (front out_old out_new : List ℕ) (aired_old aired_new : List Item) : Type 0 where
+pub record Walked (old now : ClockedPort) (front out_old out_new : List ℕ) (aired : Option Item) : Type 0 where
   pub messages : List Content
-  pub answered : HasAnswered old now front out_old out_new aired_old aired_new messages
+  pub answered : HasAnswered old now front out_old out_new aired messages
 
 -- the bytes of one reply
 pub bytes_of_one : (unit : ℕ) (reply : Reply) → answer_bytes unit (reply ∷ []) ≡ reply_bytes unit reply
 bytes_of_one unit reply = append-nil (reply_bytes unit reply)
 
+-- ---- a burst that is read so is answered so
+
+read_messages : (burst : List ℕ) (ms : List Content) (end : End) → AreOctets burst → Reads burst ms end → (messages_of burst ≡ ms) × (end_of burst ≡ end)
+read_messages burst ms end fits reads =
+    one_reading 4096 burst (messages_of burst) ms (end_of burst) end (reads_computed 4096 burst fits) reads
+
+-- how the reader ends it, and how the reading does
+pub ends_as : (burst : List ℕ) (ms : List Content) (ended : Ended) → ReadsAs burst ms ended
+    → (end : End) × Reads burst ms end × (end_answers end ≡ option_to_list (reply_at_end ended))
+ends_as burst ms silence.Clean reads = (clean, reads, refl)
+ends_as burst ms (silence.Cut count) reads = (cut count, reads, refl)
+ends_as burst ms silence.AfterFault reads = (fault reads.0 reads.1, reads.2, refl)
+
+pub sent_as_read : (p : ClockedPort) (burst : List ℕ) (ms : List Content) (end : End) → AreOctets burst → Reads burst ms end → sent_for p burst ≡ sent_bytes p ms end
+sent_as_read p burst ms end fits reads =
+    let one = read_messages burst ms end fits reads in
+    ap₂ (sent_bytes p) one.0 one.1
+
+pub aired_as_read : (p : ClockedPort) (burst : List ℕ) (ms : List Content) (end : End) → AreOctets burst → Reads burst ms end → aired_for p burst ≡ aired_on_way p ms
+aired_as_read p burst ms end fits reads = ap (aired_on_way p) (read_messages burst ms end fits reads).0
+
+pub after_as_read : (p : ClockedPort) (burst : List ℕ) (ms : List Content) (end : End) → AreOctets burst → Reads burst ms end → after_burst p burst ≡ after_messages p ms
+after_as_read p burst ms end fits reads = ap (after_messages p) (read_messages burst ms end fits reads).0
+
+pub sent_in_parts : (p : ClockedPort) (ms : List Content) (end : End) → sent_bytes p ms end ≡ bytes_for_all p ms ++ answer_bytes p.state.unit (end_answers end)
+sent_in_parts p ms end = flat_map-append (reply_bytes p.state.unit) (answers_to p ms) (end_answers end)
+
+pub sent_as_ended : (p : ClockedPort) (burst : List ℕ) (ms : List Content) (ended : Ended) → AreOctets burst → ReadsAs burst ms ended
+    → sent_for p burst ≡ bytes_for_all p ms ++ bytes_at_end p.state.unit ended
+sent_as_ended p burst ms ended fits reads =
+    let as_ended = ends_as burst ms ended reads in
+    sent_as_read p burst ms as_ended.0 fits as_ended.1
+    ∙ sent_in_parts p ms as_ended.0
+    ∙ ap (λ (replies : List Reply). bytes_for_all p ms ++ answer_bytes p.state.unit replies) as_ended.2
+
 -- what has been answered is what a burst asks
-pub record Answered (old now : ClockedPort) (burst out_old out_new : List ℕ) (aired_old aired_new : List Item) (last : List Reply) : Type 0 where
+pub record Answered (old now : ClockedPort) (burst out_old out_new : List ℕ) (aired : Option Item) (ended : Ended) : Type 0 where
   pub reads : Reads burst (messages_of burst) (end_of burst)
-  pub sent : out_new ++ answer_bytes old.state.unit last ≡ out_old ++ sent_for old burst
-  pub airs : aired_new ≡ aired_old ++ aired_for old burst
+  pub sent : out_new ++ bytes_at_end old.state.unit ended ≡ out_old ++ sent_for old burst
+  pub airs : option_to_list aired ≡ aired_for old burst
   pub leaves : now ≡ after_burst old burst
 
-pub burst_answered : (old now : ClockedPort) (burst out_0 out_1 : List ℕ) (aired_0 aired_1 : List Item) (last : List Reply)
+pub burst_answered : (old now : ClockedPort) (burst out_0 out_1 : List ℕ) (aired : Option Item) (ended : Ended)
     → ((i : ℕ) → get_or burst i 0 < 256)
-    → HasAnsweredAll old now burst out_0 out_1 aired_0 aired_1 last
-    → Answered old now burst out_0 out_1 aired_0 aired_1 last
-burst_answered old now burst out_0 out_1 aired_0 aired_1 last bytes h =
-    let reads : Reads burst (messages_of burst) (end_of burst) =
-    reads_computed 4096 burst (All-from_get_or (λ byte. byte < 256) burst 0 (λ i _. bytes i)) in
-    let one = one_reading 4096 burst h.messages (messages_of burst) h.end (end_of burst) h.reads reads in
-    let unit = old.state.unit in
+    → HasAnsweredAll old now burst out_0 out_1 aired ended
+    → Answered old now burst out_0 out_1 aired ended
+burst_answered old now burst out_0 out_1 aired ended bytes h =
+    let fits : AreOctets burst = All-from_get_or (λ byte. byte < 256) burst 0 (λ i _. bytes i) in
+    let as_ended = ends_as burst h.messages ended h.reads in
     record {
-      reads = reads;
-      sent = ap₂ (λ (a b : List ℕ). a ++ b) h.sent (ap (answer_bytes unit) h.at_end)
-          ∙ append_assoc out_0 (answer_bytes unit (answers_to old h.messages)) (answer_bytes unit (end_answers h.end))
-          ∙ ap (λ (bytes : List ℕ). out_0 ++ bytes) (sym (flat_map-append (reply_bytes unit) (answers_to old h.messages) (end_answers h.end)))
-          ∙ ap₂ (λ m e. out_0 ++ sent_bytes old m e) one.0 one.1;
-      airs = h.airs ∙ ap (λ (m : List Content). aired_0 ++ aired_on_way old m) one.0;
-      leaves = h.leaves ∙ ap (after_messages old) one.0;
+      reads = reads_computed 4096 burst fits;
+      sent = ap (λ (bytes : List ℕ). bytes ++ bytes_at_end old.state.unit ended) h.sent
+          ∙ append_assoc out_0 (bytes_for_all old h.messages) (bytes_at_end old.state.unit ended)
+          ∙ ap (λ (bytes : List ℕ). out_0 ++ bytes) (sym (sent_as_ended old burst h.messages ended fits h.reads));
+      airs = h.airs ∙ sym (aired_as_read old burst h.messages as_ended.0 fits as_ended.1);
+      leaves = h.leaves ∙ sym (after_as_read old burst h.messages as_ended.0 fits as_ended.1);
     }

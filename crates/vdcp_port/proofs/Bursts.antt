@@ -1,5 +1,5 @@
 -- What airs in a burst.
-use Rattle.std.proofs.Common.{◌≡◌, true, false, refl, List, [], ◌∷◌, ◌++◌, ap, ◌∙◌, inl, inr}
+use Rattle.std.proofs.Common.{◌≤◌, ◌≡◌, length, arith, true, false, refl, List, [], ◌∷◌, ◌++◌, ap, ◌∙◌, inl, inr}
 use Rattle.std.specs.Option.{option_to_list}
 use Rattle.std.specs.Prelude.{◌⊎◌, Option, None, Some}
 use Rattle.vdcp_value.specs.declared.part.Item.{Item}
@@ -62,3 +62,10 @@ at_most_first p m ms (Some item) e later =
 pub at_most_the_cued : (p : ClockedPort) (ms : List Content) → AirsAtMostTheCued p (aired_on_way p ms)
 at_most_the_cued p [] = inl refl
 at_most_the_cued p (m ∷ ms) = at_most_first p m ms (aired_by p m) refl (at_most_the_cued (after_message p m) ms)
+
+pub one_at_most : (p : ClockedPort) (ms : List Content) → length (aired_on_way p ms) ≤ 1
+one_at_most p ms = at (at_most_the_cued p ms)
+  where
+    at : AirsAtMostTheCued p (aired_on_way p ms) → length (aired_on_way p ms) ≤ 1
+    at (inl none) = omega (arith, ap length none)
+    at (inr (item, cued, one)) = omega (arith, ap length one)

@@ -1,6 +1,6 @@
 mod Examples
 pub mod Frames
-pub mod OneMessage
+pub mod FewMessages
 pub mod Answering
 pub mod Readable
 pub mod Sizes
@@ -10,3 +10,4 @@ pub mod Reading
 pub mod Refusals
 mod StateByte
 pub mod TableLaws
+pub mod Units

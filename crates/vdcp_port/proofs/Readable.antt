@@ -1,6 +1,6 @@
--- Each answer of the table is read back.
+-- Each command has an answer in the table, and each answer is read back.
 use Rattle.std.proofs.Common.{ℕ, ◌≡◌, ◌<◌, ◌&&◌, Bool, true, false, nat_eq, arith, refl, List, lit<}
-use Rattle.std.specs.Prelude.{Option, None, Some, IfSome, if◌then◌else◌}
+use Rattle.std.specs.Prelude.{Option, None, Some, IfSome, is_some, if◌then◌else◌}
 use Rattle.vdcp_value.proofs.Bcd.{lawful_two_digits}
 use Rattle.vdcp_value.specs.Bcd.{bcd_byte, bcd_of_label}
 use Rattle.vdcp_value.specs.Bytes.{AreBytes}
@@ -13,6 +13,7 @@ use Rattle.vdcp_value.specs.declared.timecode.Timecode.{Timecode}
 use Rattle.vdcp_words.specs.Replies.{has_bit_0, IsWritableReply}
 use Rattle.vdcp_words.specs.declared.command.Command.{Command}
 use Rattle.vdcp_words.specs.declared.command.Command.TheVariants.{Open, Close, Select, PlayCue, CueData, Play, Stop, Status, ActiveId, IdRequest, IdSize}
+use Rattle.vdcp_words.specs.declared.reply.Reply.{Reply}
 use Rattle.vdcp_words.specs.declared.reply.Reply.TheVariants as reply
 use Rattle.vdcp_port.specs.Clips.{length_of, is_playable, whole, part_of}
 use Rattle.vdcp_port.specs.Port.{Cued, empty, cueing, done, PortState, is_open, is_selected, state_byte_of, state_byte}
@@ -82,3 +83,40 @@ readable_row clips p (Status bitmap) =
 readable_row clips p ActiveId = readable_if (is_selected p) _ _ tt refusal
 readable_row clips p (IdRequest id) = tt
 readable_row clips p (IdSize id) = readable_size (length_of clips id)
+
+-- each command's row has an answer
+
+has_if : (b : Bool) (r s : Row) → is_some r.answer ≡ true → is_some s.answer ≡ true → is_some (if b then r else s).answer ≡ true
+has_if true r s p q = p
+has_if false r s p q = q
+
+has_play : (cued : Cued) → is_some (play_row cued).answer ≡ true
+has_play empty = refl
+has_play (cueing item) = refl
+has_play (done item) = refl
+
+has_size : (length : Option Timecode) → is_some (size_row length).answer ≡ true
+has_size None = refl
+has_size (Some length) = refl
+
+has_answer : (clips : List (ClipId × Timecode)) (p : PortState) (command : Command) → is_some (command_row clips p command).answer ≡ true
+has_answer clips p (Open number lock) = has_if (nat_eq number p.number) _ _ refl refl
+has_answer clips p (Close number) = has_if (nat_eq number p.number) _ _ refl refl
+has_answer clips p (Select number) = has_if (nat_eq number p.number && is_open p) _ _ refl refl
+has_answer clips p (PlayCue id) = has_if (is_selected p && is_playable clips (whole id)) _ _ refl refl
+has_answer clips p (CueData id start duration) = has_if (is_selected p && is_playable clips (part_of id start duration)) _ _ refl refl
+has_answer clips p Play = has_if (is_selected p) _ _ (has_play p.cued) refl
+has_answer clips p Stop = has_if (is_selected p) _ _ refl refl
+has_answer clips p (Status bitmap) = has_if (is_selected p) _ _ refl refl
+has_answer clips p ActiveId = has_if (is_selected p) _ _ refl refl
+has_answer clips p (IdRequest id) = refl
+has_answer clips p (IdSize id) = has_size (length_of clips id)
+
+readable_one : (answer : Option Reply) → is_some answer ≡ true → IfSome answer IsWritableReply
+    → (reply : Reply) × (answer ≡ Some reply) × IsWritableReply reply
+readable_one None e w = cc
+readable_one (Some reply) e w = (reply, refl, w)
+
+pub answered_row : (clips : List (ClipId × Timecode)) (p : PortState) (command : Command)
+    → (reply : Reply) × ((command_row clips p command).answer ≡ Some reply) × IsWritableReply reply
+answered_row clips p command = readable_one (command_row clips p command).answer (has_answer clips p command) (readable_row clips p command)

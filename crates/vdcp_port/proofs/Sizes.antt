@@ -1,6 +1,6 @@
--- How long the answer to a message is at most.
-use Rattle.std.proofs.Common.{ℕ, sum, ◌≡◌, ◌+◌, ◌*◌, ◌-◌, ◌<◌, ◌≤◌, drop, slice_range, List, [], ◌∷◌, ◌++◌, length, arith, lit≤, length-append, ap}
-use Rattle.std.proofs.lemmas.List.{length-take-le, length-drop}
+-- How long the answers to a message and to a burst are at most.
+use Rattle.std.proofs.Common.{ℕ, sum, min, take, ◌∙◌, ◌≡◌, ◌+◌, ◌*◌, ◌-◌, ◌<◌, ◌≤◌, drop, slice_range, List, [], ◌∷◌, ◌++◌, length, arith, lit≤, length-append, ap}
+use Rattle.std.proofs.lemmas.List.{length-take, length-take-le, length-drop}
 use Rattle.std.specs.Option.{option_to_list}
 use Rattle.std.specs.Prelude.{Option, None, Some, IfSome}
 use Rattle.vdcp_value.proofs.Bytes.{length_of_bytes}
@@ -8,17 +8,22 @@ use Rattle.vdcp_value.proofs.Ids.{length_of_id}
 use Rattle.vdcp_value.specs.Ids.{id_bytes}
 use Rattle.vdcp_value.specs.declared.clip_id.ClipId.{ClipId}
 use Rattle.vdcp_value.specs.declared.timecode.Timecode.{Timecode}
-use Rattle.vdcp_frame.specs.Message.{Content, ack, nak, framed, Spells, check_byte}
+use Rattle.vdcp_frame.proofs.BurstLemmas.{reads_computed}
+use Rattle.vdcp_frame.specs.Burst.{messages_of, end_of}
+use Rattle.vdcp_frame.specs.Message.{Content, ack, nak, framed, AreOctets, Spells, check_byte}
+use Rattle.vdcp_frame.specs.Reading.{SpellsAll, End, clean, cut, fault}
 use Rattle.vdcp_words.specs.Replies.{IsWritableReply}
 use Rattle.vdcp_words.specs.declared.reply.Reply.{Reply}
 use Rattle.vdcp_words.specs.declared.reply.Reply.TheVariants.{Ack, Nak, Opened, State, Active, Present, Size}
-use Rattle.vdcp_port.specs.Answers.{reply_bytes, answer_bytes}
+use Rattle.vdcp_port.specs.Answers.{aired_on_way, end_answers, reply_bytes, answer_bytes, bytes_for, bytes_for_all, sent_for, aired_for, most_sent, most_aired}
 use Rattle.vdcp_port.specs.Asked.{asked_of}
-use Rattle.vdcp_port.specs.Clock.{ClockedPort, answer_to, aired_by}
+use Rattle.vdcp_port.specs.Clock.{ClockedPort, answer_to, after_message, aired_by}
 use Rattle.vdcp_port.specs.Port.{PortState}
 use Rattle.vdcp_port.specs.Row.{Row, Change, keeps, opens, closes, selects, cues, airs, stops, asked_row, message_row, on_air}
 use Rattle.vdcp_port.specs.declared.asked.Asked.{Asked}
 use Rattle.vdcp_port.specs.declared.asked.Asked.TheVariants as asked
+use Rattle.vdcp_port.proofs.Answering.{bytes_for_alone, bytes_for_both, sent_in_parts}
+use Rattle.vdcp_port.proofs.Bursts.{one_at_most}
 use Rattle.vdcp_port.proofs.Readable.{readable_row}
 
 -- a frame is five bytes longer than its data
@@ -76,6 +81,60 @@ one_item_for_five p (nak byte) bytes h = omega arith
 one_item_for_five p (framed kind unit code rest) bytes h =
     let one = one_item (message_row p.clips p.state (framed kind unit code rest)).change in
     omega (arith, one, ap length h.spelt, frame_size rest h.check)
+
+-- the same of messages one after another
+
+pub short_for_all : (p : ClockedPort) (ms : List Content) (bytes : List ℕ) → SpellsAll ms bytes → length (bytes_for_all p ms) ≤ 3 * length bytes
+short_for_all p [] bytes spelt = omega arith
+short_for_all p (m ∷ ms) bytes (first, others, spells, spelt, parts) =
+    let now = after_message p m in
+    let one = short_for_message p m first spells in
+    let more = short_for_all now ms others spelt in
+    let both : length (bytes_for_all p (m ∷ ms)) ≡ length (bytes_for p m) + length (bytes_for_all now ms) =
+    ap length (bytes_for_both p (m ∷ []) ms) ∙ length-append (bytes_for_all p (m ∷ [])) (bytes_for_all now ms)
+    ∙ ap (λ (bytes : List ℕ). length bytes + length (bytes_for_all now ms)) (bytes_for_alone p m) in
+    omega (arith, one, more, both, ap length parts, length-append first others)
+
+items_for_five : (p : ClockedPort) (ms : List Content) (bytes : List ℕ) → SpellsAll ms bytes → 5 * length (aired_on_way p ms) ≤ length bytes
+items_for_five p [] bytes spelt = omega arith
+items_for_five p (m ∷ ms) bytes (first, others, spells, spelt, parts) =
+    let now = after_message p m in
+    let one = one_item_for_five p m first spells in
+    let more = items_for_five now ms others spelt in
+    omega (arith, one, more, length-append (option_to_list (aired_by p m)) (aired_on_way now ms), ap length parts, length-append first others)
+
+short_end : (unit : ℕ) (end : End) → length (answer_bytes unit (end_answers end)) ≤ 2
+short_end unit clean = lit≤ tt
+short_end unit (cut count) = lit≤ tt
+short_end unit (fault kind place) = lit≤ tt
+
+-- and of a burst
+
+size_of_front : (limit : ℕ) (burst whole others : List ℕ) → take limit burst ≡ whole ++ others → length whole ≤ min (length burst) limit
+size_of_front limit burst whole others parts = omega (arith, ap length parts, length-append whole others, length-take limit burst)
+
+pub fits_most : (p : ClockedPort) (burst : List ℕ) → AreOctets burst → length (sent_for p burst) ≤ most_sent burst
+fits_most p burst fits =
+    let front = (reads_computed 4096 burst fits).front in
+    let ms = messages_of burst in
+    let size = size_of_front 4096 burst front.whole front.rest front.parts in
+    let all = short_for_all p ms front.whole front.spelt in
+    let last = short_end p.state.unit (end_of burst) in
+    omega (
+      arith,
+      size,
+      all,
+      last,
+      ap length (sent_in_parts p ms (end_of burst)),
+      length-append (bytes_for_all p ms) (answer_bytes p.state.unit (end_answers (end_of burst))),
+    )
+
+pub airs_most : (p : ClockedPort) (burst : List ℕ) → AreOctets burst → length (aired_for p burst) ≤ most_aired burst
+airs_most p burst fits =
+    let front = (reads_computed 4096 burst fits).front in
+    let ms = messages_of burst in
+    let size = size_of_front 4096 burst front.whole front.rest front.parts in
+    omega (arith, size, items_for_five p ms front.whole front.spelt, one_at_most p ms)
 
 -- the bytes of a message that stands in a burst
 pub size_of_range : (bytes : List ℕ) (i j : ℕ) → i < j → j ≤ length bytes → length (slice_range bytes i j) ≡ j - i

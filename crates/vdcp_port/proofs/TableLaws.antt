@@ -16,7 +16,7 @@ use Rattle.vdcp_port.specs.Row.{Row, Change, row, refused, keeps, opens, closes,
 use Rattle.vdcp_port.specs.Asked.{asked_of}
 use Rattle.vdcp_port.specs.Clock.{Counts, ClockedPort, counts_after, row_at, answer_to, after_message, aired_by}
 use Rattle.vdcp_frame.specs.Message.{Content}
-use Rattle.vdcp_port.proofs.Answering.{unit_of_changed}
+use Rattle.vdcp_port.proofs.Units.{unit_of_changed}
 
 -- ---- a command comes again, to the port that it left
 

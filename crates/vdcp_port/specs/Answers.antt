@@ -1,11 +1,14 @@
 -- What a port answers to a whole burst.
 use Rattle.std.specs.List.{flat_map}
 use Rattle.std.specs.Option.{option_to_list}
-use Rattle.std.specs.Prelude.{ℕ, ◌+◌, ◌*◌, ◌/◌, ◌≡◌, min, List, [], ◌∷◌, ◌++◌, length}
+use Rattle.std.specs.Prelude.{ℕ, ◌+◌, ◌*◌, ◌/◌, ◌≡◌, min, List, [], ◌∷◌, ◌++◌, length, Option, None, Some}
 use Rattle.vdcp_value.specs.declared.part.Item.{Item}
 use Rattle.vdcp_frame.specs.Burst.{messages_of, end_of}
 use Rattle.vdcp_frame.specs.Message.{Content, spelling}
-use Rattle.vdcp_frame.specs.Reading.{End, clean, cut, fault, Reads}
+use Rattle.vdcp_frame.specs.Reader.{ReadsAs}
+use Rattle.vdcp_frame.specs.Reading.{End, clean, cut, fault}
+use Rattle.vdcp_frame.specs.declared.got.Ended.{Ended}
+use Rattle.vdcp_frame.specs.declared.got.Ended.TheVariants as silence
 use Rattle.vdcp_words.specs.Replies.{reply_message}
 use Rattle.vdcp_words.specs.declared.reply.Reply.{Reply}
 use Rattle.vdcp_words.specs.declared.reply.Reply.TheVariants.{Nak}
@@ -32,6 +35,12 @@ end_answers clean = []
 end_answers (cut count) = Nak 0x80 ∷ []
 end_answers (fault kind place) = Nak 0x04 ∷ []
 
+-- the same of a burst that a silence ends
+abbrev pub reply_at_end : Ended → Option Reply
+reply_at_end silence.Clean = None
+reply_at_end (silence.Cut count) = Some (Nak 0x80)
+reply_at_end silence.AfterFault = Some (Nak 0x04)
+
 -- the bytes of answers from a unit
 abbrev pub reply_bytes : ℕ → Reply → List ℕ
 reply_bytes unit reply = spelling (reply_message unit reply)
@@ -45,6 +54,13 @@ bytes_for p m = answer_bytes p.state.unit (option_to_list (answer_to p m))
 
 abbrev pub items_for : ClockedPort → Content → List Item
 items_for p m = option_to_list (aired_by p m)
+
+-- the bytes that go out for messages one after another, and at the burst's end behind them
+abbrev pub bytes_for_all : ClockedPort → List Content → List ℕ
+bytes_for_all p ms = answer_bytes p.state.unit (answers_to p ms)
+
+abbrev pub bytes_at_end : ℕ → Ended → List ℕ
+bytes_at_end unit ended = answer_bytes unit (option_to_list (reply_at_end ended))
 
 -- the bytes that a port sends for a burst of these messages and this end
 abbrev pub sent_bytes : ClockedPort → List Content → End → List ℕ
@@ -65,15 +81,13 @@ abbrev pub most_sent : List ℕ → ℕ
 most_sent burst = 3 * min (length burst) 4096 + 2
 
 abbrev pub most_aired : List ℕ → ℕ
-most_aired burst = min (length burst) 4096 / 5
+most_aired burst = min (length burst / 5) 1
 
--- a port has answered a burst's messages, and appended the answers and what went to air; this is left to be
--- answered to the burst's end
-pub record HasAnsweredAll (old now : ClockedPort) (burst out_old out_new : List ℕ) (aired_old aired_new : List Item) (last : List Reply) : Type 0 where
+-- a port has answered a burst's messages, and appended the answers; this item went to air, if one did, and
+-- so the burst ended
+pub record HasAnsweredAll (old now : ClockedPort) (burst out_old out_new : List ℕ) (aired : Option Item) (ended : Ended) : Type 0 where
   pub messages : List Content
-  pub end : End
-  pub reads : Reads burst messages end
-  pub sent : out_new ≡ out_old ++ answer_bytes old.state.unit (answers_to old messages)
-  pub airs : aired_new ≡ aired_old ++ aired_on_way old messages
+  pub reads : ReadsAs burst messages ended
+  pub sent : out_new ≡ out_old ++ bytes_for_all old messages
+  pub airs : option_to_list aired ≡ aired_on_way old messages
   pub leaves : now ≡ after_messages old messages
-  pub at_end : last ≡ end_answers end

@@ -82,7 +82,7 @@ after_frame p =
     if ends_clip p then after_ended cued else cued
 
 -- a call that answers, airs and leaves what the row says
-pub record Follows (row : Row) (p : ClockedPort) (reply : Reply) (item : Option Item) (next : ClockedPort) : Type 0 where
+pub record MeetsRow (row : Row) (p : ClockedPort) (reply : Reply) (item : Option Item) (next : ClockedPort) : Type 0 where
   pub answers : row.answer ≡ Some reply
   pub airs : item ≡ on_air row.change
   pub leaves : next ≡ after_change row.change p

@@ -35,8 +35,8 @@ pub record Row : Type 0 where
 abbrev pub row : Reply → Change → Row
 row answer change = record { answer = Some answer; change = change }
 
-abbrev pub silent : Row
-silent = record { answer = None; change = keeps }
+abbrev pub unanswered : Row
+unanswered = record { answer = None; change = keeps }
 
 abbrev pub refused : Row
 refused = row (reply.Nak 0x01) keeps
@@ -74,7 +74,7 @@ command_row clips p (IdSize id) = size_row (length_of clips id)
 
 -- and for what is no command, or is for another unit
 abbrev pub asked_row : List (ClipId × Timecode) → PortState → Asked → Row
-asked_row clips p asked.Nothing = silent
+asked_row clips p asked.Nothing = unanswered
 asked_row clips p asked.NoCommand = refused
 asked_row clips p (asked.Command command) = command_row clips p command
 

@@ -1,32 +1,47 @@
-ghost use Rattle.std.specs.Prelude.{◌≡◌, ◌+◌, ◌*◌, ◌/◌, ◌≤◌, min, ◌++◌, List, length, OnOk, OnErr, IsOk};
+ghost use Rattle.arrayvec.specs.ArrayVec.{array_vec_len};
 ghost use Rattle.std.specs.Option.{option_to_list};
-ghost use Rattle.std.specs.Vec.{vec_len, vec_capacity};
-ghost use Rattle.vdcp_frame.specs.Burst.{messages_of, end_of};
+ghost use Rattle.std.specs.Prelude.{◌≡◌, ◌+◌, ◌≤◌, ◌++◌, IfSome, IsOk, OnErr, OnOk, length};
+ghost use Rattle.std.specs.Vec.{vec_capacity, vec_len};
+ghost use Rattle.vdcp_frame.specs.Burst.{end_of, messages_of};
 ghost use Rattle.vdcp_frame.specs.Message.{content_of};
 ghost use Rattle.vdcp_frame.specs.Reading.{Reads};
+ghost use Rattle.vdcp_port.specs.Answers.{bytes_at_end, reply_at_end, reply_bytes};
+ghost use Rattle.vdcp_words.specs.Replies.{IsWritableReply};
 
 use crate::catalogue::Catalogue;
 use crate::port::Port;
+use crate::sink::Sink;
 use arrayvec::ArrayVec;
 use std::alloc::{AllocError, Allocator};
-use vdcp_frame::{LIMIT, Message, Step, read_at, write};
+use vdcp_frame::{Ended, LIMIT, Message, Step, read_at, write};
 use vdcp_value::Item;
 use vdcp_words::Reply;
 
-/// NAK 80h, behind the other answers to a burst that ends inside a message (this profile).
-const CUT: Reply = Reply::Nak(0x80);
-/// NAK 04h, behind the other answers to a burst with a fault (this profile).
-const FAULTY: Reply = Reply::Nak(0x04);
+/// What a port answers to a burst's end, behind its answers to the burst's messages: nothing where the
+/// burst ends behind a whole message, NAK 80h where it ends inside one, and NAK 04h behind a fault (this
+/// profile).
+pub fn reply_at_end(ended: Ended) -> Option<Reply>
+    ensures exact { result ≡ reply_at_end ended }
+    ensures readable { IfSome result IsWritableReply }
+{
+    match ended {
+        Ended::Clean => None,
+        Ended::Cut(_) => Some(Reply::Nak(0x80)),
+        Ended::AfterFault => Some(Reply::Nak(0x04)),
+    }
+}
 
 impl<C: Catalogue> Port<C> {
-    ghost use Rattle.vdcp_port.specs.Clock.{after_message};
-    ghost use Rattle.vdcp_port.specs.Answers.{bytes_for, items_for, sent_for, aired_for, after_burst, most_sent, most_aired, HasAnsweredAll};
+    ghost use Rattle.vdcp_port.specs.Clock.{after_message, aired_by};
+    ghost use Rattle.vdcp_port.specs.Answers.{bytes_for, sent_for, aired_for, after_burst, most_sent, most_aired, HasAnsweredAll};
 
     /// Takes a whole burst. Appends the bytes of all answers to `out`, in order, and then a NAK where the
-    /// burst has a fault or ends inside a message; and the items that go to air on the way to `aired`.
+    /// burst has a fault or ends inside a message; and the item that goes to air on the way, if one does,
+    /// to `aired`.
     ///
-    /// All room is made first: three bytes for each byte that is read and two more, and an item for each
-    /// five bytes. Where it is refused the answer is `AllocError`, and nothing has changed.
+    /// All room is made first: three bytes for each byte that is read and two more, and one item where the
+    /// burst is long enough for a PLAY. Where it is refused the answer is `AllocError`, and nothing has
+    /// changed.
     pub fn burst_answer<A: Allocator, B: Allocator>(
         &mut self,
         burst: &[u8],
@@ -43,94 +58,107 @@ impl<C: Catalogue> Port<C> {
         ensures succeeds { vec_len out.old + most_sent burst.now ≤ vec_capacity out.old →
             vec_len aired.old + most_aired burst.now ≤ vec_capacity aired.old → IsOk result }
     {
-        let read = burst.len().min(LIMIT);
-        out.reserve(3 * read + 2)?;
-        aired.reserve(read / 5)?;
-        let unit = self.unit();
-        let last = self.answer_messages(burst, out, aired);
-        push_last(last, unit, out);
+        out.reserve(3 * burst.len().min(LIMIT) + 2)?;
+        aired.reserve((burst.len() / 5).min(1))?;
+        if let Some(item) = self.answer_all(burst, out) {
+            aired.push_reserved(item);
+        }
         Ok(())
     }
 
-    // Answers the messages of a burst, and gives what is left to be answered to its end.
-    fn answer_messages<A: Allocator, B: Allocator>(
+    /// Takes a whole burst where there is room for all answers to it: three bytes for each byte that is
+    /// read, 4,096 at most, and two more. Appends the bytes of the answers to `out` as `burst_answer` does,
+    /// and gives the item that goes to air on the way, if one does: a burst airs one at most.
+    pub fn answer_into<const N: usize>(
         &mut self,
         burst: &[u8],
-        out: &mut Vec<u8, A>,
-        aired: &mut Vec<Item, B>,
-    ) -> Option<Reply>
-        requires room { vec_len out.old + most_sent burst.now ≤ vec_capacity out.old }
-        requires item_room { vec_len aired.old + most_aired burst.now ≤ vec_capacity aired.old }
-        ensures answered { HasAnsweredAll self.old self.new burst.now out.old.items out.new.items aired.old.items aired.new.items (option_to_list result) }
-        ensures room { vec_len out.new + 2 ≤ vec_capacity out.new }
+        out: &mut ArrayVec<u8, N>,
+    ) -> Option<Item>
+        requires { array_vec_len out.old + most_sent burst.now ≤ N }
+        // The burst reads as these messages and this end; the next three clauses speak of them.
+        ensures read { Reads burst.now (messages_of burst.now) (end_of burst.now) }
+        ensures sent { out.new.items ≡ out.old.items ++ sent_for self.old burst.now }
+        ensures aired { option_to_list result ≡ aired_for self.old burst.now }
+        ensures next { self.new ≡ after_burst self.old burst.now }
+    {
+        self.answer_all(burst, out)
+    }
+
+    // Answers a burst, its end included, where there is room.
+    fn answer_all<S: Sink>(&mut self, burst: &[u8], out: &mut S) -> Option<Item>
+        requires { most_sent burst.now ≤ S.room out.old }
+        ensures read { Reads burst.now (messages_of burst.now) (end_of burst.now) }
+        ensures sent { S.written out.new ≡ S.written out.old ++ sent_for self.old burst.now }
+        ensures aired { option_to_list result ≡ aired_for self.old burst.now }
+        ensures most { length (option_to_list result) ≤ most_aired burst.now }
+        ensures next { self.new ≡ after_burst self.old burst.now }
+    {
+        let unit = self.unit();
+        let (aired, ended) = self.answer_messages(burst, out);
+        append_end(ended, unit, out);
+        aired
+    }
+
+    // Answers the messages of a burst.
+    fn answer_messages<S: Sink>(&mut self, burst: &[u8], out: &mut S) -> (Option<Item>, Ended)
+        requires { most_sent burst.now ≤ S.room out.old }
+        ensures answered { HasAnsweredAll self.old self.new burst.now (S.written out.old) (S.written out.new) result.0 result.1 }
+        ensures room { 2 ≤ S.room out.new }
     {
         let mut from = 0;
+        let mut aired = None;
         'messages: loop {
             match read_at(burst, from) {
                 Step::Message(message, next) => {
-                    self.answer_message(&message, out, aired);
+                    aired = aired.or(self.answer_message(&message, out));
                     from = next;
                 }
-                Step::Clean => return None,
-                Step::Cut(_) => return Some(CUT),
-                Step::Fault(_, _) => return Some(FAULTY),
+                Step::Clean => return (aired, Ended::Clean),
+                Step::Cut(held) => return (aired, Ended::Cut(held)),
+                Step::Fault(_, _) => return (aired, Ended::AfterFault),
             }
         }
     }
 
     // Answers a message where there is room.
-    fn answer_message<A: Allocator, B: Allocator>(
-        &mut self,
-        message: &Message,
-        out: &mut Vec<u8, A>,
-        aired: &mut Vec<Item, B>,
-    )
-        requires room { vec_len out.old + length (bytes_for self.old (content_of message.now)) ≤ vec_capacity out.old }
-        requires item_room { vec_len aired.old + length (items_for self.old (content_of message.now)) ≤ vec_capacity aired.old }
-        ensures sent { out.new.items ≡ out.old.items ++ bytes_for self.old (content_of message.now) }
-        ensures aired { aired.new.items ≡ aired.old.items ++ items_for self.old (content_of message.now) }
+    fn answer_message<S: Sink>(&mut self, message: &Message, out: &mut S) -> Option<Item>
+        requires { length (bytes_for self.old (content_of message.now)) ≤ S.room out.old }
+        ensures sent { S.written out.new ≡ S.written out.old ++ bytes_for self.old (content_of message.now) }
+        ensures aired { result ≡ aired_by self.old (content_of message.now) }
         ensures next { self.new ≡ after_message self.old (content_of message.now) }
-        ensures capacity { vec_capacity out.old ≤ vec_capacity out.new }
-        ensures item_capacity { vec_capacity aired.old ≤ vec_capacity aired.new }
-        ensures len { vec_len out.new ≡ vec_len out.old + length (bytes_for self.old (content_of message.now)) }
-        ensures item_len { vec_len aired.new ≡ vec_len aired.old + length (items_for self.old (content_of message.now)) }
+        ensures room { S.room out.old ≤ S.room out.new + length (bytes_for self.old (content_of message.now)) }
     {
         let unit = self.unit();
         let (reply, item) = self.answer(message);
         if let Some(reply) = reply {
-            push_reply(&reply, unit, out);
+            append_reply(&reply, unit, out);
         }
-        if let Some(item) = item {
-            aired.push_reserved(item);
-        }
+        item
     }
 }
 
-ghost use Rattle.vdcp_port.specs.Answers.{reply_bytes, answer_bytes};
-
-// Appends the bytes of a reply, where there is one, where there is room.
+// Appends what is answered to a burst's end, where there is room.
 #[tactic(auto, using(crate::proofs::Answering::bytes_of_one))]
-fn push_last<A: Allocator>(last: Option<Reply>, unit: u8, out: &mut Vec<u8, A>)
+fn append_end<S: Sink>(ended: Ended, unit: u8, out: &mut S)
     requires unit { unit ≤ 15 }
-    requires room { vec_len out.old + length (answer_bytes unit (option_to_list last)) ≤ vec_capacity out.old }
-    ensures { out.new.items ≡ out.old.items ++ answer_bytes unit (option_to_list last) }
+    requires room { 2 ≤ S.room out.old }
+    ensures { S.written out.new ≡ S.written out.old ++ bytes_at_end unit ended }
 {
-    if let Some(last) = last {
-        push_reply(&last, unit, out);
+    if let Some(reply) = reply_at_end(ended) {
+        append_reply(&reply, unit, out);
     }
 }
 
 // Appends the bytes of a reply where there is room.
-fn push_reply<A: Allocator>(reply: &Reply, unit: u8, out: &mut Vec<u8, A>)
+fn append_reply<S: Sink>(reply: &Reply, unit: u8, out: &mut S)
     requires unit { unit ≤ 15 }
-    requires room { vec_len out.old + length (reply_bytes unit reply.now) ≤ vec_capacity out.old }
-    ensures items { out.new.items ≡ out.old.items ++ reply_bytes unit reply.now }
-    ensures len { vec_len out.new ≡ vec_len out.old + length (reply_bytes unit reply.now) }
-    ensures capacity { vec_capacity out.old ≤ vec_capacity out.new }
+    requires room { length (reply_bytes unit reply.now) ≤ S.room out.old }
+    ensures written { S.written out.new ≡ S.written out.old ++ reply_bytes unit reply.now }
+    ensures room { S.room out.old ≤ S.room out.new + length (reply_bytes unit reply.now) }
 {
     let mut room = [0; 16];
     let message = reply.to_message(unit, &mut room);
     let mut bytes = ArrayVec::<u8, 512>::new();
     write(&message, &mut bytes).unwrap();
-    out.extend_from_slice(bytes.as_slice()).unwrap();
+    out.append(bytes.as_slice());
 }

@@ -1,22 +1,27 @@
 //! Laws of the port's table. Each holds for all that it names; the functions do nothing.
 
-ghost use Rattle.std.specs.Prelude.{ℕ, ◌≡◌, ◌≢◌, ◌<◌, ◌≤◌, ◌++◌, ◌==◌, ◌&&◌, ◌⊎◌, List, [], ◌∷◌, All, Contains, IsTrue, false, not, is_none, bit_and, Some, None};
+ghost use Rattle.std.specs.Prelude.{ℕ, ◌≡◌, ◌≢◌, ◌<◌, ◌≤◌, ◌++◌, ◌==◌, ◌&&◌, ◌⊎◌, List, [], ◌∷◌, length, All, Contains, IsTrue, false, not, is_none, bit_and, Some, None};
 ghost use Rattle.vdcp_value.specs.declared.part.Item.{Item};
 ghost use Rattle.vdcp_value.specs.declared.clip_id.ClipId.{ClipId};
 ghost use Rattle.vdcp_value.specs.declared.timecode.Timecode.{Timecode};
-ghost use Rattle.vdcp_frame.specs.Message.{Content, Fits, spelling};
-ghost use Rattle.vdcp_frame.specs.Reading.{End};
+ghost use Rattle.std.specs.Option.{option_to_list};
+ghost use Rattle.vdcp_frame.specs.Burst.{messages_of, end_of};
+ghost use Rattle.vdcp_frame.specs.Message.{Content, AreOctets, Fits, spelling};
+ghost use Rattle.vdcp_frame.specs.Reader.{ReadsAs};
+ghost use Rattle.vdcp_frame.specs.Reading.{End, Reads};
+ghost use Rattle.vdcp_frame.specs.declared.got.Ended.{Ended};
 ghost use Rattle.vdcp_words.specs.Commands.{command_message, IsWritableCommand};
 ghost use Rattle.vdcp_words.specs.Replies.{IsWritableReply};
 ghost use Rattle.vdcp_words.specs.declared.command.Command.{Command};
 ghost use Rattle.vdcp_words.specs.declared.command.Command.TheVariants as command;
+ghost use Rattle.vdcp_words.specs.declared.reply.Reply.{Reply};
 ghost use Rattle.vdcp_words.specs.declared.reply.Reply.TheVariants as reply;
 ghost use Rattle.vdcp_port.specs.declared.asked.Asked.TheVariants as asked;
 ghost use Rattle.vdcp_port.specs.Asked.{asked_of};
 ghost use Rattle.vdcp_port.specs.Port.{PortState, cueing, done, empty, is_selected, state_byte, is_empty, is_cueing, is_done, made_ready};
 ghost use Rattle.vdcp_port.specs.Row.{cues, command_row};
 ghost use Rattle.vdcp_port.specs.Clock.{ClockedPort, new_port, row_at, answer_to, after_message, aired_by, after_ready, after_ended, after_frame, after_frames};
-ghost use Rattle.vdcp_port.specs.Answers.{answers_to, aired_on_way, end_answers, bytes_for, items_for, sent_for, aired_for, after_burst};
+ghost use Rattle.vdcp_port.specs.Answers.{answers_to, aired_on_way, after_messages, end_answers, reply_at_end, reply_bytes, answer_bytes, bytes_for, bytes_for_all, bytes_at_end, items_for, sent_for, aired_for, after_burst, most_sent, most_aired};
 ghost use Rattle.vdcp_port.specs.Kept.{IsKept, cueing_from_now, counting_from_now};
 
 /// A message that comes again is answered as before, leaves what it left, and airs nothing.
@@ -83,6 +88,12 @@ pub fn answers_are_read_back()
     ensures { (p : ClockedPort) (ms : List Content) (end : End) → All IsWritableReply (answers_to p ms ++ end_answers end) }
 {}
 
+/// Each command has an answer, and it can be read back.
+pub fn a_command_is_answered()
+    ensures { (clips : List (ClipId × Timecode)) (p : PortState) (c : Command) →
+        (reply : Reply) × ((command_row clips p c).answer ≡ Some reply) × IsWritableReply reply }
+{}
+
 /// What a port holds is in its catalogue and fits, and its counts run where something is waited for.
 pub fn what_a_port_holds()
     ensures new { (clips : List (ClipId × Timecode)) (unit number cue_frames : ℕ) → 1 ≤ cue_frames →
@@ -103,6 +114,87 @@ pub fn a_command_asks_its_own_unit()
 pub fn a_command_has_its_own_row()
     ensures { (p : ClockedPort) (c : Command) → IsWritableCommand c →
         row_at p (command_message p.state.unit c) ≡ command_row p.clips p.state c }
+{}
+
+/// Messages behind messages are answered from the port that these leave.
+pub fn messages_after_messages()
+    ensures answers { (p : ClockedPort) (ms ns : List Content) →
+        answers_to p (ms ++ ns) ≡ answers_to p ms ++ answers_to (after_messages p ms) ns }
+    ensures sent { (p : ClockedPort) (ms ns : List Content) →
+        bytes_for_all p (ms ++ ns) ≡ bytes_for_all p ms ++ bytes_for_all (after_messages p ms) ns }
+    ensures aired { (p : ClockedPort) (ms ns : List Content) →
+        aired_on_way p (ms ++ ns) ≡ aired_on_way p ms ++ aired_on_way (after_messages p ms) ns }
+    ensures next { (p : ClockedPort) (ms ns : List Content) →
+        after_messages p (ms ++ ns) ≡ after_messages (after_messages p ms) ns }
+{}
+
+/// The unit address stays, whatever comes.
+pub fn the_unit_stays()
+    ensures message { (p : ClockedPort) (m : Content) → (after_message p m).state.unit ≡ p.state.unit }
+    ensures messages { (p : ClockedPort) (ms : List Content) → (after_messages p ms).state.unit ≡ p.state.unit }
+    ensures burst { (p : ClockedPort) (burst : List ℕ) → (after_burst p burst).state.unit ≡ p.state.unit }
+    ensures frame { (p : ClockedPort) → (after_frame p).state.unit ≡ p.state.unit }
+    ensures ready { (p : ClockedPort) → (after_ready p).state.unit ≡ p.state.unit }
+    ensures ended { (p : ClockedPort) → (after_ended p).state.unit ≡ p.state.unit }
+{}
+
+/// What one message gives, with none before or behind it; and the bytes of one reply.
+pub fn one_alone()
+    ensures sent { (p : ClockedPort) (m : Content) → bytes_for_all p (m ∷ []) ≡ bytes_for p m }
+    ensures aired { (p : ClockedPort) (m : Content) → aired_on_way p (m ∷ []) ≡ items_for p m }
+    ensures reply { (unit : ℕ) (reply : Reply) → answer_bytes unit (reply ∷ []) ≡ reply_bytes unit reply }
+{}
+
+/// A burst of bytes that reads as these messages and this end is answered as the messages are, one after
+/// another, and then as the end is.
+pub fn a_burst_is_answered_as_it_is_read()
+    ensures sent { (p : ClockedPort) (burst : List ℕ) (ms : List Content) (end : End) → AreOctets burst → Reads burst ms end →
+        sent_for p burst ≡ bytes_for_all p ms ++ answer_bytes p.state.unit (end_answers end) }
+    ensures aired { (p : ClockedPort) (burst : List ℕ) (ms : List Content) (end : End) → AreOctets burst → Reads burst ms end →
+        aired_for p burst ≡ aired_on_way p ms }
+    ensures next { (p : ClockedPort) (burst : List ℕ) (ms : List Content) (end : End) → AreOctets burst → Reads burst ms end →
+        after_burst p burst ≡ after_messages p ms }
+{}
+
+/// The same where the streaming reader gave the messages and says how the burst ended: what is sent for the
+/// burst is what was sent for its messages, and behind it the bytes of `reply_at_end`.
+pub fn a_burst_is_answered_as_it_ended()
+    ensures sent { (p : ClockedPort) (burst : List ℕ) (ms : List Content) (ended : Ended) → AreOctets burst → ReadsAs burst ms ended →
+        sent_for p burst ≡ bytes_for_all p ms ++ bytes_at_end p.state.unit ended }
+    ensures aired { (p : ClockedPort) (burst : List ℕ) (ms : List Content) (ended : Ended) → AreOctets burst → ReadsAs burst ms ended →
+        aired_for p burst ≡ aired_on_way p ms }
+    ensures next { (p : ClockedPort) (burst : List ℕ) (ms : List Content) (ended : Ended) → AreOctets burst → ReadsAs burst ms ended →
+        after_burst p burst ≡ after_messages p ms }
+{}
+
+/// However a reading is told, by its end or by how the streaming reader ends it, the end is answered alike.
+pub fn one_answer_to_the_end()
+    ensures { (burst : List ℕ) (ms ns : List Content) (end : End) (ended : Ended) → Reads burst ms end → ReadsAs burst ns ended →
+        end_answers end ≡ option_to_list (reply_at_end ended) }
+{}
+
+/// What is sent for a burst of bytes, and what airs in it, fits the room that is made for it.
+pub fn what_a_burst_needs()
+    ensures sent { (p : ClockedPort) (burst : List ℕ) → AreOctets burst → length (sent_for p burst) ≤ most_sent burst }
+    ensures aired { (p : ClockedPort) (burst : List ℕ) → AreOctets burst → length (aired_for p burst) ≤ most_aired burst }
+{}
+
+/// A burst without a message, empty or of whatever bytes, airs nothing and leaves the port as it was. It
+/// is not answered, or by one NAK for its end.
+pub fn a_burst_without_a_message()
+    ensures sent { (p : ClockedPort) (burst : List ℕ) → messages_of burst ≡ [] →
+        (sent_for p burst ≡ []) ⊎ (sent_for p burst ≡ 0x05 ∷ 0x04 ∷ []) ⊎ (sent_for p burst ≡ 0x05 ∷ 0x80 ∷ []) }
+    ensures aired { (p : ClockedPort) (burst : List ℕ) → messages_of burst ≡ [] → aired_for p burst ≡ [] }
+    ensures next { (p : ClockedPort) (burst : List ℕ) → messages_of burst ≡ [] → after_burst p burst ≡ p }
+{}
+
+/// A burst with one message is answered as the message is, and then as its end is, whatever stands behind
+/// the message.
+pub fn a_burst_with_one_message()
+    ensures sent { (p : ClockedPort) (m : Content) (burst : List ℕ) → messages_of burst ≡ m ∷ [] →
+        sent_for p burst ≡ bytes_for p m ++ answer_bytes p.state.unit (end_answers (end_of burst)) }
+    ensures aired { (p : ClockedPort) (m : Content) (burst : List ℕ) → messages_of burst ≡ m ∷ [] → aired_for p burst ≡ items_for p m }
+    ensures next { (p : ClockedPort) (m : Content) (burst : List ℕ) → messages_of burst ≡ m ∷ [] → after_burst p burst ≡ after_message p m }
 {}
 
 /// A burst that is one message is answered as the message is.

@@ -21,8 +21,10 @@ mod burst;
 mod catalogue;
 pub mod laws;
 mod port;
+mod sink;
 mod slots;
 
+pub use burst::reply_at_end;
 pub use catalogue::Catalogue;
 pub use port::Port;
 

@@ -56,7 +56,7 @@ impl<C: Catalogue> Port<C> {
     ghost use Rattle.vdcp_frame.specs.Message.{content_of};
     ghost use Rattle.vdcp_words.specs.Replies.{IsWritableReply};
     ghost use Rattle.vdcp_words.specs.declared.command.Command.TheVariants as command;
-    ghost use Rattle.vdcp_port.specs.Clock.{new_port, answer_to, after_message, aired_by, after_ready, after_ended, after_frame, completes_cue, ends_clip, Follows};
+    ghost use Rattle.vdcp_port.specs.Clock.{new_port, answer_to, after_message, aired_by, after_ready, after_ended, after_frame, completes_cue, ends_clip, MeetsRow};
     ghost use Rattle.vdcp_port.specs.Port.{is_selected, state_byte};
     ghost use Rattle.vdcp_port.specs.Row.{command_row, cue_row};
 
@@ -158,7 +158,7 @@ impl<C: Catalogue> Port<C> {
     }
 
     fn execute(&mut self, command: &Command) -> (Reply, Option<Item>)
-        ensures { Follows (command_row self.old.clips self.old.state command.now) self.old result.0 result.1 self.new }
+        ensures { MeetsRow (command_row self.old.clips self.old.state command.now) self.old result.0 result.1 self.new }
     {
         match *command {
             Command::Open(number, _) => (self.open(number), None),
@@ -183,7 +183,7 @@ impl<C: Catalogue> Port<C> {
     }
 
     fn open(&mut self, number: u8) -> Reply
-        ensures { (lock : ℕ) → Follows (command_row self.old.clips self.old.state (command.Open number lock)) self.old result None self.new }
+        ensures { (lock : ℕ) → MeetsRow (command_row self.old.clips self.old.state (command.Open number lock)) self.old result None self.new }
     {
         if number != self.number {
             return Reply::Opened(false);
@@ -196,7 +196,7 @@ impl<C: Catalogue> Port<C> {
     }
 
     fn close(&mut self, number: u8) -> Reply
-        ensures { Follows (command_row self.old.clips self.old.state (command.Close number)) self.old result None self.new }
+        ensures { MeetsRow (command_row self.old.clips self.old.state (command.Close number)) self.old result None self.new }
     {
         if number != self.number {
             return REFUSED;
@@ -207,7 +207,7 @@ impl<C: Catalogue> Port<C> {
     }
 
     fn select(&mut self, number: u8) -> Reply
-        ensures { Follows (command_row self.old.clips self.old.state (command.Select number)) self.old result None self.new }
+        ensures { MeetsRow (command_row self.old.clips self.old.state (command.Select number)) self.old result None self.new }
     {
         if number != self.number || self.access == Access::Closed {
             return REFUSED;
@@ -226,7 +226,7 @@ impl<C: Catalogue> Port<C> {
     }
 
     fn cue(&mut self, item: Item) -> Reply
-        ensures { Follows (cue_row self.old.clips self.old.state item) self.old result None self.new }
+        ensures { MeetsRow (cue_row self.old.clips self.old.state item) self.old result None self.new }
     {
         if !self.is_selected() {
             return REFUSED;
@@ -245,7 +245,7 @@ impl<C: Catalogue> Port<C> {
     }
 
     fn play(&mut self) -> (Reply, Option<Item>)
-        ensures { Follows (command_row self.old.clips self.old.state command.Play) self.old result.0 result.1 self.new }
+        ensures { MeetsRow (command_row self.old.clips self.old.state command.Play) self.old result.0 result.1 self.new }
     {
         if !self.is_selected() {
             return (REFUSED, None);
@@ -267,7 +267,7 @@ impl<C: Catalogue> Port<C> {
     }
 
     fn stop(&mut self) -> Reply
-        ensures { Follows (command_row self.old.clips self.old.state command.Stop) self.old result None self.new }
+        ensures { MeetsRow (command_row self.old.clips self.old.state command.Stop) self.old result None self.new }
     {
         if !self.is_selected() {
             return REFUSED;

@@ -1,3 +1,4 @@
+-- The texts of IDs and time codes are ASCII, and how long they are.
 use Rattle.std.proofs.Common.{ℕ, zero, suc, List, [], ◌∷◌, ◌++◌, ◌+◌, ◌/◌, ◌%◌, ◌<◌, ◌≤◌, ◌≡◌, true, length, arith, refl, sym, ap, subst, inl, inr, if◌then◌else◌, nat_lt, lit<}
 use Rattle.std.specs.List.{flat_map, list_all}
 use Rattle.std.specs.Str.{IsAscii}

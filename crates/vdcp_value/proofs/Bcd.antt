@@ -1,4 +1,6 @@
-use Rattle.std.proofs.Common.{ℕ, ◌<◌, ◌≡◌, true, arith, refl, nat_lt, sym, ap, ap₂, ◌∙◌, List, is_none, None, [], ◌∷◌}
+-- Four bytes and the label that they write.
+use Rattle.std.proofs.Common.{ℕ, ◌<◌, ◌≡◌, ◌/◌, ◌%◌, Bool, true, false, not, arith, refl, nat_lt, sym, ap, ap₂, ◌∙◌, List, length, is_none, Option, None, Some, [], ◌∷◌, slice_index, if◌then◌else◌}
+use Rattle.vdcp_value.proofs.Bytes.{length_of_bytes}
 use Rattle.vdcp_value.proofs.Timecodes.{same_timecode}
 use Rattle.vdcp_value.specs.Bytes.{AreBytes}
 use Rattle.vdcp_value.specs.Bcd.{bcd_byte, bcd_value, is_bcd, bcd_of_label, label_of_bcd, bcd_fault, label_fault, is_time, frames_in}
@@ -6,6 +8,8 @@ use Rattle.vdcp_value.specs.LabelText.{has_two_digits}
 use Rattle.vdcp_value.specs.Labels.{is_lawful}
 use Rattle.vdcp_value.specs.Day.{frame_number}
 use Rattle.vdcp_value.specs.Timecodes.{rate_of, label_of, bcd_of, frames_of}
+use Rattle.vdcp_value.specs.declared.faults.TcFault.TheVariants.{NotBcd}
+use Rattle.vdcp_value.specs.declared.faults.TcFault.{TcFault}
 use Rattle.vdcp_value.specs.declared.label.Label.{Label}
 use Rattle.vdcp_value.specs.declared.rate.Rate.TheVariants.{F24, F25, F30, D30}
 use Rattle.vdcp_value.specs.declared.rate.Rate.{Rate}
@@ -110,3 +114,51 @@ own_bytes timecode =
     let s : label.seconds < 100 = grind (arith, e) in
     let f : label.frames < 100 = grind (arith, e) in
     rw (byte_of label.frames f, byte_of label.seconds s, byte_of label.minutes m, byte_of label.hours h) refl
+
+-- ---- lawful bytes
+
+-- what is known of bytes without a fault
+pub record Unfaulted (rate : Rate) (bytes : List ℕ) : Type 0 where
+  pub frames : is_bcd (slice_index bytes 0) ≡ true
+  pub seconds : is_bcd (slice_index bytes 1) ≡ true
+  pub minutes : is_bcd (slice_index bytes 2) ≡ true
+  pub hours : is_bcd (slice_index bytes 3) ≡ true
+  pub label : label_fault rate (label_of_bcd bytes) ≡ None
+
+none_behind : (a b c d : Bool) (v w x y : TcFault) (fault : Option TcFault)
+    → is_none (if not a then Some v else if not b then Some w else if not c then Some x else if not d then Some y else fault) ≡ true
+    → (a ≡ true) × (b ≡ true) × (c ≡ true) × (d ≡ true) × (fault ≡ None)
+none_behind true true true true v w x y None e = (refl, refl, refl, refl, refl)
+none_behind true true true true v w x y (Some fault) e = cc e
+none_behind true true true false v w x y fault e = cc e
+none_behind true true false d v w x y fault e = cc e
+none_behind true false c d v w x y fault e = cc e
+none_behind false b c d v w x y fault e = cc e
+
+unfaulted : (rate : Rate) (bytes : List ℕ) → is_time rate bytes ≡ true → Unfaulted rate bytes
+unfaulted rate bytes e =
+    let h = none_behind (is_bcd (slice_index bytes 0)) (is_bcd (slice_index bytes 1)) (is_bcd (slice_index bytes 2)) (is_bcd (slice_index bytes 3))
+    (NotBcd 1) (NotBcd 2) (NotBcd 3) (NotBcd 4) (label_fault rate (label_of_bcd bytes)) e in
+    record { frames = h.0; seconds = h.1; minutes = h.2; hours = h.3; label = h.4 }
+
+byte_of_value : (byte : ℕ) → is_bcd byte ≡ true → bcd_byte (bcd_value byte) ≡ byte
+byte_of_value byte e =
+    let tens : byte / 16 < 10 = grind (arith, e) in
+    let units : byte % 16 < 10 = grind (arith, e) in
+    omega (arith, tens, units)
+
+-- bytes of two digits each are those of the label that they write
+bytes_read_back : (rate : Rate) (bytes : List ℕ) → length bytes ≡ 4 → Unfaulted rate bytes → bcd_of_label (label_of_bcd bytes) ≡ bytes
+bytes_read_back rate (f ∷ s ∷ m ∷ h ∷ []) four u =
+    rw (byte_of_value f u.frames, byte_of_value s u.seconds, byte_of_value m u.minutes, byte_of_value h u.hours) refl
+bytes_read_back rate bytes four u = absurd (omega arith)
+
+-- four lawful bytes are a time code's
+pub time_code_of : (rate : Rate) (bytes : List ℕ) → AreBytes 4 bytes → is_time rate bytes ≡ true
+    → (timecode : Timecode) × (rate_of timecode ≡ rate) × (bcd_of timecode ≡ bytes)
+time_code_of rate bytes four e =
+    let u = unfaulted rate bytes e in (
+      record { rate = rate; label = label_of_bcd bytes; lawful = lawful_without rate (label_of_bcd bytes) u.label },
+      refl,
+      bytes_read_back rate bytes (length_of_bytes 4 bytes four) u,
+    )

@@ -1,3 +1,4 @@
+-- Lists that are made of blocks: what stands in them, and numbers that count up along them.
 use Rattle.std.proofs.Common.{ℕ, zero, suc, List, [], ◌∷◌, ◌++◌, ◌+◌, ◌<◌, ◌≤◌, ◌≡◌, Bool, true, false, length, map, filter, arith, refl, sym, ap, subst, length-append, eq-or-lt_of_le, inl, inr, ◌⊎◌}
 use Rattle.std.specs.List.{flat_map, range_with_len, list_any}
 use Rattle.std.proofs.lemmas.List.Folds.{list_any-append}

@@ -1,3 +1,4 @@
+-- Worked time codes, IDs and parts, computed from the definitions.
 use Rattle.std.proofs.Common.{ℕ, ◌≡◌, Some, refl, codes, [], ◌∷◌, lit<, lit≤, ap, ap₂, ◌∙◌, ◌&&◌, nat_le, ◌+◌, true, false}
 use Rattle.vdcp_value.proofs.FrameNumbers.{frame_number_is}
 use Rattle.vdcp_value.specs.Bcd.{bcd_of_label, bcd_fault, label_fault}

@@ -1,3 +1,4 @@
+-- A frame number, counted in the list of the day, is that of the formula.
 use Rattle.std.proofs.Common.{ℕ, zero, suc, ◌+◌, ◌<◌, ◌≤◌, ◌≡◌, Bool, true, length, map, arith, refl, sym, ap, ◌∙◌, subst, inl, inr, eq-or-lt_of_le}
 use Rattle.std.specs.List.{range_with_len, list_any}
 use Rattle.vdcp_value.proofs.Day.{among-blocks, among-filter, number_in}

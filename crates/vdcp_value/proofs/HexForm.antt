@@ -1,3 +1,4 @@
+-- The hexadecimal form of some bytes is theirs alone.
 use Rattle.std.proofs.Common.{ℕ, List, [], ◌∷◌, ◌*◌, ◌/◌, ◌%◌, ◌<◌, ◌≡◌, Bool, true, nat_eq, nat_lt, length, drop, get_or, arith, refl, sym, ap, ap₂, ◌∙◌}
 use Rattle.std.specs.List.{flat_map, list_all}
 use Rattle.vdcp_value.proofs.Bytes.{both_hold}

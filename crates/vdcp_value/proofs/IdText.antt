@@ -1,3 +1,4 @@
+-- The plain form of some bytes, and their one text.
 use Rattle.std.proofs.Common.{ℕ, zero, suc, List, [], ◌∷◌, ◌++◌, ◌+◌, ◌-◌, ◌≤◌, ◌≡◌, inl, inr, true, false, nat_eq, length, take, drop, replicate, get_or, arith, refl, sym, ap, ◌∙◌, subst, if◌then◌else◌, length-append, append-nil, take_all, true≢false}
 use Rattle.std.specs.List.{list_all}
 use Rattle.std.proofs.lemmas.List.{length-replicate, take_more}

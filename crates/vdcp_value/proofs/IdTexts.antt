@@ -1,3 +1,4 @@
+-- An ID's text is no other's, and a text that is refused is no ID's.
 use Rattle.std.proofs.Common.{ℕ, List, ◌-◌, ◌≤◌, ◌≡◌, inl, inr, true, length, drop, arith, sym, ap, ◌∙◌, subst, true≢false, Ok, Err, Result, IfOk, IfErr}
 use Rattle.std.specs.List.{list_all}
 use Rattle.std.proofs.lemmas.List.Folds.{list_all_at}

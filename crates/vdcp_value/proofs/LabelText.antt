@@ -1,3 +1,4 @@
+-- A text of eleven bytes writes one label.
 use Rattle.std.proofs.Common.{ℕ, ◌+◌, ◌/◌, ◌%◌, ◌<◌, ◌≡◌, List, [], ◌∷◌, length, get_or, true, arith, refl, sym, ap, ◌∙◌}
 use Rattle.vdcp_value.proofs.Bcd.{lawful_two_digits}
 use Rattle.vdcp_value.proofs.Timecodes.{same_timecode}

@@ -1,3 +1,4 @@
+-- The list of the day holds the lawful labels, each once.
 use Rattle.std.proofs.Common.{ℕ, zero, suc, List, [], ◌∷◌, ◌+◌, ◌<◌, ◌≡◌, Bool, true, ◌&&◌, map, filter, arith, refl, sym, ap, ◌∙◌, subst, inl, inr}
 use Rattle.std.proofs.lemmas.List.Folds.{list_all-append}
 use Rattle.std.specs.List.{flat_map, range_with_len, list_any, list_all}

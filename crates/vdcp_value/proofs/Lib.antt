@@ -15,3 +15,4 @@ pub mod Lawful
 pub mod OneFault
 pub mod Ascii
 pub mod Parts
+pub mod TextBytes

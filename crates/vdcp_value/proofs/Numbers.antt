@@ -1,3 +1,4 @@
+-- The lawful labels of a second, a minute, an hour and the day are numbered by a formula.
 use Rattle.std.proofs.Common.{ℕ, zero, suc, List, ◌+◌, ◌*◌, ◌/◌, ◌%◌, ◌<◌, ◌≤◌, ◌≡◌, Bool, true, false, not, nat_eq, length, map, filter, arith, refl, sym, ◌∙◌, subst, if◌then◌else◌, inl, inr}
 use Rattle.std.specs.List.{flat_map, range_with_len}
 use Rattle.vdcp_value.proofs.Day.{CountsFrom, both_ways, counts-blocks, counts-frames, filter-frames, filter-blocks}

@@ -1,3 +1,4 @@
+-- A text is refused with one fault only, and an own text with none.
 use Rattle.std.proofs.Common.{ℕ, List, ◌-◌, ◌<◌, ◌≤◌, ◌≡◌, true, false, length, take, drop, get_or, nat_eq, nat_lt, arith, refl, sym, ap, ◌∙◌, inl, inr, true≢false, ◌⊎◌, length-take, Some, None, if◌then◌else◌}
 use Rattle.std.proofs.lemmas.List.Folds.{list_all_at}
 use Rattle.std.proofs.lemmas.List.{get_or-take}

@@ -1,3 +1,4 @@
+-- What is known of a part that fits.
 use Rattle.std.proofs.Common.{◌+◌, ◌≤◌, ◌≡◌, true, ◌&&◌, nat_le, arith, Bool, ℕ}
 use Rattle.vdcp_value.specs.Bcd.{frames_in, is_time}
 use Rattle.vdcp_value.specs.Parts.{part_fits}

@@ -1,3 +1,4 @@
+-- The label at a frame's place among all labels of the day.
 use Rattle.std.proofs.Common.{ℕ, ◌+◌, ◌-◌, ◌*◌, ◌/◌, ◌%◌, ◌≡◌, arith, true, ◌∙◌}
 use Rattle.vdcp_value.proofs.FrameNumbers.{frame_number_is}
 use Rattle.vdcp_value.specs.Day.{frame_number}

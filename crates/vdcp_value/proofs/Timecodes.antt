@@ -1,3 +1,4 @@
+-- Time codes of one rate and label are one.
 use Rattle.std.proofs.Common.{◌≡◌, ◌<◌, true}
 use Rattle.vdcp_value.proofs.FrameNumbers.{frame_number_below}
 use Rattle.vdcp_value.specs.Day.{frames_of_day}

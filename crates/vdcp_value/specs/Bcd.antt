@@ -1,3 +1,4 @@
+-- A label in four packed bytes, the first fault of such bytes, and the frame number that they say.
 use Rattle.std.specs.Prelude.{ℕ, ◌+◌, ◌*◌, ◌/◌, ◌%◌, Bool, ◌&&◌, not, nat_lt, List, [], ◌∷◌, Option, Some, None, is_none, slice_index, if◌then◌else◌}
 use Rattle.vdcp_value.specs.Day.{frame_number}
 use Rattle.vdcp_value.specs.Labels.{frames_per_second, is_dropped}

@@ -1,3 +1,4 @@
+-- Lists of so many bytes.
 use Rattle.std.specs.Prelude.{ℕ, List, length, nat_lt, nat_eq, ◌&&◌, Bool, IsTrue}
 use Rattle.std.specs.List.{list_all}
 

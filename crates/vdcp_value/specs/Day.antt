@@ -1,3 +1,4 @@
+-- The labels of a day in order, and the frame number of a label.
 use Rattle.std.specs.List.{flat_map, list_any, range_with_len}
 use Rattle.std.specs.Prelude.{ℕ, suc, List, [], ◌∷◌, ◌&&◌, map, filter, not, nat_eq, Bool, IsTrue, if◌then◌else◌}
 use Rattle.vdcp_value.specs.Labels.{frames_per_second, is_dropped}

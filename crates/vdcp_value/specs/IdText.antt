@@ -1,5 +1,6 @@
+-- The two forms of an ID's text, when a text is refused, and the bytes that a text stands for.
 use Rattle.std.specs.List.{flat_map, list_all}
-use Rattle.std.specs.Prelude.{ℕ, ◌+◌, ◌-◌, ◌/◌, ◌%◌, ◌<◌, ◌≤◌, ◌≡◌, ◌⊎◌, Bool, ◌&&◌, ◌||◌, not, nat_le, nat_lt, nat_eq, IsTrue, IsFalse, List, [], ◌∷◌, ◌++◌, length, take, drop, replicate, slice_index, if◌then◌else◌}
+use Rattle.std.specs.Prelude.{ℕ, ◌+◌, ◌*◌, ◌-◌, ◌/◌, ◌%◌, ◌<◌, ◌≤◌, ◌≡◌, ◌⊎◌, Bool, ◌&&◌, ◌||◌, not, nat_le, nat_lt, nat_eq, IsTrue, IsFalse, List, [], ◌∷◌, ◌++◌, length, take, drop, replicate, slice_index, if◌then◌else◌}
 use Rattle.vdcp_value.specs.Bytes.{AreBytes}
 use Rattle.vdcp_value.specs.declared.faults.IdFault.TheVariants.{Empty, TooLong, BadByte, EdgeSpace, BadHex, HasPlainForm}
 use Rattle.vdcp_value.specs.declared.faults.IdFault.{IdFault}
@@ -76,3 +77,17 @@ without_end_spaces (byte ∷ rest) = kept_before byte (without_end_spaces rest)
 -- the one text of these bytes
 abbrev pub text_of_bytes : List ℕ → List ℕ
 text_of_bytes bytes = if is_plain (without_end_spaces bytes) then without_end_spaces bytes else hex_form bytes
+
+-- the number of a lower-case hexadecimal digit
+abbrev pub digit_number : ℕ → ℕ
+digit_number digit = if nat_lt digit 58 then digit - 48 else digit - 87
+
+-- the bytes of hexadecimal digits, two a byte
+abbrev pub bytes_of_digits : List ℕ → List ℕ
+bytes_of_digits [] = []
+bytes_of_digits (upper ∷ []) = []
+bytes_of_digits (upper ∷ lower ∷ rest) = (16 * digit_number upper + digit_number lower) ∷ bytes_of_digits rest
+
+-- the bytes that the text of an ID stands for
+abbrev pub bytes_of_text : List ℕ → List ℕ
+bytes_of_text text = if is_hex_long text then bytes_of_digits (drop 2 text) else padded text

@@ -1,3 +1,4 @@
+-- A label's text, and when a text is refused.
 use Rattle.std.specs.Prelude.{ℕ, ◌+◌, ◌/◌, ◌%◌, ◌≡◌, Bool, ◌&&◌, nat_lt, IsTrue, List, [], ◌∷◌, ◌++◌, Some}
 use Rattle.vdcp_value.specs.Bcd.{label_fault}
 use Rattle.vdcp_value.specs.declared.faults.TcFault.TheVariants.{NotBcd, OutOfRange, Dropped, Shape}

@@ -1,3 +1,4 @@
+-- The labels that stand for a frame at a rate.
 use Rattle.std.specs.Prelude.{ℕ, ◌%◌, Bool, false, not, ◌&&◌, nat_lt, nat_eq}
 use Rattle.vdcp_value.specs.declared.label.Label.{Label}
 use Rattle.vdcp_value.specs.declared.rate.Rate.{Rate}

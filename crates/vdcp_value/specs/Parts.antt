@@ -1,3 +1,4 @@
+-- Parts of clips and items: bytes, and when a part fits a clip.
 use Rattle.std.specs.Prelude.{◌+◌, Bool, ◌&&◌, nat_le, MatchOption}
 use Rattle.vdcp_value.specs.Bcd.{is_time, frames_in}
 use Rattle.vdcp_value.specs.Bytes.{AreBytes}

@@ -1,3 +1,4 @@
+-- What is seen of a time code: rate, label, frame number, bytes and text.
 use Rattle.std.specs.Prelude.{ℕ, List}
 use Rattle.vdcp_value.specs.Bcd.{bcd_of_label}
 use Rattle.vdcp_value.specs.Day.{frame_number}

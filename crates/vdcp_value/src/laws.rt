@@ -1,18 +1,23 @@
 //! The laws of the definitions in `specs/`. What a law says is the contract of its function, whose
 //! body does nothing; the last four read back what was written, for any value.
 
-ghost use Rattle.std.specs.Prelude.{◌≡◌, ◌<◌, ◌↔◌, IsTrue, List, ℕ, length, Ok, Some};
+ghost use Rattle.std.specs.Prelude.{◌≡◌, ◌+◌, ◌<◌, ◌≤◌, ◌↔◌, All, IsAscii, IsTrue, List, ℕ, length, Ok, Some};
+ghost use Rattle.vdcp_value.specs.Bcd.{frames_in, is_time, label_of_bcd};
 ghost use Rattle.vdcp_value.specs.Bytes.{AreBytes};
 ghost use Rattle.vdcp_value.specs.Day.{frames_of_day, lawful_labels, Stands};
 ghost use Rattle.vdcp_value.specs.IdText.{IsIdFault, IsTextOf};
-ghost use Rattle.vdcp_value.specs.Ids.{id_bytes, text_of_id};
+ghost use Rattle.vdcp_value.specs.Ids.{id_bytes, id_of, id_of_text, is_same_id, text_of_id};
 ghost use Rattle.vdcp_value.specs.LabelText.{IsTextFault};
 ghost use Rattle.vdcp_value.specs.Labels.{is_lawful};
-ghost use Rattle.vdcp_value.specs.Timecodes.{bcd_of, frames_of, rate_of, text_of};
+ghost use Rattle.vdcp_value.specs.Parts.{part_fits};
+ghost use Rattle.vdcp_value.specs.Timecodes.{bcd_of, frames_of, label_of, rate_of, text_of};
 ghost use Rattle.vdcp_value.specs.declared.clip_id.ClipId.{ClipId};
 ghost use Rattle.vdcp_value.specs.declared.faults.IdFault.{IdFault};
 ghost use Rattle.vdcp_value.specs.declared.faults.TcFault.{TcFault};
 ghost use Rattle.vdcp_value.specs.declared.label.Label.{Label};
+ghost use Rattle.vdcp_value.specs.declared.part.Part.{Part};
+ghost use Rattle.vdcp_value.specs.declared.rate.Rate.{Rate};
+ghost use Rattle.vdcp_value.specs.declared.timecode.Timecode.{Timecode};
 
 use crate::clip_id::ClipId;
 use crate::faults::{IdFault, TcFault};
@@ -20,26 +25,46 @@ use crate::rate::Rate;
 use crate::timecode::Timecode;
 use arrayvec::ArrayString;
 
-/// An ID is eight bytes, and equal bytes are one ID.
-pub fn an_id_is_its_bytes(a: &ClipId, b: &ClipId)
-    ensures eight { AreBytes 8 (id_bytes a.now) }
-    ensures one { id_bytes a.now ≡ id_bytes b.now → a.now ≡ b.now }
+/// A list of n bytes has n numbers, each below 256.
+pub fn bytes_are_counted()
+    ensures { (n : ℕ) (bytes : List ℕ) → AreBytes n bytes ↔ ((length bytes ≡ n) × All (λ byte. byte < 256) bytes) }
+{}
+
+/// An ID is eight bytes, equal bytes are one ID, and eight bytes are those of the ID that `id_of` gives.
+pub fn an_id_is_its_bytes()
+    ensures eight { (id : ClipId) → AreBytes 8 (id_bytes id) }
+    ensures one { (a b : ClipId) → id_bytes a ≡ id_bytes b → a ≡ b }
+    ensures same { (a b : ClipId) → IsTrue (is_same_id a b) ↔ (a ≡ b) }
+    ensures of_bytes { (bytes : List ℕ) → AreBytes 8 bytes → id_bytes (id_of bytes) ≡ bytes }
+    ensures of_id { (id : ClipId) → id_of (id_bytes id) ≡ id }
 {}
 
 /// Each ID has exactly one text.
-pub fn an_id_has_one_text(id: &ClipId)
-    ensures some { IsTextOf (text_of_id id.now) (id_bytes id.now) }
-    ensures one { (text : List ℕ) → IsTextOf text (id_bytes id.now) → text ≡ text_of_id id.now }
+pub fn an_id_has_one_text()
+    ensures some { (id : ClipId) → IsTextOf (text_of_id id) (id_bytes id) }
+    ensures one { (id : ClipId) (text : List ℕ) → IsTextOf text (id_bytes id) → text ≡ text_of_id id }
+{}
+
+/// An ID's text is 1 to 18 ASCII bytes.
+pub fn the_text_of_an_id_is_short()
+    ensures ascii { (id : ClipId) → IsAscii (text_of_id id) }
+    ensures some { (id : ClipId) → 1 ≤ length (text_of_id id) }
+    ensures most { (id : ClipId) → length (text_of_id id) ≤ 18 }
 {}
 
 /// A text is at most one ID's.
-pub fn a_text_is_of_one_id(a: &ClipId, b: &ClipId)
-    ensures { (text : List ℕ) → IsTextOf text (id_bytes a.now) → IsTextOf text (id_bytes b.now) → a.now ≡ b.now }
+pub fn a_text_is_of_one_id()
+    ensures { (a b : ClipId) (text : List ℕ) → IsTextOf text (id_bytes a) → IsTextOf text (id_bytes b) → a ≡ b }
+{}
+
+/// An ID's text says the ID: `id_of_text` gives it.
+pub fn a_text_says_its_id()
+    ensures { (id : ClipId) (text : List ℕ) → IsTextOf text (id_bytes id) → id_of_text text ≡ id }
 {}
 
 /// A text that is refused is no ID's.
-pub fn a_refused_text_is_no_ids(id: &ClipId)
-    ensures { (text : List ℕ) → (fault : IdFault) → IsIdFault text fault → ¬ IsTextOf text (id_bytes id.now) }
+pub fn a_refused_text_is_no_ids()
+    ensures { (id : ClipId) (text : List ℕ) (fault : IdFault) → IsIdFault text fault → ¬ IsTextOf text (id_bytes id) }
 {}
 
 /// A text is refused with one fault only.
@@ -55,17 +80,47 @@ pub fn a_day_has_its_lawful_labels(rate: Rate)
 {}
 
 /// At one rate a frame number, four bytes or a text are at most one time code's.
-pub fn a_time_code_is_one(a: &Timecode, b: &Timecode)
-    requires { rate_of a.now ≡ rate_of b.now }
-    ensures by_number { frames_of a.now ≡ frames_of b.now → a.now ≡ b.now }
-    ensures by_bytes { bcd_of a.now ≡ bcd_of b.now → a.now ≡ b.now }
-    ensures by_text { text_of a.now ≡ text_of b.now → a.now ≡ b.now }
+pub fn a_time_code_is_one()
+    ensures by_number { (a b : Timecode) → rate_of a ≡ rate_of b → frames_of a ≡ frames_of b → a ≡ b }
+    ensures by_bytes { (a b : Timecode) → rate_of a ≡ rate_of b → bcd_of a ≡ bcd_of b → a ≡ b }
+    ensures by_text { (a b : Timecode) → rate_of a ≡ rate_of b → text_of a ≡ text_of b → a ≡ b }
+{}
+
+/// The four bytes of a time code are bytes, they are lawful at its rate, and they write its label,
+/// so that they say its frame number.
+pub fn a_time_code_has_lawful_bytes()
+    ensures four { (timecode : Timecode) → AreBytes 4 (bcd_of timecode) }
+    ensures lawful { (timecode : Timecode) → IsTrue (is_time (rate_of timecode) (bcd_of timecode)) }
+    ensures label { (timecode : Timecode) → label_of_bcd (bcd_of timecode) ≡ label_of timecode }
+    ensures number { (timecode : Timecode) → frames_in (rate_of timecode) (bcd_of timecode) ≡ frames_of timecode }
+{}
+
+/// Four bytes that are lawful at a rate are those of a time code of that rate.
+pub fn lawful_bytes_are_a_time_codes()
+    ensures { (rate : Rate) (bytes : List ℕ) → AreBytes 4 bytes → IsTrue (is_time rate bytes) →
+        (timecode : Timecode) × (rate_of timecode ≡ rate) × (bcd_of timecode ≡ bytes) }
+{}
+
+/// A time code's text is eleven ASCII bytes.
+pub fn the_text_of_a_time_code_is_eleven_bytes()
+    ensures ascii { (timecode : Timecode) → IsAscii (text_of timecode) }
+    ensures eleven { (timecode : Timecode) → length (text_of timecode) ≡ 11 }
 {}
 
 /// A text that is refused at a rate is no time code's, and it has one fault only.
-pub fn a_refused_text_is_no_time_codes(timecode: &Timecode)
-    ensures none { (fault : TcFault) → ¬ IsTextFault (rate_of timecode.now) (text_of timecode.now) fault }
-    ensures one { (text : List ℕ) → (a b : TcFault) → IsTextFault (rate_of timecode.now) text a → IsTextFault (rate_of timecode.now) text b → a ≡ b }
+pub fn a_refused_text_is_no_time_codes()
+    ensures none { (timecode : Timecode) (fault : TcFault) → ¬ IsTextFault (rate_of timecode) (text_of timecode) fault }
+    ensures one { (rate : Rate) (text : List ℕ) (a b : TcFault) → IsTextFault rate text a → IsTextFault rate text b → a ≡ b }
+{}
+
+/// A part that fits a clip is two lawful time codes at the clip's rate, has at least one frame, and
+/// ends within the clip.
+pub fn a_part_that_fits_lies_within()
+    ensures start { (part : Part) (clip : Timecode) → IsTrue (part_fits part clip) → IsTrue (is_time (rate_of clip) part.start) }
+    ensures duration { (part : Part) (clip : Timecode) → IsTrue (part_fits part clip) → IsTrue (is_time (rate_of clip) part.duration) }
+    ensures some { (part : Part) (clip : Timecode) → IsTrue (part_fits part clip) → 1 ≤ frames_in (rate_of clip) part.duration }
+    ensures within { (part : Part) (clip : Timecode) → IsTrue (part_fits part clip) →
+        frames_in (rate_of clip) part.start + frames_in (rate_of clip) part.duration ≤ frames_of clip }
 {}
 
 /// The text of an ID is read back.

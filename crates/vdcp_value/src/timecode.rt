@@ -1,5 +1,5 @@
-ghost use Rattle.std.specs.Prelude.{IsTrue, ◌≡◌, ◌<◌, ◌↔◌, length, IsSome, IfSome, IfOk, IfErr, Some, Ok, IsFalse, ℕ, ◌+◌, ◌≤◌, ◌≢◌, List, [], ◌∷◌, ◌++◌, IfNone};
-ghost use Rattle.vdcp_value.specs.Bcd.{is_bcd, bcd_byte, bcd_value, bcd_fault};
+ghost use Rattle.std.specs.Prelude.{IsTrue, ◌≡◌, ◌<◌, ◌↔◌, length, IsSome, IfSome, IfOk, IfErr, Some, Ok, IsFalse, ℕ, ◌+◌, ◌≤◌, ◌≢◌, List, [], ◌∷◌, ◌++◌, IfNone, IsOk};
+ghost use Rattle.vdcp_value.specs.Bcd.{is_bcd, bcd_byte, bcd_value, bcd_fault, frames_in, is_time};
 ghost use Rattle.arrayvec.specs.ArrayString.{array_string_len};
 ghost use Rattle.vdcp_value.specs.LabelText.{Writes, IsTextFault, two_digits, frames_mark};
 ghost use Rattle.vdcp_value.specs.Day.{lawful_labels, frames_of_day};
@@ -73,9 +73,12 @@ impl Timecode {
 
     /// Reads what `to_bcd` gives. The first fault that applies is given, in the order `NotBcd`,
     /// `OutOfRange`, `Dropped`.
+    #[tactic(auto, using(crate::proofs::Bcd::read_frames))]
     pub fn from_bcd(rate: Rate, bytes: [u8; 4]) -> Result<Timecode, TcFault>
         ensures same_rate { IfOk result (λ timecode. rate_of timecode ≡ rate) }
         ensures read { IfOk result (λ timecode. bcd_of timecode ≡ bytes) }
+        ensures number { IfOk result (λ timecode. frames_of timecode ≡ frames_in rate bytes) }
+        ensures lawful { IsOk result ↔ IsTrue (is_time rate bytes) }
         ensures accepts { (timecode : Timecode) → rate_of timecode ≡ rate → bcd_of timecode ≡ bytes → result ≡ Ok timecode }
         ensures refused { IfErr result (λ fault. bcd_fault rate bytes ≡ Some fault) }
     {

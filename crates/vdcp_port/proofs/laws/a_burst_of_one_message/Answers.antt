@@ -1,4 +1,4 @@
-use Rattle.vdcp_port.proofs.OneMessage.{sent_for_one, aired_for_one, after_one}
+use Rattle.vdcp_port.proofs.FewMessages.{sent_for_one, aired_for_one, after_one}
 use Rattle.vdcp_port.proofs.laws.a_burst_of_one_message.Goals as goal
 
 pub returns-clause-sent : goal.returns-clause-sent

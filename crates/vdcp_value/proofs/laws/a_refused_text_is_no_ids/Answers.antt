@@ -3,4 +3,4 @@ use Rattle.vdcp_value.proofs.laws.a_refused_text_is_no_ids.Goals as goal
 use Rattle.vdcp_value.specs.Ids.{id_bytes}
 
 pub returns : goal.returns
-returns c = λ text fault h t. not_both text (id_bytes c.args.id.now) fault c.args.id.now.eight h t
+returns c = λ id text fault h t. not_both text (id_bytes id) fault id.eight h t

@@ -1,26 +1,19 @@
 use Rattle.std.proofs.Common.{arith}
 use Rattle.vdcp_frame.specs.Message.{content_of}
 use Rattle.vdcp_port.proofs.Answering.{answers_more}
-use Rattle.vdcp_port.proofs.Sizes.{short_for_message, one_item_for_five, size_of_range}
+use Rattle.vdcp_port.proofs.Sizes.{short_for_message, size_of_range}
 use Rattle.vdcp_port.proofs.port.Port.answer_messages.Goals as goal
 
-pub answer_message-requires-clause-room : goal.answer_message-requires-clause-room
-answer_message-requires-clause-room g c =
+pub answer_message-requires : goal.answer_message-requires
+answer_message-requires g c =
     let short = short_for_message c.messages.self (content_of c.in-Message.message) _ c.in-Message.ensures.message in
     let size = size_of_range c.args.burst.now c.messages.from c.in-Message.next c.in-Message.ensures.further.0 c.in-Message.ensures.further.2 in
     omega (arith, short, size, c.in-Message.ensures.further, c.messages.invariant.room)
-
-pub answer_message-requires-clause-item_room : goal.answer_message-requires-clause-item_room
-answer_message-requires-clause-item_room g c =
-    let one = one_item_for_five c.messages.self (content_of c.in-Message.message) _ c.in-Message.ensures.message in
-    let size = size_of_range c.args.burst.now c.messages.from c.in-Message.next c.in-Message.ensures.further.0 c.in-Message.ensures.further.2 in
-    omega (arith, one, size, c.in-Message.ensures.further, c.messages.invariant.item_room)
 
 pub messages-preserved : goal.messages-preserved
 messages-preserved g c =
     let message = content_of c.in-Message.message in
     let short = short_for_message c.messages.self message _ c.in-Message.ensures.message in
-    let one = one_item_for_five c.messages.self message _ c.in-Message.ensures.message in
     let size = size_of_range c.args.burst.now c.messages.from c.in-Message.next c.in-Message.ensures.further.0 c.in-Message.ensures.further.2 in
     let walked = c.messages.invariant.walked in
     record {
@@ -30,8 +23,7 @@ messages-preserved g c =
         messages = _;
         answered = answers_more _ _ _ _ _ _ _ _ _ _ _ walked.messages message walked.answered
             (c.in-Message.ensures.next walked.messages walked.answered.spelt)
-            c.answer_message.ensures.sent c.answer_message.ensures.aired c.answer_message.ensures.next;
+            c.answer_message.ensures.sent c.answer_message.ensures.aired c.answer_message.ensures.next c.or-aired.ensures;
       };
-      room = omega (arith, short, size, c.answer_message.ensures.len, c.answer_message.ensures.capacity, c.messages.invariant.room, c.in-Message.ensures.further);
-      item_room = omega (arith, one, size, c.answer_message.ensures.item_len, c.answer_message.ensures.item_capacity, c.messages.invariant.item_room, c.in-Message.ensures.further);
+      room = omega (arith, short, size, c.answer_message.ensures.room, c.messages.invariant.room, c.in-Message.ensures.further);
     }

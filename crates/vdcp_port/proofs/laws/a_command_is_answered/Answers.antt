@@ -1,0 +1,5 @@
+use Rattle.vdcp_port.proofs.Readable.{answered_row}
+use Rattle.vdcp_port.proofs.laws.a_command_is_answered.Goals as goal
+
+pub returns : goal.returns
+returns c = answered_row

@@ -1,0 +1,47 @@
+use arrayvec::ArrayVec;
+use std::alloc::Allocator;
+
+/// Where answers go as long as there is room.
+pub(crate) trait Sink {
+    ghost use Rattle.std.specs.Prelude.{ℕ, ◌≡◌, ◌+◌, ◌≤◌, ◌++◌, List, length};
+
+    /// The bytes that it holds.
+    ghost written: { Self → List ℕ };
+
+    /// For so many bytes more there is room.
+    ghost room: { Self → ℕ };
+
+    /// Appends bytes where there is room for them.
+    fn append(&mut self, bytes: &[u8])
+        requires { length bytes.now ≤ room self.old }
+        ensures written { written self.new ≡ written self.old ++ bytes.now }
+        ensures room { room self.old ≤ room self.new + length bytes.now };
+}
+
+impl<A: Allocator> Sink for Vec<u8, A> {
+    ghost use Rattle.std.specs.Prelude.{◌-◌};
+    ghost use Rattle.std.specs.Vec.{vec_len, vec_capacity};
+
+    ghost written = { λ v. v.items };
+
+    ghost room = { λ v. vec_capacity v - vec_len v };
+
+    fn append(&mut self, bytes: &[u8]) {
+        self.extend_from_slice(bytes).unwrap();
+    }
+}
+
+impl<const N: usize> Sink for ArrayVec<u8, N> {
+    ghost use Rattle.std.specs.Prelude.{◌-◌};
+    ghost use Rattle.arrayvec.specs.ArrayVec.{array_vec_len};
+
+    ghost written = { λ v. v.items };
+
+    ghost room = { λ v. N - array_vec_len v };
+
+    fn append(&mut self, bytes: &[u8]) {
+        // It holds N bytes at most.
+        let _ = self.len();
+        self.try_extend_from_slice(bytes).unwrap();
+    }
+}
