@@ -1,3 +1,4 @@
+pub mod Below
 pub mod Cutting
 pub mod Taking
 pub mod Standing

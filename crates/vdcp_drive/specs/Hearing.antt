@@ -1,6 +1,6 @@
 -- One command that an automation sends, and one listen for the answer.
 use Rattle.std.specs.Prelude.{ℕ, ◌≡◌, Bool, true, false, List, [], ◌∷◌, ◌++◌, Option, None, Some}
-use Rattle.vdcp_frame.specs.Message.{Content, AreBytes, spelling}
+use Rattle.vdcp_frame.specs.Message.{Content, AreOctets, spelling}
 use Rattle.vdcp_frame.specs.Progress.{Progress, reading}
 use Rattle.vdcp_frame.specs.Reader.{Follows}
 use Rattle.vdcp_words.specs.Commands.{command_message}
@@ -9,7 +9,7 @@ use Rattle.vdcp_auto.specs.Plan.{Plan, View}
 use Rattle.vdcp_auto.specs.Turn.{given, ticked, came_to}
 use Rattle.vdcp_auto.specs.declared.exchange.Heard.{Heard}
 use Rattle.vdcp_auto.specs.declared.phase.State.{State}
-use Rattle.vdcp_drive.specs.Heard.{heard_first}
+use Rattle.vdcp_auto.specs.Heard.{heard_first}
 use Rattle.vdcp_drive.specs.Wires.{Arrival, bytes, silence, close, Told, adds_sent, adds_drop, SendsFront}
 
 -- an automation: its controller, the unit address of the server, its wire, how far its reader is in the
@@ -70,6 +70,6 @@ pub record HasReceived (plan : Plan) (state : State) (heard : Option Heard) (sta
 
 -- what a listen does with what came: at a silence and at a close the burst has ended
 abbrev pub Hears : Plan → ℕ → Arrival → State → Progress → Option Heard → State → Progress → Option Heard → Type 0
-Hears plan unit (bytes piece) state reader heard state' reader' heard' = (state' ≡ state) × AreBytes piece × HasHeard unit reader heard piece reader' heard'
+Hears plan unit (bytes piece) state reader heard state' reader' heard' = (state' ≡ state) × AreOctets piece × HasHeard unit reader heard piece reader' heard'
 Hears plan unit silence state reader heard state' reader' heard' = HasReceived plan state heard state' reader' heard'
 Hears plan unit close state reader heard state' reader' heard' = HasReceived plan state heard state' reader' heard'

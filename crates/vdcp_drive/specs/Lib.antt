@@ -3,7 +3,5 @@ pub mod Bursts
 pub mod Lines
 pub mod Serving
 pub mod Served
-pub mod Heard
-pub mod After
 pub mod Hearing
 pub mod Driven

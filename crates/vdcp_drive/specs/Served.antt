@@ -1,13 +1,12 @@
 -- What a server sends for all that came to it, and the port that this leaves.
 use Rattle.std.specs.Prelude.{ℕ, ◌≡◌, List, [], ◌∷◌, ◌++◌}
 use Rattle.vdcp_frame.specs.Burst.{messages_of, end_of}
-use Rattle.vdcp_frame.specs.Message.{Content, AreBytes}
+use Rattle.vdcp_frame.specs.Message.{Content, AreOctets}
 use Rattle.vdcp_frame.specs.Progress.{Progress}
 use Rattle.vdcp_frame.specs.Reader.{Follows}
-use Rattle.vdcp_port.specs.Answers.{after_messages, answer_bytes, bytes_for, end_answers, sent_for, after_burst}
+use Rattle.vdcp_port.specs.Answers.{after_messages, answer_bytes, bytes_for, bytes_for_all, end_answers, sent_for, after_burst}
 use Rattle.vdcp_port.specs.Clock.{ClockedPort, after_frame}
 use Rattle.vdcp_drive.specs.Bursts.{ended_bursts, open_burst}
-use Rattle.vdcp_drive.specs.Serving.{bytes_to}
 use Rattle.vdcp_drive.specs.Wires.{Arrival, silence, Told}
 
 -- the port behind ended bursts: each is answered, and then a frame passes
@@ -27,7 +26,7 @@ port_before p came = after_bursts p (ended_bursts came)
 -- all that is sent: the answers to the bursts that a silence ended, and of the one that hasn't ended
 -- the answers to its whole messages
 abbrev pub served : ClockedPort → List Arrival → List ℕ
-served p came = sent_for_bursts p (ended_bursts came) ++ bytes_to (port_before p came) (messages_of (open_burst came))
+served p came = sent_for_bursts p (ended_bursts came) ++ bytes_for_all (port_before p came) (messages_of (open_burst came))
 
 -- the port that this leaves
 abbrev pub port_after : ClockedPort → List Arrival → ClockedPort
@@ -37,7 +36,7 @@ port_after p came = after_burst (port_before p came) (open_burst came)
 pub record IsServed (start : ClockedPort) (told : Told) (port : ClockedPort) (reader : Progress) : Type 0 where
   pub sent_is : told.sent ≡ served start told.came
   pub port_is : port ≡ port_after start told.came
-  pub bytes_fit : AreBytes (open_burst told.came)
+  pub bytes_fit : AreOctets (open_burst told.came)
   pub follows : Follows (open_burst told.came) (messages_of (open_burst told.came)) reader
 
 -- The wire failed at one of three places.
@@ -57,7 +56,7 @@ pub record BrokeInAnswer (start : ClockedPort) (told : Told) (port : ClockedPort
   pub front : List ℕ
   pub rest : List ℕ
   pub answer : bytes_for (after_messages (port_before start told.came) before) message ≡ front ++ rest
-  pub sent_is : told.sent ≡ sent_for_bursts start (ended_bursts told.came) ++ (bytes_to (port_before start told.came) before ++ front)
+  pub sent_is : told.sent ≡ sent_for_bursts start (ended_bursts told.came) ++ (bytes_for_all (port_before start told.came) before ++ front)
   pub port_is : port ≡ after_messages (port_before start told.came) (before ++ message ∷ [])
 
 -- in the answer to a burst's end: a beginning of this answer is sent, and no frame has passed

@@ -14,10 +14,12 @@
 //! ```
 #![tactic(auto)]
 
+mod automation;
 mod line;
 mod server;
 mod wire;
 
+pub use automation::AutoDriver;
 pub use line::{DriveFault, Line, Ran};
 pub use server::Server;
 pub use wire::{Came, Wire, WireFault};

@@ -1,21 +1,22 @@
 ghost use Rattle.std.specs.Option.{option_to_list};
-ghost use Rattle.std.specs.Prelude.{◌≡◌, ◌<◌, ◌≤◌, ◌↔◌, ◌⊎◌, ◌++◌, [], ◌∷◌, List, ℕ, length, take, OnOk, OnErr, IfOk, IsErr, Some, None, Option};
-ghost use Rattle.vdcp_value.specs.declared.part.Item.{Item as AnItem};
-ghost use Rattle.vdcp_frame.specs.Message.{content_of, AreBytes};
+ghost use Rattle.std.specs.Prelude.{◌≡◌, ◌<◌, ◌≤◌, ◌↔◌, ◌⊎◌, ◌++◌, [], ◌∷◌, List, ℕ, length, take, OnOk, OnErr, IfOk, IsErr, Some, None};
+ghost use Rattle.vdcp_frame.specs.Message.{content_of, AreOctets};
 ghost use Rattle.vdcp_frame.specs.Progress.{reading};
-ghost use Rattle.vdcp_port.specs.Answers.{answer_bytes, bytes_for};
-ghost use Rattle.vdcp_port.specs.Clock.{ClockedPort, after_message, aired_by};
+ghost use Rattle.vdcp_port.specs.Answers.{answer_bytes, bytes_for, items_for};
+ghost use Rattle.vdcp_port.specs.Clock.{ClockedPort, after_message};
 ghost use Rattle.vdcp_drive.specs.Lines.{line_of, ServesTo};
 ghost use Rattle.vdcp_drive.specs.Served.{IsServed, IsPartlySent, HasBrokenOff, served, port_after};
-ghost use Rattle.vdcp_drive.specs.Serving.{HasTaken, HasBroken, HasEnded, HasEndBroken, Serves, Breaks, reply_at_end, last_aired};
+ghost use Rattle.vdcp_drive.specs.Serving.{HasTaken, HasBroken, HasEnded, HasEndBroken, Serves, Breaks, last_aired};
 ghost use Rattle.vdcp_drive.specs.Wires.{Arrival, Told, IfTold, MayCome, nothing_told, adds_sent, adds_came, SendsFront};
 
 use crate::line::{DriveFault, Line, Ran};
 use crate::wire::{Came, Wire, WireFault};
 use arrayvec::ArrayVec;
 use std::marker::Model;
-use vdcp_frame::{Ended, Got, Message, Reader, write};
-use vdcp_port::{Catalogue, Port};
+use vdcp_frame::laws as bursts;
+use vdcp_frame::{Got, Message, Reader, write};
+use vdcp_port::laws as answers;
+use vdcp_port::{Catalogue, Port, reply_at_end};
 use vdcp_value::Item;
 use vdcp_words::Reply;
 
@@ -102,6 +103,13 @@ impl<C: Catalogue, W: Wire> Server<C, W> {
         ensures device { IsErr result ↔ (W.failures self.new.wire ≡ 1) }
         ensures stays { W.failures self.old.wire ≡ 1 → OnErr result (self.new ≡ self.old) }
     {
+        bursts::one_reading();
+        bursts::what_is_followed_is_read();
+        answers::messages_after_messages();
+        answers::one_alone();
+        answers::a_burst_is_answered_as_it_ended();
+        answers::one_answer_to_the_end();
+        answers::the_unit_stays();
         if self.failed {
             return Err(DriveFault::Device);
         }
@@ -156,10 +164,11 @@ fn take<C: Catalogue, W: Wire>(
     requires { W.failures wire.old ≡ 0 }
     ensures taken { OnOk result (HasTaken port.old reader.old aired.old (W.told wire.old) piece.now port.new reader.new aired.new (W.told wire.new)) }
     ensures broken { OnErr result (HasBroken port.old reader.old aired.old (W.told wire.old) piece.now port.new aired.new (W.told wire.new)) }
-    ensures fits { AreBytes piece.now }
+    ensures fits { AreOctets piece.now }
     ensures works { OnOk result (W.failures wire.new ≡ 0) }
     ensures failed { OnErr result (W.failures wire.new ≡ 1) }
 {
+    answers::messages_after_messages();
     let mut at = 0;
     'piece: while at < piece.len() {
         at += take_some(reader, port, aired, wire, &piece[at..])?;
@@ -183,6 +192,8 @@ fn take_some<C: Catalogue, W: Wire>(
     ensures works { OnOk result (W.failures wire.new ≡ 0) }
     ensures failed { OnErr result (W.failures wire.new ≡ 1) }
 {
+    bursts::what_is_fed_is_followed();
+    answers::one_alone();
     let (taken, got) = reader.feed(piece);
     match got {
         Got::Message(message) => answer(port, aired, wire, &message)?,
@@ -203,7 +214,7 @@ fn answer<C: Catalogue, W: Wire>(
     ensures sent { OnOk result (W.told wire.new ≡ adds_sent (bytes_for port.old (content_of message.now)) (W.told wire.old)) }
     ensures front { OnErr result (SendsFront (bytes_for port.old (content_of message.now)) (W.told wire.old) (W.told wire.new)) }
     ensures next { port.new ≡ after_message port.old (content_of message.now) }
-    ensures airs { aired.new ≡ last_aired aired.old (option_to_list (aired_by port.old (content_of message.now))) }
+    ensures airs { aired.new ≡ last_aired aired.old (items_for port.old (content_of message.now)) }
     ensures works { OnOk result (W.failures wire.new ≡ 0) }
     ensures failed { OnErr result (W.failures wire.new ≡ 1) }
 {
@@ -230,16 +241,6 @@ fn end_burst<C: Catalogue, W: Wire>(
     send_reply(reply_at_end(reader.silence()), port.unit(), wire)?;
     port.frame();
     Ok(())
-}
-
-fn reply_at_end(ended: Ended) -> Option<Reply>
-    ensures { result ≡ reply_at_end ended }
-{
-    match ended {
-        Ended::Clean => None,
-        Ended::Cut(_) => Some(Reply::Nak(0x80)),
-        Ended::AfterFault => Some(Reply::Nak(0x04)),
-    }
 }
 
 // Sends the bytes of a reply, if there is one.
