@@ -11,9 +11,9 @@ use Rattle.vdcp_auto.specs.declared.exchange.Input.TheVariants as input
 use Rattle.vdcp_auto.specs.declared.phase.Stage.{Stage}
 use Rattle.vdcp_auto.specs.declared.phase.Stage.TheVariants.{Ready, Awaiting, Ended}
 use Rattle.vdcp_auto.specs.declared.phase.State.{State}
-use Rattle.vdcp_auto.specs.Course.{course_from, course, after_input, ended_by_input, after_inputs_from, after_inputs, Tick, Receive, Take, Stop, logged, Reached, called}
+use Rattle.vdcp_auto.specs.Course.{course_from, after_input, ended_by_input, after_inputs_from, Tick, Receive, Take, Stop, logged, Reached, called}
 use Rattle.vdcp_auto.specs.Plan.{Plan}
-use Rattle.vdcp_auto.specs.Turn.{start, is_ready, tick_in, ticked, awaited_in, awaited, ended_in, exchange_of, ended_by, came_to, taken, stopped}
+use Rattle.vdcp_auto.specs.Turn.{is_ready, tick_in, ticked, awaited_in, awaited, ended_in, exchange_of, ended_by, came_to, taken, stopped}
 
 if_so : {A : Type 0} (b : Bool) (xs ys : List A) → b ≡ true → (if b then xs else ys) ≡ xs
 if_so true xs ys is = refl
@@ -44,12 +44,15 @@ came_same plan came s is = ap (λ c. option_map_or (λ e. ended_in plan s.stage 
 over_came : (plan : Plan) (came : Option Heard) (s : State) → IsOver plan s.stage → came_to plan came (ticked s) ≡ s
 over_came plan came s over = ap (came_to plan came) (tick_same s.stage s over.0) ∙ came_same plan came s over.1
 
+over_awaits : (plan : Plan) (s : State) → IsOver plan s.stage → is_some (awaited plan (ticked s)) ≡ false
+over_awaits plan s over = ap is_some (ap (awaited plan) (tick_same s.stage s over.0) ∙ over.1)
+
 over_course : (plan : Plan) (inputs : List Input) (s : State) → IsOver plan s.stage → course_from plan s inputs ≡ []
 over_course plan [] s over = refl
 over_course plan (input.Take ∷ inputs) s over = over_course plan inputs (taken s) over
 over_course plan (input.Stop ∷ inputs) s over = over_course plan inputs (stopped s) over
-over_course plan (input.Heard h ∷ inputs) s over = if_not (is_some (awaited plan (ticked s))) _ [] (ap is_some (ap (awaited plan) (tick_same s.stage s over.0) ∙ over.1))
-over_course plan (input.Silence ∷ inputs) s over = if_not (is_some (awaited plan (ticked s))) _ [] (ap is_some (ap (awaited plan) (tick_same s.stage s over.0) ∙ over.1))
+over_course plan (input.Heard h ∷ inputs) s over = if_not (is_some (awaited plan (ticked s))) _ [] (over_awaits plan s over)
+over_course plan (input.Silence ∷ inputs) s over = if_not (is_some (awaited plan (ticked s))) _ [] (over_awaits plan s over)
 
 -- Where something comes, or silence.
 
@@ -96,11 +99,13 @@ logged_first : (log : List Exchange) (o : Option Exchange) (more : List Exchange
 logged_first log None more = refl
 logged_first log (Some e) more = append_assoc log (e ∷ []) more
 
-pub course_more : (plan : Plan) (xs : List Input) (x : Input) → course plan (xs ++ x ∷ []) ≡ logged (course plan xs) (ended_by_input plan (after_inputs plan xs) x)
-course_more plan xs x =
-    let s = after_inputs plan xs in
-    course_joined plan xs (x ∷ []) start ∙ ap (λ more. course plan xs ++ more) (course_input plan x [] s)
-    ∙ sym (logged_first (course plan xs) (ended_by_input plan s x) []) ∙ append-nil (logged (course plan xs) (ended_by_input plan s x))
+pub course_more : (plan : Plan) (s : State) (xs : List Input) (x : Input)
+    → course_from plan s (xs ++ x ∷ []) ≡ logged (course_from plan s xs) (ended_by_input plan (after_inputs_from plan s xs) x)
+course_more plan s xs x =
+    let before = course_from plan s xs in
+    let left = after_inputs_from plan s xs in
+    course_joined plan xs (x ∷ []) s ∙ ap (λ more. before ++ more) (course_input plan x [] left)
+    ∙ sym (logged_first before (ended_by_input plan left x) []) ∙ append-nil (logged before (ended_by_input plan left x))
 
 -- What a course leaves is reached.
 

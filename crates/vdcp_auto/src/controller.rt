@@ -12,6 +12,8 @@ use std::marker::Model;
 use vdcp_words::Command;
 
 mod table;
+#[cfg(test)]
+mod tests;
 
 /// Plays a list through one port.
 ///
@@ -19,7 +21,7 @@ mod table;
 /// false, `hear` takes what came, or `timeout` says that nothing did; and so on until `outcome`
 /// answers. `take` and `stop` are the operator's and may come at any time.
 ///
-/// - `settled`, `outcome`, `awaiting`, `awaited`, `is_confirming` and `source` only look.
+/// - `settled`, `outcome`, `is_ready`, `awaiting`, `awaited`, `is_confirming` and `source` only look.
 /// - `hear` and `timeout` bring in what happens on the line; `receive` does both, and gives the
 ///   exchange that ended.
 /// - `take` and `stop` are commands of the operator.
@@ -88,6 +90,14 @@ impl<S: Source> Controller<S> {
         ensures { IsTrue result ↔ (self.now.mode ≡ Mode.Confirming) }
     {
         self.mode == Mode::Confirming
+    }
+
+    /// A tick gives a command: nothing is awaited, and the controller hasn't ended.
+    pub fn is_ready(&self) -> bool
+        ensures ready { result ≡ turns.is_ready self.now.state.stage }
+        ensures given { result ≡ is_some (turns.given (plan_of S.items self.now) self.now.state) }
+    {
+        matches!(self.state.stage, Stage::Ready(_))
     }
 
     /// A command was given, and its exchange hasn't ended.

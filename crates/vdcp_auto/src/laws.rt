@@ -41,17 +41,20 @@ pub fn commands_can_be_written()
         IfSome (given plan state) IsWritableCommand }
 {}
 
-/// The course of inputs behind others is that of the controller which the others leave; and one more
-/// input adds the exchange that it ends, if it ends one, at the end.
+/// From whatever state, so from a new controller's: the course of inputs behind others is that of the
+/// controller which the others leave; and one more input adds the exchange that it ends, if it ends
+/// one, at the end.
 pub fn courses_follow_one_another()
-    ensures course { (plan : Plan) (xs ys : List Input) →
-        course plan (xs ++ ys) ≡ course plan xs ++ course_from plan (after_inputs plan xs) ys }
-    ensures left { (plan : Plan) (xs ys : List Input) →
-        after_inputs plan (xs ++ ys) ≡ after_inputs_from plan (after_inputs plan xs) ys }
-    ensures one_more { (plan : Plan) (xs : List Input) (x : Input) →
-        course plan (xs ++ x ∷ []) ≡ logged (course plan xs) (ended_by_input plan (after_inputs plan xs) x) }
-    ensures left_by_one_more { (plan : Plan) (xs : List Input) (x : Input) →
-        after_inputs plan (xs ++ x ∷ []) ≡ after_input plan (after_inputs plan xs) x }
+    ensures course { (plan : Plan) (state : State) (xs ys : List Input) →
+        course_from plan state (xs ++ ys)
+        ≡ course_from plan state xs ++ course_from plan (after_inputs_from plan state xs) ys }
+    ensures left { (plan : Plan) (state : State) (xs ys : List Input) →
+        after_inputs_from plan state (xs ++ ys) ≡ after_inputs_from plan (after_inputs_from plan state xs) ys }
+    ensures one_more { (plan : Plan) (state : State) (xs : List Input) (x : Input) →
+        course_from plan state (xs ++ x ∷ [])
+        ≡ logged (course_from plan state xs) (ended_by_input plan (after_inputs_from plan state xs) x) }
+    ensures left_by_one_more { (plan : Plan) (state : State) (xs : List Input) (x : Input) →
+        after_inputs_from plan state (xs ++ x ∷ []) ≡ after_input plan (after_inputs_from plan state xs) x }
 {}
 
 /// The controller that a course leaves is one that calls lead to, and the course is its log.

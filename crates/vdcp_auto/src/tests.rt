@@ -1,5 +1,5 @@
 //! The worked courses of a controller, over a small source.
-mod clips;
+pub mod clips;
 mod courses;
 mod desk;
 mod heard;

@@ -2,28 +2,15 @@
 #![tactic(auto)]
 
 mod args;
-mod check;
-#[cfg(test)]
-mod failing;
-mod failure;
-mod input;
-mod make;
-mod show;
-mod text;
-mod vectors;
 
-use crate::check::do_check;
-use crate::failure::Failure;
-use crate::input::Input;
-use crate::make::do_make;
-use crate::show::do_show;
-use crate::vectors::do_vectors;
 use clap::ArgMatches;
 use clap::error::ErrorKind;
 use std::fs::File;
 use std::io::{BufWriter, Write};
 use std::process::ExitCode;
 use std::{env, io};
+use vdcp_files::{Input, do_check, do_vectors};
+use vdcp_text::{Failure, do_make, do_show};
 
 fn main(rt: HostRuntime) -> ExitCode {
     let status = match run(&rt) {

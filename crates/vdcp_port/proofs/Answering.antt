@@ -9,7 +9,7 @@ use Rattle.vdcp_frame.specs.Message.{Content}
 use Rattle.vdcp_frame.proofs.BurstLemmas.{reads_computed}
 use Rattle.vdcp_frame.proofs.ReadingLemmas.{one_reading}
 use Rattle.vdcp_frame.specs.Burst.{messages_of, end_of}
-use Rattle.vdcp_frame.specs.Message.{AreOctets}
+use Rattle.vdcp_frame.specs.Message.{AreBytes}
 use Rattle.vdcp_frame.specs.Reader.{ReadsAs}
 use Rattle.vdcp_frame.specs.Reading.{SpellsAll, Reads, End, clean, cut, fault}
 use Rattle.vdcp_frame.specs.declared.got.Ended.{Ended}
@@ -107,7 +107,7 @@ bytes_of_one unit reply = append-nil (reply_bytes unit reply)
 
 -- ---- a burst that is read so is answered so
 
-read_messages : (burst : List ℕ) (ms : List Content) (end : End) → AreOctets burst → Reads burst ms end → (messages_of burst ≡ ms) × (end_of burst ≡ end)
+read_messages : (burst : List ℕ) (ms : List Content) (end : End) → AreBytes burst → Reads burst ms end → (messages_of burst ≡ ms) × (end_of burst ≡ end)
 read_messages burst ms end fits reads =
     one_reading 4096 burst (messages_of burst) ms (end_of burst) end (reads_computed 4096 burst fits) reads
 
@@ -118,21 +118,21 @@ ends_as burst ms silence.Clean reads = (clean, reads, refl)
 ends_as burst ms (silence.Cut count) reads = (cut count, reads, refl)
 ends_as burst ms silence.AfterFault reads = (fault reads.0 reads.1, reads.2, refl)
 
-pub sent_as_read : (p : ClockedPort) (burst : List ℕ) (ms : List Content) (end : End) → AreOctets burst → Reads burst ms end → sent_for p burst ≡ sent_bytes p ms end
+pub sent_as_read : (p : ClockedPort) (burst : List ℕ) (ms : List Content) (end : End) → AreBytes burst → Reads burst ms end → sent_for p burst ≡ sent_bytes p ms end
 sent_as_read p burst ms end fits reads =
     let one = read_messages burst ms end fits reads in
     ap₂ (sent_bytes p) one.0 one.1
 
-pub aired_as_read : (p : ClockedPort) (burst : List ℕ) (ms : List Content) (end : End) → AreOctets burst → Reads burst ms end → aired_for p burst ≡ aired_on_way p ms
+pub aired_as_read : (p : ClockedPort) (burst : List ℕ) (ms : List Content) (end : End) → AreBytes burst → Reads burst ms end → aired_for p burst ≡ aired_on_way p ms
 aired_as_read p burst ms end fits reads = ap (aired_on_way p) (read_messages burst ms end fits reads).0
 
-pub after_as_read : (p : ClockedPort) (burst : List ℕ) (ms : List Content) (end : End) → AreOctets burst → Reads burst ms end → after_burst p burst ≡ after_messages p ms
+pub after_as_read : (p : ClockedPort) (burst : List ℕ) (ms : List Content) (end : End) → AreBytes burst → Reads burst ms end → after_burst p burst ≡ after_messages p ms
 after_as_read p burst ms end fits reads = ap (after_messages p) (read_messages burst ms end fits reads).0
 
 pub sent_in_parts : (p : ClockedPort) (ms : List Content) (end : End) → sent_bytes p ms end ≡ bytes_for_all p ms ++ answer_bytes p.state.unit (end_answers end)
 sent_in_parts p ms end = flat_map-append (reply_bytes p.state.unit) (answers_to p ms) (end_answers end)
 
-pub sent_as_ended : (p : ClockedPort) (burst : List ℕ) (ms : List Content) (ended : Ended) → AreOctets burst → ReadsAs burst ms ended
+pub sent_as_ended : (p : ClockedPort) (burst : List ℕ) (ms : List Content) (ended : Ended) → AreBytes burst → ReadsAs burst ms ended
     → sent_for p burst ≡ bytes_for_all p ms ++ bytes_at_end p.state.unit ended
 sent_as_ended p burst ms ended fits reads =
     let as_ended = ends_as burst ms ended reads in
@@ -152,7 +152,7 @@ pub burst_answered : (old now : ClockedPort) (burst out_0 out_1 : List ℕ) (air
     → HasAnsweredAll old now burst out_0 out_1 aired ended
     → Answered old now burst out_0 out_1 aired ended
 burst_answered old now burst out_0 out_1 aired ended bytes h =
-    let fits : AreOctets burst = All-from_get_or (λ byte. byte < 256) burst 0 (λ i _. bytes i) in
+    let fits : AreBytes burst = All-from_get_or (λ byte. byte < 256) burst 0 (λ i _. bytes i) in
     let as_ended = ends_as burst h.messages ended h.reads in
     record {
       reads = reads_computed 4096 burst fits;

@@ -4,7 +4,7 @@ use Rattle.std.proofs.lemmas.List.Elements.{All-append, All-cons, All-nil}
 use Rattle.vdcp_frame.proofs.BurstLemmas.{reads_computed}
 use Rattle.vdcp_frame.proofs.ReadingLemmas.{Spells-spelling}
 use Rattle.vdcp_frame.specs.Burst.{messages_of, end_of}
-use Rattle.vdcp_frame.specs.Message.{Content, ack, nak, framed, AreOctets, Fits, Spells, spelling}
+use Rattle.vdcp_frame.specs.Message.{Content, ack, nak, framed, AreBytes, Fits, Spells, spelling}
 use Rattle.vdcp_frame.specs.Reading.{End, clean, cut, fault}
 use Rattle.vdcp_words.proofs.WordBytes.{read_only}
 use Rattle.vdcp_port.specs.Answers.{aired_on_way, answer_bytes, bytes_for, items_for, end_answers, sent_bytes, sent_for, aired_for, after_burst, after_messages}
@@ -18,16 +18,16 @@ IsNoneOrNak bytes = (bytes ≡ []) ⊎ (bytes ≡ 0x05 ∷ 0x04 ∷ []) ⊎ (byt
 abbrev IsByte : ℕ → Type 0
 IsByte byte = byte < 256
 
-spelt_bytes : (m : Content) (bytes : List ℕ) → Spells m bytes → AreOctets bytes
-spelt_bytes ack bytes h = subst AreOctets (sym h) (All-cons IsByte 4 [] (lit< tt) (All-nil IsByte))
+spelt_bytes : (m : Content) (bytes : List ℕ) → Spells m bytes → AreBytes bytes
+spelt_bytes ack bytes h = subst AreBytes (sym h) (All-cons IsByte 4 [] (lit< tt) (All-nil IsByte))
 spelt_bytes (nak byte) bytes h =
-    subst AreOctets (sym h.1) (All-cons IsByte 5 (byte ∷ []) (lit< tt) (All-cons IsByte byte [] h.0 (All-nil IsByte)))
+    subst AreBytes (sym h.1) (All-cons IsByte 5 (byte ∷ []) (lit< tt) (All-cons IsByte byte [] h.0 (All-nil IsByte)))
 spelt_bytes (framed kind unit code rest) bytes h =
     let fits = h.fits in
     let behind = All-append IsByte rest (h.check ∷ []) fits.rest_fits (All-cons IsByte h.check [] h.byte (All-nil IsByte)) in
     let address : 16 * kind + unit < 256 = omega (arith, fits.kind_fits, fits.unit_fits) in
     let count : length rest + 2 < 256 = omega (arith, fits.rest_size) in
-    subst AreOctets (sym h.spelt)
+    subst AreBytes (sym h.spelt)
     (All-cons IsByte 2 ((length rest + 2) ∷ (16 * kind + unit) ∷ code ∷ (rest ++ h.check ∷ [])) (lit< tt)
     (All-cons IsByte (length rest + 2) ((16 * kind + unit) ∷ code ∷ (rest ++ h.check ∷ [])) count
     (All-cons IsByte (16 * kind + unit) (code ∷ (rest ++ h.check ∷ [])) address

@@ -10,7 +10,7 @@ use Rattle.vdcp_value.specs.declared.clip_id.ClipId.{ClipId}
 use Rattle.vdcp_value.specs.declared.timecode.Timecode.{Timecode}
 use Rattle.vdcp_frame.proofs.BurstLemmas.{reads_computed}
 use Rattle.vdcp_frame.specs.Burst.{messages_of, end_of}
-use Rattle.vdcp_frame.specs.Message.{Content, ack, nak, framed, AreOctets, Spells, check_byte}
+use Rattle.vdcp_frame.specs.Message.{Content, ack, nak, framed, AreBytes, Spells, check_byte}
 use Rattle.vdcp_frame.specs.Reading.{SpellsAll, End, clean, cut, fault}
 use Rattle.vdcp_words.specs.Replies.{IsWritableReply}
 use Rattle.vdcp_words.specs.declared.reply.Reply.{Reply}
@@ -113,7 +113,7 @@ short_end unit (fault kind place) = lit≤ tt
 size_of_front : (limit : ℕ) (burst whole others : List ℕ) → take limit burst ≡ whole ++ others → length whole ≤ min (length burst) limit
 size_of_front limit burst whole others parts = omega (arith, ap length parts, length-append whole others, length-take limit burst)
 
-pub fits_most : (p : ClockedPort) (burst : List ℕ) → AreOctets burst → length (sent_for p burst) ≤ most_sent burst
+pub fits_most : (p : ClockedPort) (burst : List ℕ) → AreBytes burst → length (sent_for p burst) ≤ most_sent burst
 fits_most p burst fits =
     let front = (reads_computed 4096 burst fits).front in
     let ms = messages_of burst in
@@ -129,7 +129,7 @@ fits_most p burst fits =
       length-append (bytes_for_all p ms) (answer_bytes p.state.unit (end_answers (end_of burst))),
     )
 
-pub airs_most : (p : ClockedPort) (burst : List ℕ) → AreOctets burst → length (aired_for p burst) ≤ most_aired burst
+pub airs_most : (p : ClockedPort) (burst : List ℕ) → AreBytes burst → length (aired_for p burst) ≤ most_aired burst
 airs_most p burst fits =
     let front = (reads_computed 4096 burst fits).front in
     let ms = messages_of burst in

@@ -6,7 +6,7 @@ ghost use Rattle.vdcp_value.specs.declared.clip_id.ClipId.{ClipId};
 ghost use Rattle.vdcp_value.specs.declared.timecode.Timecode.{Timecode};
 ghost use Rattle.std.specs.Option.{option_to_list};
 ghost use Rattle.vdcp_frame.specs.Burst.{messages_of, end_of};
-ghost use Rattle.vdcp_frame.specs.Message.{Content, AreOctets, Fits, spelling};
+ghost use Rattle.vdcp_frame.specs.Message.{Content, AreBytes, Fits, spelling};
 ghost use Rattle.vdcp_frame.specs.Reader.{ReadsAs};
 ghost use Rattle.vdcp_frame.specs.Reading.{End, Reads};
 ghost use Rattle.vdcp_frame.specs.declared.got.Ended.{Ended};
@@ -148,22 +148,22 @@ pub fn one_alone()
 /// A burst of bytes that reads as these messages and this end is answered as the messages are, one after
 /// another, and then as the end is.
 pub fn a_burst_is_answered_as_it_is_read()
-    ensures sent { (p : ClockedPort) (burst : List ℕ) (ms : List Content) (end : End) → AreOctets burst → Reads burst ms end →
+    ensures sent { (p : ClockedPort) (burst : List ℕ) (ms : List Content) (end : End) → AreBytes burst → Reads burst ms end →
         sent_for p burst ≡ bytes_for_all p ms ++ answer_bytes p.state.unit (end_answers end) }
-    ensures aired { (p : ClockedPort) (burst : List ℕ) (ms : List Content) (end : End) → AreOctets burst → Reads burst ms end →
+    ensures aired { (p : ClockedPort) (burst : List ℕ) (ms : List Content) (end : End) → AreBytes burst → Reads burst ms end →
         aired_for p burst ≡ aired_on_way p ms }
-    ensures next { (p : ClockedPort) (burst : List ℕ) (ms : List Content) (end : End) → AreOctets burst → Reads burst ms end →
+    ensures next { (p : ClockedPort) (burst : List ℕ) (ms : List Content) (end : End) → AreBytes burst → Reads burst ms end →
         after_burst p burst ≡ after_messages p ms }
 {}
 
 /// The same where the streaming reader gave the messages and says how the burst ended: what is sent for the
 /// burst is what was sent for its messages, and behind it the bytes of `reply_at_end`.
 pub fn a_burst_is_answered_as_it_ended()
-    ensures sent { (p : ClockedPort) (burst : List ℕ) (ms : List Content) (ended : Ended) → AreOctets burst → ReadsAs burst ms ended →
+    ensures sent { (p : ClockedPort) (burst : List ℕ) (ms : List Content) (ended : Ended) → AreBytes burst → ReadsAs burst ms ended →
         sent_for p burst ≡ bytes_for_all p ms ++ bytes_at_end p.state.unit ended }
-    ensures aired { (p : ClockedPort) (burst : List ℕ) (ms : List Content) (ended : Ended) → AreOctets burst → ReadsAs burst ms ended →
+    ensures aired { (p : ClockedPort) (burst : List ℕ) (ms : List Content) (ended : Ended) → AreBytes burst → ReadsAs burst ms ended →
         aired_for p burst ≡ aired_on_way p ms }
-    ensures next { (p : ClockedPort) (burst : List ℕ) (ms : List Content) (ended : Ended) → AreOctets burst → ReadsAs burst ms ended →
+    ensures next { (p : ClockedPort) (burst : List ℕ) (ms : List Content) (ended : Ended) → AreBytes burst → ReadsAs burst ms ended →
         after_burst p burst ≡ after_messages p ms }
 {}
 
@@ -175,8 +175,8 @@ pub fn one_answer_to_the_end()
 
 /// What is sent for a burst of bytes, and what airs in it, fits the room that is made for it.
 pub fn what_a_burst_needs()
-    ensures sent { (p : ClockedPort) (burst : List ℕ) → AreOctets burst → length (sent_for p burst) ≤ most_sent burst }
-    ensures aired { (p : ClockedPort) (burst : List ℕ) → AreOctets burst → length (aired_for p burst) ≤ most_aired burst }
+    ensures sent { (p : ClockedPort) (burst : List ℕ) → AreBytes burst → length (sent_for p burst) ≤ most_sent burst }
+    ensures aired { (p : ClockedPort) (burst : List ℕ) → AreBytes burst → length (aired_for p burst) ≤ most_aired burst }
 {}
 
 /// A burst without a message, empty or of whatever bytes, airs nothing and leaves the port as it was. It

@@ -1,4 +1,6 @@
+-- The type and code of each command with another number of data bytes.
 use Rattle.std.proofs.Common.{◌≢◌, ℕ, List, [], ◌∷◌, length, refl, lit<}
+use Rattle.vdcp_value.specs.Ids.{id_of}
 use Rattle.vdcp_value.specs.declared.clip_id.ClipId.{ClipId}
 use Rattle.vdcp_frame.specs.Message.{framed}
 use Rattle.vdcp_words.specs.declared.command.Command.TheVariants.{Open, Close, Select, PlayCue, CueData, Play, Stop, Status, ActiveId, IdRequest, IdSize}
@@ -6,7 +8,7 @@ use Rattle.vdcp_words.specs.Commands.{HasOtherLength}
 
 -- some ID
 abbrev any_id : ClipId
-any_id = record { bytes = 0 ∷ 0 ∷ 0 ∷ 0 ∷ 0 ∷ 0 ∷ 0 ∷ 0 ∷ []; eight = refl }
+any_id = id_of (0 ∷ 0 ∷ 0 ∷ 0 ∷ 0 ∷ 0 ∷ 0 ∷ 0 ∷ [])
 
 -- the type and code of a command with data of another length, one for each command
 pub stop_length : (unit : ℕ) (rest : List ℕ) → length rest ≢ 0 → HasOtherLength (framed 1 unit 0x00 rest)

@@ -1,17 +1,18 @@
 -- What is computed of a message as a command is what the table of commands says.
-use Rattle.std.proofs.Common.{◌≡◌, ◌≢◌, ◌∙◌, inl, inr, ℕ, ◌<◌, Bool, true, false, nat_eq, nat_lt, List, [], ◌∷◌, ◌++◌, length, take, drop, refl, sym, ap, arith}
-use Rattle.std.specs.Prelude.{All}
-use Rattle.std.proofs.lemmas.Bool.{cases_eq, ne_eqb, eq-eqb, lt-ltb}
+use Rattle.std.proofs.Common.{◌≡◌, ◌≢◌, ◌∙◌, inl, inr, ℕ, ◌<◌, Bool, true, false, cond, List, [], ◌∷◌, ◌++◌, length, take, drop, refl, sym, ap, arith}
+use Rattle.std.specs.Prelude.{All, Some, None}
+use Rattle.std.proofs.lemmas.Bool.{cases_eq, ne_eqb, eq-eqb}
 use Rattle.std.proofs.lemmas.List.{length-take, length-drop, take-append-drop, append_assoc, drop-drop}
 use Rattle.std.proofs.lemmas.List.Elements.{All-head, All-tail, All-take, All-drop}
-use Rattle.std.specs.List.{list_all}
 use Rattle.vdcp_value.specs.Bytes.{are_bytes, AreBytes}
+use Rattle.vdcp_value.specs.Ids.{id_of}
 use Rattle.vdcp_frame.specs.Message.{Content, ack, nak, framed}
 use Rattle.vdcp_words.specs.declared.command.Command.{Command}
 use Rattle.vdcp_words.specs.declared.command.Command.TheVariants.{Open, Close, Select, PlayCue, CueData, Play, Stop, Status, ActiveId, IdRequest, IdSize}
 use Rattle.vdcp_words.specs.Messages.{rest_of, SameCode}
 use Rattle.vdcp_words.specs.Commands.{command_message, ReadsCommand}
-use Rattle.vdcp_words.specs.Computed.{id_when, no_data, one_byte, two_bytes, with_id, cue_data_of, immediate_of, preset_of, sense_request_of, command_of}
+use Rattle.vdcp_words.specs.Computed.{no_data, one_byte, two_bytes, with_id, cue_data_of, immediate_of, preset_of, sense_request_of, command_of}
+use Rattle.vdcp_words.proofs.Values.{ValueLaws}
 use Rattle.vdcp_words.proofs.CommandLemmas.{stop_length, play_length, close_length, select_length, play_cue_length, cue_data_length, open_length, status_length, active_id_length, id_size_length, id_request_length}
 
 -- ---- no command has the code
@@ -56,39 +57,33 @@ no_type kind unit code rest a b d (IdRequest id) h = d (sym h.0)
 
 -- ---- data
 
-all_below : (rest : List ℕ) → All (λ b. b < 256) rest → list_all (λ byte. nat_lt byte 256) rest ≡ true
-all_below [] fits = refl
-all_below (x ∷ xs) fits =
-    let first : nat_lt x 256 ≡ true = lt-ltb x 256 (All-head (λ b. b < 256) x xs fits) in
-    let others = all_below xs (All-tail (λ b. b < 256) x xs fits) in
-    rw (first, others) refl
-
 -- bytes of a list of n
-pub bytes_are : (n : ℕ) (rest : List ℕ) → length rest ≡ n → All (λ b. b < 256) rest → AreBytes n rest
-bytes_are n rest size fits =
-    let count : nat_eq (length rest) n ≡ true = eq-eqb (length rest) n size in
-    rw (count, all_below rest fits) refl
+pub bytes_are : ValueLaws → (n : ℕ) (rest : List ℕ) → length rest ≡ n → All (λ b. b < 256) rest → AreBytes n rest
+bytes_are v n rest size fits = (v.counted n rest).1 (size, fits)
 
-pub not_eight : (rest : List ℕ) → All (λ b. b < 256) rest → are_bytes 8 rest ≡ false → length rest ≢ 8
-not_eight rest fits e size = absurd (cc (bytes_are 8 rest size fits))
+pub not_eight : ValueLaws → (rest : List ℕ) → All (λ b. b < 256) rest → are_bytes 8 rest ≡ false → length rest ≢ 8
+not_eight v rest fits e size = absurd (cc (bytes_are v 8 rest size fits))
 
-play_cue_reads : (unit : ℕ) (rest : List ℕ) → All (λ b. b < 256) rest →
-    (test : Bool) (e : are_bytes 8 rest ≡ test) →
-    ReadsCommand (framed 2 unit 0x24 rest) (with_id PlayCue (id_when test rest e))
-play_cue_reads unit rest fits true e = record { writable = tt; says = refl }
-play_cue_reads unit rest fits false e = play_cue_length unit rest (not_eight rest fits e)
+play_cue_reads : ValueLaws → (unit : ℕ) (rest : List ℕ) → All (λ b. b < 256) rest →
+    (test : Bool) → are_bytes 8 rest ≡ test →
+    ReadsCommand (framed 2 unit 0x24 rest) (with_id PlayCue (cond test (Some (id_of rest)) None))
+play_cue_reads v unit rest fits true e =
+    record { writable = tt; says = ap (λ (r : List ℕ). framed 2 unit 0x24 r) (sym (v.of_bytes rest e)) }
+play_cue_reads v unit rest fits false e = play_cue_length unit rest (not_eight v rest fits e)
 
-id_size_reads : (unit : ℕ) (rest : List ℕ) → All (λ b. b < 256) rest →
-    (test : Bool) (e : are_bytes 8 rest ≡ test) →
-    ReadsCommand (framed 3 unit 0x14 rest) (with_id IdSize (id_when test rest e))
-id_size_reads unit rest fits true e = record { writable = tt; says = refl }
-id_size_reads unit rest fits false e = id_size_length unit rest (not_eight rest fits e)
+id_size_reads : ValueLaws → (unit : ℕ) (rest : List ℕ) → All (λ b. b < 256) rest →
+    (test : Bool) → are_bytes 8 rest ≡ test →
+    ReadsCommand (framed 3 unit 0x14 rest) (with_id IdSize (cond test (Some (id_of rest)) None))
+id_size_reads v unit rest fits true e =
+    record { writable = tt; says = ap (λ (r : List ℕ). framed 3 unit 0x14 r) (sym (v.of_bytes rest e)) }
+id_size_reads v unit rest fits false e = id_size_length unit rest (not_eight v rest fits e)
 
-id_request_reads : (unit : ℕ) (rest : List ℕ) → All (λ b. b < 256) rest →
-    (test : Bool) (e : are_bytes 8 rest ≡ test) →
-    ReadsCommand (framed 3 unit 0x16 rest) (with_id IdRequest (id_when test rest e))
-id_request_reads unit rest fits true e = record { writable = tt; says = refl }
-id_request_reads unit rest fits false e = id_request_length unit rest (not_eight rest fits e)
+id_request_reads : ValueLaws → (unit : ℕ) (rest : List ℕ) → All (λ b. b < 256) rest →
+    (test : Bool) → are_bytes 8 rest ≡ test →
+    ReadsCommand (framed 3 unit 0x16 rest) (with_id IdRequest (cond test (Some (id_of rest)) None))
+id_request_reads v unit rest fits true e =
+    record { writable = tt; says = ap (λ (r : List ℕ). framed 3 unit 0x16 r) (sym (v.of_bytes rest e)) }
+id_request_reads v unit rest fits false e = id_request_length unit rest (not_eight v rest fits e)
 
 stop_reads : (unit : ℕ) (rest : List ℕ) → ReadsCommand (framed 1 unit 0x00 rest) (no_data Stop rest)
 stop_reads unit [] = record { writable = tt; says = refl }
@@ -140,19 +135,20 @@ parts rest =
     ∙ sym (append_assoc (take 8 rest) (take 4 (drop 8 rest)) (drop 4 (drop 8 rest)))
     ∙ ap (λ (more : List ℕ). take 8 rest ++ take 4 (drop 8 rest) ++ more) back
 
-module _ (unit : ℕ) (rest : List ℕ) (fits : All (λ b. b < 256) rest) where
-  cue_parts : length rest ≡ 16 → (test : Bool) (e : are_bytes 8 (take 8 rest) ≡ test) →
-      ReadsCommand (framed 2 unit 0x25 rest) (with_id (λ id. CueData id (take 4 (drop 8 rest)) (drop 12 rest)) (id_when test (take 8 rest) e))
+module _ (v : ValueLaws) (unit : ℕ) (rest : List ℕ) (fits : All (λ b. b < 256) rest) where
+  cue_parts : length rest ≡ 16 → (test : Bool) → are_bytes 8 (take 8 rest) ≡ test →
+      ReadsCommand (framed 2 unit 0x25 rest) (with_id (λ id. CueData id (take 4 (drop 8 rest)) (drop 12 rest)) (cond test (Some (id_of (take 8 rest))) None))
   cue_parts size true e =
       record {
         writable = (
-          bytes_are 4 (take 4 (drop 8 rest)) (omega (arith, length-take 4 (drop 8 rest), length-drop 8 rest)) (All-take (λ b. b < 256) 4 (drop 8 rest) (All-drop (λ b. b < 256) 8 rest fits)),
-          bytes_are 4 (drop 12 rest) (omega (arith, length-drop 12 rest)) (All-drop (λ b. b < 256) 12 rest fits),
+          bytes_are v 4 (take 4 (drop 8 rest)) (omega (arith, length-take 4 (drop 8 rest), length-drop 8 rest)) (All-take (λ b. b < 256) 4 (drop 8 rest) (All-drop (λ b. b < 256) 8 rest fits)),
+          bytes_are v 4 (drop 12 rest) (omega (arith, length-drop 12 rest)) (All-drop (λ b. b < 256) 12 rest fits),
         );
-        says = ap (λ (r : List ℕ). framed 2 unit 0x25 r) (parts rest);
+        says = ap (λ (r : List ℕ). framed 2 unit 0x25 r)
+            (parts rest ∙ ap (λ (id : List ℕ). id ++ take 4 (drop 8 rest) ++ drop 12 rest) (sym (v.of_bytes (take 8 rest) e)));
       }
   cue_parts size false e =
-      absurd (not_eight (take 8 rest) (All-take (λ b. b < 256) 8 rest fits) e (omega (arith, length-take 8 rest)))
+      absurd (not_eight v (take 8 rest) (All-take (λ b. b < 256) 8 rest fits) e (omega (arith, length-take 8 rest)))
 
   cue_data_reads : ReadsCommand (framed 2 unit 0x25 rest) (cue_data_of rest)
   cue_data_reads =
@@ -179,7 +175,7 @@ module _ (unit : ℕ) (rest : List ℕ) (fits : All (λ b. b < 256) rest) where
         | inr no_close ↦ elim (cases_eq code 0x22) [
           | inl is ↦ rw is (select_reads unit rest fits)
           | inr no_select ↦ elim (cases_eq code 0x24) [
-            | inl is ↦ rw is (play_cue_reads unit rest fits (are_bytes 8 rest) refl)
+            | inl is ↦ rw is (play_cue_reads v unit rest fits (are_bytes 8 rest) refl)
             | inr no_cue ↦ elim (cases_eq code 0x25) [
               | inl is ↦ rw is cue_data_reads
               | inr no_data ↦ rw (ne_eqb _ _ no_close, ne_eqb _ _ no_select, ne_eqb _ _ no_cue, ne_eqb _ _ no_data)
@@ -198,9 +194,9 @@ module _ (unit : ℕ) (rest : List ℕ) (fits : All (λ b. b < 256) rest) where
           | inr no_status ↦ elim (cases_eq code 0x07) [
             | inl is ↦ rw is (active_id_reads unit rest)
             | inr no_active ↦ elim (cases_eq code 0x14) [
-              | inl is ↦ rw is (id_size_reads unit rest fits (are_bytes 8 rest) refl)
+              | inl is ↦ rw is (id_size_reads v unit rest fits (are_bytes 8 rest) refl)
               | inr no_size ↦ elim (cases_eq code 0x16) [
-                | inl is ↦ rw is (id_request_reads unit rest fits (are_bytes 8 rest) refl)
+                | inl is ↦ rw is (id_request_reads v unit rest fits (are_bytes 8 rest) refl)
                 | inr no_request ↦ rw (ne_eqb _ _ no_open, ne_eqb _ _ no_status, ne_eqb _ _ no_active, ne_eqb _ _ no_size, ne_eqb _ _ no_request)
                     (record { is_framed = tt; no_code = no_sense_request unit code rest no_open no_status no_active no_size no_request })
               ]
@@ -225,7 +221,7 @@ module _ (unit : ℕ) (rest : List ℕ) (fits : All (λ b. b < 256) rest) where
       ]
 
 -- what is computed of a message whose data is of bytes is what the table says
-pub command_computed : (m : Content) → All (λ b. b < 256) (rest_of m) → ReadsCommand m (command_of m)
-command_computed ack fits = tt
-command_computed (nak byte) fits = tt
-command_computed (framed kind unit code rest) fits = framed_reads unit rest fits kind code
+pub command_computed : ValueLaws → (m : Content) → All (λ b. b < 256) (rest_of m) → ReadsCommand m (command_of m)
+command_computed v ack fits = tt
+command_computed v (nak byte) fits = tt
+command_computed v (framed kind unit code rest) fits = framed_reads v unit rest fits kind code

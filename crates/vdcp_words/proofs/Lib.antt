@@ -1,3 +1,4 @@
+pub mod Values
 pub mod Joining
 pub mod CommandLemmas
 pub mod ReplyLemmas

@@ -5,12 +5,14 @@ use Rattle.std.proofs.lemmas.Bool.{cases_eq, cases_lt, ne_eqb, lt-ltb, le-ltb, e
 use Rattle.std.proofs.lemmas.List.{length-take}
 use Rattle.std.proofs.lemmas.List.Elements.{All-tail, All-take}
 use Rattle.vdcp_value.specs.Bytes.{are_bytes}
+use Rattle.vdcp_value.specs.Ids.{id_of}
+use Rattle.vdcp_words.proofs.Values.{ValueLaws}
 use Rattle.vdcp_frame.specs.Message.{Content, ack, nak, framed}
 use Rattle.vdcp_words.specs.declared.reply.Reply.{Reply}
 use Rattle.vdcp_words.specs.declared.reply.Reply.TheVariants.{Ack, Nak, Opened, State, Active, Present, Size}
 use Rattle.vdcp_words.specs.Messages.{rest_of, SameCode}
 use Rattle.vdcp_words.specs.Replies.{has_bit_0, reply_message, ReadsReply}
-use Rattle.vdcp_words.specs.Computed.{id_when, with_id, opened_of, state_byte_of, state_of, active_of, size_of, present_of, sense_reply_of, reply_of}
+use Rattle.vdcp_words.specs.Computed.{with_id, opened_of, state_byte_of, state_of, active_of, size_of, present_of, sense_reply_of, reply_of}
 use Rattle.vdcp_words.proofs.CommandReading.{not_eight}
 use Rattle.vdcp_words.proofs.ReplyLemmas.{opened_short, state_short, state_byte_short, active_short, active_id_short, size_short, present_short}
 
@@ -32,25 +34,25 @@ state_reads : (unit : ℕ) (rest : List ℕ) → ReadsReply (framed 3 unit 0x85 
 state_reads unit [] = state_short unit [] refl
 state_reads unit (bitmap ∷ more) = state_when unit bitmap more (has_bit_0 bitmap) refl
 
-id_reads : (unit first : ℕ) (more : List ℕ) → first ≢ 0 → All (λ b. b < 256) more →
-    (test : Bool) (e : are_bytes 8 (take 8 more) ≡ test) →
-    ReadsReply (framed 3 unit 0x87 (first ∷ more)) (with_id (λ id. Active (Some id)) (id_when test (take 8 more) e))
-id_reads unit first more other fits true e = ((refl, refl), (other, refl))
-id_reads unit first more other fits false e =
+id_reads : ValueLaws → (unit first : ℕ) (more : List ℕ) → first ≢ 0 → All (λ b. b < 256) more →
+    (test : Bool) → are_bytes 8 (take 8 more) ≡ test →
+    ReadsReply (framed 3 unit 0x87 (first ∷ more)) (with_id (λ id. Active (Some id)) (cond test (Some (id_of (take 8 more))) None))
+id_reads v unit first more other fits true e = ((refl, refl), (other, v.of_bytes (take 8 more) e))
+id_reads v unit first more other fits false e =
     let short : length more < 8 =
     elim (cases_lt (length more) 8) [
       | inl lt ↦ lt
-      | inr le ↦ absurd (not_eight (take 8 more) (All-take (λ b. b < 256) 8 more fits) e (omega (arith, length-take 8 more)))
+      | inr le ↦ absurd (not_eight v (take 8 more) (All-take (λ b. b < 256) 8 more fits) e (omega (arith, length-take 8 more)))
     ] in
     active_id_short unit first more other short
 
-active_reads : (unit : ℕ) (rest : List ℕ) → All (λ b. b < 256) rest →
+active_reads : ValueLaws → (unit : ℕ) (rest : List ℕ) → All (λ b. b < 256) rest →
     ReadsReply (framed 3 unit 0x87 rest) (active_of rest)
-active_reads unit [] fits = active_short unit [] refl
-active_reads unit (first ∷ more) fits =
+active_reads v unit [] fits = active_short unit [] refl
+active_reads v unit (first ∷ more) fits =
     elim (cases_eq first 0) [
       | inl is ↦ rw is ((refl, refl), refl)
-      | inr other ↦ rw (ne_eqb _ _ other) (id_reads unit first more other (All-tail (λ b. b < 256) first more fits) (are_bytes 8 (take 8 more)) refl)
+      | inr other ↦ rw (ne_eqb _ _ other) (id_reads v unit first more other (All-tail (λ b. b < 256) first more fits) (are_bytes 8 (take 8 more)) refl)
     ]
 
 size_reads : (unit : ℕ) (rest : List ℕ) → ReadsReply (framed 3 unit 0x94 rest) (size_of rest)
@@ -89,15 +91,15 @@ no_type kind unit code rest other (Active (Some id)) h = other (sym h.0)
 no_type kind unit code rest other (Size time) h = other (sym h.0)
 no_type kind unit code rest other (Present there) h = other (sym h.0)
 
-sense_reply_reads : (unit code : ℕ) (rest : List ℕ) → All (λ b. b < 256) rest →
+sense_reply_reads : ValueLaws → (unit code : ℕ) (rest : List ℕ) → All (λ b. b < 256) rest →
     ReadsReply (framed 3 unit code rest) (sense_reply_of code rest)
-sense_reply_reads unit code rest fits =
+sense_reply_reads v unit code rest fits =
     elim (cases_eq code 0x81) [
       | inl is ↦ rw is (opened_reads unit rest)
       | inr no_opened ↦ elim (cases_eq code 0x85) [
         | inl is ↦ rw is (state_reads unit rest)
         | inr no_state ↦ elim (cases_eq code 0x87) [
-          | inl is ↦ rw is (active_reads unit rest fits)
+          | inl is ↦ rw is (active_reads v unit rest fits)
           | inr no_active ↦ elim (cases_eq code 0x94) [
             | inl is ↦ rw is (size_reads unit rest)
             | inr no_size ↦ elim (cases_eq code 0x96) [
@@ -110,16 +112,16 @@ sense_reply_reads unit code rest fits =
       ]
     ]
 
-framed_reads : (kind unit code : ℕ) (rest : List ℕ) → All (λ b. b < 256) rest →
+framed_reads : ValueLaws → (kind unit code : ℕ) (rest : List ℕ) → All (λ b. b < 256) rest →
     ReadsReply (framed kind unit code rest) (reply_of (framed kind unit code rest))
-framed_reads kind unit code rest fits =
+framed_reads v kind unit code rest fits =
     elim (cases_eq kind 3) [
-      | inl is ↦ rw is (sense_reply_reads unit code rest fits)
+      | inl is ↦ rw is (sense_reply_reads v unit code rest fits)
       | inr other ↦ rw (ne_eqb _ _ other) (record { is_framed = tt; no_code = no_type kind unit code rest other })
     ]
 
 -- what is computed of a message whose data is of bytes is what the table says
-pub reply_computed : (m : Content) → All (λ b. b < 256) (rest_of m) → ReadsReply m (reply_of m)
-reply_computed ack fits = refl
-reply_computed (nak byte) fits = refl
-reply_computed (framed kind unit code rest) fits = framed_reads kind unit code rest fits
+pub reply_computed : ValueLaws → (m : Content) → All (λ b. b < 256) (rest_of m) → ReadsReply m (reply_of m)
+reply_computed v ack fits = refl
+reply_computed v (nak byte) fits = refl
+reply_computed v (framed kind unit code rest) fits = framed_reads v kind unit code rest fits

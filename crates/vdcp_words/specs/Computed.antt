@@ -1,6 +1,7 @@
 -- The reading of a word as a computation, which Commands.antt and Replies.antt say in words.
-use Rattle.std.specs.Prelude.{ℕ, ◌≡◌, Bool, true, false, not, nat_eq, nat_lt, if◌then◌else◌, List, [], ◌∷◌, length, take, drop, Option, Some, None, Result, Ok, Err, refl}
+use Rattle.std.specs.Prelude.{ℕ, not, nat_eq, nat_lt, if◌then◌else◌, List, [], ◌∷◌, length, take, drop, Option, Some, None, Result, Ok, Err}
 use Rattle.vdcp_value.specs.Bytes.{are_bytes}
+use Rattle.vdcp_value.specs.Ids.{id_of}
 use Rattle.vdcp_value.specs.declared.clip_id.ClipId.{ClipId}
 use Rattle.vdcp_frame.specs.Message.{Content, ack, nak, framed}
 use Rattle.vdcp_words.specs.declared.command.Command.{Command}
@@ -13,13 +14,9 @@ use Rattle.vdcp_words.specs.Replies.{has_bit_0}
 
 -- ---- data
 
-abbrev pub id_when : (test : Bool) (bytes : List ℕ) → are_bytes 8 bytes ≡ test → Option ClipId
-id_when true bytes eight = Some (record { bytes = bytes; eight = eight })
-id_when false bytes other = None
-
 -- the ID of eight bytes
-abbrev pub id_of : List ℕ → Option ClipId
-id_of bytes = id_when (are_bytes 8 bytes) bytes refl
+abbrev pub id_in : List ℕ → Option ClipId
+id_in bytes = if are_bytes 8 bytes then Some (id_of bytes) else None
 
 abbrev pub no_data : Command → List ℕ → Result Command WordFault
 no_data command [] = Ok command
@@ -45,7 +42,7 @@ with_id word (Some id) = Ok (word id)
 abbrev pub cue_data_of : List ℕ → Result Command WordFault
 cue_data_of rest =
     if nat_eq (length rest) 16
-    then with_id (λ id. CueData id (take 4 (drop 8 rest)) (drop 12 rest)) (id_of (take 8 rest))
+    then with_id (λ id. CueData id (take 4 (drop 8 rest)) (drop 12 rest)) (id_in (take 8 rest))
     else Err Length
 
 -- type 1
@@ -60,7 +57,7 @@ abbrev pub preset_of : ℕ → List ℕ → Result Command WordFault
 preset_of code rest =
     if nat_eq code 0x21 then one_byte Close rest else
     if nat_eq code 0x22 then one_byte Select rest else
-    if nat_eq code 0x24 then with_id PlayCue (id_of rest) else
+    if nat_eq code 0x24 then with_id PlayCue (id_in rest) else
     if nat_eq code 0x25 then cue_data_of rest else
     Err Unknown
 
@@ -70,8 +67,8 @@ sense_request_of code rest =
     if nat_eq code 0x01 then two_bytes Open rest else
     if nat_eq code 0x05 then one_byte Status rest else
     if nat_eq code 0x07 then no_data ActiveId rest else
-    if nat_eq code 0x14 then with_id IdSize (id_of rest) else
-    if nat_eq code 0x16 then with_id IdRequest (id_of rest) else
+    if nat_eq code 0x14 then with_id IdSize (id_in rest) else
+    if nat_eq code 0x16 then with_id IdRequest (id_in rest) else
     Err Unknown
 
 -- what a message is read as, a command or a fault
@@ -101,7 +98,7 @@ state_of (bitmap ∷ more) = if has_bit_0 bitmap then state_byte_of bitmap more 
 abbrev pub active_of : List ℕ → Result Reply WordFault
 active_of [] = Err Length
 active_of (first ∷ more) =
-    if nat_eq first 0x00 then Ok (Active None) else with_id (λ id. Active (Some id)) (id_of (take 8 more))
+    if nat_eq first 0x00 then Ok (Active None) else with_id (λ id. Active (Some id)) (id_in (take 8 more))
 
 abbrev pub size_of : List ℕ → Result Reply WordFault
 size_of rest = if nat_lt (length rest) 4 then Err Length else Ok (Size (take 4 rest))

@@ -1,4 +1,4 @@
-use Rattle.std.specs.Prelude.{ℕ, ◌≡◌, ◌≢◌, ◌<◌, ◌≤◌, Bool, true, false, not, nat_eq, bit_and, List, [], ◌∷◌, length, take, Some, None, Result, Ok, Err}
+use Rattle.std.specs.Prelude.{ℕ, ◌≡◌, ◌≢◌, ◌<◌, ◌≤◌, Bool, true, false, not, nat_eq, bit_and, List, [], ◌∷◌, length, take, slice_index, Some, None, is_some, Result, Ok, Err, if◌then◌else◌}
 use Rattle.vdcp_value.specs.Bytes.{AreBytes}
 use Rattle.vdcp_value.specs.Ids.{id_bytes}
 use Rattle.vdcp_frame.specs.Message.{Content, ack, nak, framed}
@@ -6,7 +6,7 @@ use Rattle.vdcp_words.specs.declared.reply.Reply.{Reply}
 use Rattle.vdcp_words.specs.declared.reply.Reply.TheVariants.{Ack, Nak, Opened, State, Active, Present, Size}
 use Rattle.vdcp_words.specs.declared.fault.WordFault.{WordFault}
 use Rattle.vdcp_words.specs.declared.fault.WordFault.TheVariants.{NotCommand, Unknown, Length}
-use Rattle.vdcp_words.specs.Messages.{IsFramed, SameCode}
+use Rattle.vdcp_words.specs.Messages.{rest_of, IsFramed, SameCode}
 
 -- the byte that is written for yes or no
 abbrev pub flag : Bool → ℕ
@@ -60,16 +60,31 @@ IsWritableReply (Active playing) = Unit {0}
 IsWritableReply (Size time) = AreBytes 4 time
 IsWritableReply (Present there) = Unit {0}
 
+-- a state byte stands exactly where bit 0 of the bitmap is set
+abbrev pub MatchesBitmap : Reply → Type 0
+MatchesBitmap (State bitmap state) = is_some state ≡ has_bit_0 bitmap
+MatchesBitmap _ = Unit {0}
+
 -- no reply has the message's type and code
 pub record IsUnknownReply (message : Content) : Type 0 where
   pub is_framed : IsFramed message
   pub no_code : (reply : Reply) → SameCode message (reply_message 0 reply) → ⊥
 
--- a reply has the message's type and code, but the data ends before the bytes that it names
+-- how many bytes of its data each reply names: those that it is read from
+abbrev pub bytes_named : Reply → List ℕ → ℕ
+bytes_named Ack bytes = 0
+bytes_named (Nak byte) bytes = 0
+bytes_named (Opened granted) bytes = 1
+bytes_named (State bitmap state) bytes = if has_bit_0 (slice_index bytes 0) then 2 else 1
+bytes_named (Active playing) bytes = if nat_eq (slice_index bytes 0) 0x00 then 1 else 9
+bytes_named (Size time) bytes = 4
+bytes_named (Present there) bytes = 1
+
+-- a reply has the message's type and code, but the data has fewer bytes than the reply names
 pub record IsShortReply (message : Content) : Type 0 where
   pub reply : Reply
   pub code : SameCode message (reply_message 0 reply)
-  pub ends : (reply : Reply) → IsReply message reply → ⊥
+  pub short : length (rest_of message) < bytes_named reply (rest_of message)
 
 -- what a message is read as: a reply, or why it is none
 abbrev pub ReadsReply : Content → Result Reply WordFault → Type 0

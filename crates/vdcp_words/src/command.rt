@@ -1,13 +1,13 @@
 ghost use Rattle.std.specs.Prelude.{◌≡◌, ◌<◌, ◌≤◌, ℕ, All};
 ghost use Rattle.vdcp_frame.specs.Message.{content_of, framed, IsWritable};
-ghost use Rattle.vdcp_words.specs.Commands.{command_message, ReadsCommand};
+ghost use Rattle.vdcp_words.specs.Commands.{command_message, IsWritableCommand, ReadsCommand};
 ghost use Rattle.vdcp_words.specs.Computed.{command_of};
 ghost use Rattle.vdcp_words.specs.Texts.{command_text};
 
-use crate::data;
 use crate::fault::WordFault;
 use crate::room::{joined, message, put};
 use crate::text::{push_byte, push_id, push_time};
+use crate::{data, laws};
 use arrayvec::ArrayString;
 use vdcp_frame::Message;
 use vdcp_value::ClipId;
@@ -52,6 +52,7 @@ impl Command {
         ensures table { ReadsCommand (content_of message.now) result }
         ensures exact { result ≡ command_of (content_of message.now) }
     {
+        laws::one_command();
         match *message {
             Message::Ack | Message::Nak(_) => Err(WordFault::NotCommand),
             Message::Framed {
@@ -74,7 +75,10 @@ impl Command {
         requires { unit ≤ 15 }
         ensures message { content_of result ≡ command_message unit self.now }
         ensures writable { IsWritable (content_of result) }
+        ensures of_bytes { IsWritableCommand self.now }
     {
+        // Read once, so that the prover knows each of its numbers to be a byte.
+        let _command = *self;
         match self {
             Command::Stop => message(1, unit, 0x00, &[]),
             Command::Play => message(1, unit, 0x01, &[]),

@@ -12,13 +12,19 @@ ghost use Rattle.vdcp_words.specs.declared.command.Command.{Command};
 ghost use Rattle.vdcp_words.specs.declared.reply.Reply.{Reply};
 ghost use Rattle.vdcp_words.specs.declared.fault.WordFault.{WordFault};
 
+use vdcp_frame::laws::{one_reading, one_spelling, written_is_read};
+use vdcp_value::laws::{an_id_is_its_bytes, bytes_are_counted};
+
 /// A message of bytes is read as a command or has a fault, and that in one way.
 pub fn one_command()
     ensures some { (message : Content) → All (λ b. b < 256) (rest_of message) →
         ReadsCommand message (command_of message) }
     ensures only { (message : Content) (a b : Result Command WordFault) →
         ReadsCommand message a → ReadsCommand message b → a ≡ b }
-{}
+{
+    bytes_are_counted();
+    an_id_is_its_bytes();
+}
 
 /// A message of bytes is read as a reply or has a fault, and that in one way.
 pub fn one_reply()
@@ -26,7 +32,10 @@ pub fn one_reply()
         ReadsReply message (reply_of message) }
     ensures only { (message : Content) (a b : Result Reply WordFault) →
         ReadsReply message a → ReadsReply message b → a ≡ b }
-{}
+{
+    bytes_are_counted();
+    an_id_is_its_bytes();
+}
 
 /// The message of a command is read as that command and as no other, and names its unit.
 pub fn written_command_is_read()
@@ -37,7 +46,11 @@ pub fn written_command_is_read()
     ensures computed { (unit : ℕ) (command : Command) → IsWritableCommand command →
         command_of (command_message unit command) ≡ Ok command }
     ensures unit { (unit : ℕ) (command : Command) → unit_of (command_message unit command) ≡ unit }
-{}
+{
+    bytes_are_counted();
+    an_id_is_its_bytes();
+    one_command();
+}
 
 /// The message of a reply whose state byte stands exactly where bit 0 of its bitmap is set is read
 /// as that reply and as no other. If it is framed it names its unit.
@@ -50,7 +63,11 @@ pub fn written_reply_is_read()
         reply_of (reply_message unit reply) ≡ Ok reply }
     ensures unit { (unit : ℕ) (reply : Reply) → IsFramed (reply_message unit reply) →
         unit_of (reply_message unit reply) ≡ unit }
-{}
+{
+    bytes_are_counted();
+    an_id_is_its_bytes();
+    one_reply();
+}
 
 /// The message of a command fits, and its bytes with anything behind them read first as it.
 pub fn command_is_read_first()
@@ -59,7 +76,13 @@ pub fn command_is_read_first()
     ensures first { (unit : ℕ) (command : Command) (more : List ℕ) (ms : List Content) (end : End) →
         unit ≤ 15 → IsWritableCommand command → Reads (spelling (command_message unit command) ++ more) ms end →
         (others : List Content) × (ms ≡ command_message unit command ∷ others) }
-{}
+{
+    bytes_are_counted();
+    an_id_is_its_bytes();
+    one_spelling();
+    one_reading();
+    written_is_read();
+}
 
 /// The message of a reply fits, and its bytes with anything behind them read first as it.
 pub fn reply_is_read_first()
@@ -68,12 +91,22 @@ pub fn reply_is_read_first()
     ensures first { (unit : ℕ) (reply : Reply) (more : List ℕ) (ms : List Content) (end : End) →
         unit ≤ 15 → IsWritableReply reply → Reads (spelling (reply_message unit reply) ++ more) ms end →
         (others : List Content) × (ms ≡ reply_message unit reply ∷ others) }
-{}
+{
+    bytes_are_counted();
+    an_id_is_its_bytes();
+    one_spelling();
+    one_reading();
+    written_is_read();
+}
 
 /// No bytes read as no message.
 pub fn no_bytes_are_no_message()
     ensures { (ms : List Content) (end : End) → Reads [] ms end → (ms ≡ []) × (end ≡ clean) }
-{}
+{
+    one_spelling();
+    one_reading();
+    written_is_read();
+}
 
 /// What the server writes at the end of a burst that it can't read to its end is one NAK: 04h for
 /// a fault, 80h for a burst that is cut short.
@@ -82,4 +115,8 @@ pub fn naks_of_a_burst_end()
         (ms ≡ nak 0x04 ∷ []) × (end ≡ clean) }
     ensures cut { (ms : List Content) (end : End) → Reads (5 ∷ 0x80 ∷ []) ms end →
         (ms ≡ nak 0x80 ∷ []) × (end ≡ clean) }
-{}
+{
+    one_spelling();
+    one_reading();
+    written_is_read();
+}

@@ -2,12 +2,12 @@ ghost use Rattle.std.specs.Prelude.{◌≡◌, ◌<◌, ◌≤◌, ℕ, All};
 ghost use Rattle.vdcp_frame.specs.Message.{content_of, framed, IsWritable};
 ghost use Rattle.vdcp_words.specs.Computed.{reply_of};
 ghost use Rattle.vdcp_words.specs.Texts.{reply_text};
-ghost use Rattle.vdcp_words.specs.Replies.{reply_message, ReadsReply};
+ghost use Rattle.vdcp_words.specs.Replies.{reply_message, IsWritableReply, MatchesBitmap, ReadsReply};
 
-use crate::data;
 use crate::fault::WordFault;
-use crate::room::{marked, message, put};
+use crate::room::{four, marked, message, put};
 use crate::text::{push_byte, push_id, push_time};
+use crate::{data, laws};
 use arrayvec::ArrayString;
 use vdcp_frame::Message;
 use vdcp_value::ClipId;
@@ -43,6 +43,7 @@ impl Reply {
         ensures table { ReadsReply (content_of message.now) result }
         ensures exact { result ≡ reply_of (content_of message.now) }
     {
+        laws::one_reply();
         match *message {
             Message::Ack => Ok(Reply::Ack),
             Message::Nak(byte) => Ok(Reply::Nak(byte)),
@@ -65,7 +66,10 @@ impl Reply {
         requires { unit ≤ 15 }
         ensures message { content_of result ≡ reply_message unit self.now }
         ensures writable { IsWritable (content_of result) }
+        ensures of_bytes { MatchesBitmap self.now → IsWritableReply self.now }
     {
+        // Read once, so that the prover knows each of its numbers to be a byte.
+        let _reply = *self;
         match self {
             Reply::Ack => Message::Ack,
             Reply::Nak(byte) => Message::Nak(*byte),
@@ -76,7 +80,7 @@ impl Reply {
             }
             Reply::Active(None) => message(3, unit, 0x87, put(room, &[0x00])),
             Reply::Active(Some(id)) => message(3, unit, 0x87, put(room, &marked(id))),
-            Reply::Size(time) => message(3, unit, 0x94, put(room, time)),
+            Reply::Size(time) => message(3, unit, 0x94, put(room, &four(time))),
             Reply::Present(there) => message(3, unit, 0x96, put(room, &[u8::from(*there)])),
         }
     }

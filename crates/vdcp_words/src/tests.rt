@@ -1,4 +1,7 @@
-use crate::{Command, Reply, WordFault};
+ghost use Rattle.std.specs.Prelude.{◌≡◌, ◌≤◌, Ok};
+ghost use Rattle.vdcp_words.specs.Replies.{MatchesBitmap};
+
+use crate::{Command, Reply, WordFault, laws};
 use arrayvec::{ArrayString, ArrayVec};
 use std::process::Abort;
 use std::test::Fail;
@@ -80,6 +83,7 @@ fn example_commands_are_written_read_and_shown(rt: HostRuntime) {
         assert_eq!(rt; write(&command.to_message(0, &mut room), &mut out), Ok(()));
         assert_eq!(rt; out.as_slice(), bytes);
         assert_eq!(rt; Command::read(&message_of(&rt, bytes)), Ok(command));
+        assert_eq!(rt; command_read_back(command, 15), Ok(command));
         let mut shown = ArrayString::new();
         command.show(&mut shown);
         assert_eq!(rt; shown.as_str(), text);
@@ -336,4 +340,27 @@ fn words_keep_their_unit(rt: HostRuntime) {
         }
     );
     assert_eq!(rt; Reply::read(&message), Ok(Reply::Present(true)));
+    let state = Reply::State(0x01, Some(0x84));
+    assert_eq!(rt; reply_read_back(state, 15), Ok(state));
+}
+
+/// Each command is read back from its message.
+fn command_read_back(command: Command, unit: u8) -> Result<Command, WordFault>
+    requires { unit ≤ 15 }
+    ensures { result ≡ Ok command }
+{
+    laws::written_command_is_read();
+    let mut room = [0; 16];
+    Command::read(&command.to_message(unit, &mut room))
+}
+
+/// Each reply is read back whose state byte stands exactly where bit 0 of its bitmap is set.
+fn reply_read_back(reply: Reply, unit: u8) -> Result<Reply, WordFault>
+    requires unit { unit ≤ 15 }
+    requires state { MatchesBitmap reply }
+    ensures { result ≡ Ok reply }
+{
+    laws::written_reply_is_read();
+    let mut room = [0; 16];
+    Reply::read(&reply.to_message(unit, &mut room))
 }

@@ -1,6 +1,6 @@
 use Rattle.vdcp_words.specs.Commands.{command_message}
 use Rattle.std.proofs.Common.{Ok}
-use Rattle.vdcp_words.proofs.CommandLaws.{command_written, one_command_reading}
+use Rattle.vdcp_words.proofs.CommandLaws.{command_written}
 use Rattle.vdcp_words.proofs.WordBytes.{command_of-written}
 use Rattle.vdcp_words.proofs.laws.written_command_is_read.Goals as goal
 
@@ -9,7 +9,14 @@ returns-clause-read c = command_written
 
 pub returns-clause-only : goal.returns-clause-only
 returns-clause-only c unit command outcome writable reads =
-    one_command_reading (command_message unit command) outcome (Ok command) reads (command_written unit command writable)
+    c.one_command.ensures.only (command_message unit command) outcome (Ok command) reads (command_written unit command writable)
 
 pub returns-clause-computed : goal.returns-clause-computed
-returns-clause-computed c = command_of-written
+returns-clause-computed c =
+    command_of-written
+    (record {
+      counted = c.bytes_are_counted.ensures;
+      eight = c.an_id_is_its_bytes.ensures.eight;
+      one = c.an_id_is_its_bytes.ensures.one;
+      of_bytes = c.an_id_is_its_bytes.ensures.of_bytes;
+    })

@@ -1,8 +1,7 @@
-use Rattle.vdcp_value.proofs.Ids.{length_of_id}
 use Rattle.vdcp_words.proofs.Joining.{joined_parts}
 use Rattle.vdcp_words.proofs.room.joined.Goals as goal
 
-pub returns : goal.returns
-returns c =
+pub returns-clause-bytes : goal.returns-clause-bytes
+returns-clause-bytes c =
     rw c.bytes.ensures
-    (joined_parts _ _ _ (length_of_id c.args.id.now) c.told-start c.told-duration)
+    (joined_parts _ _ _ ((c.bytes_are_counted.ensures 8 _).0 (c.an_id_is_its_bytes.ensures.eight c.args.id.now)).0 c.told-start c.told-duration)

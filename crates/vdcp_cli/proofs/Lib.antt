@@ -1,5 +1,0 @@
-pub mod CheckLemmas
-pub mod TextLemmas
-pub mod VectorLemmas
-mod MakeLemmas
-mod Examples

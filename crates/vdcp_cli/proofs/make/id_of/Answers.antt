@@ -1,4 +1,0 @@
-use Rattle.vdcp_cli.proofs.make.id_of.Goals as goal
-
-pub returns-in-Err-clause-none : goal.returns-in-Err-clause-none
-returns-in-Err-clause-none c id is = let accepted = c.parse.ensures.accepts id is in cc (accepted, c.in-Err.is)

@@ -1,9 +1,0 @@
-pub mod Meaning
-pub mod Text
-pub mod End
-pub mod Failure
-pub mod Files
-pub mod Show
-pub mod Make
-pub mod Check
-pub mod Vectors

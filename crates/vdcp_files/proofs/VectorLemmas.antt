@@ -1,0 +1,173 @@
+-- The two fields of a row, and the rows of a file one after another.
+use Rattle.csv.specs.Records.{field_at}
+use Rattle.std.proofs.Common.{◌≡◌, ℕ, ◌+◌, ◌≤◌, ◌<◌, suc, true, false, List, [], ◌∷◌, ◌++◌, length, refl, sym, ap, ap₂, subst, ◌∙◌, arith, append_assoc, append-nil}
+use Rattle.std.proofs.lemmas.List.{length-append, length-map, map-append}
+use Rattle.std.specs.Prelude.{IfNone, IfOk, Result, Ok, Err, Option, None, Some, option_map, string_bytes}
+use Rattle.vdcp_files.specs.Vectors.{Finding, HasTooMany, IsTally, IsTallyOf, bad_count, columns, finding_of_row, finding_text, findings_of, findings_text, got, joined_reading, joined_text, hex, right}
+use Rattle.vdcp_files.specs.Files.{AreRowsOf}
+use Rattle.vdcp_text.specs.Text.{end_text}
+use Rattle.vdcp_files.specs.declared.vectors.Tally.{Tally}
+use Rattle.vdcp_frame.proofs.BurstLemmas.{reads_computed}
+use Rattle.vdcp_frame.proofs.ReadingLemmas.{one_reading}
+use Rattle.vdcp_frame.specs.Burst.{messages_of, end_of}
+use Rattle.vdcp_frame.specs.Message.{AreOctets, Content}
+use Rattle.vdcp_frame.specs.Reading.{End, Reads}
+use Rattle.vdcp_list.specs.Reading.{TakesRow}
+use Rattle.vdcp_list.specs.Rows.{Row, most_rows, rows_of}
+
+pub two_fields : (fields : List (List ℕ)) (first second : List ℕ) → length fields ≡ 2 → Some first ≡ field_at fields 0 → Some second ≡ field_at fields 1
+    → fields ≡ first ∷ second ∷ []
+unfolding field_at
+two_fields [] first second two a b = absurd (omega (arith, two))
+two_fields (x ∷ []) first second two a b = absurd (omega (arith, two))
+two_fields (x ∷ y ∷ []) first second two a b = let p : x ≡ first = cc a in let q : y ≡ second = cc b in ap₂ (λ i j. i ∷ j ∷ []) p q
+two_fields (x ∷ y ∷ z ∷ rest) first second two a b = absurd (omega (arith, two))
+
+pub has_first : (fields : List (List ℕ)) → length fields ≡ 2 → ◌≡◌ {A = Option (List ℕ)} None (field_at fields 0) → ⊥
+unfolding field_at
+has_first [] two a = absurd (omega (arith, two))
+has_first (x ∷ rest) two a = cc a
+
+pub has_second : (fields : List (List ℕ)) → length fields ≡ 2 → ◌≡◌ {A = Option (List ℕ)} None (field_at fields 1) → ⊥
+unfolding field_at
+has_second [] two a = absurd (omega (arith, two))
+has_second (x ∷ []) two a = absurd (omega (arith, two))
+has_second (x ∷ y ∷ rest) two a = cc a
+
+pub if_none : {A P : Type 0} (o : Option A) → P → IfNone o P
+if_none None p = p
+if_none (Some x) p = tt
+
+-- the line of one more row
+findings_text-push : (k : ℕ) (findings : List Finding) (finding : Finding)
+    → findings_text k (findings ++ finding ∷ []) ≡ findings_text k findings ++ finding_text (k + length findings) finding
+findings_text-push k [] finding =
+    let same : k + 0 ≡ k = omega arith in
+    append-nil (finding_text k finding) ∙ ap (λ n. finding_text n finding) (sym same)
+findings_text-push k (first ∷ findings) finding =
+    let size : suc k + length findings ≡ k + suc (length findings) = omega arith in
+    ap (λ text. finding_text k first ++ text) (findings_text-push (suc k) findings finding
+    ∙ ap (λ n. findings_text (suc k) findings ++ finding_text n finding) size)
+    ∙ sym (append_assoc (finding_text k first) (findings_text (suc k) findings) (finding_text (k + suc (length findings)) finding))
+
+bad_count-push : (findings : List Finding) (finding : Finding) → bad_count (findings ++ finding ∷ []) ≡ bad_count findings + bad_count (finding ∷ [])
+bad_count-push [] finding = omega arith
+bad_count-push (right ∷ findings) finding = bad_count-push findings finding
+bad_count-push (columns ∷ findings) finding = omega (arith, bad_count-push findings finding)
+bad_count-push (hex ∷ findings) finding = omega (arith, bad_count-push findings finding)
+bad_count-push (got reading ∷ findings) finding = omega (arith, bad_count-push findings finding)
+
+bad_within : (findings : List Finding) → bad_count findings ≤ length findings
+bad_within [] = omega arith
+bad_within (right ∷ findings) = omega (arith, bad_within findings)
+bad_within (columns ∷ findings) = omega (arith, bad_within findings)
+bad_within (hex ∷ findings) = omega (arith, bad_within findings)
+bad_within (got reading ∷ findings) = omega (arith, bad_within findings)
+
+-- these rows were read, and the others are left
+abbrev pub IsFront : Option (List Row) → Option (List Row) → List Row → Type 0
+IsFront None left front = Unit {0}
+IsFront (Some rows) left front = (rest : List Row) × (left ≡ Some rest) × (rows ≡ front ++ rest)
+
+front_next : (all left left' : Option (List Row)) (front : List Row) (row : Row) → IsFront all left front → TakesRow left left' true row
+    → IsFront all left' (front ++ row ∷ [])
+front_next None left left' front row h t = tt
+front_next (Some rows) left left' front row (rest, is, e) t =
+    let (rest', is', e') = rw is at t in
+    (rest', is', e ∙ ap (λ rs. front ++ rs) e' ∙ sym (append_assoc front (row ∷ []) rest'))
+
+front_all : (file : Option (List ℕ)) (left left' : Option (List Row)) (front : List Row) (row : Row) → IsFront (option_map rows_of file) left front
+    → TakesRow left left' false row → AreRowsOf file front
+front_all None left left' front row h t = tt
+front_all (Some bytes) left left' front row (rest, is, e) t =
+    let none : rest ≡ [] = rw is at t in
+    sym (e ∙ ap (λ rs. front ++ rs) none ∙ append-nil front)
+
+at_first : (file : Option (List ℕ)) (left : Option (List Row)) → left ≡ option_map rows_of file → IsFront (option_map rows_of file) left []
+at_first None left e = tt
+at_first (Some bytes) left e = (rows_of bytes, e, refl)
+
+-- the rows read so far, and what they were found to be
+pub record Tested (file : Option (List ℕ)) (left : Option (List Row)) (tally : Tally) : Type 0 where
+  pub front : List Row
+  pub is_front : IsFront (option_map rows_of file) left front
+  pub few : length front ≤ most_rows
+  pub tallied : IsTally (findings_of front) tally
+
+pub tested_first : (file : Option (List ℕ)) (left : Option (List Row)) (tally : Tally) → left ≡ option_map rows_of file → IsTally [] tally
+    → Tested file left tally
+tested_first file left tally e t =
+    record { front = []; is_front = at_first file left e; few = omega arith; tallied = t }
+
+-- a tally counts no more bad rows than rows, and no more of these than there may be
+pub counted : (file : Option (List ℕ)) (left : Option (List Row)) (tally : Tally) → Tested file left tally
+    → (tally.bad ≤ tally.rows) × (tally.rows ≤ most_rows)
+counted file left tally h = (
+  omega (arith, h.tallied.rows_are, h.tallied.bad_are, bad_within (findings_of h.front)),
+  omega (arith, h.tallied.rows_are, length-map h.front finding_of_row, h.few),
+)
+
+pub counts_one : (file : Option (List ℕ)) (left : Option (List Row)) (tally tally' : Tally) (finding : Finding) → Tested file left tally
+    → ((findings : List Finding) → IsTally findings tally → IsTally (findings ++ finding ∷ []) tally')
+    → tally'.rows ≡ tally.rows + 1
+counts_one file left tally tally' finding h add =
+    omega (arith, h.tallied.rows_are, (add (findings_of h.front) h.tallied).rows_are, length-append (findings_of h.front) (finding ∷ []))
+
+pub tested_next : (file : Option (List ℕ)) (left left' : Option (List Row)) (tally tally' : Tally) (row : Row) (finding : Finding)
+    → Tested file left tally → TakesRow left left' true row → tally.rows < most_rows → finding ≡ finding_of_row row
+    → ((findings : List Finding) → IsTally findings tally → IsTally (findings ++ finding ∷ []) tally')
+    → Tested file left' tally'
+tested_next file left left' tally tally' row finding h t room found add = record {
+  front = h.front ++ row ∷ [];
+  is_front = front_next (option_map rows_of file) left left' h.front row h.is_front t;
+  few = omega (arith, length-append h.front (row ∷ []), h.tallied.rows_are, length-map h.front finding_of_row, room);
+  tallied =
+      subst (λ findings. IsTally findings tally') (ap (λ f. findings_of h.front ++ f ∷ []) found ∙ sym (map-append finding_of_row h.front (row ∷ [])))
+      (add (findings_of h.front) h.tallied);
+}
+
+pub tested_all : (file : Option (List ℕ)) (left left' : Option (List Row)) (tally : Tally) (row : Row) → Tested file left tally
+    → TakesRow left left' false row → IsTallyOf file tally
+tested_all file left left' tally row h t = record {
+  rows = h.front;
+  are_rows = front_all file left left' h.front row h.is_front t;
+  few = h.few;
+  tallied = h.tallied;
+}
+
+too_many_rows : (file : Option (List ℕ)) (left' : Option (List Row)) (front : List Row) → IsFront (option_map rows_of file) left' front
+    → most_rows < length front → HasTooMany file
+too_many_rows None left' front h many = record { rows = front; are_rows = tt; many = many }
+too_many_rows (Some bytes) left' front (rest, is, e) many =
+    record { rows = rows_of bytes; are_rows = refl; many = omega (arith, ap length e, length-append front rest, many) }
+
+pub tested_too_many : (file : Option (List ℕ)) (left left' : Option (List Row)) (tally : Tally) (row : Row) → Tested file left tally
+    → TakesRow left left' true row → tally.rows ≡ most_rows → HasTooMany file
+tested_too_many file left left' tally row h t full =
+    too_many_rows file left' (h.front ++ row ∷ []) (front_next (option_map rows_of file) left left' h.front row h.is_front t)
+    (omega (arith, length-append h.front (row ∷ []), h.tallied.rows_are, length-map h.front finding_of_row, full))
+
+-- one more row and its line
+pub tally_push : (findings : List Finding) (finding : Finding) (tally tally' : Tally) → IsTally findings tally
+    → tally'.rows ≡ tally.rows + 1 → tally'.bad ≡ tally.bad + bad_count (finding ∷ [])
+    → string_bytes tally'.lines ≡ string_bytes tally.lines ++ finding_text (tally.rows + 1) finding
+    → IsTally (findings ++ finding ∷ []) tally'
+tally_push findings finding tally tally' h rows bad lines =
+    let place : tally.rows + 1 ≡ 1 + length findings = omega (arith, h.rows_are) in
+    record {
+      rows_are = omega (arith, rows, h.rows_are, length-append findings (finding ∷ []));
+      bad_are = bad ∙ ap (λ n. n + bad_count (finding ∷ [])) h.bad_are ∙ sym (bad_count-push findings finding);
+      lines_are =
+          lines ∙ ap₂ (λ before n. before ++ finding_text n finding) h.lines_are place ∙ sym (findings_text-push 1 findings finding);
+    }
+
+pub if_ok : {T E : Type 0} (P : T → Type 0) (r : Result T E) (x : T) → IfOk r P → r ≡ Ok x → P x
+if_ok P (Ok y) x h e = let same : y ≡ x = cc e in subst P same h
+if_ok P (Err f) x h e = cc e
+
+-- the one reading of a burst, joined
+pub joined_is : (burst : List ℕ) (ms : List Content) (end : End) → AreOctets burst → Reads burst ms end
+    → joined_text ms ++ end_text end ≡ joined_reading burst
+joined_is burst ms end bytes reads =
+    let one = one_reading 4096 burst ms (messages_of burst) end (end_of burst) reads (reads_computed 4096 burst bytes) in
+    ap₂ (λ m e. joined_text m ++ end_text e) one.0 one.1

@@ -1,0 +1,99 @@
+use Rattle.std.specs.List.{list_all}
+use Rattle.std.specs.Prelude.{ℕ, suc, ◌≡◌, ◌⊎◌, Bool, List, [], ◌∷◌, ◌++◌, codes, decimal, length, IfSome, Option, None, Some, if◌then◌else◌}
+use Rattle.std.specs.Io.KnownBytes.{Appends, Keeps}
+use Rattle.vdcp_files.specs.Files.{File, file, file_failure}
+use Rattle.vdcp_text.specs.Failure.{failure_line, status_of}
+use Rattle.vdcp_text.specs.Text.{line}
+use Rattle.vdcp_files.specs.declared.check.EventFault.{EventFault}
+use Rattle.vdcp_files.specs.declared.check.EventFault.TheVariants.{Missing, Outside}
+use Rattle.vdcp_text.specs.declared.failure.Failure.{Failure}
+use Rattle.vdcp_list.specs.Catalogues.{IsCatalogue, IsCatalogueFault}
+use Rattle.vdcp_list.specs.Playlists.{IsPlaylist, IsPlaylistFault}
+use Rattle.vdcp_list.specs.Rows.{rows_of}
+use Rattle.vdcp_list.specs.declared.faults.ListFault.{ListFault}
+use Rattle.vdcp_port.specs.Clips.{is_playable, length_of}
+use Rattle.vdcp_value.specs.Ids.{text_of_id}
+use Rattle.vdcp_value.specs.Parts.{part_fits}
+use Rattle.vdcp_value.specs.declared.clip_id.ClipId.{ClipId}
+use Rattle.vdcp_value.specs.declared.part.Item.{Item}
+use Rattle.vdcp_value.specs.declared.part.Part.{Part}
+use Rattle.vdcp_value.specs.declared.rate.Rate.{Rate}
+use Rattle.vdcp_value.specs.declared.timecode.Timecode.{Timecode}
+
+-- why a part, or the whole, of a clip of this length, or of one that isn't known, can't be played, if it can't
+abbrev pub fault_in : Option Timecode → Option Part → Option EventFault
+fault_in None part = Some Missing
+fault_in (Some clip) None = None
+fault_in (Some clip) (Some part) = if part_fits part clip then None else Some Outside
+
+-- why an item can't be played with these clips, if it can't
+abbrev pub fault_of : List (ClipId × Timecode) → Item → Option EventFault
+fault_of clips item = fault_in (length_of clips item.id) item.part
+
+abbrev pub fault_text : EventFault → List ℕ
+fault_text Missing = codes "missing"
+fault_text Outside = codes "outside"
+
+-- the line of event k, if it can't be played
+abbrev pub event_text : ℕ → ClipId → Option EventFault → List ℕ
+event_text k id None = []
+event_text k id (Some fault) = line (fault_text fault ++ codes " " ++ decimal k ++ codes " " ++ text_of_id id)
+
+-- the lines of the events that can't be played, counted from k on
+abbrev pub events_text : List (ClipId × Timecode) → ℕ → List Item → List ℕ
+events_text clips k [] = []
+events_text clips k (item ∷ items) = event_text k item.id (fault_of clips item) ++ events_text clips (suc k) items
+
+-- what a check of these events against these clips prints
+abbrev pub check_text : List (ClipId × Timecode) → List Item → List ℕ
+check_text clips items =
+    line (codes "events " ++ decimal (length items)) ++ line (codes "clips " ++ decimal (length clips)) ++ events_text clips 0 items
+
+-- every event can be played: the port can cue its item
+abbrev pub are_playable : List (ClipId × Timecode) → List Item → Bool
+are_playable clips items = list_all (is_playable clips) items
+
+-- a file is a playlist of these items
+abbrev pub IsListOf : Rate → File → List Item → Type 0
+IsListOf rate (file name bytes) items = IfSome bytes (λ text. IsPlaylist rate (rows_of text) items)
+
+-- a file is a catalogue of these clips
+abbrev pub IsCatalogueOf : Rate → File → List (ClipId × Timecode) → Type 0
+IsCatalogueOf rate (file name bytes) clips = IfSome bytes (λ text. IsCatalogue rate (rows_of text) clips)
+
+-- the files are a playlist and a catalogue, a writer gained what their check prints, and this is whether every event can be played
+pub record IsChecked (rate : Rate) (list catalogue : File) (old new : Option (List ℕ)) (playable : Bool) : Type 0 where
+  pub items : List Item
+  pub clips : List (ClipId × Timecode)
+  pub is_playlist : IsListOf rate list items
+  pub is_catalogue : IsCatalogueOf rate catalogue clips
+  pub gained : Appends old new (check_text clips items)
+  pub playable_is : playable ≡ are_playable clips items
+
+-- the files are a playlist and a catalogue
+abbrev pub AreWhole : Rate → File → File → Type 0
+AreWhole rate list catalogue =
+    ((items : List Item) × IsListOf rate list items) × ((clips : List (ClipId × Timecode)) × IsCatalogueOf rate catalogue clips)
+
+-- the list isn't read, with this failure
+abbrev pub RefusesList : Rate → File → Failure → Type 0
+RefusesList rate (file name bytes) failure =
+    (fault : ListFault) × (failure ≡ file_failure name fault) × IfSome bytes (λ text. IsPlaylistFault rate (rows_of text) fault)
+
+-- the catalogue isn't read, with this failure
+abbrev pub RefusesCatalogue : Rate → File → Failure → Type 0
+RefusesCatalogue rate (file name bytes) failure =
+    (fault : ListFault) × (failure ≡ file_failure name fault) × IfSome bytes (λ text. IsCatalogueFault rate (rows_of text) fault)
+
+-- the list, which comes first, isn't read, or else the catalogue
+abbrev pub Refuses : Rate → File → File → Failure → Type 0
+Refuses rate list catalogue failure =
+    RefusesList rate list failure ⊎ (((items : List Item) × IsListOf rate list items) × RefusesCatalogue rate catalogue failure)
+
+-- a row of one of the files is refused: one writer gained the line that tells it, and the other nothing
+pub record IsRefused (rate : Rate) (list catalogue : File) (out out' err err' : Option (List ℕ)) : Type 0 where
+  pub failure : Failure
+  pub refused : Refuses rate list catalogue failure
+  pub of_row : status_of failure ≡ 1
+  pub told : Appends err err' (failure_line failure)
+  pub silent : Keeps out out'

@@ -1,0 +1,175 @@
+ghost use Rattle.std.specs.Io.KnownBytes.{Appends, Keeps};
+ghost use Rattle.std.specs.Prelude.{◌≡◌, ◌≢◌, ◌⊎◌, ◌<◌, IfErr, IfOk, IfSome, OnOk, false, length, true};
+ghost use Rattle.vdcp_files.specs.Check.{AreWhole, IsChecked, IsRefused, Refuses, are_playable, check_text, event_text, events_text, fault_of};
+ghost use Rattle.vdcp_text.specs.Failure.{status_of};
+ghost use Rattle.vdcp_files.specs.Files.{file};
+
+use crate::input::{Input, file_failure};
+use arrayvec::ArrayString;
+use std::alloc::Global;
+use std::{fmt, io};
+use vdcp_auto::Source;
+use vdcp_list::{read_catalogue, read_list};
+use vdcp_port::Catalogue;
+use vdcp_text::Failure;
+use vdcp_value::{ClipId, Item, Rate};
+
+/// Checks a playlist against a catalogue, both with time codes at this rate. `out` gets how many
+/// events and how many clips there are, and then a line for each event whose clip the catalogue
+/// hasn't got, and for each whose part doesn't fit its clip.
+///
+/// The status is 0 where there is no such event, and 1 where there is one. It is 1 too where a row
+/// is refused, and 3 where a file can't be read or memory was refused: `err` is told of these, and
+/// `out` gets nothing. The list is read first. The status is 3 where a writer failed, to which
+/// nothing more is written; `out` is flushed behind the last line.
+pub fn do_check<L: io::Read + Drop, C: io::Read + Drop, W: io::Write, E: io::Write>(
+    alloc: Global,
+    list: Input<'_, L>,
+    catalogue: Input<'_, C>,
+    rate: Rate,
+    out: &mut W,
+    err: &mut E,
+) -> u8
+    ensures playable { result ≡ 0 → IsChecked rate (file list.entry.name (L.remaining list.entry.reader)) (file catalogue.entry.name (C.remaining catalogue.entry.reader))
+        (W.contents out.old) (W.contents out.new) true }
+    ensures untold { result ≡ 0 → Keeps (E.contents err.old) (E.contents err.new) }
+    // The status is 1 for what isn't playable, and for a row that is refused.
+    ensures others { result ≡ 1 →
+        (IsChecked rate (file list.entry.name (L.remaining list.entry.reader)) (file catalogue.entry.name (C.remaining catalogue.entry.reader))
+        (W.contents out.old) (W.contents out.new) false × Keeps (E.contents err.old) (E.contents err.new))
+        ⊎ IsRefused rate (file list.entry.name (L.remaining list.entry.reader)) (file catalogue.entry.name (C.remaining catalogue.entry.reader))
+        (W.contents out.old) (W.contents out.new) (E.contents err.old) (E.contents err.new) }
+    ensures silent { Keeps (W.contents out.old) (W.contents out.new)
+        ⊎ AreWhole rate (file list.entry.name (L.remaining list.entry.reader)) (file catalogue.entry.name (C.remaining catalogue.entry.reader)) }
+    ensures statuses { (result < 2) ⊎ (result ≡ 3) }
+{
+    match check(alloc, list, catalogue, rate, out) {
+        Ok(true) => 0,
+        Ok(false) => 1,
+        Err(failure) => failure.report(err),
+    }
+}
+
+// Reads both files, writes what was found, and says whether each event can be played.
+fn check<'a, L: io::Read + Drop, C: io::Read + Drop, W: io::Write>(
+    alloc: Global,
+    list: Input<'a, L>,
+    catalogue: Input<'a, C>,
+    rate: Rate,
+    out: &mut W,
+) -> Result<bool, Failure<'a>>
+    ensures checked { IfOk result (IsChecked rate (file list.entry.name (L.remaining list.entry.reader)) (file catalogue.entry.name (C.remaining catalogue.entry.reader))
+        (W.contents out.old) (W.contents out.new)) }
+    ensures refused { IfErr result (λ e. (e ≡ Failure.Writer)
+        ⊎ (Refuses rate (file list.entry.name (L.remaining list.entry.reader)) (file catalogue.entry.name (C.remaining catalogue.entry.reader)) e × Keeps (W.contents out.old) (W.contents out.new))) }
+    ensures silent { Keeps (W.contents out.old) (W.contents out.new)
+        ⊎ AreWhole rate (file list.entry.name (L.remaining list.entry.reader)) (file catalogue.entry.name (C.remaining catalogue.entry.reader)) }
+    ensures statuses { IfErr result (λ e. status_of e ≢ 2) }
+{
+    let events = match read_list(alloc, list.reader, rate) {
+        Ok(events) => events,
+        Err(fault) => return Err(file_failure(list.name, fault)),
+    };
+    let clips = match read_catalogue(alloc, catalogue.reader, rate) {
+        Ok(clips) => clips,
+        Err(fault) => return Err(file_failure(catalogue.name, fault)),
+    };
+    write_findings(&events, &clips, clips.len(), out).map_err(|_| Failure::Writer)
+}
+
+// Writes what was found, and says whether each event can be played.
+fn write_findings<S: Source, C: Catalogue, W: io::Write>(
+    events: &S,
+    clips: &C,
+    clip_count: usize,
+    out: &mut W,
+) -> io::Result<bool>
+    requires { clip_count ≡ length (C.clips clips.now) }
+    ensures text { OnOk result (Appends (W.contents out.old) (W.contents out.new)
+        (check_text (C.clips clips.now) (S.items events.now))) }
+    ensures playable { IfOk result (λ playable. playable ≡ are_playable (C.clips clips.now) (S.items events.now)) }
+{
+    let event_count = events.len();
+    writeln!(out, "events {event_count}")?;
+    writeln!(out, "clips {clip_count}")?;
+    let playable = write_events(events, clips, out)?;
+    out.flush()?;
+    Ok(playable)
+}
+
+// Writes the lines of the events that can't be played, and says whether there are none.
+fn write_events<S: Source, C: Catalogue, W: io::Write>(
+    events: &S,
+    clips: &C,
+    out: &mut W,
+) -> io::Result<bool>
+    ensures text { OnOk result (Appends (W.contents out.old) (W.contents out.new)
+        (events_text (C.clips clips.now) 0 (S.items events.now))) }
+    ensures playable { IfOk result (λ playable. playable ≡ are_playable (C.clips clips.now) (S.items events.now)) }
+{
+    let mut playable = true;
+    for k in 0..events.len() {
+        let item = events.at(k);
+        let fault = fault_of(clips, &item);
+        write_event(k, item.id, fault, out)?;
+        playable &= fault.is_none();
+    }
+    Ok(playable)
+}
+
+// Writes the line of an event, if it can't be played.
+fn write_event<W: io::Write>(
+    k: usize,
+    id: ClipId,
+    fault: Option<EventFault>,
+    out: &mut W,
+) -> io::Result<()>
+    ensures { OnOk result (Appends (W.contents out.old) (W.contents out.new) (event_text k id fault)) }
+{
+    let Some(fault) = fault else {
+        return Ok(());
+    };
+    let mut text = ArrayString::<18>::new();
+    id.show(&mut text);
+    let id = text.as_str();
+    writeln!(out, "{fault} {k} {id}")
+}
+
+/// Why an event can't be played.
+#[derive(Clone, Copy, Debug, PartialEq, Eq)]
+enum EventFault {
+    /// The catalogue hasn't got its clip.
+    Missing,
+    /// Its part doesn't fit its clip.
+    Outside,
+}
+
+impl fmt::Display for EventFault {
+    ghost use Rattle.std.specs.Prelude.{Some};
+    ghost use Rattle.vdcp_files.specs.Check.{fault_text};
+
+    ghost output = { λ fault. Some (fault_text fault) };
+
+    fn fmt<W: fmt::Write>(&self, f: &mut fmt::Formatter<W>) -> fmt::Result {
+        match self {
+            EventFault::Missing => write!(f, "missing"),
+            EventFault::Outside => write!(f, "outside"),
+        }
+    }
+}
+
+// Why an event can't be played with these clips, if it can't.
+fn fault_of<C: Catalogue>(clips: &C, item: &Item) -> Option<EventFault>
+    ensures { result ≡ fault_of (C.clips clips.now) item.now }
+{
+    let Some(length) = clips.length(&item.id) else {
+        return Some(EventFault::Missing);
+    };
+    match item.part {
+        Some(part) if !part.fits(&length) => Some(EventFault::Outside),
+        Some(_) | None => None,
+    }
+}
+
+#[cfg(test)]
+mod tests;

@@ -1,0 +1,286 @@
+ghost use Rattle.csv.specs.Records.{fields_of};
+ghost use Rattle.hex.specs.Hex.{decode_of};
+ghost use Rattle.std.specs.Io.KnownBytes.{Appends, Keeps};
+ghost use Rattle.std.specs.Prelude.{◌≡◌, ◌⊎◌, ◌<◌, ◌≤◌, ℕ, ◌≢◌, ◌++◌, ◌∷◌, [], IfErr, IfNone, IfOk, IfSome, List, OnOk, length, string_bytes};
+ghost use Rattle.vdcp_text.specs.End.{end_of};
+ghost use Rattle.vdcp_text.specs.Failure.{failure_line};
+ghost use Rattle.vdcp_files.specs.Vectors.{AreTested, Finding, HasTooMany, IsTally, IsTallyOf, IsUntested, bad_count, finding_of, finding_of_burst, finding_of_row, finding_text, joined_reading, joined_text, too_many, vectors_text};
+ghost use Rattle.vdcp_frame.specs.Message.{Content};
+ghost use Rattle.vdcp_frame.specs.Reading.{Reads};
+ghost use Rattle.vdcp_list.specs.Rows.{most_rows, rows_of};
+
+use crate::input::{Input, file_failure};
+use csv::ByteRecord;
+use hex::FromHexError;
+use std::alloc::{AllocError, Global};
+use std::fmt::Write;
+use std::{fmt, io};
+use vdcp_frame::{Step, read_at};
+use vdcp_list::{MAX_ROWS, next_row, rows_in};
+use vdcp_text::{End, Failure, MessageText, RowFault};
+
+/// Tests each row of a vector file: a burst in hexadecimal digits, and its reading, the lines of
+/// which are joined by `; `. It is CSV with commas and double quotes, without a header row, and
+/// blank lines are left out. `out` gets a line for each row that has another reading, that hasn't
+/// two fields, or whose first field isn't an even number of hexadecimal digits; and then one with
+/// the number of rows.
+///
+/// The status is 0 where all rows are right, and 1 where one isn't. It is 1 too where there are
+/// more than 10,000 rows, and 3 where the file can't be read or memory was refused: `err` is told
+/// of these, and `out` gets nothing. The status is 3 where a writer failed, to which nothing more
+/// is written; `out` is flushed behind the last line.
+pub fn do_vectors<R: io::Read + Drop, W: io::Write, E: io::Write>(
+    alloc: Global,
+    file: Input<'_, R>,
+    out: &mut W,
+    err: &mut E,
+) -> u8
+    ensures right { result ≡ 0 → AreTested (R.remaining file.entry.reader) (W.contents out.old) (W.contents out.new) 0 }
+    ensures untold { result ≡ 0 → Keeps (E.contents err.old) (E.contents err.new) }
+    // The status is 1 where a row is bad, and for a file of too many rows.
+    ensures bad { result ≡ 1 →
+        (Keeps (E.contents err.old) (E.contents err.new)
+        × (bad : ℕ) × (0 < bad) × AreTested (R.remaining file.entry.reader) (W.contents out.old) (W.contents out.new) bad)
+        ⊎ (HasTooMany (R.remaining file.entry.reader) × Keeps (W.contents out.old) (W.contents out.new)
+        × Appends (E.contents err.old) (E.contents err.new) (failure_line (too_many file.entry.name))) }
+    ensures silent { Keeps (W.contents out.old) (W.contents out.new)
+        ⊎ IfSome (R.remaining file.entry.reader) (λ bytes. length (rows_of bytes) ≤ most_rows) }
+    ensures statuses { (result < 2) ⊎ (result ≡ 3) }
+{
+    match vectors(alloc, file, out) {
+        Ok(0) => 0,
+        Ok(_) => 1,
+        Err(failure) => failure.report(err),
+    }
+}
+
+// Tests the rows, writes what was found, and says how many are bad.
+fn vectors<'a, R: io::Read + Drop, W: io::Write>(
+    alloc: Global,
+    file: Input<'a, R>,
+    out: &mut W,
+) -> Result<usize, Failure<'a>>
+    ensures tested { IfOk result (AreTested (R.remaining file.entry.reader) (W.contents out.old) (W.contents out.new)) }
+    ensures refused { IfErr result (λ e. (e ≡ Failure.Writer)
+        ⊎ (IsUntested file.entry.name (R.remaining file.entry.reader) e × Keeps (W.contents out.old) (W.contents out.new))) }
+    ensures silent { Keeps (W.contents out.old) (W.contents out.new)
+        ⊎ IfSome (R.remaining file.entry.reader) (λ bytes. length (rows_of bytes) ≤ most_rows) }
+{
+    let tally = test_rows(alloc, file)?;
+    tally.write(out).map_err(|_| Failure::Writer)
+}
+
+// Tests the rows of a file.
+fn test_rows<'a, R: io::Read + Drop>(
+    alloc: Global,
+    file: Input<'a, R>,
+) -> Result<Tally, Failure<'a>>
+    ensures tally { IfOk result (IsTallyOf (R.remaining file.entry.reader)) }
+    ensures refused { IfErr result (IsUntested file.entry.name (R.remaining file.entry.reader)) }
+{
+    let name = file.name;
+    let mut rows = rows_in(alloc, file.reader);
+    let mut row = ByteRecord::new(alloc);
+    let mut reading = String::new(alloc);
+    let mut tally = Tally::new(alloc);
+    while next_row(&mut rows, &mut row).map_err(|fault| file_failure(name, fault))? {
+        if tally.rows == MAX_ROWS {
+            return Err(Failure::Row(name, MAX_ROWS + 1, RowFault::TooMany));
+        }
+        let verdict = test_row(alloc, &row, &mut reading)?;
+        tally.add(verdict)?;
+    }
+    Ok(tally)
+}
+
+// What a row is found to be.
+#[derive(Clone, Copy)]
+enum Verdict<'a> {
+    // The burst has the expected reading.
+    Right,
+    // There aren't two fields.
+    Columns,
+    // The first field isn't an even number of hexadecimal digits.
+    Hex,
+    // The burst has another reading, this one.
+    Other(&'a str),
+}
+
+impl Verdict<'_> {
+    // How many bad rows it counts as.
+    fn bad(self) -> usize
+        ensures bad { result ≡ bad_count (finding_of self.entry ∷ []) }
+        ensures few { result ≤ 1 }
+    {
+        match self {
+            Verdict::Right => 0,
+            Verdict::Columns | Verdict::Hex | Verdict::Other(_) => 1,
+        }
+    }
+}
+
+// Tests a row. `reading` is the room for what its burst reads as.
+fn test_row<'a>(
+    alloc: Global,
+    row: &ByteRecord,
+    reading: &'a mut String,
+) -> Result<Verdict<'a>, AllocError>
+    ensures { IfOk result (λ verdict. finding_of verdict ≡ finding_of_row (fields_of row.now)) }
+{
+    match two_fields(row) {
+        Some((digits, expected)) => test_burst(alloc, digits, expected, reading),
+        None => Ok(Verdict::Columns),
+    }
+}
+
+// The fields of a row that has two.
+fn two_fields(row: &ByteRecord) -> Option<(&[u8], &[u8])>
+    ensures some { IfSome result (λ fields. fields_of row.now ≡ fields.0.now ∷ fields.1.now ∷ []) }
+    ensures none { IfNone result (length (fields_of row.now) ≢ 2) }
+{
+    if row.len() != 2 {
+        return None;
+    }
+    Some((row.get(0)?, row.get(1)?))
+}
+
+// Tests the digits of a burst.
+fn test_burst<'a>(
+    alloc: Global,
+    digits: &[u8],
+    expected: &[u8],
+    reading: &'a mut String,
+) -> Result<Verdict<'a>, AllocError>
+    ensures { IfOk result (λ verdict. finding_of verdict ≡ finding_of_burst (decode_of digits.now) expected.now) }
+{
+    let burst = match hex::decode(alloc, digits) {
+        Ok(burst) => burst,
+        Err(FromHexError::OutOfMemory) => return Err(AllocError),
+        Err(_) => return Ok(Verdict::Hex),
+    };
+    show_reading(burst.as_slice(), reading)?;
+    if reading.as_bytes() == expected {
+        Ok(Verdict::Right)
+    } else {
+        Ok(Verdict::Other(reading.as_str()))
+    }
+}
+
+// Writes a burst's reading, its lines joined, in place of the text.
+fn show_reading(burst: &[u8], text: &mut String) -> Result<(), AllocError>
+    ensures { OnOk result (string_bytes text.new ≡ joined_reading burst.now) }
+{
+    let end = show_messages(burst, text)?;
+    write!(text, "{end}")
+}
+
+// Writes the lines of a burst's messages in place of the text, and gives the burst's end.
+fn show_messages(burst: &[u8], text: &mut String) -> Result<End, AllocError>
+    ensures { IfOk result (λ end. (ms : List Content) × Reads burst.now ms (end_of end)
+        × (string_bytes text.new ≡ joined_text ms)) }
+{
+    text.clear();
+    let mut from = 0;
+    loop {
+        match read_at(burst, from) {
+            Step::Message(message, next) => {
+                let message = MessageText(message);
+                write!(text, "{message}; ")?;
+                from = next;
+            }
+            Step::Clean => return Ok(End::Clean),
+            Step::Cut(count) => return Ok(End::Cut(count)),
+            Step::Fault(fault, place) => return Ok(End::Fault(fault, place)),
+        }
+    }
+}
+
+// Adds the line of row `k`, if it is bad.
+fn write_line(lines: &mut String, k: usize, verdict: Verdict<'_>) -> Result<(), AllocError>
+    ensures { OnOk result (string_bytes lines.new ≡ string_bytes lines.old ++ finding_text k (finding_of verdict.entry)) }
+{
+    match verdict {
+        Verdict::Right => Ok(()),
+        Verdict::Columns => writeln!(lines, "row {k}: columns"),
+        Verdict::Hex => writeln!(lines, "row {k}: hex"),
+        Verdict::Other(reading) => writeln!(lines, "row {k}: got {reading}"),
+    }
+}
+
+// How many rows there were, and which of them were bad.
+#[derive(Drop)]
+struct Tally {
+    rows: usize,
+    bad: usize,
+    // The lines of the bad rows.
+    lines: String,
+}
+
+impl Tally {
+    fn new(alloc: Global) -> Tally
+        ensures { IsTally [] result }
+    {
+        Tally {
+            rows: 0,
+            bad: 0,
+            lines: String::new(alloc),
+        }
+    }
+
+    // Counts one more row, and adds its line if it is bad.
+    fn add(&mut self, verdict: Verdict<'_>) -> Result<(), AllocError>
+        requires few { self.old.rows < 10_000 }
+        requires within { self.old.bad ≤ self.old.rows }
+        ensures { OnOk result ((findings : List Finding) → IsTally findings self.old
+            → IsTally (findings ++ finding_of verdict.entry ∷ []) self.new) }
+    {
+        let k = self.rows + 1;
+        write_line(&mut self.lines, k, verdict)?;
+        self.rows = k;
+        self.bad += verdict.bad();
+        Ok(())
+    }
+
+    // Writes the lines and the counts, and gives how many rows are bad.
+    fn write<W: io::Write>(&self, out: &mut W) -> io::Result<usize>
+        ensures text { (findings : List Finding) → IsTally findings self.now
+            → OnOk result (Appends (W.contents out.old) (W.contents out.new) (vectors_text findings)) }
+        ensures bad { IfOk result (λ bad. bad ≡ self.now.bad) }
+    {
+        let Tally { rows, bad, lines } = self;
+        out.write_all(lines.as_bytes())?;
+        let count = CountText {
+            rows: *rows,
+            bad: *bad,
+        };
+        writeln!(out, "{count}")?;
+        out.flush()?;
+        Ok(*bad)
+    }
+}
+
+// The last line: how many rows there are, and how many of them are bad.
+#[derive(Clone, Copy)]
+struct CountText {
+    rows: usize,
+    bad: usize,
+}
+
+impl fmt::Display for CountText {
+    ghost use Rattle.std.specs.Prelude.{Some};
+    ghost use Rattle.vdcp_files.specs.Vectors.{count_text};
+
+    ghost output = { λ c. Some (count_text c.rows c.bad) };
+
+    fn fmt<W: fmt::Write>(&self, f: &mut fmt::Formatter<W>) -> fmt::Result {
+        let CountText { rows, bad } = *self;
+        if bad == 0 {
+            write!(f, "vectors {rows} ok")
+        } else {
+            write!(f, "vectors {rows} bad {bad}")
+        }
+    }
+}
+
+#[cfg(test)]
+mod tests;

@@ -1,0 +1,41 @@
+use Rattle.std.specs.Prelude.{ℕ, List, ◌++◌, codes, decimal}
+use Rattle.vdcp_text.specs.Text.{line}
+use Rattle.vdcp_text.specs.declared.failure.Failure.{Failure}
+use Rattle.vdcp_text.specs.declared.failure.Failure.TheVariants.{Hex, Word, Arguments, Text, Open, Read, Row, Memory, Writer}
+use Rattle.vdcp_text.specs.declared.failure.RowFault.{RowFault}
+use Rattle.vdcp_text.specs.declared.failure.RowFault.TheVariants as rows
+
+-- the exit status of a failure
+abbrev pub status_of : Failure → ℕ
+status_of Hex = 1
+status_of Word = 1
+status_of Arguments = 1
+status_of Text = 2
+status_of (Open name) = 3
+status_of (Read name) = 3
+status_of (Row name row fault) = 1
+status_of Memory = 3
+status_of Writer = 3
+
+abbrev pub row_fault_text : RowFault → List ℕ
+row_fault_text rows.Columns = codes "columns"
+row_fault_text rows.Id = codes "id"
+row_fault_text rows.Time = codes "time"
+row_fault_text rows.Twice = codes "twice"
+row_fault_text rows.TooMany = codes "too many"
+
+-- what a failure is told as, but for a writer's, of which nothing is told
+abbrev pub failure_text : Failure → List ℕ
+failure_text Hex = codes "hex"
+failure_text Word = codes "word"
+failure_text Arguments = codes "arguments"
+failure_text Text = codes "text"
+failure_text (Open name) = name.now ++ codes ": cannot open"
+failure_text (Read name) = name.now ++ codes ": read"
+failure_text (Row name row fault) = name.now ++ codes ": row " ++ decimal row ++ codes ": " ++ row_fault_text fault
+failure_text Memory = codes "memory"
+failure_text Writer = codes "write"
+
+-- the line that tells a failure
+abbrev pub failure_line : Failure → List ℕ
+failure_line failure = line (codes "vdcp: " ++ failure_text failure)

@@ -1,0 +1,124 @@
+ghost use Rattle.std.specs.Io.KnownBytes.{Appends, Keeps};
+ghost use Rattle.std.specs.Prelude.{◌≡◌, ◌⊎◌, ◌<◌};
+
+use std::alloc::AllocError;
+use std::{fmt, io};
+
+/// Why a subcommand gives up.
+#[derive(Clone, Copy, Debug, PartialEq, Eq)]
+pub enum Failure<'a> {
+    /// The argument isn't an even number of hexadecimal digits.
+    Hex,
+    /// No command has this name.
+    Word,
+    /// The command has another number of arguments, or a byte, a time code or an ID isn't its text.
+    Arguments,
+    /// A word of the command line isn't text.
+    Text,
+    /// The file of this name can't be opened.
+    Open(&'a str),
+    /// The file of this name can't be read.
+    Read(&'a str),
+    /// A row of the file of this name, counted from 1, is refused.
+    Row(&'a str, usize, RowFault),
+    /// Memory was refused.
+    Memory,
+    /// A writer failed.
+    Writer,
+}
+
+impl Failure<'_> {
+    ghost use Rattle.vdcp_text.specs.Failure.{failure_line, status_of};
+
+    /// Tells `err` of the failure in one line and gives the exit status: 1 for refused data, 2 for
+    /// words that aren't text, and 3 for the others. It is 3 too where it can't be told. Of a writer
+    /// that failed nothing is told.
+    pub fn report<E: io::Write>(self, err: &mut E) -> u8
+        ensures status { (result ≡ status_of self.entry) ⊎ (result ≡ 3) }
+        ensures told { result < 3 → Appends (E.contents err.old) (E.contents err.new) (failure_line self.entry) }
+        ensures quiet { self.entry ≡ Failure.Writer → Keeps (E.contents err.old) (E.contents err.new) }
+    {
+        if let Failure::Writer = self {
+            return 3;
+        }
+        match writeln!(err, "vdcp: {self}") {
+            Ok(()) => self.status(),
+            Err(_) => 3,
+        }
+    }
+
+    // The exit status.
+    fn status(self) -> u8
+        ensures { result ≡ status_of self.entry }
+    {
+        match self {
+            Failure::Hex | Failure::Word | Failure::Arguments | Failure::Row(..) => 1,
+            Failure::Text => 2,
+            Failure::Open(_) | Failure::Read(_) | Failure::Memory | Failure::Writer => 3,
+        }
+    }
+}
+
+impl fmt::Display for Failure<'_> {
+    ghost use Rattle.std.specs.Prelude.{Some};
+    ghost use Rattle.vdcp_text.specs.Failure.{failure_text};
+
+    ghost output = { λ failure. Some (failure_text failure) };
+
+    fn fmt<W: fmt::Write>(&self, f: &mut fmt::Formatter<W>) -> fmt::Result {
+        match *self {
+            Failure::Hex => write!(f, "hex"),
+            Failure::Word => write!(f, "word"),
+            Failure::Arguments => write!(f, "arguments"),
+            Failure::Text => write!(f, "text"),
+            Failure::Open(name) => write!(f, "{name}: cannot open"),
+            Failure::Read(name) => write!(f, "{name}: read"),
+            Failure::Row(name, row, fault) => write!(f, "{name}: row {row}: {fault}"),
+            Failure::Memory => write!(f, "memory"),
+            Failure::Writer => write!(f, "write"),
+        }
+    }
+}
+
+impl From<AllocError> for Failure<'_> {
+    ghost use Rattle.std.specs.Prelude.{◌≡◌};
+    ghost use Rattle.vdcp_text.specs.declared.failure.Failure.TheVariants.{Memory};
+
+    ghost from_gives = { λ _ failure. failure ≡ Memory };
+
+    fn from(_error: AllocError) -> Self {
+        Self::Memory
+    }
+}
+
+/// Why a row of a file is refused.
+#[derive(Clone, Copy, Debug, PartialEq, Eq)]
+pub enum RowFault {
+    /// It has a wrong number of fields.
+    Columns,
+    /// It has no ID.
+    Id,
+    /// It has no time code that it can have.
+    Time,
+    /// It has the ID of an earlier row.
+    Twice,
+    /// It is the first past the limit.
+    TooMany,
+}
+
+impl fmt::Display for RowFault {
+    ghost use Rattle.std.specs.Prelude.{Some};
+    ghost use Rattle.vdcp_text.specs.Failure.{row_fault_text};
+
+    ghost output = { λ fault. Some (row_fault_text fault) };
+
+    fn fmt<W: fmt::Write>(&self, f: &mut fmt::Formatter<W>) -> fmt::Result {
+        match self {
+            RowFault::Columns => write!(f, "columns"),
+            RowFault::Id => write!(f, "id"),
+            RowFault::Time => write!(f, "time"),
+            RowFault::Twice => write!(f, "twice"),
+            RowFault::TooMany => write!(f, "too many"),
+        }
+    }
+}

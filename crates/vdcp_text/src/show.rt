@@ -1,0 +1,104 @@
+ghost use Rattle.std.specs.Prelude.{◌≡◌, ◌⊎◌, ◌<◌, List, IfOk, IfErr, OnErr, OnOk, IsErr, IsOkAnd};
+ghost use Rattle.std.specs.Io.KnownBytes.{Appends, Keeps};
+ghost use Rattle.hex.specs.Hex.{decode_of};
+ghost use Rattle.vdcp_frame.specs.Message.{Content};
+ghost use Rattle.vdcp_frame.specs.Reading.{Reads};
+ghost use Rattle.vdcp_text.specs.End.{end_of};
+ghost use Rattle.vdcp_text.specs.Failure.{failure_line};
+ghost use Rattle.vdcp_text.specs.Text.{messages_text};
+ghost use Rattle.vdcp_text.specs.Show.{GainsReading, IsShown};
+
+use crate::failure::Failure;
+use crate::text::{End, MeaningText, MessageText};
+use hex::FromHexError;
+use std::alloc::Allocator;
+use std::io;
+use vdcp_frame::{Step, read_at};
+
+/// Shows the burst that hexadecimal digits spell: a line for each of its messages, with `words`
+/// also the command or reply that it carries, and then one for its end.
+///
+/// The status is 0 where the end is clean, and 1 where it isn't. It is 1 too where `hex` isn't an
+/// even number of hexadecimal digits, and 3 where memory was refused; `err` is told of both. It
+/// is 3 where a writer failed, to which nothing more is written; `out` is flushed behind the last
+/// line.
+pub fn do_show<A: Allocator, W: io::Write, E: io::Write>(
+    alloc: A,
+    hex: &str,
+    words: bool,
+    out: &mut W,
+    err: &mut E,
+) -> u8
+    ensures shown { IfOk (decode_of hex.now) (λ burst. result < 2 →
+        IsShown words burst (W.contents out.old) (W.contents out.new) result) }
+    ensures silent { OnErr (decode_of hex.now) (Keeps (W.contents out.old) (W.contents out.new)) }
+    ensures refused { OnErr (decode_of hex.now) ((result ≡ 1) ⊎ (result ≡ 3)) }
+    ensures told { OnErr (decode_of hex.now) (result ≡ 1 → Appends (E.contents err.old) (E.contents err.new) (failure_line Failure.Hex)) }
+    ensures untold { OnOk (decode_of hex.now) (result < 2 → Keeps (E.contents err.old) (E.contents err.new)) }
+    ensures statuses { (result < 2) ⊎ (result ≡ 3) }
+{
+    match show(alloc, hex, words, out) {
+        Ok(End::Clean) => 0,
+        Ok(End::Cut(_) | End::Fault(..)) => 1,
+        Err(failure) => failure.report(err),
+    }
+}
+
+// Decodes the digits and writes the burst's reading.
+fn show<A: Allocator, W: io::Write>(
+    alloc: A,
+    hex: &str,
+    words: bool,
+    out: &mut W,
+) -> Result<End, Failure<'static>>
+    ensures shown { IfOk result (λ end. IsOkAnd (decode_of hex.now) (λ burst.
+        GainsReading words burst (W.contents out.old) (W.contents out.new) (end_of end))) }
+    ensures hex { result ≡ Err Failure.Hex → IsErr (decode_of hex.now) }
+    ensures others { IfErr result (λ e. (e ≡ Failure.Hex) ⊎ (e ≡ Failure.Memory) ⊎ (e ≡ Failure.Writer)) }
+    ensures silent { OnErr (decode_of hex.now) (Keeps (W.contents out.old) (W.contents out.new)) }
+{
+    let burst = match hex::decode(alloc, hex) {
+        Ok(burst) => burst,
+        Err(FromHexError::OutOfMemory) => return Err(Failure::Memory),
+        Err(_) => return Err(Failure::Hex),
+    };
+    write_reading(out, words, burst.as_slice()).map_err(|_| Failure::Writer)
+}
+
+// Writes a burst's reading, and gives its end.
+fn write_reading<W: io::Write>(out: &mut W, words: bool, burst: &[u8]) -> io::Result<End>
+    ensures { IfOk result (λ end. GainsReading words burst.now (W.contents out.old) (W.contents out.new) (end_of end)) }
+{
+    let end = write_messages(out, words, burst)?;
+    writeln!(out, "{end}")?;
+    out.flush()?;
+    Ok(end)
+}
+
+// Writes the lines of a burst's messages, and gives the burst's end.
+fn write_messages<W: io::Write>(out: &mut W, words: bool, burst: &[u8]) -> io::Result<End>
+    ensures { IfOk result (λ end. (ms : List Content) × Reads burst.now ms (end_of end)
+        × Appends (W.contents out.old) (W.contents out.new) (messages_text words ms)) }
+{
+    let mut from = 0;
+    loop {
+        match read_at(burst, from) {
+            Step::Message(message, next) => {
+                let text = MessageText(message);
+                if words {
+                    let meaning = MeaningText(message);
+                    writeln!(out, "{text}{meaning}")?;
+                } else {
+                    writeln!(out, "{text}")?;
+                }
+                from = next;
+            }
+            Step::Clean => return Ok(End::Clean),
+            Step::Cut(count) => return Ok(End::Cut(count)),
+            Step::Fault(fault, place) => return Ok(End::Fault(fault, place)),
+        }
+    }
+}
+
+#[cfg(test)]
+mod tests;
