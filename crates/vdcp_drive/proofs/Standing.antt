@@ -275,5 +275,16 @@ one_broken below start a t told port reader port' aired' told' is may h e =
 -- What was sent is a beginning of what is served.
 pub broken_front : (order : InOrder) (alone : Alone) (start : ClockedPort) (u : Told) (port : ClockedPort) → HasBrokenOff start u port → IsPartlySent start u
 broken_front order alone start u port (in_listen b) = ([], sym b.sent_is ∙ sym (append-nil u.sent))
-broken_front order alone start u port (in_answer b) = ?
+broken_front order alone start u port (in_answer b) =
+    let p : ClockedPort = port_before start u.came in
+    let done : List ℕ = sent_for_bursts start (ended_bursts u.came) in
+    let others : List ℕ = bytes_for_all (after_messages p (b.before ++ b.message ∷ [])) b.others in
+    (b.rest ++ others,
+    ap (λ (ms : List Content). done ++ bytes_for_all p ms) (b.messages ∙ sym (append_assoc b.before (b.message ∷ []) b.others))
+    ∙ ap (λ (l : List ℕ). done ++ l) (order.sent p (b.before ++ b.message ∷ []) b.others
+    ∙ ap (λ (l : List ℕ). l ++ others) (order.sent p b.before (b.message ∷ []) ∙ ap (λ (l : List ℕ). bytes_for_all p b.before ++ l) (alone.sent (after_messages p b.before) b.message ∙ b.answer)))
+    ∙ shuffle done (bytes_for_all p b.before) b.front b.rest others
+    ∙ ap (λ (l : List ℕ). l ++ (b.rest ++ others)) (sym b.sent_is)) where
+  shuffle : (d a f r x : List ℕ) → d ++ ((a ++ (f ++ r)) ++ x) ≡ (d ++ (a ++ f)) ++ (r ++ x)
+  shuffle d a f r x = simp append_assoc
 broken_front order alone start u port (at_end b) = ?

@@ -3,10 +3,11 @@
 use Rattle.std.specs.List.{flat_map}
 use Rattle.std.specs.Option.{option_to_list}
 use Rattle.std.specs.Prelude.{ℕ, ◌≡◌, ◌+◌, List, [], ◌∷◌, ◌++◌, length, map, Option, None, Some, if◌then◌else◌}
+use Rattle.vdcp_frame.specs.Progress.{Progress, reading}
 use Rattle.vdcp_words.specs.declared.command.Command.{Command}
 use Rattle.vdcp_auto.specs.Course.{course, after_inputs}
 use Rattle.vdcp_auto.specs.Plan.{Plan}
-use Rattle.vdcp_auto.specs.Turn.{awaited, ticked}
+use Rattle.vdcp_auto.specs.Turn.{start, awaited, ticked}
 use Rattle.vdcp_auto.specs.declared.exchange.Exchange.{Exchange}
 use Rattle.vdcp_auto.specs.declared.exchange.Heard.{Heard}
 use Rattle.vdcp_auto.specs.declared.exchange.Input.{Input}
@@ -15,7 +16,7 @@ use Rattle.vdcp_auto.specs.declared.phase.State.{State}
 use Rattle.vdcp_drive.specs.Bursts.{finished_bursts, is_within_burst}
 use Rattle.vdcp_auto.specs.Heard.{heard_in}
 use Rattle.vdcp_drive.specs.Hearing.{command_bytes}
-use Rattle.vdcp_drive.specs.Wires.{Arrival, Told}
+use Rattle.vdcp_drive.specs.Wires.{Arrival, Told, nothing_told}
 
 -- what a burst that ended says to the controller: its first message, or that nothing came
 abbrev pub input_of : Option Heard → Input
@@ -53,6 +54,13 @@ starts_behind unit n (c ∷ commands) = n ∷ starts_behind unit (n + length (co
 
 abbrev pub starts_of : ℕ → List Command → List ℕ
 starts_of unit commands = starts_behind unit 0 commands
+
+-- a new automation: its controller is new, nothing was heard, and its fresh wire tells its bytes
+pub record IsNew (state : State) (reader : Progress) (heard : Option Heard) (told : Option Told) : Type 0 where
+  pub controller : state ≡ start
+  pub at_start : reader ≡ reading 0 []
+  pub silent : heard ≡ None
+  pub fresh : told ≡ Some nothing_told
 
 -- an automation that began with a new controller has heard what came, and its controller is in this state
 pub record HasRun (plan : Plan) (unit : ℕ) (told : Told) (state : State) : Type 0 where

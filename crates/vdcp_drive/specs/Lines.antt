@@ -1,5 +1,5 @@
 -- What a driver answers to what came.
-use Rattle.std.specs.Prelude.{ℕ, ◌≡◌, Bool, true, false, IsTrue, IsSome, IsNone, Option, List, ◌++◌, length}
+use Rattle.std.specs.Prelude.{ℕ, ◌≡◌, Bool, true, false, IsTrue, IsSome, IsNone, Option, Some, None, List, ◌++◌, length}
 use Rattle.vdcp_auto.specs.declared.outcome.Outcome.{Outcome}
 use Rattle.vdcp_drive.specs.declared.line.Line.{Line}
 use Rattle.vdcp_drive.specs.declared.line.Line.TheVariants as line
@@ -12,6 +12,11 @@ abbrev pub line_of : Arrival → Line
 line_of (bytes piece) = line.More
 line_of silence = line.Ended
 line_of close = line.Closed
+
+-- that the controller has ended goes before any other answer
+abbrev pub ran_unless_ended : Option Outcome → Ran → Ran
+ran_unless_ended (Some outcome) other = ran.Ended
+ran_unless_ended None other = other
 
 -- so many listens were made, and no close came
 pub record AllListened (listens : ℕ) (old new : List Arrival) : Type 0 where

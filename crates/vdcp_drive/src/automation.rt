@@ -3,16 +3,18 @@ ghost use Rattle.vdcp_frame.specs.Message.{content_of, AreOctets};
 ghost use Rattle.vdcp_frame.specs.Progress.{reading};
 ghost use Rattle.vdcp_auto.specs.Plan.{plan_of};
 ghost use Rattle.vdcp_auto.specs.Turn as turns;
-ghost use Rattle.vdcp_drive.specs.Driven.{HasRun, HasRunBroken};
+ghost use Rattle.vdcp_drive.specs.Driven.{IsNew, HasRun, HasRunBroken};
 ghost use Rattle.vdcp_drive.specs.Hearing.{HasSent, HasSendBroken, HasHeard, HasReceived, Hears, command_bytes};
-ghost use Rattle.vdcp_drive.specs.Lines.{line_of, RunsTo};
+ghost use Rattle.vdcp_drive.specs.Lines.{line_of, RunsTo, ran_unless_ended};
 ghost use Rattle.vdcp_drive.specs.Wires.{Arrival, Told, IfTold, MayCome, nothing_told, adds_sent, adds_came, SendsFront};
 
 use crate::line::{DriveFault, Line, Ran};
 use crate::wire::{Came, Wire, WireFault};
 use arrayvec::ArrayVec;
 use std::marker::Model;
+use vdcp_auto::laws as courses;
 use vdcp_auto::{Controller, Heard, Source};
+use vdcp_frame::laws as bursts;
 use vdcp_frame::{Got, Reader, write};
 use vdcp_words::Command;
 
@@ -106,7 +108,8 @@ impl<S: Source, W: Wire> AutoDriver<S, W> {
             self.old.controller.state self.new.controller.state (W.told self.old.wire) (W.told self.new.wire)) }
         ensures controller { self.new.controller ≡ record self.old.controller { state = self.new.controller.state } }
         ensures keeps { self.new ≡ record self.old { controller = self.new.controller; wire = self.new.wire } }
-        ensures device { IsErr result ↔ (W.failures self.new.wire ≡ 1) }
+        ensures works { OnOk result (W.failures self.new.wire ≡ 0) }
+        ensures device { OnErr result (W.failures self.new.wire ≡ 1) }
         ensures stays { W.failures self.old.wire ≡ 1 → OnErr result (self.new ≡ self.old) }
     {
         if self.failed {
@@ -118,6 +121,52 @@ impl<S: Source, W: Wire> AutoDriver<S, W> {
                 self.failed = true;
                 Err(DriveFault::Device)
             }
+        }
+    }
+
+    /// So many listens, or up to the close or the controller's end. It sends the next command only
+    /// while a listen is left. `Device` where the wire failed, now or before.
+    pub fn run(&mut self, listens: u64) -> Result<Ran, DriveFault>
+        // Of a new automation: a new controller, and a fresh wire that tells its bytes.
+        ensures run { IsNew self.old.controller.state self.old.reader self.old.heard (W.told self.old.wire) →
+            OnOk result (IfTold (W.told self.new.wire) (λ u. HasRun (plan_of S.items self.old.controller) self.old.unit u self.new.controller.state)) }
+        ensures answer { IsNew self.old.controller.state self.old.reader self.old.heard (W.told self.old.wire) →
+            IfOk result (λ ran. IfTold (W.told self.new.wire) (λ u. RunsTo ran (turns.outcome_of self.new.controller.state.stage) listens [] u.came)) }
+        ensures broken { IsNew self.old.controller.state self.old.reader self.old.heard (W.told self.old.wire) → W.failures self.old.wire ≡ 0 →
+            OnErr result (IfTold (W.told self.new.wire) (λ u. HasRunBroken (plan_of S.items self.old.controller) self.old.unit u self.new.controller.state)) }
+        ensures controller { self.new.controller ≡ record self.old.controller { state = self.new.controller.state } }
+        ensures unit { self.new.unit ≡ self.old.unit }
+        ensures works { OnOk result (W.failures self.new.wire ≡ 0) }
+        ensures device { OnErr result (W.failures self.new.wire ≡ 1) }
+        ensures stays { W.failures self.old.wire ≡ 1 → OnErr result (self.new ≡ self.old) }
+    {
+        courses::courses_follow_one_another();
+        bursts::what_is_followed_is_read();
+        bursts::what_is_fed_is_followed();
+        if self.failed {
+            return Err(DriveFault::Device);
+        }
+        let mut made = 0;
+        'listens: while made < listens {
+            self.send()?;
+            if !self.controller.awaiting() {
+                return Ok(Ran::Ended);
+            }
+            if self.listen()? == Line::Closed {
+                return Ok(self.unless_ended(Ran::Closed));
+            }
+            made += 1;
+        }
+        Ok(self.unless_ended(Ran::Spent))
+    }
+
+    // That the controller has ended goes before any other answer.
+    fn unless_ended(&self, ran: Ran) -> Ran
+        ensures { result ≡ ran_unless_ended (turns.outcome_of self.now.controller.state.stage) ran }
+    {
+        match self.controller.outcome() {
+            Some(_) => Ran::Ended,
+            None => ran,
         }
     }
 
@@ -133,7 +182,8 @@ impl<S: Source, W: Wire> AutoDriver<S, W> {
         ensures unchanged { OnErr result (self.new ≡ record self.old { wire = self.new.wire }) }
         ensures controller { self.new.controller ≡ record self.old.controller { state = self.new.controller.state } }
         ensures unit { self.new.unit ≡ self.old.unit }
-        ensures device { IsErr result ↔ (W.failures self.new.wire ≡ 1) }
+        ensures works { OnOk result (W.failures self.new.wire ≡ 0) }
+        ensures device { OnErr result (W.failures self.new.wire ≡ 1) }
         ensures stays { W.failures self.old.wire ≡ 1 → OnErr result (self.new ≡ self.old) }
     {
         if self.failed {
@@ -164,17 +214,14 @@ fn send_next<S: Source, W: Wire>(
     ensures works { OnOk result (W.failures wire.new ≡ 0) }
     ensures failed { OnErr result (W.failures wire.new ≡ 1) }
 {
-    if controller.awaiting() || controller.outcome().is_some() {
+    if !controller.is_ready() {
         return Ok(false);
     }
     wire.drop_waiting()?;
-    match controller.tick() {
-        None => Ok(false),
-        Some(command) => {
-            send_command(&command, unit, wire)?;
-            Ok(true)
-        }
+    if let Some(command) = controller.tick() {
+        send_command(&command, unit, wire)?;
     }
+    Ok(true)
 }
 
 // Sends the bytes of a command.

@@ -84,6 +84,45 @@ impl<C: Catalogue, W: Wire> Server<C, W> {
         self.aired
     }
 
+    /// So many turns, or up to the close. `Device` where the wire failed, now or before.
+    pub fn serve(&mut self, turns: u64) -> Result<Ran, DriveFault>
+        // Of a new server, whose fresh wire tells its bytes: what is sent, and the port that this leaves.
+        ensures sent { self.old.reader ≡ reading 0 [] → W.told self.old.wire ≡ Some nothing_told →
+            OnOk result (IfTold (W.told self.new.wire) (λ u. u.sent ≡ served self.old.port u.came)) }
+        ensures port { self.old.reader ≡ reading 0 [] → W.told self.old.wire ≡ Some nothing_told →
+            OnOk result (IfTold (W.told self.new.wire) (λ u. self.new.port ≡ port_after self.old.port u.came)) }
+        ensures broken { self.old.reader ≡ reading 0 [] → W.told self.old.wire ≡ Some nothing_told → W.failures self.old.wire ≡ 0 →
+            OnErr result (IfTold (W.told self.new.wire) (λ u. HasBrokenOff self.old.port u self.new.port × IsPartlySent self.old.port u)) }
+        // Of a server that began with some port, and has served what its wire tells that came.
+        ensures served { (start : ClockedPort) (t : Told) → W.told self.old.wire ≡ Some t → IsServed start t self.old.port self.old.reader →
+            OnOk result (IfTold (W.told self.new.wire) (λ u. IsServed start u self.new.port self.new.reader)) }
+        ensures broken_off { (start : ClockedPort) (t : Told) → W.told self.old.wire ≡ Some t → IsServed start t self.old.port self.old.reader →
+            W.failures self.old.wire ≡ 0 → OnErr result (IfTold (W.told self.new.wire) (λ u. HasBrokenOff start u self.new.port)) }
+        // Which answer it gives: Spent where all turns were made and no close came.
+        ensures answer { (t : Told) → W.told self.old.wire ≡ Some t →
+            IfOk result (λ ran. IfTold (W.told self.new.wire) (λ u. ServesTo ran turns t.came u.came)) }
+        // A server drops nothing that waits.
+        ensures drops { (t : Told) → W.told self.old.wire ≡ Some t → IfTold (W.told self.new.wire) (λ u. u.drops ≡ t.drops) }
+        ensures works { OnOk result (W.failures self.new.wire ≡ 0) }
+        ensures device { OnErr result (W.failures self.new.wire ≡ 1) }
+        ensures stays { W.failures self.old.wire ≡ 1 → OnErr result (self.new ≡ self.old) }
+    {
+        bursts::what_is_fed_is_followed();
+        answers::messages_after_messages();
+        answers::one_alone();
+        if self.failed {
+            return Err(DriveFault::Device);
+        }
+        let mut made = 0;
+        'turns: while made < turns {
+            if self.turn()? == Line::Closed {
+                return Ok(Ran::Closed);
+            }
+            made += 1;
+        }
+        Ok(Ran::Spent)
+    }
+
     /// One `listen`, and what comes of it. `Device` where the wire failed, now or before.
     pub fn turn(&mut self) -> Result<Line, DriveFault>
         // Of any server.
@@ -100,7 +139,8 @@ impl<C: Catalogue, W: Wire> Server<C, W> {
             W.failures self.old.wire ≡ 0 → OnErr result (IfTold (W.told self.new.wire) (λ u. HasBrokenOff start u self.new.port)) }
         // A server drops nothing that waits.
         ensures drops { (t : Told) → W.told self.old.wire ≡ Some t → IfTold (W.told self.new.wire) (λ u. u.drops ≡ t.drops) }
-        ensures device { IsErr result ↔ (W.failures self.new.wire ≡ 1) }
+        ensures works { OnOk result (W.failures self.new.wire ≡ 0) }
+        ensures device { OnErr result (W.failures self.new.wire ≡ 1) }
         ensures stays { W.failures self.old.wire ≡ 1 → OnErr result (self.new ≡ self.old) }
     {
         bursts::one_reading();
