@@ -13,9 +13,9 @@ use Rattle.vdcp_list.specs.Reading.{IsReadFault, TakesRow}
 use Rattle.vdcp_list.specs.Rows.{Row, most_rows}
 use Rattle.vdcp_list.specs.declared.faults.ListFault.TheVariants.{Columns, Id, Time, Twice, TooMany, Memory, Read}
 use Rattle.vdcp_list.specs.declared.faults.ListFault.{ListFault}
-use Rattle.vdcp_port.specs.Clips.{is_same_id, length_of}
+use Rattle.vdcp_port.specs.Clips.{length_of}
 use Rattle.vdcp_value.proofs.Ids.{equal_ids}
-use Rattle.vdcp_value.specs.Ids.{text_of_id}
+use Rattle.vdcp_value.specs.Ids.{is_same_id, text_of_id}
 use Rattle.vdcp_value.specs.declared.clip_id.ClipId.{ClipId}
 use Rattle.vdcp_value.specs.declared.rate.Rate.{Rate}
 use Rattle.vdcp_value.specs.declared.timecode.Timecode.{Timecode}

@@ -9,10 +9,10 @@ use Rattle.std.specs.Int.{from_be_bytes, to_be_bytes, w64}
 use Rattle.std.specs.List.{list_all}
 use Rattle.std.specs.Prelude.{◌≢◌, Option, None, Some, is_some, option_map, if◌then◌else◌}
 use Rattle.vdcp_list.specs.Places.{key_of, place_of}
-use Rattle.vdcp_port.specs.Clips.{is_same_id, length_of}
+use Rattle.vdcp_port.specs.Clips.{length_of}
 use Rattle.vdcp_value.proofs.Bytes.{both_hold}
 use Rattle.vdcp_value.proofs.Ids.{equal_ids, length_of_id, same_id}
-use Rattle.vdcp_value.specs.Ids.{id_bytes}
+use Rattle.vdcp_value.specs.Ids.{id_bytes, is_same_id}
 use Rattle.vdcp_value.specs.declared.clip_id.ClipId.{ClipId}
 use Rattle.vdcp_value.specs.declared.timecode.Timecode.{Timecode}
 

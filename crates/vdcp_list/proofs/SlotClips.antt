@@ -2,7 +2,8 @@ use Rattle.std.proofs.Common.{◌≡◌, ℕ, ◌+◌, ◌<◌, Bool, true, fals
 use Rattle.std.proofs.lemmas.List.{map-append, take_more}
 use Rattle.std.specs.Prelude.{None, Some}
 use Rattle.vdcp_list.specs.declared.slots.Slot.{Slot}
-use Rattle.vdcp_port.specs.Clips.{is_same_id, length_of}
+use Rattle.vdcp_value.specs.Ids.{is_same_id}
+use Rattle.vdcp_port.specs.Clips.{length_of}
 use Rattle.vdcp_value.specs.declared.clip_id.ClipId.{ClipId}
 use Rattle.vdcp_value.specs.declared.timecode.Timecode.{Timecode}
 

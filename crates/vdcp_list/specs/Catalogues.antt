@@ -3,8 +3,7 @@ use Rattle.std.specs.Prelude.{ℕ, ◌+◌, ◌-◌, ◌<◌, ◌≤◌, ◌≡�
 use Rattle.vdcp_list.specs.Rows.{Row, HasId, Reaches, most_rows}
 use Rattle.vdcp_list.specs.declared.faults.ListFault.TheVariants.{Columns, Id, Time, Twice, TooMany, Memory, Read}
 use Rattle.vdcp_list.specs.declared.faults.ListFault.{ListFault}
-use Rattle.vdcp_port.specs.Clips.{is_same_id}
-use Rattle.vdcp_value.specs.Ids.{text_of_id}
+use Rattle.vdcp_value.specs.Ids.{is_same_id, text_of_id}
 use Rattle.vdcp_value.specs.Timecodes.{frames_of, rate_of, text_of}
 use Rattle.vdcp_value.specs.declared.clip_id.ClipId.{ClipId}
 use Rattle.vdcp_value.specs.declared.rate.Rate.{Rate}

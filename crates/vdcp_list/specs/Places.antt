@@ -1,7 +1,6 @@
 use Rattle.std.specs.Int.{from_be_bytes, w64}
 use Rattle.std.specs.Prelude.{ℕ, suc, List, [], ◌∷◌, Option, None, Some, option_map, if◌then◌else◌}
-use Rattle.vdcp_port.specs.Clips.{is_same_id}
-use Rattle.vdcp_value.specs.Ids.{id_bytes}
+use Rattle.vdcp_value.specs.Ids.{id_bytes, is_same_id}
 use Rattle.vdcp_value.specs.declared.clip_id.ClipId.{ClipId}
 use Rattle.vdcp_value.specs.declared.timecode.Timecode.{Timecode}
 

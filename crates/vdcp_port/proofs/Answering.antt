@@ -1,23 +1,20 @@
 -- Answers to messages after messages, and to a burst as it is read.
-use Rattle.std.proofs.Common.{ℕ, ◌<◌, ◌≤◌, ◌≡◌, get_or, List, [], ◌∷◌, ◌++◌, length, arith, refl, sym, ap, ap₂, subst, ◌∙◌, append_assoc, append-nil}
+use Rattle.std.proofs.Common.{ℕ, ◌≤◌, ◌≡◌, List, [], ◌∷◌, ◌++◌, length, arith, refl, sym, ap, ap₂, subst, ◌∙◌, append_assoc, append-nil}
 use Rattle.std.proofs.lemmas.Grind.{flat_map-append}
-use Rattle.std.proofs.lemmas.List.Elements.{All-from_get_or}
 use Rattle.std.specs.Option.{option_or, option_to_list}
 use Rattle.std.specs.Prelude.{Option, None, Some}
 use Rattle.vdcp_value.specs.declared.part.Item.{Item}
 use Rattle.vdcp_frame.specs.Message.{Content}
-use Rattle.vdcp_frame.proofs.BurstLemmas.{reads_computed}
-use Rattle.vdcp_frame.proofs.ReadingLemmas.{one_reading}
-use Rattle.vdcp_frame.specs.Burst.{messages_of, end_of}
-use Rattle.vdcp_frame.specs.Message.{AreBytes}
+use Rattle.vdcp_frame.specs.Message.{AreOctets}
 use Rattle.vdcp_frame.specs.Reader.{ReadsAs}
 use Rattle.vdcp_frame.specs.Reading.{SpellsAll, Reads, End, clean, cut, fault}
 use Rattle.vdcp_frame.specs.declared.got.Ended.{Ended}
 use Rattle.vdcp_frame.specs.declared.got.Ended.TheVariants as silence
 use Rattle.vdcp_words.specs.declared.reply.Reply.{Reply}
-use Rattle.vdcp_port.specs.Answers.{answers_to, aired_on_way, after_messages, end_answers, reply_at_end, reply_bytes, answer_bytes, bytes_for, bytes_for_all, bytes_at_end, items_for, sent_bytes, sent_for, aired_for, after_burst, HasAnsweredAll}
+use Rattle.vdcp_port.specs.Answers.{answers_to, aired_on_way, after_messages, end_answers, reply_at_end, reply_bytes, answer_bytes, bytes_for, bytes_for_all, bytes_at_end, items_for, sent_bytes, sent_for, aired_for, after_burst}
 use Rattle.vdcp_port.specs.Clock.{ClockedPort, answer_to, after_message, aired_by}
 use Rattle.vdcp_port.proofs.Bursts.{one_at_most}
+use Rattle.vdcp_port.proofs.LawsBelow.{OneReading}
 use Rattle.vdcp_port.proofs.Units.{unit_of_after}
 
 -- messages after messages
@@ -107,10 +104,6 @@ bytes_of_one unit reply = append-nil (reply_bytes unit reply)
 
 -- ---- a burst that is read so is answered so
 
-read_messages : (burst : List ℕ) (ms : List Content) (end : End) → AreBytes burst → Reads burst ms end → (messages_of burst ≡ ms) × (end_of burst ≡ end)
-read_messages burst ms end fits reads =
-    one_reading 4096 burst (messages_of burst) ms (end_of burst) end (reads_computed 4096 burst fits) reads
-
 -- how the reader ends it, and how the reading does
 pub ends_as : (burst : List ℕ) (ms : List Content) (ended : Ended) → ReadsAs burst ms ended
     → (end : End) × Reads burst ms end × (end_answers end ≡ option_to_list (reply_at_end ended))
@@ -118,47 +111,38 @@ ends_as burst ms silence.Clean reads = (clean, reads, refl)
 ends_as burst ms (silence.Cut count) reads = (cut count, reads, refl)
 ends_as burst ms silence.AfterFault reads = (fault reads.0 reads.1, reads.2, refl)
 
-pub sent_as_read : (p : ClockedPort) (burst : List ℕ) (ms : List Content) (end : End) → AreBytes burst → Reads burst ms end → sent_for p burst ≡ sent_bytes p ms end
-sent_as_read p burst ms end fits reads =
-    let one = read_messages burst ms end fits reads in
-    ap₂ (sent_bytes p) one.0 one.1
-
-pub aired_as_read : (p : ClockedPort) (burst : List ℕ) (ms : List Content) (end : End) → AreBytes burst → Reads burst ms end → aired_for p burst ≡ aired_on_way p ms
-aired_as_read p burst ms end fits reads = ap (aired_on_way p) (read_messages burst ms end fits reads).0
-
-pub after_as_read : (p : ClockedPort) (burst : List ℕ) (ms : List Content) (end : End) → AreBytes burst → Reads burst ms end → after_burst p burst ≡ after_messages p ms
-after_as_read p burst ms end fits reads = ap (after_messages p) (read_messages burst ms end fits reads).0
-
 pub sent_in_parts : (p : ClockedPort) (ms : List Content) (end : End) → sent_bytes p ms end ≡ bytes_for_all p ms ++ answer_bytes p.state.unit (end_answers end)
 sent_in_parts p ms end = flat_map-append (reply_bytes p.state.unit) (answers_to p ms) (end_answers end)
 
-pub sent_as_ended : (p : ClockedPort) (burst : List ℕ) (ms : List Content) (ended : Ended) → AreBytes burst → ReadsAs burst ms ended
+pub sent_as_read : OneReading → (p : ClockedPort) (burst : List ℕ) (ms : List Content) (end : End) → AreOctets burst → Reads burst ms end
+    → sent_for p burst ≡ bytes_for_all p ms ++ answer_bytes p.state.unit (end_answers end)
+sent_as_read law p burst ms end fits reads =
+    let one = law burst ms end fits reads in
+    ap₂ (sent_bytes p) (sym one.0) (sym one.1) ∙ sent_in_parts p ms end
+
+pub aired_as_read : OneReading → (p : ClockedPort) (burst : List ℕ) (ms : List Content) (end : End) → AreOctets burst → Reads burst ms end → aired_for p burst ≡ aired_on_way p ms
+aired_as_read law p burst ms end fits reads = ap (aired_on_way p) (sym (law burst ms end fits reads).0)
+
+pub after_as_read : OneReading → (p : ClockedPort) (burst : List ℕ) (ms : List Content) (end : End) → AreOctets burst → Reads burst ms end → after_burst p burst ≡ after_messages p ms
+after_as_read law p burst ms end fits reads = ap (after_messages p) (sym (law burst ms end fits reads).0)
+
+-- the same by how the reader ends it
+
+pub sent_as_ended : OneReading → (p : ClockedPort) (burst : List ℕ) (ms : List Content) (ended : Ended) → AreOctets burst → ReadsAs burst ms ended
     → sent_for p burst ≡ bytes_for_all p ms ++ bytes_at_end p.state.unit ended
-sent_as_ended p burst ms ended fits reads =
+sent_as_ended law p burst ms ended fits reads =
     let as_ended = ends_as burst ms ended reads in
-    sent_as_read p burst ms as_ended.0 fits as_ended.1
-    ∙ sent_in_parts p ms as_ended.0
+    sent_as_read law p burst ms as_ended.0 fits as_ended.1
     ∙ ap (λ (replies : List Reply). bytes_for_all p ms ++ answer_bytes p.state.unit replies) as_ended.2
 
--- what has been answered is what a burst asks
-pub record Answered (old now : ClockedPort) (burst out_old out_new : List ℕ) (aired : Option Item) (ended : Ended) : Type 0 where
-  pub reads : Reads burst (messages_of burst) (end_of burst)
-  pub sent : out_new ++ bytes_at_end old.state.unit ended ≡ out_old ++ sent_for old burst
-  pub airs : option_to_list aired ≡ aired_for old burst
-  pub leaves : now ≡ after_burst old burst
+pub aired_as_ended : OneReading → (p : ClockedPort) (burst : List ℕ) (ms : List Content) (ended : Ended) → AreOctets burst → ReadsAs burst ms ended
+    → aired_for p burst ≡ aired_on_way p ms
+aired_as_ended law p burst ms ended fits reads =
+    let as_ended = ends_as burst ms ended reads in
+    aired_as_read law p burst ms as_ended.0 fits as_ended.1
 
-pub burst_answered : (old now : ClockedPort) (burst out_0 out_1 : List ℕ) (aired : Option Item) (ended : Ended)
-    → ((i : ℕ) → get_or burst i 0 < 256)
-    → HasAnsweredAll old now burst out_0 out_1 aired ended
-    → Answered old now burst out_0 out_1 aired ended
-burst_answered old now burst out_0 out_1 aired ended bytes h =
-    let fits : AreBytes burst = All-from_get_or (λ byte. byte < 256) burst 0 (λ i _. bytes i) in
-    let as_ended = ends_as burst h.messages ended h.reads in
-    record {
-      reads = reads_computed 4096 burst fits;
-      sent = ap (λ (bytes : List ℕ). bytes ++ bytes_at_end old.state.unit ended) h.sent
-          ∙ append_assoc out_0 (bytes_for_all old h.messages) (bytes_at_end old.state.unit ended)
-          ∙ ap (λ (bytes : List ℕ). out_0 ++ bytes) (sym (sent_as_ended old burst h.messages ended fits h.reads));
-      airs = h.airs ∙ sym (aired_as_read old burst h.messages as_ended.0 fits as_ended.1);
-      leaves = h.leaves ∙ sym (after_as_read old burst h.messages as_ended.0 fits as_ended.1);
-    }
+pub after_as_ended : OneReading → (p : ClockedPort) (burst : List ℕ) (ms : List Content) (ended : Ended) → AreOctets burst → ReadsAs burst ms ended
+    → after_burst p burst ≡ after_messages p ms
+after_as_ended law p burst ms ended fits reads =
+    let as_ended = ends_as burst ms ended reads in
+    after_as_read law p burst ms as_ended.0 fits as_ended.1

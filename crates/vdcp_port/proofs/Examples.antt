@@ -4,6 +4,7 @@ use Rattle.std.specs.Prelude.{replicate}
 use Rattle.std.specs.List.{flat_map, range_with_len}
 use Rattle.vdcp_value.proofs.FrameNumbers.{frame_number_is}
 use Rattle.vdcp_value.specs.Day.{frame_number}
+use Rattle.vdcp_value.specs.Ids.{id_of}
 use Rattle.vdcp_value.specs.Parts.{part_fits}
 use Rattle.vdcp_value.specs.declared.clip_id.ClipId.{ClipId}
 use Rattle.vdcp_value.specs.declared.label.Label.{Label}
@@ -14,16 +15,16 @@ use Rattle.vdcp_words.specs.declared.reply.Reply.TheVariants.{Ack}
 use Rattle.vdcp_port.specs.Row.{Change, cues, row, refused}
 use Rattle.vdcp_port.specs.Answers.{answer_bytes, sent_for, aired_for, after_burst}
 use Rattle.vdcp_port.specs.Clips.{whole, part_of, is_playable}
-use Rattle.vdcp_port.specs.Clock.{ClockedPort, new_port, after_ready, after_ended, after_frame, completes_cue}
+use Rattle.vdcp_port.specs.Clock.{ClockedPort, new_port, after_ready, after_ended, after_frame, completes_cue, ends_clip}
 use Rattle.vdcp_port.specs.Port.{state_byte}
 
 -- CLIP0001 and CLIP0002, ten seconds each at 25 frames a second
 
 abbrev clip_1 : ClipId
-clip_1 = record { bytes = 0x43 ∷ 0x4C ∷ 0x49 ∷ 0x50 ∷ 0x30 ∷ 0x30 ∷ 0x30 ∷ 0x31 ∷ []; eight = refl }
+clip_1 = id_of (0x43 ∷ 0x4C ∷ 0x49 ∷ 0x50 ∷ 0x30 ∷ 0x30 ∷ 0x30 ∷ 0x31 ∷ [])
 
 abbrev clip_2 : ClipId
-clip_2 = record { bytes = 0x43 ∷ 0x4C ∷ 0x49 ∷ 0x50 ∷ 0x30 ∷ 0x30 ∷ 0x30 ∷ 0x32 ∷ []; eight = refl }
+clip_2 = id_of (0x43 ∷ 0x4C ∷ 0x49 ∷ 0x50 ∷ 0x30 ∷ 0x30 ∷ 0x30 ∷ 0x32 ∷ [])
 
 abbrev ten_seconds : Timecode
 ten_seconds = record { rate = F25; label = record { hours = 0; minutes = 0; seconds = 10; frames = 0 }; lawful = refl }
@@ -67,6 +68,9 @@ stop_bytes = 0x02 ∷ 0x02 ∷ 0x10 ∷ 0x00 ∷ 0xF0 ∷ []
 
 abbrev fresh : List (ClipId × Timecode) → ClockedPort
 fresh clips = new_port clips 0 1 1
+
+abbrev opened : ClockedPort
+opened = after_burst (fresh two_clips) open_bytes
 
 abbrev selected : List (ClipId × Timecode) → ClockedPort
 selected clips = after_burst (after_burst (fresh clips) open_bytes) select_bytes
@@ -147,6 +151,26 @@ clip_is_absent = refl
 
 absent_clip_has_no_size : sent_for (fresh two_clips) (0x02 ∷ 0x0A ∷ 0x30 ∷ 0x14 ∷ 0x43 ∷ 0x4C ∷ 0x49 ∷ 0x50 ∷ 0x30 ∷ 0x30 ∷ 0x30 ∷ 0x39 ∷ 0xCB ∷ []) ≡ 0x05 ∷ 0x01 ∷ []
 absent_clip_has_no_size = refl
+
+-- ---- open, but not selected
+
+abbrev select_2_bytes : List ℕ
+select_2_bytes = 0x02 ∷ 0x03 ∷ 0x20 ∷ 0x22 ∷ 0x02 ∷ 0xBC ∷ []
+
+other_number_is_not_selected : sent_for opened select_2_bytes ≡ 0x05 ∷ 0x01 ∷ []
+other_number_is_not_selected = refl
+
+other_number_changes_nothing : after_burst opened select_2_bytes ≡ opened
+other_number_changes_nothing = refl
+
+other_number_unselects_nothing : after_burst (selected two_clips) select_2_bytes ≡ selected two_clips
+other_number_unselects_nothing = refl
+
+own_number_is_selected : sent_for opened select_bytes ≡ 0x04 ∷ []
+own_number_is_selected = refl
+
+open_port_plays_nothing : sent_for opened play_bytes ≡ 0x05 ∷ 0x01 ∷ []
+open_port_plays_nothing = refl
 
 -- ---- two clips are cued and aired
 
@@ -240,6 +264,30 @@ stopped_state = refl
 nothing_is_active : sent_for stopped active_bytes ≡ 0x02 ∷ 0x03 ∷ 0x30 ∷ 0x87 ∷ 0x00 ∷ 0x49 ∷ []
 nothing_is_active = refl
 
+stop_empties_both_slots : sent_for done_2 stop_bytes ≡ 0x04 ∷ []
+stop_empties_both_slots = refl
+
+stop_with_the_cue_done_leaves_nothing : after_burst done_2 stop_bytes ≡ selected two_clips
+stop_with_the_cue_done_leaves_nothing = refl
+
+stop_while_cueing_leaves_nothing : after_burst cueing_2 stop_bytes ≡ selected two_clips
+stop_while_cueing_leaves_nothing = refl
+
+stop_airs_nothing : aired_for done_2 stop_bytes ≡ []
+stop_airs_nothing = refl
+
+nothing_is_made_ready : after_ready (selected two_clips) ≡ selected two_clips
+nothing_is_made_ready = refl
+
+done_cue_is_ready : after_ready done_1 ≡ done_1
+done_cue_is_ready = refl
+
+nothing_ends : after_ended (selected two_clips) ≡ selected two_clips
+nothing_ends = refl
+
+ended_leaves_a_cue : after_ended done_1 ≡ done_1
+ended_leaves_a_cue = refl
+
 closed_port_is_new : after_burst cueing_2 close_bytes ≡ fresh two_clips
 closed_port_is_new = refl
 
@@ -305,42 +353,106 @@ part_7_bytes = 0x02 ∷ 0x12 ∷ 0x20 ∷ 0x25 ∷ 0x43 ∷ 0x4C ∷ 0x49 ∷ 0x
 abbrev part_8_bytes : List ℕ
 part_8_bytes = 0x02 ∷ 0x12 ∷ 0x20 ∷ 0x25 ∷ 0x43 ∷ 0x4C ∷ 0x49 ∷ 0x50 ∷ 0x30 ∷ 0x30 ∷ 0x30 ∷ 0x31 ∷ 0x00 ∷ 0x08 ∷ 0x00 ∷ 0x00 ∷ 0x00 ∷ 0x03 ∷ 0x00 ∷ 0x00 ∷ 0xC7 ∷ []
 
--- what is judged of the three
-abbrev judged : List ℕ → Bool
-judged start = is_playable two_clips (part_of clip_1 start (0x00 ∷ 0x03 ∷ 0x00 ∷ 0x00 ∷ []))
+abbrev three_seconds : List ℕ
+three_seconds = 0x00 ∷ 0x03 ∷ 0x00 ∷ 0x00 ∷ []
 
-within : judged (0x00 ∷ 0x02 ∷ 0x00 ∷ 0x00 ∷ []) ≡ true
+-- whether a part of it is cued
+abbrev judged : List ℕ → List ℕ → Bool
+judged start duration = is_playable two_clips (part_of clip_1 start duration)
+
+within : judged (0x00 ∷ 0x02 ∷ 0x00 ∷ 0x00 ∷ []) three_seconds ≡ true
 unfolding part_fits
 within = rw (frames_3, frames_2, frames_10) refl
 
-up_to_the_end : judged (0x00 ∷ 0x07 ∷ 0x00 ∷ 0x00 ∷ []) ≡ true
+up_to_the_end : judged (0x00 ∷ 0x07 ∷ 0x00 ∷ 0x00 ∷ []) three_seconds ≡ true
 unfolding part_fits
 up_to_the_end = rw (frames_3, frames_7, frames_10) refl
 
-past_the_end : judged (0x00 ∷ 0x08 ∷ 0x00 ∷ 0x00 ∷ []) ≡ false
+past_the_end : judged (0x00 ∷ 0x08 ∷ 0x00 ∷ 0x00 ∷ []) three_seconds ≡ false
 unfolding part_fits
 past_the_end = rw (frames_3, frames_8, frames_10) refl
 
 -- what goes out where a part is accepted, and where it isn't
-abbrev sent_if : List ℕ → Bool → List ℕ
-sent_if start accepted =
-    let change : Change = cues (part_of clip_1 start (0x00 ∷ 0x03 ∷ 0x00 ∷ 0x00 ∷ [])) in
+abbrev sent_if : List ℕ → List ℕ → Bool → List ℕ
+sent_if start duration accepted =
+    let change : Change = cues (part_of clip_1 start duration) in
     answer_bytes 0 (option_to_list (if accepted then row Ack change else refused).answer ++ [] ++ [])
 
 part_within_the_clip : sent_for (selected two_clips) part_2_bytes ≡ 0x04 ∷ []
-part_within_the_clip = ap (sent_if (0x00 ∷ 0x02 ∷ 0x00 ∷ 0x00 ∷ [])) within
+part_within_the_clip = ap (sent_if (0x00 ∷ 0x02 ∷ 0x00 ∷ 0x00 ∷ []) three_seconds) within
 
 part_within_the_clip_is_cued : byte_of (after_burst (selected two_clips) part_2_bytes) ≡ 0x02
 part_within_the_clip_is_cued = rw within refl
 
 part_up_to_the_clips_end : sent_for (selected two_clips) part_7_bytes ≡ 0x04 ∷ []
-part_up_to_the_clips_end = ap (sent_if (0x00 ∷ 0x07 ∷ 0x00 ∷ 0x00 ∷ [])) up_to_the_end
+part_up_to_the_clips_end = ap (sent_if (0x00 ∷ 0x07 ∷ 0x00 ∷ 0x00 ∷ []) three_seconds) up_to_the_end
 
 part_past_the_clips_end : sent_for (selected two_clips) part_8_bytes ≡ 0x05 ∷ 0x01 ∷ []
-part_past_the_clips_end = ap (sent_if (0x00 ∷ 0x08 ∷ 0x00 ∷ 0x00 ∷ [])) past_the_end
+part_past_the_clips_end = ap (sent_if (0x00 ∷ 0x08 ∷ 0x00 ∷ 0x00 ∷ []) three_seconds) past_the_end
 
 part_past_the_clips_end_changes_nothing : after_burst (selected two_clips) part_8_bytes ≡ selected two_clips
 part_past_the_clips_end_changes_nothing = rw past_the_end refl
+
+-- with a duration of no frame, and with labels that 25 frames a second don't have: frame 25, second 60
+
+frames_0 : frame_number F25 (seconds 0) ≡ 0
+frames_0 = frame_number_is F25 (seconds 0) refl
+
+no_frame : judged (0x00 ∷ 0x02 ∷ 0x00 ∷ 0x00 ∷ []) (0x00 ∷ 0x00 ∷ 0x00 ∷ 0x00 ∷ []) ≡ false
+unfolding part_fits
+no_frame = rw frames_0 refl
+
+unlawful_start : judged (0x25 ∷ 0x02 ∷ 0x00 ∷ 0x00 ∷ []) three_seconds ≡ false
+unfolding part_fits
+unlawful_start = refl
+
+unlawful_duration : judged (0x00 ∷ 0x02 ∷ 0x00 ∷ 0x00 ∷ []) (0x00 ∷ 0x60 ∷ 0x00 ∷ 0x00 ∷ []) ≡ false
+unfolding part_fits
+unlawful_duration = refl
+
+abbrev no_frame_bytes : List ℕ
+no_frame_bytes = 0x02 ∷ 0x12 ∷ 0x20 ∷ 0x25 ∷ 0x43 ∷ 0x4C ∷ 0x49 ∷ 0x50 ∷ 0x30 ∷ 0x30 ∷ 0x30 ∷ 0x31 ∷ 0x00 ∷ 0x02 ∷ 0x00 ∷ 0x00 ∷ 0x00 ∷ 0x00 ∷ 0x00 ∷ 0x00 ∷ 0xD0 ∷ []
+
+abbrev unlawful_start_bytes : List ℕ
+unlawful_start_bytes = 0x02 ∷ 0x12 ∷ 0x20 ∷ 0x25 ∷ 0x43 ∷ 0x4C ∷ 0x49 ∷ 0x50 ∷ 0x30 ∷ 0x30 ∷ 0x30 ∷ 0x31 ∷ 0x25 ∷ 0x02 ∷ 0x00 ∷ 0x00 ∷ 0x00 ∷ 0x03 ∷ 0x00 ∷ 0x00 ∷ 0xA8 ∷ []
+
+abbrev unlawful_duration_bytes : List ℕ
+unlawful_duration_bytes = 0x02 ∷ 0x12 ∷ 0x20 ∷ 0x25 ∷ 0x43 ∷ 0x4C ∷ 0x49 ∷ 0x50 ∷ 0x30 ∷ 0x30 ∷ 0x30 ∷ 0x31 ∷ 0x00 ∷ 0x02 ∷ 0x00 ∷ 0x00 ∷ 0x00 ∷ 0x60 ∷ 0x00 ∷ 0x00 ∷ 0x70 ∷ []
+
+part_of_no_frame : sent_for (selected two_clips) no_frame_bytes ≡ 0x05 ∷ 0x01 ∷ []
+part_of_no_frame = ap (sent_if (0x00 ∷ 0x02 ∷ 0x00 ∷ 0x00 ∷ []) (0x00 ∷ 0x00 ∷ 0x00 ∷ 0x00 ∷ [])) no_frame
+
+part_of_no_frame_changes_nothing : after_burst (selected two_clips) no_frame_bytes ≡ selected two_clips
+part_of_no_frame_changes_nothing = rw no_frame refl
+
+part_with_an_unlawful_start : sent_for (selected two_clips) unlawful_start_bytes ≡ 0x05 ∷ 0x01 ∷ []
+part_with_an_unlawful_start = ap (sent_if (0x25 ∷ 0x02 ∷ 0x00 ∷ 0x00 ∷ []) three_seconds) unlawful_start
+
+part_with_an_unlawful_start_changes_nothing : after_burst (selected two_clips) unlawful_start_bytes ≡ selected two_clips
+part_with_an_unlawful_start_changes_nothing = rw unlawful_start refl
+
+part_with_an_unlawful_duration : sent_for (selected two_clips) unlawful_duration_bytes ≡ 0x05 ∷ 0x01 ∷ []
+part_with_an_unlawful_duration = ap (sent_if (0x00 ∷ 0x02 ∷ 0x00 ∷ 0x00 ∷ []) (0x00 ∷ 0x60 ∷ 0x00 ∷ 0x00 ∷ [])) unlawful_duration
+
+part_with_an_unlawful_duration_changes_nothing : after_burst (selected two_clips) unlawful_duration_bytes ≡ selected two_clips
+part_with_an_unlawful_duration_changes_nothing = rw unlawful_duration refl
+
+-- of a clip that isn't known, and while the port isn't selected
+
+abbrev part_9_bytes : List ℕ
+part_9_bytes = 0x02 ∷ 0x12 ∷ 0x20 ∷ 0x25 ∷ 0x43 ∷ 0x4C ∷ 0x49 ∷ 0x50 ∷ 0x30 ∷ 0x30 ∷ 0x30 ∷ 0x39 ∷ 0x00 ∷ 0x02 ∷ 0x00 ∷ 0x00 ∷ 0x00 ∷ 0x03 ∷ 0x00 ∷ 0x00 ∷ 0xC5 ∷ []
+
+part_of_an_unknown_clip : sent_for (selected two_clips) part_9_bytes ≡ 0x05 ∷ 0x01 ∷ []
+part_of_an_unknown_clip = refl
+
+part_of_an_unknown_clip_changes_nothing : after_burst (selected two_clips) part_9_bytes ≡ selected two_clips
+part_of_an_unknown_clip_changes_nothing = refl
+
+part_while_unselected : sent_for opened part_2_bytes ≡ 0x05 ∷ 0x01 ∷ []
+part_while_unselected = refl
+
+part_while_unselected_changes_nothing : after_burst opened part_2_bytes ≡ opened
+part_while_unselected_changes_nothing = refl
 
 -- ---- how long they play
 
@@ -355,3 +467,37 @@ part_airs_as_a_part = rw within refl
 
 part_plays_its_duration : (after_burst part_done play_bytes).counts.playing ≡ 75
 part_plays_its_duration = rw (within, frames_3) refl
+
+-- ---- a clip of length 0 plays one frame
+
+abbrev no_length : Timecode
+no_length = record { rate = F25; label = seconds 0; lawful = refl }
+
+abbrev short_clip : List (ClipId × Timecode)
+short_clip = (clip_1, no_length) ∷ []
+
+abbrev playing_short : ClockedPort
+playing_short = after_burst (after_ready (after_burst (selected short_clip) cue_1_bytes)) play_bytes
+
+clip_of_no_length_plays_a_frame : playing_short.counts.playing ≡ 1
+clip_of_no_length_plays_a_frame = ap (max 1) frames_0
+
+-- it is cued again, and both counts come to their end in one frame
+
+abbrev both_ending : ClockedPort
+both_ending = after_burst playing_short cue_1_bytes
+
+both_slots_are_full : byte_of both_ending ≡ 0x06
+both_slots_are_full = refl
+
+frame_completes_the_cue : completes_cue both_ending ≡ true
+frame_completes_the_cue = refl
+
+frame_ends_the_clip : ends_clip both_ending ≡ true
+frame_ends_the_clip = rw frames_0 refl
+
+frame_does_both : after_frame both_ending ≡ after_ended (after_ready both_ending)
+frame_does_both = rw frames_0 refl
+
+cue_is_done_and_nothing_plays : byte_of (after_frame both_ending) ≡ 0x80
+cue_is_done_and_nothing_plays = rw frames_0 refl

@@ -1,6 +1,7 @@
 mod Examples
 pub mod Frames
 pub mod FewMessages
+pub mod LawsBelow
 pub mod Answering
 pub mod Readable
 pub mod Sizes

@@ -1,13 +1,7 @@
 -- Each command has an answer in the table, and each answer is read back.
-use Rattle.std.proofs.Common.{ℕ, ◌≡◌, ◌<◌, ◌&&◌, Bool, true, false, nat_eq, arith, refl, List, lit<}
+use Rattle.std.proofs.Common.{ℕ, ◌≡◌, ◌<◌, ◌&&◌, Bool, true, false, nat_eq, refl, List, lit<}
 use Rattle.std.specs.Prelude.{Option, None, Some, IfSome, is_some, if◌then◌else◌}
-use Rattle.vdcp_value.proofs.Bcd.{lawful_two_digits}
-use Rattle.vdcp_value.specs.Bcd.{bcd_byte, bcd_of_label}
-use Rattle.vdcp_value.specs.Bytes.{AreBytes}
-use Rattle.vdcp_value.specs.LabelText.{has_two_digits}
-use Rattle.vdcp_value.specs.Timecodes.{rate_of, label_of, bcd_of}
 use Rattle.vdcp_value.specs.declared.clip_id.ClipId.{ClipId}
-use Rattle.vdcp_value.specs.declared.label.Label.{Label}
 use Rattle.vdcp_value.specs.declared.part.Item.{Item}
 use Rattle.vdcp_value.specs.declared.timecode.Timecode.{Timecode}
 use Rattle.vdcp_words.specs.Replies.{has_bit_0, IsWritableReply}
@@ -18,21 +12,7 @@ use Rattle.vdcp_words.specs.declared.reply.Reply.TheVariants as reply
 use Rattle.vdcp_port.specs.Clips.{length_of, is_playable, whole, part_of}
 use Rattle.vdcp_port.specs.Port.{Cued, empty, cueing, done, PortState, is_open, is_selected, state_byte_of, state_byte}
 use Rattle.vdcp_port.specs.Row.{Row, refused, play_row, size_row, state_reply, command_row}
-
-bcd_below : (n : ℕ) → n < 100 → bcd_byte n < 256
-bcd_below n below = omega arith
-
-four_bytes : (label : Label) → has_two_digits label ≡ true → AreBytes 4 (bcd_of_label label)
-four_bytes label e =
-    let h : bcd_byte label.hours < 256 = bcd_below _ (grind (arith, e)) in
-    let m : bcd_byte label.minutes < 256 = bcd_below _ (grind (arith, e)) in
-    let s : bcd_byte label.seconds < 256 = bcd_below _ (grind (arith, e)) in
-    let f : bcd_byte label.frames < 256 = bcd_below _ (grind (arith, e)) in
-    grind (arith, h, m, s, f)
-
-bytes_of_length : (length : Timecode) → AreBytes 4 (bcd_of length)
-bytes_of_length length =
-    four_bytes (label_of length) (lawful_two_digits (rate_of length) (label_of length) length.lawful)
+use Rattle.vdcp_port.proofs.LawsBelow.{FourBytes}
 
 state_byte_below : (cued : Cued) (playing : Option Item) → state_byte_of cued playing < 256
 state_byte_below empty None = lit< tt
@@ -60,29 +40,29 @@ readable_if false r s p q = q
 refusal : IsReadable refused
 refusal = lit< tt
 
-readable_size : (length : Option Timecode) → IsReadable (size_row length)
-readable_size None = refusal
-readable_size (Some length) = bytes_of_length length
+readable_size : FourBytes → (length : Option Timecode) → IsReadable (size_row length)
+readable_size four None = refusal
+readable_size four (Some length) = four length
 
 readable_play : (cued : Cued) → IsReadable (play_row cued)
 readable_play empty = tt
 readable_play (cueing item) = tt
 readable_play (done item) = tt
 
-pub readable_row : (clips : List (ClipId × Timecode)) (p : PortState) (command : Command) → IsReadable (command_row clips p command)
-readable_row clips p (Open number lock) = readable_if (nat_eq number p.number) _ _ tt tt
-readable_row clips p (Close number) = readable_if (nat_eq number p.number) _ _ tt refusal
-readable_row clips p (Select number) = readable_if (nat_eq number p.number && is_open p) _ _ tt refusal
-readable_row clips p (PlayCue id) = readable_if (is_selected p && is_playable clips (whole id)) _ _ tt refusal
-readable_row clips p (CueData id start duration) =
+pub readable_row : FourBytes → (clips : List (ClipId × Timecode)) (p : PortState) (command : Command) → IsReadable (command_row clips p command)
+readable_row four clips p (Open number lock) = readable_if (nat_eq number p.number) _ _ tt tt
+readable_row four clips p (Close number) = readable_if (nat_eq number p.number) _ _ tt refusal
+readable_row four clips p (Select number) = readable_if (nat_eq number p.number && is_open p) _ _ tt refusal
+readable_row four clips p (PlayCue id) = readable_if (is_selected p && is_playable clips (whole id)) _ _ tt refusal
+readable_row four clips p (CueData id start duration) =
     readable_if (is_selected p && is_playable clips (part_of id start duration)) _ _ tt refusal
-readable_row clips p Play = readable_if (is_selected p) _ _ (readable_play p.cued) refusal
-readable_row clips p Stop = readable_if (is_selected p) _ _ tt refusal
-readable_row clips p (Status bitmap) =
+readable_row four clips p Play = readable_if (is_selected p) _ _ (readable_play p.cued) refusal
+readable_row four clips p Stop = readable_if (is_selected p) _ _ tt refusal
+readable_row four clips p (Status bitmap) =
     readable_if (is_selected p) _ _ (readable_state bitmap (state_byte p) (state_byte_below p.cued p.playing)) refusal
-readable_row clips p ActiveId = readable_if (is_selected p) _ _ tt refusal
-readable_row clips p (IdRequest id) = tt
-readable_row clips p (IdSize id) = readable_size (length_of clips id)
+readable_row four clips p ActiveId = readable_if (is_selected p) _ _ tt refusal
+readable_row four clips p (IdRequest id) = tt
+readable_row four clips p (IdSize id) = readable_size four (length_of clips id)
 
 -- each command's row has an answer
 
@@ -117,6 +97,7 @@ readable_one : (answer : Option Reply) → is_some answer ≡ true → IfSome an
 readable_one None e w = cc
 readable_one (Some reply) e w = (reply, refl, w)
 
-pub answered_row : (clips : List (ClipId × Timecode)) (p : PortState) (command : Command)
+pub answered_row : FourBytes → (clips : List (ClipId × Timecode)) (p : PortState) (command : Command)
     → (reply : Reply) × ((command_row clips p command).answer ≡ Some reply) × IsWritableReply reply
-answered_row clips p command = readable_one (command_row clips p command).answer (has_answer clips p command) (readable_row clips p command)
+answered_row four clips p command =
+    readable_one (command_row clips p command).answer (has_answer clips p command) (readable_row four clips p command)

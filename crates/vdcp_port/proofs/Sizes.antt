@@ -3,15 +3,12 @@ use Rattle.std.proofs.Common.{ℕ, sum, min, take, ◌∙◌, ◌≡◌, ◌+◌
 use Rattle.std.proofs.lemmas.List.{length-take, length-take-le, length-drop}
 use Rattle.std.specs.Option.{option_to_list}
 use Rattle.std.specs.Prelude.{Option, None, Some, IfSome}
-use Rattle.vdcp_value.proofs.Bytes.{length_of_bytes}
-use Rattle.vdcp_value.proofs.Ids.{length_of_id}
 use Rattle.vdcp_value.specs.Ids.{id_bytes}
 use Rattle.vdcp_value.specs.declared.clip_id.ClipId.{ClipId}
 use Rattle.vdcp_value.specs.declared.timecode.Timecode.{Timecode}
-use Rattle.vdcp_frame.proofs.BurstLemmas.{reads_computed}
 use Rattle.vdcp_frame.specs.Burst.{messages_of, end_of}
-use Rattle.vdcp_frame.specs.Message.{Content, ack, nak, framed, AreBytes, Spells, check_byte}
-use Rattle.vdcp_frame.specs.Reading.{SpellsAll, End, clean, cut, fault}
+use Rattle.vdcp_frame.specs.Message.{Content, ack, nak, framed, AreOctets, Spells, check_byte}
+use Rattle.vdcp_frame.specs.Reading.{SpellsAll, End, clean, cut, fault, burst_limit}
 use Rattle.vdcp_words.specs.Replies.{IsWritableReply}
 use Rattle.vdcp_words.specs.declared.reply.Reply.{Reply}
 use Rattle.vdcp_words.specs.declared.reply.Reply.TheVariants.{Ack, Nak, Opened, State, Active, Present, Size}
@@ -24,6 +21,7 @@ use Rattle.vdcp_port.specs.declared.asked.Asked.{Asked}
 use Rattle.vdcp_port.specs.declared.asked.Asked.TheVariants as asked
 use Rattle.vdcp_port.proofs.Answering.{bytes_for_alone, bytes_for_both, sent_in_parts}
 use Rattle.vdcp_port.proofs.Bursts.{one_at_most}
+use Rattle.vdcp_port.proofs.LawsBelow.{ValueBytes, SomeReading}
 use Rattle.vdcp_port.proofs.Readable.{readable_row}
 
 -- a frame is five bytes longer than its data
@@ -31,37 +29,37 @@ frame_size : (rest : List ℕ) (check : ℕ) → length (rest ++ check ∷ []) �
 frame_size rest check = length-append rest (check ∷ [])
 
 -- no answer is longer than one with an ID
-short_reply : (unit : ℕ) (reply : Reply) → IsWritableReply reply → length (reply_bytes unit reply) ≤ 14
-short_reply unit Ack w = lit≤ tt
-short_reply unit (Nak byte) w = lit≤ tt
-short_reply unit (Opened granted) w = lit≤ tt
-short_reply unit (State bitmap None) w = lit≤ tt
-short_reply unit (State bitmap (Some state)) w = lit≤ tt
-short_reply unit (Active None) w = lit≤ tt
-short_reply unit (Active (Some id)) w = omega (arith, length_of_id id, frame_size (id_bytes id) (check_byte (16 * 3 + unit + 0x87 + sum (1 ∷ id_bytes id))))
-short_reply unit (Size time) w = omega (arith, length_of_bytes 4 time w, frame_size)
-short_reply unit (Present there) w = lit≤ tt
+short_reply : ValueBytes → (unit : ℕ) (reply : Reply) → IsWritableReply reply → length (reply_bytes unit reply) ≤ 14
+short_reply law unit Ack w = lit≤ tt
+short_reply law unit (Nak byte) w = lit≤ tt
+short_reply law unit (Opened granted) w = lit≤ tt
+short_reply law unit (State bitmap None) w = lit≤ tt
+short_reply law unit (State bitmap (Some state)) w = lit≤ tt
+short_reply law unit (Active None) w = lit≤ tt
+short_reply law unit (Active (Some id)) w = omega (arith, law.counted 8 (id_bytes id) (law.eight id), frame_size (id_bytes id) (check_byte (16 * 3 + unit + 0x87 + sum (1 ∷ id_bytes id))))
+short_reply law unit (Size time) w = omega (arith, law.counted 4 time w, frame_size)
+short_reply law unit (Present there) w = lit≤ tt
 
 -- the answer, and the item, of a row
 abbrev IsShort : ℕ → Row → Type 0
 IsShort unit r = length (answer_bytes unit (option_to_list r.answer)) ≤ 14
 
-short_answer : (unit : ℕ) (answer : Option Reply) → IfSome answer IsWritableReply → length (answer_bytes unit (option_to_list answer)) ≤ 14
-short_answer unit None w = lit≤ tt
-short_answer unit (Some reply) w = omega (arith, short_reply unit reply w, length-append (reply_bytes unit reply) [])
+short_answer : ValueBytes → (unit : ℕ) (answer : Option Reply) → IfSome answer IsWritableReply → length (answer_bytes unit (option_to_list answer)) ≤ 14
+short_answer law unit None w = lit≤ tt
+short_answer law unit (Some reply) w = omega (arith, short_reply law unit reply w, length-append (reply_bytes unit reply) [])
 
-short_row : (clips : List (ClipId × Timecode)) (p : PortState) (a : Asked) → IsShort p.unit (asked_row clips p a)
-short_row clips p asked.Nothing = lit≤ tt
-short_row clips p asked.NoCommand = lit≤ tt
-short_row clips p (asked.Command command) = short_answer p.unit _ (readable_row clips p command)
+short_row : ValueBytes → (clips : List (ClipId × Timecode)) (p : PortState) (a : Asked) → IsShort p.unit (asked_row clips p a)
+short_row law clips p asked.Nothing = lit≤ tt
+short_row law clips p asked.NoCommand = lit≤ tt
+short_row law clips p (asked.Command command) = short_answer law p.unit _ (readable_row law.four clips p command)
 
 -- an answer has at most three bytes for each byte of its message
-pub short_for_message : (p : ClockedPort) (m : Content) (bytes : List ℕ) → Spells m bytes
+pub short_for_message : ValueBytes → (p : ClockedPort) (m : Content) (bytes : List ℕ) → Spells m bytes
     → length (answer_bytes p.state.unit (option_to_list (answer_to p m))) ≤ 3 * length bytes
-short_for_message p ack bytes h = omega arith
-short_for_message p (nak byte) bytes h = omega arith
-short_for_message p (framed kind unit code rest) bytes h =
-    let short = short_row p.clips p.state (asked_of p.state.unit (framed kind unit code rest)) in
+short_for_message law p ack bytes h = omega arith
+short_for_message law p (nak byte) bytes h = omega arith
+short_for_message law p (framed kind unit code rest) bytes h =
+    let short = short_row law p.clips p.state (asked_of p.state.unit (framed kind unit code rest)) in
     omega (arith, short, ap length h.spelt, frame_size rest h.check)
 
 one_item : (change : Change) → length (option_to_list (on_air change)) ≤ 1
@@ -84,12 +82,12 @@ one_item_for_five p (framed kind unit code rest) bytes h =
 
 -- the same of messages one after another
 
-pub short_for_all : (p : ClockedPort) (ms : List Content) (bytes : List ℕ) → SpellsAll ms bytes → length (bytes_for_all p ms) ≤ 3 * length bytes
-short_for_all p [] bytes spelt = omega arith
-short_for_all p (m ∷ ms) bytes (first, others, spells, spelt, parts) =
+pub short_for_all : ValueBytes → (p : ClockedPort) (ms : List Content) (bytes : List ℕ) → SpellsAll ms bytes → length (bytes_for_all p ms) ≤ 3 * length bytes
+short_for_all law p [] bytes spelt = omega arith
+short_for_all law p (m ∷ ms) bytes (first, others, spells, spelt, parts) =
     let now = after_message p m in
-    let one = short_for_message p m first spells in
-    let more = short_for_all now ms others spelt in
+    let one = short_for_message law p m first spells in
+    let more = short_for_all law now ms others spelt in
     let both : length (bytes_for_all p (m ∷ ms)) ≡ length (bytes_for p m) + length (bytes_for_all now ms) =
     ap length (bytes_for_both p (m ∷ []) ms) ∙ length-append (bytes_for_all p (m ∷ [])) (bytes_for_all now ms)
     ∙ ap (λ (bytes : List ℕ). length bytes + length (bytes_for_all now ms)) (bytes_for_alone p m) in
@@ -106,19 +104,19 @@ items_for_five p (m ∷ ms) bytes (first, others, spells, spelt, parts) =
 short_end : (unit : ℕ) (end : End) → length (answer_bytes unit (end_answers end)) ≤ 2
 short_end unit clean = lit≤ tt
 short_end unit (cut count) = lit≤ tt
-short_end unit (fault kind place) = lit≤ tt
+short_end unit (fault which place) = lit≤ tt
 
 -- and of a burst
 
 size_of_front : (limit : ℕ) (burst whole others : List ℕ) → take limit burst ≡ whole ++ others → length whole ≤ min (length burst) limit
 size_of_front limit burst whole others parts = omega (arith, ap length parts, length-append whole others, length-take limit burst)
 
-pub fits_most : (p : ClockedPort) (burst : List ℕ) → AreBytes burst → length (sent_for p burst) ≤ most_sent burst
-fits_most p burst fits =
-    let front = (reads_computed 4096 burst fits).front in
+pub fits_most : ValueBytes → SomeReading → (p : ClockedPort) (burst : List ℕ) → AreOctets burst → length (sent_for p burst) ≤ most_sent burst
+fits_most law reading p burst fits =
+    let front = (reading burst fits).front in
     let ms = messages_of burst in
-    let size = size_of_front 4096 burst front.whole front.rest front.parts in
-    let all = short_for_all p ms front.whole front.spelt in
+    let size = size_of_front burst_limit burst front.whole front.remainder front.parts in
+    let all = short_for_all law p ms front.whole front.spelt in
     let last = short_end p.state.unit (end_of burst) in
     omega (
       arith,
@@ -129,11 +127,11 @@ fits_most p burst fits =
       length-append (bytes_for_all p ms) (answer_bytes p.state.unit (end_answers (end_of burst))),
     )
 
-pub airs_most : (p : ClockedPort) (burst : List ℕ) → AreBytes burst → length (aired_for p burst) ≤ most_aired burst
-airs_most p burst fits =
-    let front = (reads_computed 4096 burst fits).front in
+pub airs_most : SomeReading → (p : ClockedPort) (burst : List ℕ) → AreOctets burst → length (aired_for p burst) ≤ most_aired burst
+airs_most reading p burst fits =
+    let front = (reading burst fits).front in
     let ms = messages_of burst in
-    let size = size_of_front 4096 burst front.whole front.rest front.parts in
+    let size = size_of_front burst_limit burst front.whole front.remainder front.parts in
     omega (arith, size, items_for_five p ms front.whole front.spelt, one_at_most p ms)
 
 -- the bytes of a message that stands in a burst

@@ -6,7 +6,7 @@ use Rattle.vdcp_value.specs.declared.part.Item.{Item}
 use Rattle.vdcp_frame.specs.Burst.{messages_of, end_of}
 use Rattle.vdcp_frame.specs.Message.{Content, spelling}
 use Rattle.vdcp_frame.specs.Reader.{ReadsAs}
-use Rattle.vdcp_frame.specs.Reading.{End, clean, cut, fault}
+use Rattle.vdcp_frame.specs.Reading.{End, clean, cut, fault, burst_limit}
 use Rattle.vdcp_frame.specs.declared.got.Ended.{Ended}
 use Rattle.vdcp_frame.specs.declared.got.Ended.TheVariants as silence
 use Rattle.vdcp_words.specs.Replies.{reply_message}
@@ -33,7 +33,7 @@ after_messages p (m ∷ ms) = after_messages (after_message p m) ms
 abbrev pub end_answers : End → List Reply
 end_answers clean = []
 end_answers (cut count) = Nak 0x80 ∷ []
-end_answers (fault kind place) = Nak 0x04 ∷ []
+end_answers (fault which place) = Nak 0x04 ∷ []
 
 -- the same of a burst that a silence ends
 abbrev pub reply_at_end : Ended → Option Reply
@@ -78,7 +78,7 @@ after_burst p burst = after_messages p (messages_of burst)
 
 -- as many bytes as a burst's answers have at most, and as many items as it airs at most
 abbrev pub most_sent : List ℕ → ℕ
-most_sent burst = 3 * min (length burst) 4096 + 2
+most_sent burst = 3 * min (length burst) burst_limit + 2
 
 abbrev pub most_aired : List ℕ → ℕ
 most_aired burst = min (length burst / 5) 1

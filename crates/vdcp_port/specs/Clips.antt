@@ -1,7 +1,6 @@
-use Rattle.std.specs.Cmp.Lexicographic.{pointwise}
 use Rattle.std.specs.Map.{lookup}
-use Rattle.std.specs.Prelude.{ℕ, Bool, true, false, nat_eq, max, List, Option, None, Some, is_some}
-use Rattle.vdcp_value.specs.Ids.{id_bytes}
+use Rattle.std.specs.Prelude.{ℕ, Bool, true, false, max, List, Option, None, Some, is_some}
+use Rattle.vdcp_value.specs.Ids.{is_same_id}
 use Rattle.vdcp_value.specs.Bcd.{frames_in}
 use Rattle.vdcp_value.specs.Parts.{part_fits}
 use Rattle.vdcp_value.specs.Timecodes.{frames_of, rate_of}
@@ -9,10 +8,6 @@ use Rattle.vdcp_value.specs.declared.clip_id.ClipId.{ClipId}
 use Rattle.vdcp_value.specs.declared.part.Item.{Item}
 use Rattle.vdcp_value.specs.declared.part.Part.{Part}
 use Rattle.vdcp_value.specs.declared.timecode.Timecode.{Timecode}
-
--- two IDs have the same bytes
-abbrev pub is_same_id : ClipId → ClipId → Bool
-is_same_id a b = pointwise nat_eq (id_bytes a) (id_bytes b)
 
 -- the length of a clip, where these are the clips with their lengths: that of the first with its ID
 abbrev pub length_of : List (ClipId × Timecode) → ClipId → Option Timecode

@@ -9,6 +9,7 @@ ghost use Rattle.vdcp_port.specs.Answers.{bytes_at_end, reply_at_end, reply_byte
 ghost use Rattle.vdcp_words.specs.Replies.{IsWritableReply};
 
 use crate::catalogue::Catalogue;
+use crate::laws;
 use crate::port::Port;
 use crate::sink::Sink;
 use arrayvec::ArrayVec;
@@ -93,6 +94,9 @@ impl<C: Catalogue> Port<C> {
         ensures most { length (option_to_list result) ≤ most_aired burst.now }
         ensures next { self.new ≡ after_burst self.old burst.now }
     {
+        vdcp_frame::laws::one_reading();
+        laws::a_burst_is_answered_as_it_ended();
+        laws::what_a_burst_needs();
         let unit = self.unit();
         let (aired, ended) = self.answer_messages(burst, out);
         append_end(ended, unit, out);
@@ -105,6 +109,7 @@ impl<C: Catalogue> Port<C> {
         ensures answered { HasAnsweredAll self.old self.new burst.now (S.written out.old) (S.written out.new) result.0 result.1 }
         ensures room { 2 ≤ S.room out.new }
     {
+        laws::what_a_burst_needs();
         let mut from = 0;
         let mut aired = None;
         'messages: loop {

@@ -4,7 +4,7 @@ ghost use Rattle.vdcp_value.specs.Parts.{part_fits};
 ghost use Rattle.vdcp_value.specs.Timecodes.{rate_of};
 ghost use Rattle.vdcp_port.specs.Clips.{is_playable, frames_on_air};
 
-use vdcp_value::{ClipId, Item, Part, Timecode};
+use vdcp_value::{ClipId, Item, Part, Timecode, laws};
 
 /// What clips a server has, and how long each of them is: one finite map from IDs to lengths, which no
 /// call changes. A length may be any time code, at any rate; parts of a clip are judged at its rate.
@@ -36,11 +36,11 @@ pub(crate) fn frames_if_playable<C: Catalogue>(catalogue: &C, item: &Item) -> Op
 }
 
 /// How many frames a part of a clip of this length has; `None` where it doesn't fit.
-#[tactic(auto, using(vdcp_value::proofs::Bcd::read_frames), unfolding(vdcp_value::specs::Parts::part_fits))]
 fn frames_of_part(part: &Part, length: &Timecode) -> Option<u32>
     ensures fits { IsSome result ↔ IsTrue (part_fits part.now length.now) }
     ensures frames { IfSome result (λ frames. frames ≡ frames_in (rate_of length.now) part.now.duration) }
 {
+    laws::a_part_that_fits_lies_within();
     match Timecode::from_bcd(length.rate(), part.duration) {
         Ok(duration) => {
             if part.fits(length) {

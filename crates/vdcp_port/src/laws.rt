@@ -1,12 +1,12 @@
 //! Laws of the port's table. Each holds for all that it names; the functions do nothing.
 
-ghost use Rattle.std.specs.Prelude.{ℕ, ◌≡◌, ◌≢◌, ◌<◌, ◌≤◌, ◌++◌, ◌==◌, ◌&&◌, ◌⊎◌, List, [], ◌∷◌, length, All, Contains, IsTrue, false, not, is_none, bit_and, Some, None};
+ghost use Rattle.std.specs.Prelude.{ℕ, ◌≡◌, ◌≢◌, ◌<◌, ◌≤◌, ◌*◌, ◌++◌, ◌==◌, ◌&&◌, ◌⊎◌, List, [], ◌∷◌, length, All, Contains, IsTrue, false, not, is_none, bit_and, Some, None};
 ghost use Rattle.vdcp_value.specs.declared.part.Item.{Item};
 ghost use Rattle.vdcp_value.specs.declared.clip_id.ClipId.{ClipId};
 ghost use Rattle.vdcp_value.specs.declared.timecode.Timecode.{Timecode};
 ghost use Rattle.std.specs.Option.{option_to_list};
 ghost use Rattle.vdcp_frame.specs.Burst.{messages_of, end_of};
-ghost use Rattle.vdcp_frame.specs.Message.{Content, AreBytes, Fits, spelling};
+ghost use Rattle.vdcp_frame.specs.Message.{Content, AreOctets, Fits, Spells, spelling};
 ghost use Rattle.vdcp_frame.specs.Reader.{ReadsAs};
 ghost use Rattle.vdcp_frame.specs.Reading.{End, Reads};
 ghost use Rattle.vdcp_frame.specs.declared.got.Ended.{Ended};
@@ -86,13 +86,17 @@ pub fn the_state_byte()
 /// state byte exactly where bit 0 of its bitmap is set.
 pub fn answers_are_read_back()
     ensures { (p : ClockedPort) (ms : List Content) (end : End) → All IsWritableReply (answers_to p ms ++ end_answers end) }
-{}
+{
+    vdcp_value::laws::a_time_code_has_lawful_bytes();
+}
 
 /// Each command has an answer, and it can be read back.
 pub fn a_command_is_answered()
     ensures { (clips : List (ClipId × Timecode)) (p : PortState) (c : Command) →
         (reply : Reply) × ((command_row clips p c).answer ≡ Some reply) × IsWritableReply reply }
-{}
+{
+    vdcp_value::laws::a_time_code_has_lawful_bytes();
+}
 
 /// What a port holds is in its catalogue and fits, and its counts run where something is waited for.
 pub fn what_a_port_holds()
@@ -108,13 +112,17 @@ pub fn what_a_port_holds()
 pub fn a_command_asks_its_own_unit()
     ensures own { (unit : ℕ) (c : Command) → IsWritableCommand c → asked_of unit (command_message unit c) ≡ asked.Command c }
     ensures other { (unit other : ℕ) (c : Command) → other ≢ unit → asked_of unit (command_message other c) ≡ asked.Nothing }
-{}
+{
+    vdcp_words::laws::written_command_is_read();
+}
 
 /// Its row is that of the command.
 pub fn a_command_has_its_own_row()
     ensures { (p : ClockedPort) (c : Command) → IsWritableCommand c →
         row_at p (command_message p.state.unit c) ≡ command_row p.clips p.state c }
-{}
+{
+    a_command_asks_its_own_unit();
+}
 
 /// Messages behind messages are answered from the port that these leave.
 pub fn messages_after_messages()
@@ -148,36 +156,49 @@ pub fn one_alone()
 /// A burst of bytes that reads as these messages and this end is answered as the messages are, one after
 /// another, and then as the end is.
 pub fn a_burst_is_answered_as_it_is_read()
-    ensures sent { (p : ClockedPort) (burst : List ℕ) (ms : List Content) (end : End) → AreBytes burst → Reads burst ms end →
+    ensures sent { (p : ClockedPort) (burst : List ℕ) (ms : List Content) (end : End) → AreOctets burst → Reads burst ms end →
         sent_for p burst ≡ bytes_for_all p ms ++ answer_bytes p.state.unit (end_answers end) }
-    ensures aired { (p : ClockedPort) (burst : List ℕ) (ms : List Content) (end : End) → AreBytes burst → Reads burst ms end →
+    ensures aired { (p : ClockedPort) (burst : List ℕ) (ms : List Content) (end : End) → AreOctets burst → Reads burst ms end →
         aired_for p burst ≡ aired_on_way p ms }
-    ensures next { (p : ClockedPort) (burst : List ℕ) (ms : List Content) (end : End) → AreBytes burst → Reads burst ms end →
+    ensures next { (p : ClockedPort) (burst : List ℕ) (ms : List Content) (end : End) → AreOctets burst → Reads burst ms end →
         after_burst p burst ≡ after_messages p ms }
-{}
+{
+    vdcp_frame::laws::one_reading();
+}
 
 /// The same where the streaming reader gave the messages and says how the burst ended: what is sent for the
 /// burst is what was sent for its messages, and behind it the bytes of `reply_at_end`.
 pub fn a_burst_is_answered_as_it_ended()
-    ensures sent { (p : ClockedPort) (burst : List ℕ) (ms : List Content) (ended : Ended) → AreBytes burst → ReadsAs burst ms ended →
+    ensures sent { (p : ClockedPort) (burst : List ℕ) (ms : List Content) (ended : Ended) → AreOctets burst → ReadsAs burst ms ended →
         sent_for p burst ≡ bytes_for_all p ms ++ bytes_at_end p.state.unit ended }
-    ensures aired { (p : ClockedPort) (burst : List ℕ) (ms : List Content) (ended : Ended) → AreBytes burst → ReadsAs burst ms ended →
+    ensures aired { (p : ClockedPort) (burst : List ℕ) (ms : List Content) (ended : Ended) → AreOctets burst → ReadsAs burst ms ended →
         aired_for p burst ≡ aired_on_way p ms }
-    ensures next { (p : ClockedPort) (burst : List ℕ) (ms : List Content) (ended : Ended) → AreBytes burst → ReadsAs burst ms ended →
+    ensures next { (p : ClockedPort) (burst : List ℕ) (ms : List Content) (ended : Ended) → AreOctets burst → ReadsAs burst ms ended →
         after_burst p burst ≡ after_messages p ms }
-{}
+{
+    vdcp_frame::laws::one_reading();
+}
 
 /// However a reading is told, by its end or by how the streaming reader ends it, the end is answered alike.
 pub fn one_answer_to_the_end()
     ensures { (burst : List ℕ) (ms ns : List Content) (end : End) (ended : Ended) → Reads burst ms end → ReadsAs burst ns ended →
         end_answers end ≡ option_to_list (reply_at_end ended) }
-{}
+{
+    vdcp_frame::laws::one_reading();
+}
 
-/// What is sent for a burst of bytes, and what airs in it, fits the room that is made for it.
+/// No answer has more than three bytes for each byte of its message. So what is sent for a burst of bytes,
+/// and what airs in it, fits the room that is made for it.
 pub fn what_a_burst_needs()
-    ensures sent { (p : ClockedPort) (burst : List ℕ) → AreBytes burst → length (sent_for p burst) ≤ most_sent burst }
-    ensures aired { (p : ClockedPort) (burst : List ℕ) → AreBytes burst → length (aired_for p burst) ≤ most_aired burst }
-{}
+    ensures message { (p : ClockedPort) (m : Content) (bytes : List ℕ) → Spells m bytes → length (bytes_for p m) ≤ 3 * length bytes }
+    ensures sent { (p : ClockedPort) (burst : List ℕ) → AreOctets burst → length (sent_for p burst) ≤ most_sent burst }
+    ensures aired { (p : ClockedPort) (burst : List ℕ) → AreOctets burst → length (aired_for p burst) ≤ most_aired burst }
+{
+    vdcp_value::laws::bytes_are_counted();
+    vdcp_value::laws::an_id_is_its_bytes();
+    vdcp_value::laws::a_time_code_has_lawful_bytes();
+    vdcp_frame::laws::one_reading();
+}
 
 /// A burst without a message, empty or of whatever bytes, airs nothing and leaves the port as it was. It
 /// is not answered, or by one NAK for its end.
@@ -203,7 +224,9 @@ pub fn a_burst_of_one_message()
         sent_for p (spelling m) ≡ bytes_for p m }
     ensures aired { (p : ClockedPort) (m : Content) → Fits m → aired_for p (spelling m) ≡ items_for p m }
     ensures next { (p : ClockedPort) (m : Content) → Fits m → after_burst p (spelling m) ≡ after_message p m }
-{}
+{
+    vdcp_frame::laws::a_spelling_is_its_message();
+}
 
 /// A cue is done with the last frame of its count, and not before. So it is with a clip that ends.
 pub fn counts_are_frames()

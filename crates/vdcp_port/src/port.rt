@@ -1,6 +1,7 @@
 use crate::access::Access;
 use crate::asked::Asked;
 use crate::catalogue::{Catalogue, frames_if_playable};
+use crate::laws;
 use crate::slots::{Clip, Cue, count_clip, count_cue, finish_cue};
 use std::marker::Model;
 use vdcp_frame::Message;
@@ -147,6 +148,7 @@ impl<C: Catalogue> Port<C> {
         ensures next { self.new ≡ after_message self.old (content_of message.now) }
         ensures readable { IfSome result.0 IsWritableReply }
     {
+        laws::a_command_is_answered();
         match Asked::of(message, self.unit()) {
             Asked::Nothing => (None, None),
             Asked::NoCommand => (Some(REFUSED), None),

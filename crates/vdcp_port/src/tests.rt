@@ -1,9 +1,10 @@
-use crate::{Catalogue, Port};
+use crate::{Catalogue, Port, reply_at_end};
+use arrayvec::ArrayVec;
 use linked_list_allocator::LocalHeap;
 use std::alloc::{AllocError, Global};
 use std::process::Abort;
 use std::test::Fail;
-use vdcp_frame::Message;
+use vdcp_frame::{Ended, Message};
 use vdcp_value::{ClipId, Item, Part, Rate, Timecode};
 use vdcp_words::{Command, Reply};
 
@@ -455,19 +456,64 @@ fn refused_growth_changes_nothing(rt: HostRuntime) -> Result<(), Fail> {
     assert_eq!(rt; aired.len(), 1);
     assert_eq!(rt; port.status_byte(), 0x80);
 
+    // One item airs, and there is no room for one more.
     let mut out = Vec::from_slice(rt.alloc(), &[0xAA])?;
-    let mut few = Vec::new(&heap);
+    let mut full = Vec::new(&heap);
+    for _ in 0..32 {
+        let _ = full.push(item);
+    }
+    let items = full.len();
     assert!(rt;
-        port.burst_answer(burst.as_slice(), &mut out, &mut few)
+        port.burst_answer(burst.as_slice(), &mut out, &mut full)
             .is_err()
     );
     assert_eq!(rt; out.as_slice(), [0xAA].as_slice());
-    assert!(rt; few.is_empty());
+    assert_eq!(rt; full.len(), items);
     assert_eq!(rt; port.status_byte(), 0x80);
+
+    // A burst that is too short for a PLAY needs no room for an item.
+    port.burst_answer(&[0x04], &mut out, &mut full)?;
+    assert_eq!(rt; full.len(), items);
 
     port.burst_answer(burst.as_slice(), &mut out, &mut aired)?;
     assert_eq!(rt; out.len(), 41);
     assert_eq!(rt; aired.as_slice(), [item, item].as_slice());
     assert_eq!(rt; port.status_byte(), 0x04);
     Ok(())
+}
+
+#[test]
+fn a_burst_is_answered_into_fixed_room(rt: HostRuntime) -> Result<(), Fail> {
+    let item = Item {
+        id: ClipId::new(*b"CLIP0001"),
+        part: None,
+    };
+    let mut port = selected(rt.alloc(), two_clips()?)?;
+    let (_, _) = sent(rt.alloc(), &mut port, CUE_1)?;
+    port.ready();
+    let mut out = ArrayVec::<u8, 36>::new();
+    out.push(0xAA);
+    let twice = [
+        0x02, 0x02, 0x10, 0x01, 0xEF, 0x02, 0x02, 0x10, 0x01, 0xEF, 0xFF,
+    ];
+    assert_eq!(rt; port.answer_into(&twice, &mut out), Some(item));
+    assert_eq!(rt; out.as_slice(), [0xAA, 0x04, 0x04, 0x05, 0x04].as_slice());
+    assert_eq!(rt; port.status_byte(), 0x04);
+    let mut out = ArrayVec::<u8, 8>::new();
+    assert_eq!(rt; port.answer_into(&[0x02, 0x02], &mut out), None);
+    assert_eq!(rt; out.as_slice(), [0x05, 0x80].as_slice());
+    assert_eq!(rt; port.status_byte(), 0x04);
+    Ok(())
+}
+
+#[test]
+fn the_end_of_a_burst_is_answered(rt: HostRuntime) {
+    let rows = [
+        (Ended::Clean, None),
+        (Ended::Cut(1), Some(Reply::Nak(0x80))),
+        (Ended::AfterFault, Some(Reply::Nak(0x04))),
+    ];
+    for (ended, reply) in rows {
+        assert_eq!(rt; reply_at_end(ended), reply, "to {ended:?}");
+    }
 }

@@ -1,12 +1,11 @@
-use Rattle.std.proofs.Common.{◌∙◌}
-use Rattle.vdcp_port.proofs.Answering.{sent_as_read, sent_in_parts, aired_as_read, after_as_read}
+use Rattle.vdcp_port.proofs.Answering.{sent_as_read, aired_as_read, after_as_read}
 use Rattle.vdcp_port.proofs.laws.a_burst_is_answered_as_it_is_read.Goals as goal
 
 pub returns-clause-sent : goal.returns-clause-sent
-returns-clause-sent c = λ p burst ms end fits reads. sent_as_read p burst ms end fits reads ∙ sent_in_parts p ms end
+returns-clause-sent c = sent_as_read c.one_reading.ensures.computed
 
 pub returns-clause-aired : goal.returns-clause-aired
-returns-clause-aired c = aired_as_read
+returns-clause-aired c = aired_as_read c.one_reading.ensures.computed
 
 pub returns-clause-next : goal.returns-clause-next
-returns-clause-next c = after_as_read
+returns-clause-next c = after_as_read c.one_reading.ensures.computed

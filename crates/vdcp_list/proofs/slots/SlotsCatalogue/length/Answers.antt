@@ -1,7 +1,8 @@
 use Rattle.std.proofs.Common.{◌≡◌, true, false, sym, ap, ◌∙◌}
 use Rattle.vdcp_list.proofs.SlotClips.{clips_of, found_at, none_more}
 use Rattle.vdcp_list.proofs.slots.SlotsCatalogue.length.Goals as goal
-use Rattle.vdcp_port.specs.Clips.{is_same_id, length_of}
+use Rattle.vdcp_value.specs.Ids.{is_same_id}
+use Rattle.vdcp_port.specs.Clips.{length_of}
 
 pub returns-then-eq : goal.returns-then-eq
 returns-then-eq g c =

@@ -1,19 +1,19 @@
 use Rattle.std.proofs.Common.{arith}
 use Rattle.vdcp_frame.specs.Message.{content_of}
 use Rattle.vdcp_port.proofs.Answering.{answers_more}
-use Rattle.vdcp_port.proofs.Sizes.{short_for_message, size_of_range}
+use Rattle.vdcp_port.proofs.Sizes.{size_of_range}
 use Rattle.vdcp_port.proofs.port.Port.answer_messages.Goals as goal
 
 pub answer_message-requires : goal.answer_message-requires
 answer_message-requires g c =
-    let short = short_for_message c.messages.self (content_of c.in-Message.message) _ c.in-Message.ensures.message in
+    let short = c.what_a_burst_needs.ensures.message c.messages.self (content_of c.in-Message.message) _ c.in-Message.ensures.message in
     let size = size_of_range c.args.burst.now c.messages.from c.in-Message.next c.in-Message.ensures.further.0 c.in-Message.ensures.further.2 in
     omega (arith, short, size, c.in-Message.ensures.further, c.messages.invariant.room)
 
 pub messages-preserved : goal.messages-preserved
 messages-preserved g c =
     let message = content_of c.in-Message.message in
-    let short = short_for_message c.messages.self message _ c.in-Message.ensures.message in
+    let short = c.what_a_burst_needs.ensures.message c.messages.self message _ c.in-Message.ensures.message in
     let size = size_of_range c.args.burst.now c.messages.from c.in-Message.next c.in-Message.ensures.further.0 c.in-Message.ensures.further.2 in
     let walked = c.messages.invariant.walked in
     record {
