@@ -106,7 +106,7 @@ pub data Counts (came : List Arrival) (a : Arrival) : Type 0 where
 
 counts_by : (b : Bool) (came : List Arrival) (a : Arrival) → has_closed came ≡ b → (IsTrue (has_closed came) → a ≡ close) → Counts came a
 counts_by false came a is may = counted is (rw is refl)
-counts_by true came a is may = behind is (may (rw is tt)) (rw is refl)
+counts_by true came a is may = behind is (may is) (rw is refl)
 
 pub counts : (t : Told) (a : Arrival) → MayCome a (Some t) → Counts t.came a
 counts t a may = counts_by (has_closed t.came) t.came a refl may

@@ -2,3 +2,5 @@ pub mod Below
 pub mod Cutting
 pub mod Taking
 pub mod Standing
+pub mod Listening
+pub mod Driving

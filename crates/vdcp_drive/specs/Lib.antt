@@ -1,3 +1,4 @@
+pub mod Scripts
 pub mod Wires
 pub mod Bursts
 pub mod Lines

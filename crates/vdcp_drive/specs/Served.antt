@@ -1,5 +1,5 @@
 -- What a server sends for all that came to it, and the port that this leaves.
-use Rattle.std.specs.Prelude.{ℕ, ◌≡◌, List, [], ◌∷◌, ◌++◌}
+use Rattle.std.specs.Prelude.{ℕ, ◌≡◌, false, List, [], ◌∷◌, ◌++◌}
 use Rattle.vdcp_frame.specs.Burst.{messages_of, end_of}
 use Rattle.vdcp_frame.specs.Message.{Content, AreOctets}
 use Rattle.vdcp_frame.specs.Progress.{Progress}
@@ -7,7 +7,7 @@ use Rattle.vdcp_frame.specs.Reader.{Follows}
 use Rattle.vdcp_port.specs.Answers.{after_messages, answer_bytes, bytes_for, bytes_for_all, end_answers, sent_for, after_burst}
 use Rattle.vdcp_port.specs.Clock.{ClockedPort, after_frame}
 use Rattle.vdcp_drive.specs.Bursts.{ended_bursts, open_burst}
-use Rattle.vdcp_drive.specs.Wires.{Arrival, silence, Told}
+use Rattle.vdcp_drive.specs.Wires.{Arrival, silence, Told, has_closed}
 
 -- the port behind ended bursts: each is answered, and then a frame passes
 abbrev pub after_bursts : ClockedPort → List (List ℕ) → ClockedPort
@@ -63,6 +63,7 @@ pub record BrokeInAnswer (start : ClockedPort) (told : Told) (port : ClockedPort
 pub record BrokeAtEnd (start : ClockedPort) (told : Told) (port : ClockedPort) : Type 0 where
   pub before : List Arrival
   pub came_is : told.came ≡ before ++ silence ∷ []
+  pub no_close : has_closed before ≡ false
   pub front : List ℕ
   pub rest : List ℕ
   pub answer : answer_bytes (port_after start before).state.unit (end_answers (end_of (open_burst before))) ≡ front ++ rest

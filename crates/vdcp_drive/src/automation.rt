@@ -1,10 +1,12 @@
 ghost use Rattle.std.specs.Prelude.{◌≡◌, ◌<◌, ◌≤◌, ◌↔◌, [], ◌∷◌, ◌++◌, List, ℕ, length, take, IsSome, OnOk, OnErr, IfOk, IsErr, Some, None};
 ghost use Rattle.vdcp_frame.specs.Message.{content_of, AreOctets};
+ghost use Rattle.vdcp_frame.specs.Pieces.{with_message};
 ghost use Rattle.vdcp_frame.specs.Progress.{reading};
+ghost use Rattle.vdcp_frame.specs.Reader.{answer_of};
 ghost use Rattle.vdcp_auto.specs.Plan.{plan_of};
 ghost use Rattle.vdcp_auto.specs.Turn as turns;
 ghost use Rattle.vdcp_drive.specs.Driven.{IsNew, HasRun, HasRunBroken};
-ghost use Rattle.vdcp_drive.specs.Hearing.{HasSent, HasSendBroken, HasHeard, HasReceived, Hears, command_bytes};
+ghost use Rattle.vdcp_drive.specs.Hearing.{HasSent, HasSendBroken, HasHeard, HasReceived, Hears, heard_by_then, command_bytes};
 ghost use Rattle.vdcp_drive.specs.Lines.{line_of, RunsTo, ran_unless_ended};
 ghost use Rattle.vdcp_drive.specs.Wires.{Arrival, Told, IfTold, MayCome, nothing_told, adds_sent, adds_came, SendsFront};
 
@@ -149,10 +151,10 @@ impl<S: Source, W: Wire> AutoDriver<S, W> {
         let mut made = 0;
         'listens: while made < listens {
             self.send()?;
-            if !self.controller.awaiting() {
+            if !self.controller().awaiting() {
                 return Ok(Ran::Ended);
             }
-            if self.listen()? == Line::Closed {
+            if let Line::Closed = self.listen()? {
                 return Ok(self.unless_ended(Ran::Closed));
             }
             made += 1;
@@ -292,17 +294,21 @@ fn take_some(unit: u8, reader: &mut Reader, heard: &mut Option<Heard>, piece: &[
     ensures some { 0 < length piece.now → 0 < result }
     ensures heard { HasHeard unit reader.old heard.old (take result piece.now) reader.new heard.new }
 {
+    bursts::what_is_fed_is_followed();
     let (taken, got) = reader.feed(piece);
-    match got {
-        Got::Message(message) => {
-            if heard.is_none() {
-                *heard = Some(Heard::of_message(&message, unit));
-            }
-        }
-        Got::More => {}
-        Got::Fault(_, _) => {}
-    }
+    keep_first(&got, unit, heard);
     taken
+}
+
+// Keeps what is heard in a message, unless one was heard before.
+fn keep_first(got: &Got<'_>, unit: u8, heard: &mut Option<Heard>)
+    ensures { heard.new ≡ heard_by_then unit heard.old (with_message (answer_of got.now) []) }
+{
+    if let Got::Message(message) = got {
+        if heard.is_none() {
+            *heard = Some(Heard::of_message(message, unit));
+        }
+    }
 }
 
 // The burst ends: the controller hears what was heard of it, or else that nothing came.

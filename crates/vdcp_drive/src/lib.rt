@@ -16,10 +16,15 @@
 
 mod automation;
 mod line;
+mod script;
 mod server;
 mod wire;
 
 pub use automation::AutoDriver;
 pub use line::{DriveFault, Line, Ran};
+pub use script::{Entry, ScriptWire};
 pub use server::Server;
 pub use wire::{Came, Wire, WireFault};
+
+#[cfg(test)]
+mod tests;

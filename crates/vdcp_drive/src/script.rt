@@ -1,4 +1,5 @@
-ghost use Rattle.std.specs.Prelude.{◌≡◌};
+ghost use Rattle.std.specs.Prelude.{◌≡◌, ◌≤◌, false, true, OnOk, OnErr, IfOk, IsSome, IfSome, Some, None};
+ghost use Rattle.vdcp_drive.specs.Wires.{arrival_of, adds_sent, adds_came, adds_drop, MayCome, SendsFront, FitsBuffer};
 
 use crate::wire::{Came, Wire, WireFault};
 use std::alloc::{AllocError, Allocator};
@@ -15,14 +16,6 @@ pub enum Entry<A: Allocator> {
     Closed,
     /// These bytes come, unless they are dropped before they are listened to.
     Stale(Vec<u8, A>),
-}
-
-/// What one `listen` gave.
-#[derive(Drop)]
-enum Given<A: Allocator> {
-    Bytes(Vec<u8, A>),
-    Silence,
-    Closed,
 }
 
 /// The call that is to fail, counted from 1, and how much of its bytes a send sends before that.
@@ -45,7 +38,8 @@ pub struct ScriptWire<A: Allocator + Copy> {
     next: usize,
     given: usize,
     sent: Vec<u8, A>,
-    came: Vec<Given<A>, A>,
+    /// What each `listen` gave, up to the first close, each with the buffer as it was then.
+    came: Vec<(Came, [u8; 512]), A>,
     drops: Vec<usize, A>,
     closed: bool,
     calls: u64,
@@ -54,7 +48,7 @@ pub struct ScriptWire<A: Allocator + Copy> {
 }
 
 impl<A: Allocator + Copy> Model for ScriptWire<A> {
-    ghost use Rattle.std.specs.Prelude.{◌≡◌, if◌then◌else◌, map};
+    ghost use Rattle.std.specs.Prelude.{◌≡◌};
     ghost use Rattle.vdcp_drive.specs.Wires.{has_closed};
     ghost use Rattle.vdcp_drive.specs.Scripts.{Script, arrivals};
 
@@ -62,7 +56,7 @@ impl<A: Allocator + Copy> Model for ScriptWire<A> {
 
     ghost view = { λ w. record {
       told = record { sent = w.sent.items; came = arrivals w.came.items; drops = w.drops.items };
-      failures = if w.failed then 1 else 0;
+      failed = w.failed;
     } };
 
     ghost invariant = { λ w. w.closed ≡ has_closed (arrivals w.came.items) };
@@ -74,7 +68,7 @@ impl<A: Allocator + Copy> ScriptWire<A> {
     /// A fresh wire of this script. It takes memory by `alloc`, and none now.
     pub fn new(alloc: A, entries: Vec<Entry<A>, A>) -> Self
         ensures told { result.told ≡ nothing_told }
-        ensures works { result.failures ≡ 0 }
+        ensures works { result.failed ≡ false }
     {
         ScriptWire {
             alloc,
@@ -112,4 +106,110 @@ impl<A: Allocator + Copy> ScriptWire<A> {
     {
         self.failure = Some(Failure { call, part });
     }
+
+    // Counts a call, and tells whether it is to fail, and with how much of a send's bytes sent before.
+    fn count_call(&mut self) -> Option<usize>
+        ensures { self.new ≡ self.old }
+    {
+        self.calls = self.calls.saturating_add(1);
+        match self.failure {
+            Some(failure) if failure.call == self.calls => Some(failure.part),
+            Some(_) | None => None,
+        }
+    }
+
+    // What comes next. Its bytes, if it has some, are put into the buffer.
+    fn peek(&self, buffer: &mut [u8; 512]) -> Came
+        ensures { FitsBuffer result }
+    {
+        match self.entries.get(self.next) {
+            Some(Entry::Came(bytes)) => put(bytes.as_slice(), self.given, buffer),
+            Some(Entry::Stale(bytes)) => put(bytes.as_slice(), self.given, buffer),
+            Some(Entry::Silence) => Came::Silence,
+            Some(Entry::Closed) => Came::Closed,
+            None => Came::Closed,
+        }
+    }
+
+    // Goes on behind what was given.
+    fn advance(&mut self, came: Came) {
+        if let Came::Bytes(n) = came {
+            self.given = self.given.saturating_add(n);
+        }
+        let is_over = match self.entries.get(self.next) {
+            Some(Entry::Came(bytes)) => bytes.len() <= self.given,
+            Some(Entry::Stale(bytes)) => bytes.len() <= self.given,
+            Some(Entry::Silence) => true,
+            Some(Entry::Closed) => false,
+            None => false,
+        };
+        if is_over {
+            self.next += 1;
+            self.given = 0;
+        }
+    }
+
+    fn give(&mut self, buffer: &mut [u8; 512]) -> Result<Came, AllocError> {
+        if self.closed {
+            return Ok(Came::Closed);
+        }
+        let came = self.peek(buffer);
+        self.came.push((came, *buffer))?;
+        self.closed = came == Came::Closed;
+        self.advance(came);
+        Ok(came)
+    }
+}
+
+// Puts the next piece of some bytes, of which so many were given, into the buffer.
+fn put(bytes: &[u8], given: usize, buffer: &mut [u8; 512]) -> Came
+    ensures { FitsBuffer result }
+{
+    let rest = &bytes[given.min(bytes.len())..];
+    let n = rest.len().min(512);
+    buffer[..n].copy_from_slice(&rest[..n]);
+    Came::Bytes(n)
+}
+
+impl<A: Allocator + Copy> Wire for ScriptWire<A> {
+    ghost use Rattle.std.specs.Prelude.{Some, if◌then◌else◌, true, false};
+
+    ghost told = { λ w. Some w.told };
+
+    ghost failures = { λ w. if w.failed then 1 else 0 };
+
+    fn send(&mut self, bytes: &[u8]) -> Result<(), WireFault> {
+        let part = self.count_call();
+        let now = part.unwrap_or(bytes.len()).min(bytes.len());
+        let grown = self.sent.extend_from_slice(&bytes[..now]);
+        self.failed = part.is_some() || grown.is_err();
+        if self.failed {
+            return Err(WireFault);
+        }
+        Ok(())
+    }
+
+    fn listen(&mut self, buffer: &mut [u8; 512]) -> Result<Came, WireFault> {
+        if self.count_call().is_none() {
+            if let Ok(came) = self.give(buffer) {
+                return Ok(came);
+            }
+        }
+        self.failed = true;
+        Err(WireFault)
+    }
+
+    fn drop_waiting(&mut self) -> Result<(), WireFault> {
+        if self.count_call().is_some() || self.drops.push(self.sent.len()).is_err() {
+            self.failed = true;
+            return Err(WireFault);
+        }
+        while let Some(Entry::Stale(_)) = self.entries.get(self.next) {
+            self.next += 1;
+            self.given = 0;
+        }
+        Ok(())
+    }
+
+    ghost fails_once = { Prim.search Rattle.std.proofs.Common.rules };
 }

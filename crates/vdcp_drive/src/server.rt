@@ -110,12 +110,13 @@ impl<C: Catalogue, W: Wire> Server<C, W> {
         bursts::what_is_fed_is_followed();
         answers::messages_after_messages();
         answers::one_alone();
+        answers::the_unit_stays();
         if self.failed {
             return Err(DriveFault::Device);
         }
         let mut made = 0;
         'turns: while made < turns {
-            if self.turn()? == Line::Closed {
+            if let Line::Closed = self.turn()? {
                 return Ok(Ran::Closed);
             }
             made += 1;
@@ -144,6 +145,7 @@ impl<C: Catalogue, W: Wire> Server<C, W> {
         ensures stays { W.failures self.old.wire ≡ 1 → OnErr result (self.new ≡ self.old) }
     {
         bursts::one_reading();
+        bursts::what_is_fed_is_followed();
         bursts::what_is_followed_is_read();
         answers::messages_after_messages();
         answers::one_alone();

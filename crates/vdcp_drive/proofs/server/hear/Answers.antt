@@ -20,17 +20,17 @@ returns-in_err-take-in-Bytes-clause-breaks g c =
     let piece = take n c.listen.new.buffer in
     let told = g.W.Wire.told in
     on_err_of c.from_residual-in_err-take-in-Bytes.result
-    (inr (bytes piece, (may_bytes c.in_ok-n.field-0 n c.listen.new.buffer (told c.args.wire.now) c.in-Bytes.is c.in_ok-n.ensures.may_come,
+    (inr (bytes piece, may_bytes c.in_ok-n.field-0 n c.listen.new.buffer (told c.args.wire.now) c.in-Bytes.is c.in_ok-n.ensures.may_come,
     (c.take.ensures.fits,
     subst (λ (t : Option Told). HasBroken c.args.port.now c.args.reader.now None t piece c.take.new.port c.take.new.aired (told c.take.new.wire))
-    (told_bytes c.in_ok-n.field-0 n c.listen.new.buffer (told c.args.wire.now) (told c.listen.new.self) c.in-Bytes.is c.in_ok-n.ensures.came) c.in_err-take-in-Bytes.ensures.broken))))
+    (told_bytes c.in_ok-n.field-0 n c.listen.new.buffer (told c.args.wire.now) (told c.listen.new.self) c.in-Bytes.is c.in_ok-n.ensures.came) c.in_err-take-in-Bytes.ensures.broken)))
 
 pub returns-in_ok-take-in-Bytes-clause-serves : goal.returns-in_ok-take-in-Bytes-clause-serves
 returns-in_ok-take-in-Bytes-clause-serves g c =
     let n : ℕ = c.in-Bytes.n in
     let piece = take n c.listen.new.buffer in
     let told = g.W.Wire.told in
-    (bytes piece, (refl, (may_bytes c.in_ok-n.field-0 n c.listen.new.buffer (told c.args.wire.now) c.in-Bytes.is c.in_ok-n.ensures.may_come,
+    (bytes piece, refl, may_bytes c.in_ok-n.field-0 n c.listen.new.buffer (told c.args.wire.now) c.in-Bytes.is c.in_ok-n.ensures.may_come,
     (c.take.ensures.fits,
     subst (λ (t : Option Told). HasTaken c.args.port.now c.args.reader.now None t piece c.take.new.port c.take.new.reader c.take.new.aired (told c.take.new.wire))
-    (told_bytes c.in_ok-n.field-0 n c.listen.new.buffer (told c.args.wire.now) (told c.listen.new.self) c.in-Bytes.is c.in_ok-n.ensures.came) c.in_ok-take-in-Bytes.ensures.taken))))
+    (told_bytes c.in_ok-n.field-0 n c.listen.new.buffer (told c.args.wire.now) (told c.listen.new.self) c.in-Bytes.is c.in_ok-n.ensures.came) c.in_ok-take-in-Bytes.ensures.taken))
