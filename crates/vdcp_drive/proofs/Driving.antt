@@ -2,8 +2,9 @@
 use Rattle.std.proofs.Common.{ℕ, ◌≡◌, ◌+◌, List, [], ◌∷◌, ◌++◌, Bool, false, true, map, length, refl, sym, ap, ap₂, subst, ◌∙◌, append_assoc, append-nil, length-append, arith, rules}
 use Rattle.std.specs.Prelude.{Option, Some, None, IsTrue, IsSome, ◌≢◌, ◌<◌, if◌then◌else◌}
 use Rattle.std.specs.List.{flat_map}
-use Rattle.std.specs.Option.{option_to_list, option_map}
-use Rattle.std.proofs.lemmas.Grind.{flat_map-append, map-append, common_steps}
+use Rattle.std.specs.Option.{option_to_list, option_map, option_map_or}
+use Rattle.std.proofs.lemmas.Grind.{flat_map-append, common_steps}
+use Rattle.std.proofs.lemmas.List.{map-append}
 use Rattle.std.proofs.lemmas.List.Elements.{All-append, All-nil}
 use Rattle.vdcp_frame.specs.Burst.{messages_of}
 use Rattle.vdcp_frame.specs.Message.{Content, AreOctets}
@@ -13,11 +14,12 @@ use Rattle.vdcp_words.specs.declared.command.Command.{Command}
 use Rattle.vdcp_auto.specs.Course.{course, course_from, after_input, after_inputs, after_inputs_from, ended_by_input, logged}
 use Rattle.vdcp_auto.specs.Heard.{heard_first, heard_in}
 use Rattle.vdcp_auto.specs.Plan.{Plan}
-use Rattle.vdcp_auto.specs.Turn.{start, is_awaiting, outcome_of, awaited, given, ticked, came_to, ended_by, ended_in, exchange_of, is_end, turned, stage_after}
+use Rattle.vdcp_auto.specs.Turn.{start, is_awaiting, outcome_of, awaited, given, given_in, ticked, tick_in, awaited_in, came_to, ended_by, ended_in, exchange_of, is_end, turn_of, unanswered_after, turned, stage_after}
 use Rattle.vdcp_auto.specs.declared.exchange.Exchange.{Exchange}
 use Rattle.vdcp_auto.specs.declared.exchange.Heard.{Heard}
 use Rattle.vdcp_auto.specs.declared.exchange.Input.{Input}
 use Rattle.vdcp_auto.specs.declared.exchange.Input.TheVariants as input
+use Rattle.vdcp_auto.specs.declared.phase.Mode.{Mode}
 use Rattle.vdcp_auto.specs.declared.phase.Phase.{Phase}
 use Rattle.vdcp_auto.specs.declared.phase.Stage.{Stage}
 use Rattle.vdcp_auto.specs.declared.phase.Stage.TheVariants.{Ready, Awaiting, Ended}
@@ -25,7 +27,7 @@ use Rattle.vdcp_auto.specs.declared.phase.State.{State}
 use Rattle.vdcp_auto.specs.declared.phase.Turn.{Turn}
 use Rattle.vdcp_auto.specs.declared.phase.Turn.TheVariants.{Goes, Settles, Retries, Ends}
 use Rattle.vdcp_drive.specs.Bursts.{finished_bursts, open_burst, is_within_burst}
-use Rattle.vdcp_drive.specs.Driven.{input_of, inputs_of, state_between, state_after, commands_of, commands_by, bytes_of, starts_behind, starts_of, HasRun, HasRunBroken, in_drop, in_send, in_listen}
+use Rattle.vdcp_drive.specs.Driven.{input_of, inputs_of, state_between, state_after, commands_of, commands_by, bytes_of, starts_behind, starts_of, IsNew, HasRun, HasRunBroken, in_drop, in_send, in_listen}
 use Rattle.vdcp_drive.specs.Hearing as sending
 use Rattle.vdcp_drive.specs.Hearing.{HasSent, HasSendBroken, HasHeard, HasReceived, Hears, heard_by_then, command_bytes}
 use Rattle.vdcp_drive.specs.Wires.{Arrival, bytes, silence, close, Told, IfTold, MayCome, adds_sent, adds_came, adds_drop, came_with, has_closed, nothing_told}
@@ -46,10 +48,10 @@ pub record OneMore : Type 0 where
 
 -- The controller.
 
-ticked_at : (stage : Stage) (s : State) → s.stage ≡ stage → ticked (ticked s) ≡ ticked s
-ticked_at (Ready p) s is = rw is refl
-ticked_at (Awaiting p) s is = rw is (rw is refl)
-ticked_at (Ended outcome) s is = rw is (rw is refl)
+ticked_at : (stage : Stage) (s : State) → s.stage ≡ stage → ticked (tick_in stage s) ≡ tick_in stage s
+ticked_at (Ready p) s is = refl
+ticked_at (Awaiting p) s is = ap (λ (x : Stage). tick_in x s) is
+ticked_at (Ended outcome) s is = ap (λ (x : Stage). tick_in x s) is
 
 ticked_twice : (s : State) → ticked (ticked s) ≡ ticked s
 ticked_twice s = ticked_at s.stage s refl
@@ -80,14 +82,40 @@ awaits_none plan (Settles k) n s = refl
 awaits_none plan (Retries k) n s = refl
 awaits_none plan (Ends outcome) n s = refl
 
--- whether it ended or not, what is then in the log and awaited
-taken_by_end : (plan : Plan) (h : Option Heard) (s : State) (stage : Stage) (c : Option Command) (ends : Option Exchange) → s.stage ≡ stage → awaited plan s ≡ c → ended_by plan h s ≡ ends
-    → option_to_list (option_map command_of ends) ++ option_to_list (awaited plan (came_to plan h s)) ≡ option_to_list c
-taken_by_end plan h s (Ready p) c ends st aw en = grind (arith, common_steps)
-taken_by_end plan h s (Awaiting p) None ends st aw en = grind (arith, common_steps)
-taken_by_end plan h s (Awaiting p) (Some c) None st aw en = grind (arith, common_steps)
-taken_by_end plan h s (Awaiting p) (Some c) (Some e) st aw en = grind (arith, common_steps, awaits_none)
-taken_by_end plan h s (Ended outcome) c ends st aw en = grind (arith, common_steps)
+-- whether it ended or not, what is then in the log and awaited is what was awaited
+abbrev KeepsAwaited : Plan → Option Heard → State → Type 0
+KeepsAwaited plan h s = option_to_list (option_map command_of (ended_by plan h s)) ++ option_to_list (awaited plan (came_to plan h s)) ≡ option_to_list (awaited plan s)
+
+-- the controller where this exchange ended, or none
+abbrev left_by : Plan → State → Option Exchange → State
+left_by plan s ends = option_map_or (λ e. ended_in plan s.stage e s) ends s
+
+none_ends : (plan : Plan) (h : Option Heard) (s : State) → ended_by plan h s ≡ None → KeepsAwaited plan h s
+none_ends plan h s is = ap (λ (e : Option Exchange). option_to_list (option_map command_of e) ++ option_to_list (awaited plan (left_by plan s e))) is
+
+awaits_none_in : (plan : Plan) (stage : Stage) (e : Exchange) (s : State) → awaited_in plan stage ≡ Some e.command → awaited plan (ended_in plan stage e s) ≡ None
+awaits_none_in plan (Ready p) e s h = cc
+awaits_none_in plan (Awaiting p) e s h = awaits_none plan (turn_of plan s p e) (unanswered_after plan.mode e s.unanswered) s
+awaits_none_in plan (Ended outcome) e s h = cc
+
+one_ends : (plan : Plan) (h : Option Heard) (s : State) (e : Exchange) → ended_by plan h s ≡ Some e → awaited plan s ≡ Some e.command → KeepsAwaited plan h s
+one_ends plan h s e is awaits =
+    ap (λ (x : Option Exchange). option_to_list (option_map command_of x) ++ option_to_list (awaited plan (left_by plan s x))) is
+    ∙ ap (λ (c : Option Command). e.command ∷ option_to_list c) (awaits_none_in plan s.stage e s awaits)
+    ∙ ap (λ (c : Option Command). option_to_list c) (sym awaits)
+
+-- an exchange that ends is of the command that was awaited
+made_of : (b : Bool) (c : Command) (h : Option Heard) (e : Exchange) → (if b then Some (record { command = c; heard = h }) else None) ≡ Some e → Some c ≡ Some e.command
+made_of true c h e is = ap (λ (x : Option Exchange). option_map command_of x) is
+made_of false c h e is = cc
+
+exchange_is : (mode : Mode) (h : Option Heard) (c : Option Command) (e : Exchange) → exchange_of mode h c ≡ Some e → c ≡ Some e.command
+exchange_is mode h None e is = cc
+exchange_is mode h (Some c) e is = made_of (is_end mode c h) c h e is
+
+keeps_awaited : (plan : Plan) (h : Option Heard) (s : State) (ends : Option Exchange) → ended_by plan h s ≡ ends → KeepsAwaited plan h s
+keeps_awaited plan h s None is = none_ends plan h s is
+keeps_awaited plan h s (Some e) is = one_ends plan h s e is (exchange_is plan.mode h (awaited plan s) e is)
 
 logged_commands : (log : List Exchange) (ends : Option Exchange) → map command_of (logged log ends) ≡ map command_of log ++ option_to_list (option_map command_of ends)
 logged_commands log None = sym (append-nil (map command_of log))
@@ -100,6 +128,9 @@ starts_push unit n [] c = ap (λ (m : ℕ). m ∷ []) (omega arith)
 starts_push unit n (d ∷ commands) c =
     ap (λ (l : List ℕ). n ∷ l) (starts_push unit (n + length (command_bytes unit d)) commands c
     ∙ ap (λ (m : ℕ). starts_behind unit (n + length (command_bytes unit d)) commands ++ m ∷ []) (omega (arith, length-append (command_bytes unit d) (bytes_of unit commands))))
+
+starts_of_push : (unit : ℕ) (commands : List Command) (c : Command) → starts_of unit (commands ++ c ∷ []) ≡ starts_of unit commands ++ length (bytes_of unit commands) ∷ []
+starts_of_push unit commands c = starts_push unit 0 commands c ∙ ap (λ (m : ℕ). starts_of unit commands ++ m ∷ []) (omega arith)
 
 bytes_push : (unit : ℕ) (commands : List Command) (c : Command) → bytes_of unit (commands ++ c ∷ []) ≡ bytes_of unit commands ++ command_bytes unit c
 bytes_push unit commands c = flat_map-append (command_bytes unit) commands (c ∷ []) ∙ ap (λ (l : List ℕ). bytes_of unit commands ++ l) (append-nil (command_bytes unit c))
@@ -145,21 +176,21 @@ sends_more plan unit t state (Some c) is_sent told' gives sent drops e =
     let both = some_given plan state c gives in
     let commands : List Command = commands_of plan unit t.came in
     let before : commands_by plan unit t.came state ≡ commands = ap (λ (x : Option Command). commands ++ option_to_list x) both.0 ∙ append-nil commands in
-    let then : commands_by plan unit t.came (ticked state) ≡ commands ++ c ∷ [] = ap (λ (x : Option Command). commands ++ option_to_list x) both.1 in
+    let after : commands_by plan unit t.came (ticked state) ≡ commands ++ c ∷ [] = ap (λ (x : Option Command). commands ++ option_to_list x) both.1 in
     let sent_before : t.sent ≡ bytes_of unit commands = sent ∙ ap (bytes_of unit) before in
     (record { sent = t.sent ++ command_bytes unit c; came = t.came; drops = t.drops ++ length t.sent ∷ [] }, e.1,
     (refl,
-    ap (λ (l : List ℕ). l ++ command_bytes unit c) sent_before ∙ sym (bytes_push unit commands c) ∙ ap (bytes_of unit) (sym then),
+    ap (λ (l : List ℕ). l ++ command_bytes unit c) sent_before ∙ sym (bytes_push unit commands c) ∙ ap (bytes_of unit) (sym after),
     ap₂ (λ (l : List ℕ) (m : ℕ). l ++ m ∷ []) (drops ∙ ap (starts_of unit) before) (ap length sent_before)
-    ∙ sym (starts_push unit 0 commands c) ∙ ap (starts_of unit) (sym then)))
+    ∙ sym (starts_of_push unit commands c) ∙ ap (starts_of unit) (sym after)))
 
 pub awaits_then : (plan : Plan) (unit : ℕ) (t : Told) (state : State) (reader : Progress) (heard : Option Heard) (is_sent : Bool) (told : Option Told) (state' : State) (told' : Option Told)
     → told ≡ Some t → RunsAt plan unit t state reader heard → HasSent unit (given plan state) is_sent told told' → state' ≡ ticked state
-    → IfTold told' (λ u. AwaitsAt plan unit u state' reader heard)
+    → IfTold told' (λ u. AwaitsAt plan unit u state' reader heard × (u.came ≡ t.came))
 awaits_then plan unit t state reader heard is_sent told state' told' is h e ticks =
     let r = sends_more plan unit t state (given plan state) is_sent told' refl h.run.sent_is h.run.drops_are (subst (λ (x : Option Told). HasSent unit (given plan state) is_sent x told') is e) in
     let came : r.0.came ≡ t.came = r.2.0 in
-    (r.0, r.1, record {
+    (r.0, r.1, (record {
       state_is = ticks ∙ ticks_between plan unit t.came state h.run.state_is ∙ ap (λ (c : List Arrival). ticked (state_between plan unit c)) (sym came);
       sent_is = r.2.1 ∙ ap₂ (λ (c : List Arrival) (s : State). bytes_of unit (commands_by plan unit c s)) (sym came) (sym ticks);
       drops_are = r.2.2 ∙ ap₂ (λ (c : List Arrival) (s : State). starts_of unit (commands_by plan unit c s)) (sym came) (sym ticks);
@@ -167,7 +198,7 @@ awaits_then plan unit t state reader heard is_sent told state' told' is h e tick
       bytes_fit = subst (λ (c : List Arrival). AreOctets (open_burst c)) (sym came) h.bytes_fit;
       follows = subst (λ (c : List Arrival). Follows (open_burst c) (messages_of (open_burst c)) reader) (sym came) h.follows;
       hears = h.hears ∙ ap (λ (c : List Arrival). heard_first unit (messages_of (open_burst c))) (sym came);
-    })
+    }, came))
 
 -- One more listen.
 
@@ -197,7 +228,7 @@ receives law plan unit came came' h state state' more s r =
       between = r ∙ ap (came_to plan h) s ∙ sym next;
       commands = ap₂ (λ (l : List Command) (q : State). l ++ option_to_list (awaited plan q)) logs r
           ∙ append_assoc (commands_of plan unit came) (option_to_list (option_map command_of (ended_by plan h state))) (option_to_list (awaited plan (came_to plan h state)))
-          ∙ ap (λ (l : List Command). commands_of plan unit came ++ l) (taken_by_end plan h state state.stage (awaited plan state) (ended_by plan h state) refl refl refl);
+          ∙ ap (λ (l : List Command). commands_of plan unit came ++ l) (keeps_awaited plan h state (ended_by plan h state) refl);
     }
 
 -- what came, with one more arrival behind no close
@@ -304,10 +335,10 @@ runs_new fed plan unit = record {
 
 none_ticked : (plan : Plan) (s : State) → given plan (ticked s) ≡ None
 none_ticked plan s = at s.stage s refl where
-  at : (stage : Stage) (s : State) → s.stage ≡ stage → given plan (ticked s) ≡ None
-  at (Ready p) s is = rw is refl
-  at (Awaiting p) s is = rw is (rw is refl)
-  at (Ended outcome) s is = rw is (rw is refl)
+  at : (stage : Stage) (s : State) → s.stage ≡ stage → given plan (tick_in stage s) ≡ None
+  at (Ready p) s is = refl
+  at (Awaiting p) s is = ap (given_in plan s.stop) is
+  at (Ended outcome) s is = ap (given_in plan s.stop) is
 
 -- a command is given only between bursts
 given_between : (plan : Plan) (within : Bool) (s : State) (c : Command) → given plan (if within then ticked s else s) ≡ Some c → (if within then ticked s else s) ≡ s
@@ -331,7 +362,7 @@ broken_send plan unit t state reader heard told state' told' is h (sending.in_se
     let commands : List Command = commands_of plan unit t.came in
     let before : commands_by plan unit t.came state ≡ commands = ap (λ (x : Option Command). commands ++ option_to_list x) both.0 ∙ append-nil commands in
     let awaits : awaited plan state' ≡ Some b.command = ap (awaited plan) b.ticks ∙ both.1 in
-    let then : commands_by plan unit t.came state' ≡ commands ++ b.command ∷ [] = ap (λ (x : Option Command). commands ++ option_to_list x) awaits in
+    let after : commands_by plan unit t.came state' ≡ commands ++ b.command ∷ [] = ap (λ (x : Option Command). commands ++ option_to_list x) awaits in
     let sent_before : t.sent ≡ bytes_of unit commands = h.run.sent_is ∙ ap (bytes_of unit) before in
     (record { sent = t.sent ++ b.sends.front; came = t.came; drops = t.drops ++ length t.sent ∷ [] },
     b.sends.told ∙ ap (λ (x : Option Told). adds_sent b.sends.front (adds_drop x)) is,
@@ -341,7 +372,7 @@ broken_send plan unit t state reader heard told state' told' is h (sending.in_se
       front = b.sends.front; rest = b.sends.rest; parts = b.sends.parts;
       sent_is = ap (λ (l : List ℕ). l ++ b.sends.front) sent_before;
       drops_are = ap₂ (λ (l : List ℕ) (m : ℕ). l ++ m ∷ []) (h.run.drops_are ∙ ap (starts_of unit) before) (ap length sent_before)
-          ∙ sym (starts_push unit 0 commands b.command) ∙ ap (starts_of unit) (sym then);
+          ∙ sym (starts_of_push unit commands b.command) ∙ ap (starts_of unit) (sym after);
     }))
 
 pub broken_listen : (plan : Plan) (unit : ℕ) (t : Told) (state : State) (reader : Progress) (heard : Option Heard) (told : Option Told) (state' : State) (told' : Option Told)
@@ -358,10 +389,10 @@ broken_listen plan unit t state reader heard told state' told' is h stays same =
 
 ended_tick : (s : State) → is_awaiting (ticked s).stage ≡ false → (ticked s ≡ s) × IsSome (outcome_of s.stage)
 ended_tick s h = at s.stage s refl h where
-  at : (stage : Stage) (s : State) → s.stage ≡ stage → is_awaiting (ticked s).stage ≡ false → (ticked s ≡ s) × IsSome (outcome_of s.stage)
-  at (Ready p) s is h = let awaits : is_awaiting (ticked s).stage ≡ true = rw is refl in cc
-  at (Awaiting p) s is h = let awaits : is_awaiting (ticked s).stage ≡ true = rw is (rw is refl) in cc
-  at (Ended outcome) s is h = (rw is refl, subst (λ (x : Stage). IsSome (outcome_of x)) (sym is) (search rules))
+  at : (stage : Stage) (s : State) → s.stage ≡ stage → is_awaiting (tick_in stage s).stage ≡ false → (tick_in stage s ≡ s) × IsSome (outcome_of s.stage)
+  at (Ready p) s is h = cc
+  at (Awaiting p) s is h = let awaits : is_awaiting s.stage ≡ true = ap is_awaiting is in cc
+  at (Ended outcome) s is h = (refl, subst (λ (x : Stage). IsSome (outcome_of x)) (sym is) (search rules))
 
 between_or_in : (within : Bool) (s : State) → ticked s ≡ s → ticked s ≡ (if within then ticked s else s)
 between_or_in true s h = refl
@@ -398,3 +429,50 @@ listened_then n silence came came' l not is = record {
   no_close = ap has_closed is ∙ closed_silence came ∙ ap has_closed l.adds ∙ l.no_close;
 }
 listened_then n close came came' l not is = absurd (not refl)
+
+-- The same where a caller's plan and unit are known by equations.
+
+pub sent_so : (plan planned : Plan) (unit united : ℕ) (t : Told) (state : State) (reader : Progress) (heard : Option Heard) (is_sent : Bool) (told : Option Told) (state' : State) (reader' : Progress) (heard' : Option Heard) (told' : Option Told)
+    → planned ≡ plan → united ≡ unit → reader' ≡ reader → heard' ≡ heard
+    → told ≡ Some t → RunsAt plan unit t state reader heard → HasSent united (given planned state) is_sent told told' → state' ≡ ticked state
+    → IfTold told' (λ u. AwaitsAt plan unit u state' reader' heard' × (u.came ≡ t.came))
+sent_so plan planned unit united t state reader heard is_sent told state' reader' heard' told' p n r x is h e ticks =
+    let w = awaits_then plan unit t state reader heard is_sent told state' told' is h
+    (subst (λ (q : Plan). HasSent unit (given q state) is_sent told told') p (subst (λ (m : ℕ). HasSent m (given planned state) is_sent told told') n e)) ticks in
+    (w.0, w.1, (subst (λ (o : Option Heard). AwaitsAt plan unit w.0 state' reader' o) (sym x) (subst (λ (q : Progress). AwaitsAt plan unit w.0 state' q heard) (sym r) w.2.0), w.2.1))
+
+pub unsent_so : (plan planned : Plan) (unit united : ℕ) (t : Told) (state : State) (reader : Progress) (heard : Option Heard) (told : Option Told) (state' : State) (told' : Option Told)
+    → planned ≡ plan → united ≡ unit → told ≡ Some t → RunsAt plan unit t state reader heard → HasSendBroken planned united state state' told told'
+    → IfTold told' (λ u. HasRunBroken plan unit u state')
+unsent_so plan planned unit united t state reader heard told state' told' p n is h e =
+    broken_send plan unit t state reader heard told state' told' is h
+    (subst (λ (q : Plan). HasSendBroken q unit state state' told told') p (subst (λ (m : ℕ). HasSendBroken planned m state state' told told') n e))
+
+hears_so : (plan planned : Plan) (unit united : ℕ) (a : Arrival) (state : State) (reader : Progress) (heard : Option Heard) (state' : State) (reader' : Progress) (heard' : Option Heard)
+    → planned ≡ plan → united ≡ unit → Hears planned united a state reader heard state' reader' heard' → Hears plan unit a state reader heard state' reader' heard'
+hears_so plan planned unit united a state reader heard state' reader' heard' p n e =
+    subst (λ (q : Plan). Hears q unit a state reader heard state' reader' heard') p (subst (λ (m : ℕ). Hears planned m a state reader heard state' reader' heard') n e)
+
+pub on_so : (read : Read) (fed : Fed) (law : OneMore) (made : ℕ) (plan planned : Plan) (unit united : ℕ) (t : Told) (state : State) (reader : Progress) (heard : Option Heard) (a : Arrival) (told : Option Told) (state' : State) (reader' : Progress) (heard' : Option Heard) (told' : Option Told)
+    → planned ≡ plan → united ≡ unit → told ≡ Some t → AwaitsAt plan unit t state reader heard → AllListened made [] t.came → line_of a ≢ line.Closed
+    → Hears planned united a state reader heard state' reader' heard' → told' ≡ adds_came a told
+    → IfTold told' (λ u. RunsAt plan unit u state' reader' heard' × AllListened (made + 1) [] u.came)
+on_so read fed law made plan planned unit united t state reader heard a told state' reader' heard' told' p n is h l not e more =
+    let r = runs_on read fed law plan unit t state reader heard a told state' reader' heard' told' is h not (hears_so plan planned unit united a state reader heard state' reader' heard' p n e) more in
+    (r.0, r.1, (r.2.0, listened_then made a t.came r.0.came l not r.2.1))
+
+pub out_so : (law : OneMore) (plan planned : Plan) (unit united : ℕ) (t : Told) (state : State) (reader : Progress) (heard : Option Heard) (a : Arrival) (told : Option Told) (state' : State) (reader' : Progress) (heard' : Option Heard) (told' : Option Told)
+    → planned ≡ plan → united ≡ unit → told ≡ Some t → AwaitsAt plan unit t state reader heard → line_of a ≡ line.Closed
+    → Hears planned united a state reader heard state' reader' heard' → told' ≡ adds_came a told
+    → IfTold told' (λ u. HasRun plan unit u state' × IsTrue (has_closed u.came))
+out_so law plan planned unit united t state reader heard a told state' reader' heard' told' p n is h closed e more =
+    runs_out law plan unit t state reader heard a told state' reader' heard' told' is h closed (hears_so plan planned unit united a state reader heard state' reader' heard' p n e) more
+
+-- a new automation runs from its beginning
+pub begins : (fed : Fed) (plan : Plan) (unit : ℕ) (state : State) (reader : Progress) (heard : Option Heard) (told : Option Told) → IsNew state reader heard told
+    → IfTold told (λ u. RunsAt plan unit u state reader heard × AllListened 0 [] u.came)
+begins fed plan unit state reader heard told n =
+    (nothing_told, n.fresh, (subst (λ (s : State). RunsAt plan unit nothing_told s reader heard) (sym n.controller)
+    (subst (λ (r : Progress). RunsAt plan unit nothing_told start r heard) (sym n.at_start)
+    (subst (λ (h : Option Heard). RunsAt plan unit nothing_told start (reading 0 []) h) (sym n.silent) (runs_new fed plan unit))),
+    record { more = []; adds = refl; listened = refl; no_close = refl }))

@@ -4,3 +4,4 @@ pub mod Taking
 pub mod Standing
 pub mod Listening
 pub mod Driving
+pub mod Scripting

@@ -143,6 +143,7 @@ impl<S: Source, W: Wire> AutoDriver<S, W> {
         ensures stays { W.failures self.old.wire ≡ 1 → OnErr result (self.new ≡ self.old) }
     {
         courses::courses_follow_one_another();
+        bursts::one_reading();
         bursts::what_is_followed_is_read();
         bursts::what_is_fed_is_followed();
         if self.failed {

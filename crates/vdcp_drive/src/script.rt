@@ -1,5 +1,6 @@
-ghost use Rattle.std.specs.Prelude.{◌≡◌, ◌≤◌, false, true, OnOk, OnErr, IfOk, IsSome, IfSome, Some, None};
-ghost use Rattle.vdcp_drive.specs.Wires.{arrival_of, adds_sent, adds_came, adds_drop, MayCome, SendsFront, FitsBuffer};
+ghost use Rattle.std.specs.Prelude.{◌≡◌, false, OnOk, OnErr, IfOk, Some};
+ghost use Rattle.vdcp_drive.specs.Scripts.{closes};
+ghost use Rattle.vdcp_drive.specs.Wires.{arrival_of, adds_came, has_closed, MayCome, FitsBuffer};
 
 use crate::wire::{Came, Wire, WireFault};
 use std::alloc::{AllocError, Allocator};
@@ -132,7 +133,9 @@ impl<A: Allocator + Copy> ScriptWire<A> {
     }
 
     // Goes on behind what was given.
-    fn advance(&mut self, came: Came) {
+    fn advance(&mut self, came: Came)
+        ensures { self.new ≡ self.old }
+    {
         if let Came::Bytes(n) = came {
             self.given = self.given.saturating_add(n);
         }
@@ -149,15 +152,52 @@ impl<A: Allocator + Copy> ScriptWire<A> {
         }
     }
 
-    fn give(&mut self, buffer: &mut [u8; 512]) -> Result<Came, AllocError> {
+    // Keeps what came; only the first close counts.
+    fn keep(&mut self, came: Came, buffer: &[u8; 512]) -> Result<(), AllocError>
+        ensures came { OnOk result (Some self.new.told ≡ adds_came (arrival_of came buffer.now) (Some self.old.told)) }
+        ensures kept { OnErr result (self.new ≡ self.old) }
+        ensures failed { self.new.failed ≡ self.old.failed }
+    {
         if self.closed {
+            return Ok(());
+        }
+        self.came.push((came, *buffer))?;
+        self.closed = is_close(came);
+        Ok(())
+    }
+
+    // Gives what comes next.
+    fn give(&mut self, buffer: &mut [u8; 512]) -> Result<Came, AllocError>
+        ensures fits { IfOk result FitsBuffer }
+        ensures came { IfOk result (λ c. Some self.new.told ≡ adds_came (arrival_of c buffer.new) (Some self.old.told)) }
+        ensures may_come { IfOk result (λ c. MayCome (arrival_of c buffer.new) (Some self.old.told)) }
+        ensures kept { OnErr result (self.new ≡ self.old) }
+        ensures failed { self.new.failed ≡ self.old.failed }
+    {
+        if self.is_closed() {
+            self.keep(Came::Closed, buffer)?;
             return Ok(Came::Closed);
         }
         let came = self.peek(buffer);
-        self.came.push((came, *buffer))?;
-        self.closed = came == Came::Closed;
+        self.keep(came, buffer)?;
         self.advance(came);
         Ok(came)
+    }
+
+    fn is_closed(&self) -> bool
+        ensures { result ≡ has_closed self.now.told.came }
+    {
+        self.closed
+    }
+}
+
+fn is_close(came: Came) -> bool
+    ensures { result ≡ closes came }
+{
+    match came {
+        Came::Bytes(_) => false,
+        Came::Silence => false,
+        Came::Closed => true,
     }
 }
 
@@ -172,7 +212,8 @@ fn put(bytes: &[u8], given: usize, buffer: &mut [u8; 512]) -> Came
 }
 
 impl<A: Allocator + Copy> Wire for ScriptWire<A> {
-    ghost use Rattle.std.specs.Prelude.{Some, if◌then◌else◌, true, false};
+    ghost use Rattle.std.specs.Prelude.{Some, if◌then◌else◌};
+    ghost use Rattle.vdcp_drive.specs.Scripts.{fails_at_most_once};
 
     ghost told = { λ w. Some w.told };
 
@@ -180,13 +221,13 @@ impl<A: Allocator + Copy> Wire for ScriptWire<A> {
 
     fn send(&mut self, bytes: &[u8]) -> Result<(), WireFault> {
         let part = self.count_call();
-        let now = part.unwrap_or(bytes.len()).min(bytes.len());
-        let grown = self.sent.extend_from_slice(&bytes[..now]);
-        self.failed = part.is_some() || grown.is_err();
-        if self.failed {
-            return Err(WireFault);
+        let size = part.unwrap_or(bytes.len()).min(bytes.len());
+        let grown = self.sent.extend_from_slice(&bytes[..size]);
+        if part.is_none() && grown.is_ok() {
+            return Ok(());
         }
-        Ok(())
+        self.failed = true;
+        Err(WireFault)
     }
 
     fn listen(&mut self, buffer: &mut [u8; 512]) -> Result<Came, WireFault> {
@@ -204,12 +245,22 @@ impl<A: Allocator + Copy> Wire for ScriptWire<A> {
             self.failed = true;
             return Err(WireFault);
         }
-        while let Some(Entry::Stale(_)) = self.entries.get(self.next) {
-            self.next += 1;
+        let next = behind_stale(&self.entries, self.next);
+        if next != self.next {
+            self.next = next;
             self.given = 0;
         }
         Ok(())
     }
 
-    ghost fails_once = { Prim.search Rattle.std.proofs.Common.rules };
+    ghost fails_once = { λ w. fails_at_most_once w.failed };
+}
+
+// The first place from this one on that has no stale entry.
+fn behind_stale<A: Allocator>(entries: &Vec<Entry<A>, A>, from: usize) -> usize {
+    let mut next = from;
+    'stale: while let Some(Entry::Stale(_)) = entries.get(next) {
+        next += 1;
+    }
+    next
 }

@@ -12,16 +12,16 @@ piece-init c = record { within = omega arith; heard = heard_nothing c.args.unit 
 pub piece-preserved : goal.piece-preserved
 piece-preserved c =
     let piece : List ℕ = c.args.piece.now in
-    let n : ℕ = c.take_some.result in
+    let n : ℕ = c.take_some-at.result in
     let rest : take (length piece - c.piece.at) (drop c.piece.at piece) ≡ drop c.piece.at piece = take_rest piece c.piece.at in
     let front : take c.piece.at piece ++ take n (take (length piece - c.piece.at) (drop c.piece.at piece)) ≡ take (c.piece.at + n) piece =
     ap (λ (b : List ℕ). take c.piece.at piece ++ take n b) rest ∙ sym (take-add c.piece.at n piece) in
     let s = c.args in
-    let t = c.take_some.new in record {
-      within = omega (arith, c.take_some.ensures.within, ap (length {A = ℕ}) rest, length-drop c.piece.at piece);
+    let t = c.take_some-at.new in record {
+      within = omega (arith, c.take_some-at.ensures.within, ap (length {A = ℕ}) rest, length-drop c.piece.at piece);
       heard = subst (λ (b : List ℕ). HasHeard s.unit s.reader.now s.heard.now b t.reader t.heard) front
           (heard_further s.unit s.reader.now c.piece.reader t.reader s.heard.now c.piece.heard t.heard
-          (take c.piece.at piece) (take n (take (length piece - c.piece.at) (drop c.piece.at piece))) c.piece.invariant.heard c.take_some.ensures.heard);
+          (take c.piece.at piece) (take n (take (length piece - c.piece.at) (drop c.piece.at piece))) c.piece.invariant.heard c.take_some-at.ensures.heard);
     }
 
 pub returns-clause-fits : goal.returns-clause-fits
