@@ -25,14 +25,16 @@ pub record Alone : Type 0 where
 -- vdcp_frame::laws::what_is_fed_is_followed
 pub record Fed : Type 0 where
   pub start : Follows [] [] (reading 0 [])
-  pub next : (burst : List ℕ) (ms : List Content) (answer : Answer) (new : Progress) → FollowsNext burst ms answer new → Follows burst (ms ++ with_message answer []) new
+  pub next : (burst : List ℕ) (ms : List Content) (answer : Answer) (new : Progress) → FollowsNext burst ms answer new
+      → Follows burst (ms ++ with_message answer []) new
 
 -- vdcp_frame::laws::what_is_followed_is_read, one_reading
 pub record Read : Type 0 where
   pub some : (burst : List ℕ) → AreOctets burst → Reads burst (messages_of burst) (end_of burst)
   pub read : (burst : List ℕ) (ms : List Content) (p : Progress) → Follows burst ms p → ReadsAs burst ms (ended_of p)
   pub messages : (burst : List ℕ) (ms : List Content) (p : Progress) → AreOctets burst → Follows burst ms p → ms ≡ messages_of burst
-  pub further : (burst more : List ℕ) (ms : List Content) (p : Progress) → AreOctets (burst ++ more) → Follows burst ms p → (others : List Content) × (messages_of (burst ++ more) ≡ ms ++ others)
+  pub further : (burst more : List ℕ) (ms : List Content) (p : Progress) → AreOctets (burst ++ more) → Follows burst ms p
+      → (others : List Content) × (messages_of (burst ++ more) ≡ ms ++ others)
 
 -- vdcp_port::laws::a_burst_is_answered_as_it_ended, one_answer_to_the_end, the_unit_stays
 pub record Ends : Type 0 where

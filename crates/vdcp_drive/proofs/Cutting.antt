@@ -6,25 +6,29 @@ use Rattle.vdcp_drive.specs.Wires.{Arrival, bytes, silence, close, Told, has_clo
 
 -- Where no close came yet.
 
-pub ended_bytes : (s : List ℕ) (came : List Arrival) (piece : List ℕ) → has_closed came ≡ false → ended_behind s (came ++ bytes piece ∷ []) ≡ ended_behind s came
+pub ended_bytes : (s : List ℕ) (came : List Arrival) (piece : List ℕ) → has_closed came ≡ false
+    → ended_behind s (came ++ bytes piece ∷ []) ≡ ended_behind s came
 ended_bytes s [] piece h = refl
 ended_bytes s (bytes b ∷ came) piece h = ended_bytes (s ++ b) came piece h
 ended_bytes s (silence ∷ came) piece h = ap (λ (l : List (List ℕ)). s ∷ l) (ended_bytes [] came piece h)
 ended_bytes s (close ∷ came) piece h = refl
 
-pub open_bytes : (s : List ℕ) (came : List Arrival) (piece : List ℕ) → has_closed came ≡ false → open_behind s (came ++ bytes piece ∷ []) ≡ open_behind s came ++ piece
+pub open_bytes : (s : List ℕ) (came : List Arrival) (piece : List ℕ) → has_closed came ≡ false
+    → open_behind s (came ++ bytes piece ∷ []) ≡ open_behind s came ++ piece
 open_bytes s [] piece h = refl
 open_bytes s (bytes b ∷ came) piece h = open_bytes (s ++ b) came piece h
 open_bytes s (silence ∷ came) piece h = open_bytes [] came piece h
 open_bytes s (close ∷ came) piece h = cc
 
-pub finished_bytes : (s : List ℕ) (came : List Arrival) (piece : List ℕ) → has_closed came ≡ false → finished_behind s (came ++ bytes piece ∷ []) ≡ finished_behind s came
+pub finished_bytes : (s : List ℕ) (came : List Arrival) (piece : List ℕ) → has_closed came ≡ false
+    → finished_behind s (came ++ bytes piece ∷ []) ≡ finished_behind s came
 finished_bytes s [] piece h = refl
 finished_bytes s (bytes b ∷ came) piece h = finished_bytes (s ++ b) came piece h
 finished_bytes s (silence ∷ came) piece h = ap (λ (l : List (List ℕ)). s ∷ l) (finished_bytes [] came piece h)
 finished_bytes s (close ∷ came) piece h = refl
 
-pub ended_silence : (s : List ℕ) (came : List Arrival) → has_closed came ≡ false → ended_behind s (came ++ silence ∷ []) ≡ ended_behind s came ++ open_behind s came ∷ []
+pub ended_silence : (s : List ℕ) (came : List Arrival) → has_closed came ≡ false
+    → ended_behind s (came ++ silence ∷ []) ≡ ended_behind s came ++ open_behind s came ∷ []
 ended_silence s [] h = refl
 ended_silence s (bytes b ∷ came) h = ended_silence (s ++ b) came h
 ended_silence s (silence ∷ came) h = ap (λ (l : List (List ℕ)). s ∷ l) (ended_silence [] came h)
@@ -36,13 +40,15 @@ open_silence s (bytes b ∷ came) h = open_silence (s ++ b) came h
 open_silence s (silence ∷ came) h = open_silence [] came h
 open_silence s (close ∷ came) h = cc
 
-pub finished_silence : (s : List ℕ) (came : List Arrival) → has_closed came ≡ false → finished_behind s (came ++ silence ∷ []) ≡ finished_behind s came ++ open_behind s came ∷ []
+pub finished_silence : (s : List ℕ) (came : List Arrival) → has_closed came ≡ false
+    → finished_behind s (came ++ silence ∷ []) ≡ finished_behind s came ++ open_behind s came ∷ []
 finished_silence s [] h = refl
 finished_silence s (bytes b ∷ came) h = finished_silence (s ++ b) came h
 finished_silence s (silence ∷ came) h = ap (λ (l : List (List ℕ)). s ∷ l) (finished_silence [] came h)
 finished_silence s (close ∷ came) h = cc
 
-pub finished_close : (s : List ℕ) (came : List Arrival) → has_closed came ≡ false → finished_behind s (came ++ close ∷ []) ≡ finished_behind s came ++ open_behind s came ∷ []
+pub finished_close : (s : List ℕ) (came : List Arrival) → has_closed came ≡ false
+    → finished_behind s (came ++ close ∷ []) ≡ finished_behind s came ++ open_behind s came ∷ []
 finished_close s [] h = refl
 finished_close s (bytes b ∷ came) h = finished_close (s ++ b) came h
 finished_close s (silence ∷ came) h = ap (λ (l : List (List ℕ)). s ∷ l) (finished_close [] came h)

@@ -1,3 +1,4 @@
+mod Examples
 pub mod Below
 pub mod Cutting
 pub mod Taking

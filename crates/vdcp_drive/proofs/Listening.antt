@@ -29,7 +29,8 @@ heard_more unit [] (n ∷ ns) = refl
 heard_more unit (m ∷ ms) ns = refl
 
 -- one call of feed gave this answer, and left the reader so
-pub heard_by_feed : (fed : Fed) (got : Got) (then : Progress) (answer : Answer) (unit : ℕ) (reader : Progress) (h : Option Heard) (piece : List ℕ) (reader' : Progress) (h' : Option Heard)
+pub heard_by_feed : (fed : Fed) (got : Got) (then : Progress) (answer : Answer) (unit : ℕ) (reader : Progress) (h : Option Heard) (piece : List ℕ) (reader'
+    : Progress) (h' : Option Heard)
     → ((burst : List ℕ) (ms : List Content) → Follows burst ms reader → FollowsNext (burst ++ piece) ms (answer_of got) then)
     → reader' ≡ then
     → answer_of got ≡ answer
@@ -37,14 +38,16 @@ pub heard_by_feed : (fed : Fed) (got : Got) (then : Progress) (answer : Answer) 
     → HasHeard unit reader h piece reader' h'
 heard_by_feed fed got then answer unit reader h piece reader' h' follows after is hears = record {
   messages = with_message answer [];
-  follows = λ burst ms f. fed.next (burst ++ piece) ms answer reader' (subst (λ (a : Answer). FollowsNext (burst ++ piece) ms a reader') is (subst (FollowsNext (burst ++ piece) ms (answer_of got)) (sym after) (follows burst ms f)));
+  follows = λ burst ms f. fed.next (burst ++ piece) ms answer reader' (subst (λ (a : Answer). FollowsNext (burst ++ piece) ms a reader') is (subst
+      (FollowsNext (burst ++ piece) ms (answer_of got)) (sym after) (follows burst ms f)));
   hears = hears;
 }
 
 pub heard_nothing : (unit : ℕ) (reader : Progress) (h : Option Heard) → HasHeard unit reader h [] reader h
 heard_nothing unit reader h = record {
   messages = [];
-  follows = λ burst ms f. subst (λ (b : List ℕ). Follows b (ms ++ []) reader) (sym (append-nil burst)) (subst (λ (l : List Content). Follows burst l reader) (sym (append-nil ms)) f);
+  follows = λ burst ms f. subst (λ (b : List ℕ). Follows b (ms ++ []) reader) (sym (append-nil burst)) (subst (λ (l : List Content). Follows burst l
+      reader) (sym (append-nil ms)) f);
   hears = heard_none unit h;
 }
 
@@ -54,6 +57,7 @@ pub heard_further : (unit : ℕ) (reader₀ reader₁ reader₂ : Progress) (h�
     → HasHeard unit reader₀ h₀ (front ++ piece) reader₂ h₂
 heard_further unit reader₀ reader₁ reader₂ h₀ h₁ h₂ front piece a b = record {
   messages = a.messages ++ b.messages;
-  follows = λ burst ms f. follows_both burst front piece ms a.messages b.messages reader₂ (b.follows (burst ++ front) (ms ++ a.messages) (a.follows burst ms f));
+  follows = λ burst ms f. follows_both burst front piece ms a.messages b.messages reader₂ (b.follows (burst ++ front) (ms ++ a.messages) (a.follows burst
+      ms f));
   hears = b.hears ∙ ap (λ (h : Option Heard). heard_by_then unit h b.messages) a.hears ∙ heard_both unit h₀ a.messages b.messages;
 }

@@ -37,7 +37,8 @@ aired_both law port₀ port₁ ms ns o₀ o₁ o₂ p a b =
 
 -- One call of feed gave this answer, and left the reader so; its message, if it has one, is answered.
 
-pub taken_by : (fed : Fed) (got : Got) (then : Progress) (answer : Answer) (port : ClockedPort) (reader : Progress) (aired : Option Item) (told : Option Told) (piece : List ℕ)
+pub taken_by : (fed : Fed) (got : Got) (then : Progress) (answer : Answer) (port : ClockedPort) (reader : Progress) (aired : Option Item) (told : Option
+    Told) (piece : List ℕ)
     (port' : ClockedPort) (reader' : Progress) (aired' : Option Item) (told' : Option Told)
     → ((burst : List ℕ) (ms : List Content) → Follows burst ms reader → FollowsNext (burst ++ piece) ms (answer_of got) then)
     → reader' ≡ then
@@ -48,14 +49,16 @@ pub taken_by : (fed : Fed) (got : Got) (then : Progress) (answer : Answer) (port
     → HasTaken port reader aired told piece port' reader' aired' told'
 taken_by fed got then answer port reader aired told piece port' reader' aired' told' follows after is leaves puts sends = record {
   messages = with_message answer [];
-  follows = λ burst ms f. fed.next (burst ++ piece) ms answer reader' (subst (λ (a : Answer). FollowsNext (burst ++ piece) ms a reader') is (subst (FollowsNext (burst ++ piece) ms (answer_of got)) (sym after) (follows burst ms f)));
+  follows = λ burst ms f. fed.next (burst ++ piece) ms answer reader' (subst (λ (a : Answer). FollowsNext (burst ++ piece) ms a reader') is (subst
+      (FollowsNext (burst ++ piece) ms (answer_of got)) (sym after) (follows burst ms f)));
   leaves = leaves;
   airs = puts;
   sends = sends;
 }
 
 -- the same where the wire fails in the answer
-pub broken_by : (alone : Alone) (got : Got) (then : Progress) (m : Content) (port : ClockedPort) (reader : Progress) (aired : Option Item) (told : Option Told) (piece front rest : List ℕ)
+pub broken_by : (alone : Alone) (got : Got) (then : Progress) (m : Content) (port : ClockedPort) (reader : Progress) (aired : Option Item) (told : Option
+    Told) (piece front rest : List ℕ)
     (port' : ClockedPort) (aired' : Option Item) (told' : Option Told)
     → piece ≡ front ++ rest
     → ((burst : List ℕ) (ms : List Content) → Follows burst ms reader → FollowsNext (burst ++ front) ms (answer_of got) then)
@@ -65,8 +68,12 @@ pub broken_by : (alone : Alone) (got : Got) (then : Progress) (m : Content) (por
     → SendsFront (bytes_for port m) told told'
     → HasBroken port reader aired told piece port' aired' told'
 broken_by alone got then m port reader aired told piece front rest port' aired' told' parts follows is leaves puts sends = record {
-  front = front; rest = rest; parts = parts;
-  messages = []; last = m; then = then;
+  front = front;
+  rest = rest;
+  parts = parts;
+  messages = [];
+  last = m;
+  then = then;
   follows = λ burst ms f. subst (λ (a : Answer). FollowsNext (burst ++ front) ms a then) is (follows burst ms f);
   leaves = leaves;
   airs = puts ∙ ap (last_aired aired) (sym (alone.aired port m));
@@ -78,48 +85,60 @@ broken_by alone got then m port reader aired told piece front rest port' aired' 
 pub taken_none : (port : ClockedPort) (reader : Progress) (aired : Option Item) (told : Option Told) → HasTaken port reader aired told [] port reader aired told
 taken_none port reader aired told = record {
   messages = [];
-  follows = λ burst ms f. subst (λ (b : List ℕ). Follows b (ms ++ []) reader) (sym (append-nil burst)) (subst (λ (l : List Content). Follows burst l reader) (sym (append-nil ms)) f);
+  follows = λ burst ms f. subst (λ (b : List ℕ). Follows b (ms ++ []) reader) (sym (append-nil burst)) (subst (λ (l : List Content). Follows burst l
+      reader) (sym (append-nil ms)) f);
   leaves = refl;
   airs = refl;
   sends = sym (adds_nothing told);
 }
 
 -- what is told after bytes for some messages and then for others
-told_both : (law : InOrder) (port₀ port₁ : ClockedPort) (ms ns : List Content) (told₀ told₁ : Option Told) → port₁ ≡ after_messages port₀ ms → told₁ ≡ adds_sent (bytes_for_all port₀ ms) told₀
+told_both : (law : InOrder) (port₀ port₁ : ClockedPort) (ms ns : List Content) (told₀ told₁ : Option Told) → port₁ ≡ after_messages port₀ ms
+    → told₁ ≡ adds_sent (bytes_for_all port₀ ms) told₀
     → adds_sent (bytes_for_all port₁ ns) told₁ ≡ adds_sent (bytes_for_all port₀ (ms ++ ns)) told₀
 told_both law port₀ port₁ ms ns told₀ told₁ p t =
     ap₂ (λ (q : ClockedPort) (x : Option Told). adds_sent (bytes_for_all q ns) x) p t
     ∙ adds_both (bytes_for_all port₀ ms) (bytes_for_all (after_messages port₀ ms) ns) told₀
     ∙ ap (λ (l : List ℕ). adds_sent l told₀) (sym (law.sent port₀ ms ns))
 
-pub follows_both : (burst front piece : List ℕ) (ms ns os : List Content) (reader : Progress) → Follows ((burst ++ front) ++ piece) ((ms ++ ns) ++ os) reader → Follows (burst ++ (front ++ piece)) (ms ++ (ns ++ os)) reader
+pub follows_both : (burst front piece : List ℕ) (ms ns os : List Content) (reader : Progress)
+    → Follows ((burst ++ front) ++ piece) ((ms ++ ns) ++ os) reader → Follows (burst ++ (front ++ piece)) (ms ++ (ns ++ os)) reader
 follows_both burst front piece ms ns os reader f =
     subst (λ (l : List ℕ). Follows l (ms ++ (ns ++ os)) reader) (append_assoc burst front piece)
     (subst (λ (l : List Content). Follows ((burst ++ front) ++ piece) l reader) (append_assoc ms ns os) f)
 
-pub taken_further : (law : InOrder) (port₀ port₁ port₂ : ClockedPort) (reader₀ reader₁ reader₂ : Progress) (aired₀ aired₁ aired₂ : Option Item) (told₀ told₁ told₂ : Option Told) (front piece : List ℕ)
+pub taken_further : (law : InOrder) (port₀ port₁ port₂ : ClockedPort) (reader₀ reader₁ reader₂ : Progress) (aired₀ aired₁ aired₂ : Option Item) (told₀
+    told₁ told₂ : Option Told) (front piece : List ℕ)
     → HasTaken port₀ reader₀ aired₀ told₀ front port₁ reader₁ aired₁ told₁
     → HasTaken port₁ reader₁ aired₁ told₁ piece port₂ reader₂ aired₂ told₂
     → HasTaken port₀ reader₀ aired₀ told₀ (front ++ piece) port₂ reader₂ aired₂ told₂
 taken_further law port₀ port₁ port₂ reader₀ reader₁ reader₂ aired₀ aired₁ aired₂ told₀ told₁ told₂ front piece a b = record {
   messages = a.messages ++ b.messages;
-  follows = λ burst ms f. follows_both burst front piece ms a.messages b.messages reader₂ (b.follows (burst ++ front) (ms ++ a.messages) (a.follows burst ms f));
+  follows = λ burst ms f. follows_both burst front piece ms a.messages b.messages reader₂ (b.follows (burst ++ front) (ms ++ a.messages) (a.follows burst
+      ms f));
   leaves = b.leaves ∙ ap (λ (p : ClockedPort). after_messages p b.messages) a.leaves ∙ sym (law.next port₀ a.messages b.messages);
   airs = aired_both law port₀ port₁ a.messages b.messages aired₀ aired₁ aired₂ a.leaves a.airs b.airs;
   sends = b.sends ∙ told_both law port₀ port₁ a.messages b.messages told₀ told₁ a.leaves a.sends;
 }
 
-pub broken_further : (law : InOrder) (port₀ port₁ port₂ : ClockedPort) (reader₀ reader₁ : Progress) (aired₀ aired₁ aired₂ : Option Item) (told₀ told₁ told₂ : Option Told) (front piece : List ℕ)
+pub broken_further : (law : InOrder) (port₀ port₁ port₂ : ClockedPort) (reader₀ reader₁ : Progress) (aired₀ aired₁ aired₂ : Option Item) (told₀ told₁ told₂
+    : Option Told) (front piece : List ℕ)
     → HasTaken port₀ reader₀ aired₀ told₀ front port₁ reader₁ aired₁ told₁
     → HasBroken port₁ reader₁ aired₁ told₁ piece port₂ aired₂ told₂
     → HasBroken port₀ reader₀ aired₀ told₀ (front ++ piece) port₂ aired₂ told₂
 broken_further law port₀ port₁ port₂ reader₀ reader₁ aired₀ aired₁ aired₂ told₀ told₁ told₂ front piece a b = record {
-  front = front ++ b.front; rest = b.rest;
+  front = front ++ b.front;
+  rest = b.rest;
   parts = ap (λ (l : List ℕ). front ++ l) b.parts ∙ sym (append_assoc front b.front b.rest);
-  messages = a.messages ++ b.messages; last = b.last; then = b.then;
-  follows = λ burst ms f. subst (λ (l : List Content). Follows (burst ++ (front ++ b.front)) (ms ++ l) b.then) (sym (append_assoc a.messages b.messages (b.last ∷ [])))
-      (follows_both burst front b.front ms a.messages (b.messages ++ b.last ∷ []) b.then (b.follows (burst ++ front) (ms ++ a.messages) (a.follows burst ms f)));
-  leaves = b.leaves ∙ ap (λ (p : ClockedPort). after_messages p (b.messages ++ b.last ∷ [])) a.leaves ∙ sym (law.next port₀ a.messages (b.messages ++ b.last ∷ []))
+  messages = a.messages ++ b.messages;
+  last = b.last;
+  then = b.then;
+  follows = λ burst ms f. subst (λ (l : List Content). Follows (burst ++ (front ++ b.front)) (ms ++ l) b.then) (sym (append_assoc a.messages b.messages
+      (b.last ∷ [])))
+      (follows_both burst front b.front ms a.messages (b.messages ++ b.last ∷ []) b.then (b.follows (burst ++ front) (ms ++ a.messages) (a.follows burst ms
+      f)));
+  leaves = b.leaves ∙ ap (λ (p : ClockedPort). after_messages p (b.messages ++ b.last ∷ [])) a.leaves
+      ∙ sym (law.next port₀ a.messages (b.messages ++ b.last ∷ []))
       ∙ ap (after_messages port₀) (sym (append_assoc a.messages b.messages (b.last ∷ [])));
   airs = aired_both law port₀ port₁ a.messages (b.messages ++ b.last ∷ []) aired₀ aired₁ aired₂ a.leaves a.airs b.airs
       ∙ ap (λ (l : List Content). last_aired aired₀ (aired_on_way port₀ l)) (sym (append_assoc a.messages b.messages (b.last ∷ [])));

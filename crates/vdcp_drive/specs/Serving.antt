@@ -21,7 +21,8 @@ last_aired before [] = before
 last_aired before (item ∷ items) = last_aired (Some item) items
 
 -- a server took these bytes of a burst, and answered the messages that they complete
-pub record HasTaken (port : ClockedPort) (reader : Progress) (aired : Option Item) (told : Option Told) (piece : List ℕ) (port' : ClockedPort) (reader' : Progress) (aired' : Option Item) (told' : Option Told) : Type 0 where
+pub record HasTaken (port : ClockedPort) (reader : Progress) (aired : Option Item) (told : Option Told) (piece : List ℕ) (port' : ClockedPort) (reader' :
+    Progress) (aired' : Option Item) (told' : Option Told) : Type 0 where
   pub messages : List Content
   -- whatever the burst so far and its messages are, the reader has then followed these too
   pub follows : (burst : List ℕ) (ms : List Content) → Follows burst ms reader → Follows (burst ++ piece) (ms ++ messages) reader'
@@ -30,7 +31,8 @@ pub record HasTaken (port : ClockedPort) (reader : Progress) (aired : Option Ite
   pub sends : told' ≡ adds_sent (bytes_for_all port messages) told
 
 -- the wire failed in the answer to the last one of the messages that a front of these bytes completes
-pub record HasBroken (port : ClockedPort) (reader : Progress) (aired : Option Item) (told : Option Told) (piece : List ℕ) (port' : ClockedPort) (aired' : Option Item) (told' : Option Told) : Type 0 where
+pub record HasBroken (port : ClockedPort) (reader : Progress) (aired : Option Item) (told : Option Told) (piece : List ℕ) (port' : ClockedPort) (aired' :
+    Option Item) (told' : Option Told) : Type 0 where
   pub front : List ℕ
   pub rest : List ℕ
   pub parts : piece ≡ front ++ rest
@@ -43,10 +45,11 @@ pub record HasBroken (port : ClockedPort) (reader : Progress) (aired : Option It
   pub sends : SendsFront (bytes_for (after_messages port messages) last) (adds_sent (bytes_for_all port messages) told) told'
 
 -- the burst ended: its end is answered, and a frame passes at the port
-pub record HasEnded (port : ClockedPort) (reader : Progress) (told : Option Told) (port' : ClockedPort) (reader' : Progress) (told' : Option Told) : Type 0 where
-  pub restarts : reader' ≡ reading 0 []
-  pub leaves : port' ≡ after_frame port
-  pub sends : told' ≡ adds_sent (bytes_at_end port.state.unit (ended_of reader)) told
+pub record HasEnded (port : ClockedPort) (reader : Progress) (told : Option Told) (port' : ClockedPort) (reader' : Progress) (told' : Option Told) : Type 0
+  where
+    pub restarts : reader' ≡ reading 0 []
+    pub leaves : port' ≡ after_frame port
+    pub sends : told' ≡ adds_sent (bytes_at_end port.state.unit (ended_of reader)) told
 
 -- the wire failed in the answer to its end: no frame has passed
 pub record HasEndBroken (port : ClockedPort) (reader : Progress) (told : Option Told) (port' : ClockedPort) (told' : Option Told) : Type 0 where
@@ -54,7 +57,8 @@ pub record HasEndBroken (port : ClockedPort) (reader : Progress) (told : Option 
   pub sends : SendsFront (bytes_at_end port.state.unit (ended_of reader)) told told'
 
 -- nothing happened
-pub record HasStayed (port : ClockedPort) (reader : Progress) (told : Option Told) (port' : ClockedPort) (reader' : Progress) (told' : Option Told) : Type 0 where
+pub record HasStayed (port : ClockedPort) (reader : Progress) (told : Option Told) (port' : ClockedPort) (reader' : Progress) (told' : Option Told) : Type
+    0 where
   pub port_stays : port' ≡ port
   pub reader_stays : reader' ≡ reader
   pub told_stays : told' ≡ told

@@ -14,10 +14,8 @@ use crate::line::{DriveFault, Line, Ran};
 use crate::wire::{Came, Wire, WireFault};
 use arrayvec::ArrayVec;
 use std::marker::Model;
-use vdcp_auto::laws as courses;
-use vdcp_auto::{Controller, Heard, Source};
-use vdcp_frame::laws as bursts;
-use vdcp_frame::{Got, Reader, write};
+use vdcp_auto::{Controller, Heard, Source, laws as courses};
+use vdcp_frame::{Got, Reader, laws as bursts, write};
 use vdcp_words::Command;
 
 /// The automation's end of one playout channel, over a wire.
@@ -179,7 +177,7 @@ impl<S: Source, W: Wire> AutoDriver<S, W> {
         requires { IsSome (turns.awaited (plan_of S.items self.old.controller) self.old.controller.state) }
         ensures hears { IfOk result (λ line. (a : Arrival) × (line ≡ line_of a) × MayCome a (W.told self.old.wire)
             × Hears (plan_of S.items self.old.controller) self.old.unit a self.old.controller.state self.old.reader self.old.heard
-              self.new.controller.state self.new.reader self.new.heard
+            self.new.controller.state self.new.reader self.new.heard
             × (W.told self.new.wire ≡ adds_came a (W.told self.old.wire))) }
         ensures breaks { W.failures self.old.wire ≡ 0 → OnErr result (W.told self.new.wire ≡ W.told self.old.wire) }
         ensures unchanged { OnErr result (self.new ≡ record self.old { wire = self.new.wire }) }
@@ -192,7 +190,13 @@ impl<S: Source, W: Wire> AutoDriver<S, W> {
         if self.failed {
             return Err(DriveFault::Device);
         }
-        match hear(&mut self.controller, self.unit, &mut self.reader, &mut self.heard, &mut self.wire) {
+        match hear(
+            &mut self.controller,
+            self.unit,
+            &mut self.reader,
+            &mut self.heard,
+            &mut self.wire,
+        ) {
             Ok(line) => Ok(line),
             Err(WireFault) => {
                 self.failed = true;
@@ -210,9 +214,11 @@ fn send_next<S: Source, W: Wire>(
 ) -> Result<bool, WireFault>
     requires unit { unit ≤ 15 }
     requires works { W.failures wire.old ≡ 0 }
-    ensures sends { IfOk result (λ is_sent. HasSent unit (turns.given (plan_of S.items controller.old) controller.old.state) is_sent (W.told wire.old) (W.told wire.new)) }
+    ensures sends { IfOk result (λ is_sent. HasSent unit (turns.given (plan_of S.items controller.old) controller.old.state)
+        is_sent (W.told wire.old) (W.told wire.new)) }
     ensures ticks { OnOk result (controller.new ≡ record controller.old { state = turns.ticked controller.old.state }) }
-    ensures breaks { OnErr result (HasSendBroken (plan_of S.items controller.old) unit controller.old.state controller.new.state (W.told wire.old) (W.told wire.new)) }
+    ensures breaks { OnErr result (HasSendBroken (plan_of S.items controller.old) unit
+        controller.old.state controller.new.state (W.told wire.old) (W.told wire.new)) }
     ensures controller { controller.new ≡ record controller.old { state = controller.new.state } }
     ensures works { OnOk result (W.failures wire.new ≡ 0) }
     ensures failed { OnErr result (W.failures wire.new ≡ 1) }
@@ -313,7 +319,11 @@ fn keep_first(got: &Got<'_>, unit: u8, heard: &mut Option<Heard>)
 }
 
 // The burst ends: the controller hears what was heard of it, or else that nothing came.
-fn end_burst<S: Source>(controller: &mut Controller<S>, reader: &mut Reader, heard: &mut Option<Heard>)
+fn end_burst<S: Source>(
+    controller: &mut Controller<S>,
+    reader: &mut Reader,
+    heard: &mut Option<Heard>,
+)
     ensures received { HasReceived (plan_of S.items controller.old) controller.old.state heard.old controller.new.state reader.new heard.new }
     ensures controller { controller.new ≡ record controller.old { state = controller.new.state } }
 {

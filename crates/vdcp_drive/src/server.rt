@@ -13,10 +13,8 @@ use crate::line::{DriveFault, Line, Ran};
 use crate::wire::{Came, Wire, WireFault};
 use arrayvec::ArrayVec;
 use std::marker::Model;
-use vdcp_frame::laws as bursts;
-use vdcp_frame::{Got, Message, Reader, write};
-use vdcp_port::laws as answers;
-use vdcp_port::{Catalogue, Port, reply_at_end};
+use vdcp_frame::{Got, Message, Reader, laws as bursts, write};
+use vdcp_port::{Catalogue, Port, laws as answers, reply_at_end};
 use vdcp_value::Item;
 use vdcp_words::Reply;
 
@@ -155,7 +153,12 @@ impl<C: Catalogue, W: Wire> Server<C, W> {
         if self.failed {
             return Err(DriveFault::Device);
         }
-        match hear(&mut self.reader, &mut self.port, &mut self.aired, &mut self.wire) {
+        match hear(
+            &mut self.reader,
+            &mut self.port,
+            &mut self.aired,
+            &mut self.wire,
+        ) {
             Ok(line) => Ok(line),
             Err(WireFault) => {
                 self.failed = true;
@@ -229,7 +232,8 @@ fn take_some<C: Catalogue, W: Wire>(
     requires { W.failures wire.old ≡ 0 }
     ensures within { IfOk result (λ n. n ≤ length piece.now) }
     ensures some { IfOk result (λ n. 0 < length piece.now → 0 < n) }
-    ensures taken { IfOk result (λ n. HasTaken port.old reader.old aired.old (W.told wire.old) (take n piece.now) port.new reader.new aired.new (W.told wire.new)) }
+    ensures taken { IfOk result (λ n. HasTaken port.old reader.old aired.old (W.told wire.old) (take n piece.now)
+        port.new reader.new aired.new (W.told wire.new)) }
     ensures broken { OnErr result (HasBroken port.old reader.old aired.old (W.told wire.old) piece.now port.new aired.new (W.told wire.new)) }
     ensures works { OnOk result (W.failures wire.new ≡ 0) }
     ensures failed { OnErr result (W.failures wire.new ≡ 1) }

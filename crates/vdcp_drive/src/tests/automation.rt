@@ -8,7 +8,11 @@ use std::test::Fail;
 use vdcp_auto::{Controller, Outcome};
 
 /// Each answer, and a silence behind it; and stale bytes before the answer of this number.
-fn answers<A: Allocator + Copy>(alloc: A, answers: &[&[u8]], stale: Option<usize>) -> Result<Vec<Entry<A>, A>, AllocError> {
+fn answers<A: Allocator + Copy>(
+    alloc: A,
+    answers: &[&[u8]],
+    stale: Option<usize>,
+) -> Result<Vec<Entry<A>, A>, AllocError> {
     let mut entries = Vec::new(alloc);
     for (k, answer) in answers.iter().enumerate() {
         if stale == Some(k) {
@@ -41,7 +45,10 @@ fn confirming() -> Controller<Playlist> {
 
 #[test]
 fn empty_playlist_is_played(rt: HostRuntime) -> Result<(), Fail> {
-    let wire = ScriptWire::new(rt.alloc(), answers(rt.alloc(), &[GRANTED, ACK, IDLE, ACK], None)?);
+    let wire = ScriptWire::new(
+        rt.alloc(),
+        answers(rt.alloc(), &[GRANTED, ACK, IDLE, ACK], None)?,
+    );
     let mut driver = AutoDriver::new(plain(), 0, wire);
     assert_eq!(rt; driver.run(100), Ok(Ran::Ended));
     let sent = joined(rt.alloc(), &[OPEN, SELECT, STATUS, CLOSE])?;
@@ -52,7 +59,10 @@ fn empty_playlist_is_played(rt: HostRuntime) -> Result<(), Fail> {
 
 #[test]
 fn stale_bytes_are_dropped_before_each_command(rt: HostRuntime) -> Result<(), Fail> {
-    let wire = ScriptWire::new(rt.alloc(), answers(rt.alloc(), &[GRANTED, ACK, IDLE, ACK], Some(1))?);
+    let wire = ScriptWire::new(
+        rt.alloc(),
+        answers(rt.alloc(), &[GRANTED, ACK, IDLE, ACK], Some(1))?,
+    );
     let mut driver = AutoDriver::new(plain(), 0, wire);
     assert_eq!(rt; driver.run(100), Ok(Ran::Ended));
     let sent = joined(rt.alloc(), &[OPEN, SELECT, STATUS, CLOSE])?;
@@ -83,7 +93,10 @@ fn close_inside_a_message_is_a_time_out(rt: HostRuntime) -> Result<(), Fail> {
 #[test]
 fn answers_to_select_confirm_nothing(rt: HostRuntime) -> Result<(), Fail> {
     for stale in [None, Some(1)] {
-        let wire = ScriptWire::new(rt.alloc(), answers(rt.alloc(), &[GRANTED, ACK, IDLE, ACK], stale)?);
+        let wire = ScriptWire::new(
+            rt.alloc(),
+            answers(rt.alloc(), &[GRANTED, ACK, IDLE, ACK], stale)?,
+        );
         let mut driver = AutoDriver::new(confirming(), 0, wire);
         assert_eq!(rt; driver.run(100), Ok(Ran::Closed));
         let sent = joined(rt.alloc(), &[OPEN, SELECT])?;
@@ -97,7 +110,10 @@ fn answers_to_select_confirm_nothing(rt: HostRuntime) -> Result<(), Fail> {
 
 #[test]
 fn empty_playlist_is_played_in_confirm_mode(rt: HostRuntime) -> Result<(), Fail> {
-    let wire = ScriptWire::new(rt.alloc(), answers(rt.alloc(), &[GRANTED, &[], IDLE, IDLE, &[]], None)?);
+    let wire = ScriptWire::new(
+        rt.alloc(),
+        answers(rt.alloc(), &[GRANTED, &[], IDLE, IDLE, &[]], None)?,
+    );
     let mut driver = AutoDriver::new(confirming(), 0, wire);
     assert_eq!(rt; driver.run(100), Ok(Ran::Ended));
     let sent = joined(rt.alloc(), &[OPEN, SELECT, STATUS, STATUS, CLOSE])?;
@@ -109,7 +125,10 @@ fn empty_playlist_is_played_in_confirm_mode(rt: HostRuntime) -> Result<(), Fail>
 
 #[test]
 fn commands_are_sent_only_while_a_listen_is_left(rt: HostRuntime) -> Result<(), Fail> {
-    let wire = ScriptWire::new(rt.alloc(), answers(rt.alloc(), &[GRANTED, ACK, IDLE, ACK], None)?);
+    let wire = ScriptWire::new(
+        rt.alloc(),
+        answers(rt.alloc(), &[GRANTED, ACK, IDLE, ACK], None)?,
+    );
     let mut driver = AutoDriver::new(plain(), 0, wire);
     assert_eq!(rt; driver.run(0), Ok(Ran::Spent));
     assert!(rt; driver.wire().sent().is_empty());
@@ -207,7 +226,13 @@ fn each_call_fails_in_turn(rt: HostRuntime) -> Result<(), Fail> {
                 assert_eq!(rt; sent.as_slice(), &all[..before]);
             }
         }
-        let (works, sent, _) = failed_at(rt.alloc(), plain(), &[GRANTED, ACK, IDLE, ACK], 17, part)?;
+        let (works, sent, _) = failed_at(
+            rt.alloc(),
+            plain(),
+            &[GRANTED, ACK, IDLE, ACK],
+            17,
+            part,
+        )?;
         assert!(rt; works);
         assert_eq!(rt; sent.as_slice(), all.as_slice());
     }
@@ -228,12 +253,24 @@ fn each_call_fails_in_turn_in_confirm_mode(rt: HostRuntime) -> Result<(), Fail> 
             let (works, sent, awaits) = failed_at(rt.alloc(), confirming(), &words, call, part)?;
             assert!(rt; !works && !awaits);
             assert_eq!(rt; sent.as_slice(), &all[..before]);
-            let (works, sent, awaits) = failed_at(rt.alloc(), confirming(), &words, call + 1, part)?;
+            let (works, sent, awaits) = failed_at(
+                rt.alloc(),
+                confirming(),
+                &words,
+                call + 1,
+                part,
+            )?;
             assert!(rt; !works && awaits);
             assert_eq!(rt; sent.as_slice(), &all[..before + part.min(command.len())]);
             before += command.len();
             for listen in 0..listens {
-                let (works, sent, awaits) = failed_at(rt.alloc(), confirming(), &words, call + 2 + listen, part)?;
+                let (works, sent, awaits) = failed_at(
+                    rt.alloc(),
+                    confirming(),
+                    &words,
+                    call + 2 + listen,
+                    part,
+                )?;
                 assert!(rt; !works && awaits);
                 assert_eq!(rt; sent.as_slice(), &all[..before]);
             }

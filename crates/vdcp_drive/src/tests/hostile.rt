@@ -10,7 +10,10 @@ use vdcp_auto::{Controller, Outcome};
 use vdcp_port::Port;
 
 /// A server with a new port over these entries.
-fn server(alloc: Global, entries: Vec<Entry<Global>>) -> Result<Server<Shelf, ScriptWire<Global>>, &'static str> {
+fn server(
+    alloc: Global,
+    entries: Vec<Entry<Global>>,
+) -> Result<Server<Shelf, ScriptWire<Global>>, &'static str> {
     let shelf = Shelf::of(250).ok_or("250 frames")?;
     Ok(Server::new(Port::new(shelf, 0, 1), ScriptWire::new(alloc, entries)))
 }
@@ -40,7 +43,13 @@ fn half_messages_are_cut_each_time(rt: HostRuntime) -> Result<(), Fail> {
     let mut server = server(rt.alloc(), entries)?;
     assert_eq!(rt; server.serve(1000), Ok(Ran::Spent));
     assert_eq!(rt; server.wire().sent().len(), 1000);
-    assert!(rt; server.wire().sent().chunks(2).all(|nak| nak == [0x05, 0x80]));
+    assert!(rt;
+        server
+            .wire()
+            .sent()
+            .chunks(2)
+            .all(|nak| nak == [0x05, 0x80].as_slice())
+    );
     Ok(())
 }
 

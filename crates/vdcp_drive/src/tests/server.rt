@@ -12,13 +12,20 @@ use vdcp_value::{ClipId, Item};
 type Serving<A> = Server<Shelf, ScriptWire<A>>;
 
 /// A server with a new port of unit 0 and number 1, over a wire of these entries.
-fn server<A: Allocator + Copy>(alloc: A, entries: Vec<Entry<A>, A>) -> Result<Serving<A>, &'static str> {
+fn server<A: Allocator + Copy>(
+    alloc: A,
+    entries: Vec<Entry<A>, A>,
+) -> Result<Serving<A>, &'static str> {
     let shelf = Shelf::of(250).ok_or("250 frames")?;
     Ok(Server::new(Port::new(shelf, 0, 1), ScriptWire::new(alloc, entries)))
 }
 
 /// A burst in pieces, and its silence.
-fn add_burst<A: Allocator + Copy>(alloc: A, entries: &mut Vec<Entry<A>, A>, pieces: &[&[u8]]) -> Result<(), AllocError> {
+fn add_burst<A: Allocator + Copy>(
+    alloc: A,
+    entries: &mut Vec<Entry<A>, A>,
+    pieces: &[&[u8]],
+) -> Result<(), AllocError> {
     for piece in pieces {
         entries.push(Entry::Came(Vec::from_slice(alloc, piece)?))?;
     }
@@ -67,7 +74,9 @@ fn turns_are_spent(rt: HostRuntime) -> Result<(), Fail> {
 }
 
 #[test]
-fn burst_cut_off_by_the_close_is_answered_as_far_as_it_is_whole(rt: HostRuntime) -> Result<(), Fail> {
+fn burst_cut_off_by_the_close_is_answered_as_far_as_it_is_whole(
+    rt: HostRuntime,
+) -> Result<(), Fail> {
     let mut entries = Vec::new(rt.alloc());
     add_burst(rt.alloc(), &mut entries, &[OPEN, SELECT])?;
     let mut both = Vec::from_slice(rt.alloc(), PLAY)?;
@@ -143,7 +152,11 @@ fn each_call_fails_in_turn(rt: HostRuntime) -> Result<(), Fail> {
                 9 => 7,
                 _ => 0,
             };
-            let more = if sends.contains(&call) { part.min(most) } else { 0 };
+            let more = if sends.contains(&call) {
+                part.min(most)
+            } else {
+                0
+            };
             assert_eq!(rt; sent.as_slice(), &OPENED[..whole + more]);
         }
         let (works, sent, _) = failed_at(rt.alloc(), 12, part)?;

@@ -15,7 +15,12 @@ piece-init g c = record {
 
 pub piece-preserved : goal.piece-preserved
 piece-preserved g c =
-    let law : InOrder = record { sent = c.messages_after_messages.ensures.sent; aired = c.messages_after_messages.ensures.aired; next = c.messages_after_messages.ensures.next } in
+    let law : InOrder = record {
+      sent = c.messages_after_messages.ensures.sent;
+      aired = c.messages_after_messages.ensures.aired;
+      next =
+          c.messages_after_messages.ensures.next;
+    } in
     let piece : List ℕ = c.args.piece.now in
     let n : ℕ = c.in_ok-at.field-0 in
     let rest : take (length piece - c.piece.at) (drop c.piece.at piece) ≡ drop c.piece.at piece = take_rest piece c.piece.at in
@@ -27,13 +32,19 @@ piece-preserved g c =
       within = omega (arith, c.in_ok-at.ensures.within, ap (length {A = ℕ}) rest, length-drop c.piece.at piece);
       works = c.in_ok-at.ensures.works;
       taken = subst (λ (b : List ℕ). HasTaken s.port.now s.reader.now s.aired.now (told s.wire.now) b t.port t.reader t.aired (told t.wire)) front
-          (taken_further law s.port.now c.piece.port t.port s.reader.now c.piece.reader t.reader s.aired.now c.piece.aired t.aired (told s.wire.now) (told c.piece.wire) (told t.wire)
+          (taken_further law s.port.now c.piece.port t.port s.reader.now c.piece.reader t.reader s.aired.now c.piece.aired t.aired (told s.wire.now) (told
+          c.piece.wire) (told t.wire)
           (take c.piece.at piece) (take n (take (length piece - c.piece.at) (drop c.piece.at piece))) c.piece.invariant.taken c.in_ok-at.ensures.taken);
     }
 
 pub returns-in_err-at-clause-broken : goal.returns-in_err-at-clause-broken
 returns-in_err-at-clause-broken g c =
-    let law : InOrder = record { sent = c.messages_after_messages.ensures.sent; aired = c.messages_after_messages.ensures.aired; next = c.messages_after_messages.ensures.next } in
+    let law : InOrder = record {
+      sent = c.messages_after_messages.ensures.sent;
+      aired = c.messages_after_messages.ensures.aired;
+      next =
+          c.messages_after_messages.ensures.next;
+    } in
     let piece : List ℕ = c.args.piece.now in
     let rest : take (length piece - c.piece.at) (drop c.piece.at piece) ≡ drop c.piece.at piece = take_rest piece c.piece.at in
     let front : take c.piece.at piece ++ take (length piece - c.piece.at) (drop c.piece.at piece) ≡ piece =
@@ -43,7 +54,8 @@ returns-in_err-at-clause-broken g c =
     let t = c.take_some.new in
     on_err_of c.from_residual.result
     (subst (λ (b : List ℕ). HasBroken s.port.now s.reader.now s.aired.now (told s.wire.now) b t.port t.aired (told t.wire)) front
-    (broken_further law s.port.now c.piece.port t.port s.reader.now c.piece.reader s.aired.now c.piece.aired t.aired (told s.wire.now) (told c.piece.wire) (told t.wire)
+    (broken_further law s.port.now c.piece.port t.port s.reader.now c.piece.reader s.aired.now c.piece.aired t.aired (told s.wire.now) (told c.piece.wire)
+    (told t.wire)
     (take c.piece.at piece) (take (length piece - c.piece.at) (drop c.piece.at piece)) c.piece.invariant.taken c.in_err-at.ensures.broken))
 
 pub returns-in_err-at-clause-fits : goal.returns-in_err-at-clause-fits

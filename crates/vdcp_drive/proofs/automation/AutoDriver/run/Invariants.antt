@@ -15,7 +15,8 @@ invariant-listens g l =
       controller : l.self.controller ≡ record l.fn.self.controller { state = l.self.controller.state };
       unit : l.self.unit ≡ l.fn.self.unit;
       runs : IsNew l.fn.self.controller.state l.fn.self.reader l.fn.self.heard (told l.fn.self.wire) →
-          IfTold (told l.self.wire) (λ u. RunsAt (plan_of g.S.Source.items l.fn.self.controller) l.fn.self.unit u l.self.controller.state l.self.reader l.self.heard × AllListened l.made [] u.came);
+          IfTold (told l.self.wire) (λ u. RunsAt (plan_of g.S.Source.items l.fn.self.controller) l.fn.self.unit u l.self.controller.state l.self.reader
+          l.self.heard × AllListened l.made [] u.came);
     }
 
 abbrev pub decreases-listens : goal.decreases-listens

@@ -25,7 +25,8 @@ turns-preserved g c = record {
       let told = g.W.Wire.told in
       let l = c.turns.invariant.listened t is in
       let e = c.in_ok-turn.ensures.serves in
-      listened_more c.turns.made e.0 t l.0 (told c.turns.self.wire) c.turns.self.port c.turns.self.reader c.turn.new.self.port c.turn.new.self.reader c.turn.new.self.aired (told c.turn.new.self.wire)
+      listened_more c.turns.made e.0 t l.0 (told c.turns.self.wire) c.turns.self.port c.turns.self.reader c.turn.new.self.port c.turn.new.self.reader
+      c.turn.new.self.aired (told c.turn.new.self.wire)
       l.1 l.2.0 l.2.1 e.2 (λ x. c.in_default.not-Closed (e.1 ∙ x)) e.3;
 }
 
@@ -34,7 +35,8 @@ returns-in-Closed-clause-answer g c t is =
     let told = g.W.Wire.told in
     let l = c.turns.invariant.listened t is in
     let e = c.in_ok-turn.ensures.serves in
-    has_closed_then e.0 l.0 (told c.turns.self.wire) c.turns.self.port c.turns.self.reader c.turn.new.self.port c.turn.new.self.reader c.turn.new.self.aired (told c.turn.new.self.wire)
+    has_closed_then e.0 l.0 (told c.turns.self.wire) c.turns.self.port c.turns.self.reader c.turn.new.self.port c.turn.new.self.reader
+    c.turn.new.self.aired (told c.turn.new.self.wire)
     l.1 e.2 (sym e.1 ∙ c.in-Closed.is) e.3
 
 pub returns-in-Closed-clause-sent : goal.returns-in-Closed-clause-sent
@@ -70,7 +72,12 @@ returns-clause-port g c r is =
 pub returns-in_err-turn-clause-broken : goal.returns-in_err-turn-clause-broken
 returns-in_err-turn-clause-broken g c r is works =
     let fed : Fed = record { start = c.what_is_fed_is_followed.ensures.start; next = c.what_is_fed_is_followed.ensures.next } in
-    let order : InOrder = record { sent = c.messages_after_messages.ensures.sent; aired = c.messages_after_messages.ensures.aired; next = c.messages_after_messages.ensures.next } in
+    let order : InOrder = record {
+      sent = c.messages_after_messages.ensures.sent;
+      aired = c.messages_after_messages.ensures.aired;
+      next =
+          c.messages_after_messages.ensures.next;
+    } in
     let alone : Alone = record { sent = c.one_alone.ensures.sent; aired = c.one_alone.ensures.aired } in
     let s = c.args.self.now in
     let h = c.turns.invariant.served s.port nothing_told is (fresh fed s.port s.reader r) in

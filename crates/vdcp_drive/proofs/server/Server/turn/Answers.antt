@@ -13,10 +13,21 @@ pub returns-in-Ok-clause-served : goal.returns-in-Ok-clause-served
 returns-in-Ok-clause-served g c start t is h =
     let told = g.W.Wire.told in
     let below : Below = record {
-      order = record { sent = c.messages_after_messages.ensures.sent; aired = c.messages_after_messages.ensures.aired; next = c.messages_after_messages.ensures.next };
+      order = record {
+        sent = c.messages_after_messages.ensures.sent;
+        aired = c.messages_after_messages.ensures.aired;
+        next =
+            c.messages_after_messages.ensures.next;
+      };
       alone = record { sent = c.one_alone.ensures.sent; aired = c.one_alone.ensures.aired };
       fed = record { start = c.what_is_fed_is_followed.ensures.start; next = c.what_is_fed_is_followed.ensures.next };
-      read = record { some = c.one_reading.ensures.some; read = c.what_is_followed_is_read.ensures.read; messages = c.what_is_followed_is_read.ensures.messages; further = c.what_is_followed_is_read.ensures.further };
+      read = record {
+        some = c.one_reading.ensures.some;
+        read = c.what_is_followed_is_read.ensures.read;
+        messages =
+            c.what_is_followed_is_read.ensures.messages;
+        further = c.what_is_followed_is_read.ensures.further;
+      };
       ends = record { sent = c.a_burst_is_answered_as_it_ended.ensures.sent; one = c.one_answer_to_the_end.ensures; unit = c.the_unit_stays.ensures.messages };
     } in
     let s = c.self.inside in
@@ -37,10 +48,21 @@ pub returns-in-Err-clause-broken_off : goal.returns-in-Err-clause-broken_off
 returns-in-Err-clause-broken_off g c start t is h works =
     let told = g.W.Wire.told in
     let below : Below = record {
-      order = record { sent = c.messages_after_messages.ensures.sent; aired = c.messages_after_messages.ensures.aired; next = c.messages_after_messages.ensures.next };
+      order = record {
+        sent = c.messages_after_messages.ensures.sent;
+        aired = c.messages_after_messages.ensures.aired;
+        next =
+            c.messages_after_messages.ensures.next;
+      };
       alone = record { sent = c.one_alone.ensures.sent; aired = c.one_alone.ensures.aired };
       fed = record { start = c.what_is_fed_is_followed.ensures.start; next = c.what_is_fed_is_followed.ensures.next };
-      read = record { some = c.one_reading.ensures.some; read = c.what_is_followed_is_read.ensures.read; messages = c.what_is_followed_is_read.ensures.messages; further = c.what_is_followed_is_read.ensures.further };
+      read = record {
+        some = c.one_reading.ensures.some;
+        read = c.what_is_followed_is_read.ensures.read;
+        messages =
+            c.what_is_followed_is_read.ensures.messages;
+        further = c.what_is_followed_is_read.ensures.further;
+      };
       ends = record { sent = c.a_burst_is_answered_as_it_ended.ensures.sent; one = c.one_answer_to_the_end.ensures; unit = c.the_unit_stays.ensures.messages };
     } in
     let s = c.self.inside in
