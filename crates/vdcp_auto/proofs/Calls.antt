@@ -20,7 +20,8 @@ use Rattle.vdcp_auto.specs.Table.{command_in, can_stop}
 use Rattle.vdcp_auto.specs.Turn.{start, phase_to_send, ticked, is_end, ended_in, exchange_of, ended_by, came_to, taken, stopped}
 use Rattle.vdcp_auto.proofs.Memo.{Memo, blank, remember}
 use Rattle.vdcp_auto.proofs.Keeps.{InPhase, Holds}
-use Rattle.vdcp_auto.proofs.Steps.{Sends, sends_open, sends_select, sends_seen, sends_exists, sends_whole, sends_part, sends_wait, sends_play, sends_probe, sends_check, sends_drain, sends_close, sends_halt, sends_halt_close, exchange, kept}
+use Rattle.vdcp_auto.proofs.Steps.{Sends, sends_open, sends_select, sends_seen, sends_exists, sends_whole, sends_part, sends_wait, sends_play, sends_probe}
+use Rattle.vdcp_auto.proofs.Steps.{sends_check, sends_drain, sends_close, sends_halt, sends_halt_close, exchange, kept}
 use Rattle.vdcp_auto.proofs.Rows.{row_kept}
 
 -- What a phase sends.
@@ -38,7 +39,8 @@ sends_item list port k c (Some item) here e = let same : command.IdRequest item.
 sends_cued : (list : List Item) (port k : ℕ) (c : Command) (found : Option Item) → slice_get list k ≡ found
     → option_map cue_of found ≡ Some c → Sends list port (phase.Cue k) c
 sends_cued list port k c None here e = cc
-sends_cued list port k c (Some item) here e = let same : cue_of item ≡ c = cc in subst (Sends list port (phase.Cue k)) same (sends_cue list port k item here item.part refl)
+sends_cued list port k c (Some item) here e = let same : cue_of item ≡ c = cc in subst (Sends list port (phase.Cue k)) same
+    (sends_cue list port k item here item.part refl)
 
 pub sends_of : (list : List Item) (port : ℕ) (p : Phase) (c : Command) → command_in list port p ≡ Some c → Sends list port p c
 sends_of list port phase.Open c e = let same : command.Open port 1 ≡ c = cc in subst (Sends list port phase.Open) same sends_open
@@ -143,7 +145,8 @@ end_holds plan m p take stop tries c came s ends holds =
 come_if : (plan : Plan) (m : Memo) (p : Phase) (take stop : Bool) (tries : ℕ) (c : Command) (came : Option Heard)
     → Sends plan.list plan.port p c → Holds plan m (waiting plan m p take stop tries) → (ends : Bool) → is_end plan.mode c came ≡ ends
     → Holds plan (remembered plan m (if ends then Some (exchange c came) else None))
-    (option_map_or (λ e. ended_in plan (Awaiting p) e (waiting plan m p take stop tries)) (if ends then Some (exchange c came) else None) (waiting plan m p take stop tries))
+    (option_map_or (λ e. ended_in plan (Awaiting p) e (waiting plan m p take stop tries)) (if ends then Some (exchange c came) else None)
+    (waiting plan m p take stop tries))
 come_if plan m p take stop tries c came s holds true is = end_holds plan m p take stop tries c came s is holds
 come_if plan m p take stop tries c came s holds false is = holds
 
@@ -158,20 +161,24 @@ come_for plan m p take stop tries came (Some c) is holds =
 come_waiting : (plan : Plan) (m : Memo) (p : Phase) (take stop : Bool) (unanswered settled tries : ℕ) (came : Option Heard)
     → unanswered ≡ m.row → settled ≡ m.count
     → Holds plan m (state (Awaiting p) take stop unanswered settled tries)
-    → Holds plan (remembered plan m (ended_by plan came (state (Awaiting p) take stop unanswered settled tries))) (came_to plan came (state (Awaiting p) take stop unanswered settled tries))
+    → Holds plan (remembered plan m (ended_by plan came (state (Awaiting p) take stop unanswered settled tries)))
+    (came_to plan came (state (Awaiting p) take stop unanswered settled tries))
 come_waiting plan m p take stop unanswered settled tries came row count holds =
     let P : ℕ → ℕ → Type 0 =
     λ u n. Holds plan m (state (Awaiting p) take stop u n tries)
-    → Holds plan (remembered plan m (ended_by plan came (state (Awaiting p) take stop u n tries))) (came_to plan came (state (Awaiting p) take stop u n tries)) in
+    → Holds plan (remembered plan m (ended_by plan came (state (Awaiting p) take stop u n tries)))
+    (came_to plan came (state (Awaiting p) take stop u n tries)) in
     let here : P m.row m.count = come_for plan m p take stop tries came (command_in plan.list plan.port p) refl in
     subst (λ n. P unanswered n) (sym count) (subst (λ u. P u m.count) (sym row) here) holds
 
 come_holds : (plan : Plan) (m : Memo) (stage : Stage) (take stop : Bool) (unanswered settled tries : ℕ) (came : Option Heard)
     → Holds plan m (state stage take stop unanswered settled tries)
-    → Holds plan (remembered plan m (ended_by plan came (state stage take stop unanswered settled tries))) (came_to plan came (state stage take stop unanswered settled tries))
+    → Holds plan (remembered plan m (ended_by plan came (state stage take stop unanswered settled tries)))
+    (came_to plan came (state stage take stop unanswered settled tries))
 come_holds plan m (Ready p) take stop unanswered settled tries came holds = holds
 come_holds plan m (Ended outcome) take stop unanswered settled tries came holds = holds
 come_holds plan m (Awaiting p) take stop unanswered settled tries came holds = come_waiting plan m p take stop unanswered settled tries came holds.row.0 holds.settled holds
 
-pub came_holds : (plan : Plan) (m : Memo) (s : State) (came : Option Heard) → Holds plan m s → Holds plan (remembered plan m (ended_by plan came s)) (came_to plan came s)
+pub came_holds : (plan : Plan) (m : Memo) (s : State) (came : Option Heard) → Holds plan m s
+    → Holds plan (remembered plan m (ended_by plan came s)) (came_to plan came s)
 came_holds plan m s came holds = come_holds plan m s.stage s.take s.stop s.unanswered s.settled s.tries came holds

@@ -80,7 +80,8 @@ course_input plan input.Silence inputs s = course_came plan None inputs s
 
 -- Courses one behind another.
 
-pub after_joined : (plan : Plan) (xs ys : List Input) (s : State) → after_inputs_from plan s (xs ++ ys) ≡ after_inputs_from plan (after_inputs_from plan s xs) ys
+pub after_joined : (plan : Plan) (xs ys : List Input) (s : State)
+    → after_inputs_from plan s (xs ++ ys) ≡ after_inputs_from plan (after_inputs_from plan s xs) ys
 after_joined plan [] ys s = refl
 after_joined plan (x ∷ xs) ys s = after_joined plan xs ys (after_input plan s x)
 
@@ -109,7 +110,8 @@ course_more plan s xs x =
 
 -- What a course leaves is reached.
 
-reached_input : (plan : Plan) (s : State) (log : List Exchange) (x : Input) → Reached plan s log → Reached plan (after_input plan s x) (logged log (ended_by_input plan s x))
+reached_input : (plan : Plan) (s : State) (log : List Exchange) (x : Input) → Reached plan s log
+    → Reached plan (after_input plan s x) (logged log (ended_by_input plan s x))
 reached_input plan s log input.Take r = called r Take
 reached_input plan s log input.Stop r = called r Stop
 reached_input plan s log (input.Heard h) r = called (called r Tick) (Receive (Some h))

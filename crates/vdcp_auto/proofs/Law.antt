@@ -1,5 +1,6 @@
 -- The law of a controller that calls have led to.
-use Rattle.std.proofs.Common.{◌≡◌, ◌≢◌, ℕ, ◌+◌, ◌≤◌, ◌<◌, Bool, true, false, cond, not, ◌||◌, ◌&&◌, Option, None, Some, List, [], ◌∷◌, ◌++◌, refl, arith, sym, ap, subst, ◌∙◌, inl, inr}
+use Rattle.std.proofs.Common.{◌≡◌, ◌≢◌, ℕ, ◌+◌, ◌≤◌, ◌<◌, Bool, true, false, cond, not, ◌||◌, ◌&&◌, Option, None, Some, List, [], ◌∷◌, ◌++◌, refl, arith, sym}
+use Rattle.std.proofs.Common.{ap, subst, ◌∙◌, inl, inr}
 use Rattle.std.specs.Prelude.{if◌then◌else◌, nat_le, IfSome}
 use Rattle.std.specs.List.{list_any}
 use Rattle.vdcp_value.specs.declared.part.Item.{Item}
@@ -28,7 +29,8 @@ use Rattle.vdcp_auto.proofs.Memo.{Memo, blank, opens, settles_now, remember}
 use Rattle.vdcp_auto.proofs.LookBacks.{has_open_play-push, settled-push, LastCue, FirstCue, any_push, last_push, first_push}
 use Rattle.vdcp_auto.proofs.Runs.{Run, no_run, run_more, run_is, run_has, IsFirst, first_none, first_push as still_first}
 use Rattle.vdcp_auto.proofs.Keeps.{InPhase, CueIs, TrialIs, IsGoing, RowIs, AtEnd, AtStage, Holds}
-use Rattle.vdcp_auto.proofs.Steps.{Sends, sends_open, sends_select, sends_seen, sends_exists, sends_whole, sends_part, sends_wait, sends_play, sends_probe, sends_check, sends_drain, sends_close, sends_halt, sends_halt_close}
+use Rattle.vdcp_auto.proofs.Steps.{Sends, sends_open, sends_select, sends_seen, sends_exists, sends_whole, sends_part, sends_wait, sends_play, sends_probe}
+use Rattle.vdcp_auto.proofs.Steps.{sends_check, sends_drain, sends_close, sends_halt, sends_halt_close}
 use Rattle.vdcp_auto.proofs.Courses.{reached_after}
 use Rattle.vdcp_auto.proofs.Sending.{gives_ready, awaits_answer, stopped_before}
 use Rattle.vdcp_auto.proofs.Calls.{sends_of, begun_holds, ticked_holds, state as state_at, stopped_holds, taken_holds, remembered, came_holds}
@@ -79,7 +81,8 @@ agrees_nil mode limit = record {
   is_first = λ h. first_none mode limit;
 }
 
-agrees_push : (mode : Mode) (limit : ℕ) (log : List Exchange) (m : Memo) (e : Exchange) → Agrees mode limit log m → Agrees mode limit (log ++ e ∷ []) (remember mode limit m e)
+agrees_push : (mode : Mode) (limit : ℕ) (log : List Exchange) (m : Memo) (e : Exchange) → Agrees mode limit log m
+    → Agrees mode limit (log ++ e ∷ []) (remember mode limit m e)
 agrees_push mode limit log m e a = record {
   opened = has_open_play-push log e ∙ ap (λ o. opens o e) a.opened;
   count = settled-push mode log e ∙ ap (λ o. settled mode log + cond {A = ℕ} (settles_now mode o e) 1 0) a.opened
@@ -92,7 +95,8 @@ agrees_push mode limit log m e a = record {
   first = λ h. first_push mode log m.opened e m.first m.empties a.opened (none_left (settles_now mode m.opened e) (is_cue e || m.cued) h)
       m.cued (none_right (settles_now mode m.opened e) (is_cue e || m.cued) h) a.first;
   run = run_more mode log m.row e a.run;
-  is_first = λ h. still_first mode limit log e (a.is_first (early_left limit m.row m.early h)) (run_has mode limit log m.row a.run (early_right limit m.row m.early h));
+  is_first = λ h. still_first mode limit log e (a.is_first (early_left limit m.row m.early h))
+      (run_has mode limit log m.row a.run (early_right limit m.row m.early h));
 }
 
 -- What may be sent.
@@ -186,12 +190,14 @@ record Known (plan : Plan) (state : State) (log : List Exchange) : Type 0 where
   pub holds : Holds plan memo state
   pub rules : KeepsRules plan.mode plan.list log
 
-may_next : (plan : Plan) (state : State) (log : List Exchange) (c : Command) → Known plan state log → awaited plan state ≡ Some c → May plan.mode plan.list log c
+may_next : (plan : Plan) (state : State) (log : List Exchange) (c : Command) → Known plan state log → awaited plan state ≡ Some c
+    → May plan.mode plan.list log c
 may_next plan state log c known is =
     may_await plan log known.memo state.stop state.tries state.stage c known.agrees known.holds.stage is
 
 -- the exchange that ends is that of the awaited command
-ended_if : (came : Option Heard) (c : Command) (e : Exchange) (ends : Bool) → (if ends then Some (record { command = c; heard = came }) else None) ≡ Some e → c ≡ e.command
+ended_if : (came : Option Heard) (c : Command) (e : Exchange) (ends : Bool) → (if ends then Some (record { command = c; heard = came }) else None) ≡ Some e
+    → c ≡ e.command
 ended_if came c e true is = let same : record { command = c; heard = came } ≡ e = cc in ap (λ x. x.command) same
 ended_if came c e false is = cc
 
@@ -209,14 +215,16 @@ rules_within mode list log before x after e rules [] some is order = absurd (som
 rules_within mode list log before x after e rules (y ∷ last) some is order =
     let same : y ≡ x = cc in rules before x last (is ∙ ap (λ z. before ++ (z ∷ last)) same)
 
-rules_push : (mode : Mode) (list : List Item) (log : List Exchange) (e : Exchange) → KeepsRules mode list log → May mode list log e.command → KeepsRules mode list (log ++ e ∷ [])
+rules_push : (mode : Mode) (list : List Item) (log : List Exchange) (e : Exchange) → KeepsRules mode list log → May mode list log e.command
+    → KeepsRules mode list (log ++ e ∷ [])
 rules_push mode list log e rules may before x after is =
     elim (cut log before (x ∷ after) e (λ h. cc) is) [
       | inl w ↦ (let same : x ≡ e = (let both = w.1 in cc) in rw (w.0, same) may)
       | inr w ↦ rules_within mode list log before x after e rules w.last w.some w.before w.after
     ]
 
-known_more : (plan : Plan) (state : State) (log : List Exchange) (came : Option Heard) → Known plan state log → (o : Option Exchange) → ended_by plan came state ≡ o
+known_more : (plan : Plan) (state : State) (log : List Exchange) (came : Option Heard) → Known plan state log → (o : Option Exchange)
+    → ended_by plan came state ≡ o
     → Known plan (came_to plan came state) (logged log o)
 known_more plan state log came known None is =
     let next = came_holds plan known.memo state came known.holds in
@@ -231,7 +239,8 @@ known_more plan state log came known (Some e) is =
     record {
       memo = remember plan.mode plan.limit known.memo e;
       agrees = agrees_push plan.mode plan.limit log known.memo e known.agrees;
-      rules = rules_push plan.mode plan.list log e known.rules (may_next plan state log e.command known (ended_command plan.mode came (awaited plan state) e is));
+      rules = rules_push plan.mode plan.list log e known.rules (may_next plan state log e.command known
+          (ended_command plan.mode came (awaited plan state) e is));
       holds = subst (λ o. Holds plan (remembered plan known.memo o) (came_to plan came state)) is next;
     }
 
@@ -239,7 +248,8 @@ known_came : (plan : Plan) (state : State) (log : List Exchange) (came : Option 
     → Known plan (came_to plan came state) (logged log (ended_by plan came state))
 known_came plan state log came known = known_more plan state log came known (ended_by plan came state) refl
 
-known_quiet : (plan : Plan) (old new : State) (log : List Exchange) → Known plan old log → ((m : Memo) → Holds plan m old → Holds plan m new) → Known plan new log
+known_quiet : (plan : Plan) (old new : State) (log : List Exchange) → Known plan old log → ((m : Memo) → Holds plan m old → Holds plan m new)
+    → Known plan new log
 known_quiet plan old new log known keeps = record { memo = known.memo; agrees = known.agrees; rules = known.rules; holds = keeps known.memo known.holds }
 
 known : (plan : Plan) {state : State} {log : List Exchange} → Reached plan state log → Known plan state log
@@ -305,7 +315,8 @@ each None P h = tt
 each (Some c) P h = h c refl
 
 given_awaited : (plan : Plan) (stage : Stage) (take stop : Bool) (unanswered settled tries : ℕ) (c : Command)
-    → given plan (state_at stage take stop unanswered settled tries) ≡ Some c → awaited plan (ticked (state_at stage take stop unanswered settled tries)) ≡ Some c
+    → given plan (state_at stage take stop unanswered settled tries) ≡ Some c
+    → awaited plan (ticked (state_at stage take stop unanswered settled tries)) ≡ Some c
 given_awaited plan (Ready p) take stop unanswered settled tries c is = is
 given_awaited plan (Awaiting p) take stop unanswered settled tries c is = cc
 given_awaited plan (Ended outcome) take stop unanswered settled tries c is = cc
@@ -320,7 +331,8 @@ lawful plan state log reached =
     record {
       keeps_rules = k.rules;
       may_await = each (awaited plan state) _ (λ c is. may_next plan state log c k is);
-      may_give = each (given plan state) _ (λ c is. may_next plan (ticked state) log c (known plan (called reached Tick)) (given_awaited plan state.stage state.take state.stop state.unanswered state.settled state.tries c is));
+      may_give = each (given plan state) _ (λ c is. may_next plan (ticked state) log c (known plan (called reached Tick))
+          (given_awaited plan state.stage state.take state.stop state.unanswered state.settled state.tries c is));
       gives = gives_ready plan k.memo state.stop state.tries state.stage h.stage;
       awaits = awaits_answer plan k.memo state.stop state.tries state.stage h.stage;
       is_stopped = λ p is halts. a.stops ∙ stopped_before plan.mode plan.list plan.limit k.memo state.stop state.tries state.stage p h.stage is halts;

@@ -590,7 +590,8 @@ fault_for_play_counts = refl
 third_unanswered_seen_ends_lost : (after Confirming phase.Seen false 2 0 None).stage ≡ Ended Lost
 third_unanswered_seen_ends_lost = refl
 
-silent_play_counts_nothing_in_confirm_mode : after Confirming (phase.Play 0) false 2 0 None ≡ record (in_phase (phase.Play 0) false 2 0) { stage = Ready (phase.Probe 0) }
+silent_play_counts_nothing_in_confirm_mode :
+    after Confirming (phase.Play 0) false 2 0 None ≡ record (in_phase (phase.Play 0) false 2 0) { stage = Ready (phase.Probe 0) }
 silent_play_counts_nothing_in_confirm_mode = refl
 
 refusal_sets_the_row_back : (after Plain phase.Halt false 2 0 (heard_reply (reply.Nak 0x01))).unanswered ≡ 0

@@ -29,7 +29,8 @@ either false s t here there = there
 no_loss_cue : (mode : Mode) (limit tries k : ℕ) → is_loss (on_lost_cue mode limit tries k) ≡ false
 no_loss_cue mode limit tries k = grind arith
 
-no_loss_reply : (mode : Mode) (list : List Item) (limit : ℕ) (take : Bool) (tries : ℕ) (p : Phase) (r : Reply) → is_loss (on_reply mode list limit take tries p r) ≡ false
+no_loss_reply : (mode : Mode) (list : List Item) (limit : ℕ) (take : Bool) (tries : ℕ) (p : Phase) (r : Reply)
+    → is_loss (on_reply mode list limit take tries p r) ≡ false
 no_loss_reply mode list limit take tries p r = grind arith
 
 no_loss_refusal : (n : ℕ) (p : Phase) → is_loss (on_refusal n p) ≡ false
@@ -67,12 +68,15 @@ row_answered limit row true t known below = row_at limit 0 t known (omega arith)
 row_answered limit row false t known below = row_at limit row t known below
 
 row_on : (plan : Plan) (take : Bool) (tries row : ℕ) (counts : Bool) (p : Phase) (answer : Option Reply) → row < plan.limit
-    → RowIs plan.limit (counted_row row counts (is_some answer)) (counted_row row counts (is_some answer)) (stage_after (turn_on plan take tries row counts p answer))
+    → RowIs plan.limit (counted_row row counts (is_some answer)) (counted_row row counts (is_some answer))
+    (stage_after (turn_on plan take tries row counts p answer))
 row_on plan take tries row counts p None below =
     row_unanswered plan.limit row counts (on_no_answer plan.mode p) (no_loss_no_answer plan.mode p) below (nat_le plan.limit (row + 1)) refl
 row_on plan take tries row counts p (Some r) below =
-    row_answered plan.limit row counts _ (either (is_refusal r) _ _ (no_loss_refusal (length plan.list) p) (no_loss_reply plan.mode plan.list plan.limit take tries p r)) below
+    row_answered plan.limit row counts _ (either (is_refusal r) _ _ (no_loss_refusal (length plan.list) p)
+    (no_loss_reply plan.mode plan.list plan.limit take tries p r)) below
 
 pub row_kept : (plan : Plan) (take : Bool) (tries row : ℕ) (p : Phase) (e : Exchange) → row < plan.limit
-    → RowIs plan.limit (row_after plan.mode row e) (unanswered_after plan.mode e row) (stage_after (turn_on plan take tries row (is_counted plan.mode e) p (answer_in e)))
+    → RowIs plan.limit (row_after plan.mode row e) (unanswered_after plan.mode e row)
+    (stage_after (turn_on plan take tries row (is_counted plan.mode e) p (answer_in e)))
 row_kept plan take tries row p e below = row_on plan take tries row (is_counted plan.mode e) p (answer_in e) below

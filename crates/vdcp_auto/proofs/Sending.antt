@@ -95,7 +95,8 @@ sent_some list port phase.Close within = refl
 sent_some list port phase.Halt within = refl
 sent_some list port phase.HaltClose within = refl
 
-in_list : (mode : Mode) (list : List Item) (m : Memo) (awaiting stop : Bool) (tries : ℕ) (p : Phase) → InPhase mode list m awaiting stop tries p → IsPhaseOf (length list) p
+in_list : (mode : Mode) (list : List Item) (m : Memo) (awaiting stop : Bool) (tries : ℕ) (p : Phase) → InPhase mode list m awaiting stop tries p
+    → IsPhaseOf (length list) p
 in_list mode list m awaiting stop tries phase.Open holds = tt
 in_list mode list m awaiting stop tries phase.Select holds = tt
 in_list mode list m awaiting stop tries phase.Seen holds = tt
@@ -125,9 +126,11 @@ awaits_answer plan m stop tries (Ended outcome) holds = refl
 
 -- In Halt and HaltClose a STOP was sent.
 
-halted : (mode : Mode) (list : List Item) (m : Memo) (stop : Bool) (tries : ℕ) (p : Phase) → InPhase mode list m false stop tries p → is_halting p ≡ true → m.stopped ≡ true
+halted : (mode : Mode) (list : List Item) (m : Memo) (stop : Bool) (tries : ℕ) (p : Phase) → InPhase mode list m false stop tries p
+    → is_halting p ≡ true → m.stopped ≡ true
 halted mode list m stop tries p holds is = grind arith
 
 pub stopped_before : (mode : Mode) (list : List Item) (limit : ℕ) (m : Memo) (stop : Bool) (tries : ℕ) (stage : Stage) (p : Phase)
     → AtStage mode list limit m stop tries stage → stage ≡ Ready p → is_halting p ≡ true → m.stopped ≡ true
-stopped_before mode list limit m stop tries stage p holds is halts = halted mode list m stop tries p (subst (AtStage mode list limit m stop tries) is holds) halts
+stopped_before mode list limit m stop tries stage p holds is halts =
+    halted mode list m stop tries p (subst (AtStage mode list limit m stop tries) is holds) halts

@@ -65,7 +65,8 @@ empty_list_closes_at_once = (refl, refl, refl, refl)
 two_clips_air :
     Gives (plan Plain two)
     (granted ∷ ack ∷ present ∷ ack ∷ state 0x80 ∷ ack ∷ active None ∷ present ∷ ack ∷ state 0x80 ∷ ack ∷ active None ∷ state 0x01 ∷ ack ∷ [])
-    (open_port ∷ select_port ∷ request_one ∷ cue_one ∷ status ∷ command.Play ∷ command.ActiveId ∷ request_two ∷ cue_two ∷ status ∷ command.Play ∷ command.ActiveId ∷ status ∷ close_port ∷ [])
+    (open_port ∷ select_port ∷ request_one ∷ cue_one ∷ status ∷ command.Play ∷ command.ActiveId ∷ request_two ∷ cue_two ∷ status ∷ command.Play
+    ∷ command.ActiveId ∷ status ∷ close_port ∷ [])
     (Some Done) 2
 two_clips_air = (refl, refl, refl, refl)
 
@@ -120,15 +121,18 @@ state_without_byte_is_no_answer = (refl, refl, refl, refl)
 
 lost_play_is_sent_again :
     Gives (plan Plain one_twice)
-    (granted ∷ ack ∷ present ∷ ack ∷ state 0x80 ∷ ack ∷ active (Some clip_one) ∷ present ∷ ack ∷ input.Take ∷ state 0x84 ∷ silence ∷ state 0x84 ∷ ack ∷ active None ∷ state 0x01 ∷ ack ∷ [])
-    (open_port ∷ select_port ∷ request_one ∷ cue_one ∷ status ∷ command.Play ∷ command.ActiveId ∷ request_one ∷ cue_one ∷ status ∷ command.Play ∷ status ∷ command.Play ∷ command.ActiveId ∷ status ∷ close_port ∷ [])
+    (granted ∷ ack ∷ present ∷ ack ∷ state 0x80 ∷ ack ∷ active (Some clip_one) ∷ present ∷ ack ∷ input.Take ∷ state 0x84 ∷ silence ∷ state 0x84 ∷ ack
+    ∷ active None ∷ state 0x01 ∷ ack ∷ [])
+    (open_port ∷ select_port ∷ request_one ∷ cue_one ∷ status ∷ command.Play ∷ command.ActiveId ∷ request_one ∷ cue_one ∷ status ∷ command.Play ∷ status
+    ∷ command.Play ∷ command.ActiveId ∷ status ∷ close_port ∷ [])
     (Some Done) 2
 lost_play_is_sent_again = (refl, refl, refl, refl)
 
 lost_ack_of_play_is_settled_by_status :
     Gives (plan Plain one_twice)
     (granted ∷ ack ∷ present ∷ ack ∷ state 0x80 ∷ ack ∷ active None ∷ present ∷ ack ∷ state 0x80 ∷ silence ∷ state 0x04 ∷ active None ∷ state 0x01 ∷ ack ∷ [])
-    (open_port ∷ select_port ∷ request_one ∷ cue_one ∷ status ∷ command.Play ∷ command.ActiveId ∷ request_one ∷ cue_one ∷ status ∷ command.Play ∷ status ∷ command.ActiveId ∷ status ∷ close_port ∷ [])
+    (open_port ∷ select_port ∷ request_one ∷ cue_one ∷ status ∷ command.Play ∷ command.ActiveId ∷ request_one ∷ cue_one ∷ status ∷ command.Play ∷ status
+    ∷ command.ActiveId ∷ status ∷ close_port ∷ [])
     (Some Done) 2
 lost_ack_of_play_is_settled_by_status = (refl, refl, refl, refl)
 
@@ -230,8 +234,10 @@ receipts_end_no_open = (refl, refl, refl, refl)
 
 stray_ack_settles_nothing :
     Gives (plan Confirming one)
-    (granted ∷ ack ∷ silence ∷ state 0x01 ∷ present ∷ ack ∷ silence ∷ state 0x80 ∷ ack ∷ silence ∷ state 0x80 ∷ ack ∷ silence ∷ state 0x01 ∷ active None ∷ state 0x01 ∷ ack ∷ silence ∷ [])
-    (open_port ∷ select_port ∷ status ∷ request_one ∷ cue_one ∷ status ∷ command.Play ∷ status ∷ command.Play ∷ status ∷ command.ActiveId ∷ status ∷ close_port ∷ [])
+    (granted ∷ ack ∷ silence ∷ state 0x01 ∷ present ∷ ack ∷ silence ∷ state 0x80 ∷ ack ∷ silence ∷ state 0x80 ∷ ack ∷ silence ∷ state 0x01 ∷ active None
+    ∷ state 0x01 ∷ ack ∷ silence ∷ [])
+    (open_port ∷ select_port ∷ status ∷ request_one ∷ cue_one ∷ status ∷ command.Play ∷ status ∷ command.Play ∷ status ∷ command.ActiveId ∷ status
+    ∷ close_port ∷ [])
     (Some Done) 1
 stray_ack_settles_nothing = (refl, refl, refl, refl)
 
@@ -251,8 +257,10 @@ three_lost_cues_end_refused = (refl, refl, refl, refl)
 
 each_event_has_its_own_tries :
     Gives (plan Confirming two)
-    (granted ∷ silence ∷ state 0x01 ∷ present ∷ silence ∷ state 0x01 ∷ silence ∷ state 0x01 ∷ silence ∷ state 0x80 ∷ silence ∷ state 0x04 ∷ active None ∷ present ∷ silence ∷ state 0x01 ∷ silence ∷ state 0x01 ∷ [])
-    (open_port ∷ select_port ∷ status ∷ request_one ∷ cue_one ∷ status ∷ cue_one ∷ status ∷ cue_one ∷ status ∷ command.Play ∷ status ∷ command.ActiveId ∷ request_two ∷ cue_two ∷ status ∷ cue_two ∷ status ∷ [])
+    (granted ∷ silence ∷ state 0x01 ∷ present ∷ silence ∷ state 0x01 ∷ silence ∷ state 0x01 ∷ silence ∷ state 0x80 ∷ silence ∷ state 0x04 ∷ active None
+    ∷ present ∷ silence ∷ state 0x01 ∷ silence ∷ state 0x01 ∷ [])
+    (open_port ∷ select_port ∷ status ∷ request_one ∷ cue_one ∷ status ∷ cue_one ∷ status ∷ cue_one ∷ status ∷ command.Play ∷ status ∷ command.ActiveId
+    ∷ request_two ∷ cue_two ∷ status ∷ cue_two ∷ status ∷ [])
     None 1
 each_event_has_its_own_tries = (refl, refl, refl, refl)
 

@@ -1,6 +1,6 @@
 ghost use Rattle.std.specs.Prelude.{◌≤◌};
 
-use clap::{Arg, ArgMatches, Command, value_parser};
+use clap::{Arg, ArgAction, ArgMatches, Command, value_parser};
 use std::alloc::{AllocError, Global};
 use vdcp_value::Rate;
 
@@ -61,11 +61,10 @@ fn catalogue<'a>(alloc: Global) -> Arg<'a> {
     required(alloc, "CATALOGUE", "The catalogue's file")
 }
 
-// (an option that takes no value is a flag)
 fn words<'a>(alloc: Global) -> Arg<'a> {
     Arg::new(alloc, "words")
         .long("words")
-        .num_args(0)
+        .action(ArgAction::SetTrue)
         .help("Shows the command or reply that each message carries")
 }
 

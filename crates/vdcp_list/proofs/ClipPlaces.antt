@@ -5,7 +5,7 @@ use Rattle.std.proofs.lemmas.Nat.{be_bytes_8}
 use Rattle.std.specs.BTreeMap.{BTreeMap, get, is_at}
 use Rattle.std.specs.Map.{lookup}
 use Rattle.std.specs.Ordering.{nat_cmp}
-use Rattle.std.specs.Cmp.Lexicographic.{on_texts_equal}
+use Rattle.std.specs.Cmp.Lexicographic.{on_texts_equal, same_text}
 use Rattle.std.specs.Cmp.{IsEquivalence}
 use Rattle.std.specs.Int.{from_be_bytes, to_be_bytes, w64}
 use Rattle.std.specs.Prelude.{◌≢◌, Option, None, Some, is_some, option_map, if◌then◌else◌}
@@ -39,6 +39,11 @@ one_key v a b e =
     (sym (be_bytes_8 (id_bytes a) (from_be_bytes w64 (id_bytes a)) (length_of_id v a) (byte_below v a) refl)
     ∙ ap (to_be_bytes w64) e
     ∙ be_bytes_8 (id_bytes b) (from_be_bytes w64 (id_bytes b)) (length_of_id v b) (byte_below v b) refl)
+
+-- IDs of the same bytes have one number
+same_key : (a b : ClipId) → is_same_id a b ≡ true → key_of a ≡ key_of b
+unfolding key_of
+same_key a b e = ap (from_be_bytes w64) (same_text (id_bytes a) (id_bytes b) (sym e))
 
 -- a place is that of the length
 pub record Placed (clips : List (ClipId × Timecode)) (id : ClipId) (k : ℕ) : Type 0 where
@@ -111,15 +116,15 @@ place_of-push_same (first ∷ clips) clip id e same =
 abbrev here_or_later : Bool → Option ℕ → Option ℕ
 here_or_later b place = if b then Some 0 else option_map suc place
 
-pub place_of-push_other : IdLaws → (clips : List (ClipId × Timecode)) (clip : ClipId × Timecode) (id : ClipId) → id ≢ clip.0
+pub place_of-push_other : ((a b : ClipId) → key_of a ≡ key_of b → a ≡ b) → (clips : List (ClipId × Timecode)) (clip : ClipId × Timecode) (id : ClipId) → id ≢ clip.0
     → place_of (clips ++ clip ∷ []) id ≡ place_of clips id
-place_of-push_other v [] clip id other = push_other_here (is_same_id id clip.0) refl
+place_of-push_other one [] clip id other = push_other_here (is_same_id id clip.0) refl
   where
     push_other_here : (b : Bool) → is_same_id id clip.0 ≡ b → here_or_later b None ≡ None
-    push_other_here true e = absurd (other ((v.same id clip.0).0 e))
+    push_other_here true e = absurd (other (one id clip.0 (same_key id clip.0 e)))
     push_other_here false e = refl
-place_of-push_other v (first ∷ clips) clip id other =
-    ap (here_or_later (is_same_id id first.0)) (place_of-push_other v clips clip id other)
+place_of-push_other one (first ∷ clips) clip id other =
+    ap (here_or_later (is_same_id id first.0)) (place_of-push_other one clips clip id other)
 
 -- a clip of an ID has a place and a length, or neither
 pub known : (clips : List (ClipId × Timecode)) (id : ClipId) → is_some (place_of clips id) ≡ is_some (length_of clips id)
@@ -147,20 +152,20 @@ equal_at : (a b : ℕ) → a ≡ b → is_at (nat_cmp a) b ≡ true
 equal_at a b e = grind arith
 
 -- the places after one more clip, in the entries that a map has once they are written
-pub places_push : IdLaws → (clips : List (ClipId × Timecode)) (clip : ClipId × Timecode) (m : BTreeMap ℕ ℕ) (written entries : List (ℕ × ℕ)) (key place : ℕ)
+pub places_push : ((a b : ClipId) → key_of a ≡ key_of b → a ≡ b) → (clips : List (ClipId × Timecode)) (clip : ClipId × Timecode) (m : BTreeMap ℕ ℕ) (written entries : List (ℕ × ℕ)) (key place : ℕ)
     → ((id : ClipId) → get nat_cmp m (key_of id) ≡ place_of clips id) → key ≡ key_of clip.0 → place ≡ length clips → place_of clips clip.0 ≡ None
     → ((other : ℕ) → lookup (is_at (nat_cmp other)) written ≡ cond (is_at (nat_cmp key) other) (Some place) (get nat_cmp m other))
     → entries ≡ written
     → (id : ClipId) → lookup (is_at (nat_cmp (key_of id))) entries ≡ place_of (clips ++ clip ∷ []) id
-places_push v clips clip m written entries key place were is size new updates same id = push_at (is_at (nat_cmp key) (key_of id)) refl
+places_push one clips clip m written entries key place were is size new updates same id = push_at (is_at (nat_cmp key) (key_of id)) refl
   where
     here : lookup (is_at (nat_cmp (key_of id))) entries ≡ cond (is_at (nat_cmp key) (key_of id)) (Some place) (get nat_cmp m (key_of id))
     here = ap (lookup (is_at (nat_cmp (key_of id)))) same ∙ updates (key_of id)
 
     push_at : (b : Bool) → is_at (nat_cmp key) (key_of id) ≡ b → lookup (is_at (nat_cmp (key_of id))) entries ≡ place_of (clips ++ clip ∷ []) id
     push_at true e =
-        let same : id ≡ clip.0 = one_key v id clip.0 (sym (at_equal key (key_of id) e) ∙ is) in
+        let same : id ≡ clip.0 = one id clip.0 (sym (at_equal key (key_of id) e) ∙ is) in
         here ∙ rw e (ap Some size) ∙ sym (place_of-push_same clips clip id new same)
     push_at false e =
         let other : id ≢ clip.0 = λ same. true≢false (sym (equal_at key (key_of id) (is ∙ ap key_of (sym same))) ∙ e) in
-        here ∙ rw e (were id) ∙ sym (place_of-push_other v clips clip id other)
+        here ∙ rw e (were id) ∙ sym (place_of-push_other one clips clip id other)

@@ -1,21 +1,18 @@
 -- An as-run list, event by event.
 use Rattle.csv.specs.Writing.{default_writer, row_text}
-use Rattle.std.proofs.Common.{◌≡◌, ℕ, ◌+◌, ◌<◌, Bool, true, false, List, [], ◌∷◌, ◌++◌, length, take, refl, sym, ap, ap₂, subst, ◌∙◌, arith, zero, suc, add-one, add-zero, zero-add, append_assoc, append-nil, true≢false, IfOk, IfErr, Ok, Err, Result}
+use Rattle.std.proofs.Common.{◌≡◌, ℕ, ◌+◌, ◌<◌, Bool, true, false, List, [], ◌∷◌, ◌++◌, length, take, refl, sym, ap, ap₂, subst, ◌∙◌, arith, zero, suc, add-one, add-zero, zero-add, append_assoc, append-nil, true≢false, IfErr, Ok, Err, Result}
 use Rattle.std.proofs.Math.Bool.{and-eq-true_iff}
 use Rattle.std.proofs.lemmas.List.Folds.{list_all-append, list_any-append}
-use Rattle.std.specs.Prelude.{Option, Some, OnOk, decimal, is_err, is_ok, is_some, slice_get, ◌||◌, ◌≢◌, ◌↔◌}
+use Rattle.std.specs.Prelude.{Option, Some, OnOk, decimal, is_err, is_some, slice_get, ◌||◌, ◌≢◌, ◌↔◌}
 use Rattle.vdcp_list.specs.Asrun.{IsUnlawful, are_lawful, events_text, has_part, is_lawful_event}
 use Rattle.vdcp_list.specs.Playlists.{item_row, part_fields}
 use Rattle.vdcp_list.specs.declared.faults.WriteFault.TheVariants.{Device, Memory, Time}
 use Rattle.vdcp_list.specs.declared.faults.WriteFault.{WriteFault}
-use Rattle.vdcp_value.specs.Bcd.{bcd_fault, is_time}
+use Rattle.vdcp_value.specs.Bcd.{is_time}
 use Rattle.vdcp_value.specs.Ids.{text_of_id}
-use Rattle.vdcp_value.specs.Timecodes.{bcd_of, rate_of}
-use Rattle.vdcp_value.specs.declared.faults.TcFault.{TcFault}
 use Rattle.vdcp_value.specs.declared.part.Item.{Item}
 use Rattle.vdcp_value.specs.declared.part.Part.{Part}
 use Rattle.vdcp_value.specs.declared.rate.Rate.{Rate}
-use Rattle.vdcp_value.specs.declared.timecode.Timecode.{Timecode}
 
 either_true : (a b : Bool) → b ≡ true → (a || b) ≡ true
 either_true true b e = refl

@@ -1,17 +1,15 @@
 -- The row of an item, and the item of a row.
 use Rattle.csv.specs.Records.{field_at}
-use Rattle.std.proofs.Common.{◌≡◌, ℕ, ◌<◌, ◌≤◌, Bool, true, false, List, [], ◌∷◌, length, refl, sym, ap, ap₂, subst, ◌∙◌, arith, zero, suc, nat_lt, not}
+use Rattle.std.proofs.Common.{◌≡◌, ℕ, ◌≤◌, Bool, true, List, [], ◌∷◌, length, refl, sym, ap, ap₂, subst, ◌∙◌, arith, zero, suc}
 use Rattle.std.proofs.Math.Bool.{and-eq-true_iff}
-use Rattle.std.specs.Prelude.{Option, None, Some, drop, is_none, slice_get, slice_index, ◌≢◌, if◌then◌else◌, ◌&&◌}
+use Rattle.std.specs.Prelude.{Option, None, Some, drop, slice_get, ◌≢◌, ◌&&◌}
 use Rattle.vdcp_list.proofs.Values.{TimeLaws}
 use Rattle.vdcp_list.specs.Playlists.{CanName, has_parts, item_row, part_fields, time_text}
 use Rattle.vdcp_list.specs.Rows.{Row}
-use Rattle.vdcp_value.specs.Bcd.{bcd_byte, frames_in, is_bcd, is_time, label_fault, label_of_bcd}
+use Rattle.vdcp_value.specs.Bcd.{frames_in, is_time, label_of_bcd}
 use Rattle.vdcp_value.specs.Bytes.{AreBytes}
 use Rattle.vdcp_value.specs.Ids.{text_of_id}
 use Rattle.vdcp_value.specs.LabelText.{label_text}
-use Rattle.vdcp_value.specs.declared.faults.TcFault.TheVariants.{NotBcd}
-use Rattle.vdcp_value.specs.declared.faults.TcFault.{TcFault}
 use Rattle.vdcp_value.specs.Timecodes.{bcd_of, frames_of, label_of, rate_of, text_of}
 use Rattle.vdcp_value.specs.declared.clip_id.ClipId.{ClipId}
 use Rattle.vdcp_value.specs.declared.part.Item.{Item}

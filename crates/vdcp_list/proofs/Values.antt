@@ -1,11 +1,11 @@
 -- What the laws of vdcp_value say of IDs, their texts and time codes: the lemmas of this crate take it from a body that calls them.
 use Rattle.std.proofs.Common.{◌≡◌, ◌<◌, ◌↔◌, ℕ, List, length, All}
-use Rattle.std.specs.Prelude.{IsAscii, IsTrue}
+use Rattle.std.specs.Prelude.{IsTrue}
 use Rattle.vdcp_value.specs.Bcd.{frames_in, is_time, label_of_bcd}
 use Rattle.vdcp_value.specs.Bytes.{AreBytes}
 use Rattle.vdcp_value.specs.IdText.{IsTextOf}
-use Rattle.vdcp_value.specs.Ids.{id_bytes, id_of_text, is_same_id, text_of_id}
-use Rattle.vdcp_value.specs.Timecodes.{bcd_of, frames_of, label_of, rate_of, text_of}
+use Rattle.vdcp_value.specs.Ids.{id_bytes, id_of_text, text_of_id}
+use Rattle.vdcp_value.specs.Timecodes.{bcd_of, frames_of, label_of, rate_of}
 use Rattle.vdcp_value.specs.declared.clip_id.ClipId.{ClipId}
 use Rattle.vdcp_value.specs.declared.rate.Rate.{Rate}
 use Rattle.vdcp_value.specs.declared.timecode.Timecode.{Timecode}
@@ -14,7 +14,6 @@ pub record IdLaws : Type 0 where
   pub counted : (n : ℕ) (bytes : List ℕ) → AreBytes n bytes ↔ ((length bytes ≡ n) × All (λ byte. byte < 256) bytes)
   pub eight : (id : ClipId) → AreBytes 8 (id_bytes id)
   pub one : (a b : ClipId) → id_bytes a ≡ id_bytes b → a ≡ b
-  pub same : (a b : ClipId) → IsTrue (is_same_id a b) ↔ (a ≡ b)
 
 pub record TextLaws : Type 0 where
   pub some : (id : ClipId) → IsTextOf (text_of_id id) (id_bytes id)

@@ -1,6 +1,7 @@
 ghost use Rattle.std.specs.Prelude.{◌≡◌, ◌++◌, ◌∷◌, [], IfOk, IsSome, List, None, OnErr, false, length, true};
 ghost use Rattle.vdcp_list.specs.Places.{key_of, place_of};
 ghost use Rattle.vdcp_port.specs.Clips.{length_of};
+ghost use Rattle.vdcp_value.specs.declared.clip_id.ClipId.{ClipId};
 
 use std::alloc::{AllocError, Global};
 use std::collections::BTreeMap;
@@ -58,8 +59,7 @@ impl Table {
         ensures there { IfOk result (λ added. added ≡ false → IsSome (length_of self.old id)) }
         ensures same { IfOk result (λ added. added ≡ false → self.new ≡ self.old) }
     {
-        bytes_are_counted();
-        an_id_is_its_bytes();
+        an_id_is_its_number();
         let place = self.len();
         self.clips.reserve(1)?;
         match self.places.entry(key_of(&id))? {
@@ -89,4 +89,12 @@ fn key_of(id: &ClipId) -> u64
     ensures { result ≡ key_of id.now }
 {
     u64::from_be_bytes(id.bytes())
+}
+
+/// IDs of one number are one ID.
+fn an_id_is_its_number()
+    ensures { (a b : ClipId) → key_of a ≡ key_of b → a ≡ b }
+{
+    bytes_are_counted();
+    an_id_is_its_bytes();
 }

@@ -1,5 +1,6 @@
 -- Bytes that begin with the messages of others.
-use Rattle.std.proofs.Common.{ℕ, ◌≡◌, Bool, true, false, nat_eq, ◌&&◌, List, [], ◌∷◌, ◌++◌, length, drop, refl, arith, sym, ap, ap₂, subst, ◌∙◌, append_assoc}
+use Rattle.std.proofs.Common.{ℕ, ◌≡◌, Bool, true, false, nat_eq, ◌&&◌, List, [], ◌∷◌, ◌++◌, length, take, drop}
+use Rattle.std.proofs.Common.{refl, arith, sym, ap, ap₂, subst, ◌∙◌, append_assoc}
 use Rattle.std.proofs.lemmas.List.{take-append-drop}
 use Rattle.std.specs.Cmp.Lexicographic.{pointwise}
 use Rattle.vdcp_frame.specs.Message.{Content, ack, nak, framed, Fits, Spells, spelling}
@@ -69,6 +70,15 @@ either true b f g = sym (f refl)
 either false true f g = g refl
 either false false f g = refl
 
+-- where a front of a burst is whole messages, and these begin with some bytes, so does the burst
+bytes_first : (other bytes whole remainder b : List ℕ) → take 4096 other ≡ whole ++ remainder → whole ≡ bytes ++ b
+    → other ≡ bytes ++ (b ++ (remainder ++ drop 4096 other))
+bytes_first other bytes whole remainder b parts begins =
+    sym (take-append-drop 4096 other)
+    ∙ ap (λ (x : List ℕ). x ++ drop 4096 other) (parts ∙ ap (λ (x : List ℕ). x ++ remainder) begins)
+    ∙ append_assoc (bytes ++ b) remainder (drop 4096 other)
+    ∙ append_assoc bytes b (remainder ++ drop 4096 other)
+
 -- the messages that some bytes spell are a beginning of those that are read of a burst exactly where the burst
 -- begins with these bytes
 pub begins_is : (other bytes : List ℕ) (ms ns : List Content) (end : End) (r : Bool) → OneSpelling
@@ -89,8 +99,4 @@ begins_is other bytes ms ns end r only first all reads held begun = either r (is
         let short = reads.front in
         let (a, b, s, f) = beginning_of ms others short.whole (subst (λ x. SpellsAll x short.whole) more short.spelt) in
         let whole : short.whole ≡ bytes ++ b = f ∙ ap (λ (x : List ℕ). x ++ b) (one_list only ms a bytes s all) in
-        begun (b ++ (short.rest ++ drop 4096 other))
-        (sym (take-append-drop 4096 other)
-        ∙ ap (λ (x : List ℕ). x ++ drop 4096 other) (short.parts ∙ ap (λ (x : List ℕ). x ++ short.rest) whole)
-        ∙ append_assoc (bytes ++ b) short.rest (drop 4096 other)
-        ∙ append_assoc bytes b (short.rest ++ drop 4096 other))
+        begun _ (bytes_first other bytes short.whole _ b short.parts whole)

@@ -5,8 +5,7 @@ use Rattle.vdcp_value.specs.Parts.{IsItem}
 use Rattle.vdcp_value.specs.declared.clip_id.ClipId.{ClipId}
 use Rattle.vdcp_value.specs.declared.timecode.Timecode.{Timecode}
 use Rattle.vdcp_frame.specs.Burst.{messages_of, end_of}
-use Rattle.vdcp_frame.specs.Message.{Content, AreBytes, Fits, Spells, spelling}
-use Rattle.vdcp_frame.specs.Reading.{End, Reads}
+use Rattle.vdcp_frame.specs.Message.{Content, AreOctets, Fits, spelling}
 use Rattle.vdcp_words.specs.Commands.{command_message, IsWritableCommand}
 use Rattle.vdcp_words.specs.Computed.{reply_of}
 use Rattle.vdcp_words.specs.Replies.{reply_message, IsWritableReply}
@@ -24,16 +23,12 @@ use Rattle.vdcp_auto.specs.declared.phase.Mode.TheVariants.{Confirming}
 use Rattle.vdcp_auto.specs.declared.phase.State.{State}
 
 pub record Below : Type 0 where
-  -- bytes
-  pub spelt : (m : Content) → Fits m → Spells m (spelling m)
-  pub reads : (burst : List ℕ) → AreBytes burst → Reads burst (messages_of burst) (end_of burst)
-  pub of_bytes : (m : Content) (bytes : List ℕ) → Spells m bytes → AreBytes bytes
+  -- what is spelt reads as its message, alone and with bytes behind it
   pub alone : (m : Content) → Fits m → messages_of (spelling m) ≡ m ∷ []
-  -- words
+  pub before : (m : Content) (more : List ℕ) → Fits m → AreOctets more → (others : List Content) × (messages_of (spelling m ++ more) ≡ m ∷ others)
+  -- commands and replies
   pub command_fits : (unit : ℕ) (c : Command) → unit ≤ 15 → IsWritableCommand c → Fits (command_message unit c)
   pub reply_fits : (unit : ℕ) (r : Reply) → unit ≤ 15 → IsWritableReply r → Fits (reply_message unit r)
-  pub reply_first : (unit : ℕ) (r : Reply) (more : List ℕ) (ms : List Content) (end : End) → unit ≤ 15 → IsWritableReply r
-      → Reads (spelling (reply_message unit r) ++ more) ms end → (others : List Content) × (ms ≡ reply_message unit r ∷ others)
   pub reply_read : (unit : ℕ) (r : Reply) → IsWritableReply r → reply_of (reply_message unit r) ≡ Ok r
   -- the port
   pub own_row : (p : ClockedPort) (c : Command) → IsWritableCommand c → row_at p (command_message p.state.unit c) ≡ command_row p.clips p.state c

@@ -20,7 +20,8 @@ use Rattle.vdcp_auto.specs.declared.phase.Mode.TheVariants.{Plain, Confirming}
 use Rattle.vdcp_world.specs.Channel.{Channel, new_channel, after_event, after_events}
 use Rattle.vdcp_world.specs.Rounds.{round, good_round, times}
 use Rattle.vdcp_world.specs.declared.event.Event.{Event}
-use Rattle.vdcp_world.specs.declared.event.Event.TheVariants.{Tick, Down, Up, DownCopy, UpCopy, LoseDown, LoseUp, AlterDown, AlterUp, Timeout, Ready, End, Frame, Take, Stop, StrayAck, StrayNak}
+use Rattle.vdcp_world.specs.declared.event.Event.TheVariants.{Tick, Down, Up, DownCopy, UpCopy, LoseDown, LoseUp, AlterDown, AlterUp}
+use Rattle.vdcp_world.specs.declared.event.Event.TheVariants.{Timeout, Ready, End, Frame, Take, Stop, StrayAck, StrayNak}
 
 -- CLIP0001 and CLIP0002, ten seconds each at 25 frames a second, and CLIP0009, which isn't there
 
@@ -146,7 +147,10 @@ damaged_copy_is_no_refusal = refl
 damaged_copy_is_probed : exchange_at 6 damaged_copy ≡ answered_by status (state 0x01)
 damaged_copy_is_probed = refl
 
-copies_of_play_and_its_answer : seen (after_events (new Plain one) (good 5 ++ Tick ∷ DownCopy ∷ DownCopy ∷ Down ∷ UpCopy ∷ Up ∷ good 3)) ≡ ends one 1 9 (Some Done)
+abbrev copied : List Event
+copied = good 5 ++ Tick ∷ DownCopy ∷ DownCopy ∷ Down ∷ UpCopy ∷ Up ∷ good 3
+
+copies_of_play_and_its_answer : seen (after_events (new Plain one) copied) ≡ ends one 1 9 (Some Done)
 copies_of_play_and_its_answer = refl
 
 missing_clip : seen (after_events (new Plain (whole clip_1 ∷ whole clip_9 ∷ [])) (good 20)) ≡ ends one 1 8 (Some (Missing 1))
@@ -243,7 +247,13 @@ first_message_is_heard = refl
 
 -- ---- what is no event
 
-no_event_in_a_new_channel : map (after_event (new Plain one)) (Down ∷ DownCopy ∷ Up ∷ UpCopy ∷ LoseDown ∷ LoseUp ∷ AlterDown (0x04 ∷ []) ∷ AlterUp (0x04 ∷ []) ∷ Timeout ∷ Ready ∷ End ∷ Frame ∷ StrayAck ∷ StrayNak 0x01 ∷ []) ≡ replicate 14 (new Plain one)
+abbrev deliveries : List Event
+deliveries = Down ∷ DownCopy ∷ Up ∷ UpCopy ∷ LoseDown ∷ LoseUp ∷ AlterDown (0x04 ∷ []) ∷ AlterUp (0x04 ∷ []) ∷ []
+
+abbrev other_events : List Event
+other_events = Timeout ∷ Ready ∷ End ∷ Frame ∷ StrayAck ∷ StrayNak 0x01 ∷ []
+
+no_event_in_a_new_channel : map (after_event (new Plain one)) (deliveries ++ other_events) ≡ replicate 14 (new Plain one)
 no_event_in_a_new_channel = refl
 
 second_tick : after_event asked Tick ≡ asked

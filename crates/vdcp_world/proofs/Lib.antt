@@ -3,7 +3,6 @@ pub mod First
 pub mod Beginnings
 pub mod Reached
 pub mod Below
-pub mod Spellings
 pub mod PhaseTable
 pub mod Exchanges
 pub mod Readings

@@ -2,14 +2,13 @@
 use Rattle.std.proofs.Common.{◌≡◌, ℕ, ◌+◌, ◌-◌, ◌<◌, ◌≤◌, ◌⊎◌, inl, inr, Bool, true, false, nat_eq, ◌||◌, ◌&&◌, not, List, [], ◌∷◌, ◌++◌, length, take, get_or, Option, Some, None, refl, ap, sym, subst, arith, ◌∙◌, length-append}
 use Rattle.std.proofs.lemmas.List.{take_more, append-nil}
 use Rattle.std.proofs.lemmas.Option.{get_or_from_slice_get}
-use Rattle.std.specs.Cmp.Lexicographic.{pointwise}
 use Rattle.std.specs.Option.{option_to_list, option_map}
 use Rattle.std.specs.Prelude.{slice_get, if◌then◌else◌}
 use Rattle.vdcp_value.specs.declared.clip_id.ClipId.{ClipId}
 use Rattle.vdcp_value.specs.declared.part.Item.{Item}
 use Rattle.vdcp_value.specs.declared.part.Part.{Part}
 use Rattle.vdcp_value.specs.declared.timecode.Timecode.{Timecode}
-use Rattle.vdcp_value.specs.Ids.{id_bytes}
+use Rattle.vdcp_value.specs.Ids.{id_bytes, is_same_id}
 use Rattle.vdcp_words.specs.declared.command.Command.{Command}
 use Rattle.vdcp_words.specs.declared.command.Command.TheVariants as command
 use Rattle.vdcp_words.specs.declared.reply.Reply.{Reply}
@@ -19,9 +18,10 @@ use Rattle.vdcp_port.specs.Port.{PortState, Cued, empty, cueing, done, is_select
 use Rattle.vdcp_port.specs.Row.{Change, keeps, opens, closes, selects, cues, airs, stops, command_row, changed, on_air}
 use Rattle.vdcp_auto.specs.Commands.{cue_for, cue_of}
 use Rattle.vdcp_auto.specs.Replies.{is_ack, is_done, is_empty, is_refusal}
-use Rattle.vdcp_auto.specs.Table.{command_in, names_other, is_same_id}
+use Rattle.vdcp_auto.specs.Table.{command_in, names_other}
 use Rattle.vdcp_auto.specs.declared.phase.Phase.{Phase}
 use Rattle.vdcp_auto.specs.declared.phase.Phase.TheVariants as phase
+use Rattle.vdcp_world.proofs.Beginnings.{own_list}
 use Rattle.vdcp_world.proofs.Exchanges.{taken}
 use Rattle.vdcp_world.proofs.PhaseTable.{Idle, Coming, Standing, Near, PlaysLast, Place, Tells, Firm, FirmTells, knows, refuses, port_after, aired_after, answer_after}
 
@@ -191,10 +191,6 @@ probe_tells : (list : List Item) (clips : List (ClipId × Timecode)) (p : PortSt
     → (is_done r ≡ true → Standing list (port_after clips p (Some (command.Status 1))).cued (aired ++ aired_after clips p (Some (command.Status 1))) k)
     × (is_empty r ≡ true → Idle list (port_after clips p (Some (command.Status 1))).cued (aired ++ aired_after clips p (Some (command.Status 1))) (k + 1))
 probe_tells list clips p aired k r q a = grind (arith, none_more)
-
-own_list : (xs : List ℕ) → pointwise nat_eq xs xs ≡ true
-own_list [] = refl
-own_list (x ∷ xs) = grind (arith, own_list xs)
 
 same_itself : (id : ClipId) → is_same_id id id ≡ true
 same_itself id = own_list (id_bytes id)

@@ -1,10 +1,10 @@
 -- What the port reads of what is on the way down, and what is heard of its answer.
 use Rattle.std.proofs.Common.{ℕ, ◌<◌, ◌≤◌, ◌≡◌, ◌≢◌, ◌⊎◌, inl, inr, Bool, true, false, nat_eq, List, [], ◌∷◌, ◌++◌, All, length, refl, arith, sym, ap, ◌∙◌, subst, lit<, append-nil, if◌then◌else◌}
-use Rattle.std.proofs.lemmas.List.Elements.{All-append, All-cons, All-nil}
+use Rattle.std.proofs.lemmas.List.Elements.{All-cons, All-nil}
 use Rattle.std.specs.Option.{option_to_list}
 use Rattle.std.specs.Prelude.{Option, None, Some, Result, Ok, Err}
 use Rattle.vdcp_frame.specs.Burst.{messages_of, end_of}
-use Rattle.vdcp_frame.specs.Message.{Content, AreBytes, Fits, spelling}
+use Rattle.vdcp_frame.specs.Message.{Content, AreOctets, Fits, spelling}
 use Rattle.vdcp_frame.specs.Reading.{End, clean, cut, fault}
 use Rattle.vdcp_words.specs.Commands.{command_message, IsWritableCommand}
 use Rattle.vdcp_words.specs.Replies.{reply_message, IsWritableReply}
@@ -23,9 +23,6 @@ use Rattle.vdcp_world.proofs.OnTheWay.{ReadsNothing, ReadsCommand}
 
 abbrev IsByte : ℕ → Type 0
 IsByte byte = byte < 256
-
-spelling_bytes : Below → (m : Content) → Fits m → AreBytes (spelling m)
-spelling_bytes below m fits = below.of_bytes m (spelling m) (below.spelt m fits)
 
 -- ---- what is heard of a reply
 
@@ -48,19 +45,16 @@ heard_own below unit (reply.Active (Some id)) w = heard_if (nat_eq unit unit) _ 
 heard_own below unit (reply.Size time) w = heard_if (nat_eq unit unit) _ _ (same_unit unit) (below.reply_read unit (reply.Size time) w)
 heard_own below unit (reply.Present there) w = heard_if (nat_eq unit unit) _ _ (same_unit unit) (below.reply_read unit (reply.Present there) w)
 
-end_bytes : (unit : ℕ) (end : End) → AreBytes (answer_bytes unit (end_answers end))
+end_bytes : (unit : ℕ) (end : End) → AreOctets (answer_bytes unit (end_answers end))
 end_bytes unit clean = All-nil IsByte
 end_bytes unit (cut count) = All-cons IsByte 0x05 (0x80 ∷ []) (lit< tt) (All-cons IsByte 0x80 [] (lit< tt) (All-nil IsByte))
 end_bytes unit (fault kind place) = All-cons IsByte 0x05 (0x04 ∷ []) (lit< tt) (All-cons IsByte 0x04 [] (lit< tt) (All-nil IsByte))
 
 -- a reply is heard, whatever bytes stand behind it
-heard_reply : Below → (unit : ℕ) (r : Reply) (more : List ℕ) → unit < 16 → IsWritableReply r → AreBytes more
+heard_reply : Below → (unit : ℕ) (r : Reply) (more : List ℕ) → unit < 16 → IsWritableReply r → AreOctets more
     → heard_in unit (spelling (reply_message unit r) ++ more) ≡ Some (heard.Reply r)
 heard_reply below unit r more u w bytes =
-    let fits = below.reply_fits unit r (omega (arith, u)) w in
-    let all = All-append IsByte (spelling (reply_message unit r)) more (spelling_bytes below (reply_message unit r) fits) bytes in
-    let burst = spelling (reply_message unit r) ++ more in
-    let first = below.reply_first unit r more (messages_of burst) (end_of burst) (omega (arith, u)) w (below.reads burst all) in
+    let first = below.before (reply_message unit r) more (below.reply_fits unit r (omega (arith, u)) w) bytes in
     ap (heard_first unit) first.1 ∙ ap Some (heard_own below unit r w)
 
 -- ---- what the port reads

@@ -24,7 +24,8 @@ use Rattle.vdcp_auto.specs.declared.phase.State.{State}
 use Rattle.vdcp_world.specs.Beginnings.{is_beginning}
 use Rattle.vdcp_auto.specs.Heard.{heard_in, hears_receipt}
 use Rattle.vdcp_world.specs.declared.event.Event.{Event}
-use Rattle.vdcp_world.specs.declared.event.Event.TheVariants.{Tick, Down, Up, DownCopy, UpCopy, LoseDown, LoseUp, AlterDown, AlterUp, Timeout, Ready, End, Frame, Take, Stop, StrayAck, StrayNak}
+use Rattle.vdcp_world.specs.declared.event.Event.TheVariants.{Tick, Down, Up, DownCopy, UpCopy, LoseDown, LoseUp, AlterDown, AlterUp}
+use Rattle.vdcp_world.specs.declared.event.Event.TheVariants.{Timeout, Ready, End, Frame, Take, Stop, StrayAck, StrayNak}
 
 -- The controller, with what it was made with, and the port; the bytes on the way down, to the port, and
 -- up, to the controller, none where nothing is on the way; what went to air; the exchanges that ended.

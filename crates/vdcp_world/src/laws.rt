@@ -19,9 +19,7 @@ ghost use Rattle.vdcp_world.specs.Headline.{Headline};
 pub fn reached_keeps_the_headline()
     ensures { (c : Channel) → IsReached c → Headline c }
 {
-    vdcp_frame::laws::one_spelling();
-    vdcp_frame::laws::one_reading();
-    vdcp_frame::laws::written_is_read();
+    vdcp_frame::laws::a_spelling_is_its_message();
     vdcp_words::laws::command_is_read_first();
     vdcp_words::laws::reply_is_read_first();
     vdcp_words::laws::written_reply_is_read();

@@ -1,5 +1,15 @@
-//! The line between the two ends of one playout channel, which may lose, copy, cut and damage what it
-//! carries.
+//! The line between the two ends of one playout channel, which may lose, copy and damage what it carries.
+//!
+//! A `World` is a controller, a port and the line between them. The caller says what happens, and looks
+//! at what came of it:
+//!
+//! ```text
+//! let mut world = World::new(alloc, source, catalogue, unit, port, limit);
+//! world.run(&events)?;
+//! world.aired(), world.reported(), world.log(), world.outcome()
+//! ```
+//!
+//! An event that can't happen changes nothing. `read_script` makes events of a text.
 #![tactic(auto)]
 
 mod burst;

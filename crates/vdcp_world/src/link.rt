@@ -6,7 +6,8 @@ ghost use Rattle.vdcp_frame.specs.Message.{spelling};
 ghost use Rattle.vdcp_port.specs.Answers.{sent_for, aired_for, after_burst};
 ghost use Rattle.vdcp_words.specs.Commands.{command_message};
 ghost use Rattle.vdcp_world.specs.Channel as channel;
-ghost use Rattle.vdcp_world.specs.Channel.{after_event, altered, answered, down_behind, up_behind, state_hearing, log_hearing, state_waiting, log_waiting, state_straying, log_straying};
+ghost use Rattle.vdcp_world.specs.Channel.{after_event, altered, answered, down_behind, up_behind};
+ghost use Rattle.vdcp_world.specs.Channel.{state_hearing, log_hearing, state_waiting, log_waiting, state_straying, log_straying};
 ghost use Rattle.vdcp_auto.specs.Heard.{heard_in};
 
 use crate::damage::{can_become, can_become_up};

@@ -1,3 +1,5 @@
+ghost use Rattle.std.specs.Prelude.{◌≤◌, length, IfOk};
+
 use crate::burst::Burst;
 use crate::event::Event;
 use hex::{FromHex, FromHexError};
@@ -36,9 +38,11 @@ pub enum ScriptFault {
 /// Reads a script: a line for each event, or for some rounds or frames. Lines end with a line feed, or
 /// with a carriage return and one; the last one may end with the text. Blank lines and those that begin
 /// with `#` are skipped, and words are parted by one space. `docs/PROTOCOL.md` has the words.
-pub fn read_script(alloc: Global, text: &str) -> Result<Vec<Event>, ScriptFault> {
+pub fn read_script(alloc: Global, text: &str) -> Result<Vec<Event>, ScriptFault>
+    ensures few { IfOk result (λ events. length events.items ≤ 100000) }
+{
     let mut events = Vec::new(alloc);
-    for (before, line) in text.lines().enumerate() {
+    'lines: for (before, line) in text.lines().enumerate() {
         if !line.is_empty() && !line.starts_with('#') {
             read_line(alloc, before + 1, line, &mut events)?;
         }
@@ -52,7 +56,10 @@ fn read_line(
     number: usize,
     line: &str,
     events: &mut Vec<Event>,
-) -> Result<(), ScriptFault> {
+) -> Result<(), ScriptFault>
+    requires { length events.old.items ≤ 100000 }
+    ensures { length events.new.items ≤ 100000 }
+{
     let (word, argument) = match line.split_once(' ') {
         None => (line, None),
         Some((word, argument)) => (word, Some(argument)),
@@ -148,15 +155,21 @@ fn byte_of(digits: &str) -> Option<u8> {
     }
 }
 
-fn push_frames(times: u32, events: &mut Vec<Event>) -> Result<(), ScriptFault> {
-    for _ in 0..times {
+fn push_frames(times: u32, events: &mut Vec<Event>) -> Result<(), ScriptFault>
+    requires { length events.old.items ≤ 100000 }
+    ensures { length events.new.items ≤ 100000 }
+{
+    'frames: for _ in 0..times {
         push(Event::Frame, events)?;
     }
     Ok(())
 }
 
-fn push_rounds(times: u32, events: &mut Vec<Event>) -> Result<(), ScriptFault> {
-    for _ in 0..times {
+fn push_rounds(times: u32, events: &mut Vec<Event>) -> Result<(), ScriptFault>
+    requires { length events.old.items ≤ 100000 }
+    ensures { length events.new.items ≤ 100000 }
+{
+    'rounds: for _ in 0..times {
         push(Event::Tick, events)?;
         push(Event::Down, events)?;
         push(Event::Up, events)?;
@@ -164,8 +177,11 @@ fn push_rounds(times: u32, events: &mut Vec<Event>) -> Result<(), ScriptFault> {
     Ok(())
 }
 
-fn push_good_rounds(times: u32, events: &mut Vec<Event>) -> Result<(), ScriptFault> {
-    for _ in 0..times {
+fn push_good_rounds(times: u32, events: &mut Vec<Event>) -> Result<(), ScriptFault>
+    requires { length events.old.items ≤ 100000 }
+    ensures { length events.new.items ≤ 100000 }
+{
+    'rounds: for _ in 0..times {
         push(Event::Timeout, events)?;
         push(Event::Ready, events)?;
         push(Event::End, events)?;
@@ -175,7 +191,10 @@ fn push_good_rounds(times: u32, events: &mut Vec<Event>) -> Result<(), ScriptFau
 }
 
 /// Adds an event, where it isn't one too many.
-fn push(event: Event, events: &mut Vec<Event>) -> Result<(), ScriptFault> {
+fn push(event: Event, events: &mut Vec<Event>) -> Result<(), ScriptFault>
+    requires { length events.old.items ≤ 100000 }
+    ensures { length events.new.items ≤ 100000 }
+{
     if events.len() >= MOST_EVENTS {
         return Err(ScriptFault::TooMany);
     }

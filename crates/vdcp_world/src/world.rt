@@ -23,6 +23,10 @@ use vdcp_value::Item;
 /// - `step` and `run` bring in what happens.
 /// - `aired`, `reported`, `log` and `outcome` only look.
 ///
+/// Whatever happens, what went to air is a beginning of the playlist, each event once and in order, and
+/// the events reported as aired are a beginning of these, shorter by one at most: each call that changes
+/// a world or makes one says so of it (`headline`), and each that looks says it of its answer.
+///
 /// It takes memory for what went to air and for the log, and for nothing else.
 #[derive(Drop)]
 pub struct World<S: Source, C: Catalogue, A: Allocator> {

@@ -4,115 +4,234 @@ use crate::exchange::{Heard, Input};
 use crate::outcome::Outcome;
 use crate::phase::{Phase, Stage};
 use crate::tests::clips::{
-    ABSENT, ACK, CUED, CUED_AND_PLAYING, Clips, DENIED, GRANTED, IDLE, NO_STATE, NOTHING_PLAYS,
-    ONE, PLAYING, PRESENT, REFUSAL, TWO, UNREAD, drive, plays,
+    ACK, CUED, Clips, GRANTED, IDLE, NOTHING_PLAYS, ONE, PLAYING, PRESENT, TWO, drive,
 };
 use std::process::Abort;
+use vdcp_value::ClipId;
 use vdcp_words::Reply;
 
-/// What is sent in a phase, and where what comes leads: what a line names, and everything else.
-#[derive(Drop)]
-struct Rows<'a> {
-    phase: Phase,
-    /// What leads a new controller there.
-    inputs: &'a [Input],
-    lines: &'a [Line<'a>],
-    others: Stage,
+/// What may come: each kind that a controller tells apart, and some that it doesn't.
+#[derive(Clone, Copy, Debug)]
+enum Kind {
+    Silence,
+    Other,
+    Ack,
+    /// NAK 01.
+    Refusal,
+    /// NAK 04.
+    Unread,
+    /// NAK 80.
+    Cut,
+    Granted,
+    Denied,
+    Idle,
+    Cueing,
+    Playing,
+    CueingAndPlaying,
+    Cued,
+    CuedAndPlaying,
+    NoState,
+    NothingPlays,
+    OnePlays,
+    TwoPlays,
+    Present,
+    Absent,
+    Size,
 }
 
-/// Each of these leads there.
-#[derive(Drop)]
-struct Line<'a> {
-    came: &'a [Input],
-    leads: Stage,
+const KINDS: [Kind; 21] = [
+    Kind::Silence,
+    Kind::Other,
+    Kind::Ack,
+    Kind::Refusal,
+    Kind::Unread,
+    Kind::Cut,
+    Kind::Granted,
+    Kind::Denied,
+    Kind::Idle,
+    Kind::Cueing,
+    Kind::Playing,
+    Kind::CueingAndPlaying,
+    Kind::Cued,
+    Kind::CuedAndPlaying,
+    Kind::NoState,
+    Kind::NothingPlays,
+    Kind::OnePlays,
+    Kind::TwoPlays,
+    Kind::Present,
+    Kind::Absent,
+    Kind::Size,
+];
+
+impl Kind {
+    fn came(self) -> Option<Heard> {
+        let reply = match self {
+            Kind::Silence => return None,
+            Kind::Other => return Some(Heard::Other),
+            Kind::Ack => Reply::Ack,
+            Kind::Refusal => Reply::Nak(0x01),
+            Kind::Unread => Reply::Nak(0x04),
+            Kind::Cut => Reply::Nak(0x80),
+            Kind::Granted => Reply::Opened(true),
+            Kind::Denied => Reply::Opened(false),
+            Kind::Idle => Reply::State(0x01, Some(0x01)),
+            Kind::Cueing => Reply::State(0x01, Some(0x02)),
+            Kind::Playing => Reply::State(0x01, Some(0x04)),
+            Kind::CueingAndPlaying => Reply::State(0x01, Some(0x06)),
+            Kind::Cued => Reply::State(0x01, Some(0x80)),
+            Kind::CuedAndPlaying => Reply::State(0x01, Some(0x84)),
+            Kind::NoState => Reply::State(0x00, None),
+            Kind::NothingPlays => Reply::Active(None),
+            Kind::OnePlays => Reply::Active(Some(ClipId::new(ONE))),
+            Kind::TwoPlays => Reply::Active(Some(ClipId::new(TWO))),
+            Kind::Present => Reply::Present(true),
+            Kind::Absent => Reply::Present(false),
+            Kind::Size => Reply::Size([0x00, 0x00, 0x10, 0x00]),
+        };
+        Some(Heard::Reply(reply))
+    }
+}
+
+/// A phase, and what leads a new controller of two clips there.
+#[derive(Clone, Copy)]
+struct Place<'a> {
+    phase: Phase,
+    inputs: &'a [Input],
+    /// A take is wished.
+    take: bool,
+    /// The cue was lost once less than the limit.
+    last_try: bool,
+}
+
+fn in_place<'a>(phase: Phase, inputs: &'a [Input]) -> Place<'a> {
+    Place {
+        phase,
+        inputs,
+        take: false,
+        last_try: false,
+    }
+}
+
+/// Where what comes leads in plain mode.
+fn plain_stage(phase: Phase, take: bool, kind: Kind) -> Stage {
+    match phase {
+        Phase::Open => match kind {
+            Kind::Granted => Stage::Ready(Phase::Select),
+            Kind::Denied | Kind::Refusal => Stage::Ended(Outcome::Denied),
+            _ => Stage::Ready(phase),
+        },
+        Phase::Select | Phase::Seen => match kind {
+            Kind::Ack => Stage::Ready(Phase::Exists(0)),
+            Kind::Refusal => Stage::Ended(Outcome::Denied),
+            _ => Stage::Ready(phase),
+        },
+        Phase::Exists(k) => match kind {
+            Kind::Present => Stage::Ready(Phase::Cue(k)),
+            Kind::Absent => Stage::Ended(Outcome::Missing(k)),
+            Kind::Refusal => Stage::Ended(Outcome::Refused(k)),
+            _ => Stage::Ready(phase),
+        },
+        Phase::Cue(k) => match kind {
+            Kind::Ack => Stage::Ready(Phase::Wait(k)),
+            Kind::Refusal => Stage::Ended(Outcome::Refused(k)),
+            _ => Stage::Ready(phase),
+        },
+        Phase::Wait(k) => match kind {
+            Kind::Cued => Stage::Ready(Phase::Play(k)),
+            Kind::CuedAndPlaying => Stage::Ready(if take { Phase::Play(k) } else { phase }),
+            Kind::Idle | Kind::Playing => Stage::Ended(Outcome::Strange(k)),
+            Kind::Refusal => Stage::Ended(Outcome::Refused(k)),
+            _ => Stage::Ready(phase),
+        },
+        Phase::Play(k) => match kind {
+            Kind::Ack => Stage::Ready(Phase::Check(k)),
+            Kind::Refusal => Stage::Ended(Outcome::Refused(k)),
+            _ => Stage::Ready(Phase::Probe(k)),
+        },
+        Phase::Probe(k) => match kind {
+            Kind::Cued | Kind::CuedAndPlaying => Stage::Ready(Phase::Play(k)),
+            Kind::Idle | Kind::Playing => Stage::Ready(Phase::Check(k)),
+            Kind::Refusal => Stage::Ended(Outcome::Refused(k)),
+            _ => Stage::Ready(phase),
+        },
+        Phase::Check(0) => match kind {
+            Kind::NothingPlays | Kind::OnePlays => Stage::Ready(Phase::Exists(1)),
+            Kind::TwoPlays => Stage::Ended(Outcome::Foreign(0)),
+            Kind::Refusal => Stage::Ended(Outcome::Refused(0)),
+            _ => Stage::Ready(phase),
+        },
+        Phase::Check(_) => match kind {
+            Kind::NothingPlays | Kind::TwoPlays => Stage::Ready(Phase::Drain),
+            Kind::OnePlays => Stage::Ended(Outcome::Foreign(1)),
+            Kind::Refusal => Stage::Ended(Outcome::Refused(1)),
+            _ => Stage::Ready(phase),
+        },
+        Phase::Drain => match kind {
+            Kind::Cueing | Kind::CueingAndPlaying | Kind::Cued | Kind::CuedAndPlaying => {
+                Stage::Ended(Outcome::Strange(2))
+            }
+            Kind::Playing => Stage::Ready(Phase::Drain),
+            Kind::Idle => Stage::Ready(Phase::Close),
+            Kind::Refusal => Stage::Ended(Outcome::Refused(2)),
+            _ => Stage::Ready(phase),
+        },
+        Phase::Close => match kind {
+            Kind::Ack | Kind::Refusal => Stage::Ended(Outcome::Done),
+            _ => Stage::Ready(phase),
+        },
+        Phase::Halt => match kind {
+            Kind::Ack | Kind::Refusal => Stage::Ready(Phase::HaltClose),
+            _ => Stage::Ready(phase),
+        },
+        Phase::HaltClose => match kind {
+            Kind::Ack | Kind::Refusal => Stage::Ended(Outcome::Stopped),
+            _ => Stage::Ready(phase),
+        },
+    }
+}
+
+/// Where what comes leads in confirm mode.
+fn confirming_stage(place: &Place, kind: Kind) -> Stage {
+    let phase = place.phase;
+    match (phase, kind) {
+        (Phase::Select, Kind::Silence) => Stage::Ready(Phase::Seen),
+        (Phase::Cue(k), Kind::Silence) => Stage::Ready(Phase::Wait(k)),
+        (Phase::Play(k), Kind::Silence) => Stage::Ready(Phase::Probe(k)),
+        (Phase::Close, Kind::Silence) => Stage::Ended(Outcome::Done),
+        (Phase::Halt, Kind::Silence) => Stage::Ready(Phase::HaltClose),
+        (Phase::HaltClose, Kind::Silence) => Stage::Ended(Outcome::Stopped),
+        (
+            Phase::Select
+            | Phase::Cue(_)
+            | Phase::Play(_)
+            | Phase::Close
+            | Phase::Halt
+            | Phase::HaltClose,
+            _,
+        ) => Stage::Awaiting(phase),
+        (_, Kind::Ack | Kind::Refusal | Kind::Unread | Kind::Cut) => Stage::Awaiting(phase),
+        (
+            Phase::Seen,
+            Kind::Idle
+            | Kind::Cueing
+            | Kind::Playing
+            | Kind::CueingAndPlaying
+            | Kind::Cued
+            | Kind::CuedAndPlaying,
+        ) => Stage::Ready(Phase::Exists(0)),
+        (Phase::Seen, _) => Stage::Ready(Phase::Select),
+        (Phase::Wait(k), Kind::Idle | Kind::Playing) => {
+            if place.last_try {
+                Stage::Ended(Outcome::Refused(k))
+            } else {
+                Stage::Ready(Phase::Cue(k))
+            }
+        }
+        (_, _) => plain_stage(phase, place.take, kind),
+    }
 }
 
 const SILENCE: Input = Input::Silence;
-
-const OTHER: Input = Input::Heard(Heard::Other);
-
-const CUT: Input = Input::Heard(Heard::Reply(Reply::Nak(0x80)));
-
-const CUEING: Input = Input::Heard(Heard::Reply(Reply::State(0x01, Some(0x02))));
-
-const CUEING_AND_PLAYING: Input = Input::Heard(Heard::Reply(Reply::State(0x01, Some(0x06))));
-
-const SIZE: Input = Input::Heard(Heard::Reply(Reply::Size([0x00, 0x00, 0x10, 0x00])));
-
-/// Each kind of what comes that a controller tells apart, and some that it doesn't.
-fn kinds() -> [Input; 21] {
-    [
-        SILENCE,
-        OTHER,
-        ACK,
-        REFUSAL,
-        UNREAD,
-        CUT,
-        GRANTED,
-        DENIED,
-        IDLE,
-        CUEING,
-        PLAYING,
-        CUEING_AND_PLAYING,
-        CUED,
-        CUED_AND_PLAYING,
-        NO_STATE,
-        NOTHING_PLAYS,
-        plays(ONE),
-        plays(TWO),
-        PRESENT,
-        ABSENT,
-        SIZE,
-    ]
-}
-
-/// Checks the rows on new controllers of two clips, with limit 3.
-fn check(rt: &impl Abort, rows: &Rows, confirming: bool) {
-    for kind in &kinds() {
-        let clips = Clips::two(ONE, TWO);
-        let mut controller = if confirming {
-            Controller::confirming(clips, 0x01, 3)
-        } else {
-            Controller::new(clips, 0x01, 3)
-        };
-        drive(&mut controller, rows.inputs);
-        controller.tick();
-        let awaiting = Stage::Awaiting(rows.phase);
-        assert_eq!(rt; controller.state.stage, awaiting);
-
-        let ended = controller.receive(match kind {
-            Input::Heard(heard) => Some(*heard),
-            Input::Silence | Input::Take | Input::Stop => None,
-        });
-        let leads = rows.leads(kind);
-        assert_eq!(rt;
-            controller.state.stage,
-            leads,
-            "{:?} in {:?}",
-            kind, rows.phase
-        );
-        assert_eq!(rt;
-            ended.is_none(),
-            leads == awaiting,
-            "{:?} in {:?}",
-            kind,
-            rows.phase
-        );
-    }
-}
-
-impl Rows<'_> {
-    fn leads(&self, kind: &Input) -> Stage {
-        for line in self.lines {
-            for came in line.came {
-                if came == kind {
-                    return line.leads;
-                }
-            }
-        }
-        self.others
-    }
-}
 
 #[test]
 fn plain_lines(rt: HostRuntime) {
@@ -133,248 +252,32 @@ fn plain_lines(rt: HostRuntime) {
     ];
     let lost_play = [GRANTED, ACK, PRESENT, ACK, CUED, SILENCE];
     let take = [GRANTED, ACK, PRESENT, ACK, Input::Take];
-    let one_plays = plays(ONE);
-    let two_plays = plays(TWO);
-    let table = [
-        Rows {
-            phase: Phase::Open,
-            inputs: &[],
-            lines: &[
-                Line {
-                    came: &[GRANTED],
-                    leads: Stage::Ready(Phase::Select),
-                },
-                Line {
-                    came: &[DENIED, REFUSAL],
-                    leads: Stage::Ended(Outcome::Denied),
-                },
-            ],
-            others: Stage::Ready(Phase::Open),
-        },
-        Rows {
-            phase: Phase::Select,
-            inputs: &aired[..1],
-            lines: &[
-                Line {
-                    came: &[ACK],
-                    leads: Stage::Ready(Phase::Exists(0)),
-                },
-                Line {
-                    came: &[REFUSAL],
-                    leads: Stage::Ended(Outcome::Denied),
-                },
-            ],
-            others: Stage::Ready(Phase::Select),
-        },
-        Rows {
-            phase: Phase::Exists(0),
-            inputs: &aired[..2],
-            lines: &[
-                Line {
-                    came: &[PRESENT],
-                    leads: Stage::Ready(Phase::Cue(0)),
-                },
-                Line {
-                    came: &[ABSENT],
-                    leads: Stage::Ended(Outcome::Missing(0)),
-                },
-                Line {
-                    came: &[REFUSAL],
-                    leads: Stage::Ended(Outcome::Refused(0)),
-                },
-            ],
-            others: Stage::Ready(Phase::Exists(0)),
-        },
-        Rows {
-            phase: Phase::Cue(0),
-            inputs: &aired[..3],
-            lines: &[
-                Line {
-                    came: &[ACK],
-                    leads: Stage::Ready(Phase::Wait(0)),
-                },
-                Line {
-                    came: &[REFUSAL],
-                    leads: Stage::Ended(Outcome::Refused(0)),
-                },
-            ],
-            others: Stage::Ready(Phase::Cue(0)),
-        },
-        Rows {
-            phase: Phase::Wait(0),
-            inputs: &aired[..4],
-            lines: &[
-                Line {
-                    came: &[CUED],
-                    leads: Stage::Ready(Phase::Play(0)),
-                },
-                Line {
-                    came: &[CUED_AND_PLAYING, CUEING, CUEING_AND_PLAYING],
-                    leads: Stage::Ready(Phase::Wait(0)),
-                },
-                Line {
-                    came: &[IDLE, PLAYING],
-                    leads: Stage::Ended(Outcome::Strange(0)),
-                },
-                Line {
-                    came: &[REFUSAL],
-                    leads: Stage::Ended(Outcome::Refused(0)),
-                },
-            ],
-            others: Stage::Ready(Phase::Wait(0)),
-        },
-        Rows {
-            phase: Phase::Wait(0),
-            inputs: &take,
-            lines: &[
-                Line {
-                    came: &[CUED, CUED_AND_PLAYING],
-                    leads: Stage::Ready(Phase::Play(0)),
-                },
-                Line {
-                    came: &[CUEING, CUEING_AND_PLAYING],
-                    leads: Stage::Ready(Phase::Wait(0)),
-                },
-                Line {
-                    came: &[IDLE, PLAYING],
-                    leads: Stage::Ended(Outcome::Strange(0)),
-                },
-                Line {
-                    came: &[REFUSAL],
-                    leads: Stage::Ended(Outcome::Refused(0)),
-                },
-            ],
-            others: Stage::Ready(Phase::Wait(0)),
-        },
-        Rows {
-            phase: Phase::Play(0),
-            inputs: &aired[..5],
-            lines: &[
-                Line {
-                    came: &[ACK],
-                    leads: Stage::Ready(Phase::Check(0)),
-                },
-                Line {
-                    came: &[REFUSAL],
-                    leads: Stage::Ended(Outcome::Refused(0)),
-                },
-            ],
-            others: Stage::Ready(Phase::Probe(0)),
-        },
-        Rows {
-            phase: Phase::Probe(0),
-            inputs: &lost_play,
-            lines: &[
-                Line {
-                    came: &[CUED, CUED_AND_PLAYING],
-                    leads: Stage::Ready(Phase::Play(0)),
-                },
-                Line {
-                    came: &[CUEING, CUEING_AND_PLAYING],
-                    leads: Stage::Ready(Phase::Probe(0)),
-                },
-                Line {
-                    came: &[IDLE, PLAYING],
-                    leads: Stage::Ready(Phase::Check(0)),
-                },
-                Line {
-                    came: &[REFUSAL],
-                    leads: Stage::Ended(Outcome::Refused(0)),
-                },
-            ],
-            others: Stage::Ready(Phase::Probe(0)),
-        },
-        Rows {
-            phase: Phase::Check(0),
-            inputs: &aired[..6],
-            lines: &[
-                Line {
-                    came: &[NOTHING_PLAYS, one_plays],
-                    leads: Stage::Ready(Phase::Exists(1)),
-                },
-                Line {
-                    came: &[two_plays],
-                    leads: Stage::Ended(Outcome::Foreign(0)),
-                },
-                Line {
-                    came: &[REFUSAL],
-                    leads: Stage::Ended(Outcome::Refused(0)),
-                },
-            ],
-            others: Stage::Ready(Phase::Check(0)),
-        },
-        Rows {
-            phase: Phase::Check(1),
-            inputs: &aired[..11],
-            lines: &[
-                Line {
-                    came: &[NOTHING_PLAYS, two_plays],
-                    leads: Stage::Ready(Phase::Drain),
-                },
-                Line {
-                    came: &[one_plays],
-                    leads: Stage::Ended(Outcome::Foreign(1)),
-                },
-                Line {
-                    came: &[REFUSAL],
-                    leads: Stage::Ended(Outcome::Refused(1)),
-                },
-            ],
-            others: Stage::Ready(Phase::Check(1)),
-        },
-        Rows {
-            phase: Phase::Drain,
-            inputs: &aired[..12],
-            lines: &[
-                Line {
-                    came: &[CUEING, CUEING_AND_PLAYING, CUED, CUED_AND_PLAYING],
-                    leads: Stage::Ended(Outcome::Strange(2)),
-                },
-                Line {
-                    came: &[PLAYING],
-                    leads: Stage::Ready(Phase::Drain),
-                },
-                Line {
-                    came: &[IDLE],
-                    leads: Stage::Ready(Phase::Close),
-                },
-                Line {
-                    came: &[REFUSAL],
-                    leads: Stage::Ended(Outcome::Refused(2)),
-                },
-            ],
-            others: Stage::Ready(Phase::Drain),
-        },
-        Rows {
-            phase: Phase::Close,
-            inputs: &aired,
-            lines: &[Line {
-                came: &[ACK, REFUSAL],
-                leads: Stage::Ended(Outcome::Done),
-            }],
-            others: Stage::Ready(Phase::Close),
-        },
-        Rows {
-            phase: Phase::Halt,
-            inputs: &[Input::Stop],
-            lines: &[Line {
-                came: &[ACK, REFUSAL],
-                leads: Stage::Ready(Phase::HaltClose),
-            }],
-            others: Stage::Ready(Phase::Halt),
-        },
-        Rows {
-            phase: Phase::HaltClose,
-            inputs: &[Input::Stop, ACK],
-            lines: &[Line {
-                came: &[ACK, REFUSAL],
-                leads: Stage::Ended(Outcome::Stopped),
-            }],
-            others: Stage::Ready(Phase::HaltClose),
+    let stop = [Input::Stop, ACK];
+    let places = [
+        in_place(Phase::Open, &aired[..0]),
+        in_place(Phase::Select, &aired[..1]),
+        in_place(Phase::Exists(0), &aired[..2]),
+        in_place(Phase::Cue(0), &aired[..3]),
+        in_place(Phase::Wait(0), &aired[..4]),
+        in_place(Phase::Play(0), &aired[..5]),
+        in_place(Phase::Check(0), &aired[..6]),
+        in_place(Phase::Check(1), &aired[..11]),
+        in_place(Phase::Drain, &aired[..12]),
+        in_place(Phase::Close, &aired),
+        in_place(Phase::Probe(0), &lost_play),
+        in_place(Phase::Halt, &stop[..1]),
+        in_place(Phase::HaltClose, &stop),
+        Place {
+            take: true,
+            ..in_place(Phase::Wait(0), &take)
         },
     ];
-    for rows in &table {
-        check(&rt, rows, false);
+    for place in &places {
+        for kind in &KINDS {
+            let controller = Controller::new(Clips::two(ONE, TWO), 0x01, 3);
+            let leads = plain_stage(place.phase, place.take, *kind);
+            check(&rt, controller, place, *kind, leads);
+        }
     }
 }
 
@@ -402,278 +305,65 @@ fn confirming_lines(rt: HostRuntime) {
     let lost_cues = [
         GRANTED, SILENCE, IDLE, PRESENT, SILENCE, IDLE, SILENCE, PLAYING, SILENCE,
     ];
-    let one_plays = plays(ONE);
-    let two_plays = plays(TWO);
-    let table = [
-        Rows {
-            phase: Phase::Open,
-            inputs: &[],
-            lines: &[
-                Line {
-                    came: &[GRANTED],
-                    leads: Stage::Ready(Phase::Select),
-                },
-                Line {
-                    came: &[DENIED],
-                    leads: Stage::Ended(Outcome::Denied),
-                },
-                Line {
-                    came: &[ACK, REFUSAL, UNREAD, CUT],
-                    leads: Stage::Awaiting(Phase::Open),
-                },
-            ],
-            others: Stage::Ready(Phase::Open),
+    let stop = [Input::Stop, SILENCE];
+    let places = [
+        in_place(Phase::Open, &aired[..0]),
+        in_place(Phase::Select, &aired[..1]),
+        in_place(Phase::Seen, &aired[..2]),
+        in_place(Phase::Exists(0), &aired[..3]),
+        in_place(Phase::Cue(0), &aired[..4]),
+        in_place(Phase::Wait(0), &aired[..5]),
+        in_place(Phase::Play(0), &aired[..6]),
+        in_place(Phase::Probe(0), &aired[..7]),
+        in_place(Phase::Check(0), &aired[..8]),
+        in_place(Phase::Check(1), &aired[..14]),
+        in_place(Phase::Drain, &aired[..15]),
+        in_place(Phase::Close, &aired),
+        in_place(Phase::Halt, &stop[..1]),
+        in_place(Phase::HaltClose, &stop),
+        Place {
+            take: true,
+            ..in_place(Phase::Wait(0), &take)
         },
-        Rows {
-            phase: Phase::Select,
-            inputs: &aired[..1],
-            lines: &[Line {
-                came: &[SILENCE],
-                leads: Stage::Ready(Phase::Seen),
-            }],
-            others: Stage::Awaiting(Phase::Select),
-        },
-        Rows {
-            phase: Phase::Seen,
-            inputs: &aired[..2],
-            lines: &[
-                Line {
-                    came: &[
-                        IDLE,
-                        CUEING,
-                        PLAYING,
-                        CUEING_AND_PLAYING,
-                        CUED,
-                        CUED_AND_PLAYING,
-                    ],
-                    leads: Stage::Ready(Phase::Exists(0)),
-                },
-                Line {
-                    came: &[ACK, REFUSAL, UNREAD, CUT],
-                    leads: Stage::Awaiting(Phase::Seen),
-                },
-            ],
-            others: Stage::Ready(Phase::Select),
-        },
-        Rows {
-            phase: Phase::Exists(0),
-            inputs: &aired[..3],
-            lines: &[
-                Line {
-                    came: &[PRESENT],
-                    leads: Stage::Ready(Phase::Cue(0)),
-                },
-                Line {
-                    came: &[ABSENT],
-                    leads: Stage::Ended(Outcome::Missing(0)),
-                },
-                Line {
-                    came: &[ACK, REFUSAL, UNREAD, CUT],
-                    leads: Stage::Awaiting(Phase::Exists(0)),
-                },
-            ],
-            others: Stage::Ready(Phase::Exists(0)),
-        },
-        Rows {
-            phase: Phase::Cue(0),
-            inputs: &aired[..4],
-            lines: &[Line {
-                came: &[SILENCE],
-                leads: Stage::Ready(Phase::Wait(0)),
-            }],
-            others: Stage::Awaiting(Phase::Cue(0)),
-        },
-        Rows {
-            phase: Phase::Wait(0),
-            inputs: &aired[..5],
-            lines: &[
-                Line {
-                    came: &[CUED],
-                    leads: Stage::Ready(Phase::Play(0)),
-                },
-                Line {
-                    came: &[CUED_AND_PLAYING, CUEING, CUEING_AND_PLAYING],
-                    leads: Stage::Ready(Phase::Wait(0)),
-                },
-                Line {
-                    came: &[IDLE, PLAYING],
-                    leads: Stage::Ready(Phase::Cue(0)),
-                },
-                Line {
-                    came: &[ACK, REFUSAL, UNREAD, CUT],
-                    leads: Stage::Awaiting(Phase::Wait(0)),
-                },
-            ],
-            others: Stage::Ready(Phase::Wait(0)),
-        },
-        Rows {
-            phase: Phase::Wait(0),
-            inputs: &take,
-            lines: &[
-                Line {
-                    came: &[CUED, CUED_AND_PLAYING],
-                    leads: Stage::Ready(Phase::Play(0)),
-                },
-                Line {
-                    came: &[CUEING, CUEING_AND_PLAYING],
-                    leads: Stage::Ready(Phase::Wait(0)),
-                },
-                Line {
-                    came: &[IDLE, PLAYING],
-                    leads: Stage::Ready(Phase::Cue(0)),
-                },
-                Line {
-                    came: &[ACK, REFUSAL, UNREAD, CUT],
-                    leads: Stage::Awaiting(Phase::Wait(0)),
-                },
-            ],
-            others: Stage::Ready(Phase::Wait(0)),
-        },
-        Rows {
-            phase: Phase::Wait(0),
-            inputs: &lost_cues,
-            lines: &[
-                Line {
-                    came: &[CUED],
-                    leads: Stage::Ready(Phase::Play(0)),
-                },
-                Line {
-                    came: &[CUED_AND_PLAYING, CUEING, CUEING_AND_PLAYING],
-                    leads: Stage::Ready(Phase::Wait(0)),
-                },
-                Line {
-                    came: &[IDLE, PLAYING],
-                    leads: Stage::Ended(Outcome::Refused(0)),
-                },
-                Line {
-                    came: &[ACK, REFUSAL, UNREAD, CUT],
-                    leads: Stage::Awaiting(Phase::Wait(0)),
-                },
-            ],
-            others: Stage::Ready(Phase::Wait(0)),
-        },
-        Rows {
-            phase: Phase::Play(0),
-            inputs: &aired[..6],
-            lines: &[Line {
-                came: &[SILENCE],
-                leads: Stage::Ready(Phase::Probe(0)),
-            }],
-            others: Stage::Awaiting(Phase::Play(0)),
-        },
-        Rows {
-            phase: Phase::Probe(0),
-            inputs: &aired[..7],
-            lines: &[
-                Line {
-                    came: &[CUED, CUED_AND_PLAYING],
-                    leads: Stage::Ready(Phase::Play(0)),
-                },
-                Line {
-                    came: &[CUEING, CUEING_AND_PLAYING],
-                    leads: Stage::Ready(Phase::Probe(0)),
-                },
-                Line {
-                    came: &[IDLE, PLAYING],
-                    leads: Stage::Ready(Phase::Check(0)),
-                },
-                Line {
-                    came: &[ACK, REFUSAL, UNREAD, CUT],
-                    leads: Stage::Awaiting(Phase::Probe(0)),
-                },
-            ],
-            others: Stage::Ready(Phase::Probe(0)),
-        },
-        Rows {
-            phase: Phase::Check(0),
-            inputs: &aired[..8],
-            lines: &[
-                Line {
-                    came: &[NOTHING_PLAYS, one_plays],
-                    leads: Stage::Ready(Phase::Exists(1)),
-                },
-                Line {
-                    came: &[two_plays],
-                    leads: Stage::Ended(Outcome::Foreign(0)),
-                },
-                Line {
-                    came: &[ACK, REFUSAL, UNREAD, CUT],
-                    leads: Stage::Awaiting(Phase::Check(0)),
-                },
-            ],
-            others: Stage::Ready(Phase::Check(0)),
-        },
-        Rows {
-            phase: Phase::Check(1),
-            inputs: &aired[..14],
-            lines: &[
-                Line {
-                    came: &[NOTHING_PLAYS, two_plays],
-                    leads: Stage::Ready(Phase::Drain),
-                },
-                Line {
-                    came: &[one_plays],
-                    leads: Stage::Ended(Outcome::Foreign(1)),
-                },
-                Line {
-                    came: &[ACK, REFUSAL, UNREAD, CUT],
-                    leads: Stage::Awaiting(Phase::Check(1)),
-                },
-            ],
-            others: Stage::Ready(Phase::Check(1)),
-        },
-        Rows {
-            phase: Phase::Drain,
-            inputs: &aired[..15],
-            lines: &[
-                Line {
-                    came: &[CUEING, CUEING_AND_PLAYING, CUED, CUED_AND_PLAYING],
-                    leads: Stage::Ended(Outcome::Strange(2)),
-                },
-                Line {
-                    came: &[PLAYING],
-                    leads: Stage::Ready(Phase::Drain),
-                },
-                Line {
-                    came: &[IDLE],
-                    leads: Stage::Ready(Phase::Close),
-                },
-                Line {
-                    came: &[ACK, REFUSAL, UNREAD, CUT],
-                    leads: Stage::Awaiting(Phase::Drain),
-                },
-            ],
-            others: Stage::Ready(Phase::Drain),
-        },
-        Rows {
-            phase: Phase::Close,
-            inputs: &aired,
-            lines: &[Line {
-                came: &[SILENCE],
-                leads: Stage::Ended(Outcome::Done),
-            }],
-            others: Stage::Awaiting(Phase::Close),
-        },
-        Rows {
-            phase: Phase::Halt,
-            inputs: &[Input::Stop],
-            lines: &[Line {
-                came: &[SILENCE],
-                leads: Stage::Ready(Phase::HaltClose),
-            }],
-            others: Stage::Awaiting(Phase::Halt),
-        },
-        Rows {
-            phase: Phase::HaltClose,
-            inputs: &[Input::Stop, SILENCE],
-            lines: &[Line {
-                came: &[SILENCE],
-                leads: Stage::Ended(Outcome::Stopped),
-            }],
-            others: Stage::Awaiting(Phase::HaltClose),
+        Place {
+            last_try: true,
+            ..in_place(Phase::Wait(0), &lost_cues)
         },
     ];
-    for rows in &table {
-        check(&rt, rows, true);
+    for place in &places {
+        for kind in &KINDS {
+            let controller = Controller::confirming(Clips::two(ONE, TWO), 0x01, 3);
+            let leads = confirming_stage(place, *kind);
+            check(&rt, controller, place, *kind, leads);
+        }
     }
+}
+
+/// Leads the new controller to the place, and lets this come there.
+fn check(
+    rt: &impl Abort,
+    mut controller: Controller<Clips>,
+    place: &Place,
+    kind: Kind,
+    leads: Stage,
+) {
+    drive(&mut controller, place.inputs);
+    controller.tick();
+    let awaiting = Stage::Awaiting(place.phase);
+    assert_eq!(rt; controller.state.stage, awaiting);
+
+    let ended = controller.receive(kind.came());
+    assert_eq!(rt;
+        controller.state.stage,
+        leads,
+        "{:?} in {:?}",
+        kind, place.phase
+    );
+    assert_eq!(rt;
+        ended.is_none(),
+        leads == awaiting,
+        "{:?} in {:?}",
+        kind,
+        place.phase
+    );
 }

@@ -15,11 +15,11 @@ use vdcp_words::{Command, Reply};
 /// What happens to a controller, and the commands of the exchanges, the outcome and the number of
 /// settled events which that gives.
 #[derive(Clone, Copy)]
-struct Case<'a> {
+struct Case<'i, 'c> {
     name: &'static str,
     clips: Clips,
-    inputs: &'a [Input],
-    commands: &'a [Command],
+    inputs: &'i [Input],
+    commands: &'c [Command],
     outcome: Option<Outcome>,
     settled: usize,
 }

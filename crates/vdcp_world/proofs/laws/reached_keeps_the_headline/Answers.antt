@@ -1,8 +1,3 @@
-use Rattle.std.proofs.Common.{◌≡◌, ◌≤◌, [], ◌∷◌, length, arith}
-use Rattle.vdcp_frame.specs.Burst.{messages_of, end_of}
-use Rattle.vdcp_frame.specs.Message.{spelling}
-use Rattle.vdcp_frame.specs.Reading.{clean}
-use Rattle.vdcp_world.proofs.Spellings.{spelt_bytes, spelt_short, spelt_alone}
 use Rattle.vdcp_world.proofs.Below.{Below}
 use Rattle.vdcp_world.proofs.HeadlineProof.{reached_kept, controller_reached, headline}
 use Rattle.vdcp_world.proofs.laws.reached_keeps_the_headline.Goals as goal
@@ -10,18 +5,10 @@ use Rattle.vdcp_world.proofs.laws.reached_keeps_the_headline.Goals as goal
 pub returns : goal.returns
 returns c =
     let below : Below = record {
-      spelt = c.one_spelling.ensures.spelt;
-      reads = c.one_reading.ensures.some;
-      of_bytes = spelt_bytes;
-      alone = λ m fits.
-          let spelt = c.one_spelling.ensures.spelt m fits in
-          (c.one_reading.ensures.only (spelling m) (messages_of (spelling m)) (m ∷ []) (end_of (spelling m)) clean
-          (c.one_reading.ensures.some (spelling m) (spelt_bytes m (spelling m) spelt))
-          (c.written_is_read.ensures.alone (m ∷ []) (spelling m) (spelt_alone m (spelling m) spelt)
-          (omega (arith, spelt_short m (spelling m) spelt)))).0;
+      alone = c.a_spelling_is_its_message.ensures.messages;
+      before = c.a_spelling_is_its_message.ensures.before;
       command_fits = c.command_is_read_first.ensures.fits;
       reply_fits = c.reply_is_read_first.ensures.fits;
-      reply_first = c.reply_is_read_first.ensures.first;
       reply_read = c.written_reply_is_read.ensures.computed;
       own_row = c.a_command_has_its_own_row.ensures;
       answered = c.a_command_is_answered.ensures;

@@ -4,26 +4,19 @@ use Rattle.std.specs.BTreeMap.{get}
 use Rattle.std.specs.Ordering.{nat_cmp}
 use Rattle.std.specs.Prelude.{◌++◌, ◌∷◌, [], is_some}
 use Rattle.vdcp_list.proofs.ClipPlaces.{known, no_length, places_push}
-use Rattle.vdcp_list.proofs.Values.{IdLaws}
 use Rattle.vdcp_list.proofs.table.Table.add.Goals as goal
 use Rattle.vdcp_list.specs.Places.{place_of}
 use Rattle.vdcp_port.specs.Clips.{length_of}
 
 pub invariant_of-self-in-Vacant : goal.invariant_of-self-in-Vacant
 invariant_of-self-in-Vacant c =
-    let v : IdLaws = record {
-      counted = c.bytes_are_counted.ensures;
-      eight = c.an_id_is_its_bytes.ensures.eight;
-      one = c.an_id_is_its_bytes.ensures.one;
-      same = c.an_id_is_its_bytes.ensures.same;
-    } in
     let at : get nat_cmp c.self.inside.places c.key_of.result ≡ place_of c.self.inside.clips.items c.args.id =
     ap (get nat_cmp c.self.inside.places) c.key_of.ensures ∙ c.self.invariant c.args.id in
     let new : get nat_cmp c.self.inside.places c.key_of.result ≡ None = rw c.in-Vacant.is at c.in_ok-self-inside.ensures.found in
     let update = rw c.in-Vacant.is at c.in_ok-self-inside.ensures.update in
     let size : c.len-place.result ≡ length c.self.inside.clips.items = grind (arith, common_steps) in
     let pushed : c.push.new.self.items ≡ c.self.inside.clips.items ++ (c.args.id, c.args.duration) ∷ [] = grind (arith, common_steps) in
-    λ id. rw pushed (places_push v c.self.inside.clips.items (c.args.id, c.args.duration) c.self.inside.places _ _ c.key_of.result c.insert.result.now
+    λ id. rw pushed (places_push c.an_id_is_its_number.ensures c.self.inside.clips.items (c.args.id, c.args.duration) c.self.inside.places _ _ c.key_of.result c.insert.result.now
     c.self.invariant c.key_of.ensures (c.insert.ensures.value ∙ size) (sym at ∙ new) (update.0 c.insert.result.now).0 (search rules) id)
 
 pub returns-in-Occupied-clause-there : goal.returns-in-Occupied-clause-there
