@@ -2,7 +2,7 @@
 use Rattle.hex.specs.Hex.{encode_lower}
 use Rattle.std.specs.Borrow.{Bor}
 use Rattle.std.specs.Io.KnownBytes.{Appends, Keeps}
-use Rattle.std.specs.Prelude.{ℕ, suc, ◌≡◌, ◌⊎◌, ⊤, Bool, true, false, List, [], ◌∷◌, ◌++◌, codes, decimal, length, Option, None, Some, if◌then◌else◌}
+use Rattle.std.specs.Prelude.{ℕ, suc, ◌≡◌, ◌≤◌, ◌⊎◌, Bool, true, false, List, [], ◌∷◌, ◌++◌, codes, decimal, length, Option, None, Some, if◌then◌else◌}
 use Rattle.vdcp_value.specs.Bcd.{is_time}
 use Rattle.vdcp_value.specs.Ids.{text_of_id}
 use Rattle.vdcp_value.specs.declared.clip_id.ClipId.{ClipId}
@@ -66,32 +66,34 @@ item_text rate item = text_of_id item.id ++ part_text rate item.part
 
 -- ---- lines
 
+-- a text for each thing, in order, with its number, counted from this one on
+abbrev pub numbered : {A : Type 0} → (ℕ → A → List ℕ) → ℕ → List A → List ℕ
+numbered text number [] = []
+numbered text number (x ∷ xs) = text number x ++ numbered text (suc number) xs
+
 abbrev pub exchange_line : ℕ → Exchange → List ℕ
 exchange_line number e = line (decimal number ++ codes " " ++ exchange_text e)
 
--- the lines of exchanges, counted from this number on
-abbrev pub log_lines : ℕ → List Exchange → List ℕ
-log_lines number [] = []
-log_lines number (e ∷ log) = exchange_line number e ++ log_lines (suc number) log
+-- where it is asked for, the lines of the exchanges, counted from 1
+abbrev pub trace_text : Bool → List Exchange → List ℕ
+trace_text true log = numbered exchange_line 1 log
+trace_text false log = []
 
 abbrev pub aired_line : Rate → ℕ → Item → List ℕ
 aired_line rate k item = line (codes "aired " ++ decimal k ++ codes " " ++ item_text rate item)
 
--- the lines of the items that went to air, counted from k on
-abbrev pub aired_lines : Rate → ℕ → List Item → List ℕ
-aired_lines rate k [] = []
-aired_lines rate k (item ∷ items) = aired_line rate k item ++ aired_lines rate (suc k) items
+-- the lines of the items that went to air, counted from 0
+abbrev pub aired_text : Rate → List Item → List ℕ
+aired_text rate aired = numbered (aired_line rate) 0 aired
 
--- exchanges are traced where it is asked for, and counted from 1
-abbrev pub trace_lines : Bool → List Exchange → List ℕ
-trace_lines true log = log_lines 1 log
-trace_lines false log = []
+-- the lines of how many events are reported, how many exchanges ended, and how the controller ended
+abbrev pub end_text : ℕ → ℕ → Option Outcome → List ℕ
+end_text reported exchanges outcome =
+    line (codes "reported " ++ decimal reported) ++ line (codes "exchanges " ++ decimal exchanges) ++ line (codes "outcome " ++ outcome_text outcome)
 
 -- what is printed of a channel
 abbrev pub channel_text : Bool → Rate → Channel → List ℕ
-channel_text trace rate c =
-    trace_lines trace c.log ++ aired_lines rate 0 c.aired ++ line (codes "reported " ++ decimal c.state.settled)
-    ++ line (codes "exchanges " ++ decimal (length c.log)) ++ line (codes "outcome " ++ outcome_text (outcome_of c.state.stage))
+channel_text trace rate c = trace_text trace c.log ++ aired_text rate c.aired ++ end_text c.state.settled (length c.log) (outcome_of c.state.stage)
 
 -- ---- the channel
 
@@ -110,6 +112,7 @@ pub record IsSimulated (settings : Settings) (list catalogue : File) (old new : 
   pub items : List Item
   pub clips : List (ClipId × Timecode)
   pub events : List Event
+  pub few : length events ≤ 100000
   pub is_playlist : IsListOf settings.rate list items
   pub is_catalogue : IsCatalogueOf settings.rate catalogue clips
   pub gained : Appends old new (channel_text settings.trace settings.rate (after_events (channel_of settings items clips) events))

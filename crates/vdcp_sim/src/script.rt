@@ -1,4 +1,4 @@
-ghost use Rattle.std.specs.Prelude.{◌≡◌, IfErr};
+ghost use Rattle.std.specs.Prelude.{◌≤◌, length, IfErr, IfOk};
 ghost use Rattle.vdcp_sim.specs.Sim.{IsScriptFailure};
 
 use std::alloc::Global;
@@ -16,7 +16,8 @@ pub fn read_events<'a, R: io::Read + Drop>(
     alloc: Global,
     script: Input<'a, R>,
 ) -> Result<Vec<Event>, Failure<'a>>
-    ensures { IfErr result (IsScriptFailure script.entry.name) }
+    ensures few { IfOk result (λ events. length events.items ≤ 100000) }
+    ensures refused { IfErr result (IsScriptFailure script.entry.name) }
 {
     let name = script.name;
     let bytes = read_bytes(alloc, name, script.reader)?;

@@ -1,16 +1,15 @@
 ghost use Rattle.std.specs.Io.KnownBytes.{Appends, Keeps};
-ghost use Rattle.std.specs.Prelude.{◌≡◌, ◌≢◌, ◌⊎◌, ◌<◌, ◌≤◌, IfErr, OnOk};
-ghost use Rattle.vdcp_auto.specs.Turn.{outcome_of};
+ghost use Rattle.std.specs.Prelude.{◌≡◌, ◌≢◌, ◌⊎◌, ◌<◌, ◌≤◌, IfErr, OnOk, true};
 ghost use Rattle.vdcp_files.specs.Check.{AreWhole, IsRefused, Refuses};
 ghost use Rattle.vdcp_files.specs.Files.{file};
-ghost use Rattle.vdcp_sim.specs.Sim.{IsScriptFailure, IsScriptRefused, IsSimulated, aired_lines, channel_of, channel_text, log_lines};
+ghost use Rattle.vdcp_sim.specs.Sim.{IsScriptFailure, IsScriptRefused, IsSimulated, aired_line, aired_text, channel_of, channel_text, end_text, exchange_line, trace_text};
 ghost use Rattle.vdcp_text.specs.Failure.{status_of};
 
 use crate::script::read_events;
 use crate::text::{ExchangeText, ItemText, OutcomeText};
 use std::alloc::{Allocator, Global};
 use std::io;
-use vdcp_auto::{Exchange, Source};
+use vdcp_auto::{Exchange, Outcome, Source};
 use vdcp_files::{Input, file_failure};
 use vdcp_list::{read_catalogue, read_list};
 use vdcp_port::Catalogue;
@@ -158,40 +157,62 @@ fn write_world<S: Source, C: Catalogue, A: Allocator + Copy, W: io::Write>(
 ) -> io::Result<()>
     ensures { OnOk result (Appends (W.contents out.old) (W.contents out.new) (channel_text settings.trace settings.rate world.now)) }
 {
+    let log = world.log();
     if settings.trace {
-        write_log(world.log(), out)?;
+        write_log(log, out)?;
     }
     write_aired(world.aired(), settings.rate, out)?;
-    let reported = world.reported();
-    let exchanges = world.log().len();
-    let outcome = OutcomeText(world.outcome());
-    writeln!(out, "reported {reported}")?;
-    writeln!(out, "exchanges {exchanges}")?;
-    writeln!(out, "outcome {outcome}")?;
+    write_end(world.reported(), log.len(), world.outcome(), out)?;
     out.flush()
 }
 
-// Writes a line for each exchange, counted from 1.
+// Writes a line for each exchange.
 fn write_log<W: io::Write>(log: &[Exchange], out: &mut W) -> io::Result<()>
-    ensures { OnOk result (Appends (W.contents out.old) (W.contents out.new) (log_lines 1 log.now)) }
+    ensures { OnOk result (Appends (W.contents out.old) (W.contents out.new) (trace_text true log.now)) }
 {
-    for (before, exchange) in log.iter().enumerate() {
-        let number = before + 1;
-        let exchange = ExchangeText(*exchange);
-        writeln!(out, "{number} {exchange}")?;
+    for k in 0..log.len() {
+        write_exchange(k + 1, log[k], out)?;
     }
     Ok(())
 }
 
-// Writes a line for each item that went to air, counted from 0.
-fn write_aired<W: io::Write>(aired: &[Item], rate: Rate, out: &mut W) -> io::Result<()>
-    ensures { OnOk result (Appends (W.contents out.old) (W.contents out.new) (aired_lines rate 0 aired.now)) }
+fn write_exchange<W: io::Write>(number: usize, exchange: Exchange, out: &mut W) -> io::Result<()>
+    ensures { OnOk result (Appends (W.contents out.old) (W.contents out.new) (exchange_line number exchange)) }
 {
-    for (k, item) in aired.iter().enumerate() {
-        let item = ItemText { rate, item: *item };
-        writeln!(out, "aired {k} {item}")?;
+    let exchange = ExchangeText(exchange);
+    writeln!(out, "{number} {exchange}")
+}
+
+// Writes a line for each item that went to air.
+fn write_aired<W: io::Write>(aired: &[Item], rate: Rate, out: &mut W) -> io::Result<()>
+    ensures { OnOk result (Appends (W.contents out.old) (W.contents out.new) (aired_text rate aired.now)) }
+{
+    for k in 0..aired.len() {
+        write_item(k, aired[k], rate, out)?;
     }
     Ok(())
+}
+
+fn write_item<W: io::Write>(k: usize, item: Item, rate: Rate, out: &mut W) -> io::Result<()>
+    ensures { OnOk result (Appends (W.contents out.old) (W.contents out.new) (aired_line rate k item)) }
+{
+    let item = ItemText { rate, item };
+    writeln!(out, "aired {k} {item}")
+}
+
+// Writes the counts, and how the controller ended.
+fn write_end<W: io::Write>(
+    reported: usize,
+    exchanges: usize,
+    outcome: Option<Outcome>,
+    out: &mut W,
+) -> io::Result<()>
+    ensures { OnOk result (Appends (W.contents out.old) (W.contents out.new) (end_text reported exchanges outcome)) }
+{
+    let outcome = OutcomeText(outcome);
+    writeln!(out, "reported {reported}")?;
+    writeln!(out, "exchanges {exchanges}")?;
+    writeln!(out, "outcome {outcome}")
 }
 
 #[cfg(test)]
