@@ -1,7 +1,13 @@
+ghost use Rattle.hex.specs.Hex.{encode_lower};
+ghost use Rattle.std.specs.Prelude.{◌≡◌, IfNone, IfSome};
+ghost use Rattle.vdcp_sim.specs.Sim.{shown_time};
+ghost use Rattle.vdcp_value.specs.Timecodes.{text_of};
+
 use arrayvec::ArrayString;
 use std::fmt;
 use vdcp_auto::{Exchange, Heard, Outcome};
 use vdcp_text::HexText;
+use vdcp_value::laws::a_time_code_has_lawful_bytes;
 use vdcp_value::{Item, Rate, Timecode};
 
 /// What was heard: the text of a reply, `other`, or `silence`.
@@ -86,18 +92,30 @@ impl fmt::Display for TimeText {
     ghost output = { λ t. Some (shown_time t.rate t.bytes) };
 
     fn fmt<W: fmt::Write>(&self, f: &mut fmt::Formatter<W>) -> fmt::Result {
-        match Timecode::from_bcd(self.rate, self.bytes) {
-            Ok(timecode) => {
+        match lawful_time(self.rate, self.bytes) {
+            Some(time) => {
                 let mut text = ArrayString::<11>::new();
-                timecode.show(&mut text);
+                time.show(&mut text);
                 let text = text.as_str();
                 write!(f, "{text}")
             }
-            Err(_) => {
+            None => {
                 let bytes = HexText(&self.bytes);
                 write!(f, "{bytes}")
             }
         }
+    }
+}
+
+// The time code that four bytes write at a rate, if they write one.
+fn lawful_time(rate: Rate, bytes: [u8; 4]) -> Option<Timecode>
+    ensures some { IfSome result (λ time. shown_time rate bytes ≡ text_of time) }
+    ensures none { IfNone result (shown_time rate bytes ≡ encode_lower bytes) }
+{
+    a_time_code_has_lawful_bytes();
+    match Timecode::from_bcd(rate, bytes) {
+        Ok(time) => Some(time),
+        Err(_) => None,
     }
 }
 
@@ -122,14 +140,10 @@ impl fmt::Display for ItemText {
         match self.item.part {
             None => write!(f, "{id}"),
             Some(part) => {
-                let start = TimeText {
-                    rate,
-                    bytes: part.start,
-                };
-                let duration = TimeText {
-                    rate,
-                    bytes: part.duration,
-                };
+                let bytes = part.start;
+                let start = TimeText { rate, bytes };
+                let bytes = part.duration;
+                let duration = TimeText { rate, bytes };
                 write!(f, "{id} {start} {duration}")
             }
         }

@@ -13,7 +13,7 @@ same_list [] (y ∷ ys) e = cc
 same_list (x ∷ xs) [] e = cc
 same_list (x ∷ xs) (y ∷ ys) e = grind (arith, same_list xs ys)
 
-own_list : (xs : List ℕ) → pointwise nat_eq xs xs ≡ true
+pub own_list : (xs : List ℕ) → pointwise nat_eq xs xs ≡ true
 own_list [] = refl
 own_list (x ∷ xs) = grind (arith, own_list xs)
 
