@@ -1,4 +1,5 @@
-// vdcp: shows, makes and tests messages of the Video Disk Communications Protocol, and checks playlists.
+// vdcp: shows, makes and tests messages of the Video Disk Communications Protocol, checks playlists, and plays them over
+// a line that is run from a script.
 #![tactic(auto)]
 
 mod args;
@@ -10,6 +11,7 @@ use std::io::{BufWriter, Write};
 use std::process::ExitCode;
 use std::{env, io};
 use vdcp_files::{Input, do_check, do_vectors};
+use vdcp_sim::do_sim;
 use vdcp_text::{Failure, do_make, do_show};
 
 fn main(rt: HostRuntime) -> ExitCode {
@@ -50,55 +52,79 @@ fn run_named<W: Write, E: Write>(
     out: &mut W,
     err: &mut E,
 ) -> u8 {
-    match name {
-        "show" => {
-            let hex = words.get_str("HEX").unwrap_or("");
-            let meaning = words.get_flag("words");
-            do_show(rt.alloc(), hex, meaning, out, err)
-        }
-        "make" => {
-            let word = words.get_str("COMMAND").unwrap_or("");
-            let arguments = words.get_strs("ARG").unwrap_or(&[]);
-            do_make(word, arguments, args::unit_of(words), out, err)
-        }
+    let done = match name {
+        "show" => Ok(run_show(rt, words, out, err)),
+        "make" => Ok(run_make(words, out, err)),
         "check" => run_check(rt, words, out, err),
+        "sim" => run_sim(rt, words, out, err),
         "vectors" => run_vectors(rt, words, out, err),
         // (`clap` lets no other words through)
-        _ => 2,
-    }
-}
-
-fn run_check<W: Write, E: Write>(
-    rt: &HostRuntime,
-    words: &ArgMatches<'_>,
-    out: &mut W,
-    err: &mut E,
-) -> u8 {
-    let list = match open(rt, words.get_str("LIST").unwrap_or("")) {
-        Ok(list) => list,
-        Err(failure) => return failure.report(err),
+        _ => Ok(2),
     };
-    let catalogue = match open(rt, words.get_str("CATALOGUE").unwrap_or("")) {
-        Ok(catalogue) => catalogue,
-        Err(failure) => return failure.report(err),
-    };
-    do_check(rt.alloc(), list, catalogue, args::rate_of(words), out, err)
-}
-
-fn run_vectors<W: Write, E: Write>(
-    rt: &HostRuntime,
-    words: &ArgMatches<'_>,
-    out: &mut W,
-    err: &mut E,
-) -> u8 {
-    match open(rt, words.get_str("FILE").unwrap_or("")) {
-        Ok(file) => do_vectors(rt.alloc(), file, out, err),
+    match done {
+        Ok(status) => status,
         Err(failure) => failure.report(err),
     }
 }
 
-// Opens the file of this name.
-fn open<'a>(rt: &HostRuntime, name: &'a str) -> Result<Input<'a, File>, Failure<'a>> {
+fn run_show<W: Write, E: Write>(
+    rt: &HostRuntime,
+    words: &ArgMatches<'_>,
+    out: &mut W,
+    err: &mut E,
+) -> u8 {
+    let hex = words.get_str("HEX").unwrap_or("");
+    do_show(rt.alloc(), hex, words.get_flag("words"), out, err)
+}
+
+fn run_make<W: Write, E: Write>(words: &ArgMatches<'_>, out: &mut W, err: &mut E) -> u8 {
+    let word = words.get_str("COMMAND").unwrap_or("");
+    let arguments = words.get_strs("ARG").unwrap_or(&[]);
+    do_make(word, arguments, args::unit_of(words), out, err)
+}
+
+fn run_check<'a, W: Write, E: Write>(
+    rt: &HostRuntime,
+    words: &'a ArgMatches<'_>,
+    out: &mut W,
+    err: &mut E,
+) -> Result<u8, Failure<'a>> {
+    let list = open(rt, words, "LIST")?;
+    let catalogue = open(rt, words, "CATALOGUE")?;
+    let rate = args::rate_of(words);
+    Ok(do_check(rt.alloc(), list, catalogue, rate, out, err))
+}
+
+fn run_sim<'a, W: Write, E: Write>(
+    rt: &HostRuntime,
+    words: &'a ArgMatches<'_>,
+    out: &mut W,
+    err: &mut E,
+) -> Result<u8, Failure<'a>> {
+    let list = open(rt, words, "LIST")?;
+    let catalogue = open(rt, words, "CATALOGUE")?;
+    let script = open(rt, words, "SCRIPT")?;
+    let settings = args::settings_of(words);
+    Ok(do_sim(rt.alloc(), list, catalogue, script, settings, out, err))
+}
+
+fn run_vectors<'a, W: Write, E: Write>(
+    rt: &HostRuntime,
+    words: &'a ArgMatches<'_>,
+    out: &mut W,
+    err: &mut E,
+) -> Result<u8, Failure<'a>> {
+    let file = open(rt, words, "FILE")?;
+    Ok(do_vectors(rt.alloc(), file, out, err))
+}
+
+// Opens the file that the word of this name says.
+fn open<'a>(
+    rt: &HostRuntime,
+    words: &'a ArgMatches<'_>,
+    word: &str,
+) -> Result<Input<'a, File>, Failure<'a>> {
+    let name = words.get_str(word).unwrap_or("");
     match File::open(rt, name) {
         Ok(reader) => Ok(Input { name, reader }),
         Err(error) if error.kind() == io::ErrorKind::OutOfMemory => Err(Failure::Memory),

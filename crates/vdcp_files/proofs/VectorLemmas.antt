@@ -7,11 +7,9 @@ use Rattle.vdcp_files.specs.Vectors.{Finding, HasTooMany, IsTally, IsTallyOf, ba
 use Rattle.vdcp_files.specs.Files.{AreRowsOf}
 use Rattle.vdcp_text.specs.Text.{end_text}
 use Rattle.vdcp_files.specs.declared.vectors.Tally.{Tally}
-use Rattle.vdcp_frame.proofs.BurstLemmas.{reads_computed}
-use Rattle.vdcp_frame.proofs.ReadingLemmas.{one_reading}
 use Rattle.vdcp_frame.specs.Burst.{messages_of, end_of}
-use Rattle.vdcp_frame.specs.Message.{AreOctets, Content}
-use Rattle.vdcp_frame.specs.Reading.{End, Reads}
+use Rattle.vdcp_frame.specs.Message.{Content}
+use Rattle.vdcp_frame.specs.Reading.{End}
 use Rattle.vdcp_list.specs.Reading.{TakesRow}
 use Rattle.vdcp_list.specs.Rows.{Row, most_rows, rows_of}
 
@@ -166,8 +164,6 @@ if_ok P (Ok y) x h e = let same : y ≡ x = cc e in subst P same h
 if_ok P (Err f) x h e = cc e
 
 -- the one reading of a burst, joined
-pub joined_is : (burst : List ℕ) (ms : List Content) (end : End) → AreOctets burst → Reads burst ms end
+pub joined_is : (burst : List ℕ) (ms : List Content) (end : End) → (ms ≡ messages_of burst) × (end ≡ end_of burst)
     → joined_text ms ++ end_text end ≡ joined_reading burst
-joined_is burst ms end bytes reads =
-    let one = one_reading 4096 burst ms (messages_of burst) end (end_of burst) reads (reads_computed 4096 burst bytes) in
-    ap₂ (λ m e. joined_text m ++ end_text e) one.0 one.1
+joined_is burst ms end one = ap₂ (λ m e. joined_text m ++ end_text e) one.0 one.1

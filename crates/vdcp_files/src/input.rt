@@ -12,7 +12,7 @@ pub struct Input<'a, R> {
     pub reader: R,
 }
 
-// Why the list or the catalogue of this name isn't read.
+/// Why the list or the catalogue of this name isn't read.
 pub fn file_failure<'a>(name: &'a str, fault: ListFault) -> Failure<'a>
     ensures { result ≡ file_failure name.entry fault }
 {

@@ -15,6 +15,7 @@ use hex::FromHexError;
 use std::alloc::{AllocError, Global};
 use std::fmt::Write;
 use std::{fmt, io};
+use vdcp_frame::laws::one_reading;
 use vdcp_frame::{Step, read_at};
 use vdcp_list::{MAX_ROWS, next_row, rows_in};
 use vdcp_text::{End, Failure, MessageText, RowFault};
@@ -170,6 +171,7 @@ fn test_burst<'a>(
 fn show_reading(burst: &[u8], text: &mut String) -> Result<(), AllocError>
     ensures { OnOk result (string_bytes text.new ≡ joined_reading burst.now) }
 {
+    one_reading();
     let end = show_messages(burst, text)?;
     write!(text, "{end}")
 }

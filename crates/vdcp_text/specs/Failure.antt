@@ -1,7 +1,9 @@
 use Rattle.std.specs.Prelude.{ℕ, List, ◌++◌, codes, decimal}
 use Rattle.vdcp_text.specs.Text.{line}
 use Rattle.vdcp_text.specs.declared.failure.Failure.{Failure}
-use Rattle.vdcp_text.specs.declared.failure.Failure.TheVariants.{Hex, Word, Arguments, Text, Open, Read, Row, Memory, Writer}
+use Rattle.vdcp_text.specs.declared.failure.Failure.TheVariants.{Hex, Word, Arguments, Text, Open, Read, Row, Line, TooManyEvents, NotText, Memory, Writer}
+use Rattle.vdcp_text.specs.declared.failure.LineFault.{LineFault}
+use Rattle.vdcp_text.specs.declared.failure.LineFault.TheVariants as lines
 use Rattle.vdcp_text.specs.declared.failure.RowFault.{RowFault}
 use Rattle.vdcp_text.specs.declared.failure.RowFault.TheVariants as rows
 
@@ -14,6 +16,9 @@ status_of Text = 2
 status_of (Open name) = 3
 status_of (Read name) = 3
 status_of (Row name row fault) = 1
+status_of (Line name number fault) = 1
+status_of (TooManyEvents name) = 1
+status_of (NotText name) = 1
 status_of Memory = 3
 status_of Writer = 3
 
@@ -24,6 +29,11 @@ row_fault_text rows.Time = codes "time"
 row_fault_text rows.Twice = codes "twice"
 row_fault_text rows.TooMany = codes "too many"
 
+abbrev pub line_fault_text : LineFault → List ℕ
+line_fault_text lines.Word = codes "word"
+line_fault_text lines.Number = codes "number"
+line_fault_text lines.Hex = codes "hex"
+
 -- what a failure is told as, but for a writer's, of which nothing is told
 abbrev pub failure_text : Failure → List ℕ
 failure_text Hex = codes "hex"
@@ -33,6 +43,9 @@ failure_text Text = codes "text"
 failure_text (Open name) = name.now ++ codes ": cannot open"
 failure_text (Read name) = name.now ++ codes ": read"
 failure_text (Row name row fault) = name.now ++ codes ": row " ++ decimal row ++ codes ": " ++ row_fault_text fault
+failure_text (Line name number fault) = name.now ++ codes ": line " ++ decimal number ++ codes ": " ++ line_fault_text fault
+failure_text (TooManyEvents name) = name.now ++ codes ": too many"
+failure_text (NotText name) = name.now ++ codes ": text"
 failure_text Memory = codes "memory"
 failure_text Writer = codes "write"
 

@@ -21,6 +21,12 @@ pub enum Failure<'a> {
     Read(&'a str),
     /// A row of the file of this name, counted from 1, is refused.
     Row(&'a str, usize, RowFault),
+    /// A line of the script of this name, counted from 1, is refused.
+    Line(&'a str, usize, LineFault),
+    /// The script of this name has too many events.
+    TooManyEvents(&'a str),
+    /// The script of this name isn't UTF-8.
+    NotText(&'a str),
     /// Memory was refused.
     Memory,
     /// A writer failed.
@@ -52,7 +58,9 @@ impl Failure<'_> {
         ensures { result ≡ status_of self.entry }
     {
         match self {
-            Failure::Hex | Failure::Word | Failure::Arguments | Failure::Row(..) => 1,
+            Failure::Hex | Failure::Word | Failure::Arguments => 1,
+            Failure::Row(..) | Failure::Line(..) => 1,
+            Failure::TooManyEvents(_) | Failure::NotText(_) => 1,
             Failure::Text => 2,
             Failure::Open(_) | Failure::Read(_) | Failure::Memory | Failure::Writer => 3,
         }
@@ -74,6 +82,9 @@ impl fmt::Display for Failure<'_> {
             Failure::Open(name) => write!(f, "{name}: cannot open"),
             Failure::Read(name) => write!(f, "{name}: read"),
             Failure::Row(name, row, fault) => write!(f, "{name}: row {row}: {fault}"),
+            Failure::Line(name, line, fault) => write!(f, "{name}: line {line}: {fault}"),
+            Failure::TooManyEvents(name) => write!(f, "{name}: too many"),
+            Failure::NotText(name) => write!(f, "{name}: text"),
             Failure::Memory => write!(f, "memory"),
             Failure::Writer => write!(f, "write"),
         }
@@ -119,6 +130,32 @@ impl fmt::Display for RowFault {
             RowFault::Time => write!(f, "time"),
             RowFault::Twice => write!(f, "twice"),
             RowFault::TooMany => write!(f, "too many"),
+        }
+    }
+}
+
+/// Why a line of a script is refused.
+#[derive(Clone, Copy, Debug, PartialEq, Eq)]
+pub enum LineFault {
+    /// No event has its words.
+    Word,
+    /// Its number isn't one that it can have.
+    Number,
+    /// Its bytes aren't such as it can have.
+    Hex,
+}
+
+impl fmt::Display for LineFault {
+    ghost use Rattle.std.specs.Prelude.{Some};
+    ghost use Rattle.vdcp_text.specs.Failure.{line_fault_text};
+
+    ghost output = { λ fault. Some (line_fault_text fault) };
+
+    fn fmt<W: fmt::Write>(&self, f: &mut fmt::Formatter<W>) -> fmt::Result {
+        match self {
+            LineFault::Word => write!(f, "word"),
+            LineFault::Number => write!(f, "number"),
+            LineFault::Hex => write!(f, "hex"),
         }
     }
 }

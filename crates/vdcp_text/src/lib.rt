@@ -13,7 +13,7 @@ mod make;
 mod show;
 mod text;
 
-pub use failure::{Failure, RowFault};
+pub use failure::{Failure, LineFault, RowFault};
 pub use make::do_make;
 pub use show::do_show;
 pub use text::{ByteText, DataText, End, HexText, MeaningText, MessageText};

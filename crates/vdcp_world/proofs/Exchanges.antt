@@ -1,5 +1,5 @@
 -- A tick and the end of an exchange, in the phase table.
-use Rattle.std.proofs.Common.{◌≡◌, ℕ, ◌+◌, ◌<◌, ◌≤◌, ◌⊎◌, inl, inr, Bool, true, false, ◌||◌, ◌&&◌, not, List, length, take, Option, Some, None, refl, ap, sym, subst, arith, ◌∙◌, length-take}
+use Rattle.std.proofs.Common.{◌≡◌, ℕ, ◌≤◌, ◌⊎◌, inl, inr, Bool, true, false, ◌||◌, ◌&&◌, not, List, length, take, Option, Some, None, refl, ap, sym, subst, arith, ◌∙◌, length-take}
 use Rattle.std.specs.Option.{option_map}
 use Rattle.std.specs.Prelude.{slice_get, if◌then◌else◌}
 use Rattle.vdcp_value.specs.declared.clip_id.ClipId.{ClipId}
@@ -9,23 +9,21 @@ use Rattle.vdcp_value.specs.declared.timecode.Timecode.{Timecode}
 use Rattle.vdcp_words.specs.declared.command.Command.{Command}
 use Rattle.vdcp_words.specs.declared.command.Command.TheVariants as command
 use Rattle.vdcp_words.specs.declared.reply.Reply.{Reply}
-use Rattle.vdcp_words.specs.declared.reply.Reply.TheVariants as reply
-use Rattle.vdcp_port.specs.Port.{PortState, Cued, empty, cueing, done}
+use Rattle.vdcp_port.specs.Port.{PortState, Cued}
 use Rattle.vdcp_auto.specs.Commands.{cue_for, cue_of, is_presence, is_sense, fits}
 use Rattle.vdcp_auto.specs.Log.{answer_to}
-use Rattle.vdcp_auto.specs.Replies.{is_ack, is_done, is_empty, is_receipt, is_refusal}
-use Rattle.vdcp_auto.specs.Table.{command_in, next, on_reply, on_refusal}
+use Rattle.vdcp_auto.specs.Replies.{is_ack, is_empty, is_receipt, is_refusal}
+use Rattle.vdcp_auto.specs.Table.{command_in, on_reply, on_refusal}
 use Rattle.vdcp_auto.specs.Turn.{is_end, on_answer, on_unanswered, stage_after, settled_after, phase_to_send}
 use Rattle.vdcp_auto.specs.declared.phase.Mode.{Mode}
 use Rattle.vdcp_auto.specs.declared.phase.Mode.TheVariants.{Plain, Confirming}
-use Rattle.vdcp_auto.specs.declared.phase.Stage.{Stage}
-use Rattle.vdcp_auto.specs.declared.phase.Stage.TheVariants.{Ready, Awaiting, Ended}
+use Rattle.vdcp_auto.specs.declared.phase.Stage.TheVariants.{Awaiting}
 use Rattle.vdcp_auto.specs.declared.phase.Phase.{Phase}
 use Rattle.vdcp_auto.specs.declared.phase.Turn.{Turn}
 use Rattle.vdcp_auto.specs.declared.exchange.Heard.{Heard}
 use Rattle.vdcp_auto.specs.declared.exchange.Heard.TheVariants as heard
 use Rattle.vdcp_auto.specs.declared.phase.Phase.TheVariants as phase
-use Rattle.vdcp_world.proofs.PhaseTable.{Aired, Idle, Coming, Standing, Near, Place, PlaceReady, PlaceEnded, PlaceAt, Tells, Firm, FirmAt, FirmEnded, FirmIn, FirmTells, TellsIn, Told, is_asked, knows, refuses}
+use Rattle.vdcp_world.proofs.PhaseTable.{Near, Place, PlaceReady, PlaceAt, Tells, Firm, FirmAt, FirmIn, FirmTells, TellsIn, Told, is_asked}
 
 pub taken : (list : List Item) (k : ℕ) → k ≤ length list → length (take k list) ≡ k
 taken list k l = simp length-take (omega arith)

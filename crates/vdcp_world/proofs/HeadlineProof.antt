@@ -1,5 +1,5 @@
 -- The headline of every channel that events have led to.
-use Rattle.std.proofs.Common.{ℕ, ◌+◌, ◌≡◌, ◌<◌, ◌≤◌, Bool, true, false, not, ◌&&◌, List, [], ◌∷◌, ◌++◌, All, length, take, drop, refl, arith, sym, ap, subst, ◌∙◌, inl, take-append-drop}
+use Rattle.std.proofs.Common.{ℕ, ◌≡◌, ◌<◌, ◌≤◌, Bool, true, false, not, ◌&&◌, List, [], ◌∷◌, ◌++◌, All, length, take, drop, refl, arith, sym, ap, subst, ◌∙◌, inl, take-append-drop}
 use Rattle.std.proofs.Math.Seq.{take-length}
 use Rattle.std.specs.Prelude.{Option, None, Some, IsTrue, IsSome, IfSome, IsSomeAnd, slice_get, is_some}
 use Rattle.vdcp_value.specs.Parts.{IsItem}
@@ -11,7 +11,7 @@ use Rattle.vdcp_port.specs.Clips.{length_of, is_known, is_playable, can_cue}
 use Rattle.vdcp_port.specs.Port.{PortState, Cued}
 use Rattle.vdcp_auto.specs.Course as call
 use Rattle.vdcp_auto.specs.Course.{Reached, begun, called, Receive, logged}
-use Rattle.vdcp_auto.specs.Endings.{IsLost, IsRefused}
+use Rattle.vdcp_auto.specs.Endings.{IsRefused}
 use Rattle.vdcp_auto.specs.Law.{IsLawful}
 use Rattle.vdcp_auto.specs.Plan.{Plan}
 use Rattle.vdcp_auto.specs.Settled.{settled}
@@ -37,7 +37,7 @@ use Rattle.vdcp_world.specs.declared.event.Event.TheVariants as event
 use Rattle.vdcp_world.proofs.Below.{Below}
 use Rattle.vdcp_world.proofs.Exchanges.{near, taken, sent_place}
 use Rattle.vdcp_world.proofs.Kept.{IsKept, kept_event}
-use Rattle.vdcp_world.proofs.PhaseTable.{Aired, Near, Place, PlaceAt, PlaceEnded, FirmEnded, FirmIn, knows, refuses}
+use Rattle.vdcp_world.proofs.PhaseTable.{Aired, Near, PlaceAt, PlaceEnded, FirmIn, knows, refuses}
 use Rattle.vdcp_world.proofs.TableKept.{Stands, no_item}
 
 -- ---- channels that events have led to

@@ -1,5 +1,5 @@
 -- What every event keeps of a channel.
-use Rattle.std.proofs.Common.{ℕ, ◌<◌, ◌≤◌, ◌≡◌, ◌≢◌, ◌⊎◌, inl, inr, Bool, true, false, ◌&&◌, ◌||◌, ◌==◌, List, [], ◌∷◌, ◌++◌, All, length, take, refl, arith, sym, ap, ◌∙◌, subst, if◌then◌else◌}
+use Rattle.std.proofs.Common.{ℕ, ◌<◌, ◌≡◌, ◌≢◌, ◌⊎◌, inl, inr, Bool, true, false, ◌&&◌, ◌||◌, List, [], ◌∷◌, ◌++◌, All, refl, arith, sym, subst, if◌then◌else◌}
 use Rattle.std.specs.Option.{option_to_list}
 use Rattle.std.specs.Prelude.{Option, None, Some, IfSome}
 use Rattle.vdcp_value.specs.Parts.{IsItem}
@@ -8,25 +8,23 @@ use Rattle.vdcp_value.specs.declared.timecode.Timecode.{Timecode}
 use Rattle.vdcp_value.specs.declared.part.Item.{Item}
 use Rattle.vdcp_frame.specs.Burst.{messages_of}
 use Rattle.vdcp_frame.specs.Message.{Content}
-use Rattle.vdcp_words.specs.Commands.{command_message, IsWritableCommand}
+use Rattle.vdcp_words.specs.Commands.{IsWritableCommand}
 use Rattle.vdcp_words.specs.declared.command.Command.{Command}
-use Rattle.vdcp_words.specs.declared.reply.Reply.{Reply}
 use Rattle.vdcp_words.specs.declared.reply.Reply.TheVariants as reply
 use Rattle.vdcp_port.specs.Answers.{sent_for, aired_for, after_burst}
 use Rattle.vdcp_port.specs.Clock.{ClockedPort, after_change, after_ready, after_ended, after_frame, counted_down, completes_cue, ends_clip}
 use Rattle.vdcp_port.specs.Row.{Change, keeps, opens, closes, selects, cues, airs, stops, command_row, on_air}
 use Rattle.vdcp_auto.specs.Plan.{Plan}
-use Rattle.vdcp_auto.specs.Replies.{is_receipt, is_refusal}
-use Rattle.vdcp_auto.specs.Turn.{awaited, awaited_in, given, ticked, came_to, taken, stopped}
+use Rattle.vdcp_auto.specs.Replies.{is_refusal}
+use Rattle.vdcp_auto.specs.Turn.{awaited, given, ticked, taken, stopped}
 use Rattle.vdcp_auto.specs.declared.exchange.Exchange.{Exchange}
 use Rattle.vdcp_auto.specs.declared.exchange.Heard.{Heard}
 use Rattle.vdcp_auto.specs.declared.exchange.Heard.TheVariants as heard
 use Rattle.vdcp_auto.specs.declared.phase.Mode.{Mode}
 use Rattle.vdcp_auto.specs.declared.phase.Mode.TheVariants.{Plain, Confirming}
-use Rattle.vdcp_auto.specs.declared.phase.Stage.{Stage}
 use Rattle.vdcp_auto.specs.declared.phase.State.{State}
 use Rattle.vdcp_world.specs.Beginnings.{is_beginning}
-use Rattle.vdcp_world.specs.Channel.{Channel, after_event, down_behind, up_behind, answered, state_hearing, state_waiting, state_straying, is_short, can_become, can_become_up, altered}
+use Rattle.vdcp_world.specs.Channel.{Channel, after_event, up_behind, answered, state_hearing, state_waiting, is_short, can_become, can_become_up, altered}
 use Rattle.vdcp_auto.specs.Heard.{heard_in, heard_first, hears_receipt}
 use Rattle.vdcp_world.specs.declared.event.Event.{Event}
 use Rattle.vdcp_world.specs.declared.event.Event.TheVariants as event

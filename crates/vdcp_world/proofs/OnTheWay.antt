@@ -3,7 +3,6 @@ use Rattle.std.proofs.Common.{ℕ, ◌≡◌, ◌⊎◌, ◌≢◌, true, List, 
 use Rattle.std.specs.Prelude.{Option, None, Some}
 use Rattle.std.specs.Option.{option_to_list}
 use Rattle.vdcp_frame.specs.Burst.{messages_of}
-use Rattle.vdcp_frame.specs.Message.{Content}
 use Rattle.vdcp_words.specs.Commands.{command_message}
 use Rattle.vdcp_words.specs.declared.command.Command.{Command}
 use Rattle.vdcp_words.specs.declared.reply.Reply.{Reply}
@@ -15,7 +14,7 @@ use Rattle.vdcp_auto.specs.declared.exchange.Heard.{Heard}
 use Rattle.vdcp_auto.specs.declared.exchange.Heard.TheVariants as heard
 use Rattle.vdcp_port.specs.Answers.{sent_for, aired_for, after_burst}
 use Rattle.vdcp_port.specs.Clock.{ClockedPort, after_change}
-use Rattle.vdcp_port.specs.Row.{Row, command_row, on_air}
+use Rattle.vdcp_port.specs.Row.{command_row, on_air}
 use Rattle.vdcp_auto.specs.Heard.{heard_in}
 
 -- the port reads nothing in a burst: it stays as it is, and answers at most a NAK that is no refusal

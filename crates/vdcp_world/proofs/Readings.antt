@@ -1,9 +1,9 @@
 -- The port reads the command of a phase, in the phase table.
-use Rattle.std.proofs.Common.{◌≡◌, ℕ, ◌+◌, ◌-◌, ◌<◌, ◌≤◌, ◌⊎◌, inl, inr, Bool, true, false, nat_eq, ◌||◌, ◌&&◌, not, List, [], ◌∷◌, ◌++◌, length, take, get_or, Option, Some, None, refl, ap, sym, subst, arith, ◌∙◌, length-append}
+use Rattle.std.proofs.Common.{◌≡◌, ℕ, ◌+◌, ◌-◌, ◌<◌, ◌≤◌, ◌⊎◌, Bool, true, false, not, List, [], ◌∷◌, ◌++◌, length, take, Option, Some, None, refl, ap, sym, arith, ◌∙◌, length-append}
 use Rattle.std.proofs.lemmas.List.{take_more, append-nil}
 use Rattle.std.proofs.lemmas.Option.{get_or_from_slice_get}
-use Rattle.std.specs.Option.{option_to_list, option_map}
-use Rattle.std.specs.Prelude.{slice_get, if◌then◌else◌}
+use Rattle.std.specs.Option.{option_map}
+use Rattle.std.specs.Prelude.{slice_get}
 use Rattle.vdcp_value.specs.declared.clip_id.ClipId.{ClipId}
 use Rattle.vdcp_value.specs.declared.part.Item.{Item}
 use Rattle.vdcp_value.specs.declared.part.Part.{Part}
@@ -13,9 +13,8 @@ use Rattle.vdcp_words.specs.declared.command.Command.{Command}
 use Rattle.vdcp_words.specs.declared.command.Command.TheVariants as command
 use Rattle.vdcp_words.specs.declared.reply.Reply.{Reply}
 use Rattle.vdcp_words.specs.declared.reply.Reply.TheVariants as reply
-use Rattle.vdcp_port.specs.Clips.{is_known, is_playable}
-use Rattle.vdcp_port.specs.Port.{PortState, Cued, empty, cueing, done, is_selected, is_open, is_empty as is_empty_slot}
-use Rattle.vdcp_port.specs.Row.{Change, keeps, opens, closes, selects, cues, airs, stops, command_row, changed, on_air}
+use Rattle.vdcp_port.specs.Port.{PortState, Cued, empty, cueing, done, is_selected, is_empty as is_empty_slot}
+use Rattle.vdcp_port.specs.Row.{Change, keeps, opens, closes, selects, cues, airs, stops, command_row, changed}
 use Rattle.vdcp_auto.specs.Commands.{cue_for, cue_of}
 use Rattle.vdcp_auto.specs.Replies.{is_ack, is_done, is_empty, is_refusal}
 use Rattle.vdcp_auto.specs.Table.{command_in, names_other}
@@ -23,7 +22,7 @@ use Rattle.vdcp_auto.specs.declared.phase.Phase.{Phase}
 use Rattle.vdcp_auto.specs.declared.phase.Phase.TheVariants as phase
 use Rattle.vdcp_world.proofs.Beginnings.{own_list}
 use Rattle.vdcp_world.proofs.Exchanges.{taken}
-use Rattle.vdcp_world.proofs.PhaseTable.{Idle, Coming, Standing, Near, PlaysLast, Place, Tells, Firm, FirmTells, knows, refuses, port_after, aired_after, answer_after}
+use Rattle.vdcp_world.proofs.PhaseTable.{Idle, Coming, Standing, PlaysLast, Place, Tells, Firm, FirmTells, knows, refuses, port_after, aired_after, answer_after}
 
 none_more : (xs : List Item) → xs ++ [] ≡ xs
 none_more xs = append-nil xs

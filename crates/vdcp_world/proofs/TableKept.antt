@@ -1,27 +1,24 @@
 -- What each event keeps of the phase table, for the controller's state and the port.
-use Rattle.std.proofs.Common.{◌≡◌, ℕ, ◌+◌, ◌<◌, ◌≤◌, ◌⊎◌, inl, inr, Bool, true, false, ◌&&◌, List, [], ◌∷◌, ◌++◌, All, length, Option, Some, None, refl, sym, ap, subst, ◌∙◌, arith, append-nil}
+use Rattle.std.proofs.Common.{◌≡◌, ℕ, ◌<◌, ◌≤◌, ◌⊎◌, inl, inr, Bool, true, false, List, [], ◌++◌, length, Option, Some, None, refl, sym, ap, subst, ◌∙◌, arith, append-nil}
 use Rattle.std.proofs.lemmas.Option.{slice_get_cases}
 use Rattle.std.specs.Option.{option_to_list, option_map, option_map_or}
 use Rattle.std.specs.Prelude.{slice_get, get_or, if◌then◌else◌}
 use Rattle.vdcp_value.specs.declared.clip_id.ClipId.{ClipId}
 use Rattle.vdcp_value.specs.declared.part.Item.{Item}
 use Rattle.vdcp_value.specs.declared.timecode.Timecode.{Timecode}
-use Rattle.vdcp_frame.specs.Burst.{messages_of}
-use Rattle.vdcp_frame.specs.Message.{Content}
 use Rattle.vdcp_words.specs.declared.command.Command.{Command}
 use Rattle.vdcp_words.specs.declared.command.Command.TheVariants as command
 use Rattle.vdcp_words.specs.declared.reply.Reply.{Reply}
 use Rattle.vdcp_words.specs.declared.reply.Reply.TheVariants as reply
-use Rattle.vdcp_port.specs.Answers.{sent_for, aired_for, after_burst}
-use Rattle.vdcp_port.specs.Clock.{ClockedPort, after_change, after_ready, after_ended, after_frame, counted_down, completes_cue, ends_clip}
+use Rattle.vdcp_port.specs.Clock.{ClockedPort, after_ready, after_ended, after_frame, counted_down, completes_cue, ends_clip}
 use Rattle.vdcp_port.specs.Port.{PortState, Cued, ready_state, ended_state}
 use Rattle.vdcp_port.specs.Row.{command_row, changed, on_air}
 use Rattle.vdcp_auto.specs.Commands.{cue_of}
 use Rattle.vdcp_auto.specs.Log.{answer_to, is_counted}
 use Rattle.vdcp_auto.specs.Plan.{Plan}
-use Rattle.vdcp_auto.specs.Replies.{is_receipt, is_refusal}
+use Rattle.vdcp_auto.specs.Replies.{is_refusal}
 use Rattle.vdcp_auto.specs.Table.{command_in, names_other}
-use Rattle.vdcp_auto.specs.Turn.{awaited, awaited_in, given, given_in, ticked, tick_in, phase_to_send, came_to, exchange_of, ended_in, is_end, turn_on, turn_of, turned, stage_after, settled_after, unanswered_after}
+use Rattle.vdcp_auto.specs.Turn.{awaited_in, given, given_in, ticked, tick_in, phase_to_send, came_to, exchange_of, ended_in, is_end, turn_on, turn_of, turned, unanswered_after}
 use Rattle.vdcp_auto.specs.declared.exchange.Exchange.{Exchange}
 use Rattle.vdcp_auto.specs.declared.exchange.Heard.{Heard}
 use Rattle.vdcp_auto.specs.declared.exchange.Heard.TheVariants as heard
@@ -34,9 +31,8 @@ use Rattle.vdcp_auto.specs.declared.phase.Stage.TheVariants.{Ready, Awaiting, En
 use Rattle.vdcp_auto.specs.declared.phase.State.{State}
 use Rattle.vdcp_auto.specs.declared.phase.Turn.{Turn}
 use Rattle.vdcp_auto.specs.declared.phase.Turn.TheVariants.{Goes, Settles, Retries, Ends}
-use Rattle.vdcp_auto.specs.Heard.{heard_in, heard_first, hears_receipt}
-use Rattle.vdcp_world.proofs.OnTheWay.{ReadsNothing, ReadsCommand, IsQuiet}
-use Rattle.vdcp_world.proofs.PhaseTable.{PlaysLast, Place, PlaceReady, PlaceAt, Tells, Firm, FirmAt, FirmIn, FirmTells, TellsIn, Told, ToldAt, port_after, aired_after, answer_after}
+use Rattle.vdcp_world.proofs.OnTheWay.{IsQuiet}
+use Rattle.vdcp_world.proofs.PhaseTable.{PlaysLast, Place, PlaceAt, Tells, FirmIn, FirmTells, TellsIn, Told, ToldAt, port_after, aired_after, answer_after}
 use Rattle.vdcp_world.proofs.Exchanges.{Behind, turn_by, turn_place, tick_place, tick_firm}
 use Rattle.vdcp_world.proofs.Readings.{reads_place, reads_plays, reads_number, reads_firm, reads_tells, reads_firm_tells}
 use Rattle.vdcp_world.proofs.Slots.{ready_place_at, ready_firm_in, ready_told, ended_firm_in, ended_told}

@@ -1,19 +1,15 @@
 -- What events keep of what is on the way.
-use Rattle.std.proofs.Common.{ℕ, suc, ◌<◌, ◌≤◌, ◌≡◌, ◌≢◌, ◌⊎◌, inl, inr, Bool, true, false, not, ◌&&◌, ◌||◌, nat_eq, nat_le, List, [], ◌∷◌, ◌++◌, All, length, refl, arith, sym, ap, ap₂, ◌∙◌, subst, append-nil, if◌then◌else◌}
-use Rattle.std.specs.Prelude.{Option, None, Some, IfSome, is_some}
+use Rattle.std.proofs.Common.{ℕ, ◌<◌, ◌≡◌, ◌⊎◌, inl, inr, Bool, true, false, ◌&&◌, ◌||◌, List, [], ◌∷◌, ◌++◌, All, refl, arith, sym, ap, ◌∙◌, subst}
+use Rattle.std.specs.Prelude.{Option, None, Some, IfSome}
 use Rattle.vdcp_value.specs.Parts.{IsItem}
-use Rattle.vdcp_value.specs.declared.part.Item.{Item}
-use Rattle.vdcp_frame.specs.Burst.{messages_of, end_of}
-use Rattle.vdcp_frame.specs.Message.{Content, spelling}
+use Rattle.vdcp_frame.specs.Burst.{messages_of}
+use Rattle.vdcp_frame.specs.Message.{Content}
 use Rattle.vdcp_words.specs.Commands.{command_message, IsWritableCommand}
 use Rattle.vdcp_words.specs.declared.command.Command.{Command}
 use Rattle.vdcp_words.specs.declared.reply.Reply.{Reply}
-use Rattle.vdcp_words.specs.declared.reply.Reply.TheVariants as reply
-use Rattle.vdcp_auto.specs.Commands.{is_sense}
 use Rattle.vdcp_auto.specs.Plan.{Plan}
 use Rattle.vdcp_auto.specs.Replies.{is_receipt}
-use Rattle.vdcp_auto.specs.Turn.{awaited, awaited_in, given, given_in, ticked, tick_in, phase_to_send, came_to, ended_by, exchange_of, ended_in, is_end}
-use Rattle.vdcp_auto.specs.declared.exchange.Exchange.{Exchange}
+use Rattle.vdcp_auto.specs.Turn.{awaited, awaited_in, given, given_in, ticked, tick_in}
 use Rattle.vdcp_auto.specs.declared.exchange.Heard.{Heard}
 use Rattle.vdcp_auto.specs.declared.exchange.Heard.TheVariants as heard
 use Rattle.vdcp_auto.specs.declared.phase.Mode.{Mode}

@@ -1,10 +1,10 @@
 -- What the port reads of what is on the way down, and what is heard of its answer.
-use Rattle.std.proofs.Common.{ℕ, ◌<◌, ◌≤◌, ◌≡◌, ◌≢◌, ◌⊎◌, inl, inr, Bool, true, false, nat_eq, List, [], ◌∷◌, ◌++◌, All, length, refl, arith, sym, ap, ◌∙◌, subst, lit<, append-nil, if◌then◌else◌}
+use Rattle.std.proofs.Common.{ℕ, ◌<◌, ◌≡◌, ◌≢◌, ◌⊎◌, inl, inr, Bool, true, false, nat_eq, List, [], ◌∷◌, ◌++◌, refl, arith, ap, ◌∙◌, lit<, append-nil, if◌then◌else◌}
 use Rattle.std.proofs.lemmas.List.Elements.{All-cons, All-nil}
 use Rattle.std.specs.Option.{option_to_list}
-use Rattle.std.specs.Prelude.{Option, None, Some, Result, Ok, Err}
+use Rattle.std.specs.Prelude.{Option, None, Some, Result, Ok}
 use Rattle.vdcp_frame.specs.Burst.{messages_of, end_of}
-use Rattle.vdcp_frame.specs.Message.{Content, AreOctets, Fits, spelling}
+use Rattle.vdcp_frame.specs.Message.{AreOctets, spelling}
 use Rattle.vdcp_frame.specs.Reading.{End, clean, cut, fault}
 use Rattle.vdcp_words.specs.Commands.{command_message, IsWritableCommand}
 use Rattle.vdcp_words.specs.Replies.{reply_message, IsWritableReply}
@@ -12,11 +12,10 @@ use Rattle.vdcp_words.specs.declared.command.Command.{Command}
 use Rattle.vdcp_words.specs.declared.fault.WordFault.{WordFault}
 use Rattle.vdcp_words.specs.declared.reply.Reply.{Reply}
 use Rattle.vdcp_words.specs.declared.reply.Reply.TheVariants as reply
-use Rattle.vdcp_port.specs.Answers.{answer_bytes, reply_bytes, bytes_for, items_for, sent_for, aired_for, after_burst, end_answers}
-use Rattle.vdcp_port.specs.Clock.{ClockedPort, after_change, row_at}
-use Rattle.vdcp_port.specs.Row.{Row, command_row, on_air}
+use Rattle.vdcp_port.specs.Answers.{answer_bytes, reply_bytes, bytes_for, sent_for, end_answers}
+use Rattle.vdcp_port.specs.Clock.{ClockedPort, after_change}
+use Rattle.vdcp_port.specs.Row.{Row, on_air}
 use Rattle.vdcp_auto.specs.Heard.{heard_by, heard_as, heard_first, heard_in}
-use Rattle.vdcp_auto.specs.declared.exchange.Heard.{Heard}
 use Rattle.vdcp_auto.specs.declared.exchange.Heard.TheVariants as heard
 use Rattle.vdcp_world.proofs.Below.{Below}
 use Rattle.vdcp_world.proofs.OnTheWay.{ReadsNothing, ReadsCommand}

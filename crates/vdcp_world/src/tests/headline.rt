@@ -10,7 +10,7 @@ use std::alloc::{AllocError, Allocator, Global};
 use std::test::Fail;
 use vdcp_auto::Source;
 use vdcp_port::Catalogue;
-use vdcp_value::Item;
+use vdcp_value::{ClipId, Item};
 
 /// Lets events happen, as many as there is memory for: what went to air then, and how many events are
 /// reported.
@@ -32,9 +32,13 @@ fn billed<S: Source, C: Catalogue, A: Allocator + Copy>(
 fn an_answer_that_is_lost_leaves_the_last_event_out(rt: HostRuntime) -> Result<(), Fail> {
     let list = Clips::two(ONE, TWO);
     let mut world = World::new(rt.alloc(), list, Shelf::two_clips()?, 0, 0x01, 3);
+    let first = Item {
+        id: ClipId::new(ONE),
+        part: None,
+    };
     let events = read_script(rt.alloc(), "good 5\ntick\ndown\nlose-up\n")?;
     let (aired, reported) = billed(rt.alloc(), &mut world, events.as_slice())?;
-    assert_eq!(rt; aired.as_slice(), [list.at(0)].as_slice());
+    assert_eq!(rt; aired.as_slice(), [first].as_slice());
     assert_eq!(rt; reported, 0);
     Ok(())
 }

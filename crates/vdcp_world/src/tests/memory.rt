@@ -28,13 +28,13 @@ fn each_refused_growth_leaves_the_world_as_it_was(rt: HostRuntime) -> Result<(),
     let mut world = World::new(&heap, Clips::one(ONE), Shelf::two_clips()?, 0, 0x01, 3);
     let script = "good 5\ntick\ndown-copy\nalter-down ff\ndown\nup\ngood 4\n";
     let events = read_script(rt.alloc(), script)?;
-    let mut refused = 0;
+    let mut refused: u32 = 0;
     for event in &events {
         let blocks = fill(rt.alloc(), &heap)?;
         let (aired, reported) = (world.aired().len(), world.reported());
         let (exchanges, outcome) = (world.log().len(), world.outcome());
         if world.step(event).is_err() {
-            refused += 1;
+            refused = refused.saturating_add(1);
             assert_eq!(rt; world.aired().len(), aired);
             assert_eq!(rt; world.reported(), reported);
             assert_eq!(rt; world.log().len(), exchanges);

@@ -9,5 +9,6 @@ pub returns : goal.returns
 returns c =
     let (ms, reads, text) = c.in_ok-end.ensures in
     let bytes = All-from_get_or (λ byte. byte < 256) c.args.burst.now 0 (λ i _. omega (arith, c.type_inv.burst i)) in
-    let joined = joined_is c.args.burst.now ms (end_of c.in_ok-end.end) bytes reads in
+    let one = c.one_reading.ensures.computed c.args.burst.now ms (end_of c.in_ok-end.end) bytes reads in
+    let joined = joined_is c.args.burst.now ms (end_of c.in_ok-end.end) one in
     grind (arith, common_steps)

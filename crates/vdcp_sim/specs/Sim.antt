@@ -1,0 +1,136 @@
+-- What sim prints, and of which channel.
+use Rattle.hex.specs.Hex.{encode_lower}
+use Rattle.std.specs.Borrow.{Bor}
+use Rattle.std.specs.Io.KnownBytes.{Appends, Keeps}
+use Rattle.std.specs.Prelude.{ℕ, suc, ◌≡◌, ◌≤◌, ◌⊎◌, Bool, true, false, List, [], ◌∷◌, ◌++◌, codes, decimal, length, Option, None, Some, if◌then◌else◌}
+use Rattle.vdcp_value.specs.Bcd.{is_time}
+use Rattle.vdcp_value.specs.Ids.{text_of_id}
+use Rattle.vdcp_value.specs.declared.clip_id.ClipId.{ClipId}
+use Rattle.vdcp_value.specs.declared.part.Item.{Item}
+use Rattle.vdcp_value.specs.declared.part.Part.{Part}
+use Rattle.vdcp_value.specs.declared.rate.Rate.{Rate}
+use Rattle.vdcp_value.specs.declared.timecode.Timecode.{Timecode}
+use Rattle.vdcp_words.specs.Texts.{command_text, reply_text}
+use Rattle.vdcp_auto.specs.Turn.{outcome_of}
+use Rattle.vdcp_auto.specs.declared.exchange.Exchange.{Exchange}
+use Rattle.vdcp_auto.specs.declared.exchange.Heard.{Heard}
+use Rattle.vdcp_auto.specs.declared.exchange.Heard.TheVariants as heard
+use Rattle.vdcp_auto.specs.declared.outcome.Outcome.{Outcome}
+use Rattle.vdcp_auto.specs.declared.outcome.Outcome.TheVariants.{Done, Stopped, Lost, Denied, Missing, Refused, Foreign, Strange}
+use Rattle.vdcp_auto.specs.declared.phase.Mode.{Mode}
+use Rattle.vdcp_auto.specs.declared.phase.Mode.TheVariants.{Plain, Confirming}
+use Rattle.vdcp_list.specs.Playlists.{time_text}
+use Rattle.vdcp_text.specs.Failure.{failure_line, status_of}
+use Rattle.vdcp_text.specs.Text.{line}
+use Rattle.vdcp_text.specs.declared.failure.Failure.{Failure}
+use Rattle.vdcp_text.specs.declared.failure.Failure.TheVariants as failures
+use Rattle.vdcp_text.specs.declared.failure.LineFault.{LineFault}
+use Rattle.vdcp_files.specs.Check.{AreWhole, IsCatalogueOf, IsListOf}
+use Rattle.vdcp_files.specs.Files.{File}
+use Rattle.vdcp_world.specs.Channel.{Channel, new_channel, after_events}
+use Rattle.vdcp_world.specs.Headline.{Headline}
+use Rattle.vdcp_world.specs.declared.event.Event.{Event}
+use Rattle.vdcp_sim.specs.declared.sim.Settings.{Settings}
+
+-- ---- texts
+
+abbrev pub heard_text : Option Heard → List ℕ
+heard_text None = codes "silence"
+heard_text (Some heard.Other) = codes "other"
+heard_text (Some (heard.Reply reply)) = reply_text reply
+
+abbrev pub exchange_text : Exchange → List ℕ
+exchange_text e = command_text e.command ++ codes " -> " ++ heard_text e.heard
+
+abbrev pub outcome_text : Option Outcome → List ℕ
+outcome_text None = codes "open"
+outcome_text (Some Done) = codes "done"
+outcome_text (Some Stopped) = codes "stopped"
+outcome_text (Some Lost) = codes "lost"
+outcome_text (Some Denied) = codes "denied"
+outcome_text (Some (Missing k)) = codes "missing " ++ decimal k
+outcome_text (Some (Refused k)) = codes "refused " ++ decimal k
+outcome_text (Some (Foreign k)) = codes "foreign " ++ decimal k
+outcome_text (Some (Strange k)) = codes "strange " ++ decimal k
+
+-- the time code that four bytes write at a rate; their digits where they write none
+abbrev pub shown_time : Rate → List ℕ → List ℕ
+shown_time rate bytes = if is_time rate bytes then time_text rate bytes else encode_lower bytes
+
+abbrev pub part_text : Rate → Option Part → List ℕ
+part_text rate None = []
+part_text rate (Some part) = codes " " ++ shown_time rate part.start ++ codes " " ++ shown_time rate part.duration
+
+abbrev pub item_text : Rate → Item → List ℕ
+item_text rate item = text_of_id item.id ++ part_text rate item.part
+
+-- ---- lines
+
+-- a text for each thing, in order, with its number, counted from this one on
+abbrev pub numbered : {A : Type 0} → (ℕ → A → List ℕ) → ℕ → List A → List ℕ
+numbered text number [] = []
+numbered text number (x ∷ xs) = text number x ++ numbered text (suc number) xs
+
+abbrev pub exchange_line : ℕ → Exchange → List ℕ
+exchange_line number e = line (decimal number ++ codes " " ++ exchange_text e)
+
+-- where it is asked for, the lines of the exchanges, counted from 1
+abbrev pub trace_text : Bool → List Exchange → List ℕ
+trace_text true log = numbered exchange_line 1 log
+trace_text false log = []
+
+abbrev pub aired_line : Rate → ℕ → Item → List ℕ
+aired_line rate k item = line (codes "aired " ++ decimal k ++ codes " " ++ item_text rate item)
+
+-- the lines of the items that went to air, counted from 0
+abbrev pub aired_text : Rate → List Item → List ℕ
+aired_text rate aired = numbered (aired_line rate) 0 aired
+
+-- the lines of how many events are reported, how many exchanges ended, and how the controller ended
+abbrev pub end_text : ℕ → ℕ → Option Outcome → List ℕ
+end_text reported exchanges outcome =
+    line (codes "reported " ++ decimal reported) ++ line (codes "exchanges " ++ decimal exchanges) ++ line (codes "outcome " ++ outcome_text outcome)
+
+-- what is printed of a channel
+abbrev pub channel_text : Bool → Rate → Channel → List ℕ
+channel_text trace rate c = trace_text trace c.log ++ aired_text rate c.aired ++ end_text c.state.settled (length c.log) (outcome_of c.state.stage)
+
+-- ---- the channel
+
+abbrev pub mode_of : Bool → Mode
+mode_of true = Confirming
+mode_of false = Plain
+
+-- the new channel of a playlist and a catalogue
+abbrev pub channel_of : Settings → List Item → List (ClipId × Timecode) → Channel
+channel_of settings items clips =
+    new_channel (record { mode = mode_of settings.confirm; list = items; port = settings.port; limit = settings.limit }) clips settings.unit settings.cue_frames
+
+-- the files are a playlist and a catalogue, and a writer gained what is printed of the channel that some
+-- events led to from their new one; and this channel keeps the headline
+pub record IsSimulated (settings : Settings) (list catalogue : File) (old new : Option (List ℕ)) : Type 0 where
+  pub items : List Item
+  pub clips : List (ClipId × Timecode)
+  pub events : List Event
+  pub few : length events ≤ 100000
+  pub is_playlist : IsListOf settings.rate list items
+  pub is_catalogue : IsCatalogueOf settings.rate catalogue clips
+  pub gained : Appends old new (channel_text settings.trace settings.rate (after_events (channel_of settings items clips) events))
+  pub headline : Headline (after_events (channel_of settings items clips) events)
+
+-- ---- scripts that are refused
+
+-- the script of this name is refused so: a line of it, it as a whole, or it can't be read
+abbrev pub IsScriptFailure : Bor (List ℕ) → Failure → Type 0
+IsScriptFailure name failure =
+    ((number : ℕ) × (fault : LineFault) × (failure ≡ failures.Line name number fault))
+    ⊎ ((failure ≡ failures.TooManyEvents name) ⊎ ((failure ≡ failures.NotText name) ⊎ ((failure ≡ failures.Read name) ⊎ (failure ≡ failures.Memory))))
+
+-- the files are whole, and the script is refused: one writer gained the line that tells it, and the other nothing
+pub record IsScriptRefused (rate : Rate) (list catalogue : File) (name : Bor (List ℕ)) (out out' err err' : Option (List ℕ)) : Type 0 where
+  pub whole : AreWhole rate list catalogue
+  pub failure : Failure
+  pub refused : IsScriptFailure name failure
+  pub of_script : status_of failure ≡ 1
+  pub told : Appends err err' (failure_line failure)
+  pub silent : Keeps out out'

@@ -1,0 +1,62 @@
+ghost use Rattle.std.specs.Prelude.{◌≤◌, length, IfErr, IfOk};
+ghost use Rattle.vdcp_sim.specs.Sim.{IsScriptFailure};
+
+use std::alloc::Global;
+use std::{io, str};
+use vdcp_files::Input;
+use vdcp_text::{Failure, LineFault};
+use vdcp_world::{Event, ScriptFault, read_script};
+
+/// So many reads are made of a script, which is refused as one that can't be read where it goes on behind
+/// them. The limit is this profile's.
+const MOST_READS: u32 = 1_000_000;
+
+/// Reads a script.
+pub fn read_events<'a, R: io::Read + Drop>(
+    alloc: Global,
+    script: Input<'a, R>,
+) -> Result<Vec<Event>, Failure<'a>>
+    ensures few { IfOk result (λ events. length events.items ≤ 100000) }
+    ensures refused { IfErr result (IsScriptFailure script.entry.name) }
+{
+    let name = script.name;
+    let bytes = read_bytes(alloc, name, script.reader)?;
+    let Ok(text) = str::from_utf8(bytes.as_slice()) else {
+        return Err(Failure::NotText(name));
+    };
+    read_script(alloc, text).map_err(|fault| script_failure(name, fault))
+}
+
+// Reads the bytes of the script of this name.
+fn read_bytes<'a, R: io::Read + Drop>(
+    alloc: Global,
+    name: &'a str,
+    mut reader: R,
+) -> Result<Vec<u8>, Failure<'a>>
+    ensures { IfErr result (IsScriptFailure name.entry) }
+{
+    let mut bytes = Vec::new(alloc);
+    let mut piece = [0; 4096];
+    for _ in 0..MOST_READS {
+        match reader.read(&mut piece) {
+            Ok(0) => return Ok(bytes),
+            Ok(count) => bytes.extend_from_slice(&piece[..count])?,
+            Err(error) if error.kind() == io::ErrorKind::Interrupted => {}
+            Err(_) => return Err(Failure::Read(name)),
+        }
+    }
+    Err(Failure::Read(name))
+}
+
+// Why the script of this name isn't one.
+fn script_failure<'a>(name: &'a str, fault: ScriptFault) -> Failure<'a>
+    ensures { IsScriptFailure name.entry result }
+{
+    match fault {
+        ScriptFault::Word(line) => Failure::Line(name, line, LineFault::Word),
+        ScriptFault::Number(line) => Failure::Line(name, line, LineFault::Number),
+        ScriptFault::Hex(line) => Failure::Line(name, line, LineFault::Hex),
+        ScriptFault::TooMany => Failure::TooManyEvents(name),
+        ScriptFault::Memory => Failure::Memory,
+    }
+}

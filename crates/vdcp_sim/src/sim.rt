@@ -1,0 +1,219 @@
+ghost use Rattle.std.specs.Io.KnownBytes.{Appends, Keeps};
+ghost use Rattle.std.specs.Prelude.{◌≡◌, ◌≢◌, ◌⊎◌, ◌<◌, ◌≤◌, IfErr, OnOk, true};
+ghost use Rattle.vdcp_files.specs.Check.{AreWhole, IsRefused, Refuses};
+ghost use Rattle.vdcp_files.specs.Files.{file};
+ghost use Rattle.vdcp_sim.specs.Sim.{IsScriptFailure, IsScriptRefused, IsSimulated, aired_line, aired_text, channel_of, channel_text, end_text, exchange_line, trace_text};
+ghost use Rattle.vdcp_text.specs.Failure.{status_of};
+
+use crate::script::read_events;
+use crate::text::{ExchangeText, ItemText, OutcomeText};
+use std::alloc::{Allocator, Global};
+use std::io;
+use vdcp_auto::{Exchange, Outcome, Source};
+use vdcp_files::{Input, file_failure};
+use vdcp_list::{read_catalogue, read_list};
+use vdcp_port::Catalogue;
+use vdcp_text::Failure;
+use vdcp_value::{Item, Rate};
+use vdcp_world::World;
+
+/// What a channel is made with, and what is printed of it.
+#[derive(Clone, Copy, Debug, PartialEq, Eq)]
+pub struct Settings {
+    /// The unit address of both ends, 0 to 15.
+    pub unit: u8,
+    /// The port's number.
+    pub port: u8,
+    /// The controller gives up after so many unanswered exchanges in a row, 1 to 1,000.
+    pub limit: u32,
+    /// A cue takes so many frames, 1 to 1,000.
+    pub cue_frames: u32,
+    /// The controller is in confirm mode, and receipts may come from nowhere.
+    pub confirm: bool,
+    /// The frame rate of time codes.
+    pub rate: Rate,
+    /// Each exchange is printed too.
+    pub trace: bool,
+}
+
+/// Runs a script of events in a new world, in which the controller plays the list through a port that has
+/// the clips of the catalogue. `out` gets, with `trace`, a line for each exchange that ended, then one for
+/// each item that went to air, and then how many events are reported, how many exchanges ended, and how the
+/// controller ended.
+///
+/// The status is 0 whatever came of the events. It is 1 where a row or a line is refused, and 3 where a
+/// file can't be read or memory was refused: `err` is told of these, and `out` gets nothing. The list is
+/// read first, and then the catalogue. The status is 3 where a writer failed, to which nothing more is
+/// written; `out` is flushed behind the last line.
+pub fn do_sim<
+    L: io::Read + Drop,
+    C: io::Read + Drop,
+    R: io::Read + Drop,
+    W: io::Write,
+    E: io::Write,
+>(
+    alloc: Global,
+    list: Input<'_, L>,
+    catalogue: Input<'_, C>,
+    script: Input<'_, R>,
+    settings: Settings,
+    out: &mut W,
+    err: &mut E,
+) -> u8
+    requires unit { settings.unit ≤ 15 }
+    requires some { 1 ≤ settings.limit }
+    requires few { settings.limit ≤ 1000 }
+    requires some_frames { 1 ≤ settings.cue_frames }
+    requires few_frames { settings.cue_frames ≤ 1000 }
+    ensures simulated { result ≡ 0 → IsSimulated settings (file list.entry.name (L.remaining list.entry.reader)) (file catalogue.entry.name (C.remaining catalogue.entry.reader))
+        (W.contents out.old) (W.contents out.new) }
+    ensures untold { result ≡ 0 → Keeps (E.contents err.old) (E.contents err.new) }
+    // The status is 1 for a row that is refused, and for a line or the whole of the script.
+    ensures others { result ≡ 1 →
+        IsRefused settings.rate (file list.entry.name (L.remaining list.entry.reader)) (file catalogue.entry.name (C.remaining catalogue.entry.reader))
+        (W.contents out.old) (W.contents out.new) (E.contents err.old) (E.contents err.new)
+        ⊎ IsScriptRefused settings.rate (file list.entry.name (L.remaining list.entry.reader)) (file catalogue.entry.name (C.remaining catalogue.entry.reader))
+        script.entry.name (W.contents out.old) (W.contents out.new) (E.contents err.old) (E.contents err.new) }
+    ensures silent { Keeps (W.contents out.old) (W.contents out.new)
+        ⊎ AreWhole settings.rate (file list.entry.name (L.remaining list.entry.reader)) (file catalogue.entry.name (C.remaining catalogue.entry.reader)) }
+    ensures statuses { (result < 2) ⊎ (result ≡ 3) }
+{
+    match simulate(alloc, list, catalogue, script, settings, out) {
+        Ok(()) => 0,
+        Err(failure) => failure.report(err),
+    }
+}
+
+// Reads the files, runs the script, and writes what came of it.
+fn simulate<'a, L: io::Read + Drop, C: io::Read + Drop, R: io::Read + Drop, W: io::Write>(
+    alloc: Global,
+    list: Input<'a, L>,
+    catalogue: Input<'a, C>,
+    script: Input<'a, R>,
+    settings: Settings,
+    out: &mut W,
+) -> Result<(), Failure<'a>>
+    requires unit { settings.unit ≤ 15 }
+    requires some { 1 ≤ settings.limit }
+    requires few { settings.limit ≤ 1000 }
+    requires some_frames { 1 ≤ settings.cue_frames }
+    requires few_frames { settings.cue_frames ≤ 1000 }
+    ensures simulated { OnOk result (IsSimulated settings (file list.entry.name (L.remaining list.entry.reader)) (file catalogue.entry.name (C.remaining catalogue.entry.reader))
+        (W.contents out.old) (W.contents out.new)) }
+    ensures refused { IfErr result (λ e. (e ≡ Failure.Writer)
+        ⊎ ((Refuses settings.rate (file list.entry.name (L.remaining list.entry.reader)) (file catalogue.entry.name (C.remaining catalogue.entry.reader)) e × Keeps (W.contents out.old) (W.contents out.new))
+        ⊎ ((AreWhole settings.rate (file list.entry.name (L.remaining list.entry.reader)) (file catalogue.entry.name (C.remaining catalogue.entry.reader)) × IsScriptFailure script.entry.name e) × Keeps (W.contents out.old) (W.contents out.new)))) }
+    ensures silent { Keeps (W.contents out.old) (W.contents out.new)
+        ⊎ AreWhole settings.rate (file list.entry.name (L.remaining list.entry.reader)) (file catalogue.entry.name (C.remaining catalogue.entry.reader)) }
+    ensures statuses { IfErr result (λ e. status_of e ≢ 2) }
+{
+    let events = match read_list(alloc, list.reader, settings.rate) {
+        Ok(events) => events,
+        Err(fault) => return Err(file_failure(list.name, fault)),
+    };
+    let clips = match read_catalogue(alloc, catalogue.reader, settings.rate) {
+        Ok(clips) => clips,
+        Err(fault) => return Err(file_failure(catalogue.name, fault)),
+    };
+    let script = read_events(alloc, script)?;
+    let mut world = new_world(alloc, events, clips, settings);
+    world.run(script.as_slice())?;
+    write_world(&world, settings, out).map_err(|_| Failure::Writer)
+}
+
+// The new world of a playlist and a catalogue.
+fn new_world<S: Source, C: Catalogue>(
+    alloc: Global,
+    source: S,
+    catalogue: C,
+    settings: Settings,
+) -> World<S, C, Global>
+    requires unit { settings.unit ≤ 15 }
+    requires some { 1 ≤ settings.limit }
+    requires few { settings.limit ≤ 1000 }
+    requires some_frames { 1 ≤ settings.cue_frames }
+    requires few_frames { settings.cue_frames ≤ 1000 }
+    ensures { result ≡ channel_of settings (S.items source) (C.clips catalogue) }
+{
+    let Settings {
+        unit,
+        port,
+        limit,
+        cue_frames,
+        ..
+    } = settings;
+    if settings.confirm {
+        World::confirming(alloc, source, catalogue, unit, port, limit, cue_frames)
+    } else {
+        World::with_clock(alloc, source, catalogue, unit, port, limit, cue_frames)
+    }
+}
+
+// Writes what came of a world.
+fn write_world<S: Source, C: Catalogue, A: Allocator + Copy, W: io::Write>(
+    world: &World<S, C, A>,
+    settings: Settings,
+    out: &mut W,
+) -> io::Result<()>
+    ensures { OnOk result (Appends (W.contents out.old) (W.contents out.new) (channel_text settings.trace settings.rate world.now)) }
+{
+    let log = world.log();
+    if settings.trace {
+        write_log(log, out)?;
+    }
+    write_aired(world.aired(), settings.rate, out)?;
+    write_end(world.reported(), log.len(), world.outcome(), out)?;
+    out.flush()
+}
+
+// Writes a line for each exchange.
+fn write_log<W: io::Write>(log: &[Exchange], out: &mut W) -> io::Result<()>
+    ensures { OnOk result (Appends (W.contents out.old) (W.contents out.new) (trace_text true log.now)) }
+{
+    for k in 0..log.len() {
+        write_exchange(k + 1, log[k], out)?;
+    }
+    Ok(())
+}
+
+fn write_exchange<W: io::Write>(number: usize, exchange: Exchange, out: &mut W) -> io::Result<()>
+    ensures { OnOk result (Appends (W.contents out.old) (W.contents out.new) (exchange_line number exchange)) }
+{
+    let exchange = ExchangeText(exchange);
+    writeln!(out, "{number} {exchange}")
+}
+
+// Writes a line for each item that went to air.
+fn write_aired<W: io::Write>(aired: &[Item], rate: Rate, out: &mut W) -> io::Result<()>
+    ensures { OnOk result (Appends (W.contents out.old) (W.contents out.new) (aired_text rate aired.now)) }
+{
+    for k in 0..aired.len() {
+        write_item(k, aired[k], rate, out)?;
+    }
+    Ok(())
+}
+
+fn write_item<W: io::Write>(k: usize, item: Item, rate: Rate, out: &mut W) -> io::Result<()>
+    ensures { OnOk result (Appends (W.contents out.old) (W.contents out.new) (aired_line rate k item)) }
+{
+    let item = ItemText { rate, item };
+    writeln!(out, "aired {k} {item}")
+}
+
+// Writes the counts, and how the controller ended.
+fn write_end<W: io::Write>(
+    reported: usize,
+    exchanges: usize,
+    outcome: Option<Outcome>,
+    out: &mut W,
+) -> io::Result<()>
+    ensures { OnOk result (Appends (W.contents out.old) (W.contents out.new) (end_text reported exchanges outcome)) }
+{
+    let outcome = OutcomeText(outcome);
+    writeln!(out, "reported {reported}")?;
+    writeln!(out, "exchanges {exchanges}")?;
+    writeln!(out, "outcome {outcome}")
+}
+
+#[cfg(test)]
+mod tests;
