@@ -6,6 +6,8 @@
 //! and gives the exit status.
 #![tactic(auto)]
 
+#[cfg(test)]
+mod failing;
 mod script;
 mod sim;
 mod text;

@@ -1,9 +1,12 @@
 use super::{Settings, do_sim};
+use crate::failing::{Failing, FailingReader};
 use std::alloc::Global;
+use std::process::Abort;
+use std::test::Fail;
 use vdcp_files::Input;
 use vdcp_value::Rate;
 
-const CLIPS: &[u8] = b"CLIP0001,00:00:10:00\nCLIP0002,00:00:05:00\n";
+const CLIPS: &[u8] = b"CLIP0001,00:00:10:00\nCLIP0002,00:00:10:00\n";
 
 const PLAIN: Settings = Settings {
     unit: 0,
@@ -13,6 +16,16 @@ const PLAIN: Settings = Settings {
     confirm: false,
     rate: Rate::F25,
     trace: false,
+};
+
+const TRACED: Settings = Settings {
+    trace: true,
+    ..PLAIN
+};
+
+const CONFIRMING: Settings = Settings {
+    confirm: true,
+    ..PLAIN
 };
 
 fn file<R>(name: &str, reader: R) -> Input<'_, R> {
@@ -30,13 +43,252 @@ fn ran(alloc: Global, list: &[u8], script: &[u8], settings: Settings) -> (Vec<u8
     (out, err, status)
 }
 
+fn expect_text(
+    rt: &(impl Abort + AllocGlobal),
+    list: &[u8],
+    script: &[u8],
+    settings: Settings,
+    text: &str,
+) {
+    let (out, err, status) = ran(rt.alloc(), list, script, settings);
+    assert_eq!(rt; out.as_slice(), text.as_bytes());
+    assert_eq!(rt; status, 0, "{text}");
+    assert!(rt; err.is_empty(), "{text}");
+}
+
 #[test]
-fn first(rt: HostRuntime) {
-    let (out, err, status) = ran(rt.alloc(), b"CLIP0001\n", b"good 9\n", PLAIN);
-    assert_eq!(rt;
-        out.as_slice(),
-        b"aired 0 CLIP0001\nreported 1\nexchanges 9\noutcome done\n".as_slice()
+fn what_came_of_a_script_is_printed(rt: HostRuntime) {
+    let rows: [(&[u8], &[u8], &str); 7] = [
+        (
+            b"CLIP0001\nCLIP0002\n",
+            b"good 14\n",
+            "aired 0 CLIP0001\naired 1 CLIP0002\nreported 2\nexchanges 14\noutcome done\n",
+        ),
+        (
+            b"CLIP0001,00:00:02:00,00:00:03:00\nCLIP0002,,\n",
+            b"good 14\n",
+            "aired 0 CLIP0001 00:00:02:00 00:00:03:00\naired 1 CLIP0002\nreported 2\nexchanges 14\noutcome done\n",
+        ),
+        (
+            b"CLIP0001,00:00:08:00,00:00:03:00\n",
+            b"good 20",
+            "reported 0\nexchanges 4\noutcome refused 0\n",
+        ),
+        (
+            b"CLIP0001\nCLIP0009\n",
+            b"good 20\r\n",
+            "aired 0 CLIP0001\nreported 1\nexchanges 8\noutcome missing 1\n",
+        ),
+        (
+            b"CLIP0001\n",
+            b"tick\nlose-down\ntimeout\ntick\nlose-down\ntimeout\ntick\nlose-down\ntimeout\n",
+            "reported 0\nexchanges 3\noutcome lost\n",
+        ),
+        (
+            b"CLIP0001\n",
+            b"good 5\ntick\ndown\nlose-up\nstop\ntimeout\ngood 2\n",
+            "aired 0 CLIP0001\nreported 0\nexchanges 8\noutcome stopped\n",
+        ),
+        (
+            b"CLIP0001\n",
+            b"",
+            "reported 0\nexchanges 0\noutcome open\n",
+        ),
+    ];
+    for (list, script, text) in rows {
+        expect_text(&rt, list, script, PLAIN, text);
+    }
+}
+
+#[test]
+fn exchanges_are_traced(rt: HostRuntime) {
+    expect_text(
+        &rt,
+        b"",
+        b"good 4\n",
+        TRACED,
+        "1 open 01 01 -> granted\n2 select 01 -> ack\n3 status 01 -> state 01\n4 close 01 -> ack\n\
+         reported 0\nexchanges 4\noutcome done\n",
     );
-    assert_eq!(rt; status, 0);
-    assert!(rt; err.is_empty());
+    let (out, _, _) = ran(
+        rt.alloc(),
+        b"CLIP0001\n",
+        b"good 5\ntick\ndown-copy\nalter-down ff\ndown\nup\ngood 4\n",
+        TRACED,
+    );
+    let six_and_seven = b"\n6 play -> nak 04\n7 status 01 -> state 01\n8 ".as_slice();
+    assert!(rt;
+        out.as_slice()
+            .windows(six_and_seven.len())
+            .any(|text| text == six_and_seven)
+    );
+}
+
+#[test]
+fn a_cue_takes_its_frames(rt: HostRuntime) {
+    let settings = Settings {
+        cue_frames: 3,
+        ..TRACED
+    };
+    let script = b"round 4\nframe 2\nround\nframe\nround 3\nframe 249\nround\nframe\nround 2\n";
+    let (out, _, _) = ran(rt.alloc(), b"CLIP0001\n", script, settings);
+    let text = "1 open 01 01 -> granted\n2 select 01 -> ack\n3 exists CLIP0001 -> present\n\
+        4 cue CLIP0001 -> ack\n5 status 01 -> state 02\n6 status 01 -> state 80\n7 play -> ack\n\
+        8 active -> active CLIP0001\n9 status 01 -> state 04\n10 status 01 -> state 01\n\
+        11 close 01 -> ack\naired 0 CLIP0001\nreported 1\nexchanges 11\noutcome done\n";
+    assert_eq!(rt; out.as_slice(), text.as_bytes());
+}
+
+#[test]
+fn a_controller_confirms(rt: HostRuntime) {
+    let rows: [(&[u8], &[u8], &str); 5] = [
+        (
+            b"CLIP0001\n",
+            b"good 12\n",
+            "aired 0 CLIP0001\nreported 1\nexchanges 11\noutcome done\n",
+        ),
+        (
+            b"CLIP0001\n",
+            b"tick\nstray-nak 01\nalter-up 04\nup\n",
+            "reported 0\nexchanges 0\noutcome open\n",
+        ),
+        (
+            b"CLIP0001\n",
+            b"good 4\ntick\nlose-down\ntimeout\ngood\ntick\nlose-down\ntimeout\ngood\ntick\nlose-down\ntimeout\ngood\n",
+            "reported 0\nexchanges 10\noutcome refused 0\n",
+        ),
+        (
+            b"CLIP0001\n",
+            b"good 4\ntick\nlose-down\ntimeout\ngood\ntick\nlose-down\ntimeout\ngood\n",
+            "reported 0\nexchanges 8\noutcome open\n",
+        ),
+        (
+            b"CLIP0001,00:00:08:00,00:00:03:00\n",
+            b"good 20\n",
+            "reported 0\nexchanges 10\noutcome refused 0\n",
+        ),
+    ];
+    for (list, script, text) in rows {
+        expect_text(&rt, list, script, CONFIRMING, text);
+    }
+}
+
+#[test]
+fn a_lost_play_is_asked_after(rt: HostRuntime) {
+    let settings = Settings {
+        trace: true,
+        ..CONFIRMING
+    };
+    let script = b"good 6\ntick\nstray-ack\nlose-down\ntimeout\ngood 7\n";
+    let (out, _, _) = ran(rt.alloc(), b"CLIP0001\n", script, settings);
+    let seven_and_eight = b"\n7 play -> silence\n8 status 01 -> state 80\n9 ".as_slice();
+    assert!(rt;
+        out.as_slice()
+            .windows(seven_and_eight.len())
+            .any(|text| text == seven_and_eight)
+    );
+    assert!(rt;
+        out.as_slice().ends_with(b"aired 0 CLIP0001\nreported 1\nexchanges 13\noutcome done\n")
+    );
+}
+
+fn expect_refused(rt: &(impl Abort + AllocGlobal), list: &[u8], script: &[u8], line: &str) {
+    let (out, err, status) = ran(rt.alloc(), list, script, PLAIN);
+    assert_eq!(rt; err.as_slice(), line.as_bytes());
+    assert_eq!(rt; status, 1, "{line}");
+    assert!(rt; out.is_empty(), "{line}");
+}
+
+#[test]
+fn refusals_are_told(rt: HostRuntime) {
+    let rows: [(&[u8], &[u8], &str); 7] = [
+        (b"", b"tick\n\njump\n", "vdcp: script.txt: line 3: word\n"),
+        (b"", b"round 0\n", "vdcp: script.txt: line 1: number\n"),
+        (
+            b"",
+            b"# damage\nalter-up 0\n",
+            "vdcp: script.txt: line 2: hex\n",
+        ),
+        (
+            b"",
+            b"good 10000\ngood 10000\ngood 10000\ngood 10000\ngood 10000\ngood 10000\n\
+              good 10000\ngood 10000\ngood 10000\ngood 10000\ngood 10000\n",
+            "vdcp: script.txt: too many\n",
+        ),
+        (b"", b"tick\n\xff\n", "vdcp: script.txt: text\n"),
+        (
+            b"CLIP0001\n\"\"\n",
+            b"jump\n",
+            "vdcp: list.csv: row 2: id\n",
+        ),
+        (
+            b"CLIP0001\nCLIP0002,,\n",
+            b"\xff",
+            "vdcp: list.csv: row 2: columns\n",
+        ),
+    ];
+    for (list, script, line) in rows {
+        expect_refused(&rt, list, script, line);
+    }
+}
+
+#[test]
+fn the_catalogue_is_read_before_the_script(rt: HostRuntime) {
+    let mut out = Vec::new(rt.alloc());
+    let mut err = Vec::new(rt.alloc());
+    let list = file("list.csv", b"CLIP0001\n".as_slice());
+    let clips = file("clips.csv", b"CLIP0001,00:00:00:00\n".as_slice());
+    let script = file("script.txt", b"jump\n".as_slice());
+    let status = do_sim(rt.alloc(), list, clips, script, PLAIN, &mut out, &mut err);
+    assert_eq!(rt;
+        err.as_slice(),
+        b"vdcp: clips.csv: row 1: time\n".as_slice()
+    );
+    assert_eq!(rt; status, 1);
+    assert!(rt; out.is_empty());
+}
+
+#[test]
+fn a_reader_may_fail(rt: HostRuntime) {
+    // (the script has nine bytes, so its readers answer two calls, and a third with its end)
+    for (left, line) in [
+        (0, "vdcp: script.txt: read\n"),
+        (2, "vdcp: script.txt: read\n"),
+        (3, ""),
+    ] {
+        let mut out = Vec::new(rt.alloc());
+        let mut err = Vec::new(rt.alloc());
+        let list = file("list.csv", b"CLIP0001\n".as_slice());
+        let clips = file("clips.csv", CLIPS);
+        let bytes = b"good\ngood".as_slice();
+        let script = file("script.txt", FailingReader { left, bytes });
+        let status = do_sim(rt.alloc(), list, clips, script, PLAIN, &mut out, &mut err);
+        assert_eq!(rt; err.as_slice(), line.as_bytes());
+        assert_eq!(rt; status, if line.is_empty() { 0 } else { 3 });
+        assert_eq!(rt; out.is_empty(), !line.is_empty());
+    }
+}
+
+#[test]
+fn a_writer_may_fail_at_each_call(rt: HostRuntime) -> Result<(), Fail> {
+    let mut left = 0;
+    loop {
+        let mut out = Failing::new(rt.alloc(), left);
+        let mut err = Vec::new(rt.alloc());
+        let list = file("list.csv", b"CLIP0001\n".as_slice());
+        let clips = file("clips.csv", CLIPS);
+        let script = file("script.txt", b"good 9\n".as_slice());
+        let status = do_sim(rt.alloc(), list, clips, script, TRACED, &mut out, &mut err);
+        assert!(rt; err.is_empty());
+        if status == 0 {
+            break;
+        }
+        assert_eq!(rt; status, 3);
+        assert_eq!(rt; out.calls, left + 1);
+        assert_eq!(rt; out.flushes, 0);
+        left += 1;
+    }
+    // (thirteen lines and the flush, at least a call each)
+    assert!(rt; left >= 14);
+    Ok(())
 }
