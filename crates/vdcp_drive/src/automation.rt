@@ -1,4 +1,4 @@
-ghost use Rattle.std.specs.Prelude.{◌≡◌, ◌<◌, ◌≤◌, ◌↔◌, [], ◌∷◌, ◌++◌, List, ℕ, length, take, IsSome, OnOk, OnErr, IfOk, IsErr, Some, None};
+ghost use Rattle.std.specs.Prelude.{◌≡◌, ◌<◌, ◌≤◌, ◌↔◌, false, [], ◌∷◌, ◌++◌, List, ℕ, length, take, IsSome, OnOk, OnErr, IfOk, IsErr, Some, None};
 ghost use Rattle.vdcp_frame.specs.Message.{content_of, AreOctets};
 ghost use Rattle.vdcp_frame.specs.Pieces.{with_message};
 ghost use Rattle.vdcp_frame.specs.Progress.{reading};
@@ -103,6 +103,7 @@ impl<S: Source, W: Wire> AutoDriver<S, W> {
     pub fn send(&mut self) -> Result<bool, DriveFault>
         ensures sends { IfOk result (λ is_sent. HasSent self.old.unit (turns.given (plan_of S.items self.old.controller) self.old.controller.state)
             is_sent (W.told self.old.wire) (W.told self.new.wire)) }
+        ensures nothing { IfOk result (λ is_sent. is_sent ≡ false → self.new ≡ self.old) }
         ensures ticks { OnOk result (self.new.controller ≡ record self.old.controller { state = turns.ticked self.old.controller.state }) }
         ensures breaks { W.failures self.old.wire ≡ 0 → OnErr result (HasSendBroken (plan_of S.items self.old.controller) self.old.unit
             self.old.controller.state self.new.controller.state (W.told self.old.wire) (W.told self.new.wire)) }
@@ -110,7 +111,7 @@ impl<S: Source, W: Wire> AutoDriver<S, W> {
         ensures keeps { self.new ≡ record self.old { controller = self.new.controller; wire = self.new.wire } }
         ensures works { OnOk result (W.failures self.new.wire ≡ 0) }
         ensures device { OnErr result (W.failures self.new.wire ≡ 1) }
-        ensures stays { W.failures self.old.wire ≡ 1 → OnErr result (self.new ≡ self.old) }
+        ensures stays { W.failures self.old.wire ≡ 1 → IsErr result × (self.new ≡ self.old) }
     {
         if self.failed {
             return Err(DriveFault::Device);
@@ -132,13 +133,15 @@ impl<S: Source, W: Wire> AutoDriver<S, W> {
             OnOk result (IfTold (W.told self.new.wire) (λ u. HasRun (plan_of S.items self.old.controller) self.old.unit u self.new.controller.state)) }
         ensures answer { IsNew self.old.controller.state self.old.reader self.old.heard (W.told self.old.wire) →
             IfOk result (λ ran. IfTold (W.told self.new.wire) (λ u. RunsTo ran (turns.outcome_of self.new.controller.state.stage) listens [] u.came)) }
+        // Of any automation, over any wire.
+        ensures ended { IfOk result (λ ran. (ran ≡ Ran.Ended) ↔ IsSome (turns.outcome_of self.new.controller.state.stage)) }
         ensures broken { IsNew self.old.controller.state self.old.reader self.old.heard (W.told self.old.wire) → W.failures self.old.wire ≡ 0 →
             OnErr result (IfTold (W.told self.new.wire) (λ u. HasRunBroken (plan_of S.items self.old.controller) self.old.unit u self.new.controller.state)) }
         ensures controller { self.new.controller ≡ record self.old.controller { state = self.new.controller.state } }
         ensures unit { self.new.unit ≡ self.old.unit }
         ensures works { OnOk result (W.failures self.new.wire ≡ 0) }
         ensures device { OnErr result (W.failures self.new.wire ≡ 1) }
-        ensures stays { W.failures self.old.wire ≡ 1 → OnErr result (self.new ≡ self.old) }
+        ensures stays { W.failures self.old.wire ≡ 1 → IsErr result × (self.new ≡ self.old) }
     {
         courses::courses_follow_one_another();
         bursts::one_reading();
@@ -185,7 +188,7 @@ impl<S: Source, W: Wire> AutoDriver<S, W> {
         ensures unit { self.new.unit ≡ self.old.unit }
         ensures works { OnOk result (W.failures self.new.wire ≡ 0) }
         ensures device { OnErr result (W.failures self.new.wire ≡ 1) }
-        ensures stays { W.failures self.old.wire ≡ 1 → OnErr result (self.new ≡ self.old) }
+        ensures stays { W.failures self.old.wire ≡ 1 → IsErr result × (self.new ≡ self.old) }
     {
         if self.failed {
             return Err(DriveFault::Device);
@@ -216,6 +219,7 @@ fn send_next<S: Source, W: Wire>(
     requires works { W.failures wire.old ≡ 0 }
     ensures sends { IfOk result (λ is_sent. HasSent unit (turns.given (plan_of S.items controller.old) controller.old.state)
         is_sent (W.told wire.old) (W.told wire.new)) }
+    ensures nothing { IfOk result (λ is_sent. is_sent ≡ false → (controller.new ≡ controller.old) × (wire.new ≡ wire.old)) }
     ensures ticks { OnOk result (controller.new ≡ record controller.old { state = turns.ticked controller.old.state }) }
     ensures breaks { OnErr result (HasSendBroken (plan_of S.items controller.old) unit
         controller.old.state controller.new.state (W.told wire.old) (W.told wire.new)) }
