@@ -86,7 +86,8 @@ to_next old list k = (is_halting (next list k) ≡ false) × (left (length list 
 goes_next : (list : List Item) (k old : ℕ) → 5 * (length list - k) + 2 < old → to_next old list k
 goes_next list k old below = by (nat_lt k (length list))
   where
-    by : (b : Bool) → (is_halting (if b then phase.Exists k else phase.Drain) ≡ false) × (left (length list - k) (if b then phase.Exists k else phase.Drain) < old)
+    by : (b : Bool)
+        → (is_halting (if b then phase.Exists k else phase.Drain) ≡ false) × (left (length list - k) (if b then phase.Exists k else phase.Drain) < old)
     by true = (refl, below)
     by false = (refl, omega (arith, below))
 
