@@ -218,7 +218,10 @@ fn each_call_fails_in_turn(rt: HostRuntime) -> Result<(), Fail> {
             assert_eq!(rt; sent.as_slice(), &all[..before]);
             let (works, sent, awaits) = failed_at(rt.alloc(), plain(), &words, first + 1, part)?;
             assert!(rt; !works && awaits);
-            assert_eq!(rt; sent.as_slice(), &all[..before + part.min(command.len())]);
+            let front = all
+                .get(..before + part.min(command.len()))
+                .ok_or("more was sent")?;
+            assert_eq!(rt; sent.as_slice(), front);
             before += command.len();
             for listen in [first + 2, first + 3] {
                 let (works, sent, awaits) = failed_at(rt.alloc(), plain(), &words, listen, part)?;
@@ -261,7 +264,10 @@ fn each_call_fails_in_turn_in_confirm_mode(rt: HostRuntime) -> Result<(), Fail> 
                 part,
             )?;
             assert!(rt; !works && awaits);
-            assert_eq!(rt; sent.as_slice(), &all[..before + part.min(command.len())]);
+            let front = all
+                .get(..before + part.min(command.len()))
+                .ok_or("more was sent")?;
+            assert_eq!(rt; sent.as_slice(), front);
             before += command.len();
             for listen in 0..listens {
                 let (works, sent, awaits) = failed_at(

@@ -27,7 +27,8 @@ fn answer(alloc: Global, bursts: &Vec<Vec<u8>>) -> Result<Vec<u8>, Fail> {
     let _ = server.serve(turns.saturating_sub(2));
     let before = server.wire().sent().len();
     let _ = server.serve(2);
-    Ok(Vec::from_slice(alloc, &server.wire().sent()[before..])?)
+    let answer = server.wire().sent().get(before..).ok_or("less was sent")?;
+    Ok(Vec::from_slice(alloc, answer)?)
 }
 
 /// Plays two clips of one frame each. How it ended, how many commands were sent, and how many events
@@ -56,7 +57,8 @@ fn play(alloc: Global, confirms: bool) -> Result<(Option<Outcome>, usize, usize)
         if driver.send() != Ok(true) {
             return Err("no command".into());
         }
-        commands.push(Vec::from_slice(alloc, &driver.wire().sent()[before..])?)?;
+        let command = driver.wire().sent().get(before..).ok_or("less was sent")?;
+        commands.push(Vec::from_slice(alloc, command)?)?;
         answers.push(answer(alloc, &commands)?)?;
     }
     Err("it goes on".into())

@@ -87,7 +87,8 @@ fn burst_cut_off_by_the_close_is_answered_as_far_as_it_is_whole(
     assert_eq!(rt; server.serve(3), Ok(Ran::Spent));
     let before = server.wire().sent().len();
     assert_eq!(rt; server.serve(100), Ok(Ran::Closed));
-    assert_eq!(rt; &server.wire().sent()[before..], [0x04].as_slice());
+    let more = server.wire().sent().get(before..).ok_or("less was sent")?;
+    assert_eq!(rt; more, [0x04].as_slice());
     Ok(())
 }
 
