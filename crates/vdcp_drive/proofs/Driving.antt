@@ -27,7 +27,7 @@ use Rattle.vdcp_auto.specs.declared.phase.State.{State}
 use Rattle.vdcp_auto.specs.declared.phase.Turn.{Turn}
 use Rattle.vdcp_auto.specs.declared.phase.Turn.TheVariants.{Goes, Settles, Retries, Ends}
 use Rattle.vdcp_drive.specs.Bursts.{finished_bursts, open_burst, is_within_burst}
-use Rattle.vdcp_drive.specs.Driven.{input_of, inputs_of, state_between, state_after, commands_of, commands_by, bytes_of, starts_behind, starts_of, IsNew, HasRun, HasRunBroken, in_drop, in_send, in_listen}
+use Rattle.vdcp_drive.specs.Driven.{input_of, inputs_of, state_between, state_after, commands_of, commands_by, bytes_of, starts_behind, starts_of, IsNew, HasRun, HasRunBroken, IsPartlyRun, in_drop, in_send, in_listen}
 use Rattle.vdcp_drive.specs.Hearing as sending
 use Rattle.vdcp_drive.specs.Hearing.{HasSent, HasSendBroken, HasHeard, HasReceived, Hears, heard_by_then, command_bytes}
 use Rattle.vdcp_drive.specs.Wires.{Arrival, bytes, silence, close, Told, IfTold, MayCome, adds_sent, adds_came, adds_drop, came_with, has_closed, nothing_told}
@@ -36,8 +36,9 @@ use Rattle.vdcp_drive.specs.Lines.{line_of, ran_unless_ended, RunsTo, AllListene
 use Rattle.vdcp_drive.specs.declared.line.Ran.TheVariants as ran
 use Rattle.vdcp_drive.specs.declared.line.Line.TheVariants as line
 use Rattle.vdcp_drive.proofs.Below.{Read, Fed}
-use Rattle.vdcp_drive.proofs.Cutting.{finished_bytes, finished_silence, finished_close, open_bytes, open_silence, within_bytes, within_silence, within_close, closed_bytes, closed_silence, closed_close}
+use Rattle.vdcp_drive.proofs.Cutting.{finished_bytes, finished_silence, finished_close, open_bytes, open_silence, within_bytes, within_silence, within_close, closed_bytes, closed_silence, closed_close, counts}
 use Rattle.vdcp_drive.proofs.Listening.{heard_more}
+use Rattle.vdcp_drive.proofs.Standing.{listened_so, closed_so}
 
 -- vdcp_auto::laws::courses_follow_one_another, of one more input
 pub record OneMore : Type 0 where
@@ -482,13 +483,73 @@ ended_run plan unit t state reader heard h none =
 
 -- Which answer a run gives.
 
-pub closes_to : (o : Option Outcome) (listens : ℕ) (new : List Arrival) → IsTrue (has_closed new) → RunsTo (ran_unless_ended o ran.Closed) o listens [] new
-closes_to None listens new h = (search rules, h)
-closes_to (Some outcome) listens new h = search rules
+pub closes_to : (o : Option Outcome) (listens : ℕ) (old new : List Arrival) → IsTrue (has_closed new)
+    → RunsTo (ran_unless_ended o ran.Closed) o listens old new
+closes_to None listens old new h = (search rules, h)
+closes_to (Some outcome) listens old new h = search rules
 
-pub spends : (o : Option Outcome) (listens : ℕ) (new : List Arrival) → AllListened listens [] new → RunsTo (ran_unless_ended o ran.Spent) o listens [] new
-spends None listens new h = (search rules, h)
-spends (Some outcome) listens new h = search rules
+pub spends : (o : Option Outcome) (listens : ℕ) (old new : List Arrival) → AllListened listens old new
+    → RunsTo (ran_unless_ended o ran.Spent) o listens old new
+spends None listens old new h = (search rules, h)
+spends (Some outcome) listens old new h = search rules
+
+-- a command more brings nothing
+pub sent_came : (unit : ℕ) (given_is : Option Command) (is_sent : Bool) (u : Told) (told told' : Option Told)
+    → told ≡ Some u → HasSent unit given_is is_sent told told' → IfTold told' (λ w. w.came ≡ u.came)
+sent_came unit None is_sent u told told' is e = (u, e.1 ∙ is, refl)
+sent_came unit (Some c) is_sent u told told' is e = (
+  record { sent = u.sent ++ command_bytes unit c; came = u.came; drops = u.drops ++ length u.sent ∷ [] },
+  e.1 ∙ ap (λ (x : Option Told). adds_sent (command_bytes unit c) (adds_drop x)) is,
+  refl,
+)
+
+pub none_listened : (t : Told) (told : Option Told) → told ≡ Some t → IfTold told (λ u. AllListened 0 t.came u.came)
+none_listened t told is = (t, is, record { more = []; adds = sym (append-nil t.came); listened = refl; no_close = refl })
+
+-- a command and a listen more
+pub listened_on : (made : ℕ) (t u : Told) (unit : ℕ) (given_is : Option Command) (is_sent : Bool) (a : Arrival) (told told' told'' : Option Told)
+    → told ≡ Some u → AllListened made t.came u.came → HasSent unit given_is is_sent told told' → line_of a ≢ line.Closed → MayCome a told'
+    → told'' ≡ adds_came a told' → IfTold told'' (λ v. AllListened (made + 1) t.came v.came)
+listened_on made t u unit given_is is_sent a told told' told'' is l e not may more =
+    let s = sent_came unit given_is is_sent u told told' is e in (
+      record { sent = s.0.sent; came = came_with s.0.came a; drops = s.0.drops },
+      more ∙ ap (adds_came a) s.1,
+      listened_so made a t.came s.0.came (subst (λ (c : List Arrival). AllListened made t.came c) (sym s.2) l) (counts s.0 a (subst (MayCome a) s.1 may)) not,
+    )
+
+-- a command more, and then a close
+pub closed_on : (u : Told) (unit : ℕ) (given_is : Option Command) (is_sent : Bool) (a : Arrival) (told told' told'' : Option Told)
+    → told ≡ Some u → HasSent unit given_is is_sent told told' → line_of a ≡ line.Closed → MayCome a told'
+    → told'' ≡ adds_came a told' → IfTold told'' (λ v. IsTrue (has_closed v.came))
+closed_on u unit given_is is_sent a told told' told'' is e closed may more =
+    let s = sent_came unit given_is is_sent u told told' is e in (
+      record { sent = s.0.sent; came = came_with s.0.came a; drops = s.0.drops },
+      more ∙ ap (adds_came a) s.1,
+      closed_so s.0.came a (counts s.0 a (subst (MayCome a) s.1 may)) closed,
+    )
+
+-- What was sent is a beginning of what the course's commands and the one awaited are.
+
+broken_run_front : (plan : Plan) (unit : ℕ) (u : Told) (state : State) → HasRunBroken plan unit u state → IsPartlyRun plan unit u state
+broken_run_front plan unit u state (in_drop b) = (
+  bytes_of unit (option_to_list (awaited plan state)),
+  flat_map-append (command_bytes unit) (commands_of plan unit u.came) (option_to_list (awaited plan state))
+      ∙ ap (λ (l : List ℕ). l ++ bytes_of unit (option_to_list (awaited plan state))) (sym b.sent_is),
+)
+broken_run_front plan unit u state (in_send b) =
+    let commands : List Command = commands_of plan unit u.came in (
+      b.rest,
+      ap (λ (x : Option Command). bytes_of unit (commands ++ option_to_list x)) b.awaits
+          ∙ bytes_push unit commands b.command
+          ∙ ap (λ (l : List ℕ). bytes_of unit commands ++ l) b.parts
+          ∙ sym (append_assoc (bytes_of unit commands) b.front b.rest)
+          ∙ ap (λ (l : List ℕ). l ++ b.rest) (sym b.sent_is),
+    )
+broken_run_front plan unit u state (in_listen b) = ([], sym b.sent_is ∙ sym (append-nil u.sent))
+
+pub with_front : (plan : Plan) (unit : ℕ) (state : State) (told : Option Told) → IfTold told (λ u. HasRunBroken plan unit u state)
+    → IfTold told (λ u. HasRunBroken plan unit u state × IsPartlyRun plan unit u state)
+with_front plan unit state told b = (b.0, b.1, (b.2, broken_run_front plan unit b.0 state b.2))
 
 -- so many listens, and one more
 pub listened_then : (n : ℕ) (a : Arrival) (came came' : List Arrival) → AllListened n [] came → line_of a ≢ line.Closed → came' ≡ came ++ a ∷ []

@@ -428,7 +428,7 @@ broken_drops a t told port reader port' aired' told' is e = drops_broken a t por
 pub listened_none : (t : Told) (told : Option Told) → told ≡ Some t → IfTold told (λ u. AllListened 0 t.came u.came × (u.drops ≡ t.drops))
 listened_none t told is = (t, is, (record { more = []; adds = sym (append-nil t.came); listened = refl; no_close = refl }, refl))
 
-listened_so : (n : ℕ) (a : Arrival) (old now : List Arrival) → AllListened n old now → Counts now a → line_of a ≢ line.Closed
+pub listened_so : (n : ℕ) (a : Arrival) (old now : List Arrival) → AllListened n old now → Counts now a → line_of a ≢ line.Closed
     → AllListened (n + 1) old (came_with now a)
 listened_so n (bytes piece) old now l (counted h is) not = record {
   more = l.more ++ bytes piece ∷ [];
@@ -463,7 +463,7 @@ listened_more n a t u told port reader port' reader' aired' told' is l d may not
 
 -- A close came.
 
-closed_so : (came : List Arrival) (a : Arrival) → Counts came a → line_of a ≡ line.Closed → has_closed (came_with came a) ≡ true
+pub closed_so : (came : List Arrival) (a : Arrival) → Counts came a → line_of a ≡ line.Closed → has_closed (came_with came a) ≡ true
 closed_so came (bytes piece) c is = cc
 closed_so came silence c is = cc
 closed_so came close (counted h with_it) is = ap has_closed with_it ∙ closed_close came

@@ -97,3 +97,7 @@ pub data HasRunBroken (plan : Plan) (unit : ℕ) (told : Told) (state : State) :
   in_drop : BrokeInDrop plan unit told state → HasRunBroken plan unit told state
   in_send : BrokeInSend plan unit told state → HasRunBroken plan unit told state
   in_listen : BrokeInListen plan unit told state → HasRunBroken plan unit told state
+
+-- the bytes sent are a beginning of those of the course's commands and the one awaited
+abbrev pub IsPartlyRun : Plan → ℕ → Told → State → Type 0
+IsPartlyRun plan unit told state = (rest : List ℕ) × (bytes_of unit (commands_by plan unit told.came state) ≡ told.sent ++ rest)

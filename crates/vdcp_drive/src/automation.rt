@@ -5,7 +5,7 @@ ghost use Rattle.vdcp_frame.specs.Progress.{reading};
 ghost use Rattle.vdcp_frame.specs.Reader.{answer_of};
 ghost use Rattle.vdcp_auto.specs.Plan.{plan_of};
 ghost use Rattle.vdcp_auto.specs.Turn as turns;
-ghost use Rattle.vdcp_drive.specs.Driven.{IsNew, HasRun, HasRunBroken};
+ghost use Rattle.vdcp_drive.specs.Driven.{IsNew, HasRun, HasRunBroken, IsPartlyRun};
 ghost use Rattle.vdcp_drive.specs.Hearing.{HasSent, HasSendBroken, HasHeard, HasReceived, Hears, heard_by_then, command_bytes};
 ghost use Rattle.vdcp_drive.specs.Lines.{line_of, RunsTo, ran_unless_ended};
 ghost use Rattle.vdcp_drive.specs.Wires.{Arrival, Told, IfTold, MayCome, nothing_told, adds_sent, adds_came, SendsFront};
@@ -131,12 +131,13 @@ impl<S: Source, W: Wire> AutoDriver<S, W> {
         // Of a new automation: a new controller, and a fresh wire that tells its bytes.
         ensures run { IsNew self.old.controller.state self.old.reader self.old.heard (W.told self.old.wire) →
             OnOk result (IfTold (W.told self.new.wire) (λ u. HasRun (plan_of S.items self.old.controller) self.old.unit u self.new.controller.state)) }
-        ensures answer { IsNew self.old.controller.state self.old.reader self.old.heard (W.told self.old.wire) →
-            IfOk result (λ ran. IfTold (W.told self.new.wire) (λ u. RunsTo ran (turns.outcome_of self.new.controller.state.stage) listens [] u.came)) }
-        // Of any automation, over any wire.
-        ensures ended { IfOk result (λ ran. (ran ≡ Ran.Ended) ↔ IsSome (turns.outcome_of self.new.controller.state.stage)) }
         ensures broken { IsNew self.old.controller.state self.old.reader self.old.heard (W.told self.old.wire) → W.failures self.old.wire ≡ 0 →
-            OnErr result (IfTold (W.told self.new.wire) (λ u. HasRunBroken (plan_of S.items self.old.controller) self.old.unit u self.new.controller.state)) }
+            OnErr result (IfTold (W.told self.new.wire) (λ u. HasRunBroken (plan_of S.items self.old.controller) self.old.unit u self.new.controller.state
+            × IsPartlyRun (plan_of S.items self.old.controller) self.old.unit u self.new.controller.state)) }
+        // Of any automation: over any wire, and over one that tells its bytes.
+        ensures ended { IfOk result (λ ran. (ran ≡ Ran.Ended) ↔ IsSome (turns.outcome_of self.new.controller.state.stage)) }
+        ensures answer { (t : Told) → W.told self.old.wire ≡ Some t →
+            IfOk result (λ ran. IfTold (W.told self.new.wire) (λ u. RunsTo ran (turns.outcome_of self.new.controller.state.stage) listens t.came u.came)) }
         ensures controller { self.new.controller ≡ record self.old.controller { state = self.new.controller.state } }
         ensures unit { self.new.unit ≡ self.old.unit }
         ensures works { OnOk result (W.failures self.new.wire ≡ 0) }

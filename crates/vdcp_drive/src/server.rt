@@ -95,7 +95,7 @@ impl<C: Catalogue, W: Wire> Server<C, W> {
         ensures served { (start : ClockedPort) (t : Told) → W.told self.old.wire ≡ Some t → IsServed start t self.old.port self.old.reader →
             OnOk result (IfTold (W.told self.new.wire) (λ u. IsServed start u self.new.port self.new.reader)) }
         ensures broken_off { (start : ClockedPort) (t : Told) → W.told self.old.wire ≡ Some t → IsServed start t self.old.port self.old.reader →
-            W.failures self.old.wire ≡ 0 → OnErr result (IfTold (W.told self.new.wire) (λ u. HasBrokenOff start u self.new.port)) }
+            W.failures self.old.wire ≡ 0 → OnErr result (IfTold (W.told self.new.wire) (λ u. HasBrokenOff start u self.new.port × IsPartlySent start u)) }
         // Which answer it gives: Spent where all turns were made and no close came.
         ensures answer { (t : Told) → W.told self.old.wire ≡ Some t →
             IfOk result (λ ran. IfTold (W.told self.new.wire) (λ u. ServesTo ran turns t.came u.came)) }
@@ -106,9 +106,6 @@ impl<C: Catalogue, W: Wire> Server<C, W> {
         ensures stays { W.failures self.old.wire ≡ 1 → IsErr result × (self.new ≡ self.old) }
     {
         bursts::what_is_fed_is_followed();
-        answers::messages_after_messages();
-        answers::one_alone();
-        answers::the_unit_stays();
         if self.failed {
             return Err(DriveFault::Device);
         }
@@ -135,7 +132,7 @@ impl<C: Catalogue, W: Wire> Server<C, W> {
         ensures served { (start : ClockedPort) (t : Told) → W.told self.old.wire ≡ Some t → IsServed start t self.old.port self.old.reader →
             OnOk result (IfTold (W.told self.new.wire) (λ u. IsServed start u self.new.port self.new.reader)) }
         ensures broken_off { (start : ClockedPort) (t : Told) → W.told self.old.wire ≡ Some t → IsServed start t self.old.port self.old.reader →
-            W.failures self.old.wire ≡ 0 → OnErr result (IfTold (W.told self.new.wire) (λ u. HasBrokenOff start u self.new.port)) }
+            W.failures self.old.wire ≡ 0 → OnErr result (IfTold (W.told self.new.wire) (λ u. HasBrokenOff start u self.new.port × IsPartlySent start u)) }
         // A server drops nothing that waits.
         ensures drops { (t : Told) → W.told self.old.wire ≡ Some t → IfTold (W.told self.new.wire) (λ u. u.drops ≡ t.drops) }
         ensures works { OnOk result (W.failures self.new.wire ≡ 0) }

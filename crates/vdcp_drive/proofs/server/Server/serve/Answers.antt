@@ -5,8 +5,8 @@ use Rattle.vdcp_port.specs.Clock.{ClockedPort}
 use Rattle.vdcp_drive.specs.Lines.{line_of, AllListened}
 use Rattle.vdcp_drive.specs.Served.{IsServed}
 use Rattle.vdcp_drive.specs.Wires.{Told, nothing_told}
-use Rattle.vdcp_drive.proofs.Below.{InOrder, Alone, Fed}
-use Rattle.vdcp_drive.proofs.Standing.{at_start, broken_front, listened_more, has_closed_then}
+use Rattle.vdcp_drive.proofs.Below.{Fed}
+use Rattle.vdcp_drive.proofs.Standing.{at_start, listened_more, has_closed_then}
 use Rattle.vdcp_drive.proofs.Taking.{on_err_of}
 use Rattle.vdcp_drive.proofs.server.Server.serve.Goals as goal
 
@@ -72,15 +72,6 @@ returns-clause-port g c r is =
 pub returns-in_err-turn-clause-broken : goal.returns-in_err-turn-clause-broken
 returns-in_err-turn-clause-broken g c r is works =
     let fed : Fed = record { start = c.what_is_fed_is_followed.ensures.start; next = c.what_is_fed_is_followed.ensures.next } in
-    let order : InOrder = record {
-      sent = c.messages_after_messages.ensures.sent;
-      aired = c.messages_after_messages.ensures.aired;
-      next =
-          c.messages_after_messages.ensures.next;
-    } in
-    let alone : Alone = record { sent = c.one_alone.ensures.sent; aired = c.one_alone.ensures.aired } in
     let s = c.args.self.now in
     let h = c.turns.invariant.served s.port nothing_told is (fresh fed s.port s.reader r) in
-    let n = c.in_err-turn.ensures.broken_off s.port h.0 h.1 h.2 c.turns.invariant.works in
-    on_err_of c.from_residual.result
-    (n.0, n.1, (n.2, broken_front order alone c.the_unit_stays.ensures.messages s.port n.0 c.turn.new.self.port n.2))
+    on_err_of c.from_residual.result (c.in_err-turn.ensures.broken_off s.port h.0 h.1 h.2 c.turns.invariant.works)

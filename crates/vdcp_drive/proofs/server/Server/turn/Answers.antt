@@ -2,7 +2,7 @@ use Rattle.std.proofs.Common.{◌≡◌, ◌⊎◌, inl, inr, sym, ap, subst, �
 use Rattle.std.specs.Prelude.{Option, Some}
 use Rattle.vdcp_drive.specs.Serving.{Serving}
 use Rattle.vdcp_drive.specs.Served.{IsServed}
-use Rattle.vdcp_drive.proofs.Standing.{Below, one_more, one_broken, none_broken, keeps_drops, broken_drops}
+use Rattle.vdcp_drive.proofs.Standing.{Below, one_more, one_broken, none_broken, broken_front, keeps_drops, broken_drops}
 use Rattle.vdcp_drive.proofs.server.Server.turn.Goals as goal
 
 either : {A B C : Type 0} → (A → C) → (B → C) → (A ⊎ B) → C
@@ -68,10 +68,11 @@ returns-in-Err-clause-broken_off g c start t is h works =
     let s = c.self.inside in
     let inside : IsServed start t s.port s.reader = subst (λ (v : Serving _). IsServed start t v.port v.reader) (sym c.self.view_is) h in
     let tells : told s.wire ≡ Some t = ap (λ (v : Serving _). told v.wire) c.self.view_is ∙ is in
-    either
+    let b = either
     (λ e. none_broken start t (told s.wire) (told c.hear.new.wire) s.port c.hear.new.port s.reader tells inside e.0 e.1)
     (λ e. one_broken below start e.0 t (told s.wire) s.port s.reader c.hear.new.port c.hear.new.aired (told c.hear.new.wire) tells e.1 inside e.2)
-    c.in-Err.ensures.breaks
+    c.in-Err.ensures.breaks in
+    (b.0, b.1, (b.2, broken_front below.order below.alone below.ends.unit start b.0 c.hear.new.port b.2))
 
 pub returns-in-Err-clause-drops : goal.returns-in-Err-clause-drops
 returns-in-Err-clause-drops g c t is =
