@@ -1,6 +1,6 @@
 -- An automation that has heard what came, after one more command and one more listen.
 use Rattle.std.proofs.Common.{ℕ, ◌≡◌, ◌+◌, List, [], ◌∷◌, ◌++◌, Bool, false, true, map, length, refl, sym, ap, ap₂, subst, ◌∙◌, append_assoc, append-nil, length-append, arith, rules}
-use Rattle.std.specs.Prelude.{Option, Some, None, IsTrue, IsSome, ◌≢◌, ◌<◌, if◌then◌else◌}
+use Rattle.std.specs.Prelude.{Option, Some, None, IsTrue, IsSome, ◌≢◌, ◌<◌, ◌≤◌, if◌then◌else◌}
 use Rattle.std.specs.List.{flat_map}
 use Rattle.std.specs.Option.{option_to_list, option_map, option_map_or}
 use Rattle.std.proofs.lemmas.Grind.{flat_map-append, common_steps}
@@ -32,13 +32,13 @@ use Rattle.vdcp_drive.specs.Hearing as sending
 use Rattle.vdcp_drive.specs.Hearing.{HasSent, HasSendBroken, HasHeard, HasReceived, Hears, heard_by_then, command_bytes}
 use Rattle.vdcp_drive.specs.Wires.{Arrival, bytes, silence, close, Told, IfTold, MayCome, adds_sent, adds_came, adds_drop, came_with, has_closed, nothing_told}
 use Rattle.vdcp_auto.specs.declared.outcome.Outcome.{Outcome}
-use Rattle.vdcp_drive.specs.Lines.{line_of, ran_unless_ended, RunsTo, AllListened}
+use Rattle.vdcp_drive.specs.Lines.{line_of, ran_unless_ended, RunsTo, AllListened, AtMostListened}
 use Rattle.vdcp_drive.specs.declared.line.Ran.TheVariants as ran
 use Rattle.vdcp_drive.specs.declared.line.Line.TheVariants as line
 use Rattle.vdcp_drive.proofs.Below.{Read, Fed}
 use Rattle.vdcp_drive.proofs.Cutting.{finished_bytes, finished_silence, finished_close, open_bytes, open_silence, within_bytes, within_silence, within_close, closed_bytes, closed_silence, closed_close, counts}
 use Rattle.vdcp_drive.proofs.Listening.{heard_more}
-use Rattle.vdcp_drive.proofs.Standing.{listened_so, closed_so}
+use Rattle.vdcp_drive.proofs.Standing.{listened_so, closed_so, at_most_all, at_most_so}
 
 -- vdcp_auto::laws::courses_follow_one_another, of one more input
 pub record OneMore : Type 0 where
@@ -483,15 +483,15 @@ ended_run plan unit t state reader heard h none =
 
 -- Which answer a run gives.
 
-pub closes_to : (o : Option Outcome) (listens : ℕ) (old new : List Arrival) → IsTrue (has_closed new)
+pub closes_to : (o : Option Outcome) (listens : ℕ) (old new : List Arrival) → IsTrue (has_closed new) → AtMostListened listens old new
     → RunsTo (ran_unless_ended o ran.Closed) o listens old new
-closes_to None listens old new h = (search rules, h)
-closes_to (Some outcome) listens old new h = search rules
+closes_to None listens old new h most = (search rules, h, most)
+closes_to (Some outcome) listens old new h most = (search rules, most)
 
 pub spends : (o : Option Outcome) (listens : ℕ) (old new : List Arrival) → AllListened listens old new
     → RunsTo (ran_unless_ended o ran.Spent) o listens old new
 spends None listens old new h = (search rules, h)
-spends (Some outcome) listens old new h = search rules
+spends (Some outcome) listens old new h = (search rules, at_most_all listens listens old new h (search rules))
 
 -- a command more brings nothing
 pub sent_came : (unit : ℕ) (given_is : Option Command) (is_sent : Bool) (u : Told) (told told' : Option Told)
@@ -518,15 +518,28 @@ listened_on made t u unit given_is is_sent a told told' told'' is l e not may mo
     )
 
 -- a command more, and then a close
-pub closed_on : (u : Told) (unit : ℕ) (given_is : Option Command) (is_sent : Bool) (a : Arrival) (told told' told'' : Option Told)
-    → told ≡ Some u → HasSent unit given_is is_sent told told' → line_of a ≡ line.Closed → MayCome a told'
-    → told'' ≡ adds_came a told' → IfTold told'' (λ v. IsTrue (has_closed v.came))
-closed_on u unit given_is is_sent a told told' told'' is e closed may more =
-    let s = sent_came unit given_is is_sent u told told' is e in (
+pub closed_on : (made listens : ℕ) (t u : Told) (unit : ℕ) (given_is : Option Command) (is_sent : Bool) (a : Arrival) (told told' told'' : Option Told)
+    → told ≡ Some u → AllListened made t.came u.came → made + 1 ≤ listens → HasSent unit given_is is_sent told told' → line_of a ≡ line.Closed
+    → MayCome a told' → told'' ≡ adds_came a told'
+    → IfTold told'' (λ v. IsTrue (has_closed v.came) × AtMostListened listens t.came v.came)
+closed_on made listens t u unit given_is is_sent a told told' told'' is l within e closed may more =
+    let s = sent_came unit given_is is_sent u told told' is e in
+    let k = counts s.0 a (subst (MayCome a) s.1 may) in (
       record { sent = s.0.sent; came = came_with s.0.came a; drops = s.0.drops },
       more ∙ ap (adds_came a) s.1,
-      closed_so s.0.came a (counts s.0 a (subst (MayCome a) s.1 may)) closed,
+      (
+        closed_so s.0.came a k closed,
+        at_most_so made listens a t.came s.0.came (subst (λ (c : List Arrival). AllListened made t.came c) (sym s.2) l) within k,
+      ),
     )
+
+-- a command more, and the controller has ended
+pub ended_on : (made listens : ℕ) (t u : Told) (unit : ℕ) (given_is : Option Command) (is_sent : Bool) (o : Option Outcome) (told told' : Option Told)
+    → told ≡ Some u → AllListened made t.came u.came → made ≤ listens → HasSent unit given_is is_sent told told' → IsSome o
+    → IfTold told' (λ v. IsSome o × AtMostListened listens t.came v.came)
+ended_on made listens t u unit given_is is_sent o told told' is l within e ended =
+    let s = sent_came unit given_is is_sent u told told' is e in
+    (s.0, s.1, (ended, at_most_all made listens t.came s.0.came (subst (λ (c : List Arrival). AllListened made t.came c) (sym s.2) l) within))
 
 -- What was sent is a beginning of what the course's commands and the one awaited are.
 

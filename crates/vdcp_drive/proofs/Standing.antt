@@ -1,5 +1,5 @@
 -- A server that has served what came, after one more listen.
-use Rattle.std.proofs.Common.{ℕ, ◌≡◌, ◌<◌, List, [], ◌∷◌, ◌++◌, Bool, false, true, refl, sym, ap, ap₂, subst, ◌∙◌, append_assoc, append-nil, ◌+◌, length, length-append}
+use Rattle.std.proofs.Common.{ℕ, ◌≡◌, ◌<◌, ◌≤◌, arith, List, [], ◌∷◌, ◌++◌, Bool, false, true, refl, sym, ap, ap₂, subst, ◌∙◌, append_assoc, append-nil, ◌+◌, length, length-append}
 use Rattle.std.specs.Prelude.{Option, Some, None, IsTrue, ◌≢◌}
 use Rattle.std.specs.Option.{option_to_list}
 use Rattle.std.proofs.lemmas.List.Elements.{All-append, All-nil}
@@ -17,7 +17,7 @@ use Rattle.vdcp_drive.specs.Serving.{HasTaken, HasBroken, HasEnded, HasEndBroken
 use Rattle.vdcp_drive.specs.Served.{after_bursts, sent_for_bursts, port_before, served, port_after, IsServed, BrokeInAnswer, BrokeAtEnd, HasBrokenOff, in_listen, in_answer, at_end, IsPartlySent}
 use Rattle.vdcp_drive.specs.Wires.{Arrival, bytes, silence, close, Told, IfTold, MayCome, adds_sent, adds_came, came_with, has_closed, nothing_told}
 use Rattle.vdcp_drive.proofs.Below.{InOrder, Alone, Read, Ends, Fed}
-use Rattle.vdcp_drive.specs.Lines.{line_of, AllListened}
+use Rattle.vdcp_drive.specs.Lines.{line_of, AllListened, AtMostListened}
 use Rattle.vdcp_drive.specs.declared.line.Line.TheVariants as line
 use Rattle.vdcp_drive.proofs.Cutting.{closed_bytes, closed_silence, closed_close, Counts, counted, behind, counts, ended_bytes, open_bytes, ended_silence, open_silence, ended_close, open_close}
 
@@ -461,6 +461,28 @@ listened_more n a t u told port reader port' reader' aired' told' is l d may not
       ),
     )
 
+-- At most so many.
+
+pub at_most_all : (n listens : ℕ) (old now : List Arrival) → AllListened n old now → n ≤ listens → AtMostListened listens old now
+at_most_all n listens old now l within = record {
+  more = l.more;
+  adds = l.adds;
+  at_most = subst (λ (m : ℕ). m ≤ listens) (sym l.listened) within;
+}
+
+pub at_most_so : (n listens : ℕ) (a : Arrival) (old now : List Arrival) → AllListened n old now → n + 1 ≤ listens → Counts now a
+    → AtMostListened listens old (came_with now a)
+at_most_so n listens a old now l within (counted h is) = record {
+  more = l.more ++ a ∷ [];
+  adds = is ∙ ap (λ (x : List Arrival). x ++ a ∷ []) l.adds ∙ append_assoc old l.more (a ∷ []);
+  at_most = subst (λ (m : ℕ). m ≤ listens) (sym (length-append l.more (a ∷ []) ∙ ap (λ (m : ℕ). m + 1) l.listened)) within;
+}
+at_most_so n listens a old now l within (behind h c is) = record {
+  more = l.more;
+  adds = is ∙ l.adds;
+  at_most = subst (λ (m : ℕ). m ≤ listens) (sym l.listened) (omega arith);
+}
+
 -- A close came.
 
 pub closed_so : (came : List Arrival) (a : Arrival) → Counts came a → line_of a ≡ line.Closed → has_closed (came_with came a) ≡ true
@@ -469,10 +491,18 @@ closed_so came silence c is = cc
 closed_so came close (counted h with_it) is = ap has_closed with_it ∙ closed_close came
 closed_so came close (behind h a with_it) is = ap has_closed with_it ∙ h
 
-pub has_closed_then : (a : Arrival) (u : Told) (told : Option Told) (port : ClockedPort) (reader : Progress) (port' : ClockedPort) (reader' : Progress)
-    (aired' : Option Item) (told' : Option Told)
-    → told ≡ Some u → MayCome a told → line_of a ≡ line.Closed → Serves a port reader (adds_came a told) port' reader' aired' told'
-    → IfTold told' (λ v. IsTrue (has_closed v.came))
-has_closed_then a u told port reader port' reader' aired' told' is may c e =
+pub has_closed_then : (n turns : ℕ) (a : Arrival) (t u : Told) (told : Option Told) (port : ClockedPort) (reader : Progress) (port' : ClockedPort)
+    (reader' : Progress) (aired' : Option Item) (told' : Option Told)
+    → told ≡ Some u → AllListened n t.came u.came → n + 1 ≤ turns → MayCome a told → line_of a ≡ line.Closed
+    → Serves a port reader (adds_came a told) port' reader' aired' told'
+    → IfTold told' (λ v. IsTrue (has_closed v.came) × AtMostListened turns t.came v.came)
+has_closed_then n turns a t u told port reader port' reader' aired' told' is l within may c e =
     let r = tells_served a u told port reader port' reader' aired' told' is e in
-    (r.0, r.1, ap has_closed r.2.0 ∙ closed_so u.came a (counts u a (subst (MayCome a) is may)) c)
+    let k = counts u a (subst (MayCome a) is may) in (
+      r.0,
+      r.1,
+      (
+        ap has_closed r.2.0 ∙ closed_so u.came a k c,
+        subst (λ (x : List Arrival). AtMostListened turns t.came x) (sym r.2.0) (at_most_so n turns a t.came u.came l within k),
+      ),
+    )

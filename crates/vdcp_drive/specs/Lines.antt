@@ -1,5 +1,5 @@
 -- What a driver answers to what came.
-use Rattle.std.specs.Prelude.{ℕ, ◌≡◌, Bool, true, false, IsTrue, IsSome, IsNone, Option, Some, None, List, ◌++◌, length}
+use Rattle.std.specs.Prelude.{ℕ, ◌≡◌, ◌≤◌, Bool, true, false, IsTrue, IsSome, IsNone, Option, Some, None, List, ◌++◌, length}
 use Rattle.vdcp_auto.specs.declared.outcome.Outcome.{Outcome}
 use Rattle.vdcp_drive.specs.declared.line.Line.{Line}
 use Rattle.vdcp_drive.specs.declared.line.Line.TheVariants as line
@@ -25,14 +25,20 @@ pub record AllListened (listens : ℕ) (old new : List Arrival) : Type 0 where
   pub listened : length more ≡ listens
   pub no_close : has_closed more ≡ false
 
+-- at most so many listens were made
+pub record AtMostListened (listens : ℕ) (old new : List Arrival) : Type 0 where
+  pub more : List Arrival
+  pub adds : new ≡ old ++ more
+  pub at_most : length more ≤ listens
+
 -- what so many turns of a server answer, by what came before and since
 abbrev pub ServesTo : Ran → ℕ → List Arrival → List Arrival → Type 0
 ServesTo ran.Ended turns old new = ⊥
-ServesTo ran.Closed turns old new = IsTrue (has_closed new)
+ServesTo ran.Closed turns old new = IsTrue (has_closed new) × AtMostListened turns old new
 ServesTo ran.Spent turns old new = AllListened turns old new
 
 -- what a run of so many listens answers, by how the controller has ended, if it has
 abbrev pub RunsTo : Ran → Option Outcome → ℕ → List Arrival → List Arrival → Type 0
-RunsTo ran.Ended outcome listens old new = IsSome outcome
-RunsTo ran.Closed outcome listens old new = IsNone outcome × IsTrue (has_closed new)
+RunsTo ran.Ended outcome listens old new = IsSome outcome × AtMostListened listens old new
+RunsTo ran.Closed outcome listens old new = IsNone outcome × IsTrue (has_closed new) × AtMostListened listens old new
 RunsTo ran.Spent outcome listens old new = IsNone outcome × AllListened listens old new

@@ -1,3 +1,5 @@
+use thiserror::Error;
+
 /// What one listen brought to a driver.
 #[derive(Clone, Copy, Debug, PartialEq, Eq)]
 pub enum Line {
@@ -21,8 +23,9 @@ pub enum Ran {
 }
 
 /// Why a driver gives up.
-#[derive(Clone, Copy, Debug, PartialEq, Eq)]
+#[derive(Clone, Copy, Debug, PartialEq, Eq, Error)]
 pub enum DriveFault {
     /// The wire failed, in this call or an earlier one: the driver sends nothing any more.
+    #[error("the line failed")]
     Device,
 }

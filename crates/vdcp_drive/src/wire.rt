@@ -1,5 +1,8 @@
+use thiserror::Error;
+
 /// A wire failed.
-#[derive(Clone, Copy, Debug, PartialEq, Eq)]
+#[derive(Clone, Copy, Debug, PartialEq, Eq, Error)]
+#[error("the line failed")]
 pub struct WireFault;
 
 /// What one `listen` brings.

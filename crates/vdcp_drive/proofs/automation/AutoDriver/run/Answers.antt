@@ -75,9 +75,9 @@ returns-in-Closed-clause-answer g c t is =
     let l = c.listens.self in
     let h = c.listens.invariant.listened t is in
     let e = c.in_ok-listen.ensures.hears in
-    let o = closed_on h.0 l.unit (given (plan_of g.S.Source.items l.controller) l.controller.state) c.in_ok-send.field-0 e.0 (told l.wire)
-    (told c.send.new.self.wire) (told c.listen.new.self.wire) h.1 c.in_ok-send.ensures.sends (sym e.1 ∙ c.in-Closed.is) e.2 e.4 in
-    (o.0, o.1, rw c.unless_ended.ensures (closes_to _ c.args.listens t.came o.0.came o.2))
+    let o = closed_on c.listens.made c.args.listens t h.0 l.unit (given (plan_of g.S.Source.items l.controller) l.controller.state) c.in_ok-send.field-0 e.0
+    (told l.wire) (told c.send.new.self.wire) (told c.listen.new.self.wire) h.1 h.2 (omega arith) c.in_ok-send.ensures.sends (sym e.1 ∙ c.in-Closed.is) e.2 e.4 in
+    (o.0, o.1, rw c.unless_ended.ensures (closes_to _ c.args.listens t.came o.0.came o.2.0 o.2.1))
 
 pub listens-preserved : goal.listens-preserved
 listens-preserved g c = record {

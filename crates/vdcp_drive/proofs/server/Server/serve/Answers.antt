@@ -35,9 +35,9 @@ returns-in-Closed-clause-answer g c t is =
     let told = g.W.Wire.told in
     let l = c.turns.invariant.listened t is in
     let e = c.in_ok-turn.ensures.serves in
-    has_closed_then e.0 l.0 (told c.turns.self.wire) c.turns.self.port c.turns.self.reader c.turn.new.self.port c.turn.new.self.reader
-    c.turn.new.self.aired (told c.turn.new.self.wire)
-    l.1 e.2 (sym e.1 ∙ c.in-Closed.is) e.3
+    has_closed_then c.turns.made c.args.turns e.0 t l.0 (told c.turns.self.wire) c.turns.self.port c.turns.self.reader c.turn.new.self.port
+    c.turn.new.self.reader c.turn.new.self.aired (told c.turn.new.self.wire)
+    l.1 l.2.0 (omega arith) e.2 (sym e.1 ∙ c.in-Closed.is) e.3
 
 pub returns-in-Closed-clause-sent : goal.returns-in-Closed-clause-sent
 returns-in-Closed-clause-sent g c r is =
