@@ -1,8 +1,0 @@
-pub mod Scripts
-pub mod Wires
-pub mod Bursts
-pub mod Lines
-pub mod Serving
-pub mod Served
-pub mod Hearing
-pub mod Driven

@@ -1,8 +1,0 @@
-//! The worked rows of both drivers over a wire in memory.
-mod automation;
-mod both;
-mod broken;
-mod clips;
-mod hostile;
-mod messages;
-mod server;
