@@ -1,4 +1,3 @@
-mod bound;
 mod clips;
 mod headline;
 mod memory;
