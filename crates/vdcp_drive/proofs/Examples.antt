@@ -1,0 +1,93 @@
+-- What the definitions say of the worked rows: of the port's answers and of the automation's commands.
+use Rattle.std.proofs.Common.{◌≡◌, ℕ, List, [], ◌∷◌, ◌++◌, refl}
+use Rattle.vdcp_auto.specs.Plan.{Plan}
+use Rattle.vdcp_auto.specs.declared.phase.Mode.{Mode}
+use Rattle.vdcp_auto.specs.declared.phase.Mode.TheVariants.{Plain, Confirming}
+use Rattle.vdcp_port.specs.Clock.{ClockedPort, new_port}
+use Rattle.vdcp_drive.specs.Bursts.{ended_bursts, open_burst, finished_bursts}
+use Rattle.vdcp_drive.specs.Driven.{state_after, commands_by, bytes_of, starts_of}
+use Rattle.vdcp_drive.specs.Served.{served, after_bursts}
+use Rattle.vdcp_drive.specs.Wires.{Arrival, bytes, silence, close}
+
+-- commands to port 1 of unit 0, and replies from it
+
+abbrev open_bytes : List ℕ
+open_bytes = 0x02 ∷ 0x04 ∷ 0x30 ∷ 0x01 ∷ 0x01 ∷ 0x01 ∷ 0xCD ∷ []
+
+abbrev select_bytes : List ℕ
+select_bytes = 0x02 ∷ 0x03 ∷ 0x20 ∷ 0x22 ∷ 0x01 ∷ 0xBD ∷ []
+
+abbrev close_bytes : List ℕ
+close_bytes = 0x02 ∷ 0x03 ∷ 0x20 ∷ 0x21 ∷ 0x01 ∷ 0xBE ∷ []
+
+abbrev status_bytes : List ℕ
+status_bytes = 0x02 ∷ 0x03 ∷ 0x30 ∷ 0x05 ∷ 0x01 ∷ 0xCA ∷ []
+
+abbrev granted_bytes : List ℕ
+granted_bytes = 0x02 ∷ 0x03 ∷ 0x30 ∷ 0x81 ∷ 0x01 ∷ 0x4E ∷ []
+
+abbrev idle_bytes : List ℕ
+idle_bytes = 0x02 ∷ 0x04 ∷ 0x30 ∷ 0x85 ∷ 0x01 ∷ 0x01 ∷ 0x49 ∷ []
+
+-- a new port of unit 0 and number 1 without clips
+abbrev port : ClockedPort
+port = new_port [] 0 1 1
+
+-- OPEN; SELECT in two pieces; STATUS; the close
+opening_is_served : served port (bytes open_bytes ∷ silence ∷ bytes (0x02 ∷ 0x03 ∷ 0x20 ∷ []) ∷ bytes (0x22 ∷ 0x01 ∷ 0xBD ∷ []) ∷ silence
+    ∷ bytes status_bytes ∷ silence ∷ close ∷ []) ≡ granted_bytes ++ 0x04 ∷ idle_bytes
+opening_is_served = refl
+
+-- of a burst that the close cuts off, the whole messages are answered
+cut_off_burst_is_given_up : served (after_bursts port (open_bytes ∷ select_bytes ∷ []))
+    (bytes (0x02 ∷ 0x02 ∷ 0x10 ∷ 0x01 ∷ 0xEF ∷ 0x02 ∷ 0x02 ∷ 0x10 ∷ []) ∷ close ∷ []) ≡ 0x04 ∷ []
+cut_off_burst_is_given_up = refl
+
+-- at a silence its end would be answered too
+ended_burst_is_answered : served (after_bursts port (open_bytes ∷ select_bytes ∷ []))
+    (bytes (0x02 ∷ 0x02 ∷ 0x10 ∷ 0x01 ∷ 0xEF ∷ 0x02 ∷ 0x02 ∷ 0x10 ∷ []) ∷ silence ∷ []) ≡ 0x04 ∷ 0x05 ∷ 0x80 ∷ []
+ended_burst_is_answered = refl
+
+-- the bursts of what came
+bursts_are_cut_at_silences : ended_bursts (bytes (1 ∷ []) ∷ bytes (2 ∷ []) ∷ silence ∷ silence ∷ bytes (3 ∷ []) ∷ []) ≡ (1 ∷ 2 ∷ []) ∷ [] ∷ []
+bursts_are_cut_at_silences = refl
+
+last_burst_is_open : open_burst (bytes (1 ∷ []) ∷ silence ∷ bytes (2 ∷ []) ∷ bytes (3 ∷ []) ∷ []) ≡ 2 ∷ 3 ∷ []
+last_burst_is_open = refl
+
+close_finishes_a_burst : finished_bursts (bytes (1 ∷ []) ∷ silence ∷ bytes (2 ∷ []) ∷ close ∷ []) ≡ (1 ∷ []) ∷ (2 ∷ []) ∷ []
+close_finishes_a_burst = refl
+
+-- the plan of an empty playlist for port 1, with limit 3
+abbrev plan : Mode → Plan
+plan mode = record { mode = mode; list = []; port = 1; limit = 3 }
+
+-- an answer and a silence for each command
+abbrev answers : List Arrival
+answers = bytes granted_bytes ∷ silence ∷ bytes (0x04 ∷ []) ∷ silence ∷ bytes idle_bytes ∷ silence ∷ bytes (0x04 ∷ []) ∷ silence ∷ []
+
+empty_playlist_is_played : bytes_of 0 (commands_by (plan Plain) 0 answers (state_after (plan Plain) 0 answers))
+    ≡ open_bytes ++ select_bytes ++ status_bytes ++ close_bytes
+empty_playlist_is_played = refl
+
+each_command_has_a_drop : starts_of 0 (commands_by (plan Plain) 0 answers (state_after (plan Plain) 0 answers)) ≡ 0 ∷ 7 ∷ 13 ∷ 19 ∷ []
+each_command_has_a_drop = refl
+
+-- in confirm mode the three answers behind SELECT end nothing, and SELECT is still awaited
+receipts_confirm_nothing : bytes_of 0 (commands_by (plan Confirming) 0 answers (state_after (plan Confirming) 0 answers)) ≡ open_bytes ++ select_bytes
+receipts_confirm_nothing = refl
+
+-- the commands that only a receipt answers end at a silence
+abbrev confirmed : List Arrival
+confirmed = bytes granted_bytes ∷ silence ∷ silence ∷ bytes idle_bytes ∷ silence ∷ bytes idle_bytes ∷ silence ∷ silence ∷ []
+
+empty_playlist_is_confirmed : bytes_of 0 (commands_by (plan Confirming) 0 confirmed (state_after (plan Confirming) 0 confirmed))
+    ≡ open_bytes ++ select_bytes ++ status_bytes ++ status_bytes ++ close_bytes
+empty_playlist_is_confirmed = refl
+
+-- a close inside a message is a time-out: nothing is awaited then, and OPEN was sent
+abbrev cut_off : List Arrival
+cut_off = bytes (0x02 ∷ 0x03 ∷ 0x30 ∷ []) ∷ close ∷ []
+
+close_is_a_time_out : bytes_of 0 (commands_by (plan Plain) 0 cut_off (state_after (plan Plain) 0 cut_off)) ≡ open_bytes
+close_is_a_time_out = refl

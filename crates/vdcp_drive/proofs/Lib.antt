@@ -1,0 +1,8 @@
+mod Examples
+pub mod Below
+pub mod Cutting
+pub mod Taking
+pub mod Standing
+pub mod Listening
+pub mod Driving
+pub mod Scripting

@@ -1,0 +1,127 @@
+use Rattle.std.proofs.Common.{◌≡◌, ◌+◌, ◌≤◌, ℕ, List, [], sym, ap, subst, ◌∙◌, arith}
+use Rattle.vdcp_auto.specs.Plan.{Plan, View, plan_of}
+use Rattle.vdcp_auto.specs.Turn.{given}
+use Rattle.vdcp_drive.specs.Hearing.{Driving}
+use Rattle.vdcp_drive.specs.Lines.{AllListened}
+use Rattle.vdcp_drive.specs.Wires.{Arrival}
+use Rattle.vdcp_drive.proofs.Below.{Read, Fed}
+use Rattle.vdcp_drive.proofs.Driving.{OneMore, begins, sent_so, unsent_so, on_so, out_so, broken_listen, closes_to, closed_on, listened_on, with_front}
+use Rattle.vdcp_drive.proofs.Taking.{on_err_of}
+use Rattle.vdcp_drive.proofs.automation.AutoDriver.run.Goals as goal
+
+pub returns-in_err-send-clause-broken : goal.returns-in_err-send-clause-broken
+returns-in_err-send-clause-broken g c is works =
+    let told = g.W.Wire.told in
+    let s = c.args.self.now in
+    let l = c.listens.self in
+    let n = c.send.new.self in
+    let plan : Plan = plan_of g.S.Source.items s.controller in
+    let planned : plan_of g.S.Source.items l.controller ≡ plan = ap (plan_of g.S.Source.items) c.listens.invariant.controller in
+    let h = c.listens.invariant.runs is in
+    on_err_of c.from_residual.result
+    (with_front plan s.unit n.controller.state (told n.wire)
+    (unsent_so plan (plan_of g.S.Source.items l.controller) s.unit l.unit h.0 l.controller.state l.reader l.heard (told l.wire) n.controller.state (told n.wire)
+    planned c.listens.invariant.unit h.1 h.2.0 (c.in_err-send.ensures.breaks c.listens.invariant.works)))
+
+pub returns-in_err-listen-clause-broken : goal.returns-in_err-listen-clause-broken
+returns-in_err-listen-clause-broken g c is works =
+    let told = g.W.Wire.told in
+    let s = c.args.self.now in
+    let l = c.listens.self in
+    let n = c.send.new.self in
+    let plan : Plan = plan_of g.S.Source.items s.controller in
+    let planned : plan_of g.S.Source.items l.controller ≡ plan = ap (plan_of g.S.Source.items) c.listens.invariant.controller in
+    let h = c.listens.invariant.runs is in
+    let w = sent_so plan (plan_of g.S.Source.items l.controller) s.unit l.unit h.0 l.controller.state l.reader l.heard c.in_ok-send.field-0 (told l.wire)
+    n.controller.state n.reader n.heard (told n.wire)
+    planned c.listens.invariant.unit (ap (λ (d : Driving _ _). d.reader) c.in_ok-send.ensures.keeps) (ap (λ (d : Driving _ _). d.heard)
+    c.in_ok-send.ensures.keeps)
+    h.1 h.2.0 c.in_ok-send.ensures.sends (ap (λ (v : View _). v.state) c.in_ok-send.ensures.ticks) in
+    let m = c.listen.new.self in
+    let replanned : plan_of g.S.Source.items n.controller ≡ plan = ap (plan_of g.S.Source.items) c.in_ok-send.ensures.controller ∙ planned in
+    let reunited : n.unit ≡ s.unit = ap (λ (d : Driving _ _). d.unit) c.in_ok-send.ensures.keeps ∙ c.listens.invariant.unit in
+    on_err_of c.from_residual-in_err-listen.result
+    (with_front plan s.unit m.controller.state (told m.wire)
+    (broken_listen plan s.unit w.0 n.controller.state n.reader n.heard (told n.wire) m.controller.state (told m.wire)
+    w.1 w.2.0 (ap (λ (d : Driving _ _). d.controller.state) c.in_err-listen.ensures.unchanged) (c.in_err-listen.ensures.breaks c.in_ok-send.ensures.works)))
+
+pub returns-in-Closed-clause-run : goal.returns-in-Closed-clause-run
+returns-in-Closed-clause-run g c is =
+    let law : OneMore = record { logs = c.courses_follow_one_another.ensures.one_more; leaves = c.courses_follow_one_another.ensures.left_by_one_more } in
+    let told = g.W.Wire.told in
+    let s = c.args.self.now in
+    let l = c.listens.self in
+    let n = c.send.new.self in
+    let plan : Plan = plan_of g.S.Source.items s.controller in
+    let planned : plan_of g.S.Source.items l.controller ≡ plan = ap (plan_of g.S.Source.items) c.listens.invariant.controller in
+    let h = c.listens.invariant.runs is in
+    let w = sent_so plan (plan_of g.S.Source.items l.controller) s.unit l.unit h.0 l.controller.state l.reader l.heard c.in_ok-send.field-0 (told l.wire)
+    n.controller.state n.reader n.heard (told n.wire)
+    planned c.listens.invariant.unit (ap (λ (d : Driving _ _). d.reader) c.in_ok-send.ensures.keeps) (ap (λ (d : Driving _ _). d.heard)
+    c.in_ok-send.ensures.keeps)
+    h.1 h.2.0 c.in_ok-send.ensures.sends (ap (λ (v : View _). v.state) c.in_ok-send.ensures.ticks) in
+    let m = c.listen.new.self in
+    let replanned : plan_of g.S.Source.items n.controller ≡ plan = ap (plan_of g.S.Source.items) c.in_ok-send.ensures.controller ∙ planned in
+    let reunited : n.unit ≡ s.unit = ap (λ (d : Driving _ _). d.unit) c.in_ok-send.ensures.keeps ∙ c.listens.invariant.unit in
+    let e = c.in_ok-listen.ensures.hears in
+    let o = out_so law plan (plan_of g.S.Source.items n.controller) s.unit n.unit w.0 n.controller.state n.reader n.heard e.0 (told n.wire)
+    m.controller.state m.reader m.heard (told m.wire)
+    replanned reunited w.1 w.2.0 (sym e.1 ∙ c.in-Closed.is) e.3 e.4 in
+    (o.0, o.1, o.2.0)
+
+pub returns-in-Closed-clause-answer : goal.returns-in-Closed-clause-answer
+returns-in-Closed-clause-answer g c t is =
+    let told = g.W.Wire.told in
+    let l = c.listens.self in
+    let h = c.listens.invariant.listened t is in
+    let e = c.in_ok-listen.ensures.hears in
+    let o = closed_on c.listens.made c.args.listens t h.0 l.unit (given (plan_of g.S.Source.items l.controller) l.controller.state) c.in_ok-send.field-0 e.0
+    (told l.wire) (told c.send.new.self.wire) (told c.listen.new.self.wire) h.1 h.2 (omega arith) c.in_ok-send.ensures.sends (sym e.1 ∙ c.in-Closed.is) e.2 e.4 in
+    (o.0, o.1, rw c.unless_ended.ensures (closes_to _ c.args.listens t.came o.0.came o.2.0 o.2.1))
+
+pub listens-preserved : goal.listens-preserved
+listens-preserved g c = record {
+  within = omega arith;
+  works = c.in_ok-listen.ensures.works;
+  controller = c.in_ok-listen.ensures.controller
+      ∙ ap (λ (v : View _). record v { state = c.listen.new.self.controller.state }) c.in_ok-send.ensures.controller
+      ∙ ap (λ (v : View _). record v { state = c.listen.new.self.controller.state }) c.listens.invariant.controller;
+  unit = c.in_ok-listen.ensures.unit ∙ ap (λ (d : Driving _ _). d.unit) c.in_ok-send.ensures.keeps ∙ c.listens.invariant.unit;
+  listened = λ t is.
+      let told = g.W.Wire.told in
+      let l = c.listens.self in
+      let h = c.listens.invariant.listened t is in
+      let e = c.in_ok-listen.ensures.hears in
+      listened_on c.listens.made t h.0 l.unit (given (plan_of g.S.Source.items l.controller) l.controller.state) c.in_ok-send.field-0 e.0 (told l.wire)
+      (told c.send.new.self.wire) (told c.listen.new.self.wire) h.1 h.2 c.in_ok-send.ensures.sends (λ x. c.in_default.not-Closed (e.1 ∙ x)) e.2 e.4;
+  runs = λ is.
+      let law : OneMore = record { logs = c.courses_follow_one_another.ensures.one_more; leaves = c.courses_follow_one_another.ensures.left_by_one_more } in
+      let read : Read = record {
+        some = c.one_reading.ensures.some;
+        read = c.what_is_followed_is_read.ensures.read;
+        messages =
+            c.what_is_followed_is_read.ensures.messages;
+        further = c.what_is_followed_is_read.ensures.further;
+      } in
+      let fed : Fed = record { start = c.what_is_fed_is_followed.ensures.start; next = c.what_is_fed_is_followed.ensures.next } in
+      let told = g.W.Wire.told in
+      let s = c.args.self.now in
+      let l = c.listens.self in
+      let n = c.send.new.self in
+      let plan : Plan = plan_of g.S.Source.items s.controller in
+      let planned : plan_of g.S.Source.items l.controller ≡ plan = ap (plan_of g.S.Source.items) c.listens.invariant.controller in
+      let h = c.listens.invariant.runs is in
+      let w = sent_so plan (plan_of g.S.Source.items l.controller) s.unit l.unit h.0 l.controller.state l.reader l.heard c.in_ok-send.field-0 (told l.wire)
+      n.controller.state n.reader n.heard (told n.wire)
+      planned c.listens.invariant.unit (ap (λ (d : Driving _ _). d.reader) c.in_ok-send.ensures.keeps) (ap (λ (d : Driving _ _). d.heard)
+      c.in_ok-send.ensures.keeps)
+      h.1 h.2.0 c.in_ok-send.ensures.sends (ap (λ (v : View _). v.state) c.in_ok-send.ensures.ticks) in
+      let m = c.listen.new.self in
+      let replanned : plan_of g.S.Source.items n.controller ≡ plan = ap (plan_of g.S.Source.items) c.in_ok-send.ensures.controller ∙ planned in
+      let reunited : n.unit ≡ s.unit = ap (λ (d : Driving _ _). d.unit) c.in_ok-send.ensures.keeps ∙ c.listens.invariant.unit in
+      let e = c.in_ok-listen.ensures.hears in
+      on_so read fed law c.listens.made plan (plan_of g.S.Source.items n.controller) s.unit n.unit w.0 n.controller.state n.reader n.heard e.0 (told
+      n.wire) m.controller.state m.reader m.heard (told m.wire)
+      replanned reunited w.1 w.2.0 (subst (λ (x : List Arrival). AllListened c.listens.made [] x) (sym w.2.1) h.2.1) (λ x. c.in_default.not-Closed (e.1
+      ∙ x)) e.3 e.4;
+}

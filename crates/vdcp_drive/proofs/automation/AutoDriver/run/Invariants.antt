@@ -1,0 +1,25 @@
+use Rattle.std.proofs.Common.{ℕ, ◌-◌, ◌≡◌, ◌≤◌, []}
+use Rattle.std.specs.Prelude.{Some}
+use Rattle.vdcp_auto.specs.Plan.{plan_of}
+use Rattle.vdcp_drive.specs.Driven.{IsNew}
+use Rattle.vdcp_drive.specs.Lines.{AllListened}
+use Rattle.vdcp_drive.specs.Wires.{Told, IfTold}
+use Rattle.vdcp_drive.proofs.Driving.{RunsAt}
+use Rattle.vdcp_drive.proofs.automation.AutoDriver.run.Given as goal
+
+abbrev pub invariant-listens : goal.invariant-listens
+invariant-listens g l =
+    let told = g.W.Wire.told in
+    record {
+      within : l.made ≤ l.listens;
+      works : g.W.Wire.failures l.self.wire ≡ 0;
+      controller : l.self.controller ≡ record l.fn.self.controller { state = l.self.controller.state };
+      unit : l.self.unit ≡ l.fn.self.unit;
+      listened : (t : Told) → told l.fn.self.wire ≡ Some t → IfTold (told l.self.wire) (λ u. AllListened l.made t.came u.came);
+      runs : IsNew l.fn.self.controller.state l.fn.self.reader l.fn.self.heard (told l.fn.self.wire) →
+          IfTold (told l.self.wire) (λ u. RunsAt (plan_of g.S.Source.items l.fn.self.controller) l.fn.self.unit u l.self.controller.state l.self.reader
+          l.self.heard × AllListened l.made [] u.came);
+    }
+
+abbrev pub decreases-listens : goal.decreases-listens
+decreases-listens g l = l.listens - l.made

@@ -1,0 +1,8 @@
+pub mod Scripts
+pub mod Wires
+pub mod Bursts
+pub mod Lines
+pub mod Serving
+pub mod Served
+pub mod Hearing
+pub mod Driven

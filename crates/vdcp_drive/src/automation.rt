@@ -1,0 +1,338 @@
+ghost use Rattle.std.specs.Prelude.{◌≡◌, ◌<◌, ◌≤◌, ◌↔◌, false, [], ◌∷◌, ◌++◌, List, ℕ, length, take, IsSome, OnOk, OnErr, IfOk, IsErr, Some, None};
+ghost use Rattle.vdcp_frame.specs.Message.{content_of, AreOctets};
+ghost use Rattle.vdcp_frame.specs.Pieces.{with_message};
+ghost use Rattle.vdcp_frame.specs.Progress.{reading};
+ghost use Rattle.vdcp_frame.specs.Reader.{answer_of};
+ghost use Rattle.vdcp_auto.specs.Plan.{plan_of};
+ghost use Rattle.vdcp_auto.specs.Turn as turns;
+ghost use Rattle.vdcp_drive.specs.Driven.{IsNew, HasRun, HasRunBroken, IsPartlyRun};
+ghost use Rattle.vdcp_drive.specs.Hearing.{HasSent, HasSendBroken, HasHeard, HasReceived, Hears, heard_by_then, command_bytes};
+ghost use Rattle.vdcp_drive.specs.Lines.{line_of, RunsTo, ran_unless_ended};
+ghost use Rattle.vdcp_drive.specs.Wires.{Arrival, Told, IfTold, MayCome, nothing_told, adds_sent, adds_came, SendsFront};
+
+use crate::line::{DriveFault, Line, Ran};
+use crate::wire::{Came, Wire, WireFault};
+use arrayvec::ArrayVec;
+use std::marker::Model;
+use vdcp_auto::{Controller, Heard, Source, laws as courses};
+use vdcp_frame::{Got, Reader, laws as bursts, write};
+use vdcp_words::Command;
+
+/// The automation's end of one playout channel, over a wire.
+///
+/// `send` sends the next command, `listen` brings in what came for it, and `run` does both in turn.
+/// `take` and `stop` are the operator's. `controller` and `wire` only look.
+///
+/// At a silence or a close the first message of the burst is heard; where the burst has none, nothing
+/// came in time.
+#[derive(Drop)]
+pub struct AutoDriver<S: Source, W: Wire> {
+    controller: Controller<S>,
+    unit: u8,
+    wire: W,
+    reader: Reader,
+    heard: Option<Heard>,
+    failed: bool,
+}
+
+impl<S: Source, W: Wire> Model for AutoDriver<S, W> {
+    ghost use Rattle.std.specs.Prelude.{◌≡◌, ◌≤◌, if◌then◌else◌};
+    ghost use Rattle.vdcp_drive.specs.Hearing.{Driving};
+
+    ghost Value = { Driving S W };
+
+    ghost view = { λ d.
+        record { controller = d.controller; unit = d.unit; wire = d.wire; reader = d.reader; heard = d.heard } };
+
+    ghost invariant = { λ d. (d.unit ≤ 15) × (W.failures d.wire ≡ (if d.failed then 1 else 0)) };
+}
+
+impl<S: Source, W: Wire> AutoDriver<S, W> {
+    /// A driver of this controller, which talks to the server at this unit address, 0 to 15.
+    pub fn new(controller: Controller<S>, unit: u8, wire: W) -> Self
+        requires unit { unit ≤ 15 }
+        requires works { W.failures wire ≡ 0 }
+        ensures controller { result.controller ≡ controller }
+        ensures unit { result.unit ≡ unit }
+        ensures wire { result.wire ≡ wire }
+        ensures reader { result.reader ≡ reading 0 [] }
+        ensures heard { result.heard ≡ None }
+    {
+        AutoDriver {
+            controller,
+            unit,
+            wire,
+            reader: Reader::new(),
+            heard: None,
+            failed: false,
+        }
+    }
+
+    /// Its controller.
+    pub fn controller(&self) -> &Controller<S>
+        ensures { result.now ≡ self.now.controller }
+    {
+        &self.controller
+    }
+
+    /// Its wire.
+    pub fn wire(&self) -> &W
+        ensures { result.now ≡ self.now.wire }
+    {
+        &self.wire
+    }
+
+    /// The operator wants the next event though the last one still plays.
+    pub fn take(&mut self)
+        ensures controller { self.new.controller ≡ record self.old.controller { state = turns.taken self.old.controller.state } }
+        ensures keeps { self.new ≡ record self.old { controller = self.new.controller } }
+    {
+        self.controller.take();
+    }
+
+    /// The operator wants to stop.
+    pub fn stop(&mut self)
+        ensures controller { self.new.controller ≡ record self.old.controller { state = turns.stopped self.old.controller.state } }
+        ensures keeps { self.new ≡ record self.old { controller = self.new.controller } }
+    {
+        self.controller.stop();
+    }
+
+    /// Sends the next command, after dropping what waits. False, and nothing is done, where an answer
+    /// is awaited or the controller has ended. `Device` where the wire failed, now or before.
+    pub fn send(&mut self) -> Result<bool, DriveFault>
+        ensures sends { IfOk result (λ is_sent. HasSent self.old.unit (turns.given (plan_of S.items self.old.controller) self.old.controller.state)
+            is_sent (W.told self.old.wire) (W.told self.new.wire)) }
+        ensures nothing { IfOk result (λ is_sent. is_sent ≡ false → self.new ≡ self.old) }
+        ensures ticks { OnOk result (self.new.controller ≡ record self.old.controller { state = turns.ticked self.old.controller.state }) }
+        ensures breaks { W.failures self.old.wire ≡ 0 → OnErr result (HasSendBroken (plan_of S.items self.old.controller) self.old.unit
+            self.old.controller.state self.new.controller.state (W.told self.old.wire) (W.told self.new.wire)) }
+        ensures controller { self.new.controller ≡ record self.old.controller { state = self.new.controller.state } }
+        ensures keeps { self.new ≡ record self.old { controller = self.new.controller; wire = self.new.wire } }
+        ensures works { OnOk result (W.failures self.new.wire ≡ 0) }
+        ensures device { OnErr result (W.failures self.new.wire ≡ 1) }
+        ensures stays { W.failures self.old.wire ≡ 1 → IsErr result × (self.new ≡ self.old) }
+    {
+        if self.failed {
+            return Err(DriveFault::Device);
+        }
+        match send_next(&mut self.controller, self.unit, &mut self.wire) {
+            Ok(is_sent) => Ok(is_sent),
+            Err(WireFault) => {
+                self.failed = true;
+                Err(DriveFault::Device)
+            }
+        }
+    }
+
+    /// So many listens, or up to the close or the controller's end. It sends the next command only
+    /// while a listen is left. `Device` where the wire failed, now or before.
+    pub fn run(&mut self, listens: u64) -> Result<Ran, DriveFault>
+        // Of a new automation: a new controller, and a fresh wire that tells its bytes.
+        ensures run { IsNew self.old.controller.state self.old.reader self.old.heard (W.told self.old.wire) →
+            OnOk result (IfTold (W.told self.new.wire) (λ u. HasRun (plan_of S.items self.old.controller) self.old.unit u self.new.controller.state)) }
+        ensures broken { IsNew self.old.controller.state self.old.reader self.old.heard (W.told self.old.wire) → W.failures self.old.wire ≡ 0 →
+            OnErr result (IfTold (W.told self.new.wire) (λ u. HasRunBroken (plan_of S.items self.old.controller) self.old.unit u self.new.controller.state
+            × IsPartlyRun (plan_of S.items self.old.controller) self.old.unit u self.new.controller.state)) }
+        // Of any automation: over any wire, and over one that tells its bytes.
+        ensures ended { IfOk result (λ ran. (ran ≡ Ran.Ended) ↔ IsSome (turns.outcome_of self.new.controller.state.stage)) }
+        ensures answer { (t : Told) → W.told self.old.wire ≡ Some t →
+            IfOk result (λ ran. IfTold (W.told self.new.wire) (λ u. RunsTo ran (turns.outcome_of self.new.controller.state.stage) listens t.came u.came)) }
+        ensures controller { self.new.controller ≡ record self.old.controller { state = self.new.controller.state } }
+        ensures unit { self.new.unit ≡ self.old.unit }
+        ensures works { OnOk result (W.failures self.new.wire ≡ 0) }
+        ensures device { OnErr result (W.failures self.new.wire ≡ 1) }
+        ensures stays { W.failures self.old.wire ≡ 1 → IsErr result × (self.new ≡ self.old) }
+    {
+        courses::courses_follow_one_another();
+        bursts::one_reading();
+        bursts::what_is_followed_is_read();
+        bursts::what_is_fed_is_followed();
+        if self.failed {
+            return Err(DriveFault::Device);
+        }
+        let mut made = 0;
+        'listens: while made < listens {
+            self.send()?;
+            if !self.controller().awaiting() {
+                return Ok(Ran::Ended);
+            }
+            if let Line::Closed = self.listen()? {
+                return Ok(self.unless_ended(Ran::Closed));
+            }
+            made += 1;
+        }
+        Ok(self.unless_ended(Ran::Spent))
+    }
+
+    // That the controller has ended goes before any other answer.
+    fn unless_ended(&self, ran: Ran) -> Ran
+        ensures { result ≡ ran_unless_ended (turns.outcome_of self.now.controller.state.stage) ran }
+    {
+        match self.controller.outcome() {
+            Some(_) => Ran::Ended,
+            None => ran,
+        }
+    }
+
+    /// One `listen` while an answer is awaited, and what comes of it. `Device` where the wire failed,
+    /// now or before.
+    pub fn listen(&mut self) -> Result<Line, DriveFault>
+        requires { IsSome (turns.awaited (plan_of S.items self.old.controller) self.old.controller.state) }
+        ensures hears { IfOk result (λ line. (a : Arrival) × (line ≡ line_of a) × MayCome a (W.told self.old.wire)
+            × Hears (plan_of S.items self.old.controller) self.old.unit a self.old.controller.state self.old.reader self.old.heard
+            self.new.controller.state self.new.reader self.new.heard
+            × (W.told self.new.wire ≡ adds_came a (W.told self.old.wire))) }
+        ensures breaks { W.failures self.old.wire ≡ 0 → OnErr result (W.told self.new.wire ≡ W.told self.old.wire) }
+        ensures unchanged { OnErr result (self.new ≡ record self.old { wire = self.new.wire }) }
+        ensures controller { self.new.controller ≡ record self.old.controller { state = self.new.controller.state } }
+        ensures unit { self.new.unit ≡ self.old.unit }
+        ensures works { OnOk result (W.failures self.new.wire ≡ 0) }
+        ensures device { OnErr result (W.failures self.new.wire ≡ 1) }
+        ensures stays { W.failures self.old.wire ≡ 1 → IsErr result × (self.new ≡ self.old) }
+    {
+        if self.failed {
+            return Err(DriveFault::Device);
+        }
+        match hear(
+            &mut self.controller,
+            self.unit,
+            &mut self.reader,
+            &mut self.heard,
+            &mut self.wire,
+        ) {
+            Ok(line) => Ok(line),
+            Err(WireFault) => {
+                self.failed = true;
+                Err(DriveFault::Device)
+            }
+        }
+    }
+}
+
+// Sends the next command, if there is one, after dropping what waits. Answers whether there was one.
+fn send_next<S: Source, W: Wire>(
+    controller: &mut Controller<S>,
+    unit: u8,
+    wire: &mut W,
+) -> Result<bool, WireFault>
+    requires unit { unit ≤ 15 }
+    requires works { W.failures wire.old ≡ 0 }
+    ensures sends { IfOk result (λ is_sent. HasSent unit (turns.given (plan_of S.items controller.old) controller.old.state)
+        is_sent (W.told wire.old) (W.told wire.new)) }
+    ensures nothing { IfOk result (λ is_sent. is_sent ≡ false → (controller.new ≡ controller.old) × (wire.new ≡ wire.old)) }
+    ensures ticks { OnOk result (controller.new ≡ record controller.old { state = turns.ticked controller.old.state }) }
+    ensures breaks { OnErr result (HasSendBroken (plan_of S.items controller.old) unit
+        controller.old.state controller.new.state (W.told wire.old) (W.told wire.new)) }
+    ensures controller { controller.new ≡ record controller.old { state = controller.new.state } }
+    ensures works { OnOk result (W.failures wire.new ≡ 0) }
+    ensures failed { OnErr result (W.failures wire.new ≡ 1) }
+{
+    if !controller.is_ready() {
+        return Ok(false);
+    }
+    wire.drop_waiting()?;
+    if let Some(command) = controller.tick() {
+        send_command(&command, unit, wire)?;
+    }
+    Ok(true)
+}
+
+// Sends the bytes of a command.
+fn send_command<W: Wire>(command: &Command, unit: u8, wire: &mut W) -> Result<(), WireFault>
+    requires unit { unit ≤ 15 }
+    requires works { W.failures wire.old ≡ 0 }
+    ensures sent { OnOk result (W.told wire.new ≡ adds_sent (command_bytes unit command.now) (W.told wire.old)) }
+    ensures front { OnErr result (SendsFront (command_bytes unit command.now) (W.told wire.old) (W.told wire.new)) }
+    ensures works { OnOk result (W.failures wire.new ≡ 0) }
+    ensures failed { OnErr result (W.failures wire.new ≡ 1) }
+{
+    let mut room = [0; 16];
+    let message = command.to_message(unit, &mut room);
+    let mut bytes = ArrayVec::<u8, 512>::new();
+    write(&message, &mut bytes).unwrap();
+    wire.send(bytes.as_slice())
+}
+
+// One `listen`, and what comes of it.
+fn hear<S: Source, W: Wire>(
+    controller: &mut Controller<S>,
+    unit: u8,
+    reader: &mut Reader,
+    heard: &mut Option<Heard>,
+    wire: &mut W,
+) -> Result<Line, WireFault>
+    requires { W.failures wire.old ≡ 0 }
+    ensures hears { IfOk result (λ line. (a : Arrival) × (line ≡ line_of a) × MayCome a (W.told wire.old)
+        × Hears (plan_of S.items controller.old) unit a controller.old.state reader.old heard.old controller.new.state reader.new heard.new
+        × (W.told wire.new ≡ adds_came a (W.told wire.old))) }
+    ensures broken { OnErr result (W.told wire.new ≡ W.told wire.old) }
+    ensures unchanged { OnErr result ((controller.new ≡ controller.old) × (reader.new ≡ reader.old) × (heard.new ≡ heard.old)) }
+    ensures controller { controller.new ≡ record controller.old { state = controller.new.state } }
+    ensures works { OnOk result (W.failures wire.new ≡ 0) }
+    ensures failed { OnErr result (W.failures wire.new ≡ 1) }
+{
+    let mut buffer = [0; 512];
+    match wire.listen(&mut buffer)? {
+        Came::Bytes(n) => {
+            take_piece(unit, reader, heard, &buffer[..n]);
+            Ok(Line::More)
+        }
+        Came::Silence => {
+            end_burst(controller, reader, heard);
+            Ok(Line::Ended)
+        }
+        Came::Closed => {
+            end_burst(controller, reader, heard);
+            Ok(Line::Closed)
+        }
+    }
+}
+
+// Takes bytes of a burst, and keeps what is heard first.
+fn take_piece(unit: u8, reader: &mut Reader, heard: &mut Option<Heard>, piece: &[u8])
+    ensures heard { HasHeard unit reader.old heard.old piece.now reader.new heard.new }
+    ensures fits { AreOctets piece.now }
+{
+    let mut at = 0;
+    'piece: while at < piece.len() {
+        at += take_some(unit, reader, heard, &piece[at..]);
+    }
+}
+
+// Takes bytes up to the end of one message or one fault, or all of them. Answers how many.
+fn take_some(unit: u8, reader: &mut Reader, heard: &mut Option<Heard>, piece: &[u8]) -> usize
+    ensures within { result ≤ length piece.now }
+    ensures some { 0 < length piece.now → 0 < result }
+    ensures heard { HasHeard unit reader.old heard.old (take result piece.now) reader.new heard.new }
+{
+    bursts::what_is_fed_is_followed();
+    let (taken, got) = reader.feed(piece);
+    keep_first(&got, unit, heard);
+    taken
+}
+
+// Keeps what is heard in a message, unless one was heard before.
+fn keep_first(got: &Got<'_>, unit: u8, heard: &mut Option<Heard>)
+    ensures { heard.new ≡ heard_by_then unit heard.old (with_message (answer_of got.now) []) }
+{
+    if let Got::Message(message) = got {
+        if heard.is_none() {
+            *heard = Some(Heard::of_message(message, unit));
+        }
+    }
+}
+
+// The burst ends: the controller hears what was heard of it, or else that nothing came.
+fn end_burst<S: Source>(
+    controller: &mut Controller<S>,
+    reader: &mut Reader,
+    heard: &mut Option<Heard>,
+)
+    ensures received { HasReceived (plan_of S.items controller.old) controller.old.state heard.old controller.new.state reader.new heard.new }
+    ensures controller { controller.new ≡ record controller.old { state = controller.new.state } }
+{
+    reader.silence();
+    controller.receive(*heard);
+    *heard = None;
+}

@@ -1,0 +1,30 @@
+//! Both ends of a playout channel over a wire: the server with its port, and the automation with its
+//! controller.
+//!
+//! The caller has a `Wire`, which carries bytes, and hands it to a driver. Both drivers decide nothing
+//! themselves: what to answer the port says, what to send the controller does. They hold no burst, only
+//! what a `Reader` does, and take no memory.
+//!
+//! ```text
+//! let mut server = Server::new(port, wire);
+//! server.serve(turns)?            or turn by turn: server.turn()?, server.aired()
+//!
+//! let mut auto = AutoDriver::new(controller, unit, wire);
+//! auto.run(listens)?              or step by step: while auto.send()? { auto.listen()?, until nothing is awaited }
+//! ```
+#![tactic(auto)]
+
+mod automation;
+mod line;
+mod script;
+mod server;
+mod wire;
+
+pub use automation::AutoDriver;
+pub use line::{DriveFault, Line, Ran};
+pub use script::{Entry, ScriptWire};
+pub use server::Server;
+pub use wire::{Came, Wire, WireFault};
+
+#[cfg(test)]
+mod tests;

@@ -1,0 +1,266 @@
+ghost use Rattle.std.specs.Prelude.{◌≡◌, false, OnOk, OnErr, IfOk, Some};
+ghost use Rattle.vdcp_drive.specs.Scripts.{closes};
+ghost use Rattle.vdcp_drive.specs.Wires.{arrival_of, adds_came, has_closed, MayCome, FitsBuffer};
+
+use crate::wire::{Came, Wire, WireFault};
+use std::alloc::{AllocError, Allocator};
+use std::marker::Model;
+
+/// What happens on a `ScriptWire`.
+#[derive(Drop)]
+pub enum Entry<A: Allocator> {
+    /// These bytes come, in pieces of 512 at most.
+    Came(Vec<u8, A>),
+    /// A silence.
+    Silence,
+    /// The other end closes.
+    Closed,
+    /// These bytes come, unless they are dropped before they are listened to.
+    Stale(Vec<u8, A>),
+}
+
+/// The call that is to fail, counted from 1, and how much of its bytes a send sends before that.
+#[derive(Clone, Copy)]
+struct Failure {
+    call: u64,
+    part: usize,
+}
+
+/// A wire in memory, which gives what a script says and tells its bytes. Where memory is refused, the
+/// wire fails.
+///
+/// `listen` gives the entries in order, and behind the last one that the other end has closed.
+/// `drop_waiting` takes the `Stale` entries that stand next.
+#[derive(Drop)]
+pub struct ScriptWire<A: Allocator + Copy> {
+    alloc: A,
+    entries: Vec<Entry<A>, A>,
+    /// The entry that comes next, and how many of its bytes were given.
+    next: usize,
+    given: usize,
+    sent: Vec<u8, A>,
+    /// What each `listen` gave, up to the first close, each with the buffer as it was then.
+    came: Vec<(Came, [u8; 512]), A>,
+    drops: Vec<usize, A>,
+    closed: bool,
+    calls: u64,
+    failure: Option<Failure>,
+    failed: bool,
+}
+
+impl<A: Allocator + Copy> Model for ScriptWire<A> {
+    ghost use Rattle.std.specs.Prelude.{◌≡◌};
+    ghost use Rattle.vdcp_drive.specs.Wires.{has_closed};
+    ghost use Rattle.vdcp_drive.specs.Scripts.{Script, arrivals};
+
+    ghost Value = { Script };
+
+    ghost view = { λ w. record {
+      told = record { sent = w.sent.items; came = arrivals w.came.items; drops = w.drops.items };
+      failed = w.failed;
+    } };
+
+    ghost invariant = { λ w. w.closed ≡ has_closed (arrivals w.came.items) };
+}
+
+impl<A: Allocator + Copy> ScriptWire<A> {
+    ghost use Rattle.vdcp_drive.specs.Wires.{nothing_told};
+
+    /// A fresh wire of this script. It takes memory by `alloc`, and none now.
+    pub fn new(alloc: A, entries: Vec<Entry<A>, A>) -> Self
+        ensures told { result.told ≡ nothing_told }
+        ensures works { result.failed ≡ false }
+    {
+        ScriptWire {
+            alloc,
+            entries,
+            next: 0,
+            given: 0,
+            sent: Vec::new(alloc),
+            came: Vec::new(alloc),
+            drops: Vec::new(alloc),
+            closed: false,
+            calls: 0,
+            failure: None,
+            failed: false,
+        }
+    }
+
+    /// All bytes that were sent.
+    pub fn sent(&self) -> &[u8]
+        ensures { result.now ≡ self.now.told.sent }
+    {
+        self.sent.as_slice()
+    }
+
+    /// How many bytes had been sent at each `drop_waiting`.
+    pub fn drops(&self) -> &[usize]
+        ensures { result.now ≡ self.now.told.drops }
+    {
+        self.drops.as_slice()
+    }
+
+    /// The `call`-th call of the wire, counted from 1, is to fail. A send sends the first `part` of its
+    /// bytes before that, or all where it has fewer; any other call takes nothing.
+    pub fn fail_at(&mut self, call: u64, part: usize)
+        ensures { self.new ≡ self.old }
+    {
+        self.failure = Some(Failure { call, part });
+    }
+
+    // Counts a call, and tells whether it is to fail, and with how much of a send's bytes sent before.
+    fn count_call(&mut self) -> Option<usize>
+        ensures { self.new ≡ self.old }
+    {
+        self.calls = self.calls.saturating_add(1);
+        match self.failure {
+            Some(failure) if failure.call == self.calls => Some(failure.part),
+            Some(_) | None => None,
+        }
+    }
+
+    // What comes next. Its bytes, if it has some, are put into the buffer.
+    fn peek(&self, buffer: &mut [u8; 512]) -> Came
+        ensures { FitsBuffer result }
+    {
+        match self.entries.get(self.next) {
+            Some(Entry::Came(bytes)) => put(bytes.as_slice(), self.given, buffer),
+            Some(Entry::Stale(bytes)) => put(bytes.as_slice(), self.given, buffer),
+            Some(Entry::Silence) => Came::Silence,
+            Some(Entry::Closed) => Came::Closed,
+            None => Came::Closed,
+        }
+    }
+
+    // Goes on behind what was given.
+    fn advance(&mut self, came: Came)
+        ensures { self.new ≡ self.old }
+    {
+        if let Came::Bytes(n) = came {
+            self.given = self.given.saturating_add(n);
+        }
+        let is_over = match self.entries.get(self.next) {
+            Some(Entry::Came(bytes)) => bytes.len() <= self.given,
+            Some(Entry::Stale(bytes)) => bytes.len() <= self.given,
+            Some(Entry::Silence) => true,
+            Some(Entry::Closed) => false,
+            None => false,
+        };
+        if is_over {
+            self.next += 1;
+            self.given = 0;
+        }
+    }
+
+    // Keeps what came; only the first close counts.
+    fn keep(&mut self, came: Came, buffer: &[u8; 512]) -> Result<(), AllocError>
+        ensures came { OnOk result (Some self.new.told ≡ adds_came (arrival_of came buffer.now) (Some self.old.told)) }
+        ensures kept { OnErr result (self.new ≡ self.old) }
+        ensures failed { self.new.failed ≡ self.old.failed }
+    {
+        if self.closed {
+            return Ok(());
+        }
+        self.came.push((came, *buffer))?;
+        self.closed = is_close(came);
+        Ok(())
+    }
+
+    // Gives what comes next.
+    fn give(&mut self, buffer: &mut [u8; 512]) -> Result<Came, AllocError>
+        ensures fits { IfOk result FitsBuffer }
+        ensures came { IfOk result (λ c. Some self.new.told ≡ adds_came (arrival_of c buffer.new) (Some self.old.told)) }
+        ensures may_come { IfOk result (λ c. MayCome (arrival_of c buffer.new) (Some self.old.told)) }
+        ensures kept { OnErr result (self.new ≡ self.old) }
+        ensures failed { self.new.failed ≡ self.old.failed }
+    {
+        if self.is_closed() {
+            self.keep(Came::Closed, buffer)?;
+            return Ok(Came::Closed);
+        }
+        let came = self.peek(buffer);
+        self.keep(came, buffer)?;
+        self.advance(came);
+        Ok(came)
+    }
+
+    fn is_closed(&self) -> bool
+        ensures { result ≡ has_closed self.now.told.came }
+    {
+        self.closed
+    }
+}
+
+fn is_close(came: Came) -> bool
+    ensures { result ≡ closes came }
+{
+    match came {
+        Came::Bytes(_) => false,
+        Came::Silence => false,
+        Came::Closed => true,
+    }
+}
+
+// Puts the next piece of some bytes, of which so many were given, into the buffer.
+fn put(bytes: &[u8], given: usize, buffer: &mut [u8; 512]) -> Came
+    ensures { FitsBuffer result }
+{
+    let rest = &bytes[given.min(bytes.len())..];
+    let n = rest.len().min(512);
+    buffer[..n].copy_from_slice(&rest[..n]);
+    Came::Bytes(n)
+}
+
+impl<A: Allocator + Copy> Wire for ScriptWire<A> {
+    ghost use Rattle.std.specs.Prelude.{Some, if◌then◌else◌};
+    ghost use Rattle.vdcp_drive.specs.Scripts.{fails_at_most_once};
+
+    ghost told = { λ w. Some w.told };
+
+    ghost failures = { λ w. if w.failed then 1 else 0 };
+
+    fn send(&mut self, bytes: &[u8]) -> Result<(), WireFault> {
+        let part = self.count_call();
+        let size = part.unwrap_or(bytes.len()).min(bytes.len());
+        let grown = self.sent.extend_from_slice(&bytes[..size]);
+        if part.is_none() && grown.is_ok() {
+            return Ok(());
+        }
+        self.failed = true;
+        Err(WireFault)
+    }
+
+    fn listen(&mut self, buffer: &mut [u8; 512]) -> Result<Came, WireFault> {
+        if self.count_call().is_none() {
+            if let Ok(came) = self.give(buffer) {
+                return Ok(came);
+            }
+        }
+        self.failed = true;
+        Err(WireFault)
+    }
+
+    fn drop_waiting(&mut self) -> Result<(), WireFault> {
+        if self.count_call().is_some() || self.drops.push(self.sent.len()).is_err() {
+            self.failed = true;
+            return Err(WireFault);
+        }
+        let next = behind_stale(&self.entries, self.next);
+        if next != self.next {
+            self.next = next;
+            self.given = 0;
+        }
+        Ok(())
+    }
+
+    ghost fails_once = { λ w. fails_at_most_once w.failed };
+}
+
+// The first place from this one on that has no stale entry.
+fn behind_stale<A: Allocator>(entries: &Vec<Entry<A>, A>, from: usize) -> usize {
+    let mut next = from;
+    'stale: while let Some(Entry::Stale(_)) = entries.get(next) {
+        next += 1;
+    }
+    next
+}

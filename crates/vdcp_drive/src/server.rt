@@ -1,0 +1,308 @@
+ghost use Rattle.std.specs.Option.{option_to_list};
+ghost use Rattle.std.specs.Prelude.{◌≡◌, ◌<◌, ◌≤◌, ◌↔◌, ◌⊎◌, ◌++◌, [], ◌∷◌, List, ℕ, length, take, OnOk, OnErr, IfOk, IsErr, Some, None};
+ghost use Rattle.vdcp_frame.specs.Message.{content_of, AreOctets};
+ghost use Rattle.vdcp_frame.specs.Progress.{reading};
+ghost use Rattle.vdcp_port.specs.Answers.{answer_bytes, bytes_for, items_for};
+ghost use Rattle.vdcp_port.specs.Clock.{ClockedPort, after_message};
+ghost use Rattle.vdcp_drive.specs.Lines.{line_of, ServesTo};
+ghost use Rattle.vdcp_drive.specs.Served.{IsServed, IsPartlySent, HasBrokenOff, served, port_after};
+ghost use Rattle.vdcp_drive.specs.Serving.{HasTaken, HasBroken, HasEnded, HasEndBroken, Serves, Breaks, last_aired};
+ghost use Rattle.vdcp_drive.specs.Wires.{Arrival, Told, IfTold, MayCome, nothing_told, adds_sent, adds_came, SendsFront};
+
+use crate::line::{DriveFault, Line, Ran};
+use crate::wire::{Came, Wire, WireFault};
+use arrayvec::ArrayVec;
+use std::marker::Model;
+use vdcp_frame::{Got, Message, Reader, laws as bursts, write};
+use vdcp_port::{Catalogue, Port, laws as answers, reply_at_end};
+use vdcp_value::Item;
+use vdcp_words::Reply;
+
+/// The server's end of one playout channel, over a wire.
+///
+/// `turn` and `serve` listen and answer; `wire`, `port` and `aired` only look. An answer goes out as
+/// soon as its message is read. At a silence the burst ends: its end is answered, and then one frame
+/// passes at the port.
+#[derive(Drop)]
+pub struct Server<C: Catalogue, W: Wire> {
+    port: Port<C>,
+    wire: W,
+    reader: Reader,
+    aired: Option<Item>,
+    failed: bool,
+}
+
+impl<C: Catalogue, W: Wire> Model for Server<C, W> {
+    ghost use Rattle.std.specs.Prelude.{◌≡◌, if◌then◌else◌};
+    ghost use Rattle.vdcp_drive.specs.Serving.{Serving};
+
+    ghost Value = { Serving W };
+
+    ghost view = { λ s. record { port = s.port; wire = s.wire; reader = s.reader; aired = s.aired } };
+
+    ghost invariant = { λ s. W.failures s.wire ≡ (if s.failed then 1 else 0) };
+}
+
+impl<C: Catalogue, W: Wire> Server<C, W> {
+    /// A server with this port, at the start of a burst.
+    pub fn new(port: Port<C>, wire: W) -> Self
+        requires { W.failures wire ≡ 0 }
+        ensures port { result.port ≡ port }
+        ensures wire { result.wire ≡ wire }
+        ensures reader { result.reader ≡ reading 0 [] }
+        ensures aired { result.aired ≡ None }
+    {
+        Server {
+            port,
+            wire,
+            reader: Reader::new(),
+            aired: None,
+            failed: false,
+        }
+    }
+
+    /// Its wire.
+    pub fn wire(&self) -> &W
+        ensures { result.now ≡ self.now.wire }
+    {
+        &self.wire
+    }
+
+    /// Its port.
+    pub fn port(&self) -> &Port<C>
+        ensures { result.now ≡ self.now.port }
+    {
+        &self.port
+    }
+
+    /// The item that the last turn put to air, if it put one there.
+    pub fn aired(&self) -> Option<Item>
+        ensures { result ≡ self.now.aired }
+    {
+        self.aired
+    }
+
+    /// So many turns, or up to the close. `Device` where the wire failed, now or before.
+    pub fn serve(&mut self, turns: u64) -> Result<Ran, DriveFault>
+        // Of a new server, whose fresh wire tells its bytes: what is sent, and the port that this leaves.
+        ensures sent { self.old.reader ≡ reading 0 [] → W.told self.old.wire ≡ Some nothing_told →
+            OnOk result (IfTold (W.told self.new.wire) (λ u. u.sent ≡ served self.old.port u.came)) }
+        ensures port { self.old.reader ≡ reading 0 [] → W.told self.old.wire ≡ Some nothing_told →
+            OnOk result (IfTold (W.told self.new.wire) (λ u. self.new.port ≡ port_after self.old.port u.came)) }
+        ensures broken { self.old.reader ≡ reading 0 [] → W.told self.old.wire ≡ Some nothing_told → W.failures self.old.wire ≡ 0 →
+            OnErr result (IfTold (W.told self.new.wire) (λ u. HasBrokenOff self.old.port u self.new.port × IsPartlySent self.old.port u)) }
+        // Of a server that began with some port, and has served what its wire tells that came.
+        ensures served { (start : ClockedPort) (t : Told) → W.told self.old.wire ≡ Some t → IsServed start t self.old.port self.old.reader →
+            OnOk result (IfTold (W.told self.new.wire) (λ u. IsServed start u self.new.port self.new.reader)) }
+        ensures broken_off { (start : ClockedPort) (t : Told) → W.told self.old.wire ≡ Some t → IsServed start t self.old.port self.old.reader →
+            W.failures self.old.wire ≡ 0 → OnErr result (IfTold (W.told self.new.wire) (λ u. HasBrokenOff start u self.new.port × IsPartlySent start u)) }
+        // Which answer it gives: Spent where all turns were made and no close came.
+        ensures answer { (t : Told) → W.told self.old.wire ≡ Some t →
+            IfOk result (λ ran. IfTold (W.told self.new.wire) (λ u. ServesTo ran turns t.came u.came)) }
+        // A server drops nothing that waits.
+        ensures drops { (t : Told) → W.told self.old.wire ≡ Some t → IfTold (W.told self.new.wire) (λ u. u.drops ≡ t.drops) }
+        ensures works { OnOk result (W.failures self.new.wire ≡ 0) }
+        ensures device { OnErr result (W.failures self.new.wire ≡ 1) }
+        ensures stays { W.failures self.old.wire ≡ 1 → IsErr result × (self.new ≡ self.old) }
+    {
+        bursts::what_is_fed_is_followed();
+        if self.failed {
+            return Err(DriveFault::Device);
+        }
+        let mut made = 0;
+        'turns: while made < turns {
+            if let Line::Closed = self.turn()? {
+                return Ok(Ran::Closed);
+            }
+            made += 1;
+        }
+        Ok(Ran::Spent)
+    }
+
+    /// One `listen`, and what comes of it. `Device` where the wire failed, now or before.
+    pub fn turn(&mut self) -> Result<Line, DriveFault>
+        // Of any server.
+        ensures serves { IfOk result (λ line. (a : Arrival) × (line ≡ line_of a) × MayCome a (W.told self.old.wire)
+            × Serves a self.old.port self.old.reader (adds_came a (W.told self.old.wire)) self.new.port self.new.reader self.new.aired (W.told self.new.wire)) }
+        ensures breaks { W.failures self.old.wire ≡ 0 → OnErr result (
+            ((W.told self.new.wire ≡ W.told self.old.wire) × (self.new.port ≡ self.old.port) × (self.new.aired ≡ None))
+            ⊎ ((a : Arrival) × MayCome a (W.told self.old.wire)
+            × Breaks a self.old.port self.old.reader (adds_came a (W.told self.old.wire)) self.new.port self.new.aired (W.told self.new.wire))) }
+        // Of a server that began with this port, and has served what its wire tells that came.
+        ensures served { (start : ClockedPort) (t : Told) → W.told self.old.wire ≡ Some t → IsServed start t self.old.port self.old.reader →
+            OnOk result (IfTold (W.told self.new.wire) (λ u. IsServed start u self.new.port self.new.reader)) }
+        ensures broken_off { (start : ClockedPort) (t : Told) → W.told self.old.wire ≡ Some t → IsServed start t self.old.port self.old.reader →
+            W.failures self.old.wire ≡ 0 → OnErr result (IfTold (W.told self.new.wire) (λ u. HasBrokenOff start u self.new.port × IsPartlySent start u)) }
+        // A server drops nothing that waits.
+        ensures drops { (t : Told) → W.told self.old.wire ≡ Some t → IfTold (W.told self.new.wire) (λ u. u.drops ≡ t.drops) }
+        ensures works { OnOk result (W.failures self.new.wire ≡ 0) }
+        ensures device { OnErr result (W.failures self.new.wire ≡ 1) }
+        ensures stays { W.failures self.old.wire ≡ 1 → IsErr result × (self.new ≡ self.old) }
+    {
+        bursts::one_reading();
+        bursts::what_is_fed_is_followed();
+        bursts::what_is_followed_is_read();
+        answers::messages_after_messages();
+        answers::one_alone();
+        answers::a_burst_is_answered_as_it_ended();
+        answers::one_answer_to_the_end();
+        answers::the_unit_stays();
+        if self.failed {
+            return Err(DriveFault::Device);
+        }
+        match hear(
+            &mut self.reader,
+            &mut self.port,
+            &mut self.aired,
+            &mut self.wire,
+        ) {
+            Ok(line) => Ok(line),
+            Err(WireFault) => {
+                self.failed = true;
+                Err(DriveFault::Device)
+            }
+        }
+    }
+}
+
+// One `listen`, and what comes of it.
+fn hear<C: Catalogue, W: Wire>(
+    reader: &mut Reader,
+    port: &mut Port<C>,
+    aired: &mut Option<Item>,
+    wire: &mut W,
+) -> Result<Line, WireFault>
+    requires { W.failures wire.old ≡ 0 }
+    ensures serves { IfOk result (λ line. (a : Arrival) × (line ≡ line_of a) × MayCome a (W.told wire.old)
+        × Serves a port.old reader.old (adds_came a (W.told wire.old)) port.new reader.new aired.new (W.told wire.new)) }
+    ensures breaks { OnErr result (((W.told wire.new ≡ W.told wire.old) × (port.new ≡ port.old) × (aired.new ≡ None))
+        ⊎ ((a : Arrival) × MayCome a (W.told wire.old) × Breaks a port.old reader.old (adds_came a (W.told wire.old)) port.new aired.new (W.told wire.new))) }
+    ensures works { OnOk result (W.failures wire.new ≡ 0) }
+    ensures failed { OnErr result (W.failures wire.new ≡ 1) }
+{
+    *aired = None;
+    let mut buffer = [0; 512];
+    match wire.listen(&mut buffer)? {
+        Came::Bytes(n) => {
+            take(reader, port, aired, wire, &buffer[..n])?;
+            Ok(Line::More)
+        }
+        Came::Silence => {
+            end_burst(reader, port, wire)?;
+            Ok(Line::Ended)
+        }
+        Came::Closed => Ok(Line::Closed),
+    }
+}
+
+// Takes bytes of a burst, and answers each message once it is whole.
+fn take<C: Catalogue, W: Wire>(
+    reader: &mut Reader,
+    port: &mut Port<C>,
+    aired: &mut Option<Item>,
+    wire: &mut W,
+    piece: &[u8],
+) -> Result<(), WireFault>
+    requires { W.failures wire.old ≡ 0 }
+    ensures taken { OnOk result (HasTaken port.old reader.old aired.old (W.told wire.old) piece.now port.new reader.new aired.new (W.told wire.new)) }
+    ensures broken { OnErr result (HasBroken port.old reader.old aired.old (W.told wire.old) piece.now port.new aired.new (W.told wire.new)) }
+    ensures fits { AreOctets piece.now }
+    ensures works { OnOk result (W.failures wire.new ≡ 0) }
+    ensures failed { OnErr result (W.failures wire.new ≡ 1) }
+{
+    answers::messages_after_messages();
+    let mut at = 0;
+    'piece: while at < piece.len() {
+        at += take_some(reader, port, aired, wire, &piece[at..])?;
+    }
+    Ok(())
+}
+
+// Takes bytes up to the end of one message or one fault, or all of them. Answers how many.
+fn take_some<C: Catalogue, W: Wire>(
+    reader: &mut Reader,
+    port: &mut Port<C>,
+    aired: &mut Option<Item>,
+    wire: &mut W,
+    piece: &[u8],
+) -> Result<usize, WireFault>
+    requires { W.failures wire.old ≡ 0 }
+    ensures within { IfOk result (λ n. n ≤ length piece.now) }
+    ensures some { IfOk result (λ n. 0 < length piece.now → 0 < n) }
+    ensures taken { IfOk result (λ n. HasTaken port.old reader.old aired.old (W.told wire.old) (take n piece.now)
+        port.new reader.new aired.new (W.told wire.new)) }
+    ensures broken { OnErr result (HasBroken port.old reader.old aired.old (W.told wire.old) piece.now port.new aired.new (W.told wire.new)) }
+    ensures works { OnOk result (W.failures wire.new ≡ 0) }
+    ensures failed { OnErr result (W.failures wire.new ≡ 1) }
+{
+    bursts::what_is_fed_is_followed();
+    answers::one_alone();
+    let (taken, got) = reader.feed(piece);
+    match got {
+        Got::Message(message) => answer(port, aired, wire, &message)?,
+        Got::More => {}
+        Got::Fault(_, _) => {}
+    }
+    Ok(taken)
+}
+
+// Answers a message.
+fn answer<C: Catalogue, W: Wire>(
+    port: &mut Port<C>,
+    aired: &mut Option<Item>,
+    wire: &mut W,
+    message: &Message,
+) -> Result<(), WireFault>
+    requires { W.failures wire.old ≡ 0 }
+    ensures sent { OnOk result (W.told wire.new ≡ adds_sent (bytes_for port.old (content_of message.now)) (W.told wire.old)) }
+    ensures front { OnErr result (SendsFront (bytes_for port.old (content_of message.now)) (W.told wire.old) (W.told wire.new)) }
+    ensures next { port.new ≡ after_message port.old (content_of message.now) }
+    ensures airs { aired.new ≡ last_aired aired.old (items_for port.old (content_of message.now)) }
+    ensures works { OnOk result (W.failures wire.new ≡ 0) }
+    ensures failed { OnErr result (W.failures wire.new ≡ 1) }
+{
+    let unit = port.unit();
+    let (reply, item) = port.answer(message);
+    if item.is_some() {
+        *aired = item;
+    }
+    send_reply(reply, unit, wire)
+}
+
+// The burst ends at a silence: its end is answered, and a frame passes at the port.
+fn end_burst<C: Catalogue, W: Wire>(
+    reader: &mut Reader,
+    port: &mut Port<C>,
+    wire: &mut W,
+) -> Result<(), WireFault>
+    requires { W.failures wire.old ≡ 0 }
+    ensures ends { OnOk result (HasEnded port.old reader.old (W.told wire.old) port.new reader.new (W.told wire.new)) }
+    ensures broken { OnErr result (HasEndBroken port.old reader.old (W.told wire.old) port.new (W.told wire.new)) }
+    ensures works { OnOk result (W.failures wire.new ≡ 0) }
+    ensures failed { OnErr result (W.failures wire.new ≡ 1) }
+{
+    send_reply(reply_at_end(reader.silence()), port.unit(), wire)?;
+    port.frame();
+    Ok(())
+}
+
+// Sends the bytes of a reply, if there is one.
+fn send_reply<W: Wire>(reply: Option<Reply>, unit: u8, wire: &mut W) -> Result<(), WireFault>
+    requires unit { unit ≤ 15 }
+    requires works { W.failures wire.old ≡ 0 }
+    ensures sent { OnOk result (W.told wire.new ≡ adds_sent (answer_bytes unit (option_to_list reply)) (W.told wire.old)) }
+    ensures front { OnErr result (SendsFront (answer_bytes unit (option_to_list reply)) (W.told wire.old) (W.told wire.new)) }
+    ensures works { OnOk result (W.failures wire.new ≡ 0) }
+    ensures failed { OnErr result (W.failures wire.new ≡ 1) }
+{
+    match reply {
+        None => Ok(()),
+        Some(reply) => {
+            let mut room = [0; 16];
+            let message = reply.to_message(unit, &mut room);
+            let mut bytes = ArrayVec::<u8, 512>::new();
+            write(&message, &mut bytes).unwrap();
+            wire.send(bytes.as_slice())
+        }
+    }
+}

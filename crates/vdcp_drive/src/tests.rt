@@ -1,0 +1,8 @@
+//! The worked rows of both drivers over a wire in memory.
+mod automation;
+mod both;
+mod broken;
+mod clips;
+mod hostile;
+mod messages;
+mod server;

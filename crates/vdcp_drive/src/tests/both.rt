@@ -1,0 +1,77 @@
+//! The two drivers against each other in one process: each runs anew over a script that has grown by
+//! what the other one sent.
+use super::clips::{Playlist, Shelf};
+use crate::{AutoDriver, Entry, Ran, ScriptWire, Server};
+use std::alloc::Global;
+use std::process::Abort;
+use std::test::Fail;
+use vdcp_auto::{Controller, Outcome};
+use vdcp_port::Port;
+
+/// Bytes and then a silence, for each; a silence alone where there are none.
+fn entries(alloc: Global, bursts: &Vec<Vec<u8>>) -> Result<Vec<Entry<Global>>, Fail> {
+    let mut entries = Vec::new(alloc);
+    for burst in bursts {
+        entries.push(Entry::Came(Vec::from_slice(alloc, burst.as_slice())?))?;
+        entries.push(Entry::Silence)?;
+    }
+    Ok(entries)
+}
+
+/// What a server answers to the last of these bursts.
+fn answer(alloc: Global, bursts: &Vec<Vec<u8>>) -> Result<Vec<u8>, Fail> {
+    let shelf = Shelf::of(1).ok_or("one frame")?;
+    let wire = ScriptWire::new(alloc, entries(alloc, bursts)?);
+    let mut server = Server::new(Port::new(shelf, 0, 1), wire);
+    let turns = 2 * bursts.len() as u64;
+    let _ = server.serve(turns.saturating_sub(2));
+    let before = server.wire().sent().len();
+    let _ = server.serve(2);
+    let answer = server.wire().sent().get(before..).ok_or("less was sent")?;
+    Ok(Vec::from_slice(alloc, answer)?)
+}
+
+/// Plays two clips of one frame each. How it ended, how many commands were sent, and how many events
+/// were settled.
+fn play(alloc: Global, confirms: bool) -> Result<(Option<Outcome>, usize, usize), Fail> {
+    let mut commands = Vec::new(alloc);
+    let mut answers = Vec::new(alloc);
+    for _ in 0..100 {
+        let controller = if confirms {
+            Controller::confirming(Playlist::of(2), 1, 3)
+        } else {
+            Controller::new(Playlist::of(2), 1, 3)
+        };
+        let wire = ScriptWire::new(alloc, entries(alloc, &answers)?);
+        let mut driver = AutoDriver::new(controller, 0, wire);
+        if driver.run(2 * answers.len() as u64) == Ok(Ran::Ended) {
+            let controller = driver.controller();
+            return Ok((controller.outcome(), commands.len(), controller.settled()));
+        }
+        if driver.controller().awaiting() {
+            // Nothing more comes: the command's time-out.
+            answers.push(Vec::new(alloc))?;
+            continue;
+        }
+        let before = driver.wire().sent().len();
+        if driver.send() != Ok(true) {
+            return Err("no command".into());
+        }
+        let command = driver.wire().sent().get(before..).ok_or("less was sent")?;
+        commands.push(Vec::from_slice(alloc, command)?)?;
+        answers.push(answer(alloc, &commands)?)?;
+    }
+    Err("it goes on".into())
+}
+
+#[test]
+fn two_clips_are_played(rt: HostRuntime) -> Result<(), Fail> {
+    assert_eq!(rt; play(rt.alloc(), false)?, (Some(Outcome::Done), 14, 2));
+    Ok(())
+}
+
+#[test]
+fn two_clips_are_played_in_confirm_mode(rt: HostRuntime) -> Result<(), Fail> {
+    assert_eq!(rt; play(rt.alloc(), true)?, (Some(Outcome::Done), 17, 2));
+    Ok(())
+}

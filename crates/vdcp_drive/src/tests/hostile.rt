@@ -1,0 +1,160 @@
+//! Hostile input: floods, halves, closes at each byte, and a line without memory.
+use super::clips::{Playlist, Shelf};
+use super::messages::{ACK, CUE_1, OPEN, PLAY, SELECT, STATUS};
+use crate::{AutoDriver, DriveFault, Entry, Ran, ScriptWire, Server};
+use linked_list_allocator::LocalHeap;
+use std::alloc::Global;
+use std::process::Abort;
+use std::test::Fail;
+use vdcp_auto::{Controller, Outcome};
+use vdcp_port::Port;
+
+/// A server with a new port over these entries.
+fn server(
+    alloc: Global,
+    entries: Vec<Entry<Global>>,
+) -> Result<Server<Shelf, ScriptWire<Global>>, &'static str> {
+    let shelf = Shelf::of(250).ok_or("250 frames")?;
+    Ok(Server::new(Port::new(shelf, 0, 1), ScriptWire::new(alloc, entries)))
+}
+
+#[test]
+fn flood_of_junk_is_one_fault(rt: HostRuntime) -> Result<(), Fail> {
+    let mut entries = Vec::new(rt.alloc());
+    for _ in 0..1000 {
+        entries.push(Entry::Came(Vec::from_slice(rt.alloc(), &[0xFF; 512])?))?;
+    }
+    entries.push(Entry::Silence)?;
+    let mut server = server(rt.alloc(), entries)?;
+    assert_eq!(rt; server.serve(1000), Ok(Ran::Spent));
+    assert!(rt; server.wire().sent().is_empty());
+    assert_eq!(rt; server.serve(1), Ok(Ran::Spent));
+    assert_eq!(rt; server.wire().sent(), [0x05, 0x04].as_slice());
+    Ok(())
+}
+
+#[test]
+fn half_messages_are_cut_each_time(rt: HostRuntime) -> Result<(), Fail> {
+    let mut entries = Vec::new(rt.alloc());
+    for _ in 0..500 {
+        entries.push(Entry::Came(Vec::from_slice(rt.alloc(), &CUE_1[..5])?))?;
+        entries.push(Entry::Silence)?;
+    }
+    let mut server = server(rt.alloc(), entries)?;
+    assert_eq!(rt; server.serve(1000), Ok(Ran::Spent));
+    assert_eq!(rt; server.wire().sent().len(), 1000);
+    assert!(rt;
+        server
+            .wire()
+            .sent()
+            .chunks(2)
+            .all(|nak| nak == [0x05, 0x80].as_slice())
+    );
+    Ok(())
+}
+
+// OPEN, SELECT and STATUS in one burst, of 7, 6 and 6 bytes, with answers of 6, 1 and 7.
+#[test]
+fn close_at_each_byte_gives_up_what_is_cut_off(rt: HostRuntime) -> Result<(), Fail> {
+    let mut burst = Vec::from_slice(rt.alloc(), OPEN)?;
+    burst.extend_from_slice(SELECT)?;
+    burst.extend_from_slice(STATUS)?;
+    for cut in 0..20 {
+        let mut entries = Vec::new(rt.alloc());
+        entries.push(Entry::Came(Vec::from_slice(rt.alloc(), &burst[..cut])?))?;
+        entries.push(Entry::Closed)?;
+        let mut server = server(rt.alloc(), entries)?;
+        assert_eq!(rt; server.serve(100), Ok(Ran::Closed));
+        let answered = match cut {
+            0..=6 => 0,
+            7..=12 => 6,
+            13..=18 => 7,
+            _ => 14,
+        };
+        assert_eq!(rt; server.wire().sent().len(), answered);
+    }
+    Ok(())
+}
+
+// 100,000 bytes of PLAY to a selected port: the first 819 messages lie within the first 4,096 bytes.
+#[test]
+fn long_burst_is_answered_as_far_as_it_is_read(rt: HostRuntime) -> Result<(), Fail> {
+    let mut entries = Vec::new(rt.alloc());
+    entries.push(Entry::Came(Vec::from_slice(rt.alloc(), OPEN)?))?;
+    entries.push(Entry::Silence)?;
+    entries.push(Entry::Came(Vec::from_slice(rt.alloc(), SELECT)?))?;
+    entries.push(Entry::Silence)?;
+    let mut burst = Vec::new(rt.alloc());
+    for _ in 0..20_000 {
+        burst.extend_from_slice(PLAY)?;
+    }
+    entries.push(Entry::Came(burst))?;
+    entries.push(Entry::Silence)?;
+    let mut server = server(rt.alloc(), entries)?;
+    assert_eq!(rt; server.serve(4), Ok(Ran::Spent));
+    let before = server.wire().sent().len();
+    // 196 pieces of at most 512 bytes, the silence, and the close behind the last entry.
+    assert_eq!(rt; server.serve(198), Ok(Ran::Closed));
+    let sent = server.wire().sent().get(before..).ok_or("less was sent")?;
+    assert_eq!(rt; sent.len(), 821);
+    assert!(rt; sent[..819].iter().all(|byte| *byte == 0x04));
+    assert_eq!(rt; &sent[819..], [0x05, 0x04].as_slice());
+    Ok(())
+}
+
+// An answer that doesn't fit is no answer: three of them, and the controller is lost.
+#[test]
+fn flood_of_acks_answers_no_open(rt: HostRuntime) -> Result<(), Fail> {
+    let mut entries = Vec::new(rt.alloc());
+    for _ in 0..100 {
+        for _ in 0..100 {
+            entries.push(Entry::Came(Vec::from_slice(rt.alloc(), ACK)?))?;
+        }
+        entries.push(Entry::Silence)?;
+    }
+    let controller = Controller::new(Playlist::of(2), 1, 3);
+    let mut driver = AutoDriver::new(controller, 0, ScriptWire::new(rt.alloc(), entries));
+    assert_eq!(rt; driver.run(100_000), Ok(Ran::Ended));
+    assert_eq!(rt; driver.controller().outcome(), Some(Outcome::Lost));
+    assert_eq!(rt; driver.wire().sent().len(), 3 * OPEN.len());
+    Ok(())
+}
+
+#[test]
+fn junk_answers_nothing(rt: HostRuntime) -> Result<(), Fail> {
+    let mut entries = Vec::new(rt.alloc());
+    for _ in 0..3 {
+        for _ in 0..300 {
+            entries.push(Entry::Came(Vec::from_slice(rt.alloc(), &[0x03; 512])?))?;
+        }
+        entries.push(Entry::Silence)?;
+    }
+    let controller = Controller::confirming(Playlist::of(2), 1, 3);
+    let mut driver = AutoDriver::new(controller, 0, ScriptWire::new(rt.alloc(), entries));
+    assert_eq!(rt; driver.run(1000), Ok(Ran::Ended));
+    assert_eq!(rt; driver.controller().outcome(), Some(Outcome::Lost));
+    Ok(())
+}
+
+// In a heap that has no room, the first growth of each kind is refused: of what came, of what was sent,
+// of the places of drops.
+#[test]
+fn refused_growth_is_a_failure_of_the_wire(rt: HostRuntime) -> Result<(), Fail> {
+    let heap = LocalHeap::new(rt.alloc(), 256)?;
+    let shelf = Shelf::of(250).ok_or("250 frames")?;
+    let mut entries = Vec::new(&heap);
+    entries.push(Entry::Silence)?;
+    let mut server = Server::new(Port::new(shelf, 0, 1), ScriptWire::new(&heap, entries));
+    assert_eq!(rt; server.turn(), Err(DriveFault::Device));
+    assert_eq!(rt; server.turn(), Err(DriveFault::Device));
+    assert_eq!(rt; server.port().status_byte(), 0x01);
+
+    let full = LocalHeap::new(rt.alloc(), 128)?;
+    let _rest = Vec::<u8, &LocalHeap>::with_capacity(&full, 64)?;
+    let _more = Vec::<u8, &LocalHeap>::with_capacity(&full, 32);
+    let controller = Controller::new(Playlist::of(0), 1, 3);
+    let mut driver = AutoDriver::new(controller, 0, ScriptWire::new(&full, Vec::new(&full)));
+    assert_eq!(rt; driver.run(100), Err(DriveFault::Device));
+    assert_eq!(rt; driver.run(100), Err(DriveFault::Device));
+    Ok(())
+}

@@ -1,0 +1,168 @@
+//! A server over a wire in memory.
+use super::clips::Shelf;
+use super::messages::{CUE_1, IDLE, OPEN, PLAY, SELECT, STATUS};
+use crate::{DriveFault, Entry, Line, Ran, ScriptWire, Server};
+use linked_list_allocator::LocalHeap;
+use std::alloc::{AllocError, Allocator, Global};
+use std::process::Abort;
+use std::test::Fail;
+use vdcp_port::Port;
+use vdcp_value::{ClipId, Item};
+
+type Serving<A> = Server<Shelf, ScriptWire<A>>;
+
+/// A server with a new port of unit 0 and number 1, over a wire of these entries.
+fn server<A: Allocator + Copy>(
+    alloc: A,
+    entries: Vec<Entry<A>, A>,
+) -> Result<Serving<A>, &'static str> {
+    let shelf = Shelf::of(250).ok_or("250 frames")?;
+    Ok(Server::new(Port::new(shelf, 0, 1), ScriptWire::new(alloc, entries)))
+}
+
+/// A burst in pieces, and its silence.
+fn add_burst<A: Allocator + Copy>(
+    alloc: A,
+    entries: &mut Vec<Entry<A>, A>,
+    pieces: &[&[u8]],
+) -> Result<(), AllocError> {
+    for piece in pieces {
+        entries.push(Entry::Came(Vec::from_slice(alloc, piece)?))?;
+    }
+    entries.push(Entry::Silence)?;
+    Ok(())
+}
+
+/// OPEN, SELECT in two pieces, STATUS, and the close.
+fn opening<A: Allocator + Copy>(alloc: A) -> Result<Vec<Entry<A>, A>, AllocError> {
+    let mut entries = Vec::new(alloc);
+    add_burst(alloc, &mut entries, &[OPEN])?;
+    add_burst(alloc, &mut entries, &[&SELECT[..3], &SELECT[3..]])?;
+    add_burst(alloc, &mut entries, &[STATUS])?;
+    entries.push(Entry::Closed)?;
+    Ok(entries)
+}
+
+/// What the opening is answered.
+const OPENED: &'static [u8] = &[
+    0x02, 0x03, 0x30, 0x81, 0x01, 0x4E, 0x04, 0x02, 0x04, 0x30, 0x85, 0x01, 0x01, 0x49,
+];
+
+#[test]
+fn opening_is_served(rt: HostRuntime) -> Result<(), Fail> {
+    let mut server = server(rt.alloc(), opening(rt.alloc())?)?;
+    assert_eq!(rt; server.serve(100), Ok(Ran::Closed));
+    assert_eq!(rt; server.wire().sent(), OPENED);
+    assert!(rt; server.wire().drops().is_empty());
+    assert_eq!(rt; server.port().status_byte(), 0x01);
+    Ok(())
+}
+
+#[test]
+fn turns_are_spent(rt: HostRuntime) -> Result<(), Fail> {
+    let mut server = server(rt.alloc(), opening(rt.alloc())?)?;
+    assert_eq!(rt; server.serve(2), Ok(Ran::Spent));
+    assert_eq!(rt; server.wire().sent(), &OPENED[..6]);
+    assert_eq!(rt; server.turn(), Ok(Line::More));
+    assert_eq!(rt; server.turn(), Ok(Line::More));
+    assert_eq!(rt; server.wire().sent(), &OPENED[..7]);
+    assert_eq!(rt; server.turn(), Ok(Line::Ended));
+    assert_eq!(rt; server.serve(100), Ok(Ran::Closed));
+    assert_eq!(rt; server.turn(), Ok(Line::Closed));
+    assert_eq!(rt; server.wire().sent(), OPENED);
+    Ok(())
+}
+
+#[test]
+fn burst_cut_off_by_the_close_is_answered_as_far_as_it_is_whole(
+    rt: HostRuntime,
+) -> Result<(), Fail> {
+    let mut entries = Vec::new(rt.alloc());
+    add_burst(rt.alloc(), &mut entries, &[OPEN, SELECT])?;
+    let mut both = Vec::from_slice(rt.alloc(), PLAY)?;
+    both.extend_from_slice(&PLAY[..3])?;
+    entries.push(Entry::Came(both))?;
+    entries.push(Entry::Closed)?;
+    let mut server = server(rt.alloc(), entries)?;
+    assert_eq!(rt; server.serve(3), Ok(Ran::Spent));
+    let before = server.wire().sent().len();
+    assert_eq!(rt; server.serve(100), Ok(Ran::Closed));
+    let more = server.wire().sent().get(before..).ok_or("less was sent")?;
+    assert_eq!(rt; more, [0x04].as_slice());
+    Ok(())
+}
+
+#[test]
+fn item_of_the_last_turn_is_shown(rt: HostRuntime) -> Result<(), Fail> {
+    let mut entries = Vec::new(rt.alloc());
+    add_burst(rt.alloc(), &mut entries, &[OPEN, SELECT, CUE_1])?;
+    entries.push(Entry::Came(Vec::from_slice(rt.alloc(), PLAY)?))?;
+    entries.push(Entry::Silence)?;
+    let mut server = server(rt.alloc(), entries)?;
+    assert_eq!(rt; server.serve(4), Ok(Ran::Spent));
+    assert!(rt; server.aired().is_none());
+    assert_eq!(rt; server.turn(), Ok(Line::More));
+    let item = Item {
+        id: ClipId::new(*b"CLIP0001"),
+        part: None,
+    };
+    assert_eq!(rt; server.aired(), Some(item));
+    assert_eq!(rt; server.turn(), Ok(Line::Ended));
+    assert!(rt; server.aired().is_none());
+    Ok(())
+}
+
+#[test]
+fn failed_send_is_a_device_for_good(rt: HostRuntime) -> Result<(), Fail> {
+    let shelf = Shelf::of(250).ok_or("250 frames")?;
+    let mut wire = ScriptWire::new(rt.alloc(), opening(rt.alloc())?);
+    wire.fail_at(2, 2);
+    let mut server = Server::new(Port::new(shelf, 0, 1), wire);
+    assert_eq!(rt; server.serve(100), Err(DriveFault::Device));
+    assert_eq!(rt; server.wire().sent(), &OPENED[..2]);
+    assert_eq!(rt; server.turn(), Err(DriveFault::Device));
+    assert_eq!(rt; server.serve(0), Err(DriveFault::Device));
+    assert_eq!(rt; server.wire().sent(), &OPENED[..2]);
+    Ok(())
+}
+
+/// A wire whose call of this number fails behind `part` bytes: the answer, and how much was sent.
+fn failed_at(alloc: Global, call: u64, part: usize) -> Result<(bool, Vec<u8>, u8), Fail> {
+    let shelf = Shelf::of(250).ok_or("250 frames")?;
+    let mut wire = ScriptWire::new(alloc, opening(alloc)?);
+    wire.fail_at(call, part);
+    let mut server = Server::new(Port::new(shelf, 0, 1), wire);
+    let works = server.serve(100).is_ok();
+    let sent = Vec::from_slice(alloc, server.wire().sent())?;
+    Ok((works, sent, server.port().status_byte()))
+}
+
+#[test]
+fn each_call_fails_in_turn(rt: HostRuntime) -> Result<(), Fail> {
+    // How many bytes had gone out before each call: eight listens and three sends in between.
+    let before = [0, 0, 6, 6, 6, 6, 7, 7, 7, 14, 14];
+    let sends = [2, 6, 9];
+    for part in [0, 1, 100] {
+        for call in 1..12 {
+            let (works, sent, _) = failed_at(rt.alloc(), call, part)?;
+            assert!(rt; !works);
+            let whole = before[call as usize - 1];
+            let most = match call {
+                2 => 6,
+                6 => 1,
+                9 => 7,
+                _ => 0,
+            };
+            let more = if sends.contains(&call) {
+                part.min(most)
+            } else {
+                0
+            };
+            assert_eq!(rt; sent.as_slice(), &OPENED[..whole + more]);
+        }
+        let (works, sent, _) = failed_at(rt.alloc(), 12, part)?;
+        assert!(rt; works);
+        assert_eq!(rt; sent.as_slice(), OPENED);
+    }
+    Ok(())
+}

@@ -1,0 +1,61 @@
+use thiserror::Error;
+
+/// A wire failed.
+#[derive(Clone, Copy, Debug, PartialEq, Eq, Error)]
+#[error("the line failed")]
+pub struct WireFault;
+
+/// What one `listen` brings.
+#[derive(Clone, Copy, Debug, PartialEq, Eq)]
+pub enum Came {
+    /// So many bytes, at the front of the buffer: none to 512.
+    Bytes(usize),
+    /// Nothing came for so long that the burst has ended.
+    Silence,
+    /// The other end has closed: nothing will come any more.
+    Closed,
+}
+
+/// What carries bytes to the other end and back.
+///
+/// A wire that fails once isn't called again: each call requires that it never failed.
+pub trait Wire {
+    ghost use Rattle.std.specs.Prelude.{◌≡◌, ◌≤◌, ℕ, OnOk, OnErr, IfOk, Option};
+    ghost use Rattle.vdcp_drive.specs.Wires.{Told, arrival_of, adds_sent, adds_came, adds_drop, MayCome, SendsFront, FitsBuffer};
+
+    /// What went out, what came, and where waiting bytes were dropped, if the wire tells it.
+    ghost told: { Self → Option Told };
+
+    /// How often it failed: 0 or 1.
+    ghost failures: { Self → ℕ };
+
+    /// Sends the bytes. Where it fails, a beginning of them was sent.
+    fn send(&mut self, bytes: &[u8]) -> Result<(), WireFault>
+        requires { failures self.old ≡ 0 }
+        ensures sent { OnOk result (told self.new ≡ adds_sent bytes.now (told self.old)) }
+        ensures front { OnErr result (SendsFront bytes.now (told self.old) (told self.new)) }
+        ensures works { OnOk result (failures self.new ≡ 0) }
+        ensures failed { OnErr result (failures self.new ≡ 1) };
+
+    /// Waits for bytes, a silence or the close. After a close it answers only that. Where it fails,
+    /// nothing is taken.
+    fn listen(&mut self, buffer: &mut [u8; 512]) -> Result<Came, WireFault>
+        requires { failures self.old ≡ 0 }
+        ensures fits { IfOk result FitsBuffer }
+        ensures came { IfOk result (λ c. told self.new ≡ adds_came (arrival_of c buffer.new) (told self.old)) }
+        ensures may_come { IfOk result (λ c. MayCome (arrival_of c buffer.new) (told self.old)) }
+        ensures kept { OnErr result (told self.new ≡ told self.old) }
+        ensures works { OnOk result (failures self.new ≡ 0) }
+        ensures failed { OnErr result (failures self.new ≡ 1) };
+
+    /// Drops the bytes that wait to be listened to. Where it fails, nothing is dropped.
+    fn drop_waiting(&mut self) -> Result<(), WireFault>
+        requires { failures self.old ≡ 0 }
+        ensures dropped { OnOk result (told self.new ≡ adds_drop (told self.old)) }
+        ensures kept { OnErr result (told self.new ≡ told self.old) }
+        ensures works { OnOk result (failures self.new ≡ 0) }
+        ensures failed { OnErr result (failures self.new ≡ 1) };
+
+    /// A failure is counted once.
+    ghost fails_once: { (wire : Self) → failures wire ≤ 1 };
+}
