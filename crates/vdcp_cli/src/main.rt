@@ -2,7 +2,13 @@
 // a line that is run from a script.
 #![tactic(auto)]
 
+ghost use Rattle.clap.specs.Matches.{first_value, found_of};
+ghost use Rattle.std.specs.Prelude.{◌≡◌, ◌⊎◌, ◌++◌, ℕ, List, Some, IfOk, IfErr, codes};
+ghost use Rattle.vdcp_text.specs.Failure.{failure_text};
+ghost use Rattle.vdcp_text.specs.declared.failure.Failure.TheVariants as failures;
+
 mod args;
+mod options;
 
 use clap::ArgMatches;
 use clap::error::ErrorKind;
@@ -37,11 +43,13 @@ fn run(rt: &HostRuntime) -> Result<u8, Failure<'static>> {
     let Ok(mut out) = BufWriter::new(alloc, rt.stdout()) else {
         return Err(Failure::Memory);
     };
-    let mut err = rt.stderr();
-    match matches.subcommand() {
-        Some((name, words)) => Ok(run_named(rt, name, words, &mut out, &mut err)),
-        None => Ok(2),
-    }
+    let status = match matches.subcommand() {
+        Some((name, words)) => run_named(rt, name, words, &mut out, &mut rt.stderr()),
+        None => 2,
+    };
+    // Nothing more is written: dropped, the buffer would try again what a failed write has left in it.
+    out.into_parts();
+    Ok(status)
 }
 
 // Runs the subcommand of this name.
@@ -80,7 +88,7 @@ fn run_show<W: Write, E: Write>(
 fn run_make<W: Write, E: Write>(words: &ArgMatches<'_>, out: &mut W, err: &mut E) -> u8 {
     let word = words.get_str("COMMAND").unwrap_or("");
     let arguments = words.get_strs("ARG").unwrap_or(&[]);
-    do_make(word, arguments, args::unit_of(words), out, err)
+    do_make(word, arguments, options::unit_of(words), out, err)
 }
 
 fn run_check<'a, W: Write, E: Write>(
@@ -91,7 +99,7 @@ fn run_check<'a, W: Write, E: Write>(
 ) -> Result<u8, Failure<'a>> {
     let list = open(rt, words, "LIST")?;
     let catalogue = open(rt, words, "CATALOGUE")?;
-    let rate = args::rate_of(words);
+    let rate = options::rate_of(words);
     Ok(do_check(rt.alloc(), list, catalogue, rate, out, err))
 }
 
@@ -104,7 +112,7 @@ fn run_sim<'a, W: Write, E: Write>(
     let list = open(rt, words, "LIST")?;
     let catalogue = open(rt, words, "CATALOGUE")?;
     let script = open(rt, words, "SCRIPT")?;
-    let settings = args::settings_of(words);
+    let settings = options::settings_of(words);
     Ok(do_sim(rt.alloc(), list, catalogue, script, settings, out, err))
 }
 
@@ -123,7 +131,11 @@ fn open<'a>(
     rt: &HostRuntime,
     words: &'a ArgMatches<'_>,
     word: &str,
-) -> Result<Input<'a, File>, Failure<'a>> {
+) -> Result<Input<'a, File>, Failure<'a>>
+    ensures named { (name : List ℕ) → first_value (found_of words.now) word.now ≡ Some name → IfOk result (λ input. input.name.now ≡ name) }
+    ensures faults { (name : List ℕ) → first_value (found_of words.now) word.now ≡ Some name
+        → IfErr result (λ failure. (failure ≡ Failure.Memory) ⊎ (failure_text failure ≡ name ++ codes ": cannot open")) }
+{
     let name = words.get_str(word).unwrap_or("");
     match File::open(rt, name) {
         Ok(reader) => Ok(Input { name, reader }),

@@ -1,0 +1,169 @@
+ghost use Rattle.clap.specs.Matches.{found_of};
+ghost use Rattle.std.specs.Prelude.{◌≡◌, ◌≢◌, ◌≤◌, ℕ, codes, IfSome, None};
+ghost use Rattle.vdcp_cli.specs.Options.{GivesNumber, GivesRate, NamesRate, WritesNumber};
+ghost use Rattle.vdcp_value.specs.declared.rate.Rate.{Rate};
+
+use clap::{Arg, ArgMatches, value_parser};
+use std::alloc::Global;
+use vdcp_sim::Settings;
+use vdcp_value::Rate;
+
+/// An option whose value is a number, in decimal digits, from `least` to `most`.
+pub struct Number {
+    pub name: &'static str,
+    /// What stands for the number in help.
+    pub letter: &'static str,
+    pub least: u32,
+    pub most: u32,
+    /// The number where the option is left out, as a word.
+    pub default: &'static str,
+    pub help: &'static str,
+}
+
+pub const UNIT: Number = Number {
+    name: "unit",
+    letter: "U",
+    least: 0,
+    most: 15,
+    default: "0",
+    help: "The unit address, 0 to 15",
+};
+
+pub const PORT: Number = Number {
+    name: "port",
+    letter: "P",
+    least: 0,
+    most: 255,
+    default: "1",
+    help: "The port's number, 0 to 255",
+};
+
+pub const LIMIT: Number = Number {
+    name: "limit",
+    letter: "L",
+    least: 1,
+    most: 1_000,
+    default: "3",
+    help: "The controller gives up after so many unanswered exchanges in a row, 1 to 1000",
+};
+
+pub const CUE_FRAMES: Number = Number {
+    name: "cue-frames",
+    letter: "F",
+    least: 1,
+    most: 1_000,
+    default: "1",
+    help: "A cue takes so many frames, 1 to 1000",
+};
+
+/// The option, for the command line.
+pub fn number_option<'a>(alloc: Global, option: &Number) -> Arg<'a> {
+    let range = i64::from(option.least)..=i64::from(option.most);
+    Arg::new(alloc, option.name)
+        .long(option.name)
+        .value_name(option.letter)
+        .value_parser(value_parser!(u32).range(range))
+        .default_value(option.default)
+        .help(option.help)
+}
+
+/// The option `--rate`, for the command line.
+pub fn rate_option<'a>(alloc: Global) -> Arg<'a> {
+    Arg::new(alloc, "rate")
+        .long("rate")
+        .value_name("R")
+        .value_parser(["24", "25", "30", "30df"].as_slice())
+        .default_value("25")
+        .help("The frame rate of time codes; 30df is drop frame")
+}
+
+/// The number that the option's word writes; `clap` lets no word through that writes none in the
+/// range, and gives the default where the option is left out.
+pub fn number_of(words: &ArgMatches, option: &Number) -> u32
+    requires { option.now.least ≤ option.now.most }
+    ensures least { option.now.least ≤ result }
+    ensures most { result ≤ option.now.most }
+    ensures number { (n : ℕ) → GivesNumber (found_of words.now) option.now.name.now option.now.least option.now.most n
+        → result ≡ n }
+{
+    match words.get_str(option.name) {
+        Some(word) => number_in(word, option.least, option.most),
+        None => option.least,
+    }
+}
+
+// The number that the word writes, where that is in the range.
+fn number_in(word: &str, least: u32, most: u32) -> u32
+    requires { least ≤ most }
+    ensures least { least ≤ result }
+    ensures most { result ≤ most }
+    ensures number { (n : ℕ) → WritesNumber word.now n → least ≤ n → n ≤ most → result ≡ n }
+{
+    match word.parse::<u32>() {
+        Ok(number) => number.clamp(least, most),
+        Err(_) => least,
+    }
+}
+
+/// The unit address.
+pub fn unit_of(words: &ArgMatches) -> u8
+    ensures most { result ≤ 15 }
+    ensures number { (n : ℕ) → GivesNumber (found_of words.now) (codes "unit") 0 15 n → result ≡ n }
+{
+    number_of(words, &UNIT) as u8
+}
+
+/// The port's number.
+pub fn port_of(words: &ArgMatches) -> u8
+    ensures { (n : ℕ) → GivesNumber (found_of words.now) (codes "port") 0 255 n → result ≡ n }
+{
+    number_of(words, &PORT) as u8
+}
+
+/// The frame rate; `clap` lets no word through that names none.
+pub fn rate_of(words: &ArgMatches) -> Rate
+    ensures { (rate : Rate) → GivesRate (found_of words.now) (codes "rate") rate → result ≡ rate }
+{
+    match words.get_str("rate") {
+        Some(word) => rate_named(word).unwrap_or(Rate::F25),
+        None => Rate::F25,
+    }
+}
+
+// The rate of this name.
+fn rate_named(name: &str) -> Option<Rate>
+    ensures some { IfSome result (NamesRate name.now) }
+    ensures none { (rate : Rate) → NamesRate name.now rate → result ≢ None }
+{
+    match name {
+        "24" => Some(Rate::F24),
+        "25" => Some(Rate::F25),
+        "30" => Some(Rate::F30),
+        "30df" => Some(Rate::D30),
+        _ => None,
+    }
+}
+
+/// What the words say of a channel, and of what is printed of it.
+pub fn settings_of(words: &ArgMatches) -> Settings
+    ensures unit { result.unit ≤ 15 }
+    ensures some { 1 ≤ result.limit }
+    ensures few { result.limit ≤ 1000 }
+    ensures some_frames { 1 ≤ result.cue_frames }
+    ensures few_frames { result.cue_frames ≤ 1000 }
+    ensures units { (n : ℕ) → GivesNumber (found_of words.now) (codes "unit") 0 15 n → result.unit ≡ n }
+    ensures ports { (n : ℕ) → GivesNumber (found_of words.now) (codes "port") 0 255 n → result.port ≡ n }
+    ensures limits { (n : ℕ) → GivesNumber (found_of words.now) (codes "limit") 1 1000 n → result.limit ≡ n }
+    ensures frames { (n : ℕ) → GivesNumber (found_of words.now) (codes "cue-frames") 1 1000 n → result.cue_frames ≡ n }
+    ensures rates { (rate : Rate) → GivesRate (found_of words.now) (codes "rate") rate → result.rate ≡ rate }
+{
+    Settings {
+        unit: unit_of(words),
+        port: port_of(words),
+        limit: number_of(words, &LIMIT),
+        cue_frames: number_of(words, &CUE_FRAMES),
+        confirm: words.get_flag("confirm"),
+        rate: rate_of(words),
+        trace: words.get_flag("trace"),
+    }
+}
