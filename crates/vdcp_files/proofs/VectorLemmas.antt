@@ -4,14 +4,13 @@ use Rattle.std.proofs.Common.{◌≡◌, ℕ, ◌+◌, ◌≤◌, ◌<◌, suc, 
 use Rattle.std.proofs.lemmas.List.{length-append, length-map, map-append}
 use Rattle.std.specs.Prelude.{IfNone, IfOk, Result, Ok, Err, Option, None, Some, option_map, string_bytes}
 use Rattle.vdcp_files.specs.Vectors.{Finding, HasTooMany, IsTally, IsTallyOf, bad_count, columns, finding_of_row, finding_text, findings_of, findings_text, got, joined_reading, joined_text, hex, right}
-use Rattle.vdcp_files.specs.Files.{AreRowsOf}
 use Rattle.vdcp_text.specs.Text.{end_text}
 use Rattle.vdcp_files.specs.declared.vectors.Tally.{Tally}
 use Rattle.vdcp_frame.specs.Burst.{messages_of, end_of}
 use Rattle.vdcp_frame.specs.Message.{Content}
 use Rattle.vdcp_frame.specs.Reading.{End}
-use Rattle.vdcp_list.specs.Reading.{TakesRow}
-use Rattle.vdcp_list.specs.Rows.{Row, most_rows, rows_of}
+use Rattle.vdcp_list.specs.Reading.{IsFront, TakesRow}
+use Rattle.vdcp_list.specs.Rows.{AreRowsOf, FileRow, HasRows, most_rows, rows_of}
 
 pub two_fields : (fields : List (List ℕ)) (first second : List ℕ) → length fields ≡ 2 → Some first ≡ field_at fields 0 → Some second ≡ field_at fields 1
     → fields ≡ first ∷ second ∷ []
@@ -62,88 +61,72 @@ bad_within (columns ∷ findings) = omega (arith, bad_within findings)
 bad_within (hex ∷ findings) = omega (arith, bad_within findings)
 bad_within (got reading ∷ findings) = omega (arith, bad_within findings)
 
--- these rows were read, and the others are left
-abbrev pub IsFront : Option (List Row) → Option (List Row) → List Row → Type 0
-IsFront None left front = Unit {0}
-IsFront (Some rows) left front = (rest : List Row) × (left ≡ Some rest) × (rows ≡ front ++ rest)
-
-front_next : (all left left' : Option (List Row)) (front : List Row) (row : Row) → IsFront all left front → TakesRow left left' true row
-    → IsFront all left' (front ++ row ∷ [])
-front_next None left left' front row h t = tt
-front_next (Some rows) left left' front row (rest, is, e) t =
-    let (rest', is', e') = rw is at t in
-    (rest', is', e ∙ ap (λ rs. front ++ rs) e' ∙ sym (append_assoc front (row ∷ []) rest'))
-
-front_all : (file : Option (List ℕ)) (left left' : Option (List Row)) (front : List Row) (row : Row) → IsFront (option_map rows_of file) left front
-    → TakesRow left left' false row → AreRowsOf file front
-front_all None left left' front row h t = tt
-front_all (Some bytes) left left' front row (rest, is, e) t =
-    let none : rest ≡ [] = rw is at t in
-    sym (e ∙ ap (λ rs. front ++ rs) none ∙ append-nil front)
-
-at_first : (file : Option (List ℕ)) (left : Option (List Row)) → left ≡ option_map rows_of file → IsFront (option_map rows_of file) left []
-at_first None left e = tt
-at_first (Some bytes) left e = (rows_of bytes, e, refl)
+-- what the law of vdcp_list says of the rows that were read: the lemmas below take it from a body that calls it
+pub record RowLaws : Type 0 where
+  pub none : (all : Option (List FileRow)) → IsFront all all []
+  pub more : (all left left' : Option (List FileRow)) (front : List FileRow) (row : FileRow) → IsFront all left front → TakesRow left left' true row
+      → IsFront all left' (front ++ row ∷ [])
+  pub all : (file : Option (List ℕ)) (left left' : Option (List FileRow)) (front : List FileRow) (row : FileRow) → IsFront (option_map rows_of file) left front
+      → TakesRow left left' false row → AreRowsOf file front
+  pub begins : (file : Option (List ℕ)) (left : Option (List FileRow)) (front : List FileRow) → IsFront (option_map rows_of file) left front
+      → HasRows file (λ rows. (rest : List FileRow) × (rows ≡ front ++ rest))
 
 -- the rows read so far, and what they were found to be
-pub record Tested (file : Option (List ℕ)) (left : Option (List Row)) (tally : Tally) : Type 0 where
-  pub front : List Row
+pub record Tested (file : Option (List ℕ)) (left : Option (List FileRow)) (tally : Tally) : Type 0 where
+  pub front : List FileRow
   pub is_front : IsFront (option_map rows_of file) left front
   pub few : length front ≤ most_rows
   pub tallied : IsTally (findings_of front) tally
 
-pub tested_first : (file : Option (List ℕ)) (left : Option (List Row)) (tally : Tally) → left ≡ option_map rows_of file → IsTally [] tally
+pub tested_first : RowLaws → (file : Option (List ℕ)) (left : Option (List FileRow)) (tally : Tally) → left ≡ option_map rows_of file → IsTally [] tally
     → Tested file left tally
-tested_first file left tally e t =
-    record { front = []; is_front = at_first file left e; few = omega arith; tallied = t }
+tested_first v file left tally e t =
+    record { front = []; is_front = rw e (v.none (option_map rows_of file)); few = omega arith; tallied = t }
 
 -- a tally counts no more bad rows than rows, and no more of these than there may be
-pub counted : (file : Option (List ℕ)) (left : Option (List Row)) (tally : Tally) → Tested file left tally
+pub counted : (file : Option (List ℕ)) (left : Option (List FileRow)) (tally : Tally) → Tested file left tally
     → (tally.bad ≤ tally.rows) × (tally.rows ≤ most_rows)
 counted file left tally h = (
   omega (arith, h.tallied.rows_are, h.tallied.bad_are, bad_within (findings_of h.front)),
   omega (arith, h.tallied.rows_are, length-map h.front finding_of_row, h.few),
 )
 
-pub counts_one : (file : Option (List ℕ)) (left : Option (List Row)) (tally tally' : Tally) (finding : Finding) → Tested file left tally
+pub counts_one : (file : Option (List ℕ)) (left : Option (List FileRow)) (tally tally' : Tally) (finding : Finding) → Tested file left tally
     → ((findings : List Finding) → IsTally findings tally → IsTally (findings ++ finding ∷ []) tally')
     → tally'.rows ≡ tally.rows + 1
 counts_one file left tally tally' finding h add =
     omega (arith, h.tallied.rows_are, (add (findings_of h.front) h.tallied).rows_are, length-append (findings_of h.front) (finding ∷ []))
 
-pub tested_next : (file : Option (List ℕ)) (left left' : Option (List Row)) (tally tally' : Tally) (row : Row) (finding : Finding)
+pub tested_next : RowLaws → (file : Option (List ℕ)) (left left' : Option (List FileRow)) (tally tally' : Tally) (row : FileRow) (finding : Finding)
     → Tested file left tally → TakesRow left left' true row → tally.rows < most_rows → finding ≡ finding_of_row row
     → ((findings : List Finding) → IsTally findings tally → IsTally (findings ++ finding ∷ []) tally')
     → Tested file left' tally'
-tested_next file left left' tally tally' row finding h t room found add = record {
+tested_next v file left left' tally tally' row finding h t room found add = record {
   front = h.front ++ row ∷ [];
-  is_front = front_next (option_map rows_of file) left left' h.front row h.is_front t;
+  is_front = v.more (option_map rows_of file) left left' h.front row h.is_front t;
   few = omega (arith, length-append h.front (row ∷ []), h.tallied.rows_are, length-map h.front finding_of_row, room);
   tallied =
       subst (λ findings. IsTally findings tally') (ap (λ f. findings_of h.front ++ f ∷ []) found ∙ sym (map-append finding_of_row h.front (row ∷ [])))
       (add (findings_of h.front) h.tallied);
 }
 
-pub tested_all : (file : Option (List ℕ)) (left left' : Option (List Row)) (tally : Tally) (row : Row) → Tested file left tally
+pub tested_all : RowLaws → (file : Option (List ℕ)) (left left' : Option (List FileRow)) (tally : Tally) (row : FileRow) → Tested file left tally
     → TakesRow left left' false row → IsTallyOf file tally
-tested_all file left left' tally row h t = record {
+tested_all v file left left' tally row h t = record {
   rows = h.front;
-  are_rows = front_all file left left' h.front row h.is_front t;
+  are_rows = v.all file left left' h.front row h.is_front t;
   few = h.few;
   tallied = h.tallied;
 }
 
-too_many_rows : (file : Option (List ℕ)) (left' : Option (List Row)) (front : List Row) → IsFront (option_map rows_of file) left' front
-    → most_rows < length front → HasTooMany file
-too_many_rows None left' front h many = record { rows = front; are_rows = tt; many = many }
-too_many_rows (Some bytes) left' front (rest, is, e) many =
-    record { rows = rows_of bytes; are_rows = refl; many = omega (arith, ap length e, length-append front rest, many) }
-
-pub tested_too_many : (file : Option (List ℕ)) (left left' : Option (List Row)) (tally : Tally) (row : Row) → Tested file left tally
+pub tested_too_many : RowLaws → (file : Option (List ℕ)) (left left' : Option (List FileRow)) (tally : Tally) (row : FileRow) → Tested file left tally
     → TakesRow left left' true row → tally.rows ≡ most_rows → HasTooMany file
-tested_too_many file left left' tally row h t full =
-    too_many_rows file left' (h.front ++ row ∷ []) (front_next (option_map rows_of file) left left' h.front row h.is_front t)
-    (omega (arith, length-append h.front (row ∷ []), h.tallied.rows_are, length-map h.front finding_of_row, full))
+tested_too_many v file left left' tally row h t full =
+    let front = h.front ++ row ∷ [] in
+    let (rows, are, (rest, e)) = v.begins file left' front (v.more (option_map rows_of file) left left' h.front row h.is_front t) in
+    let many : most_rows < length rows =
+        omega (arith, ap length e, length-append front rest, length-append h.front (row ∷ []), h.tallied.rows_are, length-map h.front finding_of_row, full)
+    in (rows, are, many)
 
 -- one more row and its line
 pub tally_push : (findings : List Finding) (finding : Finding) (tally tally' : Tally) → IsTally findings tally

@@ -1,15 +1,15 @@
+-- What a check of a playlist against a catalogue finds, and what it prints.
 use Rattle.std.specs.List.{list_all}
-use Rattle.std.specs.Prelude.{ℕ, suc, ◌≡◌, ◌⊎◌, Bool, List, [], ◌∷◌, ◌++◌, codes, decimal, length, IfSome, Option, None, Some, if◌then◌else◌}
+use Rattle.std.specs.Prelude.{ℕ, suc, ◌≡◌, ◌⊎◌, Bool, List, [], ◌∷◌, ◌++◌, codes, decimal, length, Option, None, Some, if◌then◌else◌}
 use Rattle.std.specs.Io.KnownBytes.{Appends, Keeps}
-use Rattle.vdcp_files.specs.Files.{File, file, file_failure}
+use Rattle.vdcp_files.specs.Files.{File, bytes_of, file, file_failure}
 use Rattle.vdcp_text.specs.Failure.{failure_line, status_of}
 use Rattle.vdcp_text.specs.Text.{line}
 use Rattle.vdcp_files.specs.declared.check.EventFault.{EventFault}
 use Rattle.vdcp_files.specs.declared.check.EventFault.TheVariants.{Missing, Outside}
 use Rattle.vdcp_text.specs.declared.failure.Failure.{Failure}
-use Rattle.vdcp_list.specs.Catalogues.{IsCatalogue, IsCatalogueFault}
-use Rattle.vdcp_list.specs.Playlists.{IsPlaylist, IsPlaylistFault}
-use Rattle.vdcp_list.specs.Rows.{rows_of}
+use Rattle.vdcp_list.specs.Catalogues.{IsCatalogueFaultOf, IsCatalogueOf}
+use Rattle.vdcp_list.specs.Playlists.{IsListFaultOf, IsListOf}
 use Rattle.vdcp_list.specs.declared.faults.ListFault.{ListFault}
 use Rattle.vdcp_port.specs.Clips.{is_playable, length_of}
 use Rattle.vdcp_value.specs.Ids.{text_of_id}
@@ -53,42 +53,34 @@ check_text clips items =
 abbrev pub are_playable : List (ClipId × Timecode) → List Item → Bool
 are_playable clips items = list_all (is_playable clips) items
 
--- a file is a playlist of these items
-abbrev pub IsListOf : Rate → File → List Item → Type 0
-IsListOf rate (file name bytes) items = IfSome bytes (λ text. IsPlaylist rate (rows_of text) items)
-
--- a file is a catalogue of these clips
-abbrev pub IsCatalogueOf : Rate → File → List (ClipId × Timecode) → Type 0
-IsCatalogueOf rate (file name bytes) clips = IfSome bytes (λ text. IsCatalogue rate (rows_of text) clips)
-
 -- the files are a playlist and a catalogue, a writer gained what their check prints, and this is whether every event can be played
 pub record IsChecked (rate : Rate) (list catalogue : File) (old new : Option (List ℕ)) (playable : Bool) : Type 0 where
   pub items : List Item
   pub clips : List (ClipId × Timecode)
-  pub is_playlist : IsListOf rate list items
-  pub is_catalogue : IsCatalogueOf rate catalogue clips
+  pub is_playlist : IsListOf rate (bytes_of list) items
+  pub is_catalogue : IsCatalogueOf rate (bytes_of catalogue) clips
   pub gained : Appends old new (check_text clips items)
   pub playable_is : playable ≡ are_playable clips items
 
 -- the files are a playlist and a catalogue
 abbrev pub AreWhole : Rate → File → File → Type 0
 AreWhole rate list catalogue =
-    ((items : List Item) × IsListOf rate list items) × ((clips : List (ClipId × Timecode)) × IsCatalogueOf rate catalogue clips)
+    ((items : List Item) × IsListOf rate (bytes_of list) items) × ((clips : List (ClipId × Timecode)) × IsCatalogueOf rate (bytes_of catalogue) clips)
 
 -- the list isn't read, with this failure
 abbrev pub RefusesList : Rate → File → Failure → Type 0
 RefusesList rate (file name bytes) failure =
-    (fault : ListFault) × (failure ≡ file_failure name fault) × IfSome bytes (λ text. IsPlaylistFault rate (rows_of text) fault)
+    (fault : ListFault) × (failure ≡ file_failure name fault) × IsListFaultOf rate bytes fault
 
 -- the catalogue isn't read, with this failure
 abbrev pub RefusesCatalogue : Rate → File → Failure → Type 0
 RefusesCatalogue rate (file name bytes) failure =
-    (fault : ListFault) × (failure ≡ file_failure name fault) × IfSome bytes (λ text. IsCatalogueFault rate (rows_of text) fault)
+    (fault : ListFault) × (failure ≡ file_failure name fault) × IsCatalogueFaultOf rate bytes fault
 
 -- the list, which comes first, isn't read, or else the catalogue
 abbrev pub Refuses : Rate → File → File → Failure → Type 0
 Refuses rate list catalogue failure =
-    RefusesList rate list failure ⊎ (((items : List Item) × IsListOf rate list items) × RefusesCatalogue rate catalogue failure)
+    RefusesList rate list failure ⊎ (((items : List Item) × IsListOf rate (bytes_of list) items) × RefusesCatalogue rate catalogue failure)
 
 -- a row of one of the files is refused: one writer gained the line that tells it, and the other nothing
 pub record IsRefused (rate : Rate) (list catalogue : File) (out out' err err' : Option (List ℕ)) : Type 0 where

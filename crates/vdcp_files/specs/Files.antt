@@ -1,6 +1,6 @@
+-- Files to read, and as what a refused list or catalogue is told.
 use Rattle.std.specs.Borrow.{Bor}
-use Rattle.std.specs.Prelude.{ℕ, ◌≡◌, ⊤, List, Option, None, Some}
-use Rattle.vdcp_list.specs.Rows.{Row, rows_of}
+use Rattle.std.specs.Prelude.{ℕ, List, Option}
 use Rattle.vdcp_list.specs.declared.faults.ListFault.TheVariants as lists
 use Rattle.vdcp_list.specs.declared.faults.ListFault.{ListFault}
 use Rattle.vdcp_text.specs.declared.failure.Failure.{Failure}
@@ -11,10 +11,9 @@ use Rattle.vdcp_text.specs.declared.failure.RowFault.TheVariants as rows
 pub data File : Type 0 where
   file : (name : Bor (List ℕ)) (bytes : Option (List ℕ)) → File
 
--- the rows are those of a file
-abbrev pub AreRowsOf : Option (List ℕ) → List Row → Type 0
-AreRowsOf None rows = ⊤
-AreRowsOf (Some bytes) rows = rows ≡ rows_of bytes
+-- its bytes, where they are known
+abbrev pub bytes_of : File → Option (List ℕ)
+bytes_of (file name bytes) = bytes
 
 -- why a list or a catalogue of this name isn't read
 abbrev pub file_failure : Bor (List ℕ) → ListFault → Failure

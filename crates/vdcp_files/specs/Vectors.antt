@@ -1,3 +1,4 @@
+-- What the rows of a vector file are found to be, and what is printed of them.
 use Rattle.std.specs.Borrow.{Bor}
 use Rattle.std.specs.Io.KnownBytes.{Appends}
 use Rattle.std.specs.Cmp.Lexicographic.{pointwise}
@@ -12,10 +13,9 @@ use Rattle.vdcp_text.specs.declared.failure.RowFault.TheVariants.{TooMany}
 use Rattle.vdcp_files.specs.declared.vectors.Tally.{Tally}
 use Rattle.vdcp_files.specs.declared.vectors.Verdict.{Verdict}
 use Rattle.vdcp_files.specs.declared.vectors.Verdict.TheVariants.{Right, Other, Columns, Hex}
-use Rattle.vdcp_files.specs.Files.{AreRowsOf}
 use Rattle.vdcp_frame.specs.Burst.{messages_of, end_of}
 use Rattle.vdcp_frame.specs.Message.{Content}
-use Rattle.vdcp_list.specs.Rows.{Row, most_rows}
+use Rattle.vdcp_list.specs.Rows.{AreRowsOf, FileRow, HasRows, most_rows}
 
 -- the lines of messages, each with `; ` behind it
 abbrev pub joined_text : List Content → List ℕ
@@ -42,13 +42,13 @@ finding_of_burst (Ok burst) expected = finding_of_reading (joined_reading burst)
 finding_of_burst (Err fault) expected = hex
 
 -- what a row is found to be: its fields are counted first
-abbrev pub finding_of_row : Row → Finding
+abbrev pub finding_of_row : FileRow → Finding
 finding_of_row [] = columns
 finding_of_row (digits ∷ []) = columns
 finding_of_row (digits ∷ expected ∷ []) = finding_of_burst (decode_of digits) expected
 finding_of_row (digits ∷ expected ∷ third ∷ rest) = columns
 
-abbrev pub findings_of : List Row → List Finding
+abbrev pub findings_of : List FileRow → List Finding
 findings_of rows = map finding_of_row rows
 
 -- the finding that a value of the code stands for
@@ -91,7 +91,7 @@ vectors_text findings = findings_text 1 findings ++ line (count_text (length fin
 
 -- a file's rows were tested: a writer gained what is printed of them, and so many are bad
 pub record AreTested (file old new : Option (List ℕ)) (bad : ℕ) : Type 0 where
-  pub rows : List Row
+  pub rows : List FileRow
   pub are_rows : AreRowsOf file rows
   pub few : length rows ≤ most_rows
   pub gained : Appends old new (vectors_text (findings_of rows))
@@ -105,16 +105,14 @@ pub record IsTally (findings : List Finding) (tally : Tally) : Type 0 where
 
 -- the tally of a file's rows
 pub record IsTallyOf (file : Option (List ℕ)) (tally : Tally) : Type 0 where
-  pub rows : List Row
+  pub rows : List FileRow
   pub are_rows : AreRowsOf file rows
   pub few : length rows ≤ most_rows
   pub tallied : IsTally (findings_of rows) tally
 
 -- a file has more rows than may be tested
-pub record HasTooMany (file : Option (List ℕ)) : Type 0 where
-  pub rows : List Row
-  pub are_rows : AreRowsOf file rows
-  pub many : most_rows < length rows
+abbrev pub HasTooMany : Option (List ℕ) → Type 0
+HasTooMany file = HasRows file (λ rows. most_rows < length rows)
 
 -- the failure of a file of this name that has more
 abbrev pub too_many : Bor (List ℕ) → Failure

@@ -17,6 +17,7 @@ use std::fmt::Write;
 use std::{fmt, io};
 use vdcp_frame::laws::one_reading;
 use vdcp_frame::{Step, read_at};
+use vdcp_list::laws::rows_are_read_in_order;
 use vdcp_list::{MAX_ROWS, next_row, rows_in};
 use vdcp_text::{End, Failure, MessageText, RowFault};
 
@@ -79,6 +80,7 @@ fn test_rows<'a, R: io::Read + Drop>(
     ensures tally { IfOk result (IsTallyOf (R.remaining file.entry.reader)) }
     ensures refused { IfErr result (IsUntested file.entry.name (R.remaining file.entry.reader)) }
 {
+    rows_are_read_in_order();
     let name = file.name;
     let mut rows = rows_in(alloc, file.reader);
     let mut row = ByteRecord::new(alloc);

@@ -4,14 +4,14 @@ use Rattle.std.proofs.lemmas.List.Elements.{All-push}
 use Rattle.std.proofs.lemmas.List.{map-append}
 use Rattle.std.proofs.lemmas.Map.Keys.{IsDistinct-push}
 use Rattle.std.specs.List.{IsDistinct, list_any}
-use Rattle.std.specs.Prelude.{◌↔◌, IfSome, IsSome, IsTrue, Option, None, Some, is_some, slice_get}
+use Rattle.std.specs.Prelude.{◌↔◌, IsSome, IsTrue, Option, None, Some, is_some, option_map, slice_get}
 use Rattle.vdcp_list.proofs.ClipPlaces.{same_ids}
 use Rattle.vdcp_list.proofs.ItemRows.{first_of}
 use Rattle.vdcp_list.proofs.SlotClips.{none_of}
-use Rattle.vdcp_list.proofs.Steps.{AfterRows, Step, at_first, done, step}
-use Rattle.vdcp_list.specs.Catalogues.{CanLast, IsNextRow, Gives, IsCatalogue, IsCatalogueFault, IsClipFault, RefusesRow, StandsIn, clip_row, ids_of}
-use Rattle.vdcp_list.specs.Reading.{IsReadFault, TakesRow}
-use Rattle.vdcp_list.specs.Rows.{Row, most_rows}
+use Rattle.vdcp_list.proofs.Steps.{Begins, Next, front_all, front_begins, front_first, front_next, next_of, one_more, some_rows}
+use Rattle.vdcp_list.specs.Catalogues.{CanLast, IsNextRow, Gives, IsCatalogue, IsCatalogueFault, IsCatalogueFaultOf, IsCatalogueOf, IsClipFault, RefusesRow, StandsIn, clip_row, ids_of}
+use Rattle.vdcp_list.specs.Reading.{IsFront, IsReadFault, TakesRow}
+use Rattle.vdcp_list.specs.Rows.{FileRow, most_rows, rows_of}
 use Rattle.vdcp_list.specs.declared.faults.ListFault.TheVariants.{Columns, Id, Time, Twice, TooMany, Memory, Read}
 use Rattle.vdcp_list.specs.declared.faults.ListFault.{ListFault}
 use Rattle.vdcp_port.specs.Clips.{length_of}
@@ -21,21 +21,18 @@ use Rattle.vdcp_value.specs.declared.rate.Rate.{Rate}
 use Rattle.vdcp_value.specs.declared.timecode.Timecode.{Timecode}
 
 -- n rows of a file were read, and they give these clips
-pub record Given (rate : Rate) (rows : List Row) (left : Option (List Row)) (n : ℕ) (clips : List (ClipId × Timecode)) : Type 0 where
-  pub after : AfterRows rows left n
-  pub given : Gives rate (take n rows) clips
-
--- the same of a file whose rows may not be known
-abbrev pub GivenSoFar : Rate → Option (List Row) → Option (List Row) → ℕ → List (ClipId × Timecode) → Type 0
-GivenSoFar rate all left n clips = IfSome all (λ rows. Given rate rows left n clips)
+pub record GivenSoFar (rate : Rate) (file : Option (List ℕ)) (left : Option (List FileRow)) (n : ℕ) (clips : List (ClipId × Timecode)) : Type 0 where
+  pub front : List FileRow
+  pub is_front : IsFront (option_map rows_of file) left front
+  pub size : n ≡ length front
+  pub given : Gives rate front clips
 
 no_clips : (rate : Rate) → Gives rate [] []
 unfolding IsDistinct
 no_clips rate = record { rows_are = refl; can_last = λ k d below. absurd (omega (arith, below)); once = tt }
 
-pub given_first : (rate : Rate) (all : Option (List Row)) → GivenSoFar rate all all 0 []
-given_first rate None = tt
-given_first rate (Some rows) = record { after = at_first rows; given = no_clips rate }
+pub given_first : (rate : Rate) (file : Option (List ℕ)) → GivenSoFar rate file (option_map rows_of file) 0 []
+given_first rate file = record { front = []; is_front = front_first (option_map rows_of file); size = refl; given = no_clips rate }
 
 -- a clip of another ID than these
 not_among : (clips : List (ClipId × Timecode)) (id : ClipId) → length_of clips id ≡ None → list_any (is_same_id id) (ids_of clips) ≡ false
@@ -44,7 +41,7 @@ not_among (clip ∷ clips) id e =
     let h = none_of clip clips id e in
     rw h.first (not_among clips id h.rest)
 
-gives_push : (rate : Rate) (front : List Row) (clips : List (ClipId × Timecode)) (row : Row) (clip : ClipId × Timecode) → Gives rate front clips
+gives_push : (rate : Rate) (front : List FileRow) (clips : List (ClipId × Timecode)) (row : FileRow) (clip : ClipId × Timecode) → Gives rate front clips
     → clip_row clip ≡ row → CanLast rate clip.1 → length_of clips clip.0 ≡ None → Gives rate (front ++ row ∷ []) (clips ++ clip ∷ [])
 gives_push rate front clips row clip h e can new = record {
   rows_are =
@@ -56,43 +53,40 @@ gives_push rate front clips row clip h e can new = record {
 }
 
 -- one more row and its clip
-pub given_next : (rate : Rate) (all left left' : Option (List Row)) (n : ℕ) (clips : List (ClipId × Timecode)) (row : Row) (clip : ClipId × Timecode)
-    → GivenSoFar rate all left n clips → TakesRow left left' true row
+pub given_next : (rate : Rate) (file : Option (List ℕ)) (left left' : Option (List FileRow)) (n : ℕ) (clips : List (ClipId × Timecode)) (row : FileRow) (clip : ClipId × Timecode)
+    → GivenSoFar rate file left n clips → TakesRow left left' true row
     → clip_row clip ≡ row → CanLast rate clip.1 → length_of clips clip.0 ≡ None
-    → GivenSoFar rate all left' (n + 1) (clips ++ clip ∷ [])
-given_next rate None left left' n clips row clip h t e can new = tt
-given_next rate (Some rows) left left' n clips row clip h t e can new =
-    let s = step rows left left' n row h.after t in
-    record {
-      after = s.after;
-      given =
-          subst (λ front. Gives rate front (clips ++ clip ∷ [])) (sym s.front) (gives_push rate (take n rows) clips row clip h.given e can new);
-    }
+    → GivenSoFar rate file left' (n + 1) (clips ++ clip ∷ [])
+given_next rate file left left' n clips row clip h t e can new = record {
+  front = h.front ++ row ∷ [];
+  is_front = front_next (option_map rows_of file) left left' h.front row h.is_front t;
+  size = omega (arith, h.size, one_more h.front row);
+  given = gives_push rate h.front clips row clip h.given e can new;
+}
 
 -- no row is left: these are the clips
-pub given_all : (rate : Rate) (all left left' : Option (List Row)) (n : ℕ) (clips : List (ClipId × Timecode)) (row : Row)
-    → GivenSoFar rate all left n clips → TakesRow left left' false row → n ≤ most_rows → IfSome all (λ rows. IsCatalogue rate rows clips)
-given_all rate None left left' n clips row h t few = tt
-given_all rate (Some rows) left left' n clips row h t few =
-    let d = done rows left left' n row h.after t in
-    record {
-      few = subst (λ m. m ≤ most_rows) d.size few;
-      given = subst (λ front. Gives rate front clips) d.all h.given;
-    }
+pub given_all : (rate : Rate) (file : Option (List ℕ)) (left left' : Option (List FileRow)) (n : ℕ) (clips : List (ClipId × Timecode)) (row : FileRow)
+    → GivenSoFar rate file left n clips → TakesRow left left' false row → n ≤ most_rows → IsCatalogueOf rate file clips
+given_all rate file left left' n clips row h t few = (
+  h.front,
+  front_all file left left' h.front row h.is_front t,
+  record { few = subst (λ m. m ≤ most_rows) h.size few; given = h.given },
+)
 
 -- a row that is refused
-next_row : (rate : Rate) (rows : List Row) (left left' : Option (List Row)) (n : ℕ) (clips : List (ClipId × Timecode)) (row : Row)
-    → Given rate rows left n clips → Step rows left' n row → n < most_rows → IsNextRow rate rows (n + 1) row
-next_row rate rows left left' n clips row h s few =
-    let back : n + 1 - 1 ≡ n = omega arith in
+next_row : (rate : Rate) (front rows : List FileRow) (k : ℕ) (clips : List (ClipId × Timecode)) (row : FileRow) → Begins (front ++ row ∷ []) rows
+    → k ≡ length front + 1 → k ≤ most_rows → Gives rate front clips → IsNextRow rate rows k row
+next_row rate front rows k clips row b e few given =
+    let s = next_of front rows row b in
+    let back : k - 1 ≡ length front = omega (arith, e) in
     record {
-      counted = omega arith;
-      within = omega (arith, few);
-      fine = (clips, subst (λ m. Gives rate (take m rows) clips) (sym back) h.given);
+      counted = omega (arith, e);
+      within = few;
+      fine = (clips, subst (λ fs. Gives rate fs clips) (sym (ap (λ m. take m rows) back ∙ s.before)) given);
       next = ap (slice_get rows) back ∙ s.here;
     }
 
-of_row : (rate : Rate) (rows : List Row) (k : ℕ) (row : Row) (fault : ListFault) → IsNextRow rate rows k row
+of_row : (rate : Rate) (rows : List FileRow) (k : ℕ) (row : FileRow) (fault : ListFault) → IsNextRow rate rows k row
     → IsClipFault rate row k fault → IsCatalogueFault rate rows fault
 of_row rate rows k row (Columns j) f h = subst (λ m. RefusesRow rate rows m (Columns m)) (sym h.0) (row, f, (refl, h.1))
 of_row rate rows k row (Id j) f h = subst (λ m. RefusesRow rate rows m (Id m)) (sym h.0) (row, f, (refl, h.1, h.2))
@@ -102,13 +96,12 @@ of_row rate rows k row (TooMany j) f h = absurd h
 of_row rate rows k row Memory f h = absurd h
 of_row rate rows k row Read f h = absurd h
 
-pub given_refused : (rate : Rate) (all left left' : Option (List Row)) (n : ℕ) (clips : List (ClipId × Timecode)) (row : Row) (fault : ListFault)
-    → GivenSoFar rate all left n clips → TakesRow left left' true row → n < most_rows
-    → IsClipFault rate row (n + 1) fault → IfSome all (λ rows. IsCatalogueFault rate rows fault)
-given_refused rate None left left' n clips row fault h t few f = tt
-given_refused rate (Some rows) left left' n clips row fault h t few f =
-    let s = step rows left left' n row h.after t in
-    of_row rate rows (n + 1) row fault (next_row rate rows left left' n clips row h s few) f
+pub given_refused : (rate : Rate) (file : Option (List ℕ)) (left left' : Option (List FileRow)) (n : ℕ) (clips : List (ClipId × Timecode)) (row : FileRow) (fault : ListFault)
+    → GivenSoFar rate file left n clips → TakesRow left left' true row → n < most_rows
+    → IsClipFault rate row (n + 1) fault → IsCatalogueFaultOf rate file fault
+given_refused rate file left left' n clips row fault h t few f =
+    let (rows, are, b) = front_begins file left' (h.front ++ row ∷ []) (front_next (option_map rows_of file) left left' h.front row h.is_front t) in
+    (rows, are, of_row rate rows (n + 1) row fault (next_row rate h.front rows (n + 1) clips row b (omega (arith, h.size)) (omega (arith, few)) h.given) f)
 
 -- an ID that stands in an earlier row
 stands : ((a b : ClipId) → IsTrue (is_same_id a b) ↔ (a ≡ b)) → (clips : List (ClipId × Timecode)) (id : ClipId) → is_some (length_of clips id) ≡ true → StandsIn (map clip_row clips) id
@@ -120,52 +113,72 @@ stands same (clip ∷ clips) id e = stands_if (is_same_id id clip.0) refl e (sta
     stands_if true is h later = (0, omega arith, ap (λ i. Some (text_of_id i)) (sym ((same id clip.0).0 is)))
     stands_if false is h later = let (k, below, at) = later h in (suc k, omega (arith, below), at)
 
-pub given_twice : ((a b : ClipId) → IsTrue (is_same_id a b) ↔ (a ≡ b)) → (rate : Rate) (all left left' : Option (List Row)) (n : ℕ) (clips : List (ClipId × Timecode)) (row : Row) (clip : ClipId × Timecode)
-    → GivenSoFar rate all left n clips → TakesRow left left' true row → n < most_rows
+pub given_twice : ((a b : ClipId) → IsTrue (is_same_id a b) ↔ (a ≡ b)) → (rate : Rate) (file : Option (List ℕ)) (left left' : Option (List FileRow)) (n : ℕ)
+    → (clips : List (ClipId × Timecode)) (row : FileRow) (clip : ClipId × Timecode)
+    → GivenSoFar rate file left n clips → TakesRow left left' true row → n < most_rows
     → clip_row clip ≡ row → CanLast rate clip.1 → IsSome (length_of clips clip.0)
-    → IfSome all (λ rows. IsCatalogueFault rate rows (Twice (n + 1)))
-given_twice same rate None left left' n clips row clip h t few e can there = tt
-given_twice same rate (Some rows) left left' n clips row clip h t few e can there =
-    let s = step rows left left' n row h.after t in
-    let back : n + 1 - 1 ≡ n = omega arith in (
-      clip,
-      subst (λ r. IsNextRow rate rows (n + 1) r) (sym e) (next_row rate rows left left' n clips row h s few),
-      can,
-      subst (λ m. StandsIn (take m rows) clip.0) (sym back)
-          (subst (λ front. StandsIn front clip.0) (sym h.given.rows_are) (stands same clips clip.0 there)),
+    → IsCatalogueFaultOf rate file (Twice (n + 1))
+given_twice same rate file left left' n clips row clip h t few e can there =
+    let (rows, are, b) = front_begins file left' (h.front ++ row ∷ []) (front_next (option_map rows_of file) left left' h.front row h.is_front t) in
+    let before : take (n + 1 - 1) rows ≡ h.front =
+        let back : n + 1 - 1 ≡ length h.front = omega (arith, h.size) in ap (λ m. take m rows) back ∙ (next_of h.front rows row b).before
+    in
+    (
+      rows,
+      are,
+      (
+        clip,
+        subst (λ r. IsNextRow rate rows (n + 1) r) (sym e)
+            (next_row rate h.front rows (n + 1) clips row b (omega (arith, h.size)) (omega (arith, few)) h.given),
+        can,
+        subst (λ front. StandsIn front clip.0) (sym (before ∙ h.given.rows_are)) (stands same clips clip.0 there),
+      ),
     )
 
 -- a row too many
-pub given_too_many : (rate : Rate) (all left left' : Option (List Row)) (n : ℕ) (clips : List (ClipId × Timecode)) (row : Row)
-    → GivenSoFar rate all left n clips → TakesRow left left' true row → n ≡ most_rows
-    → IfSome all (λ rows. IsCatalogueFault rate rows (TooMany (most_rows + 1)))
-given_too_many rate None left left' n clips row h t all = tt
-given_too_many rate (Some rows) left left' n clips row h t all =
-    let s = step rows left left' n row h.after t in
-    (refl, subst (λ m. m < length rows) all s.below, clips, subst (λ m. Gives rate (take m rows) clips) all h.given)
+pub given_too_many : (rate : Rate) (file : Option (List ℕ)) (left left' : Option (List FileRow)) (n : ℕ) (clips : List (ClipId × Timecode)) (row : FileRow)
+    → GivenSoFar rate file left n clips → TakesRow left left' true row → n ≡ most_rows
+    → IsCatalogueFaultOf rate file (TooMany (most_rows + 1))
+given_too_many rate file left left' n clips row h t full =
+    let (rows, are, b) = front_begins file left' (h.front ++ row ∷ []) (front_next (option_map rows_of file) left left' h.front row h.is_front t) in
+    let s = next_of h.front rows row b in
+    let most : length h.front ≡ most_rows = sym h.size ∙ full in
+    (
+      rows,
+      are,
+      (
+        refl,
+        subst (λ m. m < length rows) most s.below,
+        clips,
+        subst (λ fs. Gives rate fs clips) (sym (ap (λ m. take m rows) (sym most) ∙ s.before)) h.given,
+      ),
+    )
 
 -- a fault of the reader or of memory
-pub catalogue_read_fault : (rate : Rate) (all : Option (List Row)) (fault : ListFault) → IsReadFault fault → IfSome all (λ rows. IsCatalogueFault rate rows fault)
-catalogue_read_fault rate None fault h = tt
-catalogue_read_fault rate (Some rows) (Columns k) h = absurd h
-catalogue_read_fault rate (Some rows) (Id k) h = absurd h
-catalogue_read_fault rate (Some rows) (Time k) h = absurd h
-catalogue_read_fault rate (Some rows) (Twice k) h = absurd h
-catalogue_read_fault rate (Some rows) (TooMany k) h = absurd h
-catalogue_read_fault rate (Some rows) Memory h = tt
-catalogue_read_fault rate (Some rows) Read h = tt
+read_fault : (rate : Rate) (rows : List FileRow) (fault : ListFault) → IsReadFault fault → IsCatalogueFault rate rows fault
+read_fault rate rows (Columns k) h = absurd h
+read_fault rate rows (Id k) h = absurd h
+read_fault rate rows (Time k) h = absurd h
+read_fault rate rows (Twice k) h = absurd h
+read_fault rate rows (TooMany k) h = absurd h
+read_fault rate rows Memory h = tt
+read_fault rate rows Read h = tt
+
+pub catalogue_read_fault : (rate : Rate) (file : Option (List ℕ)) (fault : ListFault) → IsReadFault fault → IsCatalogueFaultOf rate file fault
+catalogue_read_fault rate file fault h =
+    let (rows, are) = some_rows file in (rows, are, read_fault rate rows fault h)
 
 -- the row of a clip
-pub row_of_clip : (row : Row) (id : ClipId) (time : Timecode) (text : List ℕ) → slice_get row 0 ≡ Some (text_of_id id) → drop 1 row ≡ text ∷ []
+pub row_of_clip : (row : FileRow) (id : ClipId) (time : Timecode) (text : List ℕ) → slice_get row 0 ≡ Some (text_of_id id) → drop 1 row ≡ text ∷ []
     → text_of_id id ∷ text ∷ [] ≡ row
 row_of_clip row id time text first rest = sym (first_of row (text_of_id id) first ∙ ap (λ r. text_of_id id ∷ r) rest)
 
 -- a row of two fields
-pub last_one : (row : Row) (field : List ℕ) → length row ≡ 2 → Some field ≡ slice_get row 1 → drop 1 row ≡ field ∷ []
+pub last_one : (row : FileRow) (field : List ℕ) → length row ≡ 2 → Some field ≡ slice_get row 1 → drop 1 row ≡ field ∷ []
 last_one [] field size e = absurd (omega (arith, size))
 last_one (first ∷ []) field size e = absurd (omega (arith, size))
 last_one (first ∷ second ∷ []) field size e = let same : second ≡ field = cc e in ap (λ f. f ∷ []) same
 last_one (first ∷ second ∷ third ∷ row) field size e = absurd (omega (arith, size))
 
-pub one_field : (a b : List ℕ) → ◌≡◌ {A = Row} (a ∷ []) (b ∷ []) → a ≡ b
+pub one_field : (a b : List ℕ) → ◌≡◌ {A = FileRow} (a ∷ []) (b ∷ []) → a ≡ b
 one_field a b e = cc

@@ -5,7 +5,7 @@ use Rattle.std.proofs.Math.Bool.{and-eq-true_iff}
 use Rattle.std.specs.Prelude.{Option, None, Some, drop, slice_get, ◌≢◌, ◌&&◌}
 use Rattle.vdcp_list.proofs.Values.{TimeLaws}
 use Rattle.vdcp_list.specs.Playlists.{CanName, has_parts, item_row, part_fields, time_text}
-use Rattle.vdcp_list.specs.Rows.{Row}
+use Rattle.vdcp_list.specs.Rows.{FileRow}
 use Rattle.vdcp_value.specs.Bcd.{frames_in, is_time, label_of_bcd}
 use Rattle.vdcp_value.specs.Bytes.{AreBytes}
 use Rattle.vdcp_value.specs.Ids.{text_of_id}
@@ -18,7 +18,7 @@ use Rattle.vdcp_value.specs.declared.rate.Rate.{Rate}
 use Rattle.vdcp_value.specs.declared.timecode.Timecode.{Timecode}
 
 -- the field at a place
-pub field_at-is : (row : Row) (k : ℕ) → field_at row k ≡ slice_get row k
+pub field_at-is : (row : FileRow) (k : ℕ) → field_at row k ≡ slice_get row k
 unfolding field_at
 field_at-is [] k = refl
 field_at-is (field ∷ row) zero = refl
@@ -28,15 +28,17 @@ field_at-is (field ∷ row) (suc k) = field_at-is row k
 pub record TimeOf (rate : Rate) (bytes : List ℕ) : Type 0 where
   pub time : Timecode
   pub same_rate : rate_of time ≡ rate
+  pub bytes_are : bcd_of time ≡ bytes
   pub text : text_of time ≡ time_text rate bytes
   pub frames : frames_of time ≡ frames_in rate bytes
 
-time_of : TimeLaws → (rate : Rate) (bytes : List ℕ) → AreBytes 4 bytes → is_time rate bytes ≡ true → TimeOf rate bytes
+pub time_of : TimeLaws → (rate : Rate) (bytes : List ℕ) → AreBytes 4 bytes → is_time rate bytes ≡ true → TimeOf rate bytes
 time_of v rate bytes four e =
     let (time, r, b) = v.of_bytes rate bytes four e in
     record {
       time = time;
       same_rate = r;
+      bytes_are = b;
       text = ap₂ label_text r (sym (v.label time) ∙ ap label_of_bcd b);
       frames = sym (v.number time) ∙ ap₂ frames_in r b;
     }
@@ -68,7 +70,7 @@ pub fields_of_times : TimeLaws → (rate : Rate) (start duration : Timecode) →
     → part_fields rate (Some (record { start = bcd_of start; duration = bcd_of duration })) ≡ text_of start ∷ text_of duration ∷ []
 fields_of_times v rate start duration e h = ap₂ (λ s d. s ∷ d ∷ []) (own_text v.label rate start e) (own_text v.label rate duration h)
 
-one_first : (a b c d : List ℕ) → ◌≡◌ {A = Row} (a ∷ b ∷ []) (c ∷ d ∷ []) → (a ≡ c) × (b ≡ d)
+one_first : (a b c d : List ℕ) → ◌≡◌ {A = FileRow} (a ∷ b ∷ []) (c ∷ d ∷ []) → (a ≡ c) × (b ≡ d)
 one_first a b c d e = (cc, cc)
 
 -- two fields that are no part's: the start isn't a time code's, or the duration isn't one of a frame at least
@@ -101,26 +103,26 @@ part_read v rate s d sb db start duration es ed rs rd ts td some =
     rw (es, ed, ts, td) (fields_of_times v rate s d rs rd, part_of_times v rate s d rs rd some)
 
 -- the row of an item
-pub first_of : (row : Row) (field : List ℕ) → slice_get row 0 ≡ Some field → row ≡ field ∷ drop 1 row
+pub first_of : (row : FileRow) (field : List ℕ) → slice_get row 0 ≡ Some field → row ≡ field ∷ drop 1 row
 first_of [] field e = cc e
 first_of (first ∷ row) field e = let same : first ≡ field = cc e in ap (λ f. f ∷ row) same
 
-alone : (row : Row) → length row ≡ 1 → drop 1 row ≡ []
+alone : (row : FileRow) → length row ≡ 1 → drop 1 row ≡ []
 alone [] e = absurd (omega (arith, e))
 alone (first ∷ []) e = refl
 alone (first ∷ next ∷ row) e = absurd (omega (arith, e))
 
-pub whole_row : (rate : Rate) (columns : ℕ) (row : Row) (id : ClipId) → length row ≡ columns → columns ≡ 1 → slice_get row 0 ≡ Some (text_of_id id)
+pub whole_row : (rate : Rate) (columns : ℕ) (row : FileRow) (id : ClipId) → length row ≡ columns → columns ≡ 1 → slice_get row 0 ≡ Some (text_of_id id)
     → item_row rate (has_parts columns) (record { id = id; part = None }) ≡ row
 whole_row rate columns row id size one first =
     rw one (sym (first_of row (text_of_id id) first ∙ ap (λ rest. text_of_id id ∷ rest) (alone row (size ∙ one))))
 
-pub part_row : (rate : Rate) (columns : ℕ) (row : Row) (id : ClipId) (part : Option Part) → columns ≡ 3 → slice_get row 0 ≡ Some (text_of_id id)
+pub part_row : (rate : Rate) (columns : ℕ) (row : FileRow) (id : ClipId) (part : Option Part) → columns ≡ 3 → slice_get row 0 ≡ Some (text_of_id id)
     → part_fields rate part ≡ drop 1 row → item_row rate (has_parts columns) (record { id = id; part = part }) ≡ row
 part_row rate columns row id part three first fields =
     rw three (ap (λ rest. text_of_id id ∷ rest) fields ∙ sym (first_of row (text_of_id id) first))
 
-pub no_item : (rate : Rate) (columns : ℕ) (row : Row) → columns ≡ 3
+pub no_item : (rate : Rate) (columns : ℕ) (row : FileRow) → columns ≡ 3
     → ((part : Option Part) → CanName rate true part → part_fields rate part ≢ drop 1 row)
     → (item : Item) → CanName rate (has_parts columns) item.part → item_row rate (has_parts columns) item ≢ row
 no_item rate columns row three none item can e =
@@ -129,7 +131,7 @@ no_item rate columns row three none item can e =
 pub one_some : (a b : List ℕ) → ◌≡◌ {A = Option (List ℕ)} (Some a) (Some b) → a ≡ b
 one_some a b e = cc
 
-pub last_two : (row : Row) (start duration : List ℕ) → length row ≡ 3 → Some start ≡ slice_get row 1 → Some duration ≡ slice_get row 2
+pub last_two : (row : FileRow) (start duration : List ℕ) → length row ≡ 3 → Some start ≡ slice_get row 1 → Some duration ≡ slice_get row 2
     → drop 1 row ≡ start ∷ duration ∷ []
 last_two [] start duration size e h = absurd (omega (arith, size))
 last_two (first ∷ []) start duration size e h = absurd (omega (arith, size))

@@ -3,11 +3,14 @@ mod Reading
 mod Texts
 mod Values
 mod Listings
-pub mod Steps
+mod Steps
 mod ItemRows
 mod PlaylistSteps
 mod ClipPlaces
 mod SlotClips
 mod CatalogueSteps
 mod Events
+mod Written
+mod Writable
+mod OneReading
 mod Examples

@@ -7,23 +7,23 @@ use Rattle.std.proofs.Common.{◌≡◌, ℕ, Bool, List, [], ◌∷◌, refl, s
 use Rattle.std.specs.Prelude.{Option, None, Some, option_map}
 use Rattle.vdcp_list.proofs.RowsLeft.{rows_from-some, rows_from-none}
 use Rattle.vdcp_list.specs.Reading.{TakesRow, rows_left}
-use Rattle.vdcp_list.specs.Rows.{Row, rows_from}
+use Rattle.vdcp_list.specs.Rows.{FileRow, rows_from}
 
-takes_next : (s s2 : State) (xs ys : List ℕ) (o : Option Read) (found : Bool) (fields : Row)
+takes_next : (s s2 : State) (xs ys : List ℕ) (o : Option Read) (found : Bool) (fields : FileRow)
     → next_record default_config s [] [] xs ≡ o → NextIs o found fields s2 ys
     → TakesRow (Some (rows_from s xs)) (Some (rows_from s2 ys)) found fields
 takes_next s s2 xs ys None found fields e h = rw h (rows_from-none s xs e)
 takes_next s s2 xs ys (Some p) found fields e h =
     rw h.0 (rows_from s2 ys, refl, rows_from-some s xs p e ∙ ap (λ t. t ∷ rows_from p.1 p.2) (sym h.1) ∙ rw (h.2, h.3) refl)
 
-takes : (s s2 : State) (a b : Option (List ℕ)) (found : Bool) (fields : Row) → ReadsNext default_config s a b found fields s2
+takes : (s s2 : State) (a b : Option (List ℕ)) (found : Bool) (fields : FileRow) → ReadsNext default_config s a b found fields s2
     → TakesRow (option_map (rows_from s) a) (option_map (rows_from s2) b) found fields
 takes s s2 None b found fields h = tt
 takes s s2 (Some xs) None found fields h = absurd h
 takes s s2 (Some xs) (Some ys) found fields h = takes_next s s2 xs ys (next_record default_config s [] [] xs) found fields refl h
 
 -- what a read of a record takes of the rows left
-pub takes_row : {R : Type 0} (remaining : R → Option (List ℕ)) (old new : Reader R) (found : Bool) (fields : Row)
+pub takes_row : {R : Type 0} (remaining : R → Option (List ℕ)) (old new : Reader R) (found : Bool) (fields : FileRow)
     → old.config ≡ default_config → ReadRecord remaining old new found fields
     → TakesRow (rows_left remaining old) (rows_left remaining new) found fields
 takes_row remaining old new found fields config h =

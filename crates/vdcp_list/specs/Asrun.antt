@@ -1,5 +1,6 @@
 -- The text of an as-run list, and when it can't be written.
 use Rattle.csv.specs.Writing.{default_writer, row_text}
+use Rattle.std.specs.Io.KnownBytes.{Appends}
 use Rattle.std.specs.List.{list_all, list_any}
 use Rattle.std.specs.Prelude.{ℕ, suc, ◌<◌, ◌≡◌, Bool, IsFalse, IsTrue, true, List, [], ◌∷◌, ◌++◌, decimal, is_some, take, slice_get, Option, None, Some}
 use Rattle.vdcp_list.specs.Playlists.{is_lawful_part, item_row}
@@ -37,3 +38,7 @@ pub record IsUnlawful (rate : Rate) (items : List Item) (reported k : ℕ) : Typ
   pub item : Item
   pub at_k : slice_get items k ≡ Some item
   pub unlawful : IsFalse (is_lawful_event rate item.part)
+
+-- known bytes grew by a beginning of a text
+abbrev pub AppendsBeginning : Option (List ℕ) → Option (List ℕ) → List ℕ → Type 0
+AppendsBeginning old new text = (count : ℕ) × Appends old new (take count text)

@@ -1,7 +1,7 @@
 -- The clips that the rows of a catalogue give, and which row is refused.
 use Rattle.std.specs.List.{IsDistinct}
-use Rattle.std.specs.Prelude.{ℕ, ◌+◌, ◌-◌, ◌<◌, ◌≤◌, ◌≡◌, ◌≢◌, ⊤, Some, List, [], ◌∷◌, All, Contains, map, length, take, slice_get}
-use Rattle.vdcp_list.specs.Rows.{Row, HasId, Reaches, most_rows}
+use Rattle.std.specs.Prelude.{ℕ, ◌+◌, ◌-◌, ◌<◌, ◌≤◌, ◌≡◌, ◌≢◌, ⊤, Option, Some, List, [], ◌∷◌, All, Contains, map, length, take, slice_get}
+use Rattle.vdcp_list.specs.Rows.{FileRow, HasId, HasRows, Reaches, most_rows}
 use Rattle.vdcp_list.specs.declared.faults.ListFault.TheVariants.{Columns, Id, Time, Twice, TooMany, Memory, Read}
 use Rattle.vdcp_list.specs.declared.faults.ListFault.{ListFault}
 use Rattle.vdcp_value.specs.Ids.{is_same_id, text_of_id}
@@ -11,7 +11,7 @@ use Rattle.vdcp_value.specs.declared.rate.Rate.{Rate}
 use Rattle.vdcp_value.specs.declared.timecode.Timecode.{Timecode}
 
 -- the row of a clip: its ID and its length
-abbrev pub clip_row : ClipId × Timecode → Row
+abbrev pub clip_row : ClipId × Timecode → FileRow
 clip_row clip = text_of_id clip.0 ∷ text_of clip.1 ∷ []
 
 -- a length that a catalogue can give: one frame at least, at its rate
@@ -22,26 +22,26 @@ abbrev pub ids_of : List (ClipId × Timecode) → List ClipId
 ids_of clips = map (λ clip. clip.0) clips
 
 -- these rows give these clips, no ID twice
-pub record Gives (rate : Rate) (rows : List Row) (clips : List (ClipId × Timecode)) : Type 0 where
+pub record Gives (rate : Rate) (rows : List FileRow) (clips : List (ClipId × Timecode)) : Type 0 where
   pub rows_are : rows ≡ map clip_row clips
   pub can_last : All (λ clip. CanLast rate clip.1) clips
   pub once : IsDistinct is_same_id (ids_of clips)
 
 -- the rows are a catalogue of these clips
-pub record IsCatalogue (rate : Rate) (rows : List Row) (clips : List (ClipId × Timecode)) : Type 0 where
+pub record IsCatalogue (rate : Rate) (rows : List FileRow) (clips : List (ClipId × Timecode)) : Type 0 where
   pub few : length rows ≤ most_rows
   pub given : Gives rate rows clips
 
 -- row k is the next one: the rows before it are a catalogue's
-abbrev pub IsNextRow : Rate → List Row → ℕ → Row → Type 0
+abbrev pub IsNextRow : Rate → List FileRow → ℕ → FileRow → Type 0
 IsNextRow rate rows k row = Reaches (λ front. (clips : List (ClipId × Timecode)) × Gives rate front clips) rows k row
 
 -- no clip that a catalogue can give has this row
-abbrev pub IsNoClip : Rate → Row → Type 0
+abbrev pub IsNoClip : Rate → FileRow → Type 0
 IsNoClip rate row = (clip : ClipId × Timecode) → CanLast rate clip.1 → clip_row clip ≢ row
 
 -- why a row of a catalogue is refused, whatever stands before it: the first that applies
-abbrev pub IsClipFault : Rate → Row → ℕ → ListFault → Type 0
+abbrev pub IsClipFault : Rate → FileRow → ℕ → ListFault → Type 0
 IsClipFault rate row k (Columns j) = (j ≡ k) × (length row ≢ 2)
 IsClipFault rate row k (Id j) = (j ≡ k) × (length row ≡ 2) × ¬ HasId row
 IsClipFault rate row k (Time j) = (j ≡ k) × (length row ≡ 2) × HasId row × IsNoClip rate row
@@ -51,15 +51,15 @@ IsClipFault rate row k Memory = ⊥
 IsClipFault rate row k Read = ⊥
 
 -- the clip's ID stands in one of these rows
-abbrev pub StandsIn : List Row → ClipId → Type 0
+abbrev pub StandsIn : List FileRow → ClipId → Type 0
 StandsIn rows id = Contains (map (λ row. slice_get row 0) rows) (Some (text_of_id id))
 
 -- row k is the first that is refused, with this fault
-abbrev pub RefusesRow : Rate → List Row → ℕ → ListFault → Type 0
-RefusesRow rate rows k fault = (row : Row) × IsNextRow rate rows k row × IsClipFault rate row k fault
+abbrev pub RefusesRow : Rate → List FileRow → ℕ → ListFault → Type 0
+RefusesRow rate rows k fault = (row : FileRow) × IsNextRow rate rows k row × IsClipFault rate row k fault
 
 -- why the rows are no catalogue: rows are tested one after another, and the first refusal counts
-abbrev pub IsCatalogueFault : Rate → List Row → ListFault → Type 0
+abbrev pub IsCatalogueFault : Rate → List FileRow → ListFault → Type 0
 IsCatalogueFault rate rows (Columns k) = RefusesRow rate rows k (Columns k)
 IsCatalogueFault rate rows (Id k) = RefusesRow rate rows k (Id k)
 IsCatalogueFault rate rows (Time k) = RefusesRow rate rows k (Time k)
@@ -71,3 +71,11 @@ IsCatalogueFault rate rows (TooMany k) =
     × (clips : List (ClipId × Timecode)) × Gives rate (take most_rows rows) clips
 IsCatalogueFault rate rows Memory = ⊤
 IsCatalogueFault rate rows Read = ⊤
+
+-- a file is a catalogue of these clips
+abbrev pub IsCatalogueOf : Rate → Option (List ℕ) → List (ClipId × Timecode) → Type 0
+IsCatalogueOf rate file clips = HasRows file (λ rows. IsCatalogue rate rows clips)
+
+-- why a file is no catalogue
+abbrev pub IsCatalogueFaultOf : Rate → Option (List ℕ) → ListFault → Type 0
+IsCatalogueFaultOf rate file fault = HasRows file (λ rows. IsCatalogueFault rate rows fault)

@@ -1,6 +1,6 @@
 -- The items that the rows of a playlist name, and which row is refused.
 use Rattle.std.specs.Prelude.{ℕ, ◌+◌, ◌<◌, ◌≤◌, ◌≡◌, ◌≢◌, ◌==◌, ◌&&◌, ◌||◌, ⊤, Bool, true, false, IsTrue, IsFalse, List, [], ◌∷◌, All, map, length, take, Option, None, Some}
-use Rattle.vdcp_list.specs.Rows.{Row, HasId, Reaches, most_rows}
+use Rattle.vdcp_list.specs.Rows.{FileRow, HasId, HasRows, Reaches, most_rows}
 use Rattle.vdcp_list.specs.declared.faults.ListFault.TheVariants.{Columns, Id, Time, Twice, TooMany, Memory, Read}
 use Rattle.vdcp_list.specs.declared.faults.ListFault.{ListFault}
 use Rattle.vdcp_value.specs.Bcd.{is_time, label_of_bcd, frames_in}
@@ -16,12 +16,12 @@ abbrev pub time_text : Rate → List ℕ → List ℕ
 time_text rate bytes = label_text rate (label_of_bcd bytes)
 
 -- start and duration, both empty for a whole clip
-abbrev pub part_fields : Rate → Option Part → Row
+abbrev pub part_fields : Rate → Option Part → FileRow
 part_fields rate None = [] ∷ [] ∷ []
 part_fields rate (Some part) = time_text rate part.start ∷ time_text rate part.duration ∷ []
 
 -- an item's row, without and with the fields of a part
-abbrev pub item_row : Rate → Bool → Item → Row
+abbrev pub item_row : Rate → Bool → Item → FileRow
 item_row rate false item = text_of_id item.id ∷ []
 item_row rate true item = text_of_id item.id ∷ part_fields rate item.part
 
@@ -36,12 +36,12 @@ CanName rate with_parts (Some part) =
     IsTrue with_parts × IsPart part × IsTrue (is_lawful_part rate part) × (1 ≤ frames_in rate part.duration)
 
 -- these rows, which are of one kind, name these items
-pub record Names (rate : Rate) (with_parts : Bool) (rows : List Row) (items : List Item) : Type 0 where
+pub record Names (rate : Rate) (with_parts : Bool) (rows : List FileRow) (items : List Item) : Type 0 where
   pub rows_are : rows ≡ map (item_row rate with_parts) items
   pub can_name : All (λ item. CanName rate with_parts item.part) items
 
 -- how many fields the first row has, which all others have too
-abbrev pub columns_of : List Row → ℕ
+abbrev pub columns_of : List FileRow → ℕ
 columns_of [] = 0
 columns_of (row ∷ more) = length row
 
@@ -49,21 +49,21 @@ abbrev pub has_parts : ℕ → Bool
 has_parts columns = columns == 3
 
 -- one field or three, as in the first row
-abbrev pub is_of_columns : ℕ → Row → Bool
+abbrev pub is_of_columns : ℕ → FileRow → Bool
 is_of_columns columns row = (length row == columns) && ((columns == 1) || (columns == 3))
 
 -- the rows are a playlist of these items
-pub record IsPlaylist (rate : Rate) (rows : List Row) (items : List Item) : Type 0 where
+pub record IsPlaylist (rate : Rate) (rows : List FileRow) (items : List Item) : Type 0 where
   pub few : length rows ≤ most_rows
   pub named : Names rate (has_parts (columns_of rows)) rows items
 
 -- row k is the next one: the rows before it are a playlist's
-abbrev pub IsNextRow : Rate → List Row → ℕ → Row → Type 0
+abbrev pub IsNextRow : Rate → List FileRow → ℕ → FileRow → Type 0
 IsNextRow rate rows k row =
     Reaches (λ front. (items : List Item) × Names rate (has_parts (columns_of rows)) front items) rows k row
 
 -- why a row of a playlist is refused: the first that applies, row k being the one at hand
-abbrev pub IsItemFault : Rate → ℕ → Row → ℕ → ListFault → Type 0
+abbrev pub IsItemFault : Rate → ℕ → FileRow → ℕ → ListFault → Type 0
 IsItemFault rate columns row k (Columns j) = (j ≡ k) × IsFalse (is_of_columns columns row)
 IsItemFault rate columns row k (Id j) = (j ≡ k) × IsTrue (is_of_columns columns row) × ¬ HasId row
 IsItemFault rate columns row k (Time j) =
@@ -75,11 +75,11 @@ IsItemFault rate columns row k Memory = ⊥
 IsItemFault rate columns row k Read = ⊥
 
 -- row k is the first that is refused, with this fault
-abbrev pub RefusesRow : Rate → List Row → ℕ → ListFault → Type 0
-RefusesRow rate rows k fault = (row : Row) × IsNextRow rate rows k row × IsItemFault rate (columns_of rows) row k fault
+abbrev pub RefusesRow : Rate → List FileRow → ℕ → ListFault → Type 0
+RefusesRow rate rows k fault = (row : FileRow) × IsNextRow rate rows k row × IsItemFault rate (columns_of rows) row k fault
 
 -- why the rows are no playlist: rows are tested one after another, and the first refusal counts
-abbrev pub IsPlaylistFault : Rate → List Row → ListFault → Type 0
+abbrev pub IsPlaylistFault : Rate → List FileRow → ListFault → Type 0
 IsPlaylistFault rate rows (Columns k) = RefusesRow rate rows k (Columns k)
 IsPlaylistFault rate rows (Id k) = RefusesRow rate rows k (Id k)
 IsPlaylistFault rate rows (Time k) = RefusesRow rate rows k (Time k)
@@ -89,3 +89,11 @@ IsPlaylistFault rate rows (TooMany k) =
     × (items : List Item) × Names rate (has_parts (columns_of rows)) (take most_rows rows) items
 IsPlaylistFault rate rows Memory = ⊤
 IsPlaylistFault rate rows Read = ⊤
+
+-- a file is a playlist of these items
+abbrev pub IsListOf : Rate → Option (List ℕ) → List Item → Type 0
+IsListOf rate file items = HasRows file (λ rows. IsPlaylist rate rows items)
+
+-- why a file is no playlist
+abbrev pub IsListFaultOf : Rate → Option (List ℕ) → ListFault → Type 0
+IsListFaultOf rate file fault = HasRows file (λ rows. IsPlaylistFault rate rows fault)

@@ -2,8 +2,8 @@
 use Rattle.csv.specs.Reading.{default_config, is_flexible, reader_config, reader_state, reader_trim, Ready, source_of}
 use Rattle.csv.specs.declared.reader.Reader.{Reader}
 use Rattle.csv.specs.declared.reader.Trim.TheVariants as trim
-use Rattle.std.specs.Prelude.{ℕ, ◌≡◌, ⊤, Bool, true, false, List, [], ◌∷◌, Option, None, Some, option_map}
-use Rattle.vdcp_list.specs.Rows.{Row, rows_from}
+use Rattle.std.specs.Prelude.{ℕ, ◌≡◌, ⊤, Bool, true, false, List, [], ◌∷◌, ◌++◌, Option, None, Some, option_map}
+use Rattle.vdcp_list.specs.Rows.{FileRow, rows_from}
 use Rattle.vdcp_list.specs.declared.faults.ListFault.TheVariants.{Columns, Id, Time, Twice, TooMany, Memory, Read}
 use Rattle.vdcp_list.specs.declared.faults.ListFault.{ListFault}
 
@@ -15,14 +15,19 @@ pub record IsSet {R : Type 0} (reader : Reader R) : Type 0 where
   pub ready : Ready reader
 
 -- the rows that a reader has left, where its bytes are known
-abbrev pub rows_left : {R : Type 0} → (R → Option (List ℕ)) → Reader R → Option (List Row)
+abbrev pub rows_left : {R : Type 0} → (R → Option (List ℕ)) → Reader R → Option (List FileRow)
 rows_left remaining reader = option_map (rows_from (reader_state reader)) (source_of remaining reader)
 
 -- a read took the first row of those left, or there was none; of bytes that aren't known it says nothing
-abbrev pub TakesRow : Option (List Row) → Option (List Row) → Bool → Row → Type 0
+abbrev pub TakesRow : Option (List FileRow) → Option (List FileRow) → Bool → FileRow → Type 0
 TakesRow None left found row = ⊤
 TakesRow (Some rows) left false row = rows ≡ []
-TakesRow (Some rows) left true row = (more : List Row) × (left ≡ Some more) × (rows ≡ row ∷ more)
+TakesRow (Some rows) left true row = (more : List FileRow) × (left ≡ Some more) × (rows ≡ row ∷ more)
+
+-- of all rows these were read, and the others are left; of rows that aren't known it says nothing
+abbrev pub IsFront : Option (List FileRow) → Option (List FileRow) → List FileRow → Type 0
+IsFront None left front = ⊤
+IsFront (Some rows) left front = (more : List FileRow) × (left ≡ Some more) × (rows ≡ front ++ more)
 
 -- a fault of the reader or of memory
 abbrev pub IsReadFault : ListFault → Type 0

@@ -1,7 +1,7 @@
 ghost use Rattle.csv.specs.Writing.{default_writer, fields_written, has_written, row_text, text_written, writer_setup};
 ghost use Rattle.std.specs.Io.KnownBytes.{Appends, Keeps};
 ghost use Rattle.std.specs.Prelude.{◌≡◌, ◌≢◌, ◌↔◌, ◌≤◌, ◌∷◌, [], Err, IfErr, IfOk, IsTrue, OnErr, OnOk, decimal, false, length, string_bytes, take, ℕ};
-ghost use Rattle.vdcp_list.specs.Asrun.{IsUnlawful, are_lawful, asrun_text, has_part, is_lawful_event};
+ghost use Rattle.vdcp_list.specs.Asrun.{AppendsBeginning, IsUnlawful, are_lawful, asrun_text, has_part, is_lawful_event};
 ghost use Rattle.vdcp_list.specs.Playlists.{item_row, part_fields, time_text};
 ghost use Rattle.vdcp_list.specs.declared.faults.WriteFault.TheVariants.{Device, Time};
 ghost use Rattle.vdcp_value.specs.Bcd.{is_time};
@@ -10,7 +10,7 @@ use crate::faults::WriteFault;
 use arrayvec::ArrayString;
 use csv::{Error, Writer, WriterBuilder};
 use std::alloc::{AllocError, Allocator};
-use std::io::Write;
+use std::io::{ErrorKind, Write};
 use vdcp_auto::Source;
 use vdcp_value::laws::a_time_code_has_lawful_bytes;
 use vdcp_value::{Item, Part, Rate, Timecode};
@@ -20,8 +20,10 @@ use vdcp_value::{Item, Part, Rate, Timecode};
 /// this rate too, both empty for a whole clip. It is CSV with commas, quotes only where needed, and
 /// line feeds.
 ///
-/// The parts of these events are tested first. Only `Device` may leave a beginning of the text; the
-/// writer is flushed at the end.
+/// The parts of these events are tested first: `Time` is the first that isn't lawful at the rate, and
+/// no list that was read at this rate has one. The text is made whole before it is written, so that
+/// only `Device` may leave a beginning of it. The writer is flushed at the end; a write that was
+/// interrupted is made again.
 pub fn write_asrun<S: Source, W: Write, A: Allocator>(
     alloc: A,
     source: &S,
@@ -33,6 +35,8 @@ pub fn write_asrun<S: Source, W: Write, A: Allocator>(
     ensures ok { OnOk result (Appends (W.contents writer.old) (W.contents writer.new) (asrun_text rate (S.items source.now) reported)) }
     ensures unlawful { (k : ℕ) → (result ≡ Err (Time k)) ↔ IsUnlawful rate (S.items source.now) reported k }
     ensures kept { IfErr result (λ fault. fault ≢ Device → Keeps (W.contents writer.old) (W.contents writer.new)) }
+    ensures beginning { IfErr result (λ fault. fault ≡ Device → AppendsBeginning (W.contents writer.old) (W.contents writer.new)
+        (asrun_text rate (S.items source.now) reported)) }
 {
     check_parts(source, rate, reported)?;
     let text = asrun_text(&alloc, source, rate, reported)?;
@@ -43,11 +47,34 @@ pub fn write_asrun<S: Source, W: Write, A: Allocator>(
 fn write_out<W: Write>(writer: &mut W, text: &[u8]) -> Result<(), WriteFault>
     ensures ok { OnOk result (Appends (W.contents writer.old) (W.contents writer.new) text.now) }
     ensures device { IfErr result (λ fault. fault ≡ Device) }
+    ensures beginning { OnErr result (AppendsBeginning (W.contents writer.old) (W.contents writer.new) text.now) }
 {
-    if writer.write_all(text).is_err() || writer.flush().is_err() {
-        return Err(WriteFault::Device);
+    write_text(writer, text)?;
+    match writer.flush() {
+        Ok(()) => Ok(()),
+        Err(_) => Err(WriteFault::Device),
     }
-    Ok(())
+}
+
+/// Writes a text. What a failure leaves is told by `write` alone, and not by `write_all`.
+fn write_text<W: Write>(writer: &mut W, text: &[u8]) -> Result<(), WriteFault>
+    ensures ok { OnOk result (Appends (W.contents writer.old) (W.contents writer.new) text.now) }
+    ensures device { IfErr result (λ fault. fault ≡ Device) }
+    ensures beginning { OnErr result (AppendsBeginning (W.contents writer.old) (W.contents writer.new) text.now) }
+{
+    let mut written = 0;
+    for _ in 0..u64::MAX {
+        if written == text.len() {
+            return Ok(());
+        }
+        match writer.write(&text[written..]) {
+            Ok(0) => return Err(WriteFault::Device),
+            Ok(count) => written += count,
+            Err(error) if error.kind() == ErrorKind::Interrupted => {}
+            Err(_) => return Err(WriteFault::Device),
+        }
+    }
+    Err(WriteFault::Device)
 }
 
 /// Refuses the first of these events whose part isn't lawful at the rate.

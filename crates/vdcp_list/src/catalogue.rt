@@ -1,7 +1,6 @@
 ghost use Rattle.csv.specs.Records.{fields_of};
 ghost use Rattle.std.specs.Prelude.{◌≡◌, ◌≢◌, [], ◌∷◌, IfErr, IfNone, IfOk, IfSome, drop, length};
-ghost use Rattle.vdcp_list.specs.Catalogues.{CanLast, IsCatalogue, IsCatalogueFault, IsClipFault, clip_row};
-ghost use Rattle.vdcp_list.specs.Rows.{rows_of};
+ghost use Rattle.vdcp_list.specs.Catalogues.{CanLast, IsCatalogueFaultOf, IsCatalogueOf, IsClipFault, clip_row};
 ghost use Rattle.vdcp_value.specs.Timecodes.{text_of};
 ghost use Rattle.vdcp_value.specs.declared.timecode.Timecode.{Timecode};
 
@@ -64,8 +63,8 @@ pub fn read_catalogue<R: Read + Drop>(
     reader: R,
     rate: Rate,
 ) -> Result<Table, ListFault>
-    ensures clips { IfOk result (λ table. IfSome (R.remaining reader) (λ text. IsCatalogue rate (rows_of text) table)) }
-    ensures refused { IfErr result (λ fault. IfSome (R.remaining reader) (λ text. IsCatalogueFault rate (rows_of text) fault)) }
+    ensures clips { IfOk result (IsCatalogueOf rate (R.remaining reader)) }
+    ensures refused { IfErr result (IsCatalogueFaultOf rate (R.remaining reader)) }
 {
     let mut rows = rows_in(alloc, reader);
     let mut row = ByteRecord::new(alloc);

@@ -11,6 +11,7 @@ mod asrun;
 mod catalogue;
 mod faults;
 mod fields;
+pub mod laws;
 mod list;
 mod playlist;
 mod rows;

@@ -1,8 +1,7 @@
 ghost use Rattle.csv.specs.Records.{fields_of};
 ghost use Rattle.std.specs.Prelude.{◌≡◌, ◌≢◌, [], ◌∷◌, drop, length, true, IfErr, IfNone, IfOk, IfSome, IsTrue, Option, Some, slice_get};
-ghost use Rattle.vdcp_list.specs.Playlists.{CanName, IsItemFault, IsPlaylist, IsPlaylistFault, has_parts, is_of_columns, item_row, part_fields};
+ghost use Rattle.vdcp_list.specs.Playlists.{CanName, IsItemFault, IsListFaultOf, IsListOf, has_parts, is_of_columns, item_row, part_fields};
 ghost use Rattle.vdcp_list.specs.List.{items_of};
-ghost use Rattle.vdcp_list.specs.Rows.{rows_of};
 ghost use Rattle.vdcp_value.specs.Ids.{text_of_id};
 ghost use Rattle.vdcp_value.specs.declared.part.Part.{Part};
 
@@ -86,8 +85,8 @@ fn part_in(start: &[u8], duration: &[u8], rate: Rate) -> Option<Option<Part>>
 /// `Columns`, `Id` (also where the field isn't UTF-8), or `Time`: a text that is no lawful time code,
 /// one of the two fields empty, or a duration of frame 0. `Read` is a failure of the reader.
 pub fn read_list<R: Read + Drop>(alloc: Global, reader: R, rate: Rate) -> Result<List, ListFault>
-    ensures items { IfOk result (λ list. IfSome (R.remaining reader) (λ text. IsPlaylist rate (rows_of text) (items_of list))) }
-    ensures refused { IfErr result (λ fault. IfSome (R.remaining reader) (λ text. IsPlaylistFault rate (rows_of text) fault)) }
+    ensures items { IfOk result (λ list. IsListOf rate (R.remaining reader) (items_of list)) }
+    ensures refused { IfErr result (IsListFaultOf rate (R.remaining reader)) }
 {
     let mut rows = rows_in(alloc, reader);
     let mut row = ByteRecord::new(alloc);

@@ -1,15 +1,16 @@
 //! Worked rows, failing readers and writers, and each public call once.
 
-ghost use Rattle.std.specs.Prelude.{◌≡◌, IfOk, IfSome, length};
-ghost use Rattle.vdcp_list.specs.Rows.{rows_of};
+ghost use Rattle.std.specs.Prelude.{◌≡◌, IfOk, length};
+ghost use Rattle.vdcp_list.specs.Rows.{HasRows};
 
+use crate::laws::rows_are_read_in_order;
 use crate::{
     List, ListFault, MAX_ROWS, SlotFault, Slots, Table, WriteFault, next_row, read_catalogue,
     read_list, rows_in, write_asrun,
 };
 use csv::ByteRecord;
 use linked_list_allocator::LocalHeap;
-use std::alloc::Global;
+use std::alloc::{AllocError, Global};
 use std::io;
 use std::io::{Read, Write};
 use std::test::Fail;
@@ -170,8 +171,9 @@ fn ten_thousand_rows_are_a_playlist(rt: HostRuntime) -> Result<(), Fail> {
 
 /// A caller's loop over the rows of a file, proved from public clauses: it counts them.
 fn count_rows<R: Read + Drop>(alloc: Global, source: R) -> Result<usize, ListFault>
-    ensures { IfOk result (λ count. IfSome (R.remaining source) (λ text. count ≡ length (rows_of text))) }
+    ensures { IfOk result (λ count. HasRows (R.remaining source) (λ rows. count ≡ length rows)) }
 {
+    rows_are_read_in_order();
     let mut rows = rows_in(alloc, source);
     let mut row = ByteRecord::new(alloc);
     for read in 0..MAX_ROWS {
@@ -338,71 +340,156 @@ fn unlawful_parts_are_told_and_nothing_is_written(rt: HostRuntime) -> Result<(),
     Ok(())
 }
 
-/// A reader of a text, a few bytes a read, that fails after some reads.
+/// A reader of a text, at most so many bytes a read, that fails at one of its reads and works at each other.
 #[derive(Drop)]
 struct Failing<'a> {
     text: &'a [u8],
-    reads: usize,
+    size: usize,
+    reads: Option<usize>,
 }
 
 impl Read for Failing<'_> {
     fn read(&mut self, buf: &mut [u8]) -> io::Result<usize> {
-        if self.reads == 0 {
-            return Err(io::Error::from(io::ErrorKind::Other));
+        match self.reads {
+            Some(0) => {
+                self.reads = None;
+                return Err(io::Error::from(io::ErrorKind::Other));
+            }
+            Some(reads) => self.reads = Some(reads - 1),
+            None => {}
         }
-        self.reads -= 1;
-        let count = self.text.len().min(buf.len()).min(7);
+        let count = self.text.len().min(buf.len()).min(self.size);
         buf[..count].copy_from_slice(&self.text[..count]);
         self.text = &self.text[count..];
         Ok(count)
     }
 }
 
+/// So many rows of three columns, whole clips and parts in turn.
+fn rows_of_parts(alloc: Global, count: usize) -> Result<String, Fail> {
+    let mut text = String::new(alloc);
+    for k in 0..count {
+        text.push_str(if k % 2 == 0 {
+            "CLIP0001,00:00:02:00,00:00:03:00\n"
+        } else {
+            "\"A,B\",,\n"
+        })?;
+    }
+    Ok(text)
+}
+
 #[test]
-fn each_failing_read_is_told(rt: HostRuntime) -> Result<(), Fail> {
-    let text = b"CLIP0001,00:00:10:00\nCLIP0002,00:00:10:00\n".as_slice();
-    let list = b"CLIP0001\nCLIP0002\n".as_slice();
-    let mut read = false;
-    let mut failed = false;
-    for reads in 0..20 {
-        match read_catalogue(rt.alloc(), Failing { text, reads }, Rate::F25) {
-            Ok(table) => {
-                assert_eq!(rt; table.len(), 2);
-                read = true;
-            }
-            Err(fault) => {
-                assert!(rt; fault == ListFault::Read);
-                failed = true;
-            }
-        }
-        match read_list(rt.alloc(), Failing { text: list, reads }, Rate::F25) {
+fn a_read_that_fails_is_told_of_a_list(rt: HostRuntime) -> Result<(), Fail> {
+    let text = rows_of_parts(rt.alloc(), 700)?;
+    let text = text.as_bytes();
+    let reads = text.len().div_ceil(100);
+    for failed in 0..reads + 2 {
+        let reader = Failing {
+            text,
+            size: 100,
+            reads: Some(failed),
+        };
+        match read_list(rt.alloc(), reader, Rate::F25) {
             Ok(list) => {
-                assert_eq!(rt; list.len(), 2);
-                read = true;
+                assert_eq!(rt; list.len(), 700);
+                assert!(rt; reads < failed, "read {failed} failed");
             }
             Err(fault) => {
-                assert!(rt; fault == ListFault::Read);
-                failed = true;
+                assert!(rt; fault == ListFault::Read, "read {failed} failed: {fault:?}");
+                assert!(rt; failed <= reads);
             }
         }
     }
-    assert!(rt; read && failed);
     Ok(())
 }
 
-/// A writer that takes a few bytes a write, and fails at one of its writes or flushes.
+#[test]
+fn a_read_that_fails_is_told_of_a_catalogue(rt: HostRuntime) -> Result<(), Fail> {
+    let text = clips_in_rows(rt.alloc(), 700)?;
+    let text = text.as_bytes();
+    let reads = text.len().div_ceil(100);
+    for failed in 0..reads + 2 {
+        let reader = Failing {
+            text,
+            size: 100,
+            reads: Some(failed),
+        };
+        match read_catalogue(rt.alloc(), reader, Rate::F25) {
+            Ok(table) => {
+                assert_eq!(rt; table.len(), 700);
+                assert!(rt; reads < failed, "read {failed} failed");
+            }
+            Err(fault) => {
+                assert!(rt; fault == ListFault::Read, "read {failed} failed: {fault:?}");
+                assert!(rt; failed <= reads);
+            }
+        }
+    }
+    Ok(())
+}
+
+#[test]
+fn many_rows_of_parts_are_read(rt: HostRuntime) -> Result<(), Fail> {
+    let text = rows_of_parts(rt.alloc(), 700)?;
+    let list = match read_list(rt.alloc(), text.as_bytes(), Rate::F25) {
+        Ok(list) => list,
+        Err(fault) => {
+            // Nothing but a refused growth keeps these rows from being read.
+            assert!(rt; fault == ListFault::Memory, "{fault:?}");
+            return Err(Fail::from(AllocError));
+        }
+    };
+    assert_eq!(rt; list.len(), 700);
+    for k in 0..list.len() {
+        let item = if k % 2 == 0 {
+            part(b"CLIP0001", [0, 2, 0, 0], [0, 3, 0, 0])
+        } else {
+            whole(b"A,B     ")
+        };
+        assert_eq!(rt; list.at(k), item);
+    }
+    Ok(())
+}
+
+#[test]
+fn many_clips_are_read(rt: HostRuntime) -> Result<(), Fail> {
+    let text = clips_in_rows(rt.alloc(), 700)?;
+    match read_catalogue(rt.alloc(), text.as_bytes(), Rate::F25) {
+        Ok(table) => assert_eq!(rt; table.len(), 700),
+        Err(fault) => {
+            assert!(rt; fault == ListFault::Memory, "{fault:?}");
+            return Err(Fail::from(AllocError));
+        }
+    }
+    Ok(())
+}
+
+/// A writer that takes a few bytes a write, fails so at one of its writes or flushes, and works at each other.
 #[derive(Drop)]
 struct Jammed {
     taken: Vec<u8>,
-    calls: usize,
+    calls: Option<usize>,
+    kind: io::ErrorKind,
 }
 
 impl Jammed {
-    fn call(&mut self) -> io::Result<()> {
-        if self.calls == 0 {
-            return Err(io::Error::from(io::ErrorKind::Other));
+    fn new(alloc: Global, calls: usize, kind: io::ErrorKind) -> Jammed {
+        Jammed {
+            taken: Vec::new(alloc),
+            calls: Some(calls),
+            kind,
         }
-        self.calls -= 1;
+    }
+
+    fn call(&mut self) -> io::Result<()> {
+        match self.calls {
+            Some(0) => {
+                self.calls = None;
+                return Err(io::Error::from(self.kind));
+            }
+            Some(calls) => self.calls = Some(calls - 1),
+            None => {}
+        }
         Ok(())
     }
 }
@@ -420,51 +507,73 @@ impl Write for Jammed {
     }
 }
 
+/// Nineteen bytes: four writes, and then the flush.
+const ASRUN: &[u8] = b"0,CLIP0001\n1,\"A,B\"\n";
+
 #[test]
-fn each_failing_write_leaves_a_beginning(rt: HostRuntime) -> Result<(), Fail> {
+fn a_write_that_fails_leaves_a_beginning(rt: HostRuntime) -> Result<(), Fail> {
     let list = read_list(rt.alloc(), b"CLIP0001\n\"A,B\"\n".as_slice(), Rate::F25)?;
-    let whole = b"0,CLIP0001\n1,\"A,B\"\n".as_slice();
     for calls in 0..8 {
-        let mut out = Jammed {
-            taken: Vec::new(rt.alloc()),
-            calls,
-        };
-        match write_asrun(rt.alloc(), &list, Rate::F25, list.len(), &mut out) {
-            Ok(()) => {
-                assert_eq!(rt; out.taken.as_slice(), whole);
-                assert!(rt; 5 <= calls);
-            }
-            Err(fault) => {
-                assert!(rt; fault == WriteFault::Device);
-                assert!(rt; whole.starts_with(out.taken.as_slice()));
-                assert!(rt; calls < 5);
-            }
+        let mut out = Jammed::new(rt.alloc(), calls, io::ErrorKind::Other);
+        let written = write_asrun(rt.alloc(), &list, Rate::F25, list.len(), &mut out);
+        let taken = ASRUN.len().min(5 * calls);
+        assert_eq!(rt; out.taken.as_slice(), &ASRUN[..taken]);
+        if calls < 5 {
+            assert!(rt; written == Err(WriteFault::Device), "call {calls} failed");
+        } else {
+            assert!(rt; written == Ok(()), "no call failed");
         }
     }
     Ok(())
 }
 
 #[test]
-fn refused_growth_of_an_asrun_list_is_told(rt: HostRuntime) -> Result<(), Fail> {
-    let text = rows_in_turn(rt.alloc(), 200)?;
-    let list = read_list(rt.alloc(), text.as_bytes(), Rate::F25)?;
-    let mut refused = false;
-    let mut written = false;
-    for size in [32, 64, 256, 1_024, 4_096, 65_536] {
-        let heap = LocalHeap::new(rt.alloc(), size)?;
+fn an_interrupted_write_is_made_again(rt: HostRuntime) -> Result<(), Fail> {
+    let list = read_list(rt.alloc(), b"CLIP0001\n\"A,B\"\n".as_slice(), Rate::F25)?;
+    for calls in 0..4 {
+        let mut out = Jammed::new(rt.alloc(), calls, io::ErrorKind::Interrupted);
+        write_asrun(rt.alloc(), &list, Rate::F25, list.len(), &mut out)?;
+        assert_eq!(rt; out.taken.as_slice(), ASRUN);
+    }
+    Ok(())
+}
+
+#[test]
+fn a_writer_that_takes_no_more_has_failed(rt: HostRuntime) -> Result<(), Fail> {
+    let list = read_list(rt.alloc(), b"CLIP0001\n\"A,B\"\n".as_slice(), Rate::F25)?;
+    let mut room = [0; 7];
+    let mut out = room.as_mut_slice();
+    let written = write_asrun(rt.alloc(), &list, Rate::F25, list.len(), &mut out);
+    assert!(rt; written == Err(WriteFault::Device));
+    assert_eq!(rt; room.as_slice(), &ASRUN[..7]);
+    Ok(())
+}
+
+#[test]
+fn each_refused_growth_of_an_asrun_list_is_told(rt: HostRuntime) -> Result<(), Fail> {
+    let rows = rows_in_turn(rt.alloc(), 200)?;
+    let list = read_list(rt.alloc(), rows.as_bytes(), Rate::F25)?;
+    let mut text = String::new(rt.alloc());
+    for k in 0..200 {
+        let id = if k % 2 == 0 { "CLIP0001" } else { "\"A,B\"" };
+        writeln!(text, "{k},{id}")?;
+    }
+    let mut refused = 0;
+    for blocks in 1..4_096 {
+        let heap = LocalHeap::new(rt.alloc(), 32 * blocks)?;
         let mut out = Vec::new(rt.alloc());
         match write_asrun(&heap, &list, Rate::F25, list.len(), &mut out) {
             Ok(()) => {
-                assert!(rt; out.starts_with(b"0,CLIP0001\n1,\"A,B\"\n2,CLIP0001\n"));
-                written = true;
+                assert_eq!(rt; out.as_slice(), text.as_bytes());
+                assert!(rt; 8 < refused);
+                return Ok(());
             }
             Err(fault) => {
                 assert!(rt; fault == WriteFault::Memory);
                 assert!(rt; out.is_empty());
-                refused = true;
+                refused = blocks;
             }
         }
     }
-    assert!(rt; refused && written);
-    Ok(())
+    Err(Fail::new("no heap was large enough"))
 }

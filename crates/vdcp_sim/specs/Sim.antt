@@ -19,14 +19,15 @@ use Rattle.vdcp_auto.specs.declared.outcome.Outcome.{Outcome}
 use Rattle.vdcp_auto.specs.declared.outcome.Outcome.TheVariants.{Done, Stopped, Lost, Denied, Missing, Refused, Foreign, Strange}
 use Rattle.vdcp_auto.specs.declared.phase.Mode.{Mode}
 use Rattle.vdcp_auto.specs.declared.phase.Mode.TheVariants.{Plain, Confirming}
-use Rattle.vdcp_list.specs.Playlists.{time_text}
+use Rattle.vdcp_list.specs.Catalogues.{IsCatalogueOf}
+use Rattle.vdcp_list.specs.Playlists.{IsListOf, time_text}
 use Rattle.vdcp_text.specs.Failure.{failure_line, status_of}
 use Rattle.vdcp_text.specs.Text.{line}
 use Rattle.vdcp_text.specs.declared.failure.Failure.{Failure}
 use Rattle.vdcp_text.specs.declared.failure.Failure.TheVariants as failures
 use Rattle.vdcp_text.specs.declared.failure.LineFault.{LineFault}
-use Rattle.vdcp_files.specs.Check.{AreWhole, IsCatalogueOf, IsListOf}
-use Rattle.vdcp_files.specs.Files.{File}
+use Rattle.vdcp_files.specs.Check.{AreWhole}
+use Rattle.vdcp_files.specs.Files.{File, bytes_of}
 use Rattle.vdcp_world.specs.Channel.{Channel, new_channel, after_events}
 use Rattle.vdcp_world.specs.Headline.{Headline}
 use Rattle.vdcp_world.specs.declared.event.Event.{Event}
@@ -113,8 +114,8 @@ pub record IsSimulated (settings : Settings) (list catalogue : File) (old new : 
   pub clips : List (ClipId × Timecode)
   pub events : List Event
   pub few : length events ≤ 100000
-  pub is_playlist : IsListOf settings.rate list items
-  pub is_catalogue : IsCatalogueOf settings.rate catalogue clips
+  pub is_playlist : IsListOf settings.rate (bytes_of list) items
+  pub is_catalogue : IsCatalogueOf settings.rate (bytes_of catalogue) clips
   pub gained : Appends old new (channel_text settings.trace settings.rate (after_events (channel_of settings items clips) events))
   pub headline : Headline (after_events (channel_of settings items clips) events)
 

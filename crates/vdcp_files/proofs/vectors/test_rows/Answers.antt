@@ -2,7 +2,7 @@ use Rattle.csv.specs.Records.{fields_of}
 use Rattle.std.proofs.Common.{◌≡◌, ◌<◌, ◌-◌, true, false, sym, refl, inr, arith}
 use Rattle.std.proofs.lemmas.Grind.{common_steps}
 use Rattle.std.specs.Prelude.{Ok}
-use Rattle.vdcp_files.proofs.VectorLemmas.{counted, counts_one, if_ok, tested_all, tested_first, tested_next, tested_too_many}
+use Rattle.vdcp_files.proofs.VectorLemmas.{RowLaws, counted, counts_one, if_ok, tested_all, tested_first, tested_next, tested_too_many}
 use Rattle.vdcp_files.proofs.vectors.test_rows.Goals as goal
 use Rattle.vdcp_files.specs.Vectors.{finding_of}
 use Rattle.vdcp_list.specs.Reading.{IsSet, TakesRow, rows_left}
@@ -12,7 +12,12 @@ pub loop-tally-init : goal.loop-tally-init
 loop-tally-init g c = record {
   set = c.rows_in-rows.ensures.set;
   tested =
-      tested_first (g.R.Read.remaining c.args.file.reader) (rows_left g.R.Read.remaining c.rows_in-rows.result) c.new-tally.result
+      tested_first (record {
+        none = c.rows_are_read_in_order.ensures.none;
+        more = c.rows_are_read_in_order.ensures.more;
+        all = c.rows_are_read_in_order.ensures.all;
+        begins = c.rows_are_read_in_order.ensures.begins;
+      }) (g.R.Read.remaining c.args.file.reader) (rows_left g.R.Read.remaining c.rows_in-rows.result) c.new-tally.result
       c.rows_in-rows.ensures.rows c.new-tally.ensures;
 }
 
@@ -35,7 +40,12 @@ loop-tally-preserved g c =
     record {
       set = if_ok (λ f. f ≡ true → IsSet c.next_row.new.reader) c.next_row.result true c.next_row.ensures.set found refl;
       tested =
-          tested_next (g.R.Read.remaining c.args.file.reader) (rows_left g.R.Read.remaining c.loop-tally.rows) (rows_left g.R.Read.remaining c.next_row.new.reader)
+          tested_next (record {
+        none = c.rows_are_read_in_order.ensures.none;
+        more = c.rows_are_read_in_order.ensures.more;
+        all = c.rows_are_read_in_order.ensures.all;
+        begins = c.rows_are_read_in_order.ensures.begins;
+      }) (g.R.Read.remaining c.args.file.reader) (rows_left g.R.Read.remaining c.loop-tally.rows) (rows_left g.R.Read.remaining c.next_row.new.reader)
           c.loop-tally.tally c.add.new.self (fields_of c.next_row.new.row) (finding_of c.in_ok-verdict.verdict) c.loop-tally.invariant.tested takes room c.in_ok-verdict.ensures c.in_ok-add.ensures;
     }
 
@@ -54,7 +64,12 @@ returns-then-tally-eq-MAX_ROWS-clause-refused g c =
     c.next_row.result true c.next_row.ensures.takes found in
     inr (inr (
       refl,
-      tested_too_many (g.R.Read.remaining c.args.file.reader) (rows_left g.R.Read.remaining c.loop-tally.rows)
+      tested_too_many (record {
+        none = c.rows_are_read_in_order.ensures.none;
+        more = c.rows_are_read_in_order.ensures.more;
+        all = c.rows_are_read_in_order.ensures.all;
+        begins = c.rows_are_read_in_order.ensures.begins;
+      }) (g.R.Read.remaining c.args.file.reader) (rows_left g.R.Read.remaining c.loop-tally.rows)
           (rows_left g.R.Read.remaining c.next_row.new.reader) c.loop-tally.tally (fields_of c.next_row.new.row) c.loop-tally.invariant.tested takes c.if-tally-eq-MAX_ROWS.true,
     ))
 
@@ -63,5 +78,10 @@ returns-clause-tally g c =
     let none : c.next_row.result ≡ Ok false = grind (arith, common_steps) in
     let takes = if_ok (λ f. TakesRow (rows_left g.R.Read.remaining c.loop-tally.rows) (rows_left g.R.Read.remaining c.next_row.new.reader) f (fields_of c.next_row.new.row))
     c.next_row.result false c.next_row.ensures.takes none in
-    tested_all (g.R.Read.remaining c.args.file.reader) (rows_left g.R.Read.remaining c.loop-tally.rows) (rows_left g.R.Read.remaining c.next_row.new.reader)
+    tested_all (record {
+        none = c.rows_are_read_in_order.ensures.none;
+        more = c.rows_are_read_in_order.ensures.more;
+        all = c.rows_are_read_in_order.ensures.all;
+        begins = c.rows_are_read_in_order.ensures.begins;
+      }) (g.R.Read.remaining c.args.file.reader) (rows_left g.R.Read.remaining c.loop-tally.rows) (rows_left g.R.Read.remaining c.next_row.new.reader)
     c.loop-tally.tally (fields_of c.next_row.new.row) c.loop-tally.invariant.tested takes

@@ -2,29 +2,25 @@ use Rattle.csv.specs.Records.{fields_of}
 use Rattle.std.proofs.Common.{◌≡◌, ◌≤◌, ◌<◌, ◌+◌, [], ◌∷◌, ◌++◌, true, false, arith}
 use Rattle.std.proofs.lemmas.Grind.{common_steps}
 use Rattle.std.proofs.lemmas.Result.{err_from_is_err_and}
-use Rattle.std.specs.Prelude.{option_map}
-use Rattle.vdcp_list.proofs.CatalogueSteps.{given_all, given_first, given_next, given_refused, given_too_many, given_twice}
-use Rattle.vdcp_list.proofs.Steps.{of_bytes}
+use Rattle.vdcp_list.proofs.CatalogueSteps.{catalogue_read_fault, given_all, given_first, given_next, given_refused, given_too_many, given_twice}
 use Rattle.vdcp_list.proofs.catalogue.read_catalogue.Goals as goal
-use Rattle.vdcp_list.specs.Catalogues.{IsCatalogue, IsCatalogueFault}
 use Rattle.vdcp_list.specs.Reading.{rows_left}
-use Rattle.vdcp_list.specs.Rows.{most_rows, rows_of}
-use Rattle.vdcp_list.specs.declared.faults.ListFault.TheVariants.{TooMany, Twice}
+use Rattle.vdcp_list.specs.Rows.{most_rows}
+use Rattle.vdcp_list.specs.declared.faults.ListFault.TheVariants.{Memory}
 
 pub loop-read-init : goal.loop-read-init
 loop-read-init g c = record {
   set = c.rows_in-rows.ensures.set;
-  given = rw (c.new-table.ensures, c.rows_in-rows.ensures.rows) (given_first c.args.rate (option_map rows_of (g.R.Read.remaining c.args.reader)));
+  given = rw (c.new-table.ensures, c.rows_in-rows.ensures.rows) (given_first c.args.rate (g.R.Read.remaining c.args.reader));
 }
 
 pub returns-then-not-branch-clause-clips : goal.returns-then-not-branch-clause-clips
 returns-then-not-branch-clause-clips g c =
     let none : c.in_ok-next_row.field-0 ≡ false = grind (arith, common_steps) in
     let few : c.loop-read.read ≤ most_rows = omega arith in
-    of_bytes (g.R.Read.remaining c.args.reader) (λ rows. IsCatalogue c.args.rate rows c.loop-read.table)
-    (given_all c.args.rate (option_map rows_of (g.R.Read.remaining c.args.reader)) (rows_left g.R.Read.remaining c.loop-read.rows)
+    given_all c.args.rate (g.R.Read.remaining c.args.reader) (rows_left g.R.Read.remaining c.loop-read.rows)
     (rows_left g.R.Read.remaining c.next_row.new.reader) c.loop-read.read c.loop-read.table (fields_of c.next_row.new.row)
-    c.loop-read.invariant.given (rw none at c.in_ok-next_row.ensures.takes) few)
+    c.loop-read.invariant.given (rw none at c.in_ok-next_row.ensures.takes) few
 
 pub returns-in_err-id-clause-refused : goal.returns-in_err-id-clause-refused
 returns-in_err-id-clause-refused g c =
@@ -32,8 +28,7 @@ returns-in_err-id-clause-refused g c =
     let some : c.in_ok-next_row.field-0 ≡ true = grind (arith, common_steps) in
     let few : c.loop-read.read < most_rows = omega arith in
     rw (p.1, p.2)
-    (of_bytes (g.R.Read.remaining c.args.reader) (λ rows. IsCatalogueFault c.args.rate rows c.in_err-id.field-0.0)
-    (given_refused c.args.rate (option_map rows_of (g.R.Read.remaining c.args.reader)) (rows_left g.R.Read.remaining c.loop-read.rows)
+    ((given_refused c.args.rate (g.R.Read.remaining c.args.reader) (rows_left g.R.Read.remaining c.loop-read.rows)
     (rows_left g.R.Read.remaining c.next_row.new.reader) c.loop-read.read c.loop-read.table (fields_of c.next_row.new.row) c.in_err-id.field-0.0
     c.loop-read.invariant.given (rw some at c.in_ok-next_row.ensures.takes) few c.in_err-id.ensures.fault))
 
@@ -41,11 +36,10 @@ pub returns-in-Ok-false-clause-refused : goal.returns-in-Ok-false-clause-refused
 returns-in-Ok-false-clause-refused g c =
     let some : c.in_ok-next_row.field-0 ≡ true = grind (arith, common_steps) in
     let few : c.loop-read.read < most_rows = omega arith in
-    of_bytes (g.R.Read.remaining c.args.reader) (λ rows. IsCatalogueFault c.args.rate rows (Twice (c.loop-read.read + 1)))
-    (given_twice c.an_id_is_its_bytes.ensures.same c.args.rate (option_map rows_of (g.R.Read.remaining c.args.reader)) (rows_left g.R.Read.remaining c.loop-read.rows)
+    given_twice c.an_id_is_its_bytes.ensures.same c.args.rate (g.R.Read.remaining c.args.reader) (rows_left g.R.Read.remaining c.loop-read.rows)
     (rows_left g.R.Read.remaining c.next_row.new.reader) c.loop-read.read c.loop-read.table (fields_of c.next_row.new.row) (c.in_ok-id.id, c.in_ok-id.length)
     c.loop-read.invariant.given (rw some at c.in_ok-next_row.ensures.takes) few c.in_ok-id.ensures.row c.in_ok-id.ensures.can_last
-    (c.in-Ok-false.ensures.there c.in-Ok-false.field-0-test))
+    (c.in-Ok-false.ensures.there c.in-Ok-false.field-0-test)
 
 pub loop-read-preserved : goal.loop-read-preserved
 loop-read-preserved g c =
@@ -54,7 +48,7 @@ loop-read-preserved g c =
     record {
       set = c.in_ok-next_row.ensures.set some;
       given =
-          rw pushed (given_next c.args.rate (option_map rows_of (g.R.Read.remaining c.args.reader)) (rows_left g.R.Read.remaining c.loop-read.rows)
+          rw pushed (given_next c.args.rate (g.R.Read.remaining c.args.reader) (rows_left g.R.Read.remaining c.loop-read.rows)
           (rows_left g.R.Read.remaining c.next_row.new.reader) c.loop-read.read c.loop-read.table (fields_of c.next_row.new.row)
           (c.in_ok-id.id, c.in_ok-id.length) c.loop-read.invariant.given (rw some at c.in_ok-next_row.ensures.takes) c.in_ok-id.ensures.row
           c.in_ok-id.ensures.can_last (c.in-Ok-true.ensures.new c.in-Ok-true.field-0-test));
@@ -64,16 +58,28 @@ pub returns-then-branch-clause-refused : goal.returns-then-branch-clause-refused
 returns-then-branch-clause-refused g c =
     let some : c.in_ok-next_row-2.field-0 ≡ true = grind (arith, common_steps) in
     let full : c.loop-read.read ≡ most_rows = omega arith in
-    of_bytes (g.R.Read.remaining c.args.reader) (λ rows. IsCatalogueFault c.args.rate rows (TooMany (most_rows + 1)))
-    (given_too_many c.args.rate (option_map rows_of (g.R.Read.remaining c.args.reader)) (rows_left g.R.Read.remaining c.loop-read.rows)
+    given_too_many c.args.rate (g.R.Read.remaining c.args.reader) (rows_left g.R.Read.remaining c.loop-read.rows)
     (rows_left g.R.Read.remaining c.next_row-2.new.reader) c.loop-read.read c.loop-read.table (fields_of c.next_row-2.new.row)
-    c.loop-read.invariant.given (rw some at c.in_ok-next_row-2.ensures.takes) full)
+    c.loop-read.invariant.given (rw some at c.in_ok-next_row-2.ensures.takes) full
 
 pub returns-clause-clips : goal.returns-clause-clips
 returns-clause-clips g c =
     let none : c.in_ok-next_row-2.field-0 ≡ false = grind (arith, common_steps) in
     let few : c.loop-read.read ≤ most_rows = omega arith in
-    of_bytes (g.R.Read.remaining c.args.reader) (λ rows. IsCatalogue c.args.rate rows c.loop-read.table)
-    (given_all c.args.rate (option_map rows_of (g.R.Read.remaining c.args.reader)) (rows_left g.R.Read.remaining c.loop-read.rows)
+    given_all c.args.rate (g.R.Read.remaining c.args.reader) (rows_left g.R.Read.remaining c.loop-read.rows)
     (rows_left g.R.Read.remaining c.next_row-2.new.reader) c.loop-read.read c.loop-read.table (fields_of c.next_row-2.new.row)
-    c.loop-read.invariant.given (rw none at c.in_ok-next_row-2.ensures.takes) few)
+    c.loop-read.invariant.given (rw none at c.in_ok-next_row-2.ensures.takes) few
+
+-- the reader or memory failed
+pub returns-in_err-next_row-clause-refused : goal.returns-in_err-next_row-clause-refused
+returns-in_err-next_row-clause-refused g c =
+    let p = err_from_is_err_and c.from_residual.result c.from_residual.ensures.1 in
+    rw (p.1, p.2) (catalogue_read_fault c.args.rate (g.R.Read.remaining c.args.reader) c.in_err-next_row.field-0.0 c.in_err-next_row.ensures.failed)
+
+pub returns-in-Err-clause-refused : goal.returns-in-Err-clause-refused
+returns-in-Err-clause-refused g c = catalogue_read_fault c.args.rate (g.R.Read.remaining c.args.reader) Memory tt
+
+pub returns-in_err-next_row-2-clause-refused : goal.returns-in_err-next_row-2-clause-refused
+returns-in_err-next_row-2-clause-refused g c =
+    let p = err_from_is_err_and c.from_residual-in_err-next_row-2.result c.from_residual-in_err-next_row-2.ensures.1 in
+    rw (p.1, p.2) (catalogue_read_fault c.args.rate (g.R.Read.remaining c.args.reader) c.in_err-next_row-2.field-0.0 c.in_err-next_row-2.ensures.failed)

@@ -2,25 +2,21 @@ use Rattle.csv.specs.Records.{fields_of}
 use Rattle.std.proofs.Common.{◌≡◌, ◌≤◌, ◌<◌, ◌+◌, [], ◌∷◌, ◌++◌, true, false, arith}
 use Rattle.std.proofs.lemmas.Result.{err_from_is_err_and}
 use Rattle.std.proofs.lemmas.Grind.{common_steps}
-use Rattle.std.specs.Prelude.{option_map}
-use Rattle.vdcp_list.proofs.PlaylistSteps.{ColumnsNow, named_all, named_next, named_refused, named_too_many}
-use Rattle.vdcp_list.proofs.Steps.{of_bytes}
+use Rattle.vdcp_list.proofs.PlaylistSteps.{ColumnsNow, list_read_fault, named_all, named_next, named_refused, named_too_many}
 use Rattle.vdcp_list.proofs.playlist.read_list.Goals as goal
 use Rattle.vdcp_list.proofs.playlist.read_list.Goals.{then-read-eq0, else-read-eq0}
 use Rattle.vdcp_list.specs.List.{items_of}
-use Rattle.vdcp_list.specs.Playlists.{IsPlaylist, IsPlaylistFault}
 use Rattle.vdcp_list.specs.Reading.{rows_left}
-use Rattle.vdcp_list.specs.declared.faults.ListFault.TheVariants.{TooMany}
-use Rattle.vdcp_list.specs.Rows.{most_rows, rows_of}
+use Rattle.vdcp_list.specs.Rows.{most_rows}
+use Rattle.vdcp_list.specs.declared.faults.ListFault.TheVariants.{Memory}
 
 pub returns-then-not-branch-clause-items : goal.returns-then-not-branch-clause-items
 returns-then-not-branch-clause-items g c =
     let none : c.in_ok-next_row.field-0 ≡ false = grind (arith, common_steps) in
     let few : c.loop-read.read ≤ most_rows = omega arith in
-    of_bytes (g.R.Read.remaining c.args.reader) (λ rows. IsPlaylist c.args.rate rows (items_of c.loop-read.list))
-    (named_all c.args.rate (option_map rows_of (g.R.Read.remaining c.args.reader)) (rows_left g.R.Read.remaining c.loop-read.rows)
+    named_all c.args.rate (g.R.Read.remaining c.args.reader) (rows_left g.R.Read.remaining c.loop-read.rows)
     (rows_left g.R.Read.remaining c.next_row.new.reader) c.loop-read.read c.loop-read.columns (items_of c.loop-read.list) (fields_of c.next_row.new.row)
-    c.loop-read.invariant.named (rw none at c.in_ok-next_row.ensures.takes) few)
+    c.loop-read.invariant.named (rw none at c.in_ok-next_row.ensures.takes) few
 
 pub returns-in_err-item-clause-refused : goal.returns-in_err-item-clause-refused
 returns-in_err-item-clause-refused g c =
@@ -32,8 +28,7 @@ returns-in_err-item-clause-refused g c =
       | else-read-eq0 w ↦ (λ e. absurd (w.if-read-eq0.false e), λ ne. w.columns-is)
     ] in
     rw (p.1, p.2)
-    (of_bytes (g.R.Read.remaining c.args.reader) (λ rows. IsPlaylistFault c.args.rate rows c.in_err-item.field-0.0)
-    (named_refused c.args.rate (option_map rows_of (g.R.Read.remaining c.args.reader)) (rows_left g.R.Read.remaining c.loop-read.rows)
+    ((named_refused c.args.rate (g.R.Read.remaining c.args.reader) (rows_left g.R.Read.remaining c.loop-read.rows)
     (rows_left g.R.Read.remaining c.next_row.new.reader) c.loop-read.read c.loop-read.columns c.if-read-eq0.columns (items_of c.loop-read.list)
     (fields_of c.next_row.new.row) c.in_err-item.field-0.0 c.loop-read.invariant.named (rw some at c.in_ok-next_row.ensures.takes) columns few
     c.in_err-item.ensures.fault))
@@ -49,7 +44,7 @@ loop-read-preserved g c =
     record {
       set = c.in_ok-next_row.ensures.set some;
       named =
-          rw pushed (named_next c.args.rate (option_map rows_of (g.R.Read.remaining c.args.reader)) (rows_left g.R.Read.remaining c.loop-read.rows)
+          rw pushed (named_next c.args.rate (g.R.Read.remaining c.args.reader) (rows_left g.R.Read.remaining c.loop-read.rows)
           (rows_left g.R.Read.remaining c.next_row.new.reader) c.loop-read.read c.loop-read.columns c.if-read-eq0.columns (items_of c.loop-read.list)
           (fields_of c.next_row.new.row) c.in_ok-item.item c.loop-read.invariant.named (rw some at c.in_ok-next_row.ensures.takes) columns
           c.in_ok-item.ensures.row c.in_ok-item.ensures.can_name);
@@ -59,19 +54,31 @@ pub returns-then-branch-clause-refused : goal.returns-then-branch-clause-refused
 returns-then-branch-clause-refused g c =
     let some : c.in_ok-next_row-2.field-0 ≡ true = grind (arith, common_steps) in
     let full : c.loop-read.read ≡ most_rows = omega arith in
-    of_bytes (g.R.Read.remaining c.args.reader) (λ rows. IsPlaylistFault c.args.rate rows (TooMany (most_rows + 1)))
-    (named_too_many c.args.rate (option_map rows_of (g.R.Read.remaining c.args.reader)) (rows_left g.R.Read.remaining c.loop-read.rows)
+    named_too_many c.args.rate (g.R.Read.remaining c.args.reader) (rows_left g.R.Read.remaining c.loop-read.rows)
     (rows_left g.R.Read.remaining c.next_row-2.new.reader) c.loop-read.read c.loop-read.columns (items_of c.loop-read.list) (fields_of c.next_row-2.new.row)
-    c.loop-read.invariant.named (rw some at c.in_ok-next_row-2.ensures.takes) full)
+    c.loop-read.invariant.named (rw some at c.in_ok-next_row-2.ensures.takes) full
 
 pub returns-clause-items : goal.returns-clause-items
 returns-clause-items g c =
     let none : c.in_ok-next_row-2.field-0 ≡ false = grind (arith, common_steps) in
     let few : c.loop-read.read ≤ most_rows = omega arith in
-    of_bytes (g.R.Read.remaining c.args.reader) (λ rows. IsPlaylist c.args.rate rows (items_of c.loop-read.list))
-    (named_all c.args.rate (option_map rows_of (g.R.Read.remaining c.args.reader)) (rows_left g.R.Read.remaining c.loop-read.rows)
+    named_all c.args.rate (g.R.Read.remaining c.args.reader) (rows_left g.R.Read.remaining c.loop-read.rows)
     (rows_left g.R.Read.remaining c.next_row-2.new.reader) c.loop-read.read c.loop-read.columns (items_of c.loop-read.list) (fields_of c.next_row-2.new.row)
-    c.loop-read.invariant.named (rw none at c.in_ok-next_row-2.ensures.takes) few)
+    c.loop-read.invariant.named (rw none at c.in_ok-next_row-2.ensures.takes) few
 
 pub id_text-requires : goal.id_text-requires
 id_text-requires g c = (c.in_ok-item.item.id, c.in_ok-item.ensures.id)
+
+-- the reader or memory failed
+pub returns-in_err-next_row-clause-refused : goal.returns-in_err-next_row-clause-refused
+returns-in_err-next_row-clause-refused g c =
+    let p = err_from_is_err_and c.from_residual.result c.from_residual.ensures.1 in
+    rw (p.1, p.2) (list_read_fault c.args.rate (g.R.Read.remaining c.args.reader) c.in_err-next_row.field-0.0 c.in_err-next_row.ensures.failed)
+
+pub returns-then-is_err-clause-refused : goal.returns-then-is_err-clause-refused
+returns-then-is_err-clause-refused g c = list_read_fault c.args.rate (g.R.Read.remaining c.args.reader) Memory tt
+
+pub returns-in_err-next_row-2-clause-refused : goal.returns-in_err-next_row-2-clause-refused
+returns-in_err-next_row-2-clause-refused g c =
+    let p = err_from_is_err_and c.from_residual-in_err-next_row-2.result c.from_residual-in_err-next_row-2.ensures.1 in
+    rw (p.1, p.2) (list_read_fault c.args.rate (g.R.Read.remaining c.args.reader) c.in_err-next_row-2.field-0.0 c.in_err-next_row-2.ensures.failed)

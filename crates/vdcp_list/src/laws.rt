@@ -1,0 +1,53 @@
+//! The laws of the definitions in `specs/`. What a law says is the contract of its function, whose
+//! body does nothing, or calls the laws that it stands on.
+
+ghost use Rattle.std.specs.Prelude.{◌≡◌, ◌++◌, ◌∷◌, [], IsTrue, List, Option, false, option_map, true, ℕ};
+ghost use Rattle.vdcp_list.specs.Asrun.{IsUnlawful, are_lawful};
+ghost use Rattle.vdcp_list.specs.Playlists.{IsListOf, IsPlaylist, IsPlaylistFault};
+ghost use Rattle.vdcp_list.specs.Reading.{IsFront, IsReadFault, TakesRow};
+ghost use Rattle.vdcp_list.specs.Rows.{AreRowsOf, FileRow, HasRows, rows_of};
+ghost use Rattle.vdcp_list.specs.declared.faults.ListFault.{ListFault};
+ghost use Rattle.vdcp_value.specs.declared.part.Item.{Item};
+ghost use Rattle.vdcp_value.specs.declared.rate.Rate.{Rate};
+
+use vdcp_value::laws::{
+    a_text_is_of_one_id, a_time_code_has_lawful_bytes, a_time_code_is_one, an_id_has_one_text,
+    lawful_bytes_are_a_time_codes, the_text_of_a_time_code_is_eleven_bytes,
+};
+
+/// The rows that were read of a file are its first, in order: none before the first read, one more
+/// with each row that is taken, and all of them where none is left.
+pub fn rows_are_read_in_order()
+    ensures none { (all : Option (List FileRow)) → IsFront all all [] }
+    ensures more { (all left left' : Option (List FileRow)) (front : List FileRow) (row : FileRow) →
+        IsFront all left front → TakesRow left left' true row → IsFront all left' (front ++ row ∷ []) }
+    ensures all { (file : Option (List ℕ)) (left left' : Option (List FileRow)) (front : List FileRow) (row : FileRow) →
+        IsFront (option_map rows_of file) left front → TakesRow left left' false row → AreRowsOf file front }
+    ensures begins { (file : Option (List ℕ)) (left : Option (List FileRow)) (front : List FileRow) →
+        IsFront (option_map rows_of file) left front → HasRows file (λ rows. (more : List FileRow) × (rows ≡ front ++ more)) }
+{}
+
+/// What is read of a playlist at a rate can be written at it: each part is lawful, so no event is one
+/// that `write_asrun` refuses.
+pub fn what_is_read_can_be_written()
+    ensures lawful { (rate : Rate) (rows : List FileRow) (items : List Item) → IsPlaylist rate rows items → IsTrue (are_lawful rate items) }
+    ensures none { (rate : Rate) (file : Option (List ℕ)) (items : List Item) → IsListOf rate file items →
+        (reported k : ℕ) → ¬ IsUnlawful rate items reported k }
+{}
+
+/// Rows have one reading: they are a playlist of one list of items, or have one fault, and not both.
+/// Of the reader and of memory rows say nothing.
+pub fn rows_have_one_reading()
+    ensures one_list { (rate : Rate) (rows : List FileRow) (a b : List Item) → IsPlaylist rate rows a → IsPlaylist rate rows b → a ≡ b }
+    ensures one_fault { (rate : Rate) (rows : List FileRow) (a b : ListFault) → IsPlaylistFault rate rows a → IsPlaylistFault rate rows b →
+        ¬ IsReadFault a → ¬ IsReadFault b → a ≡ b }
+    ensures not_both { (rate : Rate) (rows : List FileRow) (items : List Item) (fault : ListFault) → IsPlaylist rate rows items →
+        IsPlaylistFault rate rows fault → IsReadFault fault }
+{
+    a_text_is_of_one_id();
+    an_id_has_one_text();
+    a_time_code_has_lawful_bytes();
+    lawful_bytes_are_a_time_codes();
+    a_time_code_is_one();
+    the_text_of_a_time_code_is_eleven_bytes();
+}
