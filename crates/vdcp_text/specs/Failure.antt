@@ -1,7 +1,8 @@
 use Rattle.std.specs.Prelude.{ℕ, List, ◌++◌, codes, decimal}
 use Rattle.vdcp_text.specs.Text.{line}
 use Rattle.vdcp_text.specs.declared.failure.Failure.{Failure}
-use Rattle.vdcp_text.specs.declared.failure.Failure.TheVariants.{Hex, Word, Arguments, Text, Open, Read, Row, Line, TooManyEvents, NotText, Memory, Writer}
+use Rattle.vdcp_text.specs.declared.failure.Failure.TheVariants.{Hex, Word, Arguments, Text, Open, Read, Row, Line, TooManyEvents, NotText, Write, Memory, Writer}
+use Rattle.vdcp_text.specs.declared.failure.Failure.TheVariants.{Address, Connect, Bind, LineFailed, LineClosed, Spent}
 use Rattle.vdcp_text.specs.declared.failure.LineFault.{LineFault}
 use Rattle.vdcp_text.specs.declared.failure.LineFault.TheVariants as lines
 use Rattle.vdcp_text.specs.declared.failure.RowFault.{RowFault}
@@ -19,6 +20,13 @@ status_of (Row name row fault) = 1
 status_of (Line name number fault) = 1
 status_of (TooManyEvents name) = 1
 status_of (NotText name) = 1
+status_of (Write name) = 3
+status_of Address = 2
+status_of Connect = 3
+status_of Bind = 3
+status_of LineFailed = 3
+status_of LineClosed = 3
+status_of Spent = 3
 status_of Memory = 3
 status_of Writer = 3
 
@@ -46,6 +54,13 @@ failure_text (Row name row fault) = name.now ++ codes ": row " ++ decimal row ++
 failure_text (Line name number fault) = name.now ++ codes ": line " ++ decimal number ++ codes ": " ++ line_fault_text fault
 failure_text (TooManyEvents name) = name.now ++ codes ": too many"
 failure_text (NotText name) = name.now ++ codes ": text"
+failure_text (Write name) = name.now ++ codes ": write"
+failure_text Address = codes "address"
+failure_text Connect = codes "cannot connect"
+failure_text Bind = codes "cannot bind"
+failure_text LineFailed = codes "line failed"
+failure_text LineClosed = codes "line closed"
+failure_text Spent = codes "spent"
 failure_text Memory = codes "memory"
 failure_text Writer = codes "write"
 

@@ -27,6 +27,20 @@ pub enum Failure<'a> {
     TooManyEvents(&'a str),
     /// The script of this name isn't UTF-8.
     NotText(&'a str),
+    /// The file of this name can't be written.
+    Write(&'a str),
+    /// The address isn't an IPv4 address, a colon and a port number.
+    Address,
+    /// Nobody takes the connection.
+    Connect,
+    /// The address can't be listened at, or no connection is taken there.
+    Bind,
+    /// The line to the other end failed.
+    LineFailed,
+    /// The other end has closed the line.
+    LineClosed,
+    /// The listens are used up.
+    Spent,
     /// Memory was refused.
     Memory,
     /// A writer failed.
@@ -37,8 +51,8 @@ impl Failure<'_> {
     ghost use Rattle.vdcp_text.specs.Failure.{failure_line, status_of};
 
     /// Tells `err` of the failure in one line and gives the exit status: 1 for refused data, 2 for
-    /// words that aren't text, and 3 for the others. It is 3 too where it can't be told. Of a writer
-    /// that failed nothing is told.
+    /// words that aren't text and for an address that is none, and 3 for the others. It is 3 too where
+    /// it can't be told. Of a writer that failed nothing is told.
     pub fn report<E: io::Write>(self, err: &mut E) -> u8
         ensures status { (result ≡ status_of self.entry) ⊎ (result ≡ 3) }
         ensures told { result < 3 → Appends (E.contents err.old) (E.contents err.new) (failure_line self.entry) }
@@ -61,8 +75,11 @@ impl Failure<'_> {
             Failure::Hex | Failure::Word | Failure::Arguments => 1,
             Failure::Row(..) | Failure::Line(..) => 1,
             Failure::TooManyEvents(_) | Failure::NotText(_) => 1,
-            Failure::Text => 2,
-            Failure::Open(_) | Failure::Read(_) | Failure::Memory | Failure::Writer => 3,
+            Failure::Text | Failure::Address => 2,
+            Failure::Open(_) | Failure::Read(_) | Failure::Write(_) => 3,
+            Failure::Connect | Failure::Bind => 3,
+            Failure::LineFailed | Failure::LineClosed | Failure::Spent => 3,
+            Failure::Memory | Failure::Writer => 3,
         }
     }
 }
@@ -85,6 +102,13 @@ impl fmt::Display for Failure<'_> {
             Failure::Line(name, line, fault) => write!(f, "{name}: line {line}: {fault}"),
             Failure::TooManyEvents(name) => write!(f, "{name}: too many"),
             Failure::NotText(name) => write!(f, "{name}: text"),
+            Failure::Write(name) => write!(f, "{name}: write"),
+            Failure::Address => write!(f, "address"),
+            Failure::Connect => write!(f, "cannot connect"),
+            Failure::Bind => write!(f, "cannot bind"),
+            Failure::LineFailed => write!(f, "line failed"),
+            Failure::LineClosed => write!(f, "line closed"),
+            Failure::Spent => write!(f, "spent"),
             Failure::Memory => write!(f, "memory"),
             Failure::Writer => write!(f, "write"),
         }

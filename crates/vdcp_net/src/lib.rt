@@ -1,0 +1,2 @@
+//! The subcommands `serve` and `run`: the two ends of a playout channel over TCP.
+#![tactic(auto)]
