@@ -16,7 +16,6 @@ use Rattle.vdcp_auto.specs.declared.exchange.Exchange.{Exchange}
 use Rattle.vdcp_auto.specs.declared.exchange.Heard.{Heard}
 use Rattle.vdcp_auto.specs.declared.exchange.Heard.TheVariants as heard
 use Rattle.vdcp_auto.specs.declared.outcome.Outcome.{Outcome}
-use Rattle.vdcp_auto.specs.declared.outcome.Outcome.TheVariants.{Done, Stopped, Lost, Denied, Missing, Refused, Foreign, Strange}
 use Rattle.vdcp_auto.specs.declared.phase.Mode.{Mode}
 use Rattle.vdcp_auto.specs.declared.phase.Mode.TheVariants.{Plain, Confirming}
 use Rattle.vdcp_list.specs.Catalogues.{IsCatalogueOf}
@@ -28,6 +27,7 @@ use Rattle.vdcp_text.specs.declared.failure.Failure.TheVariants as failures
 use Rattle.vdcp_text.specs.declared.failure.LineFault.{LineFault}
 use Rattle.vdcp_files.specs.Check.{AreWhole}
 use Rattle.vdcp_files.specs.Files.{File, bytes_of}
+use Rattle.vdcp_files.specs.Outcome.{outcome_text}
 use Rattle.vdcp_world.specs.Channel.{Channel, new_channel, after_events}
 use Rattle.vdcp_world.specs.Headline.{Headline}
 use Rattle.vdcp_world.specs.declared.event.Event.{Event}
@@ -42,17 +42,6 @@ heard_text (Some (heard.Reply reply)) = reply_text reply
 
 abbrev pub exchange_text : Exchange → List ℕ
 exchange_text e = command_text e.command ++ codes " -> " ++ heard_text e.heard
-
-abbrev pub outcome_text : Option Outcome → List ℕ
-outcome_text None = codes "open"
-outcome_text (Some Done) = codes "done"
-outcome_text (Some Stopped) = codes "stopped"
-outcome_text (Some Lost) = codes "lost"
-outcome_text (Some Denied) = codes "denied"
-outcome_text (Some (Missing k)) = codes "missing " ++ decimal k
-outcome_text (Some (Refused k)) = codes "refused " ++ decimal k
-outcome_text (Some (Foreign k)) = codes "foreign " ++ decimal k
-outcome_text (Some (Strange k)) = codes "strange " ++ decimal k
 
 -- the time code that four bytes write at a rate; their digits where they write none
 abbrev pub shown_time : Rate → List ℕ → List ℕ

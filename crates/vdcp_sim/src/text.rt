@@ -5,7 +5,7 @@ ghost use Rattle.vdcp_value.specs.Timecodes.{text_of};
 
 use arrayvec::ArrayString;
 use std::fmt;
-use vdcp_auto::{Exchange, Heard, Outcome};
+use vdcp_auto::{Exchange, Heard};
 use vdcp_text::HexText;
 use vdcp_value::laws::a_time_code_has_lawful_bytes;
 use vdcp_value::{Item, Rate, Timecode};
@@ -50,31 +50,6 @@ impl fmt::Display for ExchangeText {
         let command = command.as_str();
         let heard = HeardText(self.0.heard);
         write!(f, "{command} -> {heard}")
-    }
-}
-
-/// How a controller ended, or `open`.
-#[derive(Clone, Copy)]
-pub struct OutcomeText(pub Option<Outcome>);
-
-impl fmt::Display for OutcomeText {
-    ghost use Rattle.std.specs.Prelude.{Some};
-    ghost use Rattle.vdcp_sim.specs.Sim.{outcome_text};
-
-    ghost output = { λ o. Some (outcome_text o.0) };
-
-    fn fmt<W: fmt::Write>(&self, f: &mut fmt::Formatter<W>) -> fmt::Result {
-        match self.0 {
-            None => write!(f, "open"),
-            Some(Outcome::Done) => write!(f, "done"),
-            Some(Outcome::Stopped) => write!(f, "stopped"),
-            Some(Outcome::Lost) => write!(f, "lost"),
-            Some(Outcome::Denied) => write!(f, "denied"),
-            Some(Outcome::Missing(k)) => write!(f, "missing {k}"),
-            Some(Outcome::Refused(k)) => write!(f, "refused {k}"),
-            Some(Outcome::Foreign(k)) => write!(f, "foreign {k}"),
-            Some(Outcome::Strange(k)) => write!(f, "strange {k}"),
-        }
     }
 }
 

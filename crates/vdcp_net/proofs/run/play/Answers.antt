@@ -1,0 +1,7 @@
+use Rattle.std.proofs.Common.{◌∙◌}
+use Rattle.vdcp_net.proofs.Ends.{ends_so}
+use Rattle.vdcp_net.proofs.run.play.Goals as goal
+
+pub returns-clause-line : goal.returns-clause-line
+returns-clause-line g c = λ t told works.
+    ends_so c.ended.result.line c.run.result _ _ _ t.came (c.ended.ensures.line ∙ c.of_run-line.ensures) works (c.run.ensures.answer t told)

@@ -1,0 +1,117 @@
+-- How a run ends: what it tells then, and its exit status.
+use Rattle.std.specs.Borrow.{Bor}
+use Rattle.std.specs.Io.KnownBytes.{Appends, Keeps}
+use Rattle.std.specs.Prelude.{ℕ, ◌≡◌, ◌⊎◌, List, [], ◌++◌, codes, decimal, Option, None, Some, Result, Ok, Err, Bool, true, false, IsTrue}
+use Rattle.vdcp_value.specs.declared.part.Item.{Item}
+use Rattle.vdcp_value.specs.declared.rate.Rate.{Rate}
+use Rattle.vdcp_auto.specs.declared.outcome.Outcome.{Outcome}
+use Rattle.vdcp_auto.specs.declared.outcome.Outcome.TheVariants.{Done, Stopped, Lost, Denied, Missing, Refused, Foreign, Strange}
+use Rattle.vdcp_auto.specs.declared.phase.Mode.{Mode}
+use Rattle.vdcp_auto.specs.declared.phase.Mode.TheVariants.{Plain, Confirming}
+use Rattle.vdcp_text.specs.Failure.{failure_line, status_of}
+use Rattle.vdcp_text.specs.Text.{line}
+use Rattle.vdcp_text.specs.declared.failure.Failure.{Failure}
+use Rattle.vdcp_text.specs.declared.failure.Failure.TheVariants as failures
+use Rattle.vdcp_files.specs.Check.{IsListOf, RefusesList}
+use Rattle.vdcp_files.specs.Files.{File}
+use Rattle.vdcp_files.specs.Outcome.{outcome_text}
+use Rattle.vdcp_drive.specs.Lines.{AllListened, AtMostListened}
+use Rattle.vdcp_drive.specs.Wires.{Arrival, has_closed}
+use Rattle.vdcp_drive.specs.declared.line.DriveFault.{DriveFault}
+use Rattle.vdcp_drive.specs.declared.line.Ran.{Ran}
+use Rattle.vdcp_drive.specs.declared.line.Ran.TheVariants as ran
+use Rattle.vdcp_net.specs.declared.run.LineEnd.{LineEnd}
+use Rattle.vdcp_net.specs.declared.run.LineEnd.TheVariants as line_end
+use Rattle.vdcp_net.specs.declared.run.RunEnd.{RunEnd}
+
+abbrev pub mode_of : Bool → Mode
+mode_of true = Confirming
+mode_of false = Plain
+
+-- ---- how the line ended
+
+-- by what the driver's run answered
+abbrev pub line_end_of : Result Ran DriveFault → LineEnd
+line_end_of (Ok ran.Ended) = line_end.Unneeded
+line_end_of (Ok ran.Closed) = line_end.Closed
+line_end_of (Ok ran.Spent) = line_end.Spent
+line_end_of (Err fault) = line_end.Failed
+
+-- what came while it ended so, of so many listens at most
+abbrev pub EndsTo : LineEnd → ℕ → List Arrival → List Arrival → Type 0
+EndsTo line_end.Unneeded listens old new = AtMostListened listens old new
+EndsTo line_end.Closed listens old new = IsTrue (has_closed new) × AtMostListened listens old new
+EndsTo line_end.Spent listens old new = AllListened listens old new
+EndsTo line_end.Failed listens old new = Unit {0}
+
+-- as what it is told
+abbrev pub line_failure : LineEnd → Option Failure
+line_failure line_end.Unneeded = None
+line_failure line_end.Closed = Some failures.LineClosed
+line_failure line_end.Spent = Some failures.Spent
+line_failure line_end.Failed = Some failures.LineFailed
+
+-- ---- the as-run file
+
+-- why a file of this name hasn't got the as-run list, if it hasn't: it can't be made or written, or memory was refused
+abbrev pub IsUnwritten : Bor (List ℕ) → Failure → Type 0
+IsUnwritten name failure = (failure ≡ failures.Open name) ⊎ ((failure ≡ failures.Write name) ⊎ (failure ≡ failures.Memory))
+
+-- where no file is named nothing is written, and that is no failure
+abbrev pub MayBeUnwritten : Option (Bor (List ℕ)) → Option Failure → Type 0
+MayBeUnwritten name None = Unit {0}
+MayBeUnwritten None (Some failure) = ⊥
+MayBeUnwritten (Some name) (Some failure) = IsUnwritten name failure
+
+-- ---- what is told
+
+-- the lines of how many events are reported, and how the controller ended
+abbrev pub end_text : RunEnd → List ℕ
+end_text end = line (codes "reported " ++ decimal end.reported) ++ line (codes "outcome " ++ outcome_text end.outcome)
+
+abbrev pub fault_text : Option Failure → List ℕ
+fault_text None = []
+fault_text (Some failure) = failure_line failure
+
+-- the fault line of the as-run file, if there is one, and then that of the line
+abbrev pub faults_text : RunEnd → List ℕ
+faults_text end = fault_text end.unwritten ++ fault_text (line_failure end.line)
+
+-- ---- the exit status
+
+abbrev pub outcome_status : Option Outcome → ℕ
+outcome_status None = 3
+outcome_status (Some Done) = 0
+outcome_status (Some Stopped) = 0
+outcome_status (Some Lost) = 3
+outcome_status (Some Denied) = 1
+outcome_status (Some (Missing k)) = 1
+outcome_status (Some (Refused k)) = 1
+outcome_status (Some (Foreign k)) = 1
+outcome_status (Some (Strange k)) = 1
+
+-- 3 where there is a failure
+abbrev pub status_unless : Option Failure → ℕ → ℕ
+status_unless None status = status
+status_unless (Some failure) status = 3
+
+abbrev pub run_status : RunEnd → ℕ
+run_status end = status_unless end.unwritten (status_unless (line_failure end.line) (outcome_status end.outcome))
+
+-- ---- the whole
+
+-- the file is a playlist, and a run of it ended: a writer gained the lines of that, and this is the status
+pub record IsRun (rate : Rate) (list : File) (old new : Option (List ℕ)) (status : ℕ) : Type 0 where
+  pub items : List Item
+  pub is_playlist : IsListOf rate list items
+  pub end : RunEnd
+  pub gained : Appends old new (end_text end)
+  pub status_is : status ≡ run_status end
+
+-- a row of the file is refused: one writer gained the line that tells it, and the other nothing
+pub record IsListRefused (rate : Rate) (list : File) (out out' err err' : Option (List ℕ)) : Type 0 where
+  pub failure : Failure
+  pub refused : RefusesList rate list failure
+  pub of_row : status_of failure ≡ 1
+  pub told : Appends err err' (failure_line failure)
+  pub silent : Keeps out out'

@@ -1,0 +1,221 @@
+ghost use Rattle.std.specs.Io.KnownBytes.{Appends, Keeps};
+ghost use Rattle.std.specs.Prelude.{◌≡◌, ◌≢◌, ◌⊎◌, ◌<◌, ◌≤◌, List, IfErr, IfOk, IsSome, OnOk, Some};
+ghost use Rattle.vdcp_auto.specs.Plan.{plan_of};
+ghost use Rattle.vdcp_auto.specs.Turn as turns;
+ghost use Rattle.vdcp_drive.specs.Driven.{HasRun, HasRunBroken, IsNew, IsPartlyRun};
+ghost use Rattle.vdcp_drive.specs.Wires.{IfTold, Told};
+ghost use Rattle.vdcp_files.specs.Check.{IsListOf, RefusesList};
+ghost use Rattle.vdcp_files.specs.Files.{file};
+ghost use Rattle.vdcp_net.specs.Run.{EndsTo, IsListRefused, IsRun, MayBeUnwritten, end_text, fault_text, faults_text, line_end_of, line_failure, mode_of, run_status};
+ghost use Rattle.vdcp_value.specs.declared.part.Item.{Item};
+
+use crate::asrun::save_asrun;
+use std::io;
+use std::net::{Net, TcpStream};
+use std::rt::{Clock, Files};
+use std::time::Duration;
+use vdcp_auto::{Controller, Outcome, Source};
+use vdcp_drive::{AutoDriver, DriveFault, Ran, Wire};
+use vdcp_files::{Input, OutcomeText, file_failure};
+use vdcp_list::read_list;
+use vdcp_text::Failure;
+use vdcp_value::Rate;
+
+/// What a list is played with.
+#[derive(Clone, Copy, Debug, PartialEq, Eq)]
+pub struct RunSettings<'a> {
+    /// The server's unit address, 0 to 15.
+    pub unit: u8,
+    /// The port's number.
+    pub port: u8,
+    /// The controller gives up after so many unanswered exchanges in a row, 1 to 1,000.
+    pub limit: u32,
+    /// The controller is in confirm mode.
+    pub confirm: bool,
+    /// The frame rate of time codes.
+    pub rate: Rate,
+    /// Nothing comes in time where nothing came for so many milliseconds, 1 to 60,000. It has to be
+    /// longer than the server waits for the end of a command.
+    pub silence: u32,
+    /// At most so many listens are made.
+    pub listens: u64,
+    /// The file that is made for the as-run list, if one is wanted.
+    pub asrun: Option<&'a str>,
+}
+
+/// How the line ended.
+#[derive(Clone, Copy, Debug, PartialEq, Eq)]
+enum LineEnd {
+    /// The controller has ended, and needs it no more.
+    Unneeded,
+    /// The other end closed it.
+    Closed,
+    /// All listens were made.
+    Spent,
+    /// It failed.
+    Failed,
+}
+
+impl LineEnd {
+    // By what the driver's run answered.
+    fn of_run(ran: Result<Ran, DriveFault>) -> LineEnd
+        ensures { result ≡ line_end_of ran }
+    {
+        match ran {
+            Ok(Ran::Ended) => LineEnd::Unneeded,
+            Ok(Ran::Closed) => LineEnd::Closed,
+            Ok(Ran::Spent) => LineEnd::Spent,
+            Err(DriveFault::Device) => LineEnd::Failed,
+        }
+    }
+
+    // As what it is told, where the controller hasn't ended.
+    fn failure(self) -> Option<Failure<'static>>
+        ensures { result ≡ line_failure self }
+    {
+        match self {
+            LineEnd::Unneeded => None,
+            LineEnd::Closed => Some(Failure::LineClosed),
+            LineEnd::Spent => Some(Failure::Spent),
+            LineEnd::Failed => Some(Failure::LineFailed),
+        }
+    }
+}
+
+/// How a run ended.
+#[derive(Clone, Copy, Debug, PartialEq, Eq)]
+struct RunEnd<'a> {
+    /// How the controller ended; None where it would go on.
+    outcome: Option<Outcome>,
+    /// How many events it reports.
+    reported: usize,
+    line: LineEnd,
+    /// Why the as-run list that is wanted isn't written, if it isn't.
+    unwritten: Option<Failure<'a>>,
+}
+
+impl RunEnd<'_> {
+    // Tells `out` what came of the run, and `err` what failed, and gives the exit status. What failed is
+    // told also where `out` fails.
+    fn tell<W: io::Write, E: io::Write>(self, out: &mut W, err: &mut E) -> io::Result<u8>
+        ensures lines { OnOk result (Appends (W.contents out.old) (W.contents out.new) (end_text self.entry)) }
+        ensures faults { OnOk result (Appends (E.contents err.old) (E.contents err.new) (faults_text self.entry)) }
+        ensures status { IfOk result (λ status. status ≡ run_status self.entry) }
+    {
+        let written = self.write_lines(out);
+        self.write_faults(err)?;
+        written?;
+        Ok(self.status())
+    }
+
+    // Writes how many events are reported, and how the controller ended.
+    fn write_lines<W: io::Write>(&self, out: &mut W) -> io::Result<()>
+        ensures { OnOk result (Appends (W.contents out.old) (W.contents out.new) (end_text self.now)) }
+    {
+        let reported = self.reported;
+        let outcome = OutcomeText(self.outcome);
+        writeln!(out, "reported {reported}")?;
+        writeln!(out, "outcome {outcome}")?;
+        out.flush()
+    }
+
+    // Writes the fault line of the as-run file, if there is one, and then that of the line.
+    fn write_faults<E: io::Write>(&self, err: &mut E) -> io::Result<()>
+        ensures { OnOk result (Appends (E.contents err.old) (E.contents err.new) (faults_text self.now)) }
+    {
+        write_fault(self.unwritten, err)?;
+        write_fault(self.line.failure(), err)
+    }
+
+    // The exit status: the outcome's where nothing failed.
+    fn status(&self) -> u8
+        ensures { result ≡ run_status self.now }
+    {
+        if self.unwritten.is_some() || self.line.failure().is_some() {
+            return 3;
+        }
+        match self.outcome {
+            Some(Outcome::Done | Outcome::Stopped) => 0,
+            Some(Outcome::Denied | Outcome::Missing(_) | Outcome::Refused(_)) => 1,
+            Some(Outcome::Foreign(_) | Outcome::Strange(_)) => 1,
+            Some(Outcome::Lost) | None => 3,
+        }
+    }
+}
+
+// Writes the fault line of a failure, if there is one.
+fn write_fault<E: io::Write>(failure: Option<Failure<'_>>, err: &mut E) -> io::Result<()>
+    ensures { OnOk result (Appends (E.contents err.old) (E.contents err.new) (fault_text failure.entry)) }
+{
+    match failure {
+        Some(failure) => writeln!(err, "vdcp: {failure}"),
+        None => Ok(()),
+    }
+}
+
+// The new controller of a list.
+fn new_controller<S: Source>(source: S, settings: RunSettings<'_>) -> Controller<S>
+    requires some { 1 ≤ settings.limit }
+    requires few { settings.limit ≤ 1000 }
+    ensures { result ≡ turns.new_controller source (mode_of settings.entry.confirm) settings.entry.port settings.entry.limit }
+{
+    if settings.confirm {
+        Controller::confirming(source, settings.port, settings.limit)
+    } else {
+        Controller::new(source, settings.port, settings.limit)
+    }
+}
+
+// Runs an automation, and writes what is reported of it. Of a new controller over a fresh wire that tells
+// its bytes this says what the automation sent, and how its controller ended, whether the wire failed or
+// not.
+fn play<'a, R: Files + AllocGlobal, S: Source, W: Wire>(
+    rt: &R,
+    driver: &mut AutoDriver<S, W>,
+    settings: RunSettings<'a>,
+) -> RunEnd<'a>
+    ensures outcome { result.outcome ≡ turns.outcome_of driver.new.controller.state.stage }
+    ensures reported { result.reported ≡ driver.new.controller.state.settled }
+    ensures unwritten { MayBeUnwritten settings.entry.asrun result.unwritten }
+    ensures unneeded { result.line ≡ LineEnd.Unneeded → IsSome result.outcome }
+    ensures broken_off { IsSome result.outcome → (result.line ≡ LineEnd.Unneeded) ⊎ (result.line ≡ LineEnd.Failed) }
+    ensures line { (t : Told) → W.told driver.old.wire ≡ Some t → result.line ≢ LineEnd.Failed →
+        IfTold (W.told driver.new.wire) (λ u. EndsTo result.line settings.entry.listens t.came u.came) }
+    // Of a new automation: a new controller, and a fresh wire that tells its bytes.
+    ensures run { IsNew driver.old.controller.state driver.old.reader driver.old.heard (W.told driver.old.wire) → result.line ≢ LineEnd.Failed →
+        IfTold (W.told driver.new.wire) (λ u. HasRun (plan_of S.items driver.old.controller) driver.old.unit u driver.new.controller.state) }
+    ensures broken { IsNew driver.old.controller.state driver.old.reader driver.old.heard (W.told driver.old.wire) → W.failures driver.old.wire ≡ 0 →
+        result.line ≡ LineEnd.Failed →
+        IfTold (W.told driver.new.wire) (λ u. HasRunBroken (plan_of S.items driver.old.controller) driver.old.unit u driver.new.controller.state
+        × IsPartlyRun (plan_of S.items driver.old.controller) driver.old.unit u driver.new.controller.state) }
+    ensures controller { driver.new.controller ≡ record driver.old.controller { state = driver.new.controller.state } }
+    ensures works { result.line ≢ LineEnd.Failed → W.failures driver.new.wire ≡ 0 }
+    ensures device { result.line ≡ LineEnd.Failed → W.failures driver.new.wire ≡ 1 }
+{
+    let line = LineEnd::of_run(driver.run(settings.listens));
+    ended(rt, driver.controller(), line, settings)
+}
+
+// How a run has ended, by its controller and its line. The as-run list is written.
+fn ended<'a, R: Files + AllocGlobal, S: Source>(
+    rt: &R,
+    controller: &Controller<S>,
+    line: LineEnd,
+    settings: RunSettings<'a>,
+) -> RunEnd<'a>
+    ensures outcome { result.outcome ≡ turns.outcome_of controller.now.state.stage }
+    ensures reported { result.reported ≡ controller.now.state.settled }
+    ensures line { result.line ≡ line }
+    ensures unwritten { MayBeUnwritten settings.entry.asrun result.unwritten }
+{
+    let unwritten = match settings.asrun {
+        Some(name) => save_asrun(rt, name, controller, settings.rate).err(),
+        None => None,
+    };
+    RunEnd {
+        outcome: controller.outcome(),
+        reported: controller.settled(),
+        line,
+        unwritten,
+    }
+}
