@@ -125,7 +125,7 @@ tested_too_many v file left left' tally row h t full =
     let front = h.front ++ row ∷ [] in
     let (rows, are, (rest, e)) = v.begins file left' front (v.more (option_map rows_of file) left left' h.front row h.is_front t) in
     let many : most_rows < length rows =
-        omega (arith, ap length e, length-append front rest, length-append h.front (row ∷ []), h.tallied.rows_are, length-map h.front finding_of_row, full)
+    omega (arith, ap length e, length-append front rest, length-append h.front (row ∷ []), h.tallied.rows_are, length-map h.front finding_of_row, full)
     in (rows, are, many)
 
 -- one more row and its line

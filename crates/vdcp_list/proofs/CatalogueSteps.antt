@@ -121,9 +121,8 @@ pub given_twice : ((a b : ClipId) → IsTrue (is_same_id a b) ↔ (a ≡ b)) →
 given_twice same rate file left left' n clips row clip h t few e can there =
     let (rows, are, b) = front_begins file left' (h.front ++ row ∷ []) (front_next (option_map rows_of file) left left' h.front row h.is_front t) in
     let before : take (n + 1 - 1) rows ≡ h.front =
-        let back : n + 1 - 1 ≡ length h.front = omega (arith, h.size) in ap (λ m. take m rows) back ∙ (next_of h.front rows row b).before
-    in
-    (
+    let back : n + 1 - 1 ≡ length h.front = omega (arith, h.size) in ap (λ m. take m rows) back ∙ (next_of h.front rows row b).before
+    in (
       rows,
       are,
       (
@@ -142,8 +141,7 @@ pub given_too_many : (rate : Rate) (file : Option (List ℕ)) (left left' : Opti
 given_too_many rate file left left' n clips row h t full =
     let (rows, are, b) = front_begins file left' (h.front ++ row ∷ []) (front_next (option_map rows_of file) left left' h.front row h.is_front t) in
     let s = next_of h.front rows row b in
-    let most : length h.front ≡ most_rows = sym h.size ∙ full in
-    (
+    let most : length h.front ≡ most_rows = sym h.size ∙ full in (
       rows,
       are,
       (

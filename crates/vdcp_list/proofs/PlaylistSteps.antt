@@ -136,8 +136,7 @@ named_refused rate file left left' n old new items row fault h t c few f =
     let (rows, are, (more, is)) = front_begins file left' (h.front ++ row ∷ []) (front_next (option_map rows_of file) left left' h.front row h.is_front t) in
     let now = rw h.size at c in
     let before = rw h.size at h.columns_are in
-    let named = of_columns rate h.front (row ∷ more) rows old items before (is ∙ append_assoc h.front (row ∷ []) more) h.named in
-    (
+    let named = of_columns rate h.front (row ∷ more) rows old items before (is ∙ append_assoc h.front (row ∷ []) more) h.named in (
       rows,
       are,
       of_row rate rows (n + 1) new row fault (next_row rate h.front rows (n + 1) items row (more, is) (omega (arith, h.size)) (omega (arith, few)) named)
@@ -152,8 +151,7 @@ named_too_many rate file left left' n old items row h t full =
     let (rows, are, (more, is)) = front_begins file left' (h.front ++ row ∷ []) (front_next (option_map rows_of file) left left' h.front row h.is_front t) in
     let s = next_of h.front rows row (more, is) in
     let most : length h.front ≡ most_rows = sym h.size ∙ full in
-    let named = of_columns rate h.front (row ∷ more) rows old items (rw h.size at h.columns_are) (is ∙ append_assoc h.front (row ∷ []) more) h.named in
-    (
+    let named = of_columns rate h.front (row ∷ more) rows old items (rw h.size at h.columns_are) (is ∙ append_assoc h.front (row ∷ []) more) h.named in (
       rows,
       are,
       (
