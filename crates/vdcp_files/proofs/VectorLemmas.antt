@@ -1,9 +1,11 @@
 -- The two fields of a row, and the rows of a file one after another.
 use Rattle.csv.specs.Records.{field_at}
-use Rattle.std.proofs.Common.{◌≡◌, ℕ, ◌+◌, ◌≤◌, ◌<◌, suc, true, false, List, [], ◌∷◌, ◌++◌, length, refl, sym, ap, ap₂, subst, ◌∙◌, arith, append_assoc, append-nil}
+use Rattle.std.proofs.Common.{◌≡◌, ℕ, ◌+◌, ◌≤◌, ◌<◌, suc, true, false, List, [], ◌∷◌}
+use Rattle.std.proofs.Common.{◌++◌, length, refl, sym, ap, ap₂, subst, ◌∙◌, arith, append_assoc, append-nil}
 use Rattle.std.proofs.lemmas.List.{length-append, length-map, map-append}
 use Rattle.std.specs.Prelude.{IfNone, IfOk, Result, Ok, Err, Option, None, Some, option_map, string_bytes}
-use Rattle.vdcp_files.specs.Vectors.{Finding, HasTooMany, IsTally, IsTallyOf, bad_count, columns, finding_of_row, finding_text, findings_of, findings_text, got, joined_reading, joined_text, hex, right}
+use Rattle.vdcp_files.specs.Vectors.{Finding, HasTooMany, IsTally, IsTallyOf, bad_count, columns, finding_of_row}
+use Rattle.vdcp_files.specs.Vectors.{finding_text, findings_of, findings_text, got, joined_reading, joined_text, hex, right}
 use Rattle.vdcp_text.specs.Text.{end_text}
 use Rattle.vdcp_files.specs.declared.vectors.Tally.{Tally}
 use Rattle.vdcp_frame.specs.Burst.{messages_of, end_of}
@@ -125,7 +127,7 @@ tested_too_many v file left left' tally row h t full =
     let front = h.front ++ row ∷ [] in
     let (rows, are, (rest, e)) = v.begins file left' front (v.more (option_map rows_of file) left left' h.front row h.is_front t) in
     let many : most_rows < length rows =
-        omega (arith, ap length e, length-append front rest, length-append h.front (row ∷ []), h.tallied.rows_are, length-map h.front finding_of_row, full)
+    omega (arith, ap length e, length-append front rest, length-append h.front (row ∷ []), h.tallied.rows_are, length-map h.front finding_of_row, full)
     in (rows, are, many)
 
 -- one more row and its line

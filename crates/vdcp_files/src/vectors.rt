@@ -1,11 +1,12 @@
 ghost use Rattle.csv.specs.Records.{fields_of};
 ghost use Rattle.hex.specs.Hex.{decode_of};
 ghost use Rattle.std.specs.Io.KnownBytes.{Appends, Keeps};
-ghost use Rattle.std.specs.Prelude.{◌≡◌, ◌⊎◌, ◌<◌, ◌≤◌, ℕ, ◌≢◌, ◌++◌, ◌∷◌, [], IfErr, IfNone, IfOk, IfSome, List, OnOk, length, string_bytes};
+ghost use Rattle.std.specs.Prelude.{◌≡◌, ◌⊎◌, ◌<◌, ◌≤◌, ℕ, ◌≢◌, ◌++◌, ◌∷◌, [], IfErr, IfNone, IfOk, IfSome, List, OnOk, codes, length, string_bytes};
 ghost use Rattle.vdcp_text.specs.End.{end_of};
 ghost use Rattle.vdcp_text.specs.Failure.{failure_line};
+ghost use Rattle.vdcp_text.specs.Text.{message_text};
 ghost use Rattle.vdcp_files.specs.Vectors.{AreTested, Finding, HasTooMany, IsTally, IsTallyOf, IsUntested, bad_count, finding_of, finding_of_burst, finding_of_row, finding_text, joined_reading, joined_text, too_many, vectors_text};
-ghost use Rattle.vdcp_frame.specs.Message.{Content};
+ghost use Rattle.vdcp_frame.specs.Message.{Content, content_of};
 ghost use Rattle.vdcp_frame.specs.Reading.{Reads};
 ghost use Rattle.vdcp_list.specs.Rows.{most_rows, rows_of};
 
@@ -16,7 +17,7 @@ use std::alloc::{AllocError, Global};
 use std::fmt::Write;
 use std::{fmt, io};
 use vdcp_frame::laws::one_reading;
-use vdcp_frame::{Step, read_at};
+use vdcp_frame::{Message, Step, read_at};
 use vdcp_list::laws::rows_are_read_in_order;
 use vdcp_list::{MAX_ROWS, next_row, rows_in};
 use vdcp_text::{End, Failure, MessageText, RowFault};
@@ -88,12 +89,19 @@ fn test_rows<'a, R: io::Read + Drop>(
     let mut tally = Tally::new(alloc);
     while next_row(&mut rows, &mut row).map_err(|fault| file_failure(name, fault))? {
         if tally.rows == MAX_ROWS {
-            return Err(Failure::Row(name, MAX_ROWS + 1, RowFault::TooMany));
+            return Err(too_many(name));
         }
         let verdict = test_row(alloc, &row, &mut reading)?;
         tally.add(verdict)?;
     }
     Ok(tally)
+}
+
+// Why a file of this name that has more rows isn't tested.
+fn too_many<'a>(name: &'a str) -> Failure<'a>
+    ensures { result ≡ too_many name.entry }
+{
+    Failure::Row(name, MAX_ROWS + 1, RowFault::TooMany)
 }
 
 // What a row is found to be.
@@ -188,8 +196,7 @@ fn show_messages(burst: &[u8], text: &mut String) -> Result<End, AllocError>
     loop {
         match read_at(burst, from) {
             Step::Message(message, next) => {
-                let message = MessageText(message);
-                write!(text, "{message}; ")?;
+                write_message(message, text)?;
                 from = next;
             }
             Step::Clean => return Ok(End::Clean),
@@ -197,6 +204,14 @@ fn show_messages(burst: &[u8], text: &mut String) -> Result<End, AllocError>
             Step::Fault(fault, place) => return Ok(End::Fault(fault, place)),
         }
     }
+}
+
+// Adds the line of a message.
+fn write_message(message: Message<'_>, text: &mut String) -> Result<(), AllocError>
+    ensures { OnOk result (string_bytes text.new ≡ string_bytes text.old ++ (message_text (content_of message.entry) ++ codes "; ")) }
+{
+    let message = MessageText(message);
+    write!(text, "{message}; ")
 }
 
 // Adds the line of row `k`, if it is bad.

@@ -1,5 +1,6 @@
 -- The clips of the rows read so far, row by row.
-use Rattle.std.proofs.Common.{◌≡◌, ℕ, ◌+◌, ◌-◌, ◌<◌, ◌≤◌, Bool, true, false, List, [], ◌∷◌, ◌++◌, length, map, take, drop, refl, sym, ap, subst, ◌∙◌, arith, suc, cond}
+use Rattle.std.proofs.Common.{◌≡◌, ℕ, ◌+◌, ◌-◌, ◌<◌, ◌≤◌, Bool, true, false, List, [], ◌∷◌}
+use Rattle.std.proofs.Common.{◌++◌, length, map, take, drop, refl, sym, ap, subst, ◌∙◌, arith, suc, cond}
 use Rattle.std.proofs.lemmas.List.Elements.{All-push}
 use Rattle.std.proofs.lemmas.List.{map-append}
 use Rattle.std.proofs.lemmas.Map.Keys.{IsDistinct-push}
@@ -8,8 +9,9 @@ use Rattle.std.specs.Prelude.{◌↔◌, IsSome, IsTrue, Option, None, Some, is_
 use Rattle.vdcp_list.proofs.ClipPlaces.{same_ids}
 use Rattle.vdcp_list.proofs.ItemRows.{first_of}
 use Rattle.vdcp_list.proofs.SlotClips.{none_of}
-use Rattle.vdcp_list.proofs.Steps.{Begins, Next, front_all, front_begins, front_first, front_next, next_of, one_more, some_rows}
-use Rattle.vdcp_list.specs.Catalogues.{CanLast, IsNextRow, Gives, IsCatalogue, IsCatalogueFault, IsCatalogueFaultOf, IsCatalogueOf, IsClipFault, RefusesRow, StandsIn, clip_row, ids_of}
+use Rattle.vdcp_list.proofs.Steps.{Begins, front_all, front_begins, front_first, front_next, next_of, one_more, some_rows}
+use Rattle.vdcp_list.specs.Catalogues.{CanLast, IsNextRow, Gives, IsCatalogueFault, IsCatalogueFaultOf}
+use Rattle.vdcp_list.specs.Catalogues.{IsCatalogueOf, IsClipFault, RefusesRow, StandsIn, clip_row, ids_of}
 use Rattle.vdcp_list.specs.Reading.{IsFront, IsReadFault, TakesRow}
 use Rattle.vdcp_list.specs.Rows.{FileRow, most_rows, rows_of}
 use Rattle.vdcp_list.specs.declared.faults.ListFault.TheVariants.{Columns, Id, Time, Twice, TooMany, Memory, Read}
@@ -53,8 +55,8 @@ gives_push rate front clips row clip h e can new = record {
 }
 
 -- one more row and its clip
-pub given_next : (rate : Rate) (file : Option (List ℕ)) (left left' : Option (List FileRow)) (n : ℕ) (clips : List (ClipId × Timecode)) (row : FileRow) (clip : ClipId × Timecode)
-    → GivenSoFar rate file left n clips → TakesRow left left' true row
+pub given_next : (rate : Rate) (file : Option (List ℕ)) (left left' : Option (List FileRow)) (n : ℕ) (clips : List (ClipId × Timecode))
+    → (row : FileRow) (clip : ClipId × Timecode) → GivenSoFar rate file left n clips → TakesRow left left' true row
     → clip_row clip ≡ row → CanLast rate clip.1 → length_of clips clip.0 ≡ None
     → GivenSoFar rate file left' (n + 1) (clips ++ clip ∷ [])
 given_next rate file left left' n clips row clip h t e can new = record {
@@ -96,15 +98,16 @@ of_row rate rows k row (TooMany j) f h = absurd h
 of_row rate rows k row Memory f h = absurd h
 of_row rate rows k row Read f h = absurd h
 
-pub given_refused : (rate : Rate) (file : Option (List ℕ)) (left left' : Option (List FileRow)) (n : ℕ) (clips : List (ClipId × Timecode)) (row : FileRow) (fault : ListFault)
-    → GivenSoFar rate file left n clips → TakesRow left left' true row → n < most_rows
+pub given_refused : (rate : Rate) (file : Option (List ℕ)) (left left' : Option (List FileRow)) (n : ℕ) (clips : List (ClipId × Timecode))
+    → (row : FileRow) (fault : ListFault) → GivenSoFar rate file left n clips → TakesRow left left' true row → n < most_rows
     → IsClipFault rate row (n + 1) fault → IsCatalogueFaultOf rate file fault
 given_refused rate file left left' n clips row fault h t few f =
     let (rows, are, b) = front_begins file left' (h.front ++ row ∷ []) (front_next (option_map rows_of file) left left' h.front row h.is_front t) in
     (rows, are, of_row rate rows (n + 1) row fault (next_row rate h.front rows (n + 1) clips row b (omega (arith, h.size)) (omega (arith, few)) h.given) f)
 
 -- an ID that stands in an earlier row
-stands : ((a b : ClipId) → IsTrue (is_same_id a b) ↔ (a ≡ b)) → (clips : List (ClipId × Timecode)) (id : ClipId) → is_some (length_of clips id) ≡ true → StandsIn (map clip_row clips) id
+stands : ((a b : ClipId) → IsTrue (is_same_id a b) ↔ (a ≡ b)) → (clips : List (ClipId × Timecode)) (id : ClipId)
+    → is_some (length_of clips id) ≡ true → StandsIn (map clip_row clips) id
 stands same [] id e = cc e
 stands same (clip ∷ clips) id e = stands_if (is_same_id id clip.0) refl e (stands same clips id)
   where
@@ -121,9 +124,8 @@ pub given_twice : ((a b : ClipId) → IsTrue (is_same_id a b) ↔ (a ≡ b)) →
 given_twice same rate file left left' n clips row clip h t few e can there =
     let (rows, are, b) = front_begins file left' (h.front ++ row ∷ []) (front_next (option_map rows_of file) left left' h.front row h.is_front t) in
     let before : take (n + 1 - 1) rows ≡ h.front =
-        let back : n + 1 - 1 ≡ length h.front = omega (arith, h.size) in ap (λ m. take m rows) back ∙ (next_of h.front rows row b).before
-    in
-    (
+    let back : n + 1 - 1 ≡ length h.front = omega (arith, h.size) in ap (λ m. take m rows) back ∙ (next_of h.front rows row b).before
+    in (
       rows,
       are,
       (
@@ -142,8 +144,7 @@ pub given_too_many : (rate : Rate) (file : Option (List ℕ)) (left left' : Opti
 given_too_many rate file left left' n clips row h t full =
     let (rows, are, b) = front_begins file left' (h.front ++ row ∷ []) (front_next (option_map rows_of file) left left' h.front row h.is_front t) in
     let s = next_of h.front rows row b in
-    let most : length h.front ≡ most_rows = sym h.size ∙ full in
-    (
+    let most : length h.front ≡ most_rows = sym h.size ∙ full in (
       rows,
       are,
       (

@@ -1,12 +1,14 @@
 -- Rows have one reading: a playlist of one list of items or one fault, and not both.
-use Rattle.std.proofs.Common.{◌≡◌, ℕ, ◌+◌, ◌-◌, ◌<◌, ◌≤◌, Bool, true, false, cond, List, [], ◌∷◌, length, map, take, drop, refl, sym, ap, ap₂, subst, ◌∙◌, arith, zero, suc, true≢false, inl, inr, All}
+use Rattle.std.proofs.Common.{◌≡◌, ℕ, ◌+◌, ◌-◌, ◌<◌, Bool, true, false, cond, List, [], ◌∷◌, length, map}
+use Rattle.std.proofs.Common.{take, refl, sym, ap, ap₂, subst, ◌∙◌, arith, zero, suc, true≢false, inl, inr, All}
 use Rattle.std.proofs.Math.Bool.{and-eq-true_iff}
 use Rattle.std.proofs.lemmas.List.{take_all}
 use Rattle.std.proofs.lemmas.List.Elements.{All-head, All-tail}
 use Rattle.std.specs.Prelude.{Option, None, Some, slice_get, ◌⊎◌}
-use Rattle.vdcp_list.proofs.ItemRows.{TimeOf, time_of}
+use Rattle.vdcp_list.proofs.ItemRows.{time_of}
 use Rattle.vdcp_list.proofs.Values.{TimeLaws}
-use Rattle.vdcp_list.specs.Playlists.{CanName, IsItemFault, IsNextRow, IsPlaylist, IsPlaylistFault, Names, RefusesRow, columns_of, has_parts, is_of_columns, item_row, part_fields, time_text}
+use Rattle.vdcp_list.specs.Playlists.{CanName, IsItemFault, IsPlaylist, IsPlaylistFault, Names}
+use Rattle.vdcp_list.specs.Playlists.{RefusesRow, columns_of, has_parts, is_of_columns, item_row, part_fields, time_text}
 use Rattle.vdcp_list.specs.Reading.{IsReadFault}
 use Rattle.vdcp_list.specs.Rows.{FileRow, HasId, most_rows}
 use Rattle.vdcp_list.specs.declared.faults.ListFault.TheVariants.{Columns, Id, Time, Twice, TooMany, Memory, Read}
@@ -99,7 +101,8 @@ same_items v rate w (x ∷ xs) [] p q e = cc e
 same_items v rate w (x ∷ xs) (y ∷ ys) p q e =
     let h = first_row (item_row rate w x) (item_row rate w y) (map (item_row rate w) xs) (map (item_row rate w) ys) e in
     ap₂ (λ (i : Item) (is : List Item). i ∷ is)
-    (one_item v rate w x.id y.id x.part y.part (All-head (λ (i : Item). CanName rate w i.part) x xs p) (All-head (λ (i : Item). CanName rate w i.part) y ys q) h.0)
+    (one_item v rate w x.id y.id x.part y.part (All-head (λ (i : Item). CanName rate w i.part) x xs p)
+    (All-head (λ (i : Item). CanName rate w i.part) y ys q) h.0)
     (same_items v rate w xs ys (All-tail (λ (i : Item). CanName rate w i.part) x xs p) (All-tail (λ (i : Item). CanName rate w i.part) y ys q) h.1)
 
 pub one_list : OneText → (rate : Rate) (rows : List FileRow) (a b : List Item) → IsPlaylist rate rows a → IsPlaylist rate rows b → a ≡ b

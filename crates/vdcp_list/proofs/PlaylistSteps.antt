@@ -1,12 +1,14 @@
 -- The items of the rows read so far, row by row.
-use Rattle.std.proofs.Common.{◌≡◌, ℕ, ◌+◌, ◌-◌, ◌<◌, ◌≤◌, Bool, true, false, List, [], ◌∷◌, ◌++◌, length, map, take, refl, sym, ap, subst, ◌∙◌, arith, zero, suc, append_assoc, append-nil}
+use Rattle.std.proofs.Common.{◌≡◌, ℕ, ◌+◌, ◌-◌, ◌<◌, ◌≤◌, Bool, true, false, List, [], ◌∷◌, ◌++◌}
+use Rattle.std.proofs.Common.{length, map, take, refl, sym, ap, subst, ◌∙◌, arith, append_assoc, append-nil}
 use Rattle.std.proofs.lemmas.List.{map-append}
 use Rattle.std.proofs.lemmas.List.Elements.{All-push}
-use Rattle.std.specs.Prelude.{◌≢◌, Option, None, Some, option_map, slice_get}
-use Rattle.vdcp_list.proofs.Steps.{Begins, Next, front_all, front_begins, front_first, front_next, next_of, one_more, some_rows}
-use Rattle.vdcp_list.specs.Playlists.{CanName, IsNextRow, IsItemFault, IsListFaultOf, IsListOf, IsPlaylist, IsPlaylistFault, Names, RefusesRow, columns_of, has_parts, item_row}
+use Rattle.std.specs.Prelude.{◌≢◌, Option, option_map, slice_get}
+use Rattle.vdcp_list.proofs.Steps.{Begins, front_all, front_begins, front_first, front_next, next_of, one_more, some_rows}
+use Rattle.vdcp_list.specs.Playlists.{CanName, IsNextRow, IsItemFault, IsListFaultOf, IsListOf}
+use Rattle.vdcp_list.specs.Playlists.{IsPlaylistFault, Names, RefusesRow, columns_of, has_parts, item_row}
 use Rattle.vdcp_list.specs.Reading.{IsFront, IsReadFault, TakesRow}
-use Rattle.vdcp_list.specs.Rows.{FileRow, HasRows, most_rows, rows_of}
+use Rattle.vdcp_list.specs.Rows.{FileRow, most_rows, rows_of}
 use Rattle.vdcp_list.specs.declared.faults.ListFault.TheVariants.{Columns, Id, Time, Twice, TooMany, Memory, Read}
 use Rattle.vdcp_list.specs.declared.faults.ListFault.{ListFault}
 use Rattle.vdcp_value.specs.declared.part.Item.{Item}
@@ -41,7 +43,8 @@ names_none rate a b [] h = no_names rate b
 names_none rate a b (item ∷ items) h = cc h.rows_are
 
 -- the columns of all rows are the first one's
-columns_begin : (front more rows : List FileRow) (columns : ℕ) → 0 < length front → columns ≡ columns_of front → rows ≡ front ++ more → columns ≡ columns_of rows
+columns_begin : (front more rows : List FileRow) (columns : ℕ) → 0 < length front → columns ≡ columns_of front → rows ≡ front ++ more
+    → columns ≡ columns_of rows
 columns_begin [] more rows columns some e is = absurd (omega (arith, some))
 columns_begin (first ∷ front) more rows columns some e is = rw is e
 
@@ -129,15 +132,14 @@ of_row rate rows k columns row Memory f e h = absurd h
 of_row rate rows k columns row Read f e h = absurd h
 
 -- the columns now and the names so far, in rows that begin with those read
-pub named_refused : (rate : Rate) (file : Option (List ℕ)) (left left' : Option (List FileRow)) (n old new : ℕ) (items : List Item) (row : FileRow) (fault : ListFault)
-    → NamedSoFar rate file left n old items → TakesRow left left' true row → ColumnsNow n old new row → n < most_rows
+pub named_refused : (rate : Rate) (file : Option (List ℕ)) (left left' : Option (List FileRow)) (n old new : ℕ)
+    → (items : List Item) (row : FileRow) (fault : ListFault) → NamedSoFar rate file left n old items → TakesRow left left' true row → ColumnsNow n old new row → n < most_rows
     → IsItemFault rate new row (n + 1) fault → IsListFaultOf rate file fault
 named_refused rate file left left' n old new items row fault h t c few f =
     let (rows, are, (more, is)) = front_begins file left' (h.front ++ row ∷ []) (front_next (option_map rows_of file) left left' h.front row h.is_front t) in
     let now = rw h.size at c in
     let before = rw h.size at h.columns_are in
-    let named = of_columns rate h.front (row ∷ more) rows old items before (is ∙ append_assoc h.front (row ∷ []) more) h.named in
-    (
+    let named = of_columns rate h.front (row ∷ more) rows old items before (is ∙ append_assoc h.front (row ∷ []) more) h.named in (
       rows,
       are,
       of_row rate rows (n + 1) new row fault (next_row rate h.front rows (n + 1) items row (more, is) (omega (arith, h.size)) (omega (arith, few)) named)
@@ -152,8 +154,7 @@ named_too_many rate file left left' n old items row h t full =
     let (rows, are, (more, is)) = front_begins file left' (h.front ++ row ∷ []) (front_next (option_map rows_of file) left left' h.front row h.is_front t) in
     let s = next_of h.front rows row (more, is) in
     let most : length h.front ≡ most_rows = sym h.size ∙ full in
-    let named = of_columns rate h.front (row ∷ more) rows old items (rw h.size at h.columns_are) (is ∙ append_assoc h.front (row ∷ []) more) h.named in
-    (
+    let named = of_columns rate h.front (row ∷ more) rows old items (rw h.size at h.columns_are) (is ∙ append_assoc h.front (row ∷ []) more) h.named in (
       rows,
       are,
       (

@@ -1,12 +1,14 @@
 -- A read takes the first of the rows that are left.
 use Rattle.csv.specs.Machine.{Read, next_record}
 use Rattle.csv.specs.Reading.{default_config, NextIs, ReadsNext, ReadRecord, source_of, pending_of}
+use Rattle.csv.specs.declared.error.ErrorKind.TheVariants as kinds
+use Rattle.csv.specs.declared.error.ErrorKind.{ErrorKind}
 use Rattle.csv.specs.declared.parser.State.{State}
 use Rattle.csv.specs.declared.reader.Reader.{Reader}
 use Rattle.std.proofs.Common.{◌≡◌, ℕ, Bool, List, [], ◌∷◌, refl, sym, ap, ◌∙◌}
 use Rattle.std.specs.Prelude.{Option, None, Some, option_map}
 use Rattle.vdcp_list.proofs.RowsLeft.{rows_from-some, rows_from-none}
-use Rattle.vdcp_list.specs.Reading.{TakesRow, rows_left}
+use Rattle.vdcp_list.specs.Reading.{IsReadFault, TakesRow, fault_of_kind, rows_left}
 use Rattle.vdcp_list.specs.Rows.{FileRow, rows_from}
 
 takes_next : (s s2 : State) (xs ys : List ℕ) (o : Option Read) (found : Bool) (fields : FileRow)
@@ -29,3 +31,12 @@ pub takes_row : {R : Type 0} (remaining : R → Option (List ℕ)) (old new : Re
 takes_row remaining old new found fields config h =
     let known : source_of remaining new ≡ pending_of (remaining new.rdr) new = rw h.1 refl in
     rw known (takes old.state new.state (source_of remaining old) (pending_of (remaining new.rdr) new) found fields (rw config at h.0))
+
+-- a failure of csv is one of the reader or of memory
+pub is_read_fault : (kind : ErrorKind) → IsReadFault (fault_of_kind kind)
+is_read_fault kinds.OutOfMemory = tt
+is_read_fault (kinds.Io error) = tt
+is_read_fault (kinds.Utf8 place error) = tt
+is_read_fault (kinds.UnequalLengths place expected found) = tt
+is_read_fault (kinds.Serialize text) = tt
+is_read_fault (kinds.Deserialize place error) = tt

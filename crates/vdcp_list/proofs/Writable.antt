@@ -18,8 +18,10 @@ AllNamed rate with_parts items = All (λ (item : Item). CanName rate with_parts 
 pub can_be_written : (rate : Rate) (with_parts : Bool) (items : List Item) → AllNamed rate with_parts items → are_lawful rate items ≡ true
 can_be_written rate with_parts [] can = refl
 can_be_written rate with_parts (item ∷ items) can =
-    rw (named_is_lawful rate with_parts item.part (All-head (λ (i : Item). CanName rate with_parts i.part) item items can),
-    can_be_written rate with_parts items (All-tail (λ (i : Item). CanName rate with_parts i.part) item items can)) refl
+    rw (
+      named_is_lawful rate with_parts item.part (All-head (λ (i : Item). CanName rate with_parts i.part) item items can),
+      can_be_written rate with_parts items (All-tail (λ (i : Item). CanName rate with_parts i.part) item items can),
+    ) refl
 
 lawful_at : (rate : Rate) (with_parts : Bool) (items : List Item) (k : ℕ) (item : Item) → AllNamed rate with_parts items → slice_get items k ≡ Some item
     → is_lawful_event rate item.part ≡ true

@@ -1,5 +1,7 @@
 -- The rows that a reader has left, and what a read takes of them.
 use Rattle.csv.specs.Reading.{default_config, is_flexible, reader_config, reader_state, reader_trim, Ready, source_of}
+use Rattle.csv.specs.declared.error.ErrorKind.TheVariants as kinds
+use Rattle.csv.specs.declared.error.ErrorKind.{ErrorKind}
 use Rattle.csv.specs.declared.reader.Reader.{Reader}
 use Rattle.csv.specs.declared.reader.Trim.TheVariants as trim
 use Rattle.std.specs.Prelude.{ℕ, ◌≡◌, ⊤, Bool, true, false, List, [], ◌∷◌, ◌++◌, Option, None, Some, option_map}
@@ -38,3 +40,12 @@ IsReadFault (Twice k) = ⊥
 IsReadFault (TooMany k) = ⊥
 IsReadFault Memory = ⊤
 IsReadFault Read = ⊤
+
+-- as what a failure of csv is told: the others but Io don't come, since rows may have any length and are read as bytes
+abbrev pub fault_of_kind : ErrorKind → ListFault
+fault_of_kind kinds.OutOfMemory = Memory
+fault_of_kind (kinds.Io error) = Read
+fault_of_kind (kinds.Utf8 place error) = Read
+fault_of_kind (kinds.UnequalLengths place expected found) = Read
+fault_of_kind (kinds.Serialize text) = Read
+fault_of_kind (kinds.Deserialize place error) = Read

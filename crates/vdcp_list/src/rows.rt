@@ -1,6 +1,7 @@
+ghost use Rattle.csv.specs.Reading.{error_kind};
 ghost use Rattle.csv.specs.Records.{fields_of};
 ghost use Rattle.std.specs.Prelude.{◌≡◌, true, IfErr, IfOk, option_map};
-ghost use Rattle.vdcp_list.specs.Reading.{IsReadFault, IsSet, TakesRow, rows_left};
+ghost use Rattle.vdcp_list.specs.Reading.{IsReadFault, IsSet, TakesRow, fault_of_kind, rows_left};
 ghost use Rattle.vdcp_list.specs.Rows.{rows_of};
 
 use crate::faults::ListFault;
@@ -41,8 +42,9 @@ pub fn next_row<R: Read>(reader: &mut Reader<R>, row: &mut ByteRecord) -> Result
     }
 }
 
+// As what a failure of `csv` is told.
 fn fault_of(error: Error) -> ListFault
-    ensures { IsReadFault result }
+    ensures { result ≡ fault_of_kind (error_kind error) }
 {
     match error.into_kind() {
         ErrorKind::OutOfMemory => ListFault::Memory,

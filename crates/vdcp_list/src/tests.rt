@@ -383,7 +383,7 @@ fn a_read_that_fails_is_told_of_a_list(rt: HostRuntime) -> Result<(), Fail> {
     let text = rows_of_parts(rt.alloc(), 700)?;
     let text = text.as_bytes();
     let reads = text.len().div_ceil(100);
-    for failed in 0..reads + 2 {
+    for failed in 0..2 * reads {
         let reader = Failing {
             text,
             size: 100,
@@ -393,14 +393,14 @@ fn a_read_that_fails_is_told_of_a_list(rt: HostRuntime) -> Result<(), Fail> {
             Ok(list) => {
                 assert_eq!(rt; list.len(), 700);
                 assert!(rt; reads < failed, "read {failed} failed");
+                return Ok(());
             }
             Err(fault) => {
                 assert!(rt; fault == ListFault::Read, "read {failed} failed: {fault:?}");
-                assert!(rt; failed <= reads);
             }
         }
     }
-    Ok(())
+    Err(Fail::new("each read was one that failed"))
 }
 
 #[test]
@@ -408,7 +408,7 @@ fn a_read_that_fails_is_told_of_a_catalogue(rt: HostRuntime) -> Result<(), Fail>
     let text = clips_in_rows(rt.alloc(), 700)?;
     let text = text.as_bytes();
     let reads = text.len().div_ceil(100);
-    for failed in 0..reads + 2 {
+    for failed in 0..2 * reads {
         let reader = Failing {
             text,
             size: 100,
@@ -418,14 +418,14 @@ fn a_read_that_fails_is_told_of_a_catalogue(rt: HostRuntime) -> Result<(), Fail>
             Ok(table) => {
                 assert_eq!(rt; table.len(), 700);
                 assert!(rt; reads < failed, "read {failed} failed");
+                return Ok(());
             }
             Err(fault) => {
                 assert!(rt; fault == ListFault::Read, "read {failed} failed: {fault:?}");
-                assert!(rt; failed <= reads);
             }
         }
     }
-    Ok(())
+    Err(Fail::new("each read was one that failed"))
 }
 
 #[test]

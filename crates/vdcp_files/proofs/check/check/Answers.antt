@@ -1,18 +1,22 @@
 use Rattle.std.proofs.Common.{inl, inr}
+use Rattle.std.proofs.lemmas.Result.{err_from_is_err_and}
 use Rattle.vdcp_files.proofs.CheckLemmas.{kept}
 use Rattle.vdcp_files.proofs.check.check.Goals as goal
 use Rattle.vdcp_list.specs.List.{items_of}
 
-pub returns-in-Err-read_catalogue-clause-refused : goal.returns-in-Err-read_catalogue-clause-refused
-returns-in-Err-read_catalogue-clause-refused g c =
-    inr (
-      inr (
-        (items_of c.in-Ok.events, c.in-Ok.ensures.items),
-        (c.in-Err-read_catalogue.fault, c.file_failure-in-Err-read_catalogue.ensures, c.in-Err-read_catalogue.ensures.refused),
-      ),
+pub returns-in_err-events-clause-refused : goal.returns-in_err-events-clause-refused
+returns-in_err-events-clause-refused g c =
+    let p = err_from_is_err_and c.from_residual.result c.from_residual.ensures.1 in
+    rw (p.1, p.2) (inr (inl c.in_err-events.ensures.refused, kept (g.W.Write.contents c.args.out.now)))
+
+pub returns-in_err-clips-clause-refused : goal.returns-in_err-clips-clause-refused
+returns-in_err-clips-clause-refused g c =
+    let p = err_from_is_err_and c.from_residual-in_err-clips.result c.from_residual-in_err-clips.ensures.1 in
+    rw (p.1, p.2) (inr (
+      inr ((items_of c.in_ok-events.events, c.in_ok-events.ensures.events), c.in_err-clips.ensures.refused),
       kept (g.W.Write.contents c.args.out.now),
-    )
+    ))
 
 pub returns-clause-silent : goal.returns-clause-silent
 returns-clause-silent g c =
-    inr ((items_of c.in-Ok.events, c.in-Ok.ensures.items), (c.in-Ok-read_catalogue.clips, c.in-Ok-read_catalogue.ensures.clips))
+    inr ((items_of c.in_ok-events.events, c.in_ok-events.ensures.events), (c.in_ok-clips.clips, c.in_ok-clips.ensures.clips))

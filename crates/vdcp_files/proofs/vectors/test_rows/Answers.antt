@@ -41,11 +41,11 @@ loop-tally-preserved g c =
       set = if_ok (λ f. f ≡ true → IsSet c.next_row.new.reader) c.next_row.result true c.next_row.ensures.set found refl;
       tested =
           tested_next (record {
-        none = c.rows_are_read_in_order.ensures.none;
-        more = c.rows_are_read_in_order.ensures.more;
-        all = c.rows_are_read_in_order.ensures.all;
-        begins = c.rows_are_read_in_order.ensures.begins;
-      }) (g.R.Read.remaining c.args.file.reader) (rows_left g.R.Read.remaining c.loop-tally.rows) (rows_left g.R.Read.remaining c.next_row.new.reader)
+            none = c.rows_are_read_in_order.ensures.none;
+            more = c.rows_are_read_in_order.ensures.more;
+            all = c.rows_are_read_in_order.ensures.all;
+            begins = c.rows_are_read_in_order.ensures.begins;
+          }) (g.R.Read.remaining c.args.file.reader) (rows_left g.R.Read.remaining c.loop-tally.rows) (rows_left g.R.Read.remaining c.next_row.new.reader)
           c.loop-tally.tally c.add.new.self (fields_of c.next_row.new.row) (finding_of c.in_ok-verdict.verdict) c.loop-tally.invariant.tested takes room c.in_ok-verdict.ensures c.in_ok-add.ensures;
     }
 
@@ -63,7 +63,7 @@ returns-then-tally-eq-MAX_ROWS-clause-refused g c =
     let takes = if_ok (λ f. TakesRow (rows_left g.R.Read.remaining c.loop-tally.rows) (rows_left g.R.Read.remaining c.next_row.new.reader) f (fields_of c.next_row.new.row))
     c.next_row.result true c.next_row.ensures.takes found in
     inr (inr (
-      refl,
+      c.too_many.ensures,
       tested_too_many (record {
         none = c.rows_are_read_in_order.ensures.none;
         more = c.rows_are_read_in_order.ensures.more;
@@ -79,9 +79,9 @@ returns-clause-tally g c =
     let takes = if_ok (λ f. TakesRow (rows_left g.R.Read.remaining c.loop-tally.rows) (rows_left g.R.Read.remaining c.next_row.new.reader) f (fields_of c.next_row.new.row))
     c.next_row.result false c.next_row.ensures.takes none in
     tested_all (record {
-        none = c.rows_are_read_in_order.ensures.none;
-        more = c.rows_are_read_in_order.ensures.more;
-        all = c.rows_are_read_in_order.ensures.all;
-        begins = c.rows_are_read_in_order.ensures.begins;
-      }) (g.R.Read.remaining c.args.file.reader) (rows_left g.R.Read.remaining c.loop-tally.rows) (rows_left g.R.Read.remaining c.next_row.new.reader)
+      none = c.rows_are_read_in_order.ensures.none;
+      more = c.rows_are_read_in_order.ensures.more;
+      all = c.rows_are_read_in_order.ensures.all;
+      begins = c.rows_are_read_in_order.ensures.begins;
+    }) (g.R.Read.remaining c.args.file.reader) (rows_left g.R.Read.remaining c.loop-tally.rows) (rows_left g.R.Read.remaining c.next_row.new.reader)
     c.loop-tally.tally (fields_of c.next_row.new.row) c.loop-tally.invariant.tested takes

@@ -1,5 +1,5 @@
 use Rattle.std.proofs.Common.{sym, subst}
-use Rattle.vdcp_list.proofs.OneReading.{OneText, not_both, one_fault, one_list}
+use Rattle.vdcp_list.proofs.OneReading.{not_both, one_fault, one_list}
 use Rattle.vdcp_list.proofs.laws.rows_have_one_reading.Goals as goal
 use Rattle.vdcp_value.specs.IdText.{IsTextOf}
 use Rattle.vdcp_value.specs.Ids.{id_bytes, text_of_id}

@@ -31,8 +31,7 @@ loop-read-preserved g c =
 pub returns-then-not-branch : goal.returns-then-not-branch
 returns-then-not-branch g c =
     let none : c.in_ok-next_row.field-0 ≡ false = grind (arith, common_steps) in
-    let (front, read, size) = c.loop-read.invariant.front in
-    (
+    let (front, read, size) = c.loop-read.invariant.front in (
       front,
       c.rows_are_read_in_order.ensures.all (g.R.Read.remaining c.args.source) _ _ front (fields_of c.next_row.new.row) read (rw none at c.in_ok-next_row.ensures.takes),
       size,
@@ -42,8 +41,7 @@ pub returns : goal.returns
 returns g c =
     let none : c.in_ok-next_row-2.field-0 ≡ false = grind (arith, common_steps) in
     let full : c.loop-read.read ≡ 10_000 = omega arith in
-    let (front, read, size) = c.loop-read.invariant.front in
-    (
+    let (front, read, size) = c.loop-read.invariant.front in (
       front,
       c.rows_are_read_in_order.ensures.all (g.R.Read.remaining c.args.source) _ _ front (fields_of c.next_row-2.new.row) read
           (rw none at c.in_ok-next_row-2.ensures.takes),
