@@ -159,3 +159,6 @@ impl fmt::Display for LineFault {
         }
     }
 }
+
+#[cfg(test)]
+mod tests;
