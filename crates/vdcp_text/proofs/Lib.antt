@@ -1,3 +1,4 @@
+-- The lemmas that answers take.
 mod TextLemmas
 mod MakeLemmas
 mod Examples

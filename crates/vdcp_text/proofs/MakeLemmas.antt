@@ -17,33 +17,60 @@ no_bytes text n e refused bytes size decoded =
     let same = decode_sized-twice text n (omega (arith, d.2, size)) in
     cc (refused, same, decoded)
 
--- a command's name is that of another, or the argument is no ID
-no_id : (word text : List ℕ) → ((id : ClipId) → ¬ IsIdText text id)
-    → word ≢ codes "open" → word ≢ codes "close" → word ≢ codes "select" → word ≢ codes "status" → NamesNone (word ∷ text ∷ [])
-no_id word text none o c s b (Open port lock) (p, l, _, _, e) = o (cc e)
-no_id word text none o c s b (Close port) (p, _, e) = c (cc e)
-no_id word text none o c s b (Select port) (p, _, e) = s (cc e)
-no_id word text none o c s b (PlayCue id) (i, is, e) = let same : i ≡ text = cc e in none id (subst (λ t. IsIdText t id) same is)
-no_id word text none o c s b (CueData id start duration) (i, x, y, _, _, _, e) = cc e
-no_id word text none o c s b Play e = cc e
-no_id word text none o c s b Stop e = cc e
-no_id word text none o c s b (Status bitmap) (p, _, e) = b (cc e)
-no_id word text none o c s b ActiveId e = cc e
-no_id word text none o c s b (IdRequest id) (i, is, e) = let same : i ≡ text = cc e in none id (subst (λ t. IsIdText t id) same is)
-no_id word text none o c s b (IdSize id) (i, is, e) = let same : i ≡ text = cc e in none id (subst (λ t. IsIdText t id) same is)
-
 abbrev first : List ℕ → ℕ
 first [] = 0
 first (letter ∷ letters) = letter
 
+-- the word is none of those that take bytes
+abbrev IsNoneOfBytes : List ℕ → Type 0
+IsNoneOfBytes word = (word ≢ codes "open") × (word ≢ codes "close") × (word ≢ codes "select") × (word ≢ codes "status")
+
+cue_takes_no_bytes : IsNoneOfBytes (codes "cue")
+cue_takes_no_bytes = (
+  λ e. omega (arith, ap length e),
+  λ e. omega (arith, ap length e),
+  λ e. omega (arith, ap length e),
+  λ e. omega (arith, ap length e),
+)
+
+exists_takes_no_bytes : IsNoneOfBytes (codes "exists")
+exists_takes_no_bytes = (
+  λ e. omega (arith, ap length e),
+  λ e. omega (arith, ap length e),
+  λ e. let letter : ◌≡◌ {A = ℕ} 101 115 = ap first e in omega (arith, letter),
+  λ e. let letter : ◌≡◌ {A = ℕ} 101 115 = ap first e in omega (arith, letter),
+)
+
+size_takes_no_bytes : IsNoneOfBytes (codes "size")
+size_takes_no_bytes = (
+  λ e. let letter : ◌≡◌ {A = ℕ} 115 111 = ap first e in omega (arith, letter),
+  λ e. omega (arith, ap length e),
+  λ e. omega (arith, ap length e),
+  λ e. omega (arith, ap length e),
+)
+
+-- a word that takes no bytes, with an argument that is no ID
+no_id : (word text : List ℕ) → ((id : ClipId) → ¬ IsIdText text id) → IsNoneOfBytes word → NamesNone (word ∷ text ∷ [])
+no_id word text none other (Open port lock) (p, l, _, _, e) = other.0 (cc e)
+no_id word text none other (Close port) (p, _, e) = other.1 (cc e)
+no_id word text none other (Select port) (p, _, e) = other.2 (cc e)
+no_id word text none other (PlayCue id) (i, is, e) = let same : i ≡ text = cc e in none id (subst (λ t. IsIdText t id) same is)
+no_id word text none other (CueData id start duration) (i, x, y, _, _, _, e) = cc e
+no_id word text none other Play e = cc e
+no_id word text none other Stop e = cc e
+no_id word text none other (Status bitmap) (p, _, e) = other.3 (cc e)
+no_id word text none other ActiveId e = cc e
+no_id word text none other (IdRequest id) (i, is, e) = let same : i ≡ text = cc e in none id (subst (λ t. IsIdText t id) same is)
+no_id word text none other (IdSize id) (i, is, e) = let same : i ≡ text = cc e in none id (subst (λ t. IsIdText t id) same is)
+
 pub no_cue : (text : List ℕ) → ((id : ClipId) → ¬ IsIdText text id) → NamesNone (codes "cue" ∷ text ∷ [])
-no_cue text none = no_id (codes "cue") text none (λ e. omega (arith, ap length e)) (λ e. omega (arith, ap length e)) (λ e. omega (arith, ap length e)) (λ e. omega (arith, ap length e))
+no_cue text none = no_id (codes "cue") text none cue_takes_no_bytes
 
 pub no_exists : (text : List ℕ) → ((id : ClipId) → ¬ IsIdText text id) → NamesNone (codes "exists" ∷ text ∷ [])
-no_exists text none = no_id (codes "exists") text none (λ e. omega (arith, ap length e)) (λ e. omega (arith, ap length e)) (λ e. let h : ◌≡◌ {A = ℕ} 101 115 = ap first e in omega (arith, h)) (λ e. let h : ◌≡◌ {A = ℕ} 101 115 = ap first e in omega (arith, h))
+no_exists text none = no_id (codes "exists") text none exists_takes_no_bytes
 
 pub no_size : (text : List ℕ) → ((id : ClipId) → ¬ IsIdText text id) → NamesNone (codes "size" ∷ text ∷ [])
-no_size text none = no_id (codes "size") text none (λ e. let h : ◌≡◌ {A = ℕ} 115 111 = ap first e in omega (arith, h)) (λ e. omega (arith, ap length e)) (λ e. omega (arith, ap length e)) (λ e. omega (arith, ap length e))
+no_size text none = no_id (codes "size") text none size_takes_no_bytes
 
 abbrev pub texts : List (Bor (List ℕ)) → List (List ℕ)
 texts arguments = map (λ a. a.now) arguments

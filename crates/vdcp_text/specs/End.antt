@@ -1,3 +1,4 @@
+-- How a burst ended, as code and definitions have it.
 use Rattle.vdcp_text.specs.declared.text.End as code
 use Rattle.vdcp_text.specs.declared.text.End.TheVariants as ends
 use Rattle.vdcp_frame.specs.Reading.{End, clean, cut, fault}

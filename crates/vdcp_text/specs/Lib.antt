@@ -1,3 +1,4 @@
+-- What the clauses of this crate cite.
 pub mod Meaning
 pub mod Text
 pub mod End

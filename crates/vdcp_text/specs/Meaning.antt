@@ -1,3 +1,4 @@
+-- The meaning of a message: the text of the command or the reply that it carries.
 use Rattle.std.specs.Prelude.{ℕ, List, [], ◌++◌, codes, Result, Ok, Err}
 use Rattle.vdcp_frame.specs.Message.{Content, ack, nak, framed}
 use Rattle.vdcp_words.specs.declared.command.Command.{Command}

@@ -1,3 +1,4 @@
+-- Messages, ends and whole readings as text.
 use Rattle.std.specs.Prelude.{ℕ, Bool, true, false, List, [], ◌∷◌, ◌++◌, codes, decimal}
 use Rattle.std.specs.List.{flat_map}
 use Rattle.hex.specs.Hex.{encode_lower}
@@ -42,8 +43,8 @@ shown_text false m = message_text m
 
 -- the lines of messages, in order
 abbrev pub messages_text : Bool → List Content → List ℕ
-messages_text words ms = flat_map (λ m. line (shown_text words m)) ms
+messages_text meanings ms = flat_map (λ m. line (shown_text meanings m)) ms
 
 -- a reading as text: a line for each message, and then a line for the end
 abbrev pub reading_text : Bool → List Content → End → List ℕ
-reading_text words ms end = messages_text words ms ++ line (end_text end)
+reading_text meanings ms end = messages_text meanings ms ++ line (end_text end)

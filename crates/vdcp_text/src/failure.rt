@@ -183,3 +183,6 @@ impl fmt::Display for LineFault {
         }
     }
 }
+
+#[cfg(test)]
+mod tests;

@@ -15,7 +15,7 @@ use std::alloc::Allocator;
 use std::io;
 use vdcp_frame::{Step, read_at};
 
-/// Shows the burst that hexadecimal digits spell: a line for each of its messages, with `words`
+/// Shows the burst that hexadecimal digits spell: a line for each of its messages, with `meanings`
 /// also the command or reply that it carries, and then one for its end.
 ///
 /// The status is 0 where the end is clean, and 1 where it isn't. It is 1 too where `hex` isn't an
@@ -25,19 +25,19 @@ use vdcp_frame::{Step, read_at};
 pub fn do_show<A: Allocator, W: io::Write, E: io::Write>(
     alloc: A,
     hex: &str,
-    words: bool,
+    meanings: bool,
     out: &mut W,
     err: &mut E,
 ) -> u8
     ensures shown { IfOk (decode_of hex.now) (λ burst. result < 2 →
-        IsShown words burst (W.contents out.old) (W.contents out.new) result) }
+        IsShown meanings burst (W.contents out.old) (W.contents out.new) result) }
     ensures silent { OnErr (decode_of hex.now) (Keeps (W.contents out.old) (W.contents out.new)) }
     ensures refused { OnErr (decode_of hex.now) ((result ≡ 1) ⊎ (result ≡ 3)) }
     ensures told { OnErr (decode_of hex.now) (result ≡ 1 → Appends (E.contents err.old) (E.contents err.new) (failure_line Failure.Hex)) }
     ensures untold { OnOk (decode_of hex.now) (result < 2 → Keeps (E.contents err.old) (E.contents err.new)) }
     ensures statuses { (result < 2) ⊎ (result ≡ 3) }
 {
-    match show(alloc, hex, words, out) {
+    match show(alloc, hex, meanings, out) {
         Ok(End::Clean) => 0,
         Ok(End::Cut(_) | End::Fault(..)) => 1,
         Err(failure) => failure.report(err),
@@ -48,11 +48,11 @@ pub fn do_show<A: Allocator, W: io::Write, E: io::Write>(
 fn show<A: Allocator, W: io::Write>(
     alloc: A,
     hex: &str,
-    words: bool,
+    meanings: bool,
     out: &mut W,
 ) -> Result<End, Failure<'static>>
     ensures shown { IfOk result (λ end. IsOkAnd (decode_of hex.now) (λ burst.
-        GainsReading words burst (W.contents out.old) (W.contents out.new) (end_of end))) }
+        GainsReading meanings burst (W.contents out.old) (W.contents out.new) (end_of end))) }
     ensures hex { result ≡ Err Failure.Hex → IsErr (decode_of hex.now) }
     ensures others { IfErr result (λ e. (e ≡ Failure.Hex) ⊎ (e ≡ Failure.Memory) ⊎ (e ≡ Failure.Writer)) }
     ensures silent { OnErr (decode_of hex.now) (Keeps (W.contents out.old) (W.contents out.new)) }
@@ -62,30 +62,30 @@ fn show<A: Allocator, W: io::Write>(
         Err(FromHexError::OutOfMemory) => return Err(Failure::Memory),
         Err(_) => return Err(Failure::Hex),
     };
-    write_reading(out, words, burst.as_slice()).map_err(|_| Failure::Writer)
+    write_reading(out, meanings, burst.as_slice()).map_err(|_| Failure::Writer)
 }
 
 // Writes a burst's reading, and gives its end.
-fn write_reading<W: io::Write>(out: &mut W, words: bool, burst: &[u8]) -> io::Result<End>
-    ensures { IfOk result (λ end. GainsReading words burst.now (W.contents out.old) (W.contents out.new) (end_of end)) }
+fn write_reading<W: io::Write>(out: &mut W, meanings: bool, burst: &[u8]) -> io::Result<End>
+    ensures { IfOk result (λ end. GainsReading meanings burst.now (W.contents out.old) (W.contents out.new) (end_of end)) }
 {
-    let end = write_messages(out, words, burst)?;
+    let end = write_messages(out, meanings, burst)?;
     writeln!(out, "{end}")?;
     out.flush()?;
     Ok(end)
 }
 
 // Writes the lines of a burst's messages, and gives the burst's end.
-fn write_messages<W: io::Write>(out: &mut W, words: bool, burst: &[u8]) -> io::Result<End>
+fn write_messages<W: io::Write>(out: &mut W, meanings: bool, burst: &[u8]) -> io::Result<End>
     ensures { IfOk result (λ end. (ms : List Content) × Reads burst.now ms (end_of end)
-        × Appends (W.contents out.old) (W.contents out.new) (messages_text words ms)) }
+        × Appends (W.contents out.old) (W.contents out.new) (messages_text meanings ms)) }
 {
     let mut from = 0;
     loop {
         match read_at(burst, from) {
             Step::Message(message, next) => {
                 let text = MessageText(message);
-                if words {
+                if meanings {
                     let meaning = MeaningText(message);
                     writeln!(out, "{text}{meaning}")?;
                 } else {

@@ -6,15 +6,15 @@ use std::process::Abort;
 use std::test::Fail;
 
 // What a burst shows: the text on `out`, the text on `err`, and the status.
-fn shown(alloc: Global, hex: &str, words: bool) -> (Vec<u8>, Vec<u8>, u8) {
+fn shown(alloc: Global, hex: &str, meanings: bool) -> (Vec<u8>, Vec<u8>, u8) {
     let mut out = Vec::new(alloc);
     let mut err = Vec::new(alloc);
-    let status = do_show(alloc, hex, words, &mut out, &mut err);
+    let status = do_show(alloc, hex, meanings, &mut out, &mut err);
     (out, err, status)
 }
 
-fn expect(rt: &(impl Abort + AllocGlobal), hex: &str, words: bool, text: &str, status: u8) {
-    let (out, err, got) = shown(rt.alloc(), hex, words);
+fn expect(rt: &(impl Abort + AllocGlobal), hex: &str, meanings: bool, text: &str, status: u8) {
+    let (out, err, got) = shown(rt.alloc(), hex, meanings);
     assert_eq!(rt; out.as_slice(), text.as_bytes(), "the lines of {hex}");
     assert_eq!(rt; got, status, "the status of {hex}");
     assert!(rt; err.is_empty(), "fault lines for {hex}");

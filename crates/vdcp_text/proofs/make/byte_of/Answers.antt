@@ -1,3 +1,4 @@
+-- Text that isn't a byte in two digits stands for no byte.
 use Rattle.std.proofs.Common.{◌∙◌, ◌∷◌, [], sym, refl}
 use Rattle.vdcp_text.proofs.MakeLemmas.{no_bytes}
 use Rattle.vdcp_text.proofs.make.byte_of.Goals as goal

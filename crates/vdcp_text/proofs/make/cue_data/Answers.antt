@@ -1,3 +1,4 @@
+-- Where one of the three arguments is wrong, or there aren't three, no CUE WITH DATA has these words.
 use Rattle.std.proofs.Common.{◌≡◌, length, arith}
 use Rattle.vdcp_text.proofs.MakeLemmas.{if_err, no_part, not_duration, not_id, not_start, not_three}
 use Rattle.vdcp_text.proofs.make.cue_data.Goals as goal

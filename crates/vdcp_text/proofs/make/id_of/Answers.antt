@@ -1,3 +1,4 @@
+-- Text that is refused is no ID's.
 use Rattle.vdcp_text.proofs.make.id_of.Goals as goal
 
 pub returns-in-Err-clause-none : goal.returns-in-Err-clause-none

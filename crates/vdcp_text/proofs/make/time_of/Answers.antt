@@ -1,3 +1,4 @@
+-- Text that isn't four bytes in eight digits stands for no time code's bytes.
 use Rattle.std.proofs.Common.{◌∙◌, sym}
 use Rattle.vdcp_text.proofs.MakeLemmas.{no_bytes}
 use Rattle.vdcp_text.proofs.make.time_of.Goals as goal

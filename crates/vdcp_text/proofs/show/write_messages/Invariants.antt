@@ -1,3 +1,4 @@
+-- The loop over a burst's messages: how far it is, and what it has written.
 use Rattle.std.proofs.Common.{List, ◌-◌, ◌≤◌, length, take}
 use Rattle.std.specs.Io.KnownBytes.{Appends}
 use Rattle.vdcp_frame.specs.Message.{Content}
@@ -12,7 +13,7 @@ invariant-loop-message g l = record {
   within : l.from ≤ length l.burst;
   messages : List Content;
   spelt : SpellsAll messages (take l.from l.burst);
-  written : Appends (g.W.Write.contents l.initial.out) (g.W.Write.contents l.out) (messages_text l.words messages);
+  written : Appends (g.W.Write.contents l.initial.out) (g.W.Write.contents l.out) (messages_text l.meanings messages);
 }
 
 abbrev pub decreases-loop-message : goal.decreases-loop-message

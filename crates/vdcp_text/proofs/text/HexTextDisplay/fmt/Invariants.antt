@@ -1,3 +1,4 @@
+-- The loop over the chunks of the bytes: what it has written, and what is left.
 use Rattle.std.proofs.Common.{◌≡◌, ℕ, List, ◌++◌}
 use Rattle.std.specs.Fmt.{HasWritten, IsPlainFormatter}
 use Rattle.std.specs.Slice.Iter.{chunks_rest, chunks_size}

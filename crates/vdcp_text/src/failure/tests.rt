@@ -1,0 +1,97 @@
+use super::{Failure, LineFault, RowFault};
+use std::alloc::Global;
+use std::test::Fail;
+
+// Each failure, with the line that tells it and its status.
+const ROWS: [(Failure<'static>, &str, u8); 20] = [
+    (Failure::Hex, "vdcp: hex\n", 1),
+    (Failure::Word, "vdcp: word\n", 1),
+    (Failure::Arguments, "vdcp: arguments\n", 1),
+    (Failure::Text, "vdcp: text\n", 2),
+    (Failure::Open("a.csv"), "vdcp: a.csv: cannot open\n", 3),
+    (Failure::Open("a b"), "vdcp: a b: cannot open\n", 3),
+    (Failure::Read("a.csv"), "vdcp: a.csv: read\n", 3),
+    (
+        Failure::Row("a.csv", 1, RowFault::Columns),
+        "vdcp: a.csv: row 1: columns\n",
+        1,
+    ),
+    (
+        Failure::Row("a.csv", 1, RowFault::Id),
+        "vdcp: a.csv: row 1: id\n",
+        1,
+    ),
+    (
+        Failure::Row("a.csv", 2, RowFault::Id),
+        "vdcp: a.csv: row 2: id\n",
+        1,
+    ),
+    (
+        Failure::Row("b.csv", 2, RowFault::Id),
+        "vdcp: b.csv: row 2: id\n",
+        1,
+    ),
+    (
+        Failure::Row("a.csv", 10, RowFault::Time),
+        "vdcp: a.csv: row 10: time\n",
+        1,
+    ),
+    (
+        Failure::Row("a.csv", 2, RowFault::Twice),
+        "vdcp: a.csv: row 2: twice\n",
+        1,
+    ),
+    (
+        Failure::Row("a.csv", 10_001, RowFault::TooMany),
+        "vdcp: a.csv: row 10001: too many\n",
+        1,
+    ),
+    (
+        Failure::Line("a.txt", 1, LineFault::Word),
+        "vdcp: a.txt: line 1: word\n",
+        1,
+    ),
+    (
+        Failure::Line("a.txt", 1, LineFault::Number),
+        "vdcp: a.txt: line 1: number\n",
+        1,
+    ),
+    (
+        Failure::Line("b.txt", 3, LineFault::Hex),
+        "vdcp: b.txt: line 3: hex\n",
+        1,
+    ),
+    (
+        Failure::TooManyEvents("a.txt"),
+        "vdcp: a.txt: too many\n",
+        1,
+    ),
+    (Failure::NotText("a.txt"), "vdcp: a.txt: text\n", 1),
+    (Failure::Memory, "vdcp: memory\n", 3),
+];
+
+#[test]
+fn each_failure_is_told(rt: HostRuntime) -> Result<(), Fail> {
+    let alloc: Global = rt.alloc();
+    for (failure, line, status) in ROWS {
+        let mut err = Vec::new(alloc);
+        assert_eq!(rt; failure.report(&mut err), status, "{line}");
+        assert_eq!(rt; err.as_slice(), line.as_bytes(), "{line}");
+    }
+    let mut err = Vec::new(alloc);
+    assert_eq!(rt; Failure::Writer.report(&mut err), 3);
+    assert!(rt; err.is_empty());
+    Ok(())
+}
+
+#[test]
+fn failures_are_equal_where_they_are_told_alike(rt: HostRuntime) {
+    for (failure, line, _) in ROWS {
+        for (other, told, _) in ROWS {
+            let is_equal = failure == other;
+            assert!(rt; is_equal == (line == told));
+        }
+        assert!(rt; failure != Failure::Writer);
+    }
+    assert!(rt; Failure::Writer == Failure::Writer);
+}
