@@ -20,6 +20,7 @@ mod automation;
 mod line;
 mod script;
 mod server;
+mod stream;
 mod watch;
 mod wire;
 
@@ -27,7 +28,8 @@ pub use automation::AutoDriver;
 pub use line::{DriveFault, Line, Ran};
 pub use script::{Entry, ScriptWire};
 pub use server::Server;
-pub use watch::{Watch, WatchAir};
+pub use stream::StreamWire;
+pub use watch::{Unwatched, Watch, WatchAir};
 pub use wire::{Came, Wire, WireFault};
 
 #[cfg(test)]

@@ -29,9 +29,9 @@ pub trait WatchAir {
         ensures { watched self.new ≡ adds_watched item.now (watched self.old) };
 }
 
-// Watches nothing.
+/// Watches nothing.
 #[derive(Drop)]
-pub(crate) struct Unwatched;
+pub struct Unwatched;
 
 impl<S: Source> Watch<S> for Unwatched {
     fn look(&mut self, _controller: &Controller<S>) {}
