@@ -3,3 +3,4 @@
 
 mod asrun;
 mod run;
+pub use run::{RunSettings, do_run};

@@ -9,13 +9,14 @@ ghost use Rattle.vdcp_files.specs.Files.{file};
 ghost use Rattle.vdcp_net.specs.Run.{EndsTo, IsListRefused, IsRun, MayBeUnwritten, end_text, fault_text, faults_text, line_end_of, line_failure, mode_of, run_status};
 ghost use Rattle.vdcp_value.specs.declared.part.Item.{Item};
 
+use crate::address::parse_address;
 use crate::asrun::save_asrun;
 use std::io;
-use std::net::{Net, TcpStream};
+use std::net::{Net, OpenStream, TcpStream};
 use std::rt::{Clock, Files};
 use std::time::Duration;
 use vdcp_auto::{Controller, Outcome, Source};
-use vdcp_drive::{AutoDriver, DriveFault, Ran, Wire};
+use vdcp_drive::{AutoDriver, DriveFault, Ran, StreamWire, Wire};
 use vdcp_files::{Input, OutcomeText, file_failure};
 use vdcp_list::read_list;
 use vdcp_text::Failure;
@@ -151,6 +152,101 @@ fn write_fault<E: io::Write>(failure: Option<Failure<'_>>, err: &mut E) -> io::R
         Some(failure) => writeln!(err, "vdcp: {failure}"),
         None => Ok(()),
     }
+}
+
+/// Plays a list through the port of a server at an address, an IPv4 address, a colon and a port number:
+/// reads the list, connects, and runs a new controller until it ends, the other end closes, all listens
+/// are made or the line fails. Then, whatever the end is, it makes the as-run file, if one is named, and
+/// writes the as-run list of the reported events to it, and `out` gets how many events are reported, and
+/// how the controller ended. It is flushed behind that. `err` gets up to two fault lines behind it, that of
+/// the as-run file first.
+///
+/// The status is 0 where the controller ended Done or Stopped, and 1 where it ended Denied, Missing, Refused,
+/// Foreign or Strange. It is 3 where it ended Lost, where the other end closed, the listens are used up or
+/// the line failed, and where the as-run list isn't written.
+///
+/// Where it doesn't come to this, `out` gets nothing, no file is made, and `err` gets one fault line: the
+/// status is 2 for an address that is none, which is tested first, 1 for a list of which a row is refused,
+/// and 3 where the list can't be read, memory was refused or nobody takes the connection. It is 3 too where
+/// a writer failed, to which nothing more is written.
+pub fn do_run<
+    R: Net + Files + Clock + AllocGlobal,
+    L: io::Read + Drop,
+    W: io::Write,
+    E: io::Write,
+>(
+    rt: &R,
+    address: &str,
+    list: Input<'_, L>,
+    settings: RunSettings<'_>,
+    out: &mut W,
+    err: &mut E,
+) -> u8
+    requires unit { settings.unit ≤ 15 }
+    requires some { 1 ≤ settings.limit }
+    requires few { settings.limit ≤ 1000 }
+    requires some_silence { 1 ≤ settings.silence }
+    requires short_silence { settings.silence ≤ 60000 }
+    ensures run { result ≡ 0 → IsRun settings.entry.rate (file list.entry.name (L.remaining list.entry.reader)) (W.contents out.old) (W.contents out.new) 0 }
+    // The status is 1 for how the controller ended, and for a row that is refused.
+    ensures others { result ≡ 1 →
+        IsRun settings.entry.rate (file list.entry.name (L.remaining list.entry.reader)) (W.contents out.old) (W.contents out.new) 1
+        ⊎ IsListRefused settings.entry.rate (file list.entry.name (L.remaining list.entry.reader))
+        (W.contents out.old) (W.contents out.new) (E.contents err.old) (E.contents err.new) }
+    ensures silent { Keeps (W.contents out.old) (W.contents out.new)
+        ⊎ ((items : List Item) × IsListOf settings.entry.rate (file list.entry.name (L.remaining list.entry.reader)) items) }
+    ensures statuses { result < 4 }
+{
+    match run_list(rt, address, list, settings) {
+        Ok(end) => end.tell(out, err).unwrap_or(3),
+        Err(failure) => failure.report(err),
+    }
+}
+
+// Reads the list, connects, plays the list, and writes what is reported of it.
+fn run_list<'a, R: Net + Files + Clock + AllocGlobal, L: io::Read + Drop>(
+    rt: &R,
+    address: &str,
+    list: Input<'a, L>,
+    settings: RunSettings<'a>,
+) -> Result<RunEnd<'a>, Failure<'a>>
+    requires unit { settings.unit ≤ 15 }
+    requires some { 1 ≤ settings.limit }
+    requires few { settings.limit ≤ 1000 }
+    ensures read { OnOk result ((items : List Item) × IsListOf settings.entry.rate (file list.entry.name (L.remaining list.entry.reader)) items) }
+    ensures refused { IfErr result (λ e. (e ≡ Failure.Address) ⊎ ((e ≡ Failure.Connect)
+        ⊎ RefusesList settings.entry.rate (file list.entry.name (L.remaining list.entry.reader)) e)) }
+{
+    let Some(address) = parse_address(address) else {
+        return Err(Failure::Address);
+    };
+    let events = match read_list(rt.alloc(), list.reader, settings.rate) {
+        Ok(events) => events,
+        Err(fault) => return Err(file_failure(list.name, fault)),
+    };
+    let Ok(stream) = TcpStream::connect(rt, address) else {
+        return Err(Failure::Connect);
+    };
+    let controller = new_controller(events, settings);
+    Ok(play_over(rt, controller, stream, settings))
+}
+
+// Plays a list over a connection.
+fn play_over<'a, R: Files + AllocGlobal, S: Source + Drop, T: io::Read + io::Write + OpenStream + Drop>(
+    rt: &R,
+    controller: Controller<S>,
+    stream: T,
+    settings: RunSettings<'a>,
+) -> RunEnd<'a>
+    requires { settings.unit ≤ 15 }
+    ensures unwritten { MayBeUnwritten settings.entry.asrun result.unwritten }
+{
+    let silence = Duration::from_millis(u64::from(settings.silence));
+    let Ok(wire) = StreamWire::new(stream, silence) else {
+        return ended(rt, &controller, LineEnd::Failed, settings);
+    };
+    let mut driver = AutoDriver::new(controller, settings.unit, wire);
+    play(rt, &mut driver, settings)
 }
 
 // The new controller of a list.
