@@ -1,5 +1,6 @@
 pub mod Scripts
 pub mod Wires
+pub mod Streams
 pub mod Bursts
 pub mod Lines
 pub mod Serving

@@ -18,12 +18,14 @@ mod automation;
 mod line;
 mod script;
 mod server;
+mod stream;
 mod wire;
 
 pub use automation::AutoDriver;
 pub use line::{DriveFault, Line, Ran};
 pub use script::{Entry, ScriptWire};
 pub use server::Server;
+pub use stream::StreamWire;
 pub use wire::{Came, Wire, WireFault};
 
 #[cfg(test)]

@@ -1,5 +1,5 @@
 ghost use Rattle.std.specs.Option.{option_to_list};
-ghost use Rattle.std.specs.Prelude.{◌≡◌, ◌<◌, ◌≤◌, ◌↔◌, ◌⊎◌, ◌++◌, [], ◌∷◌, List, ℕ, length, take, OnOk, OnErr, IfOk, IsErr, Some, None};
+ghost use Rattle.std.specs.Prelude.{◌≡◌, ◌≢◌, ◌<◌, ◌≤◌, ◌↔◌, ◌⊎◌, ◌++◌, [], ◌∷◌, List, ℕ, length, take, OnOk, OnErr, IfOk, IsErr, Some, None};
 ghost use Rattle.vdcp_frame.specs.Message.{content_of, AreOctets};
 ghost use Rattle.vdcp_frame.specs.Progress.{reading};
 ghost use Rattle.vdcp_port.specs.Answers.{answer_bytes, bytes_for, items_for};
@@ -99,6 +99,7 @@ impl<C: Catalogue, W: Wire> Server<C, W> {
         // Which answer it gives: Spent where all turns were made and no close came.
         ensures answer { (t : Told) → W.told self.old.wire ≡ Some t →
             IfOk result (λ ran. IfTold (W.told self.new.wire) (λ u. ServesTo ran turns t.came u.came)) }
+        ensures never_ended { IfOk result (λ ran. ran ≢ Ran.Ended) }
         // A server drops nothing that waits.
         ensures drops { (t : Told) → W.told self.old.wire ≡ Some t → IfTold (W.told self.new.wire) (λ u. u.drops ≡ t.drops) }
         ensures works { OnOk result (W.failures self.new.wire ≡ 0) }

@@ -4,5 +4,6 @@ mod both;
 mod broken;
 mod clips;
 mod hostile;
+mod loopback;
 mod messages;
 mod server;

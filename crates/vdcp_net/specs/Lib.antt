@@ -1,1 +1,3 @@
+pub mod Address
+pub mod Serve
 pub mod Run

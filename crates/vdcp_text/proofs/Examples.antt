@@ -27,6 +27,27 @@ refused_row_line : failure_line (failures.Row file_name 2 rows.Twice) ≡ codes 
 unfolding digits
 refused_row_line = refl
 
+not_written_line : failure_line (failures.Write file_name) ≡ codes "vdcp: FILE: write\n"
+not_written_line = refl
+
+no_address_line : failure_line failures.Address ≡ codes "vdcp: address\n"
+no_address_line = refl
+
+not_connected_line : failure_line failures.Connect ≡ codes "vdcp: cannot connect\n"
+not_connected_line = refl
+
+not_bound_line : failure_line failures.Bind ≡ codes "vdcp: cannot bind\n"
+not_bound_line = refl
+
+failed_line_line : failure_line failures.LineFailed ≡ codes "vdcp: line failed\n"
+failed_line_line = refl
+
+closed_line_line : failure_line failures.LineClosed ≡ codes "vdcp: line closed\n"
+closed_line_line = refl
+
+spent_line : failure_line failures.Spent ≡ codes "vdcp: spent\n"
+spent_line = refl
+
 -- ---- words of commands
 
 upper_case_bytes : Names (codes "open" ∷ codes "0A" ∷ codes "fF" ∷ []) (Open 10 255)

@@ -51,8 +51,8 @@ impl Failure<'_> {
     ghost use Rattle.vdcp_text.specs.Failure.{failure_line, status_of};
 
     /// Tells `err` of the failure in one line and gives the exit status: 1 for refused data, 2 for
-    /// words that aren't text and for an address that is none, and 3 for the others. It is 3 too where it can't be told. Of a writer
-    /// that failed nothing is told.
+    /// words that aren't text and for an address that is none, and 3 for the others. It is 3 too where
+    /// it can't be told. Of a writer that failed nothing is told.
     pub fn report<E: io::Write>(self, err: &mut E) -> u8
         ensures status { (result ≡ status_of self.entry) ⊎ (result ≡ 3) }
         ensures told { result < 3 → Appends (E.contents err.old) (E.contents err.new) (failure_line self.entry) }

@@ -203,6 +203,11 @@ fn failed_at(
     Ok((works, sent, driver.controller().awaiting()))
 }
 
+/// The first `len` bytes of all that is to be sent.
+fn front(all: &Vec<u8>, len: usize) -> Result<&[u8], &'static str> {
+    all.get(..len).ok_or("more was sent")
+}
+
 // Each command is four calls: a drop, a send, and two listens, of the answer and of the silence.
 #[test]
 fn each_call_fails_in_turn(rt: HostRuntime) -> Result<(), Fail> {
@@ -215,18 +220,16 @@ fn each_call_fails_in_turn(rt: HostRuntime) -> Result<(), Fail> {
             let words = [GRANTED, ACK, IDLE, ACK];
             let (works, sent, awaits) = failed_at(rt.alloc(), plain(), &words, first, part)?;
             assert!(rt; !works && !awaits);
-            assert_eq!(rt; sent.as_slice(), &all[..before]);
+            assert_eq!(rt; sent.as_slice(), front(&all, before)?);
             let (works, sent, awaits) = failed_at(rt.alloc(), plain(), &words, first + 1, part)?;
             assert!(rt; !works && awaits);
-            let front = all
-                .get(..before + part.min(command.len()))
-                .ok_or("more was sent")?;
-            assert_eq!(rt; sent.as_slice(), front);
+            let begun = before + part.min(command.len());
+            assert_eq!(rt; sent.as_slice(), front(&all, begun)?);
             before += command.len();
             for listen in [first + 2, first + 3] {
                 let (works, sent, awaits) = failed_at(rt.alloc(), plain(), &words, listen, part)?;
                 assert!(rt; !works && awaits);
-                assert_eq!(rt; sent.as_slice(), &all[..before]);
+                assert_eq!(rt; sent.as_slice(), front(&all, before)?);
             }
         }
         let (works, sent, _) = failed_at(
@@ -255,7 +258,7 @@ fn each_call_fails_in_turn_in_confirm_mode(rt: HostRuntime) -> Result<(), Fail> 
         for (command, listens) in commands.iter().zip(listens) {
             let (works, sent, awaits) = failed_at(rt.alloc(), confirming(), &words, call, part)?;
             assert!(rt; !works && !awaits);
-            assert_eq!(rt; sent.as_slice(), &all[..before]);
+            assert_eq!(rt; sent.as_slice(), front(&all, before)?);
             let (works, sent, awaits) = failed_at(
                 rt.alloc(),
                 confirming(),
@@ -264,10 +267,8 @@ fn each_call_fails_in_turn_in_confirm_mode(rt: HostRuntime) -> Result<(), Fail> 
                 part,
             )?;
             assert!(rt; !works && awaits);
-            let front = all
-                .get(..before + part.min(command.len()))
-                .ok_or("more was sent")?;
-            assert_eq!(rt; sent.as_slice(), front);
+            let begun = before + part.min(command.len());
+            assert_eq!(rt; sent.as_slice(), front(&all, begun)?);
             before += command.len();
             for listen in 0..listens {
                 let (works, sent, awaits) = failed_at(
@@ -278,7 +279,7 @@ fn each_call_fails_in_turn_in_confirm_mode(rt: HostRuntime) -> Result<(), Fail> 
                     part,
                 )?;
                 assert!(rt; !works && awaits);
-                assert_eq!(rt; sent.as_slice(), &all[..before]);
+                assert_eq!(rt; sent.as_slice(), front(&all, before)?);
             }
             call += 2 + listens;
         }

@@ -1,6 +1,6 @@
 //! What a caller knows of a driver whose wire has failed, by the contracts of its calls, whatever the
 //! wire is.
-ghost use Rattle.std.specs.Prelude.{◌≡◌, IsErr};
+ghost use Rattle.std.specs.Prelude.{◌≡◌, false, IfOk, IsErr};
 
 use super::clips::{Playlist, Shelf};
 use crate::{AutoDriver, DriveFault, Entry, Line, Ran, ScriptWire, Server, Wire};
@@ -33,7 +33,9 @@ fn run_twice<S: Source, W: Wire>(
 }
 
 /// Two silences come, but the call of this number fails.
-fn failing(alloc: Global, call: u64) -> Result<ScriptWire<Global>, AllocError> {
+fn failing(alloc: Global, call: u64) -> Result<ScriptWire<Global>, AllocError>
+    ensures works { IfOk result (λ wire. wire.failed ≡ false) }
+{
     let mut entries = Vec::new(alloc);
     entries.push(Entry::Silence)?;
     entries.push(Entry::Silence)?;

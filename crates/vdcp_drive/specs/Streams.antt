@@ -1,0 +1,41 @@
+-- What a wire over a connection makes of a read, and how often it failed.
+use Rattle.std.proofs.Common.{rules}
+use Rattle.std.specs.IoError.{error_kind}
+use Rattle.std.specs.Prelude.{ℕ, zero, suc, ◌≤◌, Result, Ok, Err}
+use Rattle.std.specs.declared.io.Error.{Error}
+use Rattle.std.specs.declared.io.ErrorKind.{ErrorKind}
+use Rattle.std.specs.declared.io.ErrorKind.TheVariants.{WouldBlock, TimedOut, Interrupted}
+use Rattle.vdcp_drive.specs.declared.stream.Connection.{Connection}
+use Rattle.vdcp_drive.specs.declared.stream.Connection.TheVariants as connection
+use Rattle.vdcp_drive.specs.declared.wire.Came.{Came}
+use Rattle.vdcp_drive.specs.declared.wire.Came.TheVariants as came
+
+-- what a read that failed so brought, or else the failure: it waited long enough, or it was interrupted
+abbrev pub came_of_kind : ErrorKind → Error → Result Came Error
+came_of_kind WouldBlock error = Ok came.Silence
+came_of_kind TimedOut error = Ok came.Silence
+came_of_kind Interrupted error = Ok (came.Bytes 0)
+came_of_kind _ error = Err error
+
+-- what a read brought
+abbrev pub came_of : Result ℕ Error → Result Came Error
+came_of (Ok zero) = Ok came.Closed
+came_of (Ok (suc n)) = Ok (came.Bytes (suc n))
+came_of (Err error) = came_of_kind (error_kind error) error
+
+-- what is known of the connection behind it
+abbrev pub connection_behind : Came → Connection → Connection
+connection_behind (came.Bytes n) before = before
+connection_behind came.Silence before = before
+connection_behind came.Closed before = connection.Closed
+
+-- how often a wire over this connection failed
+abbrev pub failures_of : Connection → ℕ
+failures_of connection.Open = 0
+failures_of connection.Closed = 0
+failures_of connection.Failed = 1
+
+pub counted_once : (c : Connection) → failures_of c ≤ 1
+counted_once connection.Open = search rules
+counted_once connection.Closed = search rules
+counted_once connection.Failed = search rules

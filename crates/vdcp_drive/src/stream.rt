@@ -1,0 +1,163 @@
+ghost use Rattle.std.specs.Prelude.{◌≡◌, IfOk, IsOk};
+ghost use Rattle.vdcp_drive.specs.Streams.{came_of, connection_behind, failures_of};
+ghost use Rattle.vdcp_drive.specs.Wires.{FitsBuffer};
+
+use crate::wire::{Came, Wire, WireFault};
+use std::io::{self, ErrorKind, Read, Write};
+use std::marker::Model;
+use std::net::{OpenStream, TcpStream};
+use std::time::Duration;
+
+/// So many reads `drop_waiting` makes at most, so that a peer that goes on sending can't hold it up.
+const MOST_READS: u32 = 128;
+
+/// What a wire knows of its connection.
+#[derive(Clone, Copy, Debug, PartialEq, Eq)]
+enum Connection {
+    /// Both ends use it.
+    Open,
+    /// The other end has closed: nothing will come any more.
+    Closed,
+    /// A call failed.
+    Failed,
+}
+
+/// A wire over a connection. It doesn't tell its bytes, and each call may wait for the other end.
+///
+/// A read that waited for so long is a silence, and an interrupted read brings no bytes. `drop_waiting`
+/// doesn't wait, and drops what 128 reads take at most. The rest stays.
+#[derive(Drop)]
+pub struct StreamWire<S: Read + Write + OpenStream + Drop = TcpStream> {
+    stream: S,
+    connection: Connection,
+}
+
+impl<S: Read + Write + OpenStream + Drop> Model for StreamWire<S> {
+    ghost use Rattle.vdcp_drive.specs.declared.stream.Connection.{Connection};
+
+    ghost Value = { Connection };
+
+    ghost view = { λ w. w.connection };
+}
+
+impl<S: Read + Write + OpenStream + Drop> StreamWire<S> {
+    /// A wire over this connection, on which nothing comes for `silence` at the end of a burst, 1
+    /// millisecond or more. What is sent goes out at once. Err where the connection refuses this.
+    pub fn new(stream: S, silence: Duration) -> io::Result<Self>
+        ensures { IfOk result (λ wire. wire ≡ Connection.Open) }
+    {
+        stream.set_nodelay(true)?;
+        stream.set_read_timeout(Some(silence))?;
+        Ok(StreamWire {
+            stream,
+            connection: Connection::Open,
+        })
+    }
+
+    // What comes next. After a close nothing is read.
+    fn receive(&mut self, buffer: &mut [u8; 512]) -> io::Result<Came>
+        requires { failures_of self.old ≡ 0 }
+        ensures fits { IfOk result FitsBuffer }
+        ensures next { IfOk result (λ came. self.new ≡ connection_behind came self.old) }
+        ensures closed { self.old ≡ Connection.Closed → result ≡ Ok Came.Closed }
+        ensures works { failures_of self.new ≡ 0 }
+    {
+        if let Connection::Closed = self.connection {
+            return Ok(Came::Closed);
+        }
+        let came = came_of(self.stream.read(buffer))?;
+        if let Came::Closed = came {
+            self.connection = Connection::Closed;
+        }
+        Ok(came)
+    }
+
+    // Drops what waits. After a close nothing is read.
+    fn drop_reads(&mut self) -> io::Result<()>
+        requires { failures_of self.old ≡ 0 }
+        ensures closed { self.old ≡ Connection.Closed → IsOk result × (self.new ≡ self.old) }
+        ensures works { failures_of self.new ≡ 0 }
+    {
+        if let Connection::Closed = self.connection {
+            return Ok(());
+        }
+        self.stream.set_nonblocking(true)?;
+        let behind = read_waiting(&mut self.stream);
+        self.stream.set_nonblocking(false)?;
+        self.connection = behind?;
+        Ok(())
+    }
+
+    // The fault of a call that failed. None is made again.
+    fn fail(&mut self) -> WireFault
+        ensures { self.new ≡ Connection.Failed }
+    {
+        self.connection = Connection::Failed;
+        WireFault
+    }
+}
+
+impl<S: Read + Write + OpenStream + Drop> Wire for StreamWire<S> {
+    ghost use Rattle.std.specs.Prelude.{None};
+    ghost use Rattle.vdcp_drive.specs.Streams.{counted_once};
+
+    ghost told = { λ _. None };
+
+    ghost failures = { λ w. failures_of w };
+
+    fn send(&mut self, bytes: &[u8]) -> Result<(), WireFault> {
+        match self.stream.write_all(bytes) {
+            Ok(()) => Ok(()),
+            Err(_) => Err(self.fail()),
+        }
+    }
+
+    fn listen(&mut self, buffer: &mut [u8; 512]) -> Result<Came, WireFault> {
+        match self.receive(buffer) {
+            Ok(came) => Ok(came),
+            Err(_) => Err(self.fail()),
+        }
+    }
+
+    fn drop_waiting(&mut self) -> Result<(), WireFault> {
+        match self.drop_reads() {
+            Ok(()) => Ok(()),
+            Err(_) => Err(self.fail()),
+        }
+    }
+
+    ghost fails_once = { λ w. counted_once w };
+}
+
+// Reads what waits on a connection that doesn't wait, and says whether the other end has closed.
+fn read_waiting<S: Read>(stream: &mut S) -> io::Result<Connection>
+    ensures { IfOk result (λ connection. failures_of connection ≡ 0) }
+{
+    let mut buffer = [0; 512];
+    for _ in 0..MOST_READS {
+        match came_of(stream.read(&mut buffer))? {
+            Came::Bytes(_) => {}
+            Came::Silence => return Ok(Connection::Open),
+            Came::Closed => return Ok(Connection::Closed),
+        }
+    }
+    Ok(Connection::Open)
+}
+
+// What a read brought.
+fn came_of(read: io::Result<usize>) -> io::Result<Came>
+    ensures { result ≡ came_of read }
+{
+    match read {
+        Ok(0) => Ok(Came::Closed),
+        Ok(n) => Ok(Came::Bytes(n)),
+        Err(error) => match error.kind() {
+            ErrorKind::WouldBlock | ErrorKind::TimedOut => Ok(Came::Silence),
+            ErrorKind::Interrupted => Ok(Came::Bytes(0)),
+            _ => Err(error),
+        },
+    }
+}
+
+#[cfg(test)]
+mod tests;
