@@ -1,3 +1,4 @@
 pub mod Address
 pub mod Serve
+pub mod Progress
 pub mod Run

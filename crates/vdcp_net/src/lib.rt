@@ -10,8 +10,9 @@ mod asrun;
 #[cfg(test)]
 mod failing;
 mod log;
+mod progress;
 mod run;
 mod serve;
 
-pub use run::{RunSettings, do_run};
+pub use run::{RunSettings, Showing, do_run};
 pub use serve::{ServeSettings, do_serve};
