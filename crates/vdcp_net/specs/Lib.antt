@@ -1,3 +1,4 @@
 pub mod Address
+pub mod Progress
 pub mod Run
 pub mod Serve

@@ -20,6 +20,7 @@ use Rattle.vdcp_drive.specs.Wires.{Arrival, has_closed}
 use Rattle.vdcp_drive.specs.declared.line.DriveFault.{DriveFault}
 use Rattle.vdcp_drive.specs.declared.line.Ran.{Ran}
 use Rattle.vdcp_drive.specs.declared.line.Ran.TheVariants as ran
+use Rattle.vdcp_net.specs.Address.{IsAddress}
 use Rattle.vdcp_net.specs.declared.run.LineEnd.{LineEnd}
 use Rattle.vdcp_net.specs.declared.run.LineEnd.TheVariants as line_end
 use Rattle.vdcp_net.specs.declared.run.RunEnd.{RunEnd}
@@ -100,15 +101,24 @@ run_status end = status_unless end.unwritten (status_unless (line_failure end.li
 
 -- ---- the whole
 
+-- the file is a playlist
+abbrev pub IsWholeList : Rate → File → Type 0
+IsWholeList rate list = (items : List Item) × IsListOf rate list items
+
 -- the file is a playlist, and a run of it ended: a writer gained the lines of that, and this is the status
-pub record IsRun (rate : Rate) (list : File) (old new : Option (List ℕ)) (status : ℕ) : Type 0 where
-  pub items : List Item
-  pub is_playlist : IsListOf rate list items
+pub record IsRun (rate : Rate) (list : File) (out out' : Option (List ℕ)) (status : ℕ) : Type 0 where
+  pub whole : IsWholeList rate list
   pub end : RunEnd
-  pub gained : Appends old new (end_text end)
+  pub gained : Appends out out' (end_text end)
   pub status_is : status ≡ run_status end
 
--- a row of the file is refused: one writer gained the line that tells it, and the other nothing
+-- why a list isn't played: the text is no address, or else the list isn't read, or else nobody takes the connection
+pub data IsUnplayed (rate : Rate) (text : List ℕ) (list : File) (failure : Failure) : Type 0 where
+  no_address : ¬ IsAddress text → failure ≡ failures.Address → IsUnplayed rate text list failure
+  no_list : IsAddress text → RefusesList rate list failure → IsUnplayed rate text list failure
+  not_connected : IsAddress text → IsWholeList rate list → failure ≡ failures.Connect → IsUnplayed rate text list failure
+
+-- a row of the list is refused: one writer gained the line that tells it, and the other nothing
 pub record IsListRefused (rate : Rate) (list : File) (out out' err err' : Option (List ℕ)) : Type 0 where
   pub failure : Failure
   pub refused : RefusesList rate list failure

@@ -1,13 +1,18 @@
 //! The subcommands `serve` and `run`: the two ends of a playout channel over TCP.
 //!
-//! `do_serve` waits for one automation at an address, and serves it with a new port. It tells standard
-//! error of a failure in one line, and gives the exit status.
+//! `do_serve` waits for one automation at an address, and serves it with a new port. `do_run` connects to
+//! an address and plays a list through the port of the server there. Each tells standard error of a failure
+//! in one line, and gives the exit status.
 #![tactic(auto)]
 
 mod address;
+mod asrun;
 #[cfg(test)]
 mod failing;
 mod log;
+mod progress;
+mod run;
 mod serve;
 
+pub use run::{RunSettings, Showing, do_run};
 pub use serve::{ServeSettings, do_serve};

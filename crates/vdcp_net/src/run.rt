@@ -4,18 +4,21 @@ ghost use Rattle.vdcp_auto.specs.Plan.{plan_of};
 ghost use Rattle.vdcp_auto.specs.Turn as turns;
 ghost use Rattle.vdcp_drive.specs.Driven.{HasRun, HasRunBroken, IsNew, IsPartlyRun};
 ghost use Rattle.vdcp_drive.specs.Wires.{IfTold, Told};
-ghost use Rattle.vdcp_files.specs.Check.{IsListOf, RefusesList};
 ghost use Rattle.vdcp_files.specs.Files.{file};
-ghost use Rattle.vdcp_net.specs.Run.{EndsTo, IsListRefused, IsRun, MayBeUnwritten, end_text, fault_text, faults_text, line_end_of, line_failure, mode_of, run_status};
-ghost use Rattle.vdcp_value.specs.declared.part.Item.{Item};
+ghost use Rattle.vdcp_net.specs.Address.{IsAddress};
+ghost use Rattle.vdcp_net.specs.Run.{EndsTo, IsListRefused, IsRun, IsUnplayed, IsWholeList, MayBeUnwritten, end_text, fault_text, faults_text, line_end_of, line_failure, mode_of, run_status};
+ghost use Rattle.vdcp_text.specs.Failure.{failure_line};
 
+use crate::address::address_of;
 use crate::asrun::save_asrun;
+use crate::log::{Log, Logged};
+use crate::progress::{Progress, Unwatched};
 use std::io;
-use std::net::{Net, TcpStream};
+use std::net::{Net, OpenStream, SocketAddr};
 use std::rt::{Clock, Files};
 use std::time::Duration;
 use vdcp_auto::{Controller, Outcome, Source};
-use vdcp_drive::{AutoDriver, DriveFault, Ran, Wire};
+use vdcp_drive::{AutoDriver, DriveFault, Ran, StreamWire, Watch, Wire};
 use vdcp_files::{Input, OutcomeText, file_failure};
 use vdcp_list::read_list;
 use vdcp_text::Failure;
@@ -38,9 +41,20 @@ pub struct RunSettings<'a> {
     /// longer than the server waits for the end of a command.
     pub silence: u32,
     /// At most so many listens are made.
-    pub listens: u64,
+    pub listens: u32,
     /// The file that is made for the as-run list, if one is wanted.
     pub asrun: Option<&'a str>,
+}
+
+/// What is shown while a list is played, and the writer that it goes to. Where this writer fails, no more is
+/// shown, and nothing else comes of that.
+#[derive(Drop)]
+pub enum Showing<V> {
+    Nothing,
+    /// How far the run is, in one line of a terminal, which is drawn again and again.
+    Progress(V),
+    /// A line for each message that came (`<-`) and went out (`->`), with the words that it has.
+    Messages(V),
 }
 
 /// How the line ended.
@@ -153,6 +167,158 @@ fn write_fault<E: io::Write>(failure: Option<Failure<'_>>, err: &mut E) -> io::R
     }
 }
 
+/// Plays a list through the port of a server at `address`: an IPv4 address, a colon and a port number. It
+/// reads the list, connects, and runs a new controller until that ends, the other end closes, all listens
+/// are made or the line fails. Then, whatever the end is, it makes the as-run file, if one is named, and
+/// writes the as-run list of the reported events to it; and `out` gets how many events are reported, and how
+/// the controller ended, and is flushed. `err` gets the fault line of the as-run file, if there is one, and
+/// then that of the line.
+///
+/// What the headline says of a controller and its log holds of the reported events: they are those that the
+/// exchanges over the line show to be settled.
+///
+/// The status is 0 where the controller ended Done or Stopped, and 1 where it ended Denied, Missing, Refused,
+/// Foreign or Strange. It is 3 where it ended Lost, where the other end closed, the listens are used up or
+/// the line failed, and where the as-run list isn't written.
+///
+/// Where it doesn't come to this, no file is made, `out` gets nothing, and `err` gets one fault line. The
+/// status is 2 where the address is none, which is tested before the list is read; 1 where a row of the list
+/// is refused; and 3 where the list can't be read, memory was refused or nobody takes the connection. It is 3
+/// too where `out` or `err` failed. To a writer that failed nothing more is written.
+pub fn do_run<
+    R: Net + Files + Clock + AllocGlobal,
+    L: io::Read + Drop,
+    V: io::Write + Drop,
+    W: io::Write,
+    E: io::Write,
+>(
+    rt: &R,
+    address: &str,
+    list: Input<'_, L>,
+    settings: RunSettings<'_>,
+    showing: Showing<V>,
+    out: &mut W,
+    err: &mut E,
+) -> u8
+    requires unit { settings.unit ≤ 15 }
+    requires some { 1 ≤ settings.limit }
+    requires few { settings.limit ≤ 1000 }
+    ensures run { result ≡ 0 → IsRun settings.entry.rate (file list.entry.name (L.remaining list.entry.reader)) (W.contents out.old) (W.contents out.new) 0 }
+    ensures untold { result ≡ 0 → Keeps (E.contents err.old) (E.contents err.new) }
+    // The status is 1 for how the controller ended, and for a row that is refused.
+    ensures others { result ≡ 1 →
+        (IsRun settings.entry.rate (file list.entry.name (L.remaining list.entry.reader)) (W.contents out.old) (W.contents out.new) 1
+        × Keeps (E.contents err.old) (E.contents err.new))
+        ⊎ IsListRefused settings.entry.rate (file list.entry.name (L.remaining list.entry.reader))
+        (W.contents out.old) (W.contents out.new) (E.contents err.old) (E.contents err.new) }
+    // The status is 2 for an address that is none, unless this can't be told.
+    ensures none { result ≡ 2 → ¬ IsAddress address.now × Appends (E.contents err.old) (E.contents err.new) (failure_line Failure.Address) }
+    ensures address { ¬ IsAddress address.now → ((result ≡ 2) ⊎ (result ≡ 3)) × Keeps (W.contents out.old) (W.contents out.new) }
+    ensures silent { Keeps (W.contents out.old) (W.contents out.new)
+        ⊎ IsWholeList settings.entry.rate (file list.entry.name (L.remaining list.entry.reader)) }
+    ensures statuses { result ≤ 3 }
+{
+    match run_list(rt, address, list, settings, showing) {
+        Ok(end) => end.tell(out, err).unwrap_or(3),
+        Err(failure) => failure.report(err),
+    }
+}
+
+// Reads the list, connects, plays the list, and writes what is reported of it.
+fn run_list<
+    'a,
+    R: Net + Files + Clock + AllocGlobal,
+    L: io::Read + Drop,
+    V: io::Write + Drop,
+>(
+    rt: &R,
+    address: &str,
+    list: Input<'a, L>,
+    settings: RunSettings<'a>,
+    showing: Showing<V>,
+) -> Result<RunEnd<'a>, Failure<'a>>
+    requires unit { settings.unit ≤ 15 }
+    requires some { 1 ≤ settings.limit }
+    requires few { settings.limit ≤ 1000 }
+    ensures address { OnOk result (IsAddress address.now) }
+    ensures whole { OnOk result (IsWholeList settings.entry.rate (file list.entry.name (L.remaining list.entry.reader))) }
+    ensures unplayed { IfErr result (IsUnplayed settings.entry.rate address.now (file list.entry.name (L.remaining list.entry.reader))) }
+{
+    let address = address_of(address)?;
+    let events = match read_list(rt.alloc(), list.reader, settings.rate) {
+        Ok(events) => events,
+        Err(fault) => return Err(file_failure(list.name, fault)),
+    };
+    let Ok(stream) = rt.connect(SocketAddr::V4(address)) else {
+        return Err(Failure::Connect);
+    };
+    let controller = new_controller(events, settings);
+    Ok(play_connected(rt, controller, stream, settings, showing))
+}
+
+// Plays a list over a connection. One that refuses the silence is a line that failed.
+fn play_connected<
+    'a,
+    R: Files + Clock + AllocGlobal,
+    S: Source + Drop,
+    T: io::Read + io::Write + OpenStream + Drop,
+    V: io::Write + Drop,
+>(
+    rt: &R,
+    controller: Controller<S>,
+    stream: T,
+    settings: RunSettings<'a>,
+    showing: Showing<V>,
+) -> RunEnd<'a>
+    requires { settings.unit ≤ 15 }
+    ensures unwritten { MayBeUnwritten settings.entry.asrun result.unwritten }
+{
+    let silence = Duration::from_millis(settings.silence as u64);
+    match StreamWire::new(stream, silence) {
+        Ok(wire) => play_shown(rt, controller, wire, settings, showing),
+        Err(_) => ended(rt, &controller, LineEnd::Failed, settings),
+    }
+}
+
+// Plays a list over a wire, and shows what is to be shown meanwhile.
+fn play_shown<
+    'a,
+    R: Files + Clock + AllocGlobal,
+    S: Source + Drop,
+    W: Wire + Drop,
+    V: io::Write + Drop,
+>(
+    rt: &R,
+    controller: Controller<S>,
+    wire: W,
+    settings: RunSettings<'a>,
+    showing: Showing<V>,
+) -> RunEnd<'a>
+    requires unit { settings.unit ≤ 15 }
+    requires works { W.failures wire ≡ 0 }
+    ensures unwritten { MayBeUnwritten settings.entry.asrun result.unwritten }
+{
+    let unit = settings.unit;
+    match showing {
+        Showing::Nothing => {
+            let mut driver = AutoDriver::new(controller, unit, wire);
+            play(rt, &mut driver, &mut Unwatched, settings)
+        }
+        Showing::Progress(terminal) => {
+            let mut driver = AutoDriver::new(controller, unit, wire);
+            let mut progress = Progress::new(rt, terminal);
+            let end = play(rt, &mut driver, &mut progress, settings);
+            progress.clear();
+            end
+        }
+        Showing::Messages(writer) => {
+            let log = Log::new(writer);
+            let mut driver = AutoDriver::new(controller, unit, Logged::new(wire, &log));
+            play(rt, &mut driver, &mut Unwatched, settings)
+        }
+    }
+}
+
 // The new controller of a list.
 fn new_controller<S: Source>(source: S, settings: RunSettings<'_>) -> Controller<S>
     requires some { 1 ≤ settings.limit }
@@ -169,9 +335,10 @@ fn new_controller<S: Source>(source: S, settings: RunSettings<'_>) -> Controller
 // Runs an automation, and writes what is reported of it. Of a new controller over a fresh wire that tells
 // its bytes this says what the automation sent, and how its controller ended, whether the wire failed or
 // not.
-fn play<'a, R: Files + AllocGlobal, S: Source, W: Wire>(
+fn play<'a, R: Files + AllocGlobal, S: Source, W: Wire, V: Watch<S>>(
     rt: &R,
     driver: &mut AutoDriver<S, W>,
+    watcher: &mut V,
     settings: RunSettings<'a>,
 ) -> RunEnd<'a>
     ensures outcome { result.outcome ≡ turns.outcome_of driver.new.controller.state.stage }
@@ -192,7 +359,7 @@ fn play<'a, R: Files + AllocGlobal, S: Source, W: Wire>(
     ensures works { result.line ≢ LineEnd.Failed → W.failures driver.new.wire ≡ 0 }
     ensures device { result.line ≡ LineEnd.Failed → W.failures driver.new.wire ≡ 1 }
 {
-    let line = LineEnd::of_run(driver.run(settings.listens));
+    let line = LineEnd::of_run(driver.run_watched(settings.listens as u64, watcher));
     ended(rt, driver.controller(), line, settings)
 }
 

@@ -1,0 +1,179 @@
+ghost use Rattle.std.specs.Prelude.{◌≡◌};
+ghost use Rattle.vdcp_net.specs.Progress.{glance_text};
+
+use arrayvec::ArrayString;
+use std::fmt::{self, Write};
+use std::io;
+use std::rt::Clock;
+use std::time::Instant;
+use vdcp_auto::{Controller, Source};
+use vdcp_drive::Watch;
+use vdcp_value::ClipId;
+use vdcp_words::Command;
+
+/// Where nothing changed, the line is drawn again no sooner than after so many milliseconds.
+const REDRAWN_AFTER: u128 = 100;
+
+/// The columns of a line at most, so that no terminal breaks it in two.
+const MOST_COLUMNS: usize = 79;
+
+/// Puts the cursor at the front of its line, and erases that.
+const ERASE: &'static str = "\r\x1b[K";
+
+/// A line of a terminal that shows how far a run is: the event at hand, the command whose answer is awaited,
+/// how many events are reported, and the time so far. It is drawn again where something changed, and ten
+/// times a second at most where nothing did. Where the terminal or the clock fails, nothing more is drawn.
+#[derive(Drop)]
+pub struct Progress<'a, R: Clock, V: io::Write> {
+    clock: &'a R,
+    terminal: V,
+    drawing: Drawing,
+}
+
+/// What stands on the terminal.
+#[derive(Clone, Copy, PartialEq, Eq)]
+enum Drawing {
+    /// No line: nothing was looked at yet.
+    Blank,
+    /// A line of this.
+    Line {
+        glance: Glance,
+        begun: Instant,
+        drawn: Instant,
+    },
+    /// Whatever was there when the terminal or the clock failed.
+    Failed,
+}
+
+/// What is seen of a controller that awaits an answer.
+#[derive(Clone, Copy, PartialEq, Eq)]
+struct Glance {
+    /// The event that is reported next, if one is left.
+    event: Option<ClipId>,
+    command: Command,
+    reported: usize,
+    /// How many events there are.
+    events: usize,
+}
+
+impl<'a, R: Clock, V: io::Write> Progress<'a, R, V> {
+    /// Nothing is drawn yet.
+    pub fn new(clock: &'a R, terminal: V) -> Self {
+        Progress {
+            clock,
+            terminal,
+            drawing: Drawing::Blank,
+        }
+    }
+
+    /// Erases the line.
+    pub fn clear(&mut self) {
+        if let Drawing::Line { .. } = self.drawing {
+            let _ = self.terminal.write_all(ERASE.as_bytes());
+            let _ = self.terminal.flush();
+            self.drawing = Drawing::Blank;
+        }
+    }
+
+    // Draws what is seen now, if it is to be drawn.
+    fn show(&mut self, glance: Glance) -> io::Result<()> {
+        let now = Instant::now(self.clock)?;
+        let begun = match self.drawing {
+            Drawing::Blank => now,
+            Drawing::Line {
+                glance: last,
+                drawn,
+                ..
+            } if last == glance && now.duration_since(drawn).as_millis() < REDRAWN_AFTER => return Ok(()),
+            Drawing::Line { begun, .. } => begun,
+            Drawing::Failed => return Ok(()),
+        };
+        self.draw(&glance, now.duration_since(begun).as_secs())?;
+        self.drawing = Drawing::Line {
+            glance,
+            begun,
+            drawn: now,
+        };
+        Ok(())
+    }
+
+    // Writes the line at once, so that it doesn't flicker.
+    fn draw(&mut self, glance: &Glance, seconds: u64) -> io::Result<()> {
+        let mut line = ArrayString::<256>::new();
+        let _ = write!(line, "{ERASE}{glance}, ");
+        let _ = write_time(seconds, &mut line);
+        let bytes = line.as_bytes();
+        let end = bytes.len().min(ERASE.len() + MOST_COLUMNS);
+        self.terminal.write_all(&bytes[..end])?;
+        self.terminal.flush()
+    }
+}
+
+impl<S: Source, R: Clock, V: io::Write> Watch<S> for Progress<'_, R, V> {
+    fn look(&mut self, controller: &Controller<S>) {
+        let Some(glance) = Glance::of(controller) else {
+            return;
+        };
+        if self.show(glance).is_err() {
+            self.drawing = Drawing::Failed;
+        }
+    }
+}
+
+impl Glance {
+    // What is seen of a controller; None where it awaits no answer.
+    fn of<S: Source>(controller: &Controller<S>) -> Option<Glance> {
+        let source = controller.source();
+        let reported = controller.settled();
+        let events = source.len();
+        let event = if reported < events {
+            Some(source.at(reported).id)
+        } else {
+            None
+        };
+        Some(Glance {
+            event,
+            command: controller.awaited()?,
+            reported,
+            events,
+        })
+    }
+}
+
+impl fmt::Display for Glance {
+    ghost use Rattle.std.specs.Prelude.{Some};
+
+    ghost output = { λ g. Some (glance_text g) };
+
+    fn fmt<W: fmt::Write>(&self, f: &mut fmt::Formatter<W>) -> fmt::Result {
+        let reported = self.reported;
+        let events = self.events;
+        if let Some(id) = self.event {
+            let mut text = ArrayString::<18>::new();
+            id.show(&mut text);
+            let id = text.as_str();
+            write!(f, "event {reported} {id}: ")?;
+        }
+        let mut text = ArrayString::<64>::new();
+        self.command.show(&mut text);
+        let command = text.as_str();
+        write!(f, "{command}, {reported} of {events} reported")
+    }
+}
+
+// Writes hours, minutes and seconds.
+fn write_time<W: fmt::Write>(seconds: u64, f: &mut W) -> fmt::Result {
+    let hours = seconds / 3600;
+    let minutes = seconds / 60 % 60;
+    let seconds = seconds % 60;
+    write!(f, "{hours}:{minutes:02}:{seconds:02}")
+}
+
+/// Watches nothing.
+#[derive(Drop)]
+pub struct Unwatched;
+
+impl<S: Source> Watch<S> for Unwatched {
+    fn look(&mut self, _controller: &Controller<S>) {}
+}
+
