@@ -1,4 +1,6 @@
-use crate::options::{CUE_FRAMES, LIMIT, PORT, UNIT, number_option, rate_option};
+use crate::options::{
+    CUE_FRAMES, LIMIT, LISTENS, PORT, RUN_SILENCE, SERVE_SILENCE, TURNS, UNIT, number_option, rate_option,
+};
 use clap::{Arg, ArgAction, Command};
 use std::alloc::{AllocError, Global};
 
@@ -7,6 +9,11 @@ const VERSION: &str = "0.1.0\nrattle-kit-13b logic dac8208d650f15bf";
 
 const SIM_EXAMPLE: &str =
     "Example: vdcp sim examples/playlist.csv examples/catalogue.csv examples/lossy.txt";
+
+const SERVE_EXAMPLE: &str = "Example: vdcp serve 127.0.0.1:7400 examples/catalogue.csv --log";
+
+const RUN_EXAMPLE: &str =
+    "Example: vdcp run 127.0.0.1:7400 examples/playlist.csv --asrun /tmp/asrun.csv";
 
 /// What the command line may be.
 pub fn command<'a>(alloc: Global) -> Result<Command<'a>, AllocError> {
@@ -20,6 +27,8 @@ pub fn command<'a>(alloc: Global) -> Result<Command<'a>, AllocError> {
         .subcommand(make(alloc)?)?
         .subcommand(check(alloc)?)?
         .subcommand(sim(alloc)?)?
+        .subcommand(serve(alloc)?)?
+        .subcommand(run(alloc)?)?
         .subcommand(vectors(alloc)?)
 }
 
@@ -68,6 +77,38 @@ fn sim<'a>(alloc: Global) -> Result<Command<'a>, AllocError> {
         .arg(confirm(alloc))
 }
 
+fn serve<'a>(alloc: Global) -> Result<Command<'a>, AllocError> {
+    Command::new(alloc, "serve")
+        .about("Serves a port with the clips of a catalogue to one automation, over TCP")
+        .after_help(SERVE_EXAMPLE)
+        .arg(address(alloc, "Where it listens, as 127.0.0.1:7400; the system chooses for port 0"))?
+        .arg(catalogue(alloc))?
+        .arg(number_option(alloc, &UNIT))?
+        .arg(number_option(alloc, &PORT))?
+        .arg(rate_option(alloc))?
+        .arg(number_option(alloc, &CUE_FRAMES))?
+        .arg(number_option(alloc, &SERVE_SILENCE))?
+        .arg(number_option(alloc, &TURNS))?
+        .arg(log(alloc, "Tells standard error of each message, and of each item that goes to air"))
+}
+
+fn run<'a>(alloc: Global) -> Result<Command<'a>, AllocError> {
+    Command::new(alloc, "run")
+        .about("Plays a list through the port of a server, over TCP")
+        .after_help(RUN_EXAMPLE)
+        .arg(address(alloc, "Where the server listens, as 127.0.0.1:7400"))?
+        .arg(list(alloc))?
+        .arg(number_option(alloc, &UNIT))?
+        .arg(number_option(alloc, &PORT))?
+        .arg(number_option(alloc, &LIMIT))?
+        .arg(rate_option(alloc))?
+        .arg(confirm(alloc))?
+        .arg(number_option(alloc, &RUN_SILENCE))?
+        .arg(number_option(alloc, &LISTENS))?
+        .arg(asrun(alloc))?
+        .arg(log(alloc, "Tells standard error of each message"))
+}
+
 fn vectors<'a>(alloc: Global) -> Result<Command<'a>, AllocError> {
     Command::new(alloc, "vectors")
         .about("Tests each row of a file of bursts and their readings")
@@ -86,6 +127,10 @@ fn list<'a>(alloc: Global) -> Arg<'a> {
 
 fn catalogue<'a>(alloc: Global) -> Arg<'a> {
     required(alloc, "CATALOGUE", "The catalogue's file")
+}
+
+fn address<'a>(alloc: Global, help: &'a str) -> Arg<'a> {
+    required(alloc, "ADDR", help)
 }
 
 fn words<'a>(alloc: Global) -> Arg<'a> {
@@ -107,4 +152,18 @@ fn confirm<'a>(alloc: Global) -> Arg<'a> {
         .long("confirm")
         .action(ArgAction::SetTrue)
         .help("The controller trusts no ACK and no NAK")
+}
+
+fn asrun<'a>(alloc: Global) -> Arg<'a> {
+    Arg::new(alloc, "asrun")
+        .long("asrun")
+        .value_name("FILE")
+        .help("Makes this file, with the as-run list of the reported events")
+}
+
+fn log<'a>(alloc: Global, help: &'a str) -> Arg<'a> {
+    Arg::new(alloc, "log")
+        .long("log")
+        .action(ArgAction::SetTrue)
+        .help(help)
 }

@@ -1,5 +1,5 @@
-// vdcp: shows, makes and tests messages of the Video Disk Communications Protocol, checks playlists, and plays them over
-// a line that is run from a script.
+// vdcp: shows, makes and tests messages of the Video Disk Communications Protocol, checks playlists, and plays them: over
+// a line that is run from a script, and over TCP, of which it can be either end.
 #![tactic(auto)]
 
 ghost use Rattle.clap.specs.Matches.{first_value, found_of};
@@ -13,10 +13,11 @@ mod options;
 use clap::ArgMatches;
 use clap::error::ErrorKind;
 use std::fs::File;
-use std::io::{BufWriter, Write};
+use std::io::{BufWriter, IsTerminal, Write};
 use std::process::ExitCode;
 use std::{env, io};
 use vdcp_files::{Input, do_check, do_vectors};
+use vdcp_net::{Showing, do_run, do_serve};
 use vdcp_sim::do_sim;
 use vdcp_text::{Failure, do_make, do_show};
 
@@ -65,6 +66,8 @@ fn run_named<W: Write, E: Write>(
         "make" => Ok(run_make(words, out, err)),
         "check" => run_check(rt, words, out, err),
         "sim" => run_sim(rt, words, out, err),
+        "serve" => run_serve(rt, words, out, err),
+        "run" => run_run(rt, words, out, err),
         "vectors" => run_vectors(rt, words, out, err),
         // (`clap` lets no other words through)
         _ => Ok(2),
@@ -114,6 +117,39 @@ fn run_sim<'a, W: Write, E: Write>(
     let script = open(rt, words, "SCRIPT")?;
     let settings = options::settings_of(words);
     Ok(do_sim(rt.alloc(), list, catalogue, script, settings, out, err))
+}
+
+fn run_serve<'a, W: Write, E: Write>(
+    rt: &HostRuntime,
+    words: &'a ArgMatches<'_>,
+    out: &mut W,
+    err: &mut E,
+) -> Result<u8, Failure<'a>> {
+    let catalogue = open(rt, words, "CATALOGUE")?;
+    let address = words.get_str("ADDR").unwrap_or("");
+    let settings = options::serve_settings_of(words);
+    let log = words.get_flag("log").then_some(rt.stderr());
+    Ok(do_serve(rt, address, catalogue, settings, log, out, err))
+}
+
+fn run_run<'a, W: Write, E: Write>(
+    rt: &HostRuntime,
+    words: &'a ArgMatches<'_>,
+    out: &mut W,
+    err: &mut E,
+) -> Result<u8, Failure<'a>> {
+    let list = open(rt, words, "LIST")?;
+    let address = words.get_str("ADDR").unwrap_or("");
+    let settings = options::run_settings_of(words);
+    let terminal = rt.stderr();
+    let showing = if words.get_flag("log") {
+        Showing::Messages(terminal)
+    } else if terminal.is_terminal() {
+        Showing::Progress(terminal)
+    } else {
+        Showing::Nothing
+    };
+    Ok(do_run(rt, address, list, settings, showing, out, err))
 }
 
 fn run_vectors<'a, W: Write, E: Write>(

@@ -5,6 +5,7 @@ ghost use Rattle.vdcp_value.specs.declared.rate.Rate.{Rate};
 
 use clap::{Arg, ArgMatches, value_parser};
 use std::alloc::Global;
+use vdcp_net::{RunSettings, ServeSettings};
 use vdcp_sim::Settings;
 use vdcp_value::Rate;
 
@@ -54,6 +55,42 @@ pub const CUE_FRAMES: Number = Number {
     most: 1_000,
     default: "1",
     help: "A cue takes so many frames, 1 to 1000",
+};
+
+pub const SERVE_SILENCE: Number = Number {
+    name: "silence",
+    letter: "MS",
+    least: 1,
+    most: 60_000,
+    default: "20",
+    help: "A command has ended, and a frame has passed, when nothing came for so many milliseconds, 1 to 60000",
+};
+
+pub const RUN_SILENCE: Number = Number {
+    name: "silence",
+    letter: "MS",
+    least: 1,
+    most: 60_000,
+    default: "100",
+    help: "An answer has ended when nothing came for so many milliseconds, 1 to 60000; more than the server's",
+};
+
+pub const TURNS: Number = Number {
+    name: "turns",
+    letter: "N",
+    least: 1,
+    most: 4_294_967_295,
+    default: "4294967295",
+    help: "Ends after so many waits for bytes or for a silence",
+};
+
+pub const LISTENS: Number = Number {
+    name: "listens",
+    letter: "N",
+    least: 1,
+    most: 4_294_967_295,
+    default: "4294967295",
+    help: "Gives up after so many waits for bytes or for a silence",
 };
 
 /// The option, for the command line.
@@ -165,5 +202,55 @@ pub fn settings_of(words: &ArgMatches) -> Settings
         confirm: words.get_flag("confirm"),
         rate: rate_of(words),
         trace: words.get_flag("trace"),
+    }
+}
+
+/// What the words say of a channel that is served.
+pub fn serve_settings_of(words: &ArgMatches) -> ServeSettings
+    ensures unit { result.unit ≤ 15 }
+    ensures some_frames { 1 ≤ result.cue_frames }
+    ensures few_frames { result.cue_frames ≤ 1000 }
+    ensures some_silence { 1 ≤ result.silence }
+    ensures short_silence { result.silence ≤ 60000 }
+    ensures units { (n : ℕ) → GivesNumber (found_of words.now) (codes "unit") 0 15 n → result.unit ≡ n }
+    ensures ports { (n : ℕ) → GivesNumber (found_of words.now) (codes "port") 0 255 n → result.port ≡ n }
+    ensures frames { (n : ℕ) → GivesNumber (found_of words.now) (codes "cue-frames") 1 1000 n → result.cue_frames ≡ n }
+    ensures silences { (n : ℕ) → GivesNumber (found_of words.now) (codes "silence") 1 60000 n → result.silence ≡ n }
+    ensures turns { (n : ℕ) → GivesNumber (found_of words.now) (codes "turns") 1 4294967295 n → result.turns ≡ n }
+    ensures rates { (rate : Rate) → GivesRate (found_of words.now) (codes "rate") rate → result.rate ≡ rate }
+{
+    ServeSettings {
+        unit: unit_of(words),
+        port: port_of(words),
+        cue_frames: number_of(words, &CUE_FRAMES),
+        rate: rate_of(words),
+        silence: number_of(words, &SERVE_SILENCE),
+        turns: number_of(words, &TURNS),
+    }
+}
+
+/// What the words say of a list that is played.
+pub fn run_settings_of<'a>(words: &'a ArgMatches<'_>) -> RunSettings<'a>
+    ensures unit { result.unit ≤ 15 }
+    ensures some { 1 ≤ result.limit }
+    ensures few { result.limit ≤ 1000 }
+    ensures some_silence { 1 ≤ result.silence }
+    ensures short_silence { result.silence ≤ 60000 }
+    ensures units { (n : ℕ) → GivesNumber (found_of words.now) (codes "unit") 0 15 n → result.unit ≡ n }
+    ensures ports { (n : ℕ) → GivesNumber (found_of words.now) (codes "port") 0 255 n → result.port ≡ n }
+    ensures limits { (n : ℕ) → GivesNumber (found_of words.now) (codes "limit") 1 1000 n → result.limit ≡ n }
+    ensures silences { (n : ℕ) → GivesNumber (found_of words.now) (codes "silence") 1 60000 n → result.silence ≡ n }
+    ensures listens { (n : ℕ) → GivesNumber (found_of words.now) (codes "listens") 1 4294967295 n → result.listens ≡ n }
+    ensures rates { (rate : Rate) → GivesRate (found_of words.now) (codes "rate") rate → result.rate ≡ rate }
+{
+    RunSettings {
+        unit: unit_of(words),
+        port: port_of(words),
+        limit: number_of(words, &LIMIT),
+        confirm: words.get_flag("confirm"),
+        rate: rate_of(words),
+        silence: number_of(words, &RUN_SILENCE),
+        listens: number_of(words, &LISTENS),
+        asrun: words.get_str("asrun"),
     }
 }
