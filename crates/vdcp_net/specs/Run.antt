@@ -12,8 +12,9 @@ use Rattle.vdcp_text.specs.Failure.{failure_line, status_of}
 use Rattle.vdcp_text.specs.Text.{line}
 use Rattle.vdcp_text.specs.declared.failure.Failure.{Failure}
 use Rattle.vdcp_text.specs.declared.failure.Failure.TheVariants as failures
-use Rattle.vdcp_files.specs.Check.{IsListOf, RefusesList}
-use Rattle.vdcp_files.specs.Files.{File}
+use Rattle.vdcp_files.specs.Check.{RefusesList}
+use Rattle.vdcp_files.specs.Files.{File, bytes_of}
+use Rattle.vdcp_list.specs.Playlists.{IsListOf}
 use Rattle.vdcp_files.specs.Outcome.{outcome_text}
 use Rattle.vdcp_drive.specs.Lines.{AllListened, AtMostListened}
 use Rattle.vdcp_drive.specs.Wires.{Arrival, has_closed}
@@ -103,7 +104,7 @@ run_status end = status_unless end.unwritten (status_unless (line_failure end.li
 
 -- the file is a playlist
 abbrev pub IsWholeList : Rate → File → Type 0
-IsWholeList rate list = (items : List Item) × IsListOf rate list items
+IsWholeList rate list = (items : List Item) × IsListOf rate (bytes_of list) items
 
 -- the file is a playlist, and a run of it ended: a writer gained the lines of that, and this is the status
 pub record IsRun (rate : Rate) (list : File) (out out' : Option (List ℕ)) (status : ℕ) : Type 0 where

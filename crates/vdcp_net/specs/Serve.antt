@@ -7,8 +7,9 @@ use Rattle.vdcp_drive.specs.Lines.{ServesTo}
 use Rattle.vdcp_drive.specs.Wires.{IfTold, Told}
 use Rattle.vdcp_drive.specs.declared.line.Ran.{Ran}
 use Rattle.vdcp_drive.specs.declared.line.Ran.TheVariants as ran
-use Rattle.vdcp_files.specs.Check.{IsCatalogueOf, RefusesCatalogue}
-use Rattle.vdcp_files.specs.Files.{File}
+use Rattle.vdcp_files.specs.Check.{RefusesCatalogue}
+use Rattle.vdcp_files.specs.Files.{File, bytes_of}
+use Rattle.vdcp_list.specs.Catalogues.{IsCatalogueOf}
 use Rattle.vdcp_net.specs.Address.{IsAddress}
 use Rattle.vdcp_text.specs.Failure.{failure_line, status_of}
 use Rattle.vdcp_text.specs.Text.{line}
@@ -37,7 +38,7 @@ pub record EndsAs (turns : ℕ) (told told' : Option Told) (out out' : Option (L
 
 -- the file is a catalogue
 abbrev pub IsWhole : Rate → File → Type 0
-IsWhole rate catalogue = (clips : List (ClipId × Timecode)) × IsCatalogueOf rate catalogue clips
+IsWhole rate catalogue = (clips : List (ClipId × Timecode)) × IsCatalogueOf rate (bytes_of catalogue) clips
 
 -- a writer gained the line of an address that was listened at
 abbrev pub TellsListening : Option (List ℕ) → Option (List ℕ) → Type 0
