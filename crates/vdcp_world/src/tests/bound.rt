@@ -8,7 +8,7 @@ use super::clips::{Clips, ONE, Shelf, TWO};
 use crate::event::Event;
 use crate::script::read_script;
 use crate::world::World;
-use std::alloc::{AllocError, Allocator};
+use std::alloc::{AllocError, Allocator, Global};
 use std::test::Fail;
 use vdcp_auto::{Outcome, Source};
 use vdcp_port::Catalogue;
@@ -27,10 +27,38 @@ fn played<S: Source, C: Catalogue, A: Allocator + Copy>(
     Ok((world.reported(), world.outcome()))
 }
 
-/// What happens first in a world of two clips, and how many good rounds it takes from there.
-const ROWS: [(&str, &str, &str); 8] = [
+/// How many events are reported behind a script and another one, and how the controller ended.
+fn reported_behind(
+    alloc: Global,
+    mut world: World<Clips, Shelf, Global>,
+    first: &str,
+    then: &str,
+) -> Result<(usize, Option<Outcome>), Fail> {
+    let first = read_script(alloc, first)?;
+    let then = read_script(alloc, then)?;
+    let _ = played(&mut world, first.as_slice())?;
+    Ok(played(&mut world, then.as_slice())?)
+}
+
+/// A new world in plain mode.
+fn plain(alloc: Global, clips: Clips) -> Result<World<Clips, Shelf, Global>, Fail> {
+    Ok(World::new(alloc, clips, Shelf::two_clips()?, 0, 0x01, 3))
+}
+
+/// A new world in confirm mode.
+fn confirming(alloc: Global, clips: Clips) -> Result<World<Clips, Shelf, Global>, Fail> {
+    Ok(World::confirming(alloc, clips, Shelf::two_clips()?, 0, 0x01, 3, 1))
+}
+
+/// What happens first in a world of two clips in plain mode, how many good rounds bring its playlist to air
+/// from there, and one fewer: from each phase, with a take wished for, and where a PLAY or its answer was
+/// lost.
+const PLACES: [(&str, &str, &str); 13] = [
     ("", "good 14\n", "good 13\n"),
     ("good 1\n", "good 13\n", "good 12\n"),
+    ("good 2\n", "good 12\n", "good 11\n"),
+    ("good 3\n", "good 11\n", "good 10\n"),
+    ("good 4\n", "good 10\n", "good 9\n"),
     ("good 5\n", "good 9\n", "good 8\n"),
     (
         "good 5\ntick\nlose-down\ntimeout\n",
@@ -43,6 +71,7 @@ const ROWS: [(&str, &str, &str); 8] = [
         "good 8\n",
     ),
     ("good 6\n", "good 8\n", "good 7\n"),
+    ("good 8\ntake\nround\n", "good 5\n", "good 4\n"),
     (
         "good 10\ntick\ndown\nlose-up\ntimeout\n",
         "good 4\n",
@@ -53,37 +82,67 @@ const ROWS: [(&str, &str, &str); 8] = [
         "good 2\n",
         "good 1\n",
     ),
+    ("good 13\n", "good 1\n", ""),
 ];
 
 #[test]
 fn one_good_round_fewer_is_not_enough(rt: HostRuntime) -> Result<(), Fail> {
-    for (first, enough, few) in &ROWS {
-        let first = read_script(rt.alloc(), first)?;
-        let enough = read_script(rt.alloc(), enough)?;
-        let few = read_script(rt.alloc(), few)?;
-        let mut world = World::new(
-            rt.alloc(),
-            Clips::two(ONE, TWO),
-            Shelf::two_clips()?,
+    let alloc = rt.alloc();
+    for (first, enough, few) in &PLACES {
+        let two = Clips::two(ONE, TWO);
+        let (reported, outcome) = reported_behind(alloc, plain(alloc, two)?, first, enough)?;
+        assert_eq!(rt; reported, 2, "{first}");
+        assert_eq!(rt; outcome, Some(Outcome::Done), "{first}");
+        let (_, outcome) = reported_behind(alloc, plain(alloc, two)?, first, few)?;
+        assert_eq!(rt; outcome, None, "{first}");
+    }
+    Ok(())
+}
+
+#[test]
+fn new_worlds_of_each_length(rt: HostRuntime) -> Result<(), Fail> {
+    let alloc = rt.alloc();
+    for (clips, events, enough, few, enough_to_confirm, few_to_confirm) in [
+        (
+            Clips::none(),
             0,
-            0x01,
-            3,
-        );
-        let _ = played(&mut world, first.as_slice())?;
-        let (reported, outcome) = played(&mut world, enough.as_slice())?;
-        assert_eq!(rt; reported, 2);
-        assert_eq!(rt; outcome, Some(Outcome::Done));
-        let mut world = World::new(
-            rt.alloc(),
+            "good 4\n",
+            "good 3\n",
+            "good 6\n",
+            "good 5\n",
+        ),
+        (
+            Clips::one(ONE),
+            1,
+            "good 9\n",
+            "good 8\n",
+            "good 12\n",
+            "good 11\n",
+        ),
+        (
             Clips::two(ONE, TWO),
-            Shelf::two_clips()?,
-            0,
-            0x01,
-            3,
+            2,
+            "good 14\n",
+            "good 13\n",
+            "good 18\n",
+            "good 17\n",
+        ),
+    ] {
+        let done = (events, Some(Outcome::Done));
+        assert_eq!(rt;
+            reported_behind(alloc, plain(alloc, clips)?, "", enough)?,
+            done,
+            "{events}"
         );
-        let _ = played(&mut world, first.as_slice())?;
-        let (_, outcome) = played(&mut world, few.as_slice())?;
-        assert_eq!(rt; outcome, None);
+        assert_eq!(rt;
+            reported_behind(alloc, plain(alloc, clips)?, "", few)?.1,
+            None,
+            "{events}"
+        );
+        let confirmed = reported_behind(alloc, confirming(alloc, clips)?, "", enough_to_confirm)?;
+        assert_eq!(rt; confirmed, done, "{events}");
+        let unconfirmed = reported_behind(alloc, confirming(alloc, clips)?, "", few_to_confirm)?;
+        assert_eq!(rt; unconfirmed.1, None, "{events}");
     }
     Ok(())
 }
