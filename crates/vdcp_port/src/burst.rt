@@ -5,7 +5,7 @@ ghost use Rattle.std.specs.Vec.{vec_capacity, vec_len};
 ghost use Rattle.vdcp_frame.specs.Burst.{end_of, messages_of};
 ghost use Rattle.vdcp_frame.specs.Message.{content_of};
 ghost use Rattle.vdcp_frame.specs.Reading.{Reads};
-ghost use Rattle.vdcp_port.specs.Answers.{bytes_at_end, reply_at_end, reply_bytes};
+ghost use Rattle.vdcp_port.specs.Answers.{bytes_at_end, most_aired, most_sent, reply_at_end, reply_bytes};
 ghost use Rattle.vdcp_words.specs.Replies.{IsWritableReply};
 
 use crate::catalogue::Catalogue;
@@ -34,7 +34,7 @@ pub fn reply_at_end(ended: Ended) -> Option<Reply>
 
 impl<C: Catalogue> Port<C> {
     ghost use Rattle.vdcp_port.specs.Clock.{after_message, aired_by};
-    ghost use Rattle.vdcp_port.specs.Answers.{bytes_for, sent_for, aired_for, after_burst, most_sent, most_aired, HasAnsweredAll};
+    ghost use Rattle.vdcp_port.specs.Answers.{bytes_for, sent_for, aired_for, after_burst, HasAnsweredAll};
 
     /// Takes a whole burst. Appends the bytes of all answers to `out`, in order, and then a NAK where the
     /// burst has a fault or ends inside a message; and the item that goes to air on the way, if one does,
@@ -59,11 +59,9 @@ impl<C: Catalogue> Port<C> {
         ensures succeeds { vec_len out.old + most_sent burst.now ≤ vec_capacity out.old →
             vec_len aired.old + most_aired burst.now ≤ vec_capacity aired.old → IsOk result }
     {
-        out.reserve(3 * burst.len().min(LIMIT) + 2)?;
-        aired.reserve((burst.len() / 5).min(1))?;
-        if let Some(item) = self.answer_all(burst, out) {
-            aired.push_reserved(item);
-        }
+        make_room(burst, out, aired)?;
+        let item = self.answer_all(burst, out);
+        tell(item, aired);
         Ok(())
     }
 
@@ -139,6 +137,33 @@ impl<C: Catalogue> Port<C> {
             append_reply(&reply, unit, out);
         }
         item
+    }
+}
+
+// Makes room for what a burst is answered with at most.
+fn make_room<A: Allocator, B: Allocator>(
+    burst: &[u8],
+    out: &mut Vec<u8, A>,
+    aired: &mut Vec<Item, B>,
+) -> Result<(), AllocError>
+    ensures sent { out.new.items ≡ out.old.items }
+    ensures aired { aired.new.items ≡ aired.old.items }
+    ensures made { OnOk result ((vec_len out.new + most_sent burst.now ≤ vec_capacity out.new)
+        × (vec_len aired.new + most_aired burst.now ≤ vec_capacity aired.new)) }
+    ensures succeeds { vec_len out.old + most_sent burst.now ≤ vec_capacity out.old →
+        vec_len aired.old + most_aired burst.now ≤ vec_capacity aired.old → IsOk result }
+{
+    out.reserve(3 * burst.len().min(LIMIT) + 2)?;
+    aired.reserve((burst.len() / 5).min(1))
+}
+
+// Appends the item that goes to air, if one does, where there is room.
+fn tell<B: Allocator>(item: Option<Item>, aired: &mut Vec<Item, B>)
+    requires { vec_len aired.old + length (option_to_list item) ≤ vec_capacity aired.old }
+    ensures { aired.new.items ≡ aired.old.items ++ option_to_list item }
+{
+    if let Some(item) = item {
+        aired.push_reserved(item);
     }
 }
 

@@ -1,5 +1,5 @@
 -- Channels that events have led to, and what they keep of a channel.
-use Rattle.std.proofs.Common.{ℕ, ◌+◌, ◌≡◌, ◌<◌, ◌≤◌, Bool, true, false, All, List, [], ◌∷◌, ◌++◌, length, take, get_or, refl, sym, ap, subst, arith, ◌∙◌, if◌then◌else◌}
+use Rattle.std.proofs.Common.{ℕ, ◌+◌, ◌≡◌, ◌<◌, ◌≤◌, Bool, true, false, All, List, [], ◌∷◌, ◌++◌, length, take, drop, take-append-drop, append_assoc, get_or, refl, sym, ap, subst, arith, ◌∙◌, if◌then◌else◌}
 use Rattle.std.proofs.Math.Seq.{take-length}
 use Rattle.std.proofs.lemmas.List.{take_more}
 use Rattle.std.specs.Prelude.{Result, Ok, Err, OnOk, OnErr}
@@ -12,7 +12,7 @@ use Rattle.vdcp_port.specs.Answers.{after_messages}
 use Rattle.vdcp_port.specs.Clock.{ClockedPort, after_message, after_change, after_ready, after_ended, after_frame, counted_down, completes_cue, ends_clip, row_at}
 use Rattle.vdcp_port.specs.Row.{Change, keeps, opens, closes, selects, cues, airs, stops}
 use Rattle.vdcp_auto.specs.Plan.{Plan}
-use Rattle.vdcp_world.specs.Channel.{Channel, Make, make_of, new_channel, after_event, after_events, IsReached}
+use Rattle.vdcp_world.specs.Channel.{Channel, Make, make_of, new_channel, after_event, after_events, IsReached, HappenInPart}
 use Rattle.vdcp_world.specs.declared.event.Event.{Event}
 use Rattle.vdcp_world.specs.declared.event.Event.TheVariants as event
 
@@ -69,6 +69,24 @@ pub one_more : (c : Channel) (es : List Event) (i : ℕ) (e : Event) → i < len
 one_more c es i e below is =
     let taken : take (i + 1) es ≡ take i es ++ e ∷ [] = take_more es i e below ∙ ap (λ x. take i es ++ x ∷ []) (sym is) in
     ap (after_events c) taken ∙ after_all c (take i es) (e ∷ [])
+
+-- the events before one of a list, it, and those behind it
+split_at_event : (es : List Event) (i : ℕ) (e : Event) → i < length es → e ≡ get_or es i e → es ≡ take i es ++ e ∷ drop (i + 1) es
+split_at_event es i e below is =
+    let taken : take (i + 1) es ≡ take i es ++ e ∷ [] = take_more es i e below ∙ ap (λ x. take i es ++ x ∷ []) (sym is) in
+    sym (take-append-drop (i + 1) es) ∙ ap (λ front. front ++ drop (i + 1) es) taken ∙ append_assoc (take i es) (e ∷ []) (drop (i + 1) es)
+
+-- an error behind some events of a list
+pub in_part : {A E : Type 0} (result : Result A E) (old now : Channel) (es : List Event) (i : ℕ) (e : Event) → i < length es → e ≡ get_or es i e
+    → now ≡ after_events old (take i es) → OnErr result (HappenInPart es old now)
+in_part (Ok a) old now es i e below is happened = tt
+in_part (Err x) old now es i e below is happened = record {
+  done = take i es;
+  refused = e;
+  left = drop (i + 1) es;
+  in_order = split_at_event es i e below is;
+  happened = happened;
+}
 
 -- all events of a list
 pub all_happened : (c now : Channel) (es : List Event) (i : ℕ) → length es ≤ i → i ≤ length es → now ≡ after_events c (take i es) → now ≡ after_events c es

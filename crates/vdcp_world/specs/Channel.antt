@@ -177,6 +177,14 @@ abbrev pub after_events : Channel → List Event → Channel
 after_events c [] = c
 after_events c (event ∷ events) = after_events (after_event c event) events
 
+-- the events up to one of them have happened, and it hasn't, nor have those behind it
+pub record HappenInPart (events : List Event) (old now : Channel) : Type 0 where
+  pub done : List Event
+  pub refused : Event
+  pub left : List Event
+  pub in_order : events ≡ done ++ refused ∷ left
+  pub happened : now ≡ after_events old done
+
 -- what a channel was made with, the unit and the clock among it
 pub record Make : Type 0 where
   pub plan : Plan

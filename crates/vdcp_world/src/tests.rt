@@ -1,3 +1,4 @@
+mod bound;
 mod clips;
 mod headline;
 mod memory;

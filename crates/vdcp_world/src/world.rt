@@ -5,7 +5,7 @@ ghost use Rattle.vdcp_auto.specs.Turn.{outcome_of};
 ghost use Rattle.vdcp_value.specs.declared.part.Item.{Item};
 ghost use Rattle.vdcp_auto.specs.declared.phase.Mode.TheVariants.{Plain, Confirming};
 ghost use Rattle.vdcp_world.specs.declared.event.Event.{Event};
-ghost use Rattle.vdcp_world.specs.Channel.{new_channel, after_event, after_events, make_of};
+ghost use Rattle.vdcp_world.specs.Channel.{new_channel, after_event, after_events, make_of, HappenInPart};
 ghost use Rattle.vdcp_world.specs.Headline.{Headline, Means};
 ghost use Rattle.vdcp_world.specs.Rounds.{good_round, times};
 ghost use Rattle.vdcp_world.specs.BoundedEnd.{IsDone, CanGoOn, CanBegin, rounds_to_go_on, rounds_from_new};
@@ -135,7 +135,7 @@ impl<S: Source, C: Catalogue, A: Allocator + Copy> World<S, C, A> {
     }
 
     /// The events happen, in order, up to the first for which memory is refused: the answer is then
-    /// `AllocError`, and those before it have happened.
+    /// `AllocError`; those before it have happened, and it hasn't, nor have those behind it.
     ///
     /// A good round is the events `Timeout`, `Ready`, `End`, `Tick`, `Down`, `Up`. Where each item of the
     /// playlist is in the catalogue, and each part fits its clip, a run of so many good rounds that answers
@@ -146,7 +146,7 @@ impl<S: Source, C: Catalogue, A: Allocator + Copy> World<S, C, A> {
     /// - in confirm mode (`confirming_end`), of a new world: six for each event, and six, or more.
     pub fn run(&mut self, events: &[Event]) -> Result<(), AllocError>
         ensures run { OnOk result (self.new ≡ after_events self.old events.now) }
-        ensures front { (done left : List Event) × (events.now ≡ done ++ left) × (self.new ≡ after_events self.old done) }
+        ensures front { OnErr result (HappenInPart events.now self.old self.new) }
         ensures make { make_of self.new ≡ make_of self.old }
         ensures headline { Headline self.new }
         ensures plain_end { (n : ℕ) → events.now ≡ times n good_round → CanGoOn self.old → rounds_to_go_on self.old ≤ n →

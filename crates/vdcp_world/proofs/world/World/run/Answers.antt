@@ -1,13 +1,13 @@
-use Rattle.std.proofs.Common.{take, drop, sym, ap, subst, ◌∙◌, take-append-drop, arith}
+use Rattle.std.proofs.Common.{take, sym, ap, subst, ◌∙◌, arith}
 use Rattle.vdcp_world.specs.BoundedEnd.{IsDone}
 use Rattle.vdcp_world.specs.Channel.{IsReached, after_event, after_events, make_of}
-use Rattle.vdcp_world.proofs.Reached.{one_more, all_happened, make_after_all, events_reached}
+use Rattle.vdcp_world.proofs.Reached.{one_more, in_part, all_happened, make_after_all, events_reached}
 use Rattle.vdcp_world.proofs.world.World.run.Goals as goal
 
 pub returns-in_err-step-clause-front : goal.returns-in_err-step-clause-front
 returns-in_err-step-clause-front g c =
-    let i = c.loop-event.event-index in
-    (take i c.args.events.now, drop i c.args.events.now, sym (take-append-drop i c.args.events.now), c.in_err-step.ensures.refused ∙ c.loop-event.invariant)
+    in_part c.from_residual.result c.args.self.now _ c.args.events.now c.loop-event.event-index c.event-item.result
+    (omega (arith, c.loop-event-test.true)) c.event-item.is (c.in_err-step.ensures.refused ∙ c.loop-event.invariant)
 
 pub loop-event-preserved : goal.loop-event-preserved
 loop-event-preserved g c =
