@@ -4,6 +4,13 @@ use Rattle.vdcp_sim.proofs.Numbered.{kept}
 use Rattle.vdcp_sim.proofs.sim.simulate.Goals as goal
 use Rattle.vdcp_list.specs.List.{items_of}
 
+pub returns-in-Err-clause-refused : goal.returns-in-Err-clause-refused
+returns-in-Err-clause-refused g c =
+    inr (inl (
+      inl (c.in-Err.fault, c.file_failure.ensures, c.in-Err.ensures.refused),
+      kept (g.W.Write.contents c.args.out.now),
+    ))
+
 pub returns-in-Err-read_catalogue-clause-refused : goal.returns-in-Err-read_catalogue-clause-refused
 returns-in-Err-read_catalogue-clause-refused g c =
     inr (inl (

@@ -1,4 +1,4 @@
-use Rattle.std.proofs.Common.{ℕ, ◌+◌, ◌<◌, length, refl, arith}
+use Rattle.std.proofs.Common.{◌<◌, length, refl, arith}
 use Rattle.std.proofs.lemmas.Option.{slice_get_read}
 use Rattle.vdcp_sim.proofs.Numbered.{appends_next}
 use Rattle.vdcp_sim.proofs.sim.write_aired.Goals as goal
