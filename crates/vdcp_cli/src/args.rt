@@ -28,7 +28,7 @@ fn show<'a>(alloc: Global) -> Result<Command<'a>, AllocError> {
         .about("Shows a burst: its messages, and how it ends")
         .after_help("Example: vdcp show 02021001ef --words")
         .arg(required(alloc, "HEX", "The burst's bytes in hexadecimal digits"))?
-        .arg(words(alloc))
+        .arg(meanings(alloc))
 }
 
 fn make<'a>(alloc: Global) -> Result<Command<'a>, AllocError> {
@@ -88,7 +88,7 @@ fn catalogue<'a>(alloc: Global) -> Arg<'a> {
     required(alloc, "CATALOGUE", "The catalogue's file")
 }
 
-fn words<'a>(alloc: Global) -> Arg<'a> {
+fn meanings<'a>(alloc: Global) -> Arg<'a> {
     Arg::new(alloc, "words")
         .long("words")
         .action(ArgAction::SetTrue)
