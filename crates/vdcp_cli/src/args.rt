@@ -37,7 +37,7 @@ fn show<'a>(alloc: Global) -> Result<Command<'a>, AllocError> {
         .about("Shows a burst: its messages, and how it ends")
         .after_help("Example: vdcp show 02021001ef --words")
         .arg(required(alloc, "HEX", "The burst's bytes in hexadecimal digits"))?
-        .arg(words(alloc))
+        .arg(meanings(alloc))
 }
 
 fn make<'a>(alloc: Global) -> Result<Command<'a>, AllocError> {
@@ -133,7 +133,7 @@ fn address<'a>(alloc: Global, help: &'a str) -> Arg<'a> {
     required(alloc, "ADDR", help)
 }
 
-fn words<'a>(alloc: Global) -> Arg<'a> {
+fn meanings<'a>(alloc: Global) -> Arg<'a> {
     Arg::new(alloc, "words")
         .long("words")
         .action(ArgAction::SetTrue)

@@ -29,15 +29,15 @@ fn main(rt: HostRuntime) -> ExitCode {
     ExitCode::from(status)
 }
 
-// Reads the words of the command line and runs what they ask for.
+// Reads the arguments of the command line and runs what they ask for.
 fn run(rt: &HostRuntime) -> Result<u8, Failure<'static>> {
     let alloc = rt.alloc();
-    let words: Vec<String> = match env::args(rt) {
-        Ok(words) => words.collect(alloc)?,
+    let arguments: Vec<String> = match env::args(rt) {
+        Ok(arguments) => arguments.collect(alloc)?,
         Err(error) if error.kind() == io::ErrorKind::OutOfMemory => return Err(Failure::Memory),
         Err(_) => return Err(Failure::Text),
     };
-    let matches = match args::command(alloc)?.try_get_matches_from(words.as_slice()) {
+    let matches = match args::command(alloc)?.try_get_matches_from(arguments.as_slice()) {
         Ok(matches) => matches,
         Err(error) => return shown(rt, &error),
     };
@@ -45,7 +45,7 @@ fn run(rt: &HostRuntime) -> Result<u8, Failure<'static>> {
         return Err(Failure::Memory);
     };
     let status = match matches.subcommand() {
-        Some((name, words)) => run_named(rt, name, words, &mut out, &mut rt.stderr()),
+        Some((name, matches)) => run_named(rt, name, matches, &mut out, &mut rt.stderr()),
         None => 2,
     };
     // Nothing more is written: dropped, the buffer would try again what a failed write has left in it.
@@ -57,19 +57,19 @@ fn run(rt: &HostRuntime) -> Result<u8, Failure<'static>> {
 fn run_named<W: Write, E: Write>(
     rt: &HostRuntime,
     name: &str,
-    words: &ArgMatches<'_>,
+    matches: &ArgMatches<'_>,
     out: &mut W,
     err: &mut E,
 ) -> u8 {
     let done = match name {
-        "show" => Ok(run_show(rt, words, out, err)),
-        "make" => Ok(run_make(words, out, err)),
-        "check" => run_check(rt, words, out, err),
-        "sim" => run_sim(rt, words, out, err),
-        "serve" => run_serve(rt, words, out, err),
-        "run" => run_run(rt, words, out, err),
-        "vectors" => run_vectors(rt, words, out, err),
-        // (`clap` lets no other words through)
+        "show" => Ok(run_show(rt, matches, out, err)),
+        "make" => Ok(run_make(matches, out, err)),
+        "check" => run_check(rt, matches, out, err),
+        "sim" => run_sim(rt, matches, out, err),
+        "serve" => run_serve(rt, matches, out, err),
+        "run" => run_run(rt, matches, out, err),
+        "vectors" => run_vectors(rt, matches, out, err),
+        // (`clap` lets no other name through)
         _ => Ok(2),
     };
     match done {
@@ -80,69 +80,69 @@ fn run_named<W: Write, E: Write>(
 
 fn run_show<W: Write, E: Write>(
     rt: &HostRuntime,
-    words: &ArgMatches<'_>,
+    matches: &ArgMatches<'_>,
     out: &mut W,
     err: &mut E,
 ) -> u8 {
-    let hex = words.get_str("HEX").unwrap_or("");
-    do_show(rt.alloc(), hex, words.get_flag("words"), out, err)
+    let hex = matches.get_str("HEX").unwrap_or("");
+    do_show(rt.alloc(), hex, matches.get_flag("words"), out, err)
 }
 
-fn run_make<W: Write, E: Write>(words: &ArgMatches<'_>, out: &mut W, err: &mut E) -> u8 {
-    let word = words.get_str("COMMAND").unwrap_or("");
-    let arguments = words.get_strs("ARG").unwrap_or(&[]);
-    do_make(word, arguments, options::unit_of(words), out, err)
+fn run_make<W: Write, E: Write>(matches: &ArgMatches<'_>, out: &mut W, err: &mut E) -> u8 {
+    let name = matches.get_str("COMMAND").unwrap_or("");
+    let arguments = matches.get_strs("ARG").unwrap_or(&[]);
+    do_make(name, arguments, options::unit_of(matches), out, err)
 }
 
 fn run_check<'a, W: Write, E: Write>(
     rt: &HostRuntime,
-    words: &'a ArgMatches<'_>,
+    matches: &'a ArgMatches<'_>,
     out: &mut W,
     err: &mut E,
 ) -> Result<u8, Failure<'a>> {
-    let list = open(rt, words, "LIST")?;
-    let catalogue = open(rt, words, "CATALOGUE")?;
-    let rate = options::rate_of(words);
+    let list = open(rt, matches, "LIST")?;
+    let catalogue = open(rt, matches, "CATALOGUE")?;
+    let rate = options::rate_of(matches);
     Ok(do_check(rt.alloc(), list, catalogue, rate, out, err))
 }
 
 fn run_sim<'a, W: Write, E: Write>(
     rt: &HostRuntime,
-    words: &'a ArgMatches<'_>,
+    matches: &'a ArgMatches<'_>,
     out: &mut W,
     err: &mut E,
 ) -> Result<u8, Failure<'a>> {
-    let list = open(rt, words, "LIST")?;
-    let catalogue = open(rt, words, "CATALOGUE")?;
-    let script = open(rt, words, "SCRIPT")?;
-    let settings = options::settings_of(words);
+    let list = open(rt, matches, "LIST")?;
+    let catalogue = open(rt, matches, "CATALOGUE")?;
+    let script = open(rt, matches, "SCRIPT")?;
+    let settings = options::settings_of(matches);
     Ok(do_sim(rt.alloc(), list, catalogue, script, settings, out, err))
 }
 
 fn run_serve<'a, W: Write, E: Write>(
     rt: &HostRuntime,
-    words: &'a ArgMatches<'_>,
+    matches: &'a ArgMatches<'_>,
     out: &mut W,
     err: &mut E,
 ) -> Result<u8, Failure<'a>> {
-    let catalogue = open(rt, words, "CATALOGUE")?;
-    let address = words.get_str("ADDR").unwrap_or("");
-    let settings = options::serve_settings_of(words);
-    let log = words.get_flag("log").then_some(rt.stderr());
+    let catalogue = open(rt, matches, "CATALOGUE")?;
+    let address = matches.get_str("ADDR").unwrap_or("");
+    let settings = options::serve_settings_of(matches);
+    let log = matches.get_flag("log").then_some(rt.stderr());
     Ok(do_serve(rt, address, catalogue, settings, log, out, err))
 }
 
 fn run_run<'a, W: Write, E: Write>(
     rt: &HostRuntime,
-    words: &'a ArgMatches<'_>,
+    matches: &'a ArgMatches<'_>,
     out: &mut W,
     err: &mut E,
 ) -> Result<u8, Failure<'a>> {
-    let list = open(rt, words, "LIST")?;
-    let address = words.get_str("ADDR").unwrap_or("");
-    let settings = options::run_settings_of(words);
+    let list = open(rt, matches, "LIST")?;
+    let address = matches.get_str("ADDR").unwrap_or("");
+    let settings = options::run_settings_of(matches);
     let terminal = rt.stderr();
-    let showing = if words.get_flag("log") {
+    let showing = if matches.get_flag("log") {
         Showing::Messages(terminal)
     } else if terminal.is_terminal() {
         Showing::Progress(terminal)
@@ -154,25 +154,25 @@ fn run_run<'a, W: Write, E: Write>(
 
 fn run_vectors<'a, W: Write, E: Write>(
     rt: &HostRuntime,
-    words: &'a ArgMatches<'_>,
+    matches: &'a ArgMatches<'_>,
     out: &mut W,
     err: &mut E,
 ) -> Result<u8, Failure<'a>> {
-    let file = open(rt, words, "FILE")?;
+    let file = open(rt, matches, "FILE")?;
     Ok(do_vectors(rt.alloc(), file, out, err))
 }
 
-// Opens the file that the word of this name says.
+// Opens the file that the argument of this name says.
 fn open<'a>(
     rt: &HostRuntime,
-    words: &'a ArgMatches<'_>,
-    word: &str,
+    matches: &'a ArgMatches<'_>,
+    argument: &str,
 ) -> Result<Input<'a, File>, Failure<'a>>
-    ensures named { (name : List ℕ) → first_value (found_of words.now) word.now ≡ Some name → IfOk result (λ input. input.name.now ≡ name) }
-    ensures faults { (name : List ℕ) → first_value (found_of words.now) word.now ≡ Some name
+    ensures named { (name : List ℕ) → first_value (found_of matches.now) argument.now ≡ Some name → IfOk result (λ input. input.name.now ≡ name) }
+    ensures faults { (name : List ℕ) → first_value (found_of matches.now) argument.now ≡ Some name
         → IfErr result (λ failure. (failure ≡ Failure.Memory) ⊎ (failure_text failure ≡ name ++ codes ": cannot open")) }
 {
-    let name = words.get_str(word).unwrap_or("");
+    let name = matches.get_str(argument).unwrap_or("");
     match File::open(rt, name) {
         Ok(reader) => Ok(Input { name, reader }),
         Err(error) if error.kind() == io::ErrorKind::OutOfMemory => Err(Failure::Memory),
@@ -180,7 +180,7 @@ fn open<'a>(
     }
 }
 
-// Prints what `clap` says of the words: help, or why it refuses them.
+// Prints what `clap` says of the arguments: help, the version, or why it refuses them.
 fn shown(rt: &HostRuntime, error: &clap::Error) -> Result<u8, Failure<'static>> {
     if error.kind() == ErrorKind::OutOfMemory {
         return Err(Failure::Memory);

@@ -16,7 +16,7 @@ pub struct Number {
     pub letter: &'static str,
     pub least: u32,
     pub most: u32,
-    /// The number where the option is left out, as a word.
+    /// The number where the option is left out, as text.
     pub default: &'static str,
     pub help: &'static str,
 }
@@ -114,55 +114,55 @@ pub fn rate_option<'a>(alloc: Global) -> Arg<'a> {
         .help("The frame rate of time codes; 30df is drop frame")
 }
 
-/// The number that the option's word writes; `clap` lets no word through that writes none in the
+/// The number that the option's text writes; `clap` lets no text through that writes none in the
 /// range, and gives the default where the option is left out.
-pub fn number_of(words: &ArgMatches, option: &Number) -> u32
+pub fn number_of(matches: &ArgMatches, option: &Number) -> u32
     requires { option.now.least ≤ option.now.most }
     ensures least { option.now.least ≤ result }
     ensures most { result ≤ option.now.most }
-    ensures number { (n : ℕ) → GivesNumber (found_of words.now) option.now.name.now option.now.least option.now.most n
+    ensures number { (n : ℕ) → GivesNumber (found_of matches.now) option.now.name.now option.now.least option.now.most n
         → result ≡ n }
 {
-    match words.get_str(option.name) {
-        Some(word) => number_in(word, option.least, option.most),
+    match matches.get_str(option.name) {
+        Some(text) => number_in(text, option.least, option.most),
         None => option.least,
     }
 }
 
-// The number that the word writes, where that is in the range.
-fn number_in(word: &str, least: u32, most: u32) -> u32
+// The number that the text writes, where that is in the range.
+fn number_in(text: &str, least: u32, most: u32) -> u32
     requires { least ≤ most }
     ensures least { least ≤ result }
     ensures most { result ≤ most }
-    ensures number { (n : ℕ) → WritesNumber word.now n → least ≤ n → n ≤ most → result ≡ n }
+    ensures number { (n : ℕ) → WritesNumber text.now n → least ≤ n → n ≤ most → result ≡ n }
 {
-    match word.parse::<u32>() {
+    match text.parse::<u32>() {
         Ok(number) => number.clamp(least, most),
         Err(_) => least,
     }
 }
 
 /// The unit address.
-pub fn unit_of(words: &ArgMatches) -> u8
+pub fn unit_of(matches: &ArgMatches) -> u8
     ensures most { result ≤ 15 }
-    ensures number { (n : ℕ) → GivesNumber (found_of words.now) (codes "unit") 0 15 n → result ≡ n }
+    ensures number { (n : ℕ) → GivesNumber (found_of matches.now) (codes "unit") 0 15 n → result ≡ n }
 {
-    number_of(words, &UNIT) as u8
+    number_of(matches, &UNIT) as u8
 }
 
 /// The port's number.
-pub fn port_of(words: &ArgMatches) -> u8
-    ensures { (n : ℕ) → GivesNumber (found_of words.now) (codes "port") 0 255 n → result ≡ n }
+pub fn port_of(matches: &ArgMatches) -> u8
+    ensures { (n : ℕ) → GivesNumber (found_of matches.now) (codes "port") 0 255 n → result ≡ n }
 {
-    number_of(words, &PORT) as u8
+    number_of(matches, &PORT) as u8
 }
 
-/// The frame rate; `clap` lets no word through that names none.
-pub fn rate_of(words: &ArgMatches) -> Rate
-    ensures { (rate : Rate) → GivesRate (found_of words.now) (codes "rate") rate → result ≡ rate }
+/// The frame rate; `clap` lets no text through that names none.
+pub fn rate_of(matches: &ArgMatches) -> Rate
+    ensures { (rate : Rate) → GivesRate (found_of matches.now) (codes "rate") rate → result ≡ rate }
 {
-    match words.get_str("rate") {
-        Some(word) => rate_named(word).unwrap_or(Rate::F25),
+    match matches.get_str("rate") {
+        Some(text) => rate_named(text).unwrap_or(Rate::F25),
         None => Rate::F25,
     }
 }
@@ -181,76 +181,76 @@ fn rate_named(name: &str) -> Option<Rate>
     }
 }
 
-/// What the words say of a channel, and of what is printed of it.
-pub fn settings_of(words: &ArgMatches) -> Settings
+/// What the options say of a channel, and of what is printed of it.
+pub fn settings_of(matches: &ArgMatches) -> Settings
     ensures unit { result.unit ≤ 15 }
     ensures some { 1 ≤ result.limit }
     ensures few { result.limit ≤ 1000 }
     ensures some_frames { 1 ≤ result.cue_frames }
     ensures few_frames { result.cue_frames ≤ 1000 }
-    ensures units { (n : ℕ) → GivesNumber (found_of words.now) (codes "unit") 0 15 n → result.unit ≡ n }
-    ensures ports { (n : ℕ) → GivesNumber (found_of words.now) (codes "port") 0 255 n → result.port ≡ n }
-    ensures limits { (n : ℕ) → GivesNumber (found_of words.now) (codes "limit") 1 1000 n → result.limit ≡ n }
-    ensures frames { (n : ℕ) → GivesNumber (found_of words.now) (codes "cue-frames") 1 1000 n → result.cue_frames ≡ n }
-    ensures rates { (rate : Rate) → GivesRate (found_of words.now) (codes "rate") rate → result.rate ≡ rate }
+    ensures units { (n : ℕ) → GivesNumber (found_of matches.now) (codes "unit") 0 15 n → result.unit ≡ n }
+    ensures ports { (n : ℕ) → GivesNumber (found_of matches.now) (codes "port") 0 255 n → result.port ≡ n }
+    ensures limits { (n : ℕ) → GivesNumber (found_of matches.now) (codes "limit") 1 1000 n → result.limit ≡ n }
+    ensures frames { (n : ℕ) → GivesNumber (found_of matches.now) (codes "cue-frames") 1 1000 n → result.cue_frames ≡ n }
+    ensures rates { (rate : Rate) → GivesRate (found_of matches.now) (codes "rate") rate → result.rate ≡ rate }
 {
     Settings {
-        unit: unit_of(words),
-        port: port_of(words),
-        limit: number_of(words, &LIMIT),
-        cue_frames: number_of(words, &CUE_FRAMES),
-        confirm: words.get_flag("confirm"),
-        rate: rate_of(words),
-        trace: words.get_flag("trace"),
+        unit: unit_of(matches),
+        port: port_of(matches),
+        limit: number_of(matches, &LIMIT),
+        cue_frames: number_of(matches, &CUE_FRAMES),
+        confirm: matches.get_flag("confirm"),
+        rate: rate_of(matches),
+        trace: matches.get_flag("trace"),
     }
 }
 
-/// What the words say of a channel that is served.
-pub fn serve_settings_of(words: &ArgMatches) -> ServeSettings
+/// What the options say of a channel that is served.
+pub fn serve_settings_of(matches: &ArgMatches) -> ServeSettings
     ensures unit { result.unit ≤ 15 }
     ensures some_frames { 1 ≤ result.cue_frames }
     ensures few_frames { result.cue_frames ≤ 1000 }
     ensures some_silence { 1 ≤ result.silence }
     ensures short_silence { result.silence ≤ 60000 }
-    ensures units { (n : ℕ) → GivesNumber (found_of words.now) (codes "unit") 0 15 n → result.unit ≡ n }
-    ensures ports { (n : ℕ) → GivesNumber (found_of words.now) (codes "port") 0 255 n → result.port ≡ n }
-    ensures frames { (n : ℕ) → GivesNumber (found_of words.now) (codes "cue-frames") 1 1000 n → result.cue_frames ≡ n }
-    ensures silences { (n : ℕ) → GivesNumber (found_of words.now) (codes "silence") 1 60000 n → result.silence ≡ n }
-    ensures turns { (n : ℕ) → GivesNumber (found_of words.now) (codes "turns") 1 4294967295 n → result.turns ≡ n }
-    ensures rates { (rate : Rate) → GivesRate (found_of words.now) (codes "rate") rate → result.rate ≡ rate }
+    ensures units { (n : ℕ) → GivesNumber (found_of matches.now) (codes "unit") 0 15 n → result.unit ≡ n }
+    ensures ports { (n : ℕ) → GivesNumber (found_of matches.now) (codes "port") 0 255 n → result.port ≡ n }
+    ensures frames { (n : ℕ) → GivesNumber (found_of matches.now) (codes "cue-frames") 1 1000 n → result.cue_frames ≡ n }
+    ensures silences { (n : ℕ) → GivesNumber (found_of matches.now) (codes "silence") 1 60000 n → result.silence ≡ n }
+    ensures turns { (n : ℕ) → GivesNumber (found_of matches.now) (codes "turns") 1 4294967295 n → result.turns ≡ n }
+    ensures rates { (rate : Rate) → GivesRate (found_of matches.now) (codes "rate") rate → result.rate ≡ rate }
 {
     ServeSettings {
-        unit: unit_of(words),
-        port: port_of(words),
-        cue_frames: number_of(words, &CUE_FRAMES),
-        rate: rate_of(words),
-        silence: number_of(words, &SERVE_SILENCE),
-        turns: number_of(words, &TURNS),
+        unit: unit_of(matches),
+        port: port_of(matches),
+        cue_frames: number_of(matches, &CUE_FRAMES),
+        rate: rate_of(matches),
+        silence: number_of(matches, &SERVE_SILENCE),
+        turns: number_of(matches, &TURNS),
     }
 }
 
-/// What the words say of a list that is played.
-pub fn run_settings_of<'a>(words: &'a ArgMatches<'_>) -> RunSettings<'a>
+/// What the options say of a list that is played.
+pub fn run_settings_of<'a>(matches: &'a ArgMatches<'_>) -> RunSettings<'a>
     ensures unit { result.unit ≤ 15 }
     ensures some { 1 ≤ result.limit }
     ensures few { result.limit ≤ 1000 }
     ensures some_silence { 1 ≤ result.silence }
     ensures short_silence { result.silence ≤ 60000 }
-    ensures units { (n : ℕ) → GivesNumber (found_of words.now) (codes "unit") 0 15 n → result.unit ≡ n }
-    ensures ports { (n : ℕ) → GivesNumber (found_of words.now) (codes "port") 0 255 n → result.port ≡ n }
-    ensures limits { (n : ℕ) → GivesNumber (found_of words.now) (codes "limit") 1 1000 n → result.limit ≡ n }
-    ensures silences { (n : ℕ) → GivesNumber (found_of words.now) (codes "silence") 1 60000 n → result.silence ≡ n }
-    ensures listens { (n : ℕ) → GivesNumber (found_of words.now) (codes "listens") 1 4294967295 n → result.listens ≡ n }
-    ensures rates { (rate : Rate) → GivesRate (found_of words.now) (codes "rate") rate → result.rate ≡ rate }
+    ensures units { (n : ℕ) → GivesNumber (found_of matches.now) (codes "unit") 0 15 n → result.unit ≡ n }
+    ensures ports { (n : ℕ) → GivesNumber (found_of matches.now) (codes "port") 0 255 n → result.port ≡ n }
+    ensures limits { (n : ℕ) → GivesNumber (found_of matches.now) (codes "limit") 1 1000 n → result.limit ≡ n }
+    ensures silences { (n : ℕ) → GivesNumber (found_of matches.now) (codes "silence") 1 60000 n → result.silence ≡ n }
+    ensures listens { (n : ℕ) → GivesNumber (found_of matches.now) (codes "listens") 1 4294967295 n → result.listens ≡ n }
+    ensures rates { (rate : Rate) → GivesRate (found_of matches.now) (codes "rate") rate → result.rate ≡ rate }
 {
     RunSettings {
-        unit: unit_of(words),
-        port: port_of(words),
-        limit: number_of(words, &LIMIT),
-        confirm: words.get_flag("confirm"),
-        rate: rate_of(words),
-        silence: number_of(words, &RUN_SILENCE),
-        listens: number_of(words, &LISTENS),
-        asrun: words.get_str("asrun"),
+        unit: unit_of(matches),
+        port: port_of(matches),
+        limit: number_of(matches, &LIMIT),
+        confirm: matches.get_flag("confirm"),
+        rate: rate_of(matches),
+        silence: number_of(matches, &RUN_SILENCE),
+        listens: number_of(matches, &LISTENS),
+        asrun: matches.get_str("asrun"),
     }
 }
