@@ -1,6 +1,7 @@
 pub mod Scripts
 pub mod Wires
 pub mod Streams
+pub mod Watching
 pub mod Bursts
 pub mod Lines
 pub mod Serving

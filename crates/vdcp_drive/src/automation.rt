@@ -11,6 +11,7 @@ ghost use Rattle.vdcp_drive.specs.Lines.{line_of, RunsTo, ran_unless_ended};
 ghost use Rattle.vdcp_drive.specs.Wires.{Arrival, Told, IfTold, MayCome, nothing_told, adds_sent, adds_came, SendsFront};
 
 use crate::line::{DriveFault, Line, Ran};
+use crate::watch::{Unwatched, Watch};
 use crate::wire::{Came, Wire, WireFault};
 use arrayvec::ArrayVec;
 use std::marker::Model;
@@ -144,6 +145,31 @@ impl<S: Source, W: Wire> AutoDriver<S, W> {
         ensures device { OnErr result (W.failures self.new.wire ≡ 1) }
         ensures stays { W.failures self.old.wire ≡ 1 → IsErr result × (self.new ≡ self.old) }
     {
+        self.run_watched(listens, &mut Unwatched)
+    }
+
+    /// The same, where a watcher is lent the controller before each listen.
+    pub fn run_watched<V: Watch<S>>(
+        &mut self,
+        listens: u64,
+        watcher: &mut V,
+    ) -> Result<Ran, DriveFault>
+        // Of a new automation: a new controller, and a fresh wire that tells its bytes.
+        ensures run { IsNew self.old.controller.state self.old.reader self.old.heard (W.told self.old.wire) →
+            OnOk result (IfTold (W.told self.new.wire) (λ u. HasRun (plan_of S.items self.old.controller) self.old.unit u self.new.controller.state)) }
+        ensures broken { IsNew self.old.controller.state self.old.reader self.old.heard (W.told self.old.wire) → W.failures self.old.wire ≡ 0 →
+            OnErr result (IfTold (W.told self.new.wire) (λ u. HasRunBroken (plan_of S.items self.old.controller) self.old.unit u self.new.controller.state
+            × IsPartlyRun (plan_of S.items self.old.controller) self.old.unit u self.new.controller.state)) }
+        // Of any automation: over any wire, and over one that tells its bytes.
+        ensures ended { IfOk result (λ ran. (ran ≡ Ran.Ended) ↔ IsSome (turns.outcome_of self.new.controller.state.stage)) }
+        ensures answer { (t : Told) → W.told self.old.wire ≡ Some t →
+            IfOk result (λ ran. IfTold (W.told self.new.wire) (λ u. RunsTo ran (turns.outcome_of self.new.controller.state.stage) listens t.came u.came)) }
+        ensures controller { self.new.controller ≡ record self.old.controller { state = self.new.controller.state } }
+        ensures unit { self.new.unit ≡ self.old.unit }
+        ensures works { OnOk result (W.failures self.new.wire ≡ 0) }
+        ensures device { OnErr result (W.failures self.new.wire ≡ 1) }
+        ensures stays { W.failures self.old.wire ≡ 1 → IsErr result × (self.new ≡ self.old) }
+    {
         courses::courses_follow_one_another();
         bursts::one_reading();
         bursts::what_is_followed_is_read();
@@ -157,6 +183,7 @@ impl<S: Source, W: Wire> AutoDriver<S, W> {
             if !self.controller().awaiting() {
                 return Ok(Ran::Ended);
             }
+            watcher.look(&self.controller);
             if let Line::Closed = self.listen()? {
                 return Ok(self.unless_ended(Ran::Closed));
             }

@@ -8,9 +8,11 @@
 //! ```text
 //! let mut server = Server::new(port, wire);
 //! server.serve(turns)?            or turn by turn: server.turn()?, server.aired()
+//!                                 or server.serve_watched(turns, watcher)?, which is lent each item
 //!
 //! let mut auto = AutoDriver::new(controller, unit, wire);
 //! auto.run(listens)?              or step by step: while auto.send()? { auto.listen()?, until nothing is awaited }
+//!                                 or auto.run_watched(listens, watcher)?, which is lent the controller
 //! ```
 #![tactic(auto)]
 
@@ -19,6 +21,7 @@ mod line;
 mod script;
 mod server;
 mod stream;
+mod watch;
 mod wire;
 
 pub use automation::AutoDriver;
@@ -26,6 +29,7 @@ pub use line::{DriveFault, Line, Ran};
 pub use script::{Entry, ScriptWire};
 pub use server::Server;
 pub use stream::StreamWire;
+pub use watch::{Unwatched, Watch, WatchAir};
 pub use wire::{Came, Wire, WireFault};
 
 #[cfg(test)]

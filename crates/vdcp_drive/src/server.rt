@@ -7,9 +7,11 @@ ghost use Rattle.vdcp_port.specs.Clock.{ClockedPort, after_message};
 ghost use Rattle.vdcp_drive.specs.Lines.{line_of, ServesTo};
 ghost use Rattle.vdcp_drive.specs.Served.{IsServed, IsPartlySent, HasBrokenOff, served, port_after};
 ghost use Rattle.vdcp_drive.specs.Serving.{HasTaken, HasBroken, HasEnded, HasEndBroken, Serves, Breaks, last_aired};
+ghost use Rattle.vdcp_drive.specs.Watching.{adds_aired};
 ghost use Rattle.vdcp_drive.specs.Wires.{Arrival, Told, IfTold, MayCome, nothing_told, adds_sent, adds_came, SendsFront};
 
 use crate::line::{DriveFault, Line, Ran};
+use crate::watch::{Unwatched, WatchAir};
 use crate::wire::{Came, Wire, WireFault};
 use arrayvec::ArrayVec;
 use std::marker::Model;
@@ -106,13 +108,46 @@ impl<C: Catalogue, W: Wire> Server<C, W> {
         ensures device { OnErr result (W.failures self.new.wire ≡ 1) }
         ensures stays { W.failures self.old.wire ≡ 1 → IsErr result × (self.new ≡ self.old) }
     {
+        self.serve_watched(turns, &mut Unwatched)
+    }
+
+    /// The same, where a watcher is lent each item that is put to air, behind its turn.
+    pub fn serve_watched<V: WatchAir>(
+        &mut self,
+        turns: u64,
+        watcher: &mut V,
+    ) -> Result<Ran, DriveFault>
+        // Of a new server, whose fresh wire tells its bytes: what is sent, and the port that this leaves.
+        ensures sent { self.old.reader ≡ reading 0 [] → W.told self.old.wire ≡ Some nothing_told →
+            OnOk result (IfTold (W.told self.new.wire) (λ u. u.sent ≡ served self.old.port u.came)) }
+        ensures port { self.old.reader ≡ reading 0 [] → W.told self.old.wire ≡ Some nothing_told →
+            OnOk result (IfTold (W.told self.new.wire) (λ u. self.new.port ≡ port_after self.old.port u.came)) }
+        ensures broken { self.old.reader ≡ reading 0 [] → W.told self.old.wire ≡ Some nothing_told → W.failures self.old.wire ≡ 0 →
+            OnErr result (IfTold (W.told self.new.wire) (λ u. HasBrokenOff self.old.port u self.new.port × IsPartlySent self.old.port u)) }
+        // Of a server that began with some port, and has served what its wire tells that came.
+        ensures served { (start : ClockedPort) (t : Told) → W.told self.old.wire ≡ Some t → IsServed start t self.old.port self.old.reader →
+            OnOk result (IfTold (W.told self.new.wire) (λ u. IsServed start u self.new.port self.new.reader)) }
+        ensures broken_off { (start : ClockedPort) (t : Told) → W.told self.old.wire ≡ Some t → IsServed start t self.old.port self.old.reader →
+            W.failures self.old.wire ≡ 0 → OnErr result (IfTold (W.told self.new.wire) (λ u. HasBrokenOff start u self.new.port × IsPartlySent start u)) }
+        // Which answer it gives: Spent where all turns were made and no close came.
+        ensures answer { (t : Told) → W.told self.old.wire ≡ Some t →
+            IfOk result (λ ran. IfTold (W.told self.new.wire) (λ u. ServesTo ran turns t.came u.came)) }
+        ensures never_ended { IfOk result (λ ran. ran ≢ Ran.Ended) }
+        // A server drops nothing that waits.
+        ensures drops { (t : Told) → W.told self.old.wire ≡ Some t → IfTold (W.told self.new.wire) (λ u. u.drops ≡ t.drops) }
+        ensures works { OnOk result (W.failures self.new.wire ≡ 0) }
+        ensures device { OnErr result (W.failures self.new.wire ≡ 1) }
+        ensures stays { W.failures self.old.wire ≡ 1 → IsErr result × (self.new ≡ self.old) }
+    {
         bursts::what_is_fed_is_followed();
         if self.failed {
             return Err(DriveFault::Device);
         }
         let mut made = 0;
         'turns: while made < turns {
-            if let Line::Closed = self.turn()? {
+            let line = self.turn();
+            lend(&self.aired, watcher);
+            if let Line::Closed = line? {
                 return Ok(Ran::Closed);
             }
             made += 1;
@@ -163,6 +198,15 @@ impl<C: Catalogue, W: Wire> Server<C, W> {
                 Err(DriveFault::Device)
             }
         }
+    }
+}
+
+// Lends the watcher the item that a turn put to air, if it put one there.
+fn lend<V: WatchAir>(aired: &Option<Item>, watcher: &mut V)
+    ensures { V.watched watcher.new ≡ adds_aired aired.now (V.watched watcher.old) }
+{
+    if let Some(item) = aired {
+        watcher.aired(item);
     }
 }
 

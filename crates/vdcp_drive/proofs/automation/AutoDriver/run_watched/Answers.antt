@@ -7,7 +7,7 @@ use Rattle.vdcp_drive.specs.Wires.{Arrival}
 use Rattle.vdcp_drive.proofs.Below.{Read, Fed}
 use Rattle.vdcp_drive.proofs.Driving.{OneMore, begins, sent_so, unsent_so, on_so, out_so, broken_listen, closes_to, closed_on, listened_on, with_front}
 use Rattle.vdcp_drive.proofs.Taking.{on_err_of}
-use Rattle.vdcp_drive.proofs.automation.AutoDriver.run.Goals as goal
+use Rattle.vdcp_drive.proofs.automation.AutoDriver.run_watched.Goals as goal
 
 pub returns-in_err-send-clause-broken : goal.returns-in_err-send-clause-broken
 returns-in_err-send-clause-broken g c is works =

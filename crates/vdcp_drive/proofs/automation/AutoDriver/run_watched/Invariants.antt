@@ -5,7 +5,7 @@ use Rattle.vdcp_drive.specs.Driven.{IsNew}
 use Rattle.vdcp_drive.specs.Lines.{AllListened}
 use Rattle.vdcp_drive.specs.Wires.{Told, IfTold}
 use Rattle.vdcp_drive.proofs.Driving.{RunsAt}
-use Rattle.vdcp_drive.proofs.automation.AutoDriver.run.Given as goal
+use Rattle.vdcp_drive.proofs.automation.AutoDriver.run_watched.Given as goal
 
 abbrev pub invariant-listens : goal.invariant-listens
 invariant-listens g l =

@@ -1,0 +1,70 @@
+-- What serve prints, and what it is refused for.
+use Rattle.std.specs.Io.KnownBytes.{Appends, Keeps}
+use Rattle.std.specs.Net.Text.{socket_text}
+use Rattle.std.specs.Prelude.{ℕ, ◌≡◌, ◌⊎◌, ◌++◌, List, codes, Option, Some}
+use Rattle.std.specs.declared.net.SocketAddr.{SocketAddr}
+use Rattle.vdcp_drive.specs.Lines.{ServesTo}
+use Rattle.vdcp_drive.specs.Wires.{IfTold, Told}
+use Rattle.vdcp_drive.specs.declared.line.Ran.{Ran}
+use Rattle.vdcp_drive.specs.declared.line.Ran.TheVariants as ran
+use Rattle.vdcp_files.specs.Check.{IsCatalogueOf, RefusesCatalogue}
+use Rattle.vdcp_files.specs.Files.{File}
+use Rattle.vdcp_net.specs.Address.{IsAddress}
+use Rattle.vdcp_text.specs.Failure.{failure_line, status_of}
+use Rattle.vdcp_text.specs.Text.{line}
+use Rattle.vdcp_text.specs.declared.failure.Failure.{Failure}
+use Rattle.vdcp_text.specs.declared.failure.Failure.TheVariants as failures
+use Rattle.vdcp_value.specs.declared.clip_id.ClipId.{ClipId}
+use Rattle.vdcp_value.specs.declared.rate.Rate.{Rate}
+use Rattle.vdcp_value.specs.declared.timecode.Timecode.{Timecode}
+
+-- the line of the address that is listened at
+abbrev pub listening_line : SocketAddr → List ℕ
+listening_line address = line (codes "listening " ++ socket_text address)
+
+-- a writer gained the line of how a server's turns ended
+abbrev pub TellsEnd : Ran → Option (List ℕ) → Option (List ℕ) → Type 0
+TellsEnd ran.Closed out out' = Appends out out' (line (codes "closed"))
+TellsEnd ran.Spent out out' = Appends out out' (line (codes "spent"))
+TellsEnd ran.Ended out out' = ⊥
+
+-- so many turns of a server ended so, by what its wire told before and tells since, if it tells its bytes; and a
+-- writer gained the line of it
+pub record EndsAs (turns : ℕ) (told told' : Option Told) (out out' : Option (List ℕ)) : Type 0 where
+  pub ran : Ran
+  pub serves : (t : Told) → told ≡ Some t → IfTold told' (λ u. ServesTo ran turns t.came u.came)
+  pub tells : TellsEnd ran out out'
+
+-- the file is a catalogue
+abbrev pub IsWhole : Rate → File → Type 0
+IsWhole rate catalogue = (clips : List (ClipId × Timecode)) × IsCatalogueOf rate catalogue clips
+
+-- a writer gained the line of an address that was listened at
+abbrev pub TellsListening : Option (List ℕ) → Option (List ℕ) → Type 0
+TellsListening out out' = (address : SocketAddr) × Appends out out' (listening_line address)
+
+-- and then the line of how the turns ended
+pub record IsServedThere (out out' : Option (List ℕ)) : Type 0 where
+  pub then : Option (List ℕ)
+  pub listens : TellsListening out then
+  pub ran : Ran
+  pub tells : TellsEnd ran then out'
+
+-- why a channel isn't served to its end, and what was told by then: the text is no address, or else the catalogue
+-- isn't read, or else nobody can be listened to, or the line failed, or the writer did
+pub data IsUnserved (rate : Rate) (text : List ℕ) (catalogue : File) (out out' : Option (List ℕ)) (failure : Failure) : Type 0 where
+  no_address : ¬ IsAddress text → failure ≡ failures.Address → Keeps out out' → IsUnserved rate text catalogue out out' failure
+  no_catalogue : IsAddress text → RefusesCatalogue rate catalogue failure → Keeps out out' → IsUnserved rate text catalogue out out' failure
+  not_bound : IsAddress text → IsWhole rate catalogue → failure ≡ failures.Bind → Keeps out out' ⊎ TellsListening out out'
+    → IsUnserved rate text catalogue out out' failure
+  line_failed : IsAddress text → IsWhole rate catalogue → failure ≡ failures.LineFailed → TellsListening out out'
+    → IsUnserved rate text catalogue out out' failure
+  writer_failed : IsAddress text → IsWhole rate catalogue → failure ≡ failures.Writer → IsUnserved rate text catalogue out out' failure
+
+-- a row of the catalogue is refused: one writer gained the line that tells it, and the other nothing
+pub record IsCatalogueRefused (rate : Rate) (catalogue : File) (out out' err err' : Option (List ℕ)) : Type 0 where
+  pub failure : Failure
+  pub refused : RefusesCatalogue rate catalogue failure
+  pub of_row : status_of failure ≡ 1
+  pub told : Appends err err' (failure_line failure)
+  pub silent : Keeps out out'

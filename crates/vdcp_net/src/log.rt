@@ -1,0 +1,144 @@
+ghost use Rattle.std.specs.Prelude.{◌≡◌, ◌<◌, ◌≤◌, length};
+
+use std::cell::Cell;
+use std::{fmt, io};
+use vdcp_drive::{Came, Wire, WireFault};
+use vdcp_frame::{Ended, Got, Reader};
+use vdcp_text::{End, MeaningText, MessageText};
+
+/// The lines of a log. They go to its writer, until that fails: from then on no line goes there, and
+/// nothing else comes of the failure, since what is logged goes on without its log.
+///
+/// The writer is in a cell, since a wire and what watches over the other end of it share one log.
+#[derive(Drop)]
+pub struct Log<L: io::Write> {
+    // None once it has failed.
+    writer: Cell<Option<L>>,
+}
+
+impl<L: io::Write + Drop> Log<L> {
+    /// A log with this writer.
+    pub fn new(writer: L) -> Self {
+        Log {
+            writer: Cell::new(Some(writer)),
+        }
+    }
+
+    /// Adds a line.
+    pub fn tell<T: fmt::Display>(&self, line: &T) {
+        let Some(mut writer) = self.writer.replace(None) else {
+            return;
+        };
+        if writeln!(writer, "{line}").is_ok() && writer.flush().is_ok() {
+            let _ = self.writer.replace(Some(writer));
+        }
+    }
+}
+
+/// The way that a message goes, as a line of a log shows it at its front.
+#[derive(Clone, Copy, Debug, PartialEq, Eq)]
+enum Way {
+    In,
+    Out,
+}
+
+impl fmt::Display for Way {
+    fn fmt<W: fmt::Write>(&self, f: &mut fmt::Formatter<W>) -> fmt::Result {
+        match self {
+            Way::In => write!(f, "<-"),
+            Way::Out => write!(f, "->"),
+        }
+    }
+}
+
+/// A wire that logs each message that came by another wire or went out there, and each end of a burst that
+/// isn't clean: the lines of the burst's reading with words, but for `clean`.
+#[derive(Drop)]
+pub struct Logged<'a, W: Wire, L: io::Write> {
+    wire: W,
+    log: &'a Log<L>,
+    came: Reader,
+}
+
+impl<'a, W: Wire, L: io::Write + Drop> Logged<'a, W, L> {
+    /// A wire over this one, at the start of a burst.
+    pub fn new(wire: W, log: &'a Log<L>) -> Self
+        ensures { result.wire ≡ wire }
+    {
+        Logged {
+            wire,
+            log,
+            came: Reader::new(),
+        }
+    }
+}
+
+impl<W: Wire, L: io::Write + Drop> Wire for Logged<'_, W, L> {
+    ghost told = { λ w. W.told w.wire };
+
+    ghost failures = { λ w. W.failures w.wire };
+
+    fn send(&mut self, bytes: &[u8]) -> Result<(), WireFault> {
+        self.wire.send(bytes)?;
+        let mut sent = Reader::new();
+        tell_piece(self.log, Way::Out, &mut sent, bytes);
+        tell_end(self.log, Way::Out, &mut sent);
+        Ok(())
+    }
+
+    fn listen(&mut self, buffer: &mut [u8; 512]) -> Result<Came, WireFault> {
+        let came = self.wire.listen(buffer)?;
+        match came {
+            Came::Bytes(n) => tell_piece(self.log, Way::In, &mut self.came, &buffer[..n]),
+            Came::Silence | Came::Closed => tell_end(self.log, Way::In, &mut self.came),
+        }
+        Ok(came)
+    }
+
+    fn drop_waiting(&mut self) -> Result<(), WireFault> {
+        self.wire.drop_waiting()
+    }
+
+    ghost fails_once = { λ w. W.fails_once w.wire };
+}
+
+// Tells the messages that a piece of a burst completes, and a fault that it shows.
+fn tell_piece<L: io::Write + Drop>(log: &Log<L>, way: Way, reader: &mut Reader, piece: &[u8]) {
+    let mut at = 0;
+    'piece: while at < piece.len() {
+        at += tell_some(log, way, reader, &piece[at..]);
+    }
+}
+
+// Takes bytes up to the end of one message or one fault, or all of them. Answers how many.
+fn tell_some<L: io::Write + Drop>(log: &Log<L>, way: Way, reader: &mut Reader, piece: &[u8]) -> usize
+    ensures within { result ≤ length piece.now }
+    ensures some { 0 < length piece.now → 0 < result }
+{
+    let (taken, got) = reader.feed(piece);
+    match got {
+        Got::Message(message) => {
+            let text = MessageText(message);
+            let meaning = MeaningText(message);
+            log.tell(&format_args!("{way} {text}{meaning}"));
+        }
+        Got::Fault(fault, place) => tell_fault(log, way, End::Fault(fault, place)),
+        Got::More => {}
+    }
+    taken
+}
+
+// The burst ends: tells where it was cut.
+fn tell_end<L: io::Write + Drop>(log: &Log<L>, way: Way, reader: &mut Reader) {
+    match reader.silence() {
+        Ended::Cut(count) => tell_fault(log, way, End::Cut(count)),
+        Ended::Clean | Ended::AfterFault => {}
+    }
+}
+
+fn tell_fault<L: io::Write + Drop>(log: &Log<L>, way: Way, end: End) {
+    log.tell(&format_args!("{way} {end}"));
+}
+
+#[cfg(test)]
+mod tests;

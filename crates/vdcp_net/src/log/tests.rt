@@ -1,0 +1,107 @@
+use super::{Log, Logged};
+use crate::failing::Failing;
+use std::alloc::Global;
+use std::test::Fail;
+use vdcp_drive::{Came, Entry, Ran, ScriptWire, Server, Wire};
+use vdcp_list::Slots;
+use vdcp_port::Port;
+
+/// OPEN, SELECT cut in two and an ACK behind it, junk, a cut SELECT, a bad sum in a burst that goes on, and a cut close.
+fn entries(alloc: Global) -> Result<Vec<Entry<Global>>, Fail> {
+    let bursts: [&[&[u8]]; 5] = [
+        &[&[0x02, 0x04, 0x30, 0x01, 0x01, 0x01, 0xCD]],
+        &[&[0x02, 0x03, 0x20], &[0x22, 0x01, 0xBD, 0x04]],
+        &[&[0x03, 0x04]],
+        &[&[0x02, 0x03, 0x20]],
+        &[&[0x02, 0x02, 0x10, 0x01, 0xEE], &[0x02, 0x02, 0x10, 0x01, 0xEF]],
+    ];
+    let mut entries = Vec::new(alloc);
+    for pieces in bursts {
+        for piece in pieces {
+            entries.push(Entry::Came(Vec::from_slice(alloc, piece)?))?;
+        }
+        entries.push(Entry::Silence)?;
+    }
+    entries.push(Entry::Came(Vec::from_slice(alloc, &[0x02])?))?;
+    Ok(entries)
+}
+
+const LINES: &str = "<- unit 0 type 3 code 01 data 0101 = open 01 01
+-> unit 0 type 3 code 81 data 01 = granted
+<- unit 0 type 2 code 22 data 01 = select 01
+<- ack
+-> ack
+<- fault bad-start 1
+-> nak 04
+<- cut 3
+-> nak 80
+<- fault bad-sum 5
+-> nak 04
+<- cut 1
+";
+
+#[test]
+fn messages_of_both_ways_are_logged(rt: HostRuntime) -> Result<(), Fail> {
+    let alloc = rt.alloc();
+    let mut lines = Vec::new(alloc);
+    let log = Log::new(&mut lines);
+    let wire = Logged::new(ScriptWire::new(alloc, entries(alloc)?), &log);
+    let mut server = Server::new(Port::new(Slots::<1>::new(), 0, 1), wire);
+    assert_eq!(rt; server.serve(100), Ok(Ran::Closed));
+    drop(server);
+    drop(log);
+    assert_eq!(rt; lines.as_slice(), LINES.as_bytes());
+    Ok(())
+}
+
+#[test]
+fn failed_log_fails_no_wire(rt: HostRuntime) -> Result<(), Fail> {
+    let alloc = rt.alloc();
+    for left in 0..40 {
+        let mut writer = Failing::new(alloc, left);
+        let log = Log::new(&mut writer);
+        let wire = Logged::new(ScriptWire::new(alloc, entries(alloc)?), &log);
+        let mut server = Server::new(Port::new(Slots::<1>::new(), 0, 1), wire);
+        assert_eq!(rt; server.serve(100), Ok(Ran::Closed));
+        assert_eq!(rt; server.wire().wire.sent().len(), 13);
+        drop(server);
+        drop(log);
+        assert!(rt; writer.calls <= left + 1);
+        assert!(rt; LINES.as_bytes().starts_with(writer.bytes.as_slice()));
+    }
+    Ok(())
+}
+
+#[test]
+fn failed_calls_are_not_logged(rt: HostRuntime) -> Result<(), Fail> {
+    let alloc = rt.alloc();
+    let mut lines = Vec::new(alloc);
+    let log = Log::new(&mut lines);
+    let mut script = ScriptWire::new(alloc, Vec::new(alloc));
+    script.fail_at(2, 1);
+    let mut wire = Logged::new(script, &log);
+    assert_eq!(rt; wire.listen(&mut [0; 512])?, Came::Closed);
+    assert!(rt; wire.send(&[0x04]).is_err());
+    drop(wire);
+    drop(log);
+    assert!(rt; lines.is_empty());
+    Ok(())
+}
+
+// What is dropped isn't logged.
+#[test]
+fn dropped_bytes_are_not_logged(rt: HostRuntime) -> Result<(), Fail> {
+    let alloc = rt.alloc();
+    let mut lines = Vec::new(alloc);
+    let log = Log::new(&mut lines);
+    let mut entries = Vec::new(alloc);
+    entries.push(Entry::Stale(Vec::from_slice(alloc, &[0x05, 0x01])?))?;
+    entries.push(Entry::Came(Vec::from_slice(alloc, &[0x04])?))?;
+    let mut wire = Logged::new(ScriptWire::new(alloc, entries), &log);
+    wire.drop_waiting()?;
+    assert_eq!(rt; wire.listen(&mut [0; 512])?, Came::Bytes(1));
+    drop(wire);
+    drop(log);
+    assert_eq!(rt; lines.as_slice(), b"<- ack\n".as_slice());
+    Ok(())
+}

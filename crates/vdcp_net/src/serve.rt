@@ -1,0 +1,214 @@
+ghost use Rattle.std.specs.Io.KnownBytes.{Appends, Keeps};
+ghost use Rattle.std.specs.Prelude.{◌≡◌, ◌≢◌, ◌⊎◌, ◌≤◌, IfErr, OnOk, Some};
+ghost use Rattle.vdcp_drive.specs.Served.{HasBrokenOff, IsPartlySent, IsServed};
+ghost use Rattle.vdcp_drive.specs.Wires.{IfTold, Told};
+ghost use Rattle.vdcp_files.specs.Files.{file};
+ghost use Rattle.vdcp_net.specs.Address.{IsAddress};
+ghost use Rattle.vdcp_net.specs.Serve.{EndsAs, IsCatalogueRefused, IsServedThere, IsUnserved, IsWhole, TellsEnd, TellsListening, listening_line};
+ghost use Rattle.vdcp_port.specs.Clock.{ClockedPort};
+ghost use Rattle.vdcp_text.specs.Failure.{failure_line};
+
+use crate::address::address_of;
+use crate::log::{Log, Logged};
+use std::io;
+use std::net::{Net, OpenListener, SocketAddr, SocketAddrV4};
+use std::time::Duration;
+use vdcp_drive::{DriveFault, Ran, Server, StreamWire, Wire};
+use vdcp_files::{Input, file_failure};
+use vdcp_list::read_catalogue;
+use vdcp_port::{Catalogue, Port};
+use vdcp_text::Failure;
+use vdcp_value::Rate;
+
+/// What a channel is served with.
+#[derive(Clone, Copy, Debug, PartialEq, Eq)]
+pub struct ServeSettings {
+    /// The unit address, 0 to 15.
+    pub unit: u8,
+    /// The port's number.
+    pub port: u8,
+    /// A cue takes so many frames, 1 to 1,000.
+    pub cue_frames: u32,
+    /// The frame rate of time codes.
+    pub rate: Rate,
+    /// A burst has ended when nothing has come for so many milliseconds, 1 to 60,000.
+    pub silence: u32,
+    /// So many turns are made at most, each a wait for bytes or for a silence.
+    pub turns: u32,
+}
+
+/// Serves a new port with the clips of a catalogue to the first automation that connects to `address`: an
+/// IPv4 address, a colon and a port number, 0 for one that the system chooses. `out` gets a line with the
+/// address that is listened at, which is flushed before the connection is taken, and then one that says
+/// whether the automation has `closed` the connection or the turns are `spent`. The other connections are
+/// refused from then on.
+///
+/// With a log, its writer gets a line for each message that came (`<-`) and went out (`->`), with the words
+/// that it has, and one for each burst that is at fault or cut. Where this writer fails, the log ends there.
+///
+/// The status is 0 where the connection was served to its end. It is 2 where `address` isn't one, 1 where a
+/// row of the catalogue is refused, and 3 where the catalogue can't be read, memory was refused, the address
+/// can't be listened at, or the line failed; `err` is told of these. The address is tested first, and then
+/// the catalogue is read. The status is 3 where `out` failed, to which nothing more is written.
+pub fn do_serve<
+    R: Net + AllocGlobal,
+    C: io::Read + Drop,
+    L: io::Write + Drop,
+    W: io::Write,
+    E: io::Write,
+>(
+    rt: &R,
+    address: &str,
+    catalogue: Input<'_, C>,
+    settings: ServeSettings,
+    log: Option<L>,
+    out: &mut W,
+    err: &mut E,
+) -> u8
+    requires unit { settings.unit ≤ 15 }
+    requires some_frames { 1 ≤ settings.cue_frames }
+    requires few_frames { settings.cue_frames ≤ 1000 }
+    ensures served { result ≡ 0 → IsServedThere (W.contents out.old) (W.contents out.new) }
+    ensures untold { result ≡ 0 → Keeps (E.contents err.old) (E.contents err.new) }
+    // The status is 1 for a row that is refused.
+    ensures others { result ≡ 1 → IsCatalogueRefused settings.rate (file catalogue.entry.name (C.remaining catalogue.entry.reader))
+        (W.contents out.old) (W.contents out.new) (E.contents err.old) (E.contents err.new) }
+    // The status is 2 for an address that is none, unless this can't be told.
+    ensures none { result ≡ 2 → ¬ IsAddress address.now × Appends (E.contents err.old) (E.contents err.new) (failure_line Failure.Address) }
+    ensures address { ¬ IsAddress address.now → ((result ≡ 2) ⊎ (result ≡ 3)) × Keeps (W.contents out.old) (W.contents out.new) }
+    ensures silent { Keeps (W.contents out.old) (W.contents out.new)
+        ⊎ IsWhole settings.rate (file catalogue.entry.name (C.remaining catalogue.entry.reader)) }
+    ensures statuses { result ≤ 3 }
+{
+    match serve(rt, address, catalogue, settings, log, out) {
+        Ok(()) => 0,
+        Err(failure) => failure.report(err),
+    }
+}
+
+// Reads the catalogue, takes a connection, and serves it.
+fn serve<'a, R: Net + AllocGlobal, C: io::Read + Drop, L: io::Write + Drop, W: io::Write>(
+    rt: &R,
+    address: &str,
+    catalogue: Input<'a, C>,
+    settings: ServeSettings,
+    log: Option<L>,
+    out: &mut W,
+) -> Result<(), Failure<'a>>
+    requires unit { settings.unit ≤ 15 }
+    requires some_frames { 1 ≤ settings.cue_frames }
+    requires few_frames { settings.cue_frames ≤ 1000 }
+    ensures served { OnOk result (IsServedThere (W.contents out.old) (W.contents out.new)) }
+    ensures address { OnOk result (IsAddress address.now) }
+    ensures whole { OnOk result (IsWhole settings.rate (file catalogue.entry.name (C.remaining catalogue.entry.reader))) }
+    ensures unserved { IfErr result (IsUnserved settings.rate address.now (file catalogue.entry.name (C.remaining catalogue.entry.reader))
+        (W.contents out.old) (W.contents out.new)) }
+{
+    let address = address_of(address)?;
+    let clips = match read_catalogue(rt.alloc(), catalogue.reader, settings.rate) {
+        Ok(clips) => clips,
+        Err(fault) => return Err(file_failure(catalogue.name, fault)),
+    };
+    let stream = accept_one(rt, address, out)?;
+    let silence = Duration::from_millis(settings.silence as u64);
+    let Ok(wire) = StreamWire::new(stream, silence) else {
+        return Err(Failure::LineFailed);
+    };
+    let port = Port::with_clock(clips, settings.unit, settings.port, settings.cue_frames);
+    serve_line(port, wire, settings.turns, log, out)
+}
+
+// Listens at an address, tells it, and takes the first connection. Nobody is listened to from then on.
+fn accept_one<R: Net, W: io::Write>(
+    rt: &R,
+    address: SocketAddrV4,
+    out: &mut W,
+) -> Result<R::Stream, Failure<'static>>
+    ensures told { OnOk result (TellsListening (W.contents out.old) (W.contents out.new)) }
+    ensures refused { IfErr result (λ e. (e ≡ Failure.Writer) ⊎ ((e ≡ Failure.Bind)
+        × (Keeps (W.contents out.old) (W.contents out.new) ⊎ TellsListening (W.contents out.old) (W.contents out.new)))) }
+{
+    let Ok(listener) = rt.bind(SocketAddr::V4(address)) else {
+        return Err(Failure::Bind);
+    };
+    let Ok(bound) = listener.local_addr() else {
+        return Err(Failure::Bind);
+    };
+    if write_listening(bound, out).is_err() {
+        return Err(Failure::Writer);
+    }
+    match listener.accept() {
+        Ok((stream, _)) => Ok(stream),
+        Err(_) => Err(Failure::Bind),
+    }
+}
+
+// Tells the address that is listened at.
+fn write_listening<W: io::Write>(address: SocketAddr, out: &mut W) -> io::Result<()>
+    ensures { OnOk result (Appends (W.contents out.old) (W.contents out.new) (listening_line address)) }
+{
+    writeln!(out, "listening {address}")?;
+    out.flush()
+}
+
+// Serves a new port over a line, and tells how that ended.
+fn serve_line<C: Catalogue + Drop, S: Wire + Drop, L: io::Write + Drop, W: io::Write>(
+    port: Port<C>,
+    wire: S,
+    turns: u32,
+    log: Option<L>,
+    out: &mut W,
+) -> Result<(), Failure<'static>>
+    requires { S.failures wire ≡ 0 }
+    ensures ended { OnOk result ((ran : Ran) × TellsEnd ran (W.contents out.old) (W.contents out.new)) }
+    ensures failed { IfErr result (λ e. (e ≡ Failure.Writer) ⊎ ((e ≡ Failure.LineFailed) × Keeps (W.contents out.old) (W.contents out.new))) }
+{
+    match log {
+        None => serve_turns(&mut Server::new(port, wire), turns, out),
+        Some(writer) => {
+            let log = Log::new(writer);
+            serve_turns(&mut Server::new(port, Logged::new(wire, &log)), turns, out)
+        }
+    }
+}
+
+// Makes so many turns of a server, and tells how they ended.
+fn serve_turns<C: Catalogue, S: Wire, W: io::Write>(
+    server: &mut Server<C, S>,
+    turns: u32,
+    out: &mut W,
+) -> Result<(), Failure<'static>>
+    // What is told is how the turns ended.
+    ensures ended { OnOk result (EndsAs turns (S.told server.old.wire) (S.told server.new.wire) (W.contents out.old) (W.contents out.new)) }
+    ensures works { OnOk result (S.failures server.new.wire ≡ 0) }
+    ensures failed { IfErr result (λ e. ((e ≡ Failure.Writer) × (S.failures server.new.wire ≡ 0))
+        ⊎ ((e ≡ Failure.LineFailed) × (S.failures server.new.wire ≡ 1) × Keeps (W.contents out.old) (W.contents out.new))) }
+    // Of a server that began with some port, and has served what its wire tells that came.
+    ensures served { (start : ClockedPort) (t : Told) → S.told server.old.wire ≡ Some t → IsServed start t server.old.port server.old.reader →
+        S.failures server.new.wire ≡ 0 → IfTold (S.told server.new.wire) (λ u. IsServed start u server.new.port server.new.reader) }
+    ensures broken_off { (start : ClockedPort) (t : Told) → S.told server.old.wire ≡ Some t → IsServed start t server.old.port server.old.reader →
+        S.failures server.old.wire ≡ 0 → S.failures server.new.wire ≡ 1 →
+        IfTold (S.told server.new.wire) (λ u. HasBrokenOff start u server.new.port × IsPartlySent start u) }
+{
+    match server.serve(turns as u64) {
+        Ok(ran) => write_end(ran, out).map_err(|_| Failure::Writer),
+        Err(DriveFault::Device) => Err(Failure::LineFailed),
+    }
+}
+
+// Tells how the turns of a server ended.
+fn write_end<W: io::Write>(ran: Ran, out: &mut W) -> io::Result<()>
+    requires { ran ≢ Ran.Ended }
+    ensures { OnOk result (TellsEnd ran (W.contents out.old) (W.contents out.new)) }
+{
+    match ran {
+        Ran::Closed => writeln!(out, "closed")?,
+        Ran::Spent => writeln!(out, "spent")?,
+        // A server has no controller that ends.
+        Ran::Ended => unreachable!(),
+    }
+    out.flush()
+}
+
+#[cfg(test)]
+mod tests;

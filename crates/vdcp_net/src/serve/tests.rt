@@ -1,0 +1,332 @@
+use super::{ServeSettings, do_serve, serve_line};
+use crate::failing::{Failing, FailingReader};
+use std::alloc::Global;
+use std::cell::Cell;
+use std::io::{self, ErrorKind, Read, Write};
+use std::net::{Ipv4Addr, Net, Shutdown, SocketAddr, TcpListener, TcpStream};
+use std::process::Abort;
+use std::test::Fail;
+use std::time::Duration;
+use vdcp_drive::{Entry, ScriptWire, StreamWire};
+use vdcp_files::Input;
+use vdcp_list::Slots;
+use vdcp_port::Port;
+use vdcp_text::Failure;
+use vdcp_value::Rate;
+
+const CLIPS: &[u8] = b"CLIP0001,00:00:10:00\nCLIP0002,00:00:10:00\n";
+
+const OPEN: &[u8] = &[0x02, 0x04, 0x30, 0x01, 0x01, 0x01, 0xCD];
+
+const SELECT: &[u8] = &[0x02, 0x03, 0x20, 0x22, 0x01, 0xBD];
+
+const STATUS: &[u8] = &[0x02, 0x03, 0x30, 0x05, 0x01, 0xCA];
+
+const GRANTED: &[u8] = &[0x02, 0x03, 0x30, 0x81, 0x01, 0x4E];
+
+/// OPEN, SELECT and STATUS are answered so.
+const OPENED: &[u8] = &[
+    0x02, 0x03, 0x30, 0x81, 0x01, 0x4E, 0x04, 0x02, 0x04, 0x30, 0x85, 0x01, 0x01, 0x49,
+];
+
+/// A network at which a listener stands already, so that an automation connects before it is served.
+#[derive(Drop)]
+struct Ready {
+    listener: Cell<Option<TcpListener>>,
+}
+
+impl Net for Ready {
+    type Stream = TcpStream;
+
+    type Listener = TcpListener;
+
+    fn bind(&self, _address: SocketAddr) -> io::Result<TcpListener> {
+        let listener = self.listener.replace(None);
+        listener.ok_or(io::Error::from(ErrorKind::AddrInUse))
+    }
+
+    fn connect(&self, _address: SocketAddr) -> io::Result<TcpStream> {
+        Err(io::Error::from(ErrorKind::Unsupported))
+    }
+}
+
+/// A listener, and its address.
+fn listen<R>(rt: &R) -> io::Result<(TcpListener, SocketAddr)>
+where
+    R: Net<Listener = TcpListener, Stream = TcpStream>,
+{
+    let listener = TcpListener::bind(rt, SocketAddr::from((Ipv4Addr::LOCALHOST, 0)))?;
+    let address = listener.local_addr()?;
+    Ok((listener, address))
+}
+
+/// What a served channel gives: the text on `out`, the text on `err`, and the status.
+#[derive(Drop)]
+struct Told {
+    out: Vec<u8>,
+    err: Vec<u8>,
+    status: u8,
+}
+
+/// Serves port 1 of unit 0 for so many turns, each with four milliseconds of silence.
+fn served<R: Net + AllocGlobal>(rt: &R, address: &str, catalogue: &[u8], turns: u32) -> Told {
+    let settings = ServeSettings {
+        unit: 0,
+        port: 1,
+        cue_frames: 1,
+        rate: Rate::F25,
+        silence: 4,
+        turns,
+    };
+    let catalogue = Input {
+        name: "clips.csv",
+        reader: catalogue,
+    };
+    let log: Option<Vec<u8>> = None;
+    let mut out = Vec::new(rt.alloc());
+    let mut err = Vec::new(rt.alloc());
+    let status = do_serve(rt, address, catalogue, settings, log, &mut out, &mut err);
+    Told { out, err, status }
+}
+
+/// Serves an automation that has connected and sent these bytes, and then closes its side if it `closes`:
+/// what it is sent, and whether `out` ends with this line.
+fn answered<R>(
+    rt: &R,
+    sent: &[u8],
+    closes: bool,
+    turns: u32,
+    last: &str,
+) -> Result<Vec<u8>, Fail>
+where
+    R: Net<Listener = TcpListener, Stream = TcpStream> + AllocGlobal + Abort,
+{
+    let (listener, address) = listen(rt)?;
+    let mut automation = TcpStream::connect(rt, address)?;
+    automation.write_all(sent)?;
+    if closes {
+        automation.shutdown(Shutdown::Write)?;
+    }
+    let net = Ready {
+        listener: Cell::new(Some(listener)),
+    };
+    let told = served(&(net, rt.alloc()), "127.0.0.1:0", CLIPS, turns);
+    let text = format!(in rt.alloc(); "listening {address}\n{last}\n")?;
+    assert_eq!(rt; told.out.as_slice(), text.as_bytes());
+    assert!(rt; told.err.is_empty());
+    assert_eq!(rt; told.status, 0);
+    let mut answers = Vec::new(rt.alloc());
+    automation.read_to_end(&mut answers)?;
+    // The listener is gone: nobody takes another connection.
+    assert!(rt; TcpStream::connect(rt, address).is_err());
+    Ok(answers)
+}
+
+#[test]
+fn automation_that_closes_is_served_to_its_close(rt: HostRuntime) -> Result<(), Fail> {
+    let mut burst = Vec::from_slice(rt.alloc(), OPEN)?;
+    burst.extend_from_slice(SELECT)?;
+    burst.extend_from_slice(STATUS)?;
+    assert_eq!(rt; answered(&rt, burst.as_slice(), true, 1000, "closed")?.as_slice(), OPENED);
+    assert!(rt; answered(&rt, &[], true, 1000, "closed")?.is_empty());
+    Ok(())
+}
+
+#[test]
+fn turns_are_spent(rt: HostRuntime) -> Result<(), Fail> {
+    assert_eq!(rt; answered(&rt, OPEN, false, 1, "spent")?.as_slice(), GRANTED);
+    assert_eq!(rt; answered(&rt, &OPEN[..3], false, 2, "spent")?.as_slice(), [0x05, 0x80].as_slice());
+    assert!(rt; answered(&rt, &[], false, 3, "spent")?.is_empty());
+    Ok(())
+}
+
+#[test]
+fn close_inside_a_command_answers_nothing(rt: HostRuntime) -> Result<(), Fail> {
+    for count in 0..OPEN.len() {
+        assert!(rt; answered(&rt, &OPEN[..count], true, 1000, "closed")?.is_empty());
+    }
+    assert_eq!(rt; answered(&rt, OPEN, true, 1000, "closed")?.as_slice(), GRANTED);
+    Ok(())
+}
+
+// 50 pieces of junk, of a burst that has no end: nothing is answered while it goes on.
+#[test]
+fn junk_spends_the_turns(rt: HostRuntime) -> Result<(), Fail> {
+    let junk = [0x03; 50 * 512];
+    assert!(rt; answered(&rt, &junk, false, 50, "spent")?.is_empty());
+    Ok(())
+}
+
+fn expect_refused(rt: &impl Abort, told: &Told, text: &str, status: u8) {
+    assert_eq!(rt; told.err.as_slice(), text.as_bytes());
+    assert_eq!(rt; told.status, status, "{text}");
+    assert!(rt; told.out.is_empty(), "{text}");
+}
+
+#[test]
+fn address_is_tested_first(rt: HostRuntime) {
+    for address in ["", "localhost:80", "127.0.0.1", "127.0.0.1:80 "] {
+        let told = served(&rt, address, b"CLIP0001\n", 1);
+        expect_refused(&rt, &told, "vdcp: address\n", 2);
+    }
+}
+
+#[test]
+fn catalogue_is_read_before_the_address_is_bound(rt: HostRuntime) -> Result<(), Fail> {
+    let (_held, address) = listen(&rt)?;
+    let address = format!(in rt.alloc(); "{address}")?;
+    let told = served(&rt, address.as_str(), b"CLIP0001\n", 1);
+    expect_refused(&rt, &told, "vdcp: clips.csv: row 1: columns\n", 1);
+    let told = served(&rt, address.as_str(), CLIPS, 1);
+    expect_refused(&rt, &told, "vdcp: cannot bind\n", 3);
+    Ok(())
+}
+
+#[test]
+fn catalogue_that_is_not_read_is_told(rt: HostRuntime) {
+    let settings = ServeSettings {
+        unit: 0,
+        port: 1,
+        cue_frames: 1,
+        rate: Rate::F25,
+        silence: 4,
+        turns: 1,
+    };
+    let catalogue = Input {
+        name: "clips.csv",
+        reader: FailingReader {
+            left: 2,
+            bytes: CLIPS,
+        },
+    };
+    let log: Option<Vec<u8>> = None;
+    let mut out = Vec::new(rt.alloc());
+    let mut err = Vec::new(rt.alloc());
+    let status = do_serve(&rt, "127.0.0.1:0", catalogue, settings, log, &mut out, &mut err);
+    let told = Told { out, err, status };
+    expect_refused(&rt, &told, "vdcp: clips.csv: read\n", 3);
+}
+
+// A listener that doesn't wait has no connection to give.
+#[test]
+fn refused_connection_is_told(rt: HostRuntime) -> Result<(), Fail> {
+    let (listener, address) = listen(&rt)?;
+    listener.set_nonblocking(true)?;
+    let net = Ready {
+        listener: Cell::new(Some(listener)),
+    };
+    let told = served(&(net, rt.alloc()), "127.0.0.1:0", CLIPS, 1);
+    let text = format!(in rt.alloc(); "listening {address}\n")?;
+    assert_eq!(rt; told.out.as_slice(), text.as_bytes());
+    assert_eq!(rt; told.err.as_slice(), b"vdcp: cannot bind\n".as_slice());
+    assert_eq!(rt; told.status, 3);
+    Ok(())
+}
+
+#[test]
+fn failing_call_of_the_writer_is_the_last(rt: HostRuntime) -> Result<(), Fail> {
+    for left in 0..100 {
+        let (listener, address) = listen(&rt)?;
+        let automation = TcpStream::connect(&rt, address)?;
+        drop(automation);
+        let net = Ready {
+            listener: Cell::new(Some(listener)),
+        };
+        let settings = ServeSettings {
+            unit: 0,
+            port: 1,
+            cue_frames: 1,
+            rate: Rate::F25,
+            silence: 4,
+            turns: 1,
+        };
+        let catalogue = Input {
+            name: "clips.csv",
+            reader: CLIPS,
+        };
+        let log: Option<Vec<u8>> = None;
+        let mut out = Failing::new(rt.alloc(), left);
+        let mut err = Vec::new(rt.alloc());
+        let rt_of_test = (net, rt.alloc());
+        let status = do_serve(&rt_of_test, "127.0.0.1:0", catalogue, settings, log, &mut out, &mut err);
+        let text = format!(in rt.alloc(); "listening {address}\nclosed\n")?;
+        assert!(rt; err.is_empty());
+        assert!(rt; text.as_bytes().starts_with(out.bytes.as_slice()));
+        if status == 0 {
+            assert_eq!(rt; out.bytes.len(), text.len());
+            assert_eq!(rt; out.flushes, 2);
+            return Ok(());
+        }
+        assert_eq!(rt; status, 3);
+        assert_eq!(rt; out.calls, left + 1);
+    }
+    Err("it is never served".into())
+}
+
+// ---- over a wire in memory
+
+type Shelf = Slots<1>;
+
+/// What a line with these entries tells on `out`, and the failure.
+fn told_of(
+    alloc: Global,
+    entries: Vec<Entry<Global>>,
+    failing: Option<u64>,
+    turns: u32,
+) -> (Vec<u8>, Result<(), Failure<'static>>) {
+    let mut wire = ScriptWire::new(alloc, entries);
+    if let Some(call) = failing {
+        wire.fail_at(call, 1);
+    }
+    let port = Port::new(Shelf::new(), 0, 1);
+    let log: Option<Vec<u8>> = None;
+    let mut out = Vec::new(alloc);
+    let ended = serve_line(port, wire, turns, log, &mut out);
+    (out, ended)
+}
+
+fn opening(alloc: Global) -> Result<Vec<Entry<Global>>, Fail> {
+    let mut entries = Vec::new(alloc);
+    entries.push(Entry::Came(Vec::from_slice(alloc, OPEN)?))?;
+    entries.push(Entry::Silence)?;
+    entries.push(Entry::Came(Vec::from_slice(alloc, SELECT)?))?;
+    entries.push(Entry::Silence)?;
+    Ok(entries)
+}
+
+#[test]
+fn end_of_a_line_is_told(rt: HostRuntime) -> Result<(), Fail> {
+    let alloc = rt.alloc();
+    for turns in 0..8 {
+        let (out, ended) = told_of(alloc, opening(alloc)?, None, turns);
+        let text = if turns < 5 { "spent\n" } else { "closed\n" };
+        assert_eq!(rt; out.as_slice(), text.as_bytes());
+        assert_eq!(rt; ended, Ok(()));
+    }
+    // Five listens and two sends.
+    for call in 1..8 {
+        let (out, ended) = told_of(alloc, opening(alloc)?, Some(call), 100);
+        assert!(rt; out.is_empty());
+        assert_eq!(rt; ended, Err(Failure::LineFailed));
+    }
+    assert_eq!(rt; told_of(alloc, opening(alloc)?, Some(8), 100).1, Ok(()));
+    Ok(())
+}
+
+// An automation that closes with an answer unread resets the line.
+#[test]
+fn reset_line_has_failed(rt: HostRuntime) -> Result<(), Fail> {
+    let (listener, address) = listen(&rt)?;
+    let automation = TcpStream::connect(&rt, address)?;
+    let (mut stream, _) = listener.accept()?;
+    stream.write_all(&[0x04])?;
+    automation.peek(&mut [0])?;
+    drop(automation);
+    let wire = StreamWire::new(stream, Duration::from_millis(4))?;
+    let log: Option<Vec<u8>> = None;
+    let mut out = Vec::new(rt.alloc());
+    let ended = serve_line(Port::new(Shelf::new(), 0, 1), wire, 100, log, &mut out);
+    assert_eq!(rt; ended, Err(Failure::LineFailed));
+    assert!(rt; out.is_empty());
+    Ok(())
+}
