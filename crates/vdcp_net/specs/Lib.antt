@@ -1,4 +1,3 @@
 pub mod Address
 pub mod Serve
-pub mod Progress
 pub mod Run
