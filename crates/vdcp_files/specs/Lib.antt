@@ -1,3 +1,4 @@
 pub mod Files
 pub mod Check
 pub mod Vectors
+pub mod Items
