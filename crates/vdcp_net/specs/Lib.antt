@@ -1,4 +1,3 @@
 pub mod Address
-pub mod Progress
-pub mod Run
 pub mod Serve
+pub mod Run

@@ -12,7 +12,10 @@ pub fn address_of(text: &str) -> Result<SocketAddrV4, Failure<'static>>
     ensures none { OnErr result (¬ IsAddress text.now) }
     ensures refused { IfErr result (λ e. e ≡ Failure.Address) }
 {
-    SocketAddrV4::parse_ascii(text.as_bytes()).map_err(|_| Failure::Address)
+    match SocketAddrV4::parse_ascii(text.as_bytes()) {
+        Ok(address) => Ok(address),
+        Err(_) => Err(Failure::Address),
+    }
 }
 
 #[cfg(test)]

@@ -2,9 +2,11 @@ ghost use Rattle.std.specs.Prelude.{◌≡◌, ◌<◌, ◌≤◌, length};
 
 use std::cell::Cell;
 use std::{fmt, io};
-use vdcp_drive::{Came, Wire, WireFault};
+use vdcp_drive::{Came, WatchAir, Wire, WireFault};
+use vdcp_files::ItemText;
 use vdcp_frame::{Ended, Got, Reader};
 use vdcp_text::{End, MeaningText, MessageText};
+use vdcp_value::{Item, Rate};
 
 /// The lines of a log. They go to its writer, until that fails: from then on no line goes there, and
 /// nothing else comes of the failure, since what is logged goes on without its log.
@@ -100,6 +102,37 @@ impl<W: Wire, L: io::Write + Drop> Wire for Logged<'_, W, L> {
     }
 
     ghost fails_once = { λ w. W.fails_once w.wire };
+}
+
+/// Logs each item that goes to air, counted from 0, with the time codes of its part at a rate.
+#[derive(Drop)]
+pub struct AirLog<'a, L: io::Write> {
+    log: &'a Log<L>,
+    rate: Rate,
+    aired: u64,
+}
+
+impl<'a, L: io::Write + Drop> AirLog<'a, L> {
+    /// A watcher of a server that has put nothing to air yet.
+    pub fn new(log: &'a Log<L>, rate: Rate) -> Self {
+        AirLog {
+            log,
+            rate,
+            aired: 0,
+        }
+    }
+}
+
+impl<L: io::Write + Drop> WatchAir for AirLog<'_, L> {
+    fn aired(&mut self, item: &Item) {
+        let number = self.aired;
+        let item = ItemText {
+            rate: self.rate,
+            item: *item,
+        };
+        self.log.tell(&format_args!("aired {number} {item}"));
+        self.aired = self.aired.saturating_add(1);
+    }
 }
 
 // Tells the messages that a piece of a burst completes, and a fault that it shows.

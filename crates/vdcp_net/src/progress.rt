@@ -1,6 +1,3 @@
-ghost use Rattle.std.specs.Prelude.{◌≡◌};
-ghost use Rattle.vdcp_net.specs.Progress.{glance_text};
-
 use arrayvec::ArrayString;
 use std::fmt::{self, Write};
 use std::io;
@@ -78,15 +75,8 @@ impl<'a, R: Clock, V: io::Write> Progress<'a, R, V> {
     // Draws what is seen now, if it is to be drawn.
     fn show(&mut self, glance: Glance) -> io::Result<()> {
         let now = Instant::now(self.clock)?;
-        let begun = match self.drawing {
-            Drawing::Blank => now,
-            Drawing::Line {
-                glance: last,
-                drawn,
-                ..
-            } if last == glance && now.duration_since(drawn).as_millis() < REDRAWN_AFTER => return Ok(()),
-            Drawing::Line { begun, .. } => begun,
-            Drawing::Failed => return Ok(()),
+        let Some(begun) = begun_before(self.drawing, &glance, now) else {
+            return Ok(());
         };
         self.draw(&glance, now.duration_since(begun).as_secs())?;
         self.drawing = Drawing::Line {
@@ -106,6 +96,24 @@ impl<'a, R: Clock, V: io::Write> Progress<'a, R, V> {
         let end = bytes.len().min(ERASE.len() + MOST_COLUMNS);
         self.terminal.write_all(&bytes[..end])?;
         self.terminal.flush()
+    }
+}
+
+// When the run began whose line is to be drawn now; None where it isn't to be drawn.
+fn begun_before(drawing: Drawing, glance: &Glance, now: Instant) -> Option<Instant> {
+    match drawing {
+        Drawing::Blank => Some(now),
+        Drawing::Failed => None,
+        Drawing::Line {
+            glance: last,
+            begun,
+            drawn,
+        } => {
+            if last == *glance && now.duration_since(drawn).as_millis() < REDRAWN_AFTER {
+                return None;
+            }
+            Some(begun)
+        }
     }
 }
 
@@ -140,11 +148,8 @@ impl Glance {
     }
 }
 
+// Shows the event that is reported next, the command, and how many events are reported.
 impl fmt::Display for Glance {
-    ghost use Rattle.std.specs.Prelude.{Some};
-
-    ghost output = { λ g. Some (glance_text g) };
-
     fn fmt<W: fmt::Write>(&self, f: &mut fmt::Formatter<W>) -> fmt::Result {
         let reported = self.reported;
         let events = self.events;

@@ -9,11 +9,11 @@ ghost use Rattle.vdcp_port.specs.Clock.{ClockedPort};
 ghost use Rattle.vdcp_text.specs.Failure.{failure_line};
 
 use crate::address::address_of;
-use crate::log::{Log, Logged};
+use crate::log::{AirLog, Log, Logged};
 use std::io;
 use std::net::{Net, OpenListener, SocketAddr, SocketAddrV4};
 use std::time::Duration;
-use vdcp_drive::{DriveFault, Ran, Server, StreamWire, Wire};
+use vdcp_drive::{DriveFault, Ran, Server, StreamWire, Unwatched, WatchAir, Wire};
 use vdcp_files::{Input, file_failure};
 use vdcp_list::read_catalogue;
 use vdcp_port::{Catalogue, Port};
@@ -44,7 +44,8 @@ pub struct ServeSettings {
 /// refused from then on.
 ///
 /// With a log, its writer gets a line for each message that came (`<-`) and went out (`->`), with the words
-/// that it has, and one for each burst that is at fault or cut. Where this writer fails, the log ends there.
+/// that it has, one for each burst that is at fault or cut, and one for each item that goes to air (`aired`
+/// and its number from 0). Where this writer fails, the log ends there.
 ///
 /// The status is 0 where the connection was served to its end. It is 2 where `address` isn't one, 1 where a
 /// row of the catalogue is refused, and 3 where the catalogue can't be read, memory was refused, the address
@@ -115,7 +116,7 @@ fn serve<'a, R: Net + AllocGlobal, C: io::Read + Drop, L: io::Write + Drop, W: i
         return Err(Failure::LineFailed);
     };
     let port = Port::with_clock(clips, settings.unit, settings.port, settings.cue_frames);
-    serve_line(port, wire, settings.turns, log, out)
+    serve_line(port, wire, settings, log, out)
 }
 
 // Listens at an address, tells it, and takes the first connection. Nobody is listened to from then on.
@@ -155,7 +156,7 @@ fn write_listening<W: io::Write>(address: SocketAddr, out: &mut W) -> io::Result
 fn serve_line<C: Catalogue + Drop, S: Wire + Drop, L: io::Write + Drop, W: io::Write>(
     port: Port<C>,
     wire: S,
-    turns: u32,
+    settings: ServeSettings,
     log: Option<L>,
     out: &mut W,
 ) -> Result<(), Failure<'static>>
@@ -163,21 +164,24 @@ fn serve_line<C: Catalogue + Drop, S: Wire + Drop, L: io::Write + Drop, W: io::W
     ensures ended { OnOk result ((ran : Ran) × TellsEnd ran (W.contents out.old) (W.contents out.new)) }
     ensures failed { IfErr result (λ e. (e ≡ Failure.Writer) ⊎ ((e ≡ Failure.LineFailed) × Keeps (W.contents out.old) (W.contents out.new))) }
 {
+    let ServeSettings { rate, turns, .. } = settings;
     match log {
-        None => serve_turns(&mut Server::new(port, wire), turns, out),
+        None => serve_turns(&mut Server::new(port, wire), turns, &mut Unwatched, out),
         Some(writer) => {
             let log = Log::new(writer);
-            serve_turns(&mut Server::new(port, Logged::new(wire, &log)), turns, out)
+            let mut server = Server::new(port, Logged::new(wire, &log));
+            serve_turns(&mut server, turns, &mut AirLog::new(&log, rate), out)
         }
     }
 }
 
 // Makes so many turns of a server, and tells how they ended.
-fn serve_turns<C: Catalogue, S: Wire, W: io::Write>(
+fn serve_turns<'f, C: Catalogue, S: Wire, V: WatchAir, W: io::Write>(
     server: &mut Server<C, S>,
     turns: u32,
+    watcher: &mut V,
     out: &mut W,
-) -> Result<(), Failure<'static>>
+) -> Result<(), Failure<'f>>
     // What is told is how the turns ended.
     ensures ended { OnOk result (EndsAs turns (S.told server.old.wire) (S.told server.new.wire) (W.contents out.old) (W.contents out.new)) }
     ensures works { OnOk result (S.failures server.new.wire ≡ 0) }
@@ -190,7 +194,7 @@ fn serve_turns<C: Catalogue, S: Wire, W: io::Write>(
         S.failures server.old.wire ≡ 0 → S.failures server.new.wire ≡ 1 →
         IfTold (S.told server.new.wire) (λ u. HasBrokenOff start u server.new.port × IsPartlySent start u) }
 {
-    match server.serve(turns as u64) {
+    match server.serve_watched(turns as u64, watcher) {
         Ok(ran) => write_end(ran, out).map_err(|_| Failure::Writer),
         Err(DriveFault::Device) => Err(Failure::LineFailed),
     }

@@ -1,13 +1,9 @@
 -- What sim prints, and of which channel.
-use Rattle.hex.specs.Hex.{encode_lower}
 use Rattle.std.specs.Borrow.{Bor}
 use Rattle.std.specs.Io.KnownBytes.{Appends, Keeps}
-use Rattle.std.specs.Prelude.{ℕ, suc, ◌≡◌, ◌≤◌, ◌⊎◌, Bool, true, false, List, [], ◌∷◌, ◌++◌, codes, decimal, length, Option, None, Some, if◌then◌else◌}
-use Rattle.vdcp_value.specs.Bcd.{is_time}
-use Rattle.vdcp_value.specs.Ids.{text_of_id}
+use Rattle.std.specs.Prelude.{ℕ, suc, ◌≡◌, ◌≤◌, ◌⊎◌, Bool, true, false, List, [], ◌∷◌, ◌++◌, codes, decimal, length, Option, None, Some}
 use Rattle.vdcp_value.specs.declared.clip_id.ClipId.{ClipId}
 use Rattle.vdcp_value.specs.declared.part.Item.{Item}
-use Rattle.vdcp_value.specs.declared.part.Part.{Part}
 use Rattle.vdcp_value.specs.declared.rate.Rate.{Rate}
 use Rattle.vdcp_value.specs.declared.timecode.Timecode.{Timecode}
 use Rattle.vdcp_words.specs.Texts.{command_text, reply_text}
@@ -19,7 +15,7 @@ use Rattle.vdcp_auto.specs.declared.outcome.Outcome.{Outcome}
 use Rattle.vdcp_auto.specs.declared.phase.Mode.{Mode}
 use Rattle.vdcp_auto.specs.declared.phase.Mode.TheVariants.{Plain, Confirming}
 use Rattle.vdcp_list.specs.Catalogues.{IsCatalogueOf}
-use Rattle.vdcp_list.specs.Playlists.{IsListOf, time_text}
+use Rattle.vdcp_list.specs.Playlists.{IsListOf}
 use Rattle.vdcp_text.specs.Failure.{failure_line, status_of}
 use Rattle.vdcp_text.specs.Text.{line}
 use Rattle.vdcp_text.specs.declared.failure.Failure.{Failure}
@@ -27,6 +23,7 @@ use Rattle.vdcp_text.specs.declared.failure.Failure.TheVariants as failures
 use Rattle.vdcp_text.specs.declared.failure.LineFault.{LineFault}
 use Rattle.vdcp_files.specs.Check.{AreWhole}
 use Rattle.vdcp_files.specs.Files.{File, bytes_of}
+use Rattle.vdcp_files.specs.Items.{item_text}
 use Rattle.vdcp_files.specs.Outcome.{outcome_text}
 use Rattle.vdcp_world.specs.Channel.{Channel, new_channel, after_events}
 use Rattle.vdcp_world.specs.Headline.{Headline}
@@ -43,16 +40,6 @@ heard_text (Some (heard.Reply reply)) = reply_text reply
 abbrev pub exchange_text : Exchange → List ℕ
 exchange_text e = command_text e.command ++ codes " -> " ++ heard_text e.heard
 
--- the time code that four bytes write at a rate; their digits where they write none
-abbrev pub shown_time : Rate → List ℕ → List ℕ
-shown_time rate bytes = if is_time rate bytes then time_text rate bytes else encode_lower bytes
-
-abbrev pub part_text : Rate → Option Part → List ℕ
-part_text rate None = []
-part_text rate (Some part) = codes " " ++ shown_time rate part.start ++ codes " " ++ shown_time rate part.duration
-
-abbrev pub item_text : Rate → Item → List ℕ
-item_text rate item = text_of_id item.id ++ part_text rate item.part
 
 -- ---- lines
 

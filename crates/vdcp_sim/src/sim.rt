@@ -6,11 +6,11 @@ ghost use Rattle.vdcp_sim.specs.Sim.{IsScriptFailure, IsScriptRefused, IsSimulat
 ghost use Rattle.vdcp_text.specs.Failure.{status_of};
 
 use crate::script::read_events;
-use crate::text::{ExchangeText, ItemText};
+use crate::text::ExchangeText;
 use std::alloc::{Allocator, Global};
 use std::io;
 use vdcp_auto::{Exchange, Outcome, Source};
-use vdcp_files::{Input, OutcomeText, file_failure};
+use vdcp_files::{Input, ItemText, OutcomeText, file_failure};
 use vdcp_list::{read_catalogue, read_list};
 use vdcp_port::Catalogue;
 use vdcp_text::Failure;

@@ -1,10 +1,11 @@
-use super::{Log, Logged};
+use super::{AirLog, Log, Logged};
 use crate::failing::Failing;
 use std::alloc::Global;
 use std::test::Fail;
-use vdcp_drive::{Came, Entry, Ran, ScriptWire, Server, Wire};
+use vdcp_drive::{Came, Entry, Ran, ScriptWire, Server, WatchAir, Wire};
 use vdcp_list::Slots;
 use vdcp_port::Port;
+use vdcp_value::{ClipId, Item, Part, Rate};
 
 /// OPEN, SELECT cut in two and an ACK behind it, junk, a cut SELECT, a bad sum in a burst that goes on, and a cut close.
 fn entries(alloc: Global) -> Result<Vec<Entry<Global>>, Fail> {
@@ -103,5 +104,29 @@ fn dropped_bytes_are_not_logged(rt: HostRuntime) -> Result<(), Fail> {
     drop(wire);
     drop(log);
     assert_eq!(rt; lines.as_slice(), b"<- ack\n".as_slice());
+    Ok(())
+}
+
+#[test]
+fn items_that_go_to_air_are_logged(rt: HostRuntime) -> Result<(), Fail> {
+    let mut lines = Vec::new(rt.alloc());
+    let log = Log::new(&mut lines);
+    let mut air = AirLog::new(&log, Rate::F25);
+    let id = ClipId::new(*b"CLIP0001");
+    air.aired(&Item { id, part: None });
+    let part = Part {
+        start: [0x12, 0x02, 0x00, 0x00],
+        duration: [0x00, 0x03, 0x01, 0x00],
+    };
+    air.aired(&Item {
+        id,
+        part: Some(part),
+    });
+    drop(air);
+    drop(log);
+    assert_eq!(rt;
+        lines.as_slice(),
+        b"aired 0 CLIP0001\naired 1 CLIP0001 00:00:02:12 00:01:03:00\n".as_slice()
+    );
     Ok(())
 }

@@ -1,3 +1,5 @@
+ghost use Rattle.std.specs.Prelude.{◌≡◌};
+
 use super::{ServeSettings, do_serve, serve_line};
 use crate::failing::{Failing, FailingReader};
 use std::alloc::Global;
@@ -68,16 +70,24 @@ struct Told {
     status: u8,
 }
 
-/// Serves port 1 of unit 0 for so many turns, each with four milliseconds of silence.
-fn served<R: Net + AllocGlobal>(rt: &R, address: &str, catalogue: &[u8], turns: u32) -> Told {
-    let settings = ServeSettings {
+/// Port 1 of unit 0, for so many turns, each with four milliseconds of silence.
+fn settings(turns: u32) -> ServeSettings
+    ensures unit { result.unit ≡ 0 }
+    ensures cue_frames { result.cue_frames ≡ 1 }
+{
+    ServeSettings {
         unit: 0,
         port: 1,
         cue_frames: 1,
         rate: Rate::F25,
         silence: 4,
         turns,
-    };
+    }
+}
+
+/// Serves for so many turns.
+fn served<R: Net + AllocGlobal>(rt: &R, address: &str, catalogue: &[u8], turns: u32) -> Told {
+    let settings = settings(turns);
     let catalogue = Input {
         name: "clips.csv",
         reader: catalogue,
@@ -184,14 +194,7 @@ fn catalogue_is_read_before_the_address_is_bound(rt: HostRuntime) -> Result<(), 
 
 #[test]
 fn catalogue_that_is_not_read_is_told(rt: HostRuntime) {
-    let settings = ServeSettings {
-        unit: 0,
-        port: 1,
-        cue_frames: 1,
-        rate: Rate::F25,
-        silence: 4,
-        turns: 1,
-    };
+    let settings = settings(1);
     let catalogue = Input {
         name: "clips.csv",
         reader: FailingReader {
@@ -232,14 +235,7 @@ fn failing_call_of_the_writer_is_the_last(rt: HostRuntime) -> Result<(), Fail> {
         let net = Ready {
             listener: Cell::new(Some(listener)),
         };
-        let settings = ServeSettings {
-            unit: 0,
-            port: 1,
-            cue_frames: 1,
-            rate: Rate::F25,
-            silence: 4,
-            turns: 1,
-        };
+        let settings = settings(1);
         let catalogue = Input {
             name: "clips.csv",
             reader: CLIPS,
@@ -281,7 +277,7 @@ fn told_of(
     let port = Port::new(Shelf::new(), 0, 1);
     let log: Option<Vec<u8>> = None;
     let mut out = Vec::new(alloc);
-    let ended = serve_line(port, wire, turns, log, &mut out);
+    let ended = serve_line(port, wire, settings(turns), log, &mut out);
     (out, ended)
 }
 
@@ -325,7 +321,8 @@ fn reset_line_has_failed(rt: HostRuntime) -> Result<(), Fail> {
     let wire = StreamWire::new(stream, Duration::from_millis(4))?;
     let log: Option<Vec<u8>> = None;
     let mut out = Vec::new(rt.alloc());
-    let ended = serve_line(Port::new(Shelf::new(), 0, 1), wire, 100, log, &mut out);
+    let port = Port::new(Shelf::new(), 0, 1);
+    let ended = serve_line(port, wire, settings(100), log, &mut out);
     assert_eq!(rt; ended, Err(Failure::LineFailed));
     assert!(rt; out.is_empty());
     Ok(())
