@@ -8,6 +8,8 @@ mod address;
 #[cfg(test)]
 mod failing;
 mod log;
+#[cfg(test)]
+mod loopback_tests;
 mod serve;
 
 pub use serve::{ServeSettings, do_serve};
