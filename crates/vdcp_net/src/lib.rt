@@ -10,6 +10,8 @@ mod asrun;
 #[cfg(test)]
 mod failing;
 mod log;
+#[cfg(test)]
+mod loopback_tests;
 mod progress;
 mod run;
 mod serve;
