@@ -5,9 +5,8 @@ use Rattle.std.specs.Prelude.{◌≢◌, codes, OnErr, Result, Ok, Err}
 use Rattle.hex.proofs.HexLemmas.{decode_of-ok, decode_sized-twice}
 use Rattle.hex.specs.Hex.{decode_of, decode_sized}
 use Rattle.hex.specs.declared.error.FromHexError.{FromHexError}
-use Rattle.vdcp_text.specs.Make.{IsByteText, IsIdText, IsTimeText, NamesNone, Names}
+use Rattle.vdcp_text.specs.Make.{IsIdText, IsTimeText, NamesNone}
 use Rattle.vdcp_value.specs.declared.clip_id.ClipId.{ClipId}
-use Rattle.vdcp_words.specs.declared.command.Command.{Command}
 use Rattle.vdcp_words.specs.declared.command.Command.TheVariants.{Open, Close, Select, PlayCue, CueData, Play, Stop, Status, ActiveId, IdRequest, IdSize}
 
 -- what isn't decoded to so many bytes isn't decoded to any list of so many
