@@ -157,6 +157,24 @@ pub fn port_of(matches: &ArgMatches) -> u8
     number_of(matches, &PORT) as u8
 }
 
+// After how many unanswered exchanges in a row the controller gives up.
+fn limit_of(matches: &ArgMatches) -> u32
+    ensures least { 1 ≤ result }
+    ensures most { result ≤ 1000 }
+    ensures number { (n : ℕ) → GivesNumber (found_of matches.now) (codes "limit") 1 1000 n → result ≡ n }
+{
+    number_of(matches, &LIMIT)
+}
+
+// How many frames a cue takes.
+fn cue_frames_of(matches: &ArgMatches) -> u32
+    ensures least { 1 ≤ result }
+    ensures most { result ≤ 1000 }
+    ensures number { (n : ℕ) → GivesNumber (found_of matches.now) (codes "cue-frames") 1 1000 n → result ≡ n }
+{
+    number_of(matches, &CUE_FRAMES)
+}
+
 /// The frame rate; `clap` lets no text through that names none.
 pub fn rate_of(matches: &ArgMatches) -> Rate
     ensures { (rate : Rate) → GivesRate (found_of matches.now) (codes "rate") rate → result ≡ rate }
@@ -197,8 +215,8 @@ pub fn settings_of(matches: &ArgMatches) -> Settings
     Settings {
         unit: unit_of(matches),
         port: port_of(matches),
-        limit: number_of(matches, &LIMIT),
-        cue_frames: number_of(matches, &CUE_FRAMES),
+        limit: limit_of(matches),
+        cue_frames: cue_frames_of(matches),
         confirm: matches.get_flag("confirm"),
         rate: rate_of(matches),
         trace: matches.get_flag("trace"),
@@ -222,7 +240,7 @@ pub fn serve_settings_of(matches: &ArgMatches) -> ServeSettings
     ServeSettings {
         unit: unit_of(matches),
         port: port_of(matches),
-        cue_frames: number_of(matches, &CUE_FRAMES),
+        cue_frames: cue_frames_of(matches),
         rate: rate_of(matches),
         silence: number_of(matches, &SERVE_SILENCE),
         turns: number_of(matches, &TURNS),
@@ -246,7 +264,7 @@ pub fn run_settings_of<'a>(matches: &'a ArgMatches<'_>) -> RunSettings<'a>
     RunSettings {
         unit: unit_of(matches),
         port: port_of(matches),
-        limit: number_of(matches, &LIMIT),
+        limit: limit_of(matches),
         confirm: matches.get_flag("confirm"),
         rate: rate_of(matches),
         silence: number_of(matches, &RUN_SILENCE),
