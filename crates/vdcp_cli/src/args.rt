@@ -13,7 +13,7 @@ const SIM_EXAMPLE: &str =
 const SERVE_EXAMPLE: &str = "Example: vdcp serve 127.0.0.1:7400 examples/catalogue.csv --log";
 
 const RUN_EXAMPLE: &str =
-    "Example: vdcp run 127.0.0.1:7400 examples/playlist.csv --asrun /tmp/asrun.csv";
+    "Example: vdcp run 127.0.0.1:7400 examples/playlist.csv --asrun asrun.csv";
 
 /// What the command line may be.
 pub fn command<'a>(alloc: Global) -> Result<Command<'a>, AllocError> {
