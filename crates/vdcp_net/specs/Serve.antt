@@ -56,9 +56,9 @@ pub data IsUnserved (rate : Rate) (text : List ℕ) (catalogue : File) (out out'
   no_address : ¬ IsAddress text → failure ≡ failures.Address → Keeps out out' → IsUnserved rate text catalogue out out' failure
   no_catalogue : IsAddress text → RefusesCatalogue rate catalogue failure → Keeps out out' → IsUnserved rate text catalogue out out' failure
   not_bound : IsAddress text → IsWhole rate catalogue → failure ≡ failures.Bind → Keeps out out' ⊎ TellsListening out out'
-    → IsUnserved rate text catalogue out out' failure
+      → IsUnserved rate text catalogue out out' failure
   line_failed : IsAddress text → IsWhole rate catalogue → failure ≡ failures.LineFailed → TellsListening out out'
-    → IsUnserved rate text catalogue out out' failure
+      → IsUnserved rate text catalogue out out' failure
   writer_failed : IsAddress text → IsWhole rate catalogue → failure ≡ failures.Writer → IsUnserved rate text catalogue out out' failure
 
 -- a row of the catalogue is refused: one writer gained the line that tells it, and the other nothing

@@ -144,7 +144,12 @@ fn tell_piece<L: io::Write + Drop>(log: &Log<L>, way: Way, reader: &mut Reader, 
 }
 
 // Takes bytes up to the end of one message or one fault, or all of them. Answers how many.
-fn tell_some<L: io::Write + Drop>(log: &Log<L>, way: Way, reader: &mut Reader, piece: &[u8]) -> usize
+fn tell_some<L: io::Write + Drop>(
+    log: &Log<L>,
+    way: Way,
+    reader: &mut Reader,
+    piece: &[u8],
+) -> usize
     ensures within { result ≤ length piece.now }
     ensures some { 0 < length piece.now → 0 < result }
 {

@@ -5,7 +5,7 @@ ghost use Rattle.vdcp_drive.specs.Wires.{IfTold, Told};
 ghost use Rattle.vdcp_files.specs.Files.{file};
 ghost use Rattle.vdcp_net.specs.Address.{IsAddress};
 ghost use Rattle.vdcp_net.specs.Serve.{EndsAs, IsCatalogueRefused, IsServedThere, IsUnserved, IsWhole, TellsEnd, TellsListening, listening_line};
-ghost use Rattle.vdcp_port.specs.Clock.{ClockedPort};
+ghost use Rattle.vdcp_port.specs.Clock.{ClockedPort, new_port};
 ghost use Rattle.vdcp_text.specs.Failure.{failure_line};
 
 use crate::address::address_of;
@@ -115,8 +115,7 @@ fn serve<'a, R: Net + AllocGlobal, C: io::Read + Drop, L: io::Write + Drop, W: i
     let Ok(wire) = StreamWire::new(stream, silence) else {
         return Err(Failure::LineFailed);
     };
-    let port = Port::with_clock(clips, settings.unit, settings.port, settings.cue_frames);
-    serve_line(port, wire, settings, log, out)
+    serve_line(new_port(clips, settings), wire, settings, log, out)
 }
 
 // Listens at an address, tells it, and takes the first connection. Nobody is listened to from then on.
@@ -152,7 +151,17 @@ fn write_listening<W: io::Write>(address: SocketAddr, out: &mut W) -> io::Result
     out.flush()
 }
 
-// Serves a new port over a line, and tells how that ended.
+// The new port of a catalogue.
+fn new_port<C: Catalogue>(catalogue: C, settings: ServeSettings) -> Port<C>
+    requires unit { settings.unit ≤ 15 }
+    requires some_frames { 1 ≤ settings.cue_frames }
+    requires few_frames { settings.cue_frames ≤ 1000 }
+    ensures { result ≡ new_port (C.clips catalogue) settings.unit settings.port settings.cue_frames }
+{
+    Port::with_clock(catalogue, settings.unit, settings.port, settings.cue_frames)
+}
+
+// Serves a port over a line, and tells how that ended.
 fn serve_line<C: Catalogue + Drop, S: Wire + Drop, L: io::Write + Drop, W: io::Write>(
     port: Port<C>,
     wire: S,

@@ -101,13 +101,7 @@ fn served<R: Net + AllocGlobal>(rt: &R, address: &str, catalogue: &[u8], turns: 
 
 /// Serves an automation that has connected and sent these bytes, and then closes its side if it `closes`:
 /// what it is sent, and whether `out` ends with this line.
-fn answered<R>(
-    rt: &R,
-    sent: &[u8],
-    closes: bool,
-    turns: u32,
-    last: &str,
-) -> Result<Vec<u8>, Fail>
+fn answered<R>(rt: &R, sent: &[u8], closes: bool, turns: u32, last: &str) -> Result<Vec<u8>, Fail>
 where
     R: Net<Listener = TcpListener, Stream = TcpStream> + AllocGlobal + Abort,
 {
@@ -137,7 +131,10 @@ fn automation_that_closes_is_served_to_its_close(rt: HostRuntime) -> Result<(), 
     let mut burst = Vec::from_slice(rt.alloc(), OPEN)?;
     burst.extend_from_slice(SELECT)?;
     burst.extend_from_slice(STATUS)?;
-    assert_eq!(rt; answered(&rt, burst.as_slice(), true, 1000, "closed")?.as_slice(), OPENED);
+    assert_eq!(rt;
+        answered(&rt, burst.as_slice(), true, 1000, "closed")?.as_slice(),
+        OPENED
+    );
     assert!(rt; answered(&rt, &[], true, 1000, "closed")?.is_empty());
     Ok(())
 }
@@ -145,7 +142,10 @@ fn automation_that_closes_is_served_to_its_close(rt: HostRuntime) -> Result<(), 
 #[test]
 fn turns_are_spent(rt: HostRuntime) -> Result<(), Fail> {
     assert_eq!(rt; answered(&rt, OPEN, false, 1, "spent")?.as_slice(), GRANTED);
-    assert_eq!(rt; answered(&rt, &OPEN[..3], false, 2, "spent")?.as_slice(), [0x05, 0x80].as_slice());
+    assert_eq!(rt;
+        answered(&rt, &OPEN[..3], false, 2, "spent")?.as_slice(),
+        [0x05, 0x80].as_slice()
+    );
     assert!(rt; answered(&rt, &[], false, 3, "spent")?.is_empty());
     Ok(())
 }
@@ -155,7 +155,10 @@ fn close_inside_a_command_answers_nothing(rt: HostRuntime) -> Result<(), Fail> {
     for count in 0..OPEN.len() {
         assert!(rt; answered(&rt, &OPEN[..count], true, 1000, "closed")?.is_empty());
     }
-    assert_eq!(rt; answered(&rt, OPEN, true, 1000, "closed")?.as_slice(), GRANTED);
+    assert_eq!(rt;
+        answered(&rt, OPEN, true, 1000, "closed")?.as_slice(),
+        GRANTED
+    );
     Ok(())
 }
 
@@ -205,7 +208,15 @@ fn catalogue_that_is_not_read_is_told(rt: HostRuntime) {
     let log: Option<Vec<u8>> = None;
     let mut out = Vec::new(rt.alloc());
     let mut err = Vec::new(rt.alloc());
-    let status = do_serve(&rt, "127.0.0.1:0", catalogue, settings, log, &mut out, &mut err);
+    let status = do_serve(
+        &rt,
+        "127.0.0.1:0",
+        catalogue,
+        settings,
+        log,
+        &mut out,
+        &mut err,
+    );
     let told = Told { out, err, status };
     expect_refused(&rt, &told, "vdcp: clips.csv: read\n", 3);
 }
@@ -244,7 +255,15 @@ fn failing_call_of_the_writer_is_the_last(rt: HostRuntime) -> Result<(), Fail> {
         let mut out = Failing::new(rt.alloc(), left);
         let mut err = Vec::new(rt.alloc());
         let rt_of_test = (net, rt.alloc());
-        let status = do_serve(&rt_of_test, "127.0.0.1:0", catalogue, settings, log, &mut out, &mut err);
+        let status = do_serve(
+            &rt_of_test,
+            "127.0.0.1:0",
+            catalogue,
+            settings,
+            log,
+            &mut out,
+            &mut err,
+        );
         let text = format!(in rt.alloc(); "listening {address}\nclosed\n")?;
         assert!(rt; err.is_empty());
         assert!(rt; text.as_bytes().starts_with(out.bytes.as_slice()));

@@ -1,0 +1,56 @@
+-- What was told of a channel that isn't served to its end, and with which status.
+use Rattle.std.proofs.Common.{◌≡◌, ℕ, ◌<◌, List, sym, ap, subst, ◌∙◌, arith, inl, inr, ◌⊎◌, Bor}
+use Rattle.std.specs.Io.KnownBytes.{Appends, Keeps}
+use Rattle.std.specs.Prelude.{IfErr, Option, None, Some, Result, Ok, Err}
+use Rattle.vdcp_files.specs.Files.{File, file, file_failure}
+use Rattle.vdcp_list.specs.declared.faults.ListFault.{ListFault}
+use Rattle.vdcp_list.specs.declared.faults.ListFault.TheVariants as lists
+use Rattle.vdcp_net.specs.Address.{IsAddress}
+use Rattle.vdcp_net.specs.Serve.{IsUnserved, IsWhole, TellsListening, no_address, no_catalogue, not_bound, line_failed, writer_failed}
+use Rattle.vdcp_text.specs.Failure.{failure_line, status_of}
+use Rattle.vdcp_text.specs.declared.failure.Failure.{Failure}
+use Rattle.vdcp_text.specs.declared.failure.Failure.TheVariants.{Address, LineFailed, Writer}
+use Rattle.vdcp_value.specs.declared.rate.Rate.{Rate}
+
+listens_still : (out then out' : Option (List ℕ)) → TellsListening out then → Keeps then out' → TellsListening out out'
+listens_still None then out' (address, told) keeps = (address, tt)
+listens_still (Some xs) None out' (address, told) keeps = absurd told
+listens_still (Some xs) (Some ys) None (address, told) keeps = absurd keeps
+listens_still (Some xs) (Some ys) (Some zs) (address, told) keeps = (address, keeps ∙ told)
+
+-- a line that was served failed, or the writer did
+pub unserved_line : {A : Type 0} (rate : Rate) (text : List ℕ) (catalogue : File) (out then out' : Option (List ℕ)) (result : Result A Failure) → IsAddress text
+    → IsWhole rate catalogue → TellsListening out then → IfErr result (λ e. (e ≡ Writer) ⊎ ((e ≡ LineFailed) × Keeps then out'))
+    → IfErr result (IsUnserved rate text catalogue out out')
+unserved_line rate text catalogue out then out' (Ok x) address whole listens h = tt
+unserved_line rate text catalogue out then out' (Err e) address whole listens (inl writer) = writer_failed address whole writer
+unserved_line rate text catalogue out then out' (Err e) address whole listens (inr (failed, keeps)) =
+    line_failed address whole failed (listens_still out then out' listens keeps)
+
+status_2 : (failure : Failure) (status : ℕ) → (status ≡ status_of failure) ⊎ (status ≡ 3) → status ≡ 2 → status_of failure ≡ 2
+status_2 failure status (inl e) two = sym e ∙ two
+status_2 failure status (inr three) two = absurd (omega (arith, three, two))
+
+not_of_a_file : (name : Bor (List ℕ)) (fault : ListFault) → status_of (file_failure name fault) ≡ 2 → ⊥
+not_of_a_file name (lists.Columns row) e = omega (arith, e)
+not_of_a_file name (lists.Id row) e = omega (arith, e)
+not_of_a_file name (lists.Time row) e = omega (arith, e)
+not_of_a_file name (lists.Twice row) e = omega (arith, e)
+not_of_a_file name (lists.TooMany row) e = omega (arith, e)
+not_of_a_file name lists.Memory e = omega (arith, e)
+not_of_a_file name lists.Read e = omega (arith, e)
+
+-- a failure that is told with status 2 is that of the address
+pub refused_with_2 : (rate : Rate) (text : List ℕ) (catalogue : File) (out out' err err' : Option (List ℕ)) (failure : Failure) (status : ℕ)
+    → IsUnserved rate text catalogue out out' failure → (status ≡ status_of failure) ⊎ (status ≡ 3)
+    → (status < 3 → Appends err err' (failure_line failure)) → status ≡ 2 → ¬ (IsAddress text) × Appends err err' (failure_line Address)
+refused_with_2 rate text catalogue out out' err err' failure status (no_address none e keeps) is told two =
+    (none, subst (λ (f : Failure). Appends err err' (failure_line f)) e (told (omega (arith, two))))
+refused_with_2 rate text (file name bytes) out out' err err' failure status (no_catalogue address (fault, e, faulty) keeps) is told two =
+    absurd (not_of_a_file name fault (ap status_of (sym e) ∙ status_2 failure status is two))
+refused_with_2 rate text catalogue out out' err err' failure status (not_bound address whole e tells) is told two =
+    let three : status_of failure ≡ 3 = ap status_of e in absurd (omega (arith, three, status_2 failure status is two))
+refused_with_2 rate text catalogue out out' err err' failure status (line_failed address whole e listens) is told two =
+    let three : status_of failure ≡ 3 = ap status_of e in absurd (omega (arith, three, status_2 failure status is two))
+refused_with_2 rate text catalogue out out' err err' failure status (writer_failed address whole e) is told two =
+    let three : status_of failure ≡ 3 = ap status_of e in absurd (omega (arith, three, status_2 failure status is two))
