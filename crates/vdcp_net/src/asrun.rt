@@ -48,3 +48,6 @@ fn write_reported<S: Source, W: io::Write>(
     let reported = controller.settled().min(source.len());
     write_asrun(alloc, source, rate, reported, writer)
 }
+
+#[cfg(test)]
+mod tests;

@@ -6,6 +6,8 @@
 #![tactic(auto)]
 
 mod address;
+#[cfg(test)]
+mod answers;
 mod asrun;
 #[cfg(test)]
 mod failing;

@@ -174,11 +174,5 @@ fn write_time<W: fmt::Write>(seconds: u64, f: &mut W) -> fmt::Result {
     write!(f, "{hours}:{minutes:02}:{seconds:02}")
 }
 
-/// Watches nothing.
-#[derive(Drop)]
-pub struct Unwatched;
-
-impl<S: Source> Watch<S> for Unwatched {
-    fn look(&mut self, _controller: &Controller<S>) {}
-}
-
+#[cfg(test)]
+mod tests;

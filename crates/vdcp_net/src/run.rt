@@ -12,13 +12,13 @@ ghost use Rattle.vdcp_text.specs.Failure.{failure_line};
 use crate::address::address_of;
 use crate::asrun::save_asrun;
 use crate::log::{Log, Logged};
-use crate::progress::{Progress, Unwatched};
+use crate::progress::Progress;
 use std::io;
 use std::net::{Net, OpenStream, SocketAddr};
 use std::rt::{Clock, Files};
 use std::time::Duration;
 use vdcp_auto::{Controller, Outcome, Source};
-use vdcp_drive::{AutoDriver, DriveFault, Ran, StreamWire, Watch, Wire};
+use vdcp_drive::{AutoDriver, DriveFault, Ran, StreamWire, Unwatched, Watch, Wire};
 use vdcp_files::{Input, OutcomeText, file_failure};
 use vdcp_list::read_list;
 use vdcp_text::Failure;
@@ -386,3 +386,6 @@ fn ended<'a, R: Files + AllocGlobal, S: Source>(
         unwritten,
     }
 }
+
+#[cfg(test)]
+mod tests;

@@ -1,5 +1,11 @@
+use Rattle.std.proofs.Common.{refl}
 use Rattle.vdcp_list.specs.List.{items_of}
 use Rattle.vdcp_net.proofs.run.run_list.Goals as goal
+use Rattle.vdcp_net.specs.Run.{not_connected}
 
-pub returns-clause-read : goal.returns-clause-read
-returns-clause-read g c = (items_of c.in-Ok.events, c.in-Ok.ensures.items)
+pub returns-in_default-clause-unplayed : goal.returns-in_default-clause-unplayed
+returns-in_default-clause-unplayed g c =
+    not_connected (c.in_ok-address.address, c.in_ok-address.ensures.address) (items_of c.in-Ok.events, c.in-Ok.ensures.items) refl
+
+pub returns-clause-whole : goal.returns-clause-whole
+returns-clause-whole g c = (items_of c.in-Ok.events, c.in-Ok.ensures.items)

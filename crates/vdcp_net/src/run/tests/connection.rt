@@ -1,0 +1,307 @@
+//! Runs over a connection within this process. The far end answers as the near end writes to it.
+use super::{SETTINGS, Told, expect, temporary};
+use crate::answers::{GRANTED, TWO_EVENTS};
+use crate::run::{RunSettings, Showing, do_run, new_controller, play_connected};
+use std::io::{self, ErrorKind, Read, Write};
+use std::net::{Ipv4Addr, OpenStream, SocketAddr, TcpListener, TcpStream};
+use std::process::Abort;
+use std::test::Fail;
+use std::time::Duration;
+use std::{fs, mem};
+use vdcp_drive::{Line, Server, StreamWire};
+use vdcp_files::Input;
+use vdcp_list::{Table, read_catalogue, read_list};
+use vdcp_port::Port;
+use vdcp_value::Rate;
+
+// Both ends of a connection.
+fn pair(rt: &HostRuntime) -> io::Result<(TcpStream, TcpStream)> {
+    let listener = TcpListener::bind(rt, SocketAddr::from((Ipv4Addr::LOCALHOST, 0)))?;
+    let near = TcpStream::connect(rt, listener.local_addr()?)?;
+    let (far, _) = listener.accept()?;
+    Ok((near, far))
+}
+
+/// What the far end does when a command has come.
+#[derive(Drop)]
+enum Far {
+    /// It has closed.
+    Gone,
+    /// It reads the command, answers with so many of these bytes, and closes.
+    Closes(TcpStream, usize),
+    /// It closes before it has read the command.
+    Resets(TcpStream),
+    /// It answers nothing.
+    Silent(TcpStream),
+    /// It sends as many bytes as the connection takes, which are no message.
+    Junk(TcpStream),
+    /// It serves a port.
+    Serves(Server<Table, StreamWire>),
+}
+
+/// The near end of a connection.
+#[derive(Drop)]
+struct Near {
+    stream: TcpStream,
+    far: Far,
+}
+
+impl Read for Near {
+    fn read(&mut self, buffer: &mut [u8]) -> io::Result<usize> {
+        self.stream.read(buffer)
+    }
+}
+
+impl Write for Near {
+    fn write(&mut self, bytes: &[u8]) -> io::Result<usize> {
+        let count = self.stream.write(bytes)?;
+        let far = mem::replace(&mut self.far, Far::Gone);
+        self.far = answered(far)?;
+        Ok(count)
+    }
+
+    fn flush(&mut self) -> io::Result<()> {
+        Ok(())
+    }
+}
+
+impl OpenStream for Near {
+    fn set_nodelay(&self, nodelay: bool) -> io::Result<()> {
+        self.stream.set_nodelay(nodelay)
+    }
+
+    fn set_nonblocking(&self, nonblocking: bool) -> io::Result<()> {
+        self.stream.set_nonblocking(nonblocking)
+    }
+
+    fn set_read_timeout(&self, silence: Option<Duration>) -> io::Result<()> {
+        self.stream.set_read_timeout(silence)
+    }
+}
+
+// The far end after it has done what it does.
+fn answered(far: Far) -> io::Result<Far> {
+    match far {
+        Far::Gone => Ok(Far::Gone),
+        Far::Closes(mut stream, cut) => {
+            let _ = stream.read(&mut [0; 64])?;
+            stream.write_all(&GRANTED[..cut.min(GRANTED.len())])?;
+            Ok(Far::Gone)
+        }
+        Far::Resets(stream) => {
+            let _ = stream.peek(&mut [0])?;
+            Ok(Far::Gone)
+        }
+        Far::Silent(stream) => Ok(Far::Silent(stream)),
+        Far::Junk(mut stream) => {
+            fill(&mut stream)?;
+            Ok(Far::Junk(stream))
+        }
+        Far::Serves(mut server) => {
+            for _ in 0..100 {
+                match server.turn() {
+                    Ok(Line::More) => {}
+                    Ok(Line::Ended | Line::Closed) => return Ok(Far::Serves(server)),
+                    Err(_) => return Err(io::Error::from(ErrorKind::BrokenPipe)),
+                }
+            }
+            Err(io::Error::from(ErrorKind::TimedOut))
+        }
+    }
+}
+
+// Sends as many bytes as the connection takes.
+fn fill(stream: &mut TcpStream) -> io::Result<()> {
+    stream.set_nonblocking(true)?;
+    for _ in 0..10_000 {
+        if stream.write(&[0x03; 512]).is_err() {
+            break;
+        }
+    }
+    stream.set_nonblocking(false)
+}
+
+// Plays a list over a connection.
+fn played(
+    rt: &HostRuntime,
+    list: &[u8],
+    near: Near,
+    settings: RunSettings<'_>,
+) -> Result<Told, Fail> {
+    let settings = RunSettings {
+        unit: 0,
+        limit: 3,
+        ..settings
+    };
+    let list = read_list(rt.alloc(), list, settings.rate)?;
+    let controller = new_controller(list, settings);
+    let mut out = Vec::new(rt.alloc());
+    let mut err = Vec::new(rt.alloc());
+    let showing: Showing<Vec<u8>> = Showing::Nothing;
+    let end = play_connected(rt, controller, near, settings, showing);
+    let status = end.tell(&mut out, &mut err)?;
+    Ok(Told { out, err, status })
+}
+
+#[test]
+fn far_end_that_closes_at_each_byte_of_an_answer_has_closed(rt: HostRuntime) -> Result<(), Fail> {
+    for cut in 0..=GRANTED.len() {
+        let (stream, far) = pair(&rt)?;
+        let far = Far::Closes(far, cut);
+        let told = played(&rt, b"CLIP0001\n", Near { stream, far }, SETTINGS)?;
+        expect(&rt, &told, "reported 0\noutcome open\n", "vdcp: line closed\n", 3);
+    }
+    Ok(())
+}
+
+#[test]
+fn far_end_that_closes_at_once_has_closed(rt: HostRuntime) -> Result<(), Fail> {
+    let (stream, _) = pair(&rt)?;
+    let near = Near {
+        stream,
+        far: Far::Gone,
+    };
+    let told = played(&rt, b"CLIP0001\n", near, SETTINGS)?;
+    expect(&rt, &told, "reported 0\noutcome open\n", "vdcp: line closed\n", 3);
+    Ok(())
+}
+
+#[test]
+fn reset_connection_has_failed(rt: HostRuntime) -> Result<(), Fail> {
+    let (stream, far) = pair(&rt)?;
+    let far = Far::Resets(far);
+    let told = played(&rt, b"CLIP0001\n", Near { stream, far }, SETTINGS)?;
+    expect(&rt, &told, "reported 0\noutcome open\n", "vdcp: line failed\n", 3);
+    Ok(())
+}
+
+#[test]
+fn far_end_that_never_answers_is_lost(rt: HostRuntime) -> Result<(), Fail> {
+    let (stream, far) = pair(&rt)?;
+    let far = Far::Silent(far);
+    let told = played(&rt, b"CLIP0001\n", Near { stream, far }, SETTINGS)?;
+    expect(&rt, &told, "reported 0\noutcome lost\n", "", 3);
+    Ok(())
+}
+
+#[test]
+fn far_end_that_sends_junk_spends_the_listens(rt: HostRuntime) -> Result<(), Fail> {
+    let (stream, mut far) = pair(&rt)?;
+    fill(&mut far)?;
+    let far = Far::Junk(far);
+    let told = played(&rt, b"CLIP0001\n", Near { stream, far }, SETTINGS)?;
+    expect(&rt, &told, "reported 0\noutcome open\n", "vdcp: spent\n", 3);
+    Ok(())
+}
+
+// A connection that refuses the silence is a line that failed, and the file is made all the same.
+#[test]
+fn connection_that_refuses_the_silence_has_failed(rt: HostRuntime) -> Result<(), Fail> {
+    let name = temporary(&rt, "refused")?;
+    let (stream, far) = pair(&rt)?;
+    let far = Far::Silent(far);
+    let settings = RunSettings {
+        silence: 0,
+        asrun: Some(name.as_str()),
+        ..SETTINGS
+    };
+    let told = played(&rt, b"CLIP0001\n", Near { stream, far }, settings)?;
+    expect(&rt, &told, "reported 0\noutcome open\n", "vdcp: line failed\n", 3);
+    assert!(rt; fs::read_to_string(&rt, name.as_str())?.is_empty());
+    fs::remove_file(&rt, name.as_str())?;
+    Ok(())
+}
+
+// The far end's clips last one frame, so that each has ended when its state is asked for.
+#[test]
+fn served_list_is_played(rt: HostRuntime) -> Result<(), Fail> {
+    let name = temporary(&rt, "served")?;
+    for confirm in [false, true] {
+        let (stream, far) = pair(&rt)?;
+        let clips = b"CLIP0001,00:00:00:01\n\"A,B\",00:00:00:01\n".as_slice();
+        let clips = read_catalogue(rt.alloc(), clips, Rate::F25)?;
+        let wire = StreamWire::new(far, Duration::from_millis(4))?;
+        let far = Far::Serves(Server::new(Port::new(clips, 0, 1), wire));
+        let settings = RunSettings {
+            confirm,
+            asrun: Some(name.as_str()),
+            ..SETTINGS
+        };
+        let told = played(&rt, TWO_EVENTS, Near { stream, far }, settings)?;
+        expect(&rt, &told, "reported 2\noutcome done\n", "", 0);
+        let written = fs::read_to_string(&rt, name.as_str())?;
+        assert_eq!(rt; written.as_str(), "0,CLIP0001\n1,\"A,B\"\n");
+        fs::remove_file(&rt, name.as_str())?;
+    }
+    Ok(())
+}
+
+// The whole subcommand.
+fn run(
+    rt: &HostRuntime,
+    address: &str,
+    list: &[u8],
+    settings: RunSettings<'_>,
+) -> Told {
+    let settings = RunSettings {
+        unit: 0,
+        limit: 3,
+        ..settings
+    };
+    let mut out = Vec::new(rt.alloc());
+    let mut err = Vec::new(rt.alloc());
+    let list = Input {
+        name: "list.csv",
+        reader: list,
+    };
+    let showing: Showing<Vec<u8>> = Showing::Nothing;
+    let status = do_run(rt, address, list, settings, showing, &mut out, &mut err);
+    Told { out, err, status }
+}
+
+#[test]
+fn refused_run_makes_no_file(rt: HostRuntime) -> Result<(), Fail> {
+    let name = temporary(&rt, "unmade")?;
+    let settings = RunSettings {
+        asrun: Some(name.as_str()),
+        ..SETTINGS
+    };
+    // Nobody listens at the address of a listener that is gone.
+    let listener = TcpListener::bind(&rt, SocketAddr::from((Ipv4Addr::LOCALHOST, 0)))?;
+    let address = listener.local_addr()?;
+    let address = format!(in rt.alloc(); "{address}")?;
+    drop(listener);
+    let rows: [(&str, &[u8], &str, u8); 6] = [
+        (address.as_str(), b"CLIP0001\n", "vdcp: cannot connect\n", 3),
+        (address.as_str(), b"CLIP0001\n,\n", "vdcp: list.csv: row 2: columns\n", 1),
+        // (the address is tested first)
+        ("localhost:1", b",\n", "vdcp: address\n", 2),
+        ("127.0.0.1", b"CLIP0001\n", "vdcp: address\n", 2),
+        ("127.0.0.1:65536", b"CLIP0001\n", "vdcp: address\n", 2),
+        ("[::1]:80", b"CLIP0001\n", "vdcp: address\n", 2),
+    ];
+    for (address, list, fault, status) in rows {
+        let told = run(&rt, address, list, settings);
+        expect(&rt, &told, "", fault, status);
+        assert!(rt; !fs::exists(&rt, name.as_str())?, "{fault}");
+    }
+    Ok(())
+}
+
+// A connection that nobody accepts takes what is sent, and answers nothing.
+#[test]
+fn run_that_nobody_answers_is_lost(rt: HostRuntime) -> Result<(), Fail> {
+    let name = temporary(&rt, "lost")?;
+    let settings = RunSettings {
+        asrun: Some(name.as_str()),
+        ..SETTINGS
+    };
+    let listener = TcpListener::bind(&rt, SocketAddr::from((Ipv4Addr::LOCALHOST, 0)))?;
+    let address = listener.local_addr()?;
+    let address = format!(in rt.alloc(); "{address}")?;
+    let told = run(&rt, address.as_str(), b"CLIP0001\n", settings);
+    expect(&rt, &told, "reported 0\noutcome lost\n", "", 3);
+    assert!(rt; fs::read_to_string(&rt, name.as_str())?.is_empty());
+    fs::remove_file(&rt, name.as_str())?;
+    Ok(())
+}
