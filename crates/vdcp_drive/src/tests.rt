@@ -6,3 +6,4 @@ mod clips;
 mod hostile;
 mod messages;
 mod server;
+mod watching;
