@@ -7,3 +7,4 @@ mod hostile;
 mod loopback;
 mod messages;
 mod server;
+mod watching;
