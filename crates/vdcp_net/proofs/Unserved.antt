@@ -1,8 +1,9 @@
 -- What was told of a channel that isn't served to its end, and with which status.
-use Rattle.std.proofs.Common.{◌≡◌, ℕ, ◌<◌, List, sym, ap, subst, ◌∙◌, arith, inl, inr, ◌⊎◌, Bor}
+use Rattle.std.proofs.Common.{◌≡◌, refl, ℕ, ◌<◌, List, sym, ap, subst, ◌∙◌, arith, inl, inr, ◌⊎◌, Bor}
 use Rattle.std.specs.Io.KnownBytes.{Appends, Keeps}
 use Rattle.std.specs.Prelude.{IfErr, Option, None, Some, Result, Ok, Err}
 use Rattle.vdcp_files.specs.Files.{File, file, file_failure}
+use Rattle.vdcp_list.specs.Catalogues.{IsCatalogueFaultOf}
 use Rattle.vdcp_list.specs.declared.faults.ListFault.{ListFault}
 use Rattle.vdcp_list.specs.declared.faults.ListFault.TheVariants as lists
 use Rattle.vdcp_net.specs.Address.{IsAddress}
@@ -17,6 +18,15 @@ listens_still None then out' (address, told) keeps = (address, tt)
 listens_still (Some xs) None out' (address, told) keeps = absurd told
 listens_still (Some xs) (Some ys) None (address, told) keeps = absurd keeps
 listens_still (Some xs) (Some ys) (Some zs) (address, told) keeps = (address, keeps ∙ told)
+
+keeps_itself : (out : Option (List ℕ)) → Keeps out out
+keeps_itself None = tt
+keeps_itself (Some xs) = refl
+
+-- the catalogue isn't read, and nothing was told
+pub unserved_catalogue : (rate : Rate) (text : List ℕ) (name : Bor (List ℕ)) (bytes out : Option (List ℕ)) (fault : ListFault) (failure : Failure) → IsAddress text
+    → failure ≡ file_failure name fault → IsCatalogueFaultOf rate bytes fault → IsUnserved rate text (file name bytes) out out failure
+unserved_catalogue rate text name bytes out fault failure address told faulty = no_catalogue address (fault, told, faulty) (keeps_itself out)
 
 -- a line that was served failed, or the writer did
 pub unserved_line : {A : Type 0} (rate : Rate) (text : List ℕ) (catalogue : File) (out then out' : Option (List ℕ)) (result : Result A Failure) → IsAddress text
