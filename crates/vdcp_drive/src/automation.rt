@@ -177,7 +177,7 @@ impl<S: Source, W: Wire> AutoDriver<S, W> {
         ensures unit { self.new.unit ≡ self.old.unit }
         ensures works { OnOk result (W.failures self.new.wire ≡ 0) }
         ensures device { OnErr result (W.failures self.new.wire ≡ 1) }
-        ensures stays { W.failures self.old.wire ≡ 1 → IsErr result × (self.new ≡ self.old) }
+        ensures stays { W.failures self.old.wire ≡ 1 → IsErr result × (self.new ≡ self.old) × (watcher.new ≡ watcher.old) }
     {
         courses::courses_follow_one_another();
         bursts::one_reading();

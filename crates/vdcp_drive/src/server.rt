@@ -146,7 +146,7 @@ impl<C: Catalogue, W: Wire> Server<C, W> {
         ensures drops { (t : Told) → W.told self.old.wire ≡ Some t → IfTold (W.told self.new.wire) (λ u. u.drops ≡ t.drops) }
         ensures works { OnOk result (W.failures self.new.wire ≡ 0) }
         ensures device { OnErr result (W.failures self.new.wire ≡ 1) }
-        ensures stays { W.failures self.old.wire ≡ 1 → IsErr result × (self.new ≡ self.old) }
+        ensures stays { W.failures self.old.wire ≡ 1 → IsErr result × (self.new ≡ self.old) × (watcher.new ≡ watcher.old) }
     {
         bursts::what_is_fed_is_followed();
         if self.failed {
