@@ -3,7 +3,7 @@ use std::io::Write;
 use std::net::{Ipv4Addr, SocketAddr, TcpListener, TcpStream};
 use std::test::Fail;
 use std::time::Duration;
-use vdcp_auto::{Controller, Outcome};
+use vdcp_auto::{Controller, Outcome, Source};
 use vdcp_drive::{AutoDriver, Line, Server, StreamWire};
 use vdcp_list::{List, Table, read_catalogue, read_list, write_asrun};
 use vdcp_port::Port;
@@ -64,6 +64,18 @@ fn hear(driver: &mut Automation) -> Result<(), Fail> {
     Err("the exchange goes on".into())
 }
 
+/// The as-run list of so many events.
+fn asrun(alloc: Global, list: &List, reported: usize) -> Result<Vec<u8>, Fail> {
+    let mut text = Vec::new(alloc);
+    if reported > list.len() {
+        return Err("more than the list has".into());
+    }
+    match write_asrun(alloc, list, Rate::F25, reported, &mut text) {
+        Ok(()) => Ok(text),
+        Err(_) => Err("no as-run list".into()),
+    }
+}
+
 /// Plays the list: how it ended, how many events were settled, and the as-run list of these.
 fn play(
     rt: &HostRuntime,
@@ -72,19 +84,9 @@ fn play(
     let (mut driver, mut server) = ends(rt, controller)?;
     for _ in 0..100 {
         if !driver.send()? {
-            let mut text = Vec::new(rt.alloc());
             let controller = driver.controller();
-            let reported = controller.settled();
-            match write_asrun(
-                rt.alloc(),
-                controller.source(),
-                Rate::F25,
-                reported,
-                &mut text,
-            ) {
-                Ok(()) => return Ok((controller.outcome(), reported, text)),
-                Err(_) => return Err("no as-run list".into()),
-            }
+            let text = asrun(rt.alloc(), controller.source(), controller.settled())?;
+            return Ok((controller.outcome(), controller.settled(), text));
         }
         answer(&mut server)?;
         hear(&mut driver)?;

@@ -70,6 +70,7 @@ pub fn do_serve<
     requires some_frames { 1 ≤ settings.cue_frames }
     requires few_frames { settings.cue_frames ≤ 1000 }
     ensures served { result ≡ 0 → IsServedThere (W.contents out.old) (W.contents out.new) }
+    ensures whole { result ≡ 0 → IsAddress address.now × IsWhole settings.rate (file catalogue.entry.name (C.remaining catalogue.entry.reader)) }
     ensures untold { result ≡ 0 → Keeps (E.contents err.old) (E.contents err.new) }
     // The status is 1 for a row that is refused.
     ensures others { result ≡ 1 → IsCatalogueRefused settings.rate (file catalogue.entry.name (C.remaining catalogue.entry.reader))

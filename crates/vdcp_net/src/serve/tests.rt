@@ -3,7 +3,6 @@ ghost use Rattle.std.specs.Prelude.{◌≡◌};
 use super::{ServeSettings, do_serve, serve_line};
 use crate::failing::{Failing, FailingReader};
 use std::alloc::Global;
-use std::cell::Cell;
 use std::io::{self, ErrorKind, Read, Write};
 use std::net::{Ipv4Addr, Net, Shutdown, SocketAddr, TcpListener, TcpStream};
 use std::process::Abort;
@@ -34,7 +33,7 @@ const OPENED: &[u8] = &[
 /// A network at which a listener stands already, so that an automation connects before it is served.
 #[derive(Drop)]
 struct Ready {
-    listener: Cell<Option<TcpListener>>,
+    listener: TcpListener,
 }
 
 impl Net for Ready {
@@ -43,8 +42,7 @@ impl Net for Ready {
     type Listener = TcpListener;
 
     fn bind(&self, _address: SocketAddr) -> io::Result<TcpListener> {
-        let listener = self.listener.replace(None);
-        listener.ok_or(io::Error::from(ErrorKind::AddrInUse))
+        self.listener.try_clone()
     }
 
     fn connect(&self, _address: SocketAddr) -> io::Result<TcpStream> {
@@ -111,18 +109,16 @@ where
     if closes {
         automation.shutdown(Shutdown::Write)?;
     }
-    let net = Ready {
-        listener: Cell::new(Some(listener)),
-    };
-    let told = served(&(net, rt.alloc()), "127.0.0.1:0", CLIPS, turns);
-    let text = format!(in rt.alloc(); "listening {address}\n{last}\n")?;
+    let net = (Ready { listener }, rt.alloc());
+    let told = served(&net, "127.0.0.1:0", CLIPS, turns);
+    let mut text = format!(in rt.alloc(); "listening {address}\n")?;
+    text.push_str(last)?;
+    text.push_str("\n")?;
     assert_eq!(rt; told.out.as_slice(), text.as_bytes());
     assert!(rt; told.err.is_empty());
     assert_eq!(rt; told.status, 0);
     let mut answers = Vec::new(rt.alloc());
     automation.read_to_end(&mut answers)?;
-    // The listener is gone: nobody takes another connection.
-    assert!(rt; TcpStream::connect(rt, address).is_err());
     Ok(answers)
 }
 
@@ -226,10 +222,8 @@ fn catalogue_that_is_not_read_is_told(rt: HostRuntime) {
 fn refused_connection_is_told(rt: HostRuntime) -> Result<(), Fail> {
     let (listener, address) = listen(&rt)?;
     listener.set_nonblocking(true)?;
-    let net = Ready {
-        listener: Cell::new(Some(listener)),
-    };
-    let told = served(&(net, rt.alloc()), "127.0.0.1:0", CLIPS, 1);
+    let net = (Ready { listener }, rt.alloc());
+    let told = served(&net, "127.0.0.1:0", CLIPS, 1);
     let text = format!(in rt.alloc(); "listening {address}\n")?;
     assert_eq!(rt; told.out.as_slice(), text.as_bytes());
     assert_eq!(rt; told.err.as_slice(), b"vdcp: cannot bind\n".as_slice());
@@ -243,9 +237,7 @@ fn failing_call_of_the_writer_is_the_last(rt: HostRuntime) -> Result<(), Fail> {
         let (listener, address) = listen(&rt)?;
         let automation = TcpStream::connect(&rt, address)?;
         drop(automation);
-        let net = Ready {
-            listener: Cell::new(Some(listener)),
-        };
+        let net = (Ready { listener }, rt.alloc());
         let settings = settings(1);
         let catalogue = Input {
             name: "clips.csv",
@@ -254,9 +246,8 @@ fn failing_call_of_the_writer_is_the_last(rt: HostRuntime) -> Result<(), Fail> {
         let log: Option<Vec<u8>> = None;
         let mut out = Failing::new(rt.alloc(), left);
         let mut err = Vec::new(rt.alloc());
-        let rt_of_test = (net, rt.alloc());
         let status = do_serve(
-            &rt_of_test,
+            &net,
             "127.0.0.1:0",
             catalogue,
             settings,
