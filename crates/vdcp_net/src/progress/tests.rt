@@ -3,12 +3,11 @@ use crate::answers::{TWO_EVENTS, two_played, wire_of};
 use crate::failing::Failing;
 use std::alloc::Global;
 use std::cell::Cell;
-use std::io;
 use std::process::Abort;
 use std::rt::Clock;
 use std::test::Fail;
-use std::str;
 use std::time::Duration;
+use std::{io, str};
 use vdcp_auto::{Controller, Heard};
 use vdcp_drive::{AutoDriver, ScriptWire, Watch};
 use vdcp_list::{List, read_list};
@@ -77,7 +76,11 @@ fn run_is_shown_as_it_goes(rt: HostRuntime) -> Result<(), Fail> {
     ] {
         assert!(rt; text.contains(line), "{line}");
     }
-    let drawn = text.as_bytes().iter().filter(|byte| **byte == b'\r').count();
+    let drawn = text
+        .as_bytes()
+        .iter()
+        .filter(|byte| **byte == b'\r')
+        .count();
     assert_eq!(rt; drawn, 29);
     Ok(())
 }
