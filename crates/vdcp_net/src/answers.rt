@@ -1,4 +1,6 @@
 //! Answers of a server to an automation at its port 1 and unit 0, and a wire that gives them.
+ghost use Rattle.std.specs.Prelude.{◌≡◌, IfOk, false};
+
 use std::alloc::{AllocError, Global};
 use vdcp_drive::{Entry, ScriptWire};
 
@@ -36,7 +38,9 @@ pub fn two_played() -> [&'static [u8]; 14] {
 }
 
 /// A wire on which each of these answers comes, and a silence behind it. No bytes are a silence alone.
-pub fn wire_of(alloc: Global, answers: &[&[u8]]) -> Result<ScriptWire<Global>, AllocError> {
+pub fn wire_of(alloc: Global, answers: &[&[u8]]) -> Result<ScriptWire<Global>, AllocError>
+    ensures { IfOk result (λ wire. wire.failed ≡ false) }
+{
     let mut entries = Vec::new(alloc);
     for answer in answers {
         if !answer.is_empty() {

@@ -1,5 +1,5 @@
-ghost use Rattle.std.specs.Io.KnownBytes.{Appends};
-ghost use Rattle.std.specs.Prelude.{IfErr, OnOk};
+ghost use Rattle.std.specs.Io.KnownBytes.{Appends, Keeps};
+ghost use Rattle.std.specs.Prelude.{◌≢◌, IfErr, OnOk};
 ghost use Rattle.vdcp_list.specs.Asrun.{asrun_text};
 ghost use Rattle.vdcp_net.specs.Run.{IsUnwritten};
 
@@ -40,8 +40,9 @@ fn write_reported<S: Source, W: io::Write>(
     rate: Rate,
     writer: &mut W,
 ) -> Result<(), WriteFault>
-    ensures { OnOk result (Appends (W.contents writer.old) (W.contents writer.new)
+    ensures ok { OnOk result (Appends (W.contents writer.old) (W.contents writer.new)
         (asrun_text rate (S.items controller.now.source) controller.now.state.settled)) }
+    ensures kept { IfErr result (λ fault. fault ≢ WriteFault.Device → Keeps (W.contents writer.old) (W.contents writer.new)) }
 {
     let source = controller.source();
     // (a controller never settles more events than there are; its type doesn't say so)

@@ -6,7 +6,8 @@ ghost use Rattle.vdcp_drive.specs.Driven.{HasRun, HasRunBroken, IsNew, IsPartlyR
 ghost use Rattle.vdcp_drive.specs.Wires.{IfTold, Told};
 ghost use Rattle.vdcp_files.specs.Files.{file};
 ghost use Rattle.vdcp_net.specs.Address.{IsAddress};
-ghost use Rattle.vdcp_net.specs.Run.{EndsTo, IsListRefused, IsRun, IsUnplayed, IsWholeList, MayBeUnwritten, end_text, fault_text, faults_text, line_end_of, line_failure, mode_of, run_status};
+ghost use Rattle.vdcp_net.specs.Run.{EndsTo, IsListRefused, IsRun, IsUnplayed, IsWholeList, MayBeUnwritten};
+ghost use Rattle.vdcp_net.specs.Run.{end_text, fault_text, faults_text, line_end_of, line_failure, mode_of, run_status};
 ghost use Rattle.vdcp_text.specs.Failure.{failure_line};
 
 use crate::address::address_of;
@@ -225,12 +226,7 @@ pub fn do_run<
 }
 
 // Reads the list, connects, plays the list, and writes what is reported of it.
-fn run_list<
-    'a,
-    R: Net + Files + Clock + AllocGlobal,
-    L: io::Read + Drop,
-    V: io::Write + Drop,
->(
+fn run_list<'a, R: Net + Files + Clock + AllocGlobal, L: io::Read + Drop, V: io::Write + Drop>(
     rt: &R,
     address: &str,
     list: Input<'a, L>,

@@ -1,3 +1,5 @@
+ghost use Rattle.std.specs.Prelude.{◌≡◌, false};
+
 use super::{RunSettings, Showing, new_controller, play, play_shown};
 use crate::answers::{
     ABSENT, ACK, ACTIVE_2, CUED, DENIED, GRANTED, IDLE, PRESENT, REFUSED, TWO_EVENTS, two_played,
@@ -39,7 +41,9 @@ fn played(
     list: &[u8],
     wire: ScriptWire<Global>,
     settings: RunSettings<'_>,
-) -> Result<Told, Fail> {
+) -> Result<Told, Fail>
+    requires { wire.failed ≡ false }
+{
     let settings = RunSettings {
         limit: 3,
         ..settings
@@ -53,13 +57,7 @@ fn played(
     Ok(Told { out, err, status })
 }
 
-fn expect(
-    rt: &impl Abort,
-    told: &Told,
-    out: &str,
-    err: &str,
-    status: u8,
-) {
+fn expect(rt: &impl Abort, told: &Told, out: &str, err: &str, status: u8) {
     assert_eq!(rt; told.out.as_slice(), out.as_bytes());
     assert_eq!(rt; told.err.as_slice(), err.as_bytes(), "{out}");
     assert_eq!(rt; told.status, status, "{out}");
@@ -69,11 +67,26 @@ fn expect(
 fn each_outcome_is_told(rt: HostRuntime) -> Result<(), Fail> {
     let part: &[u8] = b"CLIP0001,00:00:08:00,00:00:03:00\n";
     let rows: [(&[u8], &[&[u8]], &str, u8); 8] = [
-        (b"", &[GRANTED, ACK, IDLE, ACK], "reported 0\noutcome done\n", 0),
+        (
+            b"",
+            &[GRANTED, ACK, IDLE, ACK],
+            "reported 0\noutcome done\n",
+            0,
+        ),
         (TWO_EVENTS, &two_played(), "reported 2\noutcome done\n", 0),
         (b"", &[DENIED], "reported 0\noutcome denied\n", 1),
-        (b"CLIP0001\n", &[GRANTED, ACK, ABSENT], "reported 0\noutcome missing 0\n", 1),
-        (part, &[GRANTED, ACK, PRESENT, REFUSED], "reported 0\noutcome refused 0\n", 1),
+        (
+            b"CLIP0001\n",
+            &[GRANTED, ACK, ABSENT],
+            "reported 0\noutcome missing 0\n",
+            1,
+        ),
+        (
+            part,
+            &[GRANTED, ACK, PRESENT, REFUSED],
+            "reported 0\noutcome refused 0\n",
+            1,
+        ),
         (
             b"CLIP0001\n",
             &[GRANTED, ACK, PRESENT, ACK, CUED, ACK, ACTIVE_2],
@@ -86,7 +99,12 @@ fn each_outcome_is_told(rt: HostRuntime) -> Result<(), Fail> {
             "reported 0\noutcome strange 0\n",
             1,
         ),
-        (b"CLIP0001\n", &[&[], &[], &[]], "reported 0\noutcome lost\n", 3),
+        (
+            b"CLIP0001\n",
+            &[&[], &[], &[]],
+            "reported 0\noutcome lost\n",
+            3,
+        ),
     ];
     for (list, answers, text, status) in rows {
         let told = played(&rt, list, wire_of(rt.alloc(), answers)?, SETTINGS)?;
@@ -119,7 +137,13 @@ fn closed_line_is_told(rt: HostRuntime) -> Result<(), Fail> {
         entries.push(Entry::Closed)?;
         let wire = ScriptWire::new(rt.alloc(), entries);
         let told = played(&rt, b"CLIP0001\n", wire, SETTINGS)?;
-        expect(&rt, &told, "reported 0\noutcome open\n", "vdcp: line closed\n", 3);
+        expect(
+            &rt,
+            &told,
+            "reported 0\noutcome open\n",
+            "vdcp: line closed\n",
+            3,
+        );
     }
     Ok(())
 }
@@ -190,7 +214,11 @@ fn temporary(rt: &HostRuntime, name: &str) -> Result<String, Fail> {
 fn asrun_file_has_the_reported_events(rt: HostRuntime) -> Result<(), Fail> {
     let name = temporary(&rt, "asrun")?;
     // What stood in the file goes.
-    fs::write(&rt, name.as_str(), "something longer than any as-run list of two events")?;
+    fs::write(
+        &rt,
+        name.as_str(),
+        "something longer than any as-run list of two events",
+    )?;
     let settings = RunSettings {
         asrun: Some(name.as_str()),
         ..SETTINGS
@@ -215,14 +243,18 @@ fn asrun_file_has_the_reported_events(rt: HostRuntime) -> Result<(), Fail> {
 fn asrun_file_of_parts_has_their_times(rt: HostRuntime) -> Result<(), Fail> {
     let name = temporary(&rt, "parts")?;
     let settings = RunSettings {
+        rate: Rate::D30,
         asrun: Some(name.as_str()),
         ..SETTINGS
     };
-    let list = b"CLIP0001,00:00:02:00,00:00:03:00\n\"A,B\",,\n";
+    let list = b"CLIP0001,00:01:00;02,00:00:03;00\n\"A,B\",,\n";
     let told = played(&rt, list, wire_of(rt.alloc(), &two_played())?, settings)?;
     expect(&rt, &told, "reported 2\noutcome done\n", "", 0);
     let written = fs::read_to_string(&rt, name.as_str())?;
-    assert_eq!(rt; written.as_str(), "0,CLIP0001,00:00:02:00,00:00:03:00\n1,\"A,B\",,\n");
+    assert_eq!(rt;
+        written.as_str(),
+        "0,CLIP0001,00:01:00;02,00:00:03;00\n1,\"A,B\",,\n"
+    );
     fs::remove_file(&rt, name.as_str())?;
     Ok(())
 }
@@ -231,7 +263,12 @@ fn asrun_file_of_parts_has_their_times(rt: HostRuntime) -> Result<(), Fail> {
 #[test]
 fn asrun_file_that_is_not_written_is_told_first(rt: HostRuntime) -> Result<(), Fail> {
     let rows: [(&str, u64, &str, &str); 6] = [
-        ("/dev/full", 57, "reported 2\noutcome done\n", "vdcp: /dev/full: write\n"),
+        (
+            "/dev/full",
+            57,
+            "reported 2\noutcome done\n",
+            "vdcp: /dev/full: write\n",
+        ),
         (
             "/dev/full",
             41,
@@ -239,15 +276,30 @@ fn asrun_file_that_is_not_written_is_told_first(rt: HostRuntime) -> Result<(), F
             "vdcp: /dev/full: write\nvdcp: line failed\n",
         ),
         // (nothing is to be written)
-        ("/dev/full", 1, "reported 0\noutcome open\n", "vdcp: line failed\n"),
-        ("/", 57, "reported 2\noutcome done\n", "vdcp: /: cannot open\n"),
+        (
+            "/dev/full",
+            1,
+            "reported 0\noutcome open\n",
+            "vdcp: line failed\n",
+        ),
+        (
+            "/",
+            57,
+            "reported 2\noutcome done\n",
+            "vdcp: /: cannot open\n",
+        ),
         (
             "/",
             1,
             "reported 0\noutcome open\n",
             "vdcp: /: cannot open\nvdcp: line failed\n",
         ),
-        ("", 57, "reported 2\noutcome done\n", "vdcp: : cannot open\n"),
+        (
+            "",
+            57,
+            "reported 2\noutcome done\n",
+            "vdcp: : cannot open\n",
+        ),
     ];
     for (name, call, text, faults) in rows {
         let mut wire = wire_of(rt.alloc(), &two_played())?;
@@ -265,7 +317,13 @@ fn asrun_file_that_is_not_written_is_told_first(rt: HostRuntime) -> Result<(), F
         ..SETTINGS
     };
     let told = played(&rt, b"", wire_of(rt.alloc(), &[GRANTED])?, settings)?;
-    expect(&rt, &told, "reported 0\noutcome open\n", "vdcp: /: cannot open\nvdcp: spent\n", 3);
+    expect(
+        &rt,
+        &told,
+        "reported 0\noutcome open\n",
+        "vdcp: /: cannot open\nvdcp: spent\n",
+        3,
+    );
     Ok(())
 }
 
@@ -324,7 +382,8 @@ fn messages_are_shown(rt: HostRuntime) -> Result<(), Fail> {
     let mut err = Vec::new(rt.alloc());
     let end = play_shown(&rt, controller, wire, settings, Showing::Messages(&mut log));
     assert_eq!(rt; end.tell(&mut out, &mut err)?, 1);
-    let text = b"-> unit 0 type 3 code 01 data 0101 = open 01 01\n<- unit 0 type 3 code 81 data 00 = denied\n";
+    let text =
+        b"-> unit 0 type 3 code 01 data 0101 = open 01 01\n<- unit 0 type 3 code 81 data 00 = denied\n";
     assert_eq!(rt; log.as_slice(), text.as_slice());
     Ok(())
 }

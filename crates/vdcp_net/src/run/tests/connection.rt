@@ -1,4 +1,6 @@
 //! Runs over a connection within this process. The far end answers as the near end writes to it.
+ghost use Rattle.std.specs.Prelude.{◌≤◌};
+
 use super::{SETTINGS, Told, expect, temporary};
 use crate::answers::{GRANTED, TWO_EVENTS};
 use crate::run::{RunSettings, Showing, do_run, new_controller, play_connected};
@@ -6,7 +8,7 @@ use std::io::{self, ErrorKind, Read, Write};
 use std::net::{Ipv4Addr, OpenStream, SocketAddr, TcpListener, TcpStream};
 use std::process::Abort;
 use std::test::Fail;
-use std::time::Duration;
+use std::time::{Duration, Instant};
 use std::{fs, mem};
 use vdcp_drive::{Line, Server, StreamWire};
 use vdcp_files::Input;
@@ -149,7 +151,13 @@ fn far_end_that_closes_at_each_byte_of_an_answer_has_closed(rt: HostRuntime) -> 
         let (stream, far) = pair(&rt)?;
         let far = Far::Closes(far, cut);
         let told = played(&rt, b"CLIP0001\n", Near { stream, far }, SETTINGS)?;
-        expect(&rt, &told, "reported 0\noutcome open\n", "vdcp: line closed\n", 3);
+        expect(
+            &rt,
+            &told,
+            "reported 0\noutcome open\n",
+            "vdcp: line closed\n",
+            3,
+        );
     }
     Ok(())
 }
@@ -162,7 +170,13 @@ fn far_end_that_closes_at_once_has_closed(rt: HostRuntime) -> Result<(), Fail> {
         far: Far::Gone,
     };
     let told = played(&rt, b"CLIP0001\n", near, SETTINGS)?;
-    expect(&rt, &told, "reported 0\noutcome open\n", "vdcp: line closed\n", 3);
+    expect(
+        &rt,
+        &told,
+        "reported 0\noutcome open\n",
+        "vdcp: line closed\n",
+        3,
+    );
     Ok(())
 }
 
@@ -171,7 +185,13 @@ fn reset_connection_has_failed(rt: HostRuntime) -> Result<(), Fail> {
     let (stream, far) = pair(&rt)?;
     let far = Far::Resets(far);
     let told = played(&rt, b"CLIP0001\n", Near { stream, far }, SETTINGS)?;
-    expect(&rt, &told, "reported 0\noutcome open\n", "vdcp: line failed\n", 3);
+    expect(
+        &rt,
+        &told,
+        "reported 0\noutcome open\n",
+        "vdcp: line failed\n",
+        3,
+    );
     Ok(())
 }
 
@@ -206,7 +226,13 @@ fn connection_that_refuses_the_silence_has_failed(rt: HostRuntime) -> Result<(),
         ..SETTINGS
     };
     let told = played(&rt, b"CLIP0001\n", Near { stream, far }, settings)?;
-    expect(&rt, &told, "reported 0\noutcome open\n", "vdcp: line failed\n", 3);
+    expect(
+        &rt,
+        &told,
+        "reported 0\noutcome open\n",
+        "vdcp: line failed\n",
+        3,
+    );
     assert!(rt; fs::read_to_string(&rt, name.as_str())?.is_empty());
     fs::remove_file(&rt, name.as_str())?;
     Ok(())
@@ -237,17 +263,11 @@ fn served_list_is_played(rt: HostRuntime) -> Result<(), Fail> {
 }
 
 // The whole subcommand.
-fn run(
-    rt: &HostRuntime,
-    address: &str,
-    list: &[u8],
-    settings: RunSettings<'_>,
-) -> Told {
-    let settings = RunSettings {
-        unit: 0,
-        limit: 3,
-        ..settings
-    };
+fn run(rt: &HostRuntime, address: &str, list: &[u8], settings: RunSettings<'_>) -> Told
+    requires unit { settings.unit ≤ 15 }
+    requires some { 1 ≤ settings.limit }
+    requires few { settings.limit ≤ 1000 }
+{
     let mut out = Vec::new(rt.alloc());
     let mut err = Vec::new(rt.alloc());
     let list = Input {
@@ -263,6 +283,8 @@ fn run(
 fn refused_run_makes_no_file(rt: HostRuntime) -> Result<(), Fail> {
     let name = temporary(&rt, "unmade")?;
     let settings = RunSettings {
+        unit: 0,
+        limit: 3,
         asrun: Some(name.as_str()),
         ..SETTINGS
     };
@@ -273,7 +295,12 @@ fn refused_run_makes_no_file(rt: HostRuntime) -> Result<(), Fail> {
     drop(listener);
     let rows: [(&str, &[u8], &str, u8); 6] = [
         (address.as_str(), b"CLIP0001\n", "vdcp: cannot connect\n", 3),
-        (address.as_str(), b"CLIP0001\n,\n", "vdcp: list.csv: row 2: columns\n", 1),
+        (
+            address.as_str(),
+            b"CLIP0001\n,\n",
+            "vdcp: list.csv: row 2: columns\n",
+            1,
+        ),
         // (the address is tested first)
         ("localhost:1", b",\n", "vdcp: address\n", 2),
         ("127.0.0.1", b"CLIP0001\n", "vdcp: address\n", 2),
@@ -288,20 +315,32 @@ fn refused_run_makes_no_file(rt: HostRuntime) -> Result<(), Fail> {
     Ok(())
 }
 
-// A connection that nobody accepts takes what is sent, and answers nothing.
+// A connection that nobody has accepted takes what is sent, and answers nothing.
 #[test]
 fn run_that_nobody_answers_is_lost(rt: HostRuntime) -> Result<(), Fail> {
     let name = temporary(&rt, "lost")?;
     let settings = RunSettings {
+        unit: 5,
+        port: 2,
+        limit: 2,
+        silence: 100,
         asrun: Some(name.as_str()),
         ..SETTINGS
     };
     let listener = TcpListener::bind(&rt, SocketAddr::from((Ipv4Addr::LOCALHOST, 0)))?;
     let address = listener.local_addr()?;
     let address = format!(in rt.alloc(); "{address}")?;
+    let start = Instant::now(&rt)?;
     let told = run(&rt, address.as_str(), b"CLIP0001\n", settings);
+    assert!(rt; start.elapsed(&rt)? >= Duration::from_millis(200));
     expect(&rt, &told, "reported 0\noutcome lost\n", "", 3);
     assert!(rt; fs::read_to_string(&rt, name.as_str())?.is_empty());
     fs::remove_file(&rt, name.as_str())?;
+    // OPEN of port 2 at unit 5 was sent twice.
+    let mut sent = Vec::new(rt.alloc());
+    let (mut far, _) = listener.accept()?;
+    far.read_to_end(&mut sent)?;
+    let open = [0x02, 0x04, 0x35, 0x01, 0x02, 0x01, 0xC7];
+    assert_eq!(rt; sent.as_slice(), [open, open].as_flattened());
     Ok(())
 }
