@@ -1,6 +1,7 @@
 -- The laws of the crates below that lemmas take, each from the call that has it.
 use Rattle.std.specs.Option.{option_to_list}
-use Rattle.std.specs.Prelude.{ℕ, ◌≡◌, List, [], ◌∷◌, ◌++◌}
+use Rattle.std.specs.Prelude.{ℕ, ◌≡◌, List, [], ◌∷◌, ◌++◌, ◌⊎◌}
+use Rattle.vdcp_value.specs.declared.part.Item.{Item}
 use Rattle.vdcp_frame.specs.Burst.{messages_of, end_of}
 use Rattle.vdcp_frame.specs.Message.{Content, AreOctets}
 use Rattle.vdcp_frame.specs.Progress.{Progress, reading}
@@ -8,8 +9,9 @@ use Rattle.vdcp_frame.specs.Reader.{Answer, Follows, FollowsNext, ReadsAs, ended
 use Rattle.vdcp_frame.specs.Pieces.{with_message}
 use Rattle.vdcp_frame.specs.Reading.{Reads, End}
 use Rattle.vdcp_frame.specs.declared.got.Ended.{Ended}
-use Rattle.vdcp_port.specs.Answers.{after_messages, aired_on_way, answer_bytes, bytes_for, bytes_for_all, bytes_at_end, end_answers, items_for, reply_at_end, sent_for}
+use Rattle.vdcp_port.specs.Answers.{after_messages, aired_on_way, bytes_for, bytes_for_all, bytes_at_end, end_answers, items_for, reply_at_end, sent_for}
 use Rattle.vdcp_port.specs.Clock.{ClockedPort}
+use Rattle.vdcp_port.specs.Port.{done}
 
 -- vdcp_port::laws::messages_after_messages
 pub record InOrder : Type 0 where
@@ -21,6 +23,10 @@ pub record InOrder : Type 0 where
 pub record Alone : Type 0 where
   pub sent : (p : ClockedPort) (m : Content) → bytes_for_all p (m ∷ []) ≡ bytes_for p m
   pub aired : (p : ClockedPort) (m : Content) → aired_on_way p (m ∷ []) ≡ items_for p m
+
+-- vdcp_port::laws::a_burst_airs_at_most_the_cued_item
+pub record OneItem : Type 0 where
+  pub one : (p : ClockedPort) (ms : List Content) → (aired_on_way p ms ≡ []) ⊎ ((item : Item) × (p.state.cued ≡ done item) × (aired_on_way p ms ≡ item ∷ []))
 
 -- vdcp_frame::laws::what_is_fed_is_followed
 pub record Fed : Type 0 where

@@ -1,6 +1,6 @@
 -- The bursts of what came, with one more arrival.
-use Rattle.std.proofs.Common.{ℕ, ◌≡◌, ◌⊎◌, inl, inr, List, [], ◌∷◌, ◌++◌, Bool, true, false, refl, sym, ap, ◌∙◌, append_assoc}
-use Rattle.std.specs.Prelude.{IsTrue, Option, Some}
+use Rattle.std.proofs.Common.{ℕ, ◌≡◌, List, [], ◌∷◌, ◌++◌, Bool, true, false, refl, ap}
+use Rattle.std.specs.Prelude.{IsTrue, Some}
 use Rattle.vdcp_drive.specs.Bursts.{ended_behind, open_behind, finished_behind, is_within_burst}
 use Rattle.vdcp_drive.specs.Wires.{Arrival, bytes, silence, close, Told, has_closed, came_with, MayCome}
 

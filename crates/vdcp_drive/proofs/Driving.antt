@@ -1,7 +1,6 @@
 -- An automation that has heard what came, after one more command and one more listen.
 use Rattle.std.proofs.Common.{ℕ, ◌≡◌, ◌+◌, List, [], ◌∷◌, ◌++◌, Bool, false, true, map, length, refl, sym, ap, ap₂, subst, ◌∙◌, append_assoc, append-nil, length-append, arith, rules}
 use Rattle.std.specs.Prelude.{Option, Some, None, IsTrue, IsSome, ◌≢◌, ◌<◌, ◌≤◌, if◌then◌else◌}
-use Rattle.std.specs.List.{flat_map}
 use Rattle.std.specs.Option.{option_to_list, option_map, option_map_or}
 use Rattle.std.proofs.lemmas.Grind.{flat_map-append, common_steps}
 use Rattle.std.proofs.lemmas.List.{map-append}
@@ -14,20 +13,18 @@ use Rattle.vdcp_words.specs.declared.command.Command.{Command}
 use Rattle.vdcp_auto.specs.Course.{course, course_from, after_input, after_inputs, after_inputs_from, ended_by_input, logged}
 use Rattle.vdcp_auto.specs.Heard.{heard_first, heard_in}
 use Rattle.vdcp_auto.specs.Plan.{Plan}
-use Rattle.vdcp_auto.specs.Turn.{start, is_awaiting, outcome_of, awaited, given, given_in, ticked, tick_in, awaited_in, came_to, ended_by, ended_in, exchange_of, is_end, turn_of, unanswered_after, turned, stage_after}
+use Rattle.vdcp_auto.specs.Turn.{start, is_awaiting, outcome_of, awaited, given, given_in, ticked, tick_in, awaited_in, came_to, ended_by, ended_in, exchange_of, is_end, turn_of, unanswered_after, turned}
 use Rattle.vdcp_auto.specs.declared.exchange.Exchange.{Exchange}
 use Rattle.vdcp_auto.specs.declared.exchange.Heard.{Heard}
 use Rattle.vdcp_auto.specs.declared.exchange.Input.{Input}
-use Rattle.vdcp_auto.specs.declared.exchange.Input.TheVariants as input
 use Rattle.vdcp_auto.specs.declared.phase.Mode.{Mode}
-use Rattle.vdcp_auto.specs.declared.phase.Phase.{Phase}
 use Rattle.vdcp_auto.specs.declared.phase.Stage.{Stage}
 use Rattle.vdcp_auto.specs.declared.phase.Stage.TheVariants.{Ready, Awaiting, Ended}
 use Rattle.vdcp_auto.specs.declared.phase.State.{State}
 use Rattle.vdcp_auto.specs.declared.phase.Turn.{Turn}
 use Rattle.vdcp_auto.specs.declared.phase.Turn.TheVariants.{Goes, Settles, Retries, Ends}
 use Rattle.vdcp_drive.specs.Bursts.{finished_bursts, open_burst, is_within_burst}
-use Rattle.vdcp_drive.specs.Driven.{input_of, inputs_of, state_between, state_after, commands_of, commands_by, bytes_of, starts_behind, starts_of, IsNew, HasRun, HasRunBroken, IsPartlyRun, in_drop, in_send, in_listen}
+use Rattle.vdcp_drive.specs.Driven.{input_of, inputs_of, state_between, state_after, commands_of, commands_by, bytes_of, starts_behind, starts_of, IsNew, HasRun, HasRunBroken, IsPartlyRun, in_drop, in_send, in_listen, states_listening, states_watched}
 use Rattle.vdcp_drive.specs.Hearing as sending
 use Rattle.vdcp_drive.specs.Hearing.{HasSent, HasSendBroken, HasHeard, HasReceived, Hears, heard_by_then, command_bytes}
 use Rattle.vdcp_drive.specs.Wires.{Arrival, bytes, silence, close, Told, IfTold, MayCome, adds_sent, adds_came, adds_drop, came_with, has_closed, nothing_told}
@@ -361,7 +358,7 @@ pub runs_out : (law : OneMore) (plan : Plan) (unit : ℕ) (t : Told) (state : St
     Told) (state' : State) (reader' : Progress) (heard' : Option Heard) (told' : Option Told)
     → told ≡ Some t → AwaitsAt plan unit t state reader heard → line_of a ≡ line.Closed → Hears plan unit a state reader heard state' reader' heard'
     → told' ≡ adds_came a told
-    → IfTold told' (λ u. HasRun plan unit u state' × IsTrue (has_closed u.came))
+    → IfTold told' (λ u. HasRun plan unit u state' × IsTrue (has_closed u.came) × (u.came ≡ t.came ++ a ∷ []))
 runs_out law plan unit t state reader heard (bytes piece) told state' reader' heard' told' is h closed e more = absurd (no closed) where
   no : line.More ≡ line.Closed → ⊥
   no x = cc
@@ -375,6 +372,7 @@ runs_out law plan unit t state reader heard close told state' reader' heard' tol
       (
         has_run_on law plan unit t state reader heard came' state' reader' heard' h (finished_close [] t.came h.no_close) (within_close t.came) e,
         closed_close t.came,
+        refl,
       ),
     )
 
@@ -407,7 +405,7 @@ given_between plan true s c h = let none = none_ticked plan s in cc
 pub broken_send : (plan : Plan) (unit : ℕ) (t : Told) (state : State) (reader : Progress) (heard : Option Heard) (told : Option Told) (state' : State)
     (told' : Option Told)
     → told ≡ Some t → RunsAt plan unit t state reader heard → HasSendBroken plan unit state state' told told'
-    → IfTold told' (λ u. HasRunBroken plan unit u state')
+    → IfTold told' (λ u. (b : HasRunBroken plan unit u state') × (states_watched b ≡ states_listening plan unit t.came))
 broken_send plan unit t state reader heard told state' told' is h (sending.in_drop b) =
     let between : state ≡ state_between plan unit t.came = h.run.state_is
     ∙ given_between plan (is_within_burst t.came) (state_between plan unit t.came) b.command (ap (given plan) (sym h.run.state_is) ∙ b.gives) in
@@ -416,11 +414,14 @@ broken_send plan unit t state reader heard told state' told' is h (sending.in_dr
     ∙ append-nil (commands_of plan unit t.came) in (
       t,
       b.told_stays ∙ is,
-      in_drop (record {
-        state_is = b.state_stays ∙ between;
-        sent_is = h.run.sent_is ∙ ap (bytes_of unit) before;
-        drops_are = h.run.drops_are ∙ ap (starts_of unit) before;
-      }),
+      (
+        in_drop (record {
+          state_is = b.state_stays ∙ between;
+          sent_is = h.run.sent_is ∙ ap (bytes_of unit) before;
+          drops_are = h.run.drops_are ∙ ap (starts_of unit) before;
+        }),
+        refl,
+      ),
     )
 broken_send plan unit t state reader heard told state' told' is h (sending.in_send b) =
     let both = some_given plan state b.command b.gives in
@@ -431,31 +432,37 @@ broken_send plan unit t state reader heard told state' told' is h (sending.in_se
     let sent_before : t.sent ≡ bytes_of unit commands = h.run.sent_is ∙ ap (bytes_of unit) before in (
       record { sent = t.sent ++ b.sends.front; came = t.came; drops = t.drops ++ length t.sent ∷ [] },
       b.sends.told ∙ ap (λ (x : Option Told). adds_sent b.sends.front (adds_drop x)) is,
-      in_send (record {
-        state_is = b.ticks ∙ ticks_between plan unit t.came state h.run.state_is;
-        command = b.command;
-        awaits = awaits;
-        front = b.sends.front;
-        rest = b.sends.rest;
-        parts = b.sends.parts;
-        sent_is = ap (λ (l : List ℕ). l ++ b.sends.front) sent_before;
-        drops_are = ap₂ (λ (l : List ℕ) (m : ℕ). l ++ m ∷ []) (h.run.drops_are ∙ ap (starts_of unit) before) (ap length sent_before)
-            ∙ sym (starts_of_push unit commands b.command) ∙ ap (starts_of unit) (sym after);
-      }),
+      (
+        in_send (record {
+          state_is = b.ticks ∙ ticks_between plan unit t.came state h.run.state_is;
+          command = b.command;
+          awaits = awaits;
+          front = b.sends.front;
+          rest = b.sends.rest;
+          parts = b.sends.parts;
+          sent_is = ap (λ (l : List ℕ). l ++ b.sends.front) sent_before;
+          drops_are = ap₂ (λ (l : List ℕ) (m : ℕ). l ++ m ∷ []) (h.run.drops_are ∙ ap (starts_of unit) before) (ap length sent_before)
+              ∙ sym (starts_of_push unit commands b.command) ∙ ap (starts_of unit) (sym after);
+        }),
+        refl,
+      ),
     )
 
 pub broken_listen : (plan : Plan) (unit : ℕ) (t : Told) (state : State) (reader : Progress) (heard : Option Heard) (told : Option Told) (state' : State)
     (told' : Option Told)
     → told ≡ Some t → AwaitsAt plan unit t state reader heard → state' ≡ state → told' ≡ told
-    → IfTold told' (λ u. HasRunBroken plan unit u state')
+    → IfTold told' (λ u. (b : HasRunBroken plan unit u state') × (states_watched b ≡ states_listening plan unit t.came ++ state' ∷ []))
 broken_listen plan unit t state reader heard told state' told' is h stays same = (
   t,
   same ∙ is,
-  in_listen (record {
-    state_is = stays ∙ h.state_is;
-    sent_is = h.sent_is ∙ ap (λ (s : State). bytes_of unit (commands_by plan unit t.came s)) (sym stays);
-    drops_are = h.drops_are ∙ ap (λ (s : State). starts_of unit (commands_by plan unit t.came s)) (sym stays);
-  }),
+  (
+    in_listen (record {
+      state_is = stays ∙ h.state_is;
+      sent_is = h.sent_is ∙ ap (λ (s : State). bytes_of unit (commands_by plan unit t.came s)) (sym stays);
+      drops_are = h.drops_are ∙ ap (λ (s : State). starts_of unit (commands_by plan unit t.came s)) (sym stays);
+    }),
+    refl,
+  ),
 )
 
 -- A run whose controller has ended.
@@ -604,7 +611,7 @@ sent_so plan planned unit united t state reader heard is_sent told state' reader
 pub unsent_so : (plan planned : Plan) (unit united : ℕ) (t : Told) (state : State) (reader : Progress) (heard : Option Heard) (told : Option Told) (state'
     : State) (told' : Option Told)
     → planned ≡ plan → united ≡ unit → told ≡ Some t → RunsAt plan unit t state reader heard → HasSendBroken planned united state state' told told'
-    → IfTold told' (λ u. HasRunBroken plan unit u state')
+    → IfTold told' (λ u. (b : HasRunBroken plan unit u state') × (states_watched b ≡ states_listening plan unit t.came))
 unsent_so plan planned unit united t state reader heard told state' told' p n is h e =
     broken_send plan unit t state reader heard told state' told' is h
     (subst (λ (q : Plan). HasSendBroken q unit state state' told told') p (subst (λ (m : ℕ). HasSendBroken planned m state state' told told') n e))
@@ -621,17 +628,17 @@ pub on_so : (read : Read) (fed : Fed) (law : OneMore) (made : ℕ) (plan planned
     (heard : Option Heard) (a : Arrival) (told : Option Told) (state' : State) (reader' : Progress) (heard' : Option Heard) (told' : Option Told)
     → planned ≡ plan → united ≡ unit → told ≡ Some t → AwaitsAt plan unit t state reader heard → AllListened made [] t.came → line_of a ≢ line.Closed
     → Hears planned united a state reader heard state' reader' heard' → told' ≡ adds_came a told
-    → IfTold told' (λ u. RunsAt plan unit u state' reader' heard' × AllListened (made + 1) [] u.came)
+    → IfTold told' (λ u. RunsAt plan unit u state' reader' heard' × AllListened (made + 1) [] u.came × (u.came ≡ t.came ++ a ∷ []))
 on_so read fed law made plan planned unit united t state reader heard a told state' reader' heard' told' p n is h l not e more =
     let r = runs_on read fed law plan unit t state reader heard a told state' reader' heard' told' is h not (hears_so plan planned unit united a state
     reader heard state' reader' heard' p n e) more in
-    (r.0, r.1, (r.2.0, listened_then made a t.came r.0.came l not r.2.1))
+    (r.0, r.1, (r.2.0, listened_then made a t.came r.0.came l not r.2.1, r.2.1))
 
 pub out_so : (law : OneMore) (plan planned : Plan) (unit united : ℕ) (t : Told) (state : State) (reader : Progress) (heard : Option Heard) (a : Arrival)
     (told : Option Told) (state' : State) (reader' : Progress) (heard' : Option Heard) (told' : Option Told)
     → planned ≡ plan → united ≡ unit → told ≡ Some t → AwaitsAt plan unit t state reader heard → line_of a ≡ line.Closed
     → Hears planned united a state reader heard state' reader' heard' → told' ≡ adds_came a told
-    → IfTold told' (λ u. HasRun plan unit u state' × IsTrue (has_closed u.came))
+    → IfTold told' (λ u. HasRun plan unit u state' × IsTrue (has_closed u.came) × (u.came ≡ t.came ++ a ∷ []))
 out_so law plan planned unit united t state reader heard a told state' reader' heard' told' p n is h closed e more =
     runs_out law plan unit t state reader heard a told state' reader' heard' told' is h closed (hears_so plan planned unit united a state reader heard
     state' reader' heard' p n e) more

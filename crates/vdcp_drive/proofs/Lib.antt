@@ -3,6 +3,8 @@ pub mod Below
 pub mod Cutting
 pub mod Taking
 pub mod Standing
+pub mod Airing
 pub mod Listening
 pub mod Driving
+pub mod Watching
 pub mod Scripting

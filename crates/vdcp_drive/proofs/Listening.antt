@@ -1,12 +1,12 @@
 -- What an automation heard of a burst, by one call of feed after another.
-use Rattle.std.proofs.Common.{ℕ, ◌≡◌, List, [], ◌∷◌, ◌++◌, refl, sym, ap, subst, ◌∙◌, append_assoc, append-nil}
+use Rattle.std.proofs.Common.{ℕ, ◌≡◌, List, [], ◌∷◌, ◌++◌, refl, sym, ap, subst, ◌∙◌, append-nil}
 use Rattle.std.specs.Prelude.{Option, Some, None}
 use Rattle.vdcp_frame.specs.Message.{Content}
 use Rattle.vdcp_frame.specs.Pieces.{with_message}
 use Rattle.vdcp_frame.specs.Progress.{Progress}
 use Rattle.vdcp_frame.specs.Reader.{Answer, answer_of, Follows, FollowsNext}
 use Rattle.vdcp_frame.specs.declared.got.Got.{Got}
-use Rattle.vdcp_auto.specs.Heard.{heard_first, heard_as}
+use Rattle.vdcp_auto.specs.Heard.{heard_first}
 use Rattle.vdcp_auto.specs.declared.exchange.Heard.{Heard}
 use Rattle.vdcp_drive.specs.Hearing.{HasHeard, heard_by_then}
 use Rattle.vdcp_drive.proofs.Below.{Fed}

@@ -1,7 +1,6 @@
 -- A server that has served what came, after one more listen.
-use Rattle.std.proofs.Common.{ℕ, ◌≡◌, ◌<◌, ◌≤◌, arith, List, [], ◌∷◌, ◌++◌, Bool, false, true, refl, sym, ap, ap₂, subst, ◌∙◌, append_assoc, append-nil, ◌+◌, length, length-append}
+use Rattle.std.proofs.Common.{ℕ, ◌≡◌, ◌<◌, ◌≤◌, arith, List, [], ◌∷◌, ◌++◌, true, refl, sym, ap, ap₂, subst, ◌∙◌, append_assoc, append-nil, ◌+◌, length-append}
 use Rattle.std.specs.Prelude.{Option, Some, None, IsTrue, ◌≢◌}
-use Rattle.std.specs.Option.{option_to_list}
 use Rattle.std.proofs.lemmas.List.Elements.{All-append, All-nil}
 use Rattle.vdcp_value.specs.declared.part.Item.{Item}
 use Rattle.vdcp_frame.specs.Burst.{messages_of, end_of}
@@ -10,12 +9,12 @@ use Rattle.vdcp_frame.specs.Progress.{Progress, reading}
 use Rattle.vdcp_frame.specs.Reader.{Follows, ended_of}
 use Rattle.vdcp_words.specs.declared.reply.Reply.{Reply}
 use Rattle.std.proofs.lemmas.Grind.{flat_map-append}
-use Rattle.vdcp_port.specs.Answers.{answers_to, reply_bytes, after_messages, answer_bytes, bytes_for, bytes_for_all, bytes_at_end, end_answers, reply_at_end, sent_for, after_burst}
+use Rattle.vdcp_port.specs.Answers.{answers_to, reply_bytes, after_messages, answer_bytes, bytes_for, bytes_for_all, bytes_at_end, end_answers, sent_for, after_burst}
 use Rattle.vdcp_port.specs.Clock.{ClockedPort, after_frame}
 use Rattle.vdcp_drive.specs.Bursts.{ended_bursts, open_burst}
-use Rattle.vdcp_drive.specs.Serving.{HasTaken, HasBroken, HasEnded, HasEndBroken, HasStayed, Serves, Breaks}
-use Rattle.vdcp_drive.specs.Served.{after_bursts, sent_for_bursts, port_before, served, port_after, IsServed, BrokeInAnswer, BrokeAtEnd, HasBrokenOff, in_listen, in_answer, at_end, IsPartlySent}
-use Rattle.vdcp_drive.specs.Wires.{Arrival, bytes, silence, close, Told, IfTold, MayCome, adds_sent, adds_came, came_with, has_closed, nothing_told}
+use Rattle.vdcp_drive.specs.Serving.{HasBroken, HasEndBroken, Serves, Breaks}
+use Rattle.vdcp_drive.specs.Served.{after_bursts, sent_for_bursts, port_before, served, IsServed, BrokeInAnswer, BrokeAtEnd, HasBrokenOff, in_listen, in_answer, at_end, IsPartlySent}
+use Rattle.vdcp_drive.specs.Wires.{Arrival, bytes, silence, close, Told, IfTold, MayCome, adds_came, came_with, has_closed, nothing_told}
 use Rattle.vdcp_drive.proofs.Below.{InOrder, Alone, Read, Ends, Fed}
 use Rattle.vdcp_drive.specs.Lines.{line_of, AllListened, AtMostListened}
 use Rattle.vdcp_drive.specs.declared.line.Line.TheVariants as line
@@ -118,11 +117,11 @@ ends_burst fed law ends start ended begun sent port reader port' reader' h resta
 -- One listen.
 
 -- what came counted once more, and how the bursts are cut then
-record Cuts (came : List Arrival) (ended : List (List ℕ)) (begun : List ℕ) : Type 0 where
+pub record Cuts (came : List Arrival) (ended : List (List ℕ)) (begun : List ℕ) : Type 0 where
   pub ended_are : ended_bursts came ≡ ended
   pub open_is : open_burst came ≡ begun
 
-cuts_bytes : (came : List Arrival) (piece : List ℕ) → Counts came (bytes piece)
+pub cuts_bytes : (came : List Arrival) (piece : List ℕ) → Counts came (bytes piece)
     → Cuts (came_with came (bytes piece)) (ended_bursts came) (open_burst came ++ piece)
 cuts_bytes came piece (counted h is) = record {
   ended_are = ap ended_bursts is ∙ ended_bytes [] came piece h;
@@ -132,7 +131,7 @@ cuts_bytes came piece (behind h a is) = absurd (no a) where
   no : bytes piece ≡ close → ⊥
   no e = cc
 
-cuts_silence : (came : List Arrival) → Counts came silence → Cuts (came_with came silence) (ended_bursts came ++ open_burst came ∷ []) []
+pub cuts_silence : (came : List Arrival) → Counts came silence → Cuts (came_with came silence) (ended_bursts came ++ open_burst came ∷ []) []
 cuts_silence came (counted h is) = record {
   ended_are = ap ended_bursts is ∙ ended_silence [] came h;
   open_is = ap open_burst is ∙ open_silence [] came h;
@@ -141,7 +140,7 @@ cuts_silence came (behind h a is) = absurd (no a) where
   no : silence ≡ close → ⊥
   no e = cc
 
-cuts_close : (came : List Arrival) → Counts came close → Cuts (came_with came close) (ended_bursts came) (open_burst came)
+pub cuts_close : (came : List Arrival) → Counts came close → Cuts (came_with came close) (ended_bursts came) (open_burst came)
 cuts_close came (counted h is) = record {
   ended_are = ap ended_bursts is ∙ ended_close [] came;
   open_is = ap open_burst is ∙ open_close [] came;
@@ -217,7 +216,7 @@ pub none_broken : (start : ClockedPort) (t : Told) (told told' : Option Told) (p
 none_broken start t told told' port port' reader is h same stays = (t, same ∙ is, in_listen (record { sent_is = h.sent_is; port_is = stays ∙ h.port_is }))
 
 -- the begun burst's messages, of which a front was answered
-front_of : (law : Read) (begun front rest : List ℕ) (ms : List Content) (then : Progress) → AreOctets (begun ++ (front ++ rest))
+pub front_of : (law : Read) (begun front rest : List ℕ) (ms : List Content) (then : Progress) → AreOctets (begun ++ (front ++ rest))
     → Follows (begun ++ front) ms then
     → (others : List Content) × (messages_of (begun ++ (front ++ rest)) ≡ ms ++ others)
 front_of law begun front rest ms then fits f =
@@ -403,7 +402,7 @@ keeps_drops a t told port reader port' reader' aired' told' is e = let r = tells
 )
 
 drops_broken : (a : Arrival) (t : Told) (port : ClockedPort) (reader : Progress) (port' : ClockedPort) (aired' : Option Item) (told' : Option Told)
-    → Breaks a port reader (adds_came a (Some t)) port' aired' told' → IfTold told' (λ u. u.drops ≡ t.drops)
+    → Breaks a port reader (adds_came a (Some t)) port' aired' told' → IfTold told' (λ u. (u.came ≡ came_with t.came a) × (u.drops ≡ t.drops))
 drops_broken (bytes piece) t port reader port' aired' told' e = (
   record {
     sent = (t.sent ++ bytes_for_all port e.1.messages) ++ e.1.sends.front;
@@ -412,16 +411,23 @@ drops_broken (bytes piece) t port reader port' aired' told' e = (
     drops = t.drops;
   },
   e.1.sends.told,
-  refl,
+  (refl, refl),
 )
-drops_broken silence t port reader port' aired' told' e = (TellsMore t silence e.1.sends.front, e.1.sends.told, refl)
+drops_broken silence t port reader port' aired' told' e = (TellsMore t silence e.1.sends.front, e.1.sends.told, (refl, refl))
 drops_broken close t port reader port' aired' told' e = absurd e
+
+pub tells_broken : (a : Arrival) (t : Told) (told : Option Told) (port : ClockedPort) (reader : Progress) (port' : ClockedPort) (aired' : Option Item)
+    (told' : Option Told)
+    → told ≡ Some t → Breaks a port reader (adds_came a told) port' aired' told' → IfTold told' (λ u. (u.came ≡ came_with t.came a) × (u.drops ≡ t.drops))
+tells_broken a t told port reader port' aired' told' is e = drops_broken a t port reader port' aired' told' (subst (λ (x : Option Told). Breaks a port
+    reader (adds_came a x) port' aired' told') is e)
 
 pub broken_drops : (a : Arrival) (t : Told) (told : Option Told) (port : ClockedPort) (reader : Progress) (port' : ClockedPort) (aired' : Option Item)
     (told' : Option Told)
     → told ≡ Some t → Breaks a port reader (adds_came a told) port' aired' told' → IfTold told' (λ u. u.drops ≡ t.drops)
-broken_drops a t told port reader port' aired' told' is e = drops_broken a t port reader port' aired' told' (subst (λ (x : Option Told). Breaks a port
-    reader (adds_came a x) port' aired' told') is e)
+broken_drops a t told port reader port' aired' told' is e =
+    let r = tells_broken a t told port reader port' aired' told' is e in
+    (r.0, r.1, r.2.1)
 
 -- So many listens.
 

@@ -8,7 +8,6 @@ use Rattle.vdcp_words.specs.declared.command.Command.{Command}
 use Rattle.vdcp_auto.specs.Course.{course, after_inputs}
 use Rattle.vdcp_auto.specs.Plan.{Plan}
 use Rattle.vdcp_auto.specs.Turn.{start, awaited, ticked}
-use Rattle.vdcp_auto.specs.declared.exchange.Exchange.{Exchange}
 use Rattle.vdcp_auto.specs.declared.exchange.Heard.{Heard}
 use Rattle.vdcp_auto.specs.declared.exchange.Input.{Input}
 use Rattle.vdcp_auto.specs.declared.exchange.Input.TheVariants as input
@@ -34,6 +33,14 @@ state_between plan unit came = after_inputs plan (inputs_of unit came)
 abbrev pub state_after : Plan → ℕ → List Arrival → State
 state_after plan unit came =
     if is_within_burst came then ticked (state_between plan unit came) else state_between plan unit came
+
+-- the controller in each listen, where some arrivals came before: its command is awaited
+abbrev pub states_behind : Plan → ℕ → List Arrival → List Arrival → List State
+states_behind plan unit before [] = []
+states_behind plan unit before (a ∷ later) = ticked (state_between plan unit before) ∷ states_behind plan unit (before ++ a ∷ []) later
+
+abbrev pub states_listening : Plan → ℕ → List Arrival → List State
+states_listening plan unit came = states_behind plan unit [] came
 
 -- the commands of the exchanges that have ended
 abbrev pub commands_of : Plan → ℕ → List Arrival → List Command
@@ -101,3 +108,9 @@ pub data HasRunBroken (plan : Plan) (unit : ℕ) (told : Told) (state : State) :
 -- the bytes sent are a beginning of those of the course's commands and the one awaited
 abbrev pub IsPartlyRun : Plan → ℕ → Told → State → Type 0
 IsPartlyRun plan unit told state = (rest : List ℕ) × (bytes_of unit (commands_by plan unit told.came state) ≡ told.sent ++ rest)
+
+-- the controller in each listen, also in the one that failed
+abbrev pub states_watched : {plan : Plan} {unit : ℕ} {told : Told} {state : State} → HasRunBroken plan unit told state → List State
+states_watched {plan} {unit} {told} {state} (in_drop b) = states_listening plan unit told.came
+states_watched {plan} {unit} {told} {state} (in_send b) = states_listening plan unit told.came
+states_watched {plan} {unit} {told} {state} (in_listen b) = states_listening plan unit told.came ++ state ∷ []

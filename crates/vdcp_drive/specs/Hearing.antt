@@ -1,5 +1,5 @@
 -- One command that an automation sends, and one listen for the answer.
-use Rattle.std.specs.Prelude.{ℕ, ◌≡◌, Bool, true, false, List, [], ◌∷◌, ◌++◌, Option, None, Some}
+use Rattle.std.specs.Prelude.{ℕ, ◌≡◌, Bool, true, false, List, [], ◌++◌, Option, None, Some}
 use Rattle.vdcp_frame.specs.Message.{Content, AreOctets, spelling}
 use Rattle.vdcp_frame.specs.Progress.{Progress, reading}
 use Rattle.vdcp_frame.specs.Reader.{Follows}

@@ -1,5 +1,5 @@
 -- What a driver answers to what came.
-use Rattle.std.specs.Prelude.{ℕ, ◌≡◌, ◌≤◌, Bool, true, false, IsTrue, IsSome, IsNone, Option, Some, None, List, ◌++◌, length}
+use Rattle.std.specs.Prelude.{ℕ, ◌≡◌, ◌≤◌, false, IsTrue, IsSome, IsNone, Option, Some, None, List, ◌++◌, length}
 use Rattle.vdcp_auto.specs.declared.outcome.Outcome.{Outcome}
 use Rattle.vdcp_drive.specs.declared.line.Line.{Line}
 use Rattle.vdcp_drive.specs.declared.line.Line.TheVariants as line

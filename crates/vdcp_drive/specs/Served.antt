@@ -1,10 +1,11 @@
 -- What a server sends for all that came to it, and the port that this leaves.
-use Rattle.std.specs.Prelude.{ℕ, ◌≡◌, false, List, [], ◌∷◌, ◌++◌}
+use Rattle.std.specs.Prelude.{ℕ, ◌≡◌, false, List, [], ◌∷◌, ◌++◌, Option, Some}
+use Rattle.vdcp_value.specs.declared.part.Item.{Item}
 use Rattle.vdcp_frame.specs.Burst.{messages_of, end_of}
 use Rattle.vdcp_frame.specs.Message.{Content, AreOctets}
 use Rattle.vdcp_frame.specs.Progress.{Progress}
 use Rattle.vdcp_frame.specs.Reader.{Follows}
-use Rattle.vdcp_port.specs.Answers.{after_messages, answer_bytes, bytes_for, bytes_for_all, end_answers, sent_for, after_burst}
+use Rattle.vdcp_port.specs.Answers.{after_messages, aired_on_way, aired_for, answer_bytes, bytes_for, bytes_for_all, end_answers, sent_for, after_burst}
 use Rattle.vdcp_port.specs.Clock.{ClockedPort, after_frame}
 use Rattle.vdcp_drive.specs.Bursts.{ended_bursts, open_burst}
 use Rattle.vdcp_drive.specs.Wires.{Arrival, silence, Told, has_closed}
@@ -31,6 +32,16 @@ served p came = sent_for_bursts p (ended_bursts came) ++ bytes_for_all (port_bef
 -- the port that this leaves
 abbrev pub port_after : ClockedPort → List Arrival → ClockedPort
 port_after p came = after_burst (port_before p came) (open_burst came)
+
+-- the items that ended bursts put to air
+abbrev pub items_for_bursts : ClockedPort → List (List ℕ) → List Item
+items_for_bursts p [] = []
+items_for_bursts p (burst ∷ bursts) = aired_for p burst ++ items_for_bursts (after_frame (after_burst p burst)) bursts
+
+-- all items that go to air: by the bursts that a silence ended, and by the whole messages of the one that
+-- hasn't ended
+abbrev pub items_served : ClockedPort → List Arrival → List Item
+items_served p came = items_for_bursts p (ended_bursts came) ++ aired_on_way (port_before p came) (messages_of (open_burst came))
 
 -- a server that began with this port has served what came, and its reader is in the open burst
 pub record IsServed (start : ClockedPort) (told : Told) (port : ClockedPort) (reader : Progress) : Type 0 where
@@ -78,3 +89,16 @@ pub data HasBrokenOff (start : ClockedPort) (told : Told) (port : ClockedPort) :
 -- the bytes sent are a beginning of those that are sent for what came
 abbrev pub IsPartlySent : ClockedPort → Told → Type 0
 IsPartlySent start told = (rest : List ℕ) × (served start told.came ≡ told.sent ++ rest)
+
+-- who had watched these items has then watched those too that went to air since
+pub record HasWatched (start : ClockedPort) (old now : Told) (items : List Item) (watched : Option (List Item)) : Type 0 where
+  pub since : List Item
+  pub airs : items_served start now.came ≡ items_served start old.came ++ since
+  pub watches : watched ≡ Some (items ++ since)
+
+-- or a beginning of those
+pub record HasPartlyWatched (start : ClockedPort) (old now : Told) (items : List Item) (watched : Option (List Item)) : Type 0 where
+  pub since : List Item
+  pub others : List Item
+  pub airs : items_served start now.came ≡ (items_served start old.came ++ since) ++ others
+  pub watches : watched ≡ Some (items ++ since)

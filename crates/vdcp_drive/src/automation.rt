@@ -5,7 +5,8 @@ ghost use Rattle.vdcp_frame.specs.Progress.{reading};
 ghost use Rattle.vdcp_frame.specs.Reader.{answer_of};
 ghost use Rattle.vdcp_auto.specs.Plan.{plan_of};
 ghost use Rattle.vdcp_auto.specs.Turn as turns;
-ghost use Rattle.vdcp_drive.specs.Driven.{IsNew, HasRun, HasRunBroken, IsPartlyRun};
+ghost use Rattle.vdcp_auto.specs.declared.phase.State.{State};
+ghost use Rattle.vdcp_drive.specs.Driven.{IsNew, HasRun, HasRunBroken, IsPartlyRun, states_listening, states_watched};
 ghost use Rattle.vdcp_drive.specs.Hearing.{HasSent, HasSendBroken, HasHeard, HasReceived, Hears, heard_by_then, command_bytes};
 ghost use Rattle.vdcp_drive.specs.Lines.{line_of, RunsTo, ran_unless_ended};
 ghost use Rattle.vdcp_drive.specs.Wires.{Arrival, Told, IfTold, MayCome, nothing_told, adds_sent, adds_came, SendsFront};
@@ -160,6 +161,14 @@ impl<S: Source, W: Wire> AutoDriver<S, W> {
         ensures broken { IsNew self.old.controller.state self.old.reader self.old.heard (W.told self.old.wire) → W.failures self.old.wire ≡ 0 →
             OnErr result (IfTold (W.told self.new.wire) (λ u. HasRunBroken (plan_of S.items self.old.controller) self.old.unit u self.new.controller.state
             × IsPartlyRun (plan_of S.items self.old.controller) self.old.unit u self.new.controller.state)) }
+        // And a watcher that tells what it watched: it was lent the controller in each listen.
+        ensures watched { IsNew self.old.controller.state self.old.reader self.old.heard (W.told self.old.wire) →
+            (states : List State) → V.watched watcher.old ≡ Some states → OnOk result (IfTold (W.told self.new.wire) (λ u.
+            V.watched watcher.new ≡ Some (states ++ states_listening (plan_of S.items self.old.controller) self.old.unit u.came))) }
+        ensures watched_broken { IsNew self.old.controller.state self.old.reader self.old.heard (W.told self.old.wire) → W.failures self.old.wire ≡ 0 →
+            (states : List State) → V.watched watcher.old ≡ Some states → OnErr result (IfTold (W.told self.new.wire) (λ u.
+            (b : HasRunBroken (plan_of S.items self.old.controller) self.old.unit u self.new.controller.state)
+            × (V.watched watcher.new ≡ Some (states ++ states_watched b)))) }
         // Of any automation: over any wire, and over one that tells its bytes.
         ensures ended { IfOk result (λ ran. (ran ≡ Ran.Ended) ↔ IsSome (turns.outcome_of self.new.controller.state.stage)) }
         ensures answer { (t : Told) → W.told self.old.wire ≡ Some t →
@@ -168,7 +177,7 @@ impl<S: Source, W: Wire> AutoDriver<S, W> {
         ensures unit { self.new.unit ≡ self.old.unit }
         ensures works { OnOk result (W.failures self.new.wire ≡ 0) }
         ensures device { OnErr result (W.failures self.new.wire ≡ 1) }
-        ensures stays { W.failures self.old.wire ≡ 1 → IsErr result × (self.new ≡ self.old) }
+        ensures stays { W.failures self.old.wire ≡ 1 → IsErr result × (self.new ≡ self.old) × (watcher.new ≡ watcher.old) }
     {
         courses::courses_follow_one_another();
         bursts::one_reading();

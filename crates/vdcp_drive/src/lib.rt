@@ -17,6 +17,7 @@
 #![tactic(auto)]
 
 mod automation;
+pub mod laws;
 mod line;
 mod script;
 mod server;

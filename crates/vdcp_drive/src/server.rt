@@ -5,7 +5,7 @@ ghost use Rattle.vdcp_frame.specs.Progress.{reading};
 ghost use Rattle.vdcp_port.specs.Answers.{answer_bytes, bytes_for, items_for};
 ghost use Rattle.vdcp_port.specs.Clock.{ClockedPort, after_message};
 ghost use Rattle.vdcp_drive.specs.Lines.{line_of, ServesTo};
-ghost use Rattle.vdcp_drive.specs.Served.{IsServed, IsPartlySent, HasBrokenOff, served, port_after};
+ghost use Rattle.vdcp_drive.specs.Served.{IsServed, IsPartlySent, HasBrokenOff, HasWatched, HasPartlyWatched, served, port_after, items_served};
 ghost use Rattle.vdcp_drive.specs.Serving.{HasTaken, HasBroken, HasEnded, HasEndBroken, Serves, Breaks, last_aired};
 ghost use Rattle.vdcp_drive.specs.Watching.{adds_aired};
 ghost use Rattle.vdcp_drive.specs.Wires.{Arrival, Told, IfTold, MayCome, nothing_told, adds_sent, adds_came, SendsFront};
@@ -129,6 +129,15 @@ impl<C: Catalogue, W: Wire> Server<C, W> {
             OnOk result (IfTold (W.told self.new.wire) (λ u. IsServed start u self.new.port self.new.reader)) }
         ensures broken_off { (start : ClockedPort) (t : Told) → W.told self.old.wire ≡ Some t → IsServed start t self.old.port self.old.reader →
             W.failures self.old.wire ≡ 0 → OnErr result (IfTold (W.told self.new.wire) (λ u. HasBrokenOff start u self.new.port × IsPartlySent start u)) }
+        // A watcher that tells what it watched: it was lent what went to air, each item once and in order.
+        ensures watched { self.old.reader ≡ reading 0 [] → W.told self.old.wire ≡ Some nothing_told → (items : List Item) → V.watched watcher.old ≡ Some items →
+            OnOk result (IfTold (W.told self.new.wire) (λ u. V.watched watcher.new ≡ Some (items ++ items_served self.old.port u.came))) }
+        ensures watched_since { (start : ClockedPort) (t : Told) (items : List Item) → W.told self.old.wire ≡ Some t →
+            IsServed start t self.old.port self.old.reader → V.watched watcher.old ≡ Some items →
+            OnOk result (IfTold (W.told self.new.wire) (λ u. HasWatched start t u items (V.watched watcher.new))) }
+        ensures watched_first { (start : ClockedPort) (t : Told) (items : List Item) → W.told self.old.wire ≡ Some t →
+            IsServed start t self.old.port self.old.reader → W.failures self.old.wire ≡ 0 → V.watched watcher.old ≡ Some items →
+            OnErr result (IfTold (W.told self.new.wire) (λ u. HasPartlyWatched start t u items (V.watched watcher.new))) }
         // Which answer it gives: Spent where all turns were made and no close came.
         ensures answer { (t : Told) → W.told self.old.wire ≡ Some t →
             IfOk result (λ ran. IfTold (W.told self.new.wire) (λ u. ServesTo ran turns t.came u.came)) }
@@ -137,7 +146,7 @@ impl<C: Catalogue, W: Wire> Server<C, W> {
         ensures drops { (t : Told) → W.told self.old.wire ≡ Some t → IfTold (W.told self.new.wire) (λ u. u.drops ≡ t.drops) }
         ensures works { OnOk result (W.failures self.new.wire ≡ 0) }
         ensures device { OnErr result (W.failures self.new.wire ≡ 1) }
-        ensures stays { W.failures self.old.wire ≡ 1 → IsErr result × (self.new ≡ self.old) }
+        ensures stays { W.failures self.old.wire ≡ 1 → IsErr result × (self.new ≡ self.old) × (watcher.new ≡ watcher.old) }
     {
         bursts::what_is_fed_is_followed();
         if self.failed {
@@ -169,6 +178,12 @@ impl<C: Catalogue, W: Wire> Server<C, W> {
             OnOk result (IfTold (W.told self.new.wire) (λ u. IsServed start u self.new.port self.new.reader)) }
         ensures broken_off { (start : ClockedPort) (t : Told) → W.told self.old.wire ≡ Some t → IsServed start t self.old.port self.old.reader →
             W.failures self.old.wire ≡ 0 → OnErr result (IfTold (W.told self.new.wire) (λ u. HasBrokenOff start u self.new.port × IsPartlySent start u)) }
+        // What goes to air: what went to air before, and then the item of this turn, if it put one there.
+        ensures airs { (start : ClockedPort) (t : Told) → W.told self.old.wire ≡ Some t → IsServed start t self.old.port self.old.reader →
+            OnOk result (IfTold (W.told self.new.wire) (λ u. items_served start u.came ≡ items_served start t.came ++ option_to_list self.new.aired)) }
+        ensures airs_first { (start : ClockedPort) (t : Told) → W.told self.old.wire ≡ Some t → IsServed start t self.old.port self.old.reader →
+            W.failures self.old.wire ≡ 0 → OnErr result (IfTold (W.told self.new.wire) (λ u. (others : List Item) ×
+            (items_served start u.came ≡ (items_served start t.came ++ option_to_list self.new.aired) ++ others))) }
         // A server drops nothing that waits.
         ensures drops { (t : Told) → W.told self.old.wire ≡ Some t → IfTold (W.told self.new.wire) (λ u. u.drops ≡ t.drops) }
         ensures works { OnOk result (W.failures self.new.wire ≡ 0) }
@@ -183,6 +198,7 @@ impl<C: Catalogue, W: Wire> Server<C, W> {
         answers::a_burst_is_answered_as_it_ended();
         answers::one_answer_to_the_end();
         answers::the_unit_stays();
+        answers::a_burst_airs_at_most_the_cued_item();
         if self.failed {
             return Err(DriveFault::Device);
         }

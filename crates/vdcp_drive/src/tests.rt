@@ -5,5 +5,7 @@ mod broken;
 mod clips;
 mod hostile;
 mod loopback;
+mod lawful;
 mod messages;
 mod server;
+mod watching;

@@ -12,6 +12,8 @@ pub const PLAY: &'static [u8] = &[0x02, 0x02, 0x10, 0x01, 0xEF];
 
 pub const CUE_1: &'static [u8] = b"\x02\x0A\x20\x24CLIP0001\xD3";
 
+pub const CUE_2: &'static [u8] = b"\x02\x0A\x20\x24CLIP0002\xD2";
+
 pub const GRANTED: &'static [u8] = &[0x02, 0x03, 0x30, 0x81, 0x01, 0x4E];
 
 pub const IDLE: &'static [u8] = &[0x02, 0x04, 0x30, 0x85, 0x01, 0x01, 0x49];

@@ -1,4 +1,4 @@
-use Rattle.std.proofs.Common.{◌≡◌, ◌++◌, [], List, ℕ, take, drop, sym, ap, ◌∙◌, refl}
+use Rattle.std.proofs.Common.{List, ℕ, take, drop, sym, ap, ◌∙◌, refl}
 use Rattle.std.proofs.lemmas.List.{take-append-drop}
 use Rattle.vdcp_value.specs.declared.part.Item.{Item}
 use Rattle.vdcp_frame.specs.Message.{Content, content_of}

@@ -1,10 +1,12 @@
-use Rattle.std.proofs.Common.{ℕ, ◌-◌, ◌≡◌, ◌≤◌, []}
+use Rattle.std.proofs.Common.{List, ◌-◌, ◌≡◌, ◌≤◌, []}
 use Rattle.std.specs.Prelude.{Some}
 use Rattle.vdcp_auto.specs.Plan.{plan_of}
+use Rattle.vdcp_auto.specs.declared.phase.State.{State}
 use Rattle.vdcp_drive.specs.Driven.{IsNew}
 use Rattle.vdcp_drive.specs.Lines.{AllListened}
 use Rattle.vdcp_drive.specs.Wires.{Told, IfTold}
 use Rattle.vdcp_drive.proofs.Driving.{RunsAt}
+use Rattle.vdcp_drive.proofs.Watching.{WatchesAt}
 use Rattle.vdcp_drive.proofs.automation.AutoDriver.run_watched.Given as goal
 
 abbrev pub invariant-listens : goal.invariant-listens
@@ -18,7 +20,8 @@ invariant-listens g l =
       listened : (t : Told) → told l.fn.self.wire ≡ Some t → IfTold (told l.self.wire) (λ u. AllListened l.made t.came u.came);
       runs : IsNew l.fn.self.controller.state l.fn.self.reader l.fn.self.heard (told l.fn.self.wire) →
           IfTold (told l.self.wire) (λ u. RunsAt (plan_of g.S.Source.items l.fn.self.controller) l.fn.self.unit u l.self.controller.state l.self.reader
-          l.self.heard × AllListened l.made [] u.came);
+          l.self.heard × AllListened l.made [] u.came × ((states : List State) → g.V.Watch.watched l.fn.watcher ≡ Some states
+          → WatchesAt (plan_of g.S.Source.items l.fn.self.controller) l.fn.self.unit u.came states (g.V.Watch.watched l.watcher)));
     }
 
 abbrev pub decreases-listens : goal.decreases-listens

@@ -1,7 +1,7 @@
 use Rattle.std.proofs.Common.{◌≡◌, ℕ, List, false, sym, ap, ◌∙◌}
 use Rattle.vdcp_drive.specs.declared.wire.Came.{Came}
 use Rattle.vdcp_drive.specs.Scripts.{arrivals}
-use Rattle.vdcp_drive.specs.Wires.{Arrival, has_closed}
+use Rattle.vdcp_drive.specs.Wires.{has_closed}
 use Rattle.vdcp_drive.proofs.Scripting.{arrivals_push, closed_by}
 use Rattle.vdcp_drive.proofs.script.ScriptWire.keep.Goals as goal
 

@@ -1,10 +1,11 @@
-use Rattle.std.proofs.Common.{◌≡◌, ℕ, [], sym, subst, ap, ◌∙◌, arith}
-use Rattle.std.specs.Prelude.{Some}
+use Rattle.std.proofs.Common.{◌≡◌, [], refl, sym, subst, ap, ◌∙◌, arith}
 use Rattle.vdcp_frame.specs.Progress.{Progress, reading}
 use Rattle.vdcp_port.specs.Clock.{ClockedPort}
-use Rattle.vdcp_drive.specs.Lines.{line_of, AllListened}
 use Rattle.vdcp_drive.specs.Served.{IsServed}
-use Rattle.vdcp_drive.specs.Wires.{Told, nothing_told}
+use Rattle.vdcp_drive.specs.Serving.{Serving}
+use Rattle.vdcp_drive.specs.Watching.{adds_aired}
+use Rattle.vdcp_drive.specs.Wires.{nothing_told}
+use Rattle.vdcp_drive.proofs.Airing.{watched_more, watched_first, watched_all}
 use Rattle.vdcp_drive.proofs.Below.{Fed}
 use Rattle.vdcp_drive.proofs.Standing.{at_start, listened_more, has_closed_then}
 use Rattle.vdcp_drive.proofs.Taking.{on_err_of}
@@ -21,6 +22,13 @@ turns-preserved g c = record {
   served = λ start t is h.
       let s = c.turns.invariant.served start t is h in
       c.in_ok-line.ensures.served start s.0 s.1 s.2;
+  watched = λ start t items is h w.
+      let told = g.W.Wire.told in
+      let watched = g.V.WatchAir.watched in
+      let lent = c.lend.ensures ∙ ap (λ (v : Serving _). adds_aired v.aired (watched c.turns.watcher)) c.self-in-turns.view_is in
+      let s = c.turns.invariant.served start t is h in
+      watched_more start t s.0 (told c.turns.self.wire) (told c.turn-line.new.self.wire) items c.turn-line.new.self.aired (watched c.turns.watcher)
+      (watched c.lend.new.watcher) s.1 (c.turns.invariant.watched start t items is h w) (c.in_ok-line.ensures.airs start s.0 s.1 s.2) lent;
   listened = λ t is.
       let told = g.W.Wire.told in
       let l = c.turns.invariant.listened t is in
@@ -75,3 +83,44 @@ returns-in_err-line-clause-broken g c r is works =
     let s = c.args.self.now in
     let h = c.turns.invariant.served s.port nothing_told is (fresh fed s.port s.reader r) in
     on_err_of c.from_residual.result (c.in_err-line.ensures.broken_off s.port h.0 h.1 h.2 c.turns.invariant.works)
+
+pub returns-in-Closed-clause-watched_since : goal.returns-in-Closed-clause-watched_since
+returns-in-Closed-clause-watched_since g c start t items is h w =
+    let told = g.W.Wire.told in
+    let watched = g.V.WatchAir.watched in
+    let lent = c.lend.ensures ∙ ap (λ (v : Serving _). adds_aired v.aired (watched c.turns.watcher)) c.self-in-turns.view_is in
+    let s = c.turns.invariant.served start t is h in
+    watched_more start t s.0 (told c.turns.self.wire) (told c.turn-line.new.self.wire) items c.turn-line.new.self.aired (watched c.turns.watcher)
+    (watched c.lend.new.watcher) s.1 (c.turns.invariant.watched start t items is h w) (c.in_ok-line.ensures.airs start s.0 s.1 s.2) lent
+
+pub returns-in-Closed-clause-watched : goal.returns-in-Closed-clause-watched
+returns-in-Closed-clause-watched g c r is items w =
+    let fed : Fed = record { start = c.what_is_fed_is_followed.ensures.start; next = c.what_is_fed_is_followed.ensures.next } in
+    let told = g.W.Wire.told in
+    let watched = g.V.WatchAir.watched in
+    let lent = c.lend.ensures ∙ ap (λ (v : Serving _). adds_aired v.aired (watched c.turns.watcher)) c.self-in-turns.view_is in
+    let a = c.args.self.now in
+    let h = fresh fed a.port a.reader r in
+    let s = c.turns.invariant.served a.port nothing_told is h in
+    watched_all a.port nothing_told (told c.turn-line.new.self.wire) items (watched c.lend.new.watcher) refl
+    (watched_more a.port nothing_told s.0 (told c.turns.self.wire) (told c.turn-line.new.self.wire) items c.turn-line.new.self.aired (watched
+    c.turns.watcher) (watched c.lend.new.watcher) s.1 (c.turns.invariant.watched a.port nothing_told items is h w)
+    (c.in_ok-line.ensures.airs a.port s.0 s.1 s.2) lent)
+
+pub returns-clause-watched : goal.returns-clause-watched
+returns-clause-watched g c r is items w =
+    let fed : Fed = record { start = c.what_is_fed_is_followed.ensures.start; next = c.what_is_fed_is_followed.ensures.next } in
+    let a = c.args.self.now in
+    watched_all a.port nothing_told (g.W.Wire.told c.turns.self.wire) items (g.V.WatchAir.watched c.turns.watcher) refl
+    (c.turns.invariant.watched a.port nothing_told items is (fresh fed a.port a.reader r) w)
+
+pub returns-in_err-line-clause-watched_first : goal.returns-in_err-line-clause-watched_first
+returns-in_err-line-clause-watched_first g c start t items is h works w =
+    let told = g.W.Wire.told in
+    let watched = g.V.WatchAir.watched in
+    let lent = c.lend.ensures ∙ ap (λ (v : Serving _). adds_aired v.aired (watched c.turns.watcher)) c.self-in-turns.view_is in
+    let s = c.turns.invariant.served start t is h in
+    on_err_of c.from_residual.result
+    (watched_first start t s.0 (told c.turns.self.wire) (told c.turn-line.new.self.wire) items c.turn-line.new.self.aired (watched c.turns.watcher)
+    (watched c.lend.new.watcher) s.1 (c.turns.invariant.watched start t items is h w)
+    (c.in_err-line.ensures.airs_first start s.0 s.1 s.2 c.turns.invariant.works) lent)

@@ -1,0 +1,37 @@
+use Rattle.std.proofs.Common.{ℕ, ◌≡◌, Bool, true, false, List, sym, subst}
+use Rattle.std.specs.Prelude.{if◌then◌else◌}
+use Rattle.vdcp_auto.specs.Course.{course, Reached, called, Tick}
+use Rattle.vdcp_auto.specs.Law.{IsLawful}
+use Rattle.vdcp_auto.specs.Plan.{Plan}
+use Rattle.vdcp_auto.specs.Turn.{ticked}
+use Rattle.vdcp_auto.specs.declared.exchange.Exchange.{Exchange}
+use Rattle.vdcp_auto.specs.declared.phase.State.{State}
+use Rattle.vdcp_drive.specs.Bursts.{is_within_burst}
+use Rattle.vdcp_drive.specs.Driven.{in_drop, in_send, in_listen, inputs_of}
+use Rattle.vdcp_drive.proofs.laws.a_run_is_lawful.Goals as goal
+
+-- also where its next command was given since
+given_since : (plan : Plan) (state : State) (log : List Exchange) (within : Bool) → Reached plan state log → Reached plan (if within then ticked state else state) log
+given_since plan state log true h = called h Tick
+given_since plan state log false h = h
+
+pub returns-clause-run : goal.returns-clause-run
+returns-clause-run c plan unit told state some few h =
+    let log : List Exchange = course plan (inputs_of unit told.came) in
+    subst (λ (s : State). IsLawful plan s log) (sym h.state_is)
+    (c.reached_is_lawful.ensures plan _ log (given_since plan _ log (is_within_burst told.came) (c.a_course_is_reached.ensures plan (inputs_of unit told.came)
+    some few)))
+
+pub returns-clause-broken : goal.returns-clause-broken
+returns-clause-broken c plan unit told state some few (in_drop b) =
+    let log : List Exchange = course plan (inputs_of unit told.came) in
+    subst (λ (s : State). IsLawful plan s log) (sym b.state_is)
+    (c.reached_is_lawful.ensures plan _ log (c.a_course_is_reached.ensures plan (inputs_of unit told.came) some few))
+returns-clause-broken c plan unit told state some few (in_send b) =
+    let log : List Exchange = course plan (inputs_of unit told.came) in
+    subst (λ (s : State). IsLawful plan s log) (sym b.state_is)
+    (c.reached_is_lawful.ensures plan _ log (given_since plan _ log true (c.a_course_is_reached.ensures plan (inputs_of unit told.came) some few)))
+returns-clause-broken c plan unit told state some few (in_listen b) =
+    let log : List Exchange = course plan (inputs_of unit told.came) in
+    subst (λ (s : State). IsLawful plan s log) (sym b.state_is)
+    (c.reached_is_lawful.ensures plan _ log (given_since plan _ log true (c.a_course_is_reached.ensures plan (inputs_of unit told.came) some few)))
