@@ -81,7 +81,7 @@ fn serve<'a>(alloc: Global) -> Result<Command<'a>, AllocError> {
     Command::new(alloc, "serve")
         .about("Serves a port with the clips of a catalogue to one automation, over TCP")
         .after_help(SERVE_EXAMPLE)
-        .arg(address(alloc, "Where it listens, as 127.0.0.1:7400; the system chooses for port 0"))?
+        .arg(address(alloc, "Where it listens, as 127.0.0.1:7400; for TCP port 0 the system chooses one"))?
         .arg(catalogue(alloc))?
         .arg(number_option(alloc, &UNIT))?
         .arg(number_option(alloc, &PORT))?
