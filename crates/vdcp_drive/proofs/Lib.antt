@@ -6,5 +6,6 @@ pub mod Standing
 pub mod Airing
 pub mod Listening
 pub mod Driving
+pub mod Reaching
 pub mod Watching
 pub mod Scripting

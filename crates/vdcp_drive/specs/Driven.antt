@@ -5,9 +5,10 @@ use Rattle.std.specs.Option.{option_to_list}
 use Rattle.std.specs.Prelude.{ℕ, ◌≡◌, ◌+◌, List, [], ◌∷◌, ◌++◌, length, map, Option, None, Some, if◌then◌else◌}
 use Rattle.vdcp_frame.specs.Progress.{Progress, reading}
 use Rattle.vdcp_words.specs.declared.command.Command.{Command}
-use Rattle.vdcp_auto.specs.Course.{course, after_inputs}
+use Rattle.vdcp_auto.specs.Course.{Reached, course, after_inputs}
 use Rattle.vdcp_auto.specs.Plan.{Plan}
 use Rattle.vdcp_auto.specs.Turn.{start, awaited, ticked}
+use Rattle.vdcp_auto.specs.declared.exchange.Exchange.{Exchange}
 use Rattle.vdcp_auto.specs.declared.exchange.Heard.{Heard}
 use Rattle.vdcp_auto.specs.declared.exchange.Input.{Input}
 use Rattle.vdcp_auto.specs.declared.exchange.Input.TheVariants as input
@@ -61,6 +62,11 @@ starts_behind unit n (c ∷ commands) = n ∷ starts_behind unit (n + length (co
 
 abbrev pub starts_of : ℕ → List Command → List ℕ
 starts_of unit commands = starts_behind unit 0 commands
+
+-- whatever log a controller's state was reached with, the later state is reached too, and its log has what
+-- was ended since behind it
+abbrev pub GoesOn : Plan → State → State → Type 0
+GoesOn plan before after = (log : List Exchange) → Reached plan before log → (since : List Exchange) × Reached plan after (log ++ since)
 
 -- a new automation: its controller is new, nothing was heard, and its fresh wire tells its bytes
 pub record IsNew (state : State) (reader : Progress) (heard : Option Heard) (told : Option Told) : Type 0 where

@@ -6,7 +6,7 @@ ghost use Rattle.vdcp_frame.specs.Reader.{answer_of};
 ghost use Rattle.vdcp_auto.specs.Plan.{plan_of};
 ghost use Rattle.vdcp_auto.specs.Turn as turns;
 ghost use Rattle.vdcp_auto.specs.declared.phase.State.{State};
-ghost use Rattle.vdcp_drive.specs.Driven.{IsNew, HasRun, HasRunBroken, IsPartlyRun, states_listening, states_watched};
+ghost use Rattle.vdcp_drive.specs.Driven.{GoesOn, IsNew, HasRun, HasRunBroken, IsPartlyRun, states_listening, states_watched};
 ghost use Rattle.vdcp_drive.specs.Hearing.{HasSent, HasSendBroken, HasHeard, HasReceived, Hears, heard_by_then, command_bytes};
 ghost use Rattle.vdcp_drive.specs.Lines.{line_of, RunsTo, ran_unless_ended};
 ghost use Rattle.vdcp_drive.specs.Wires.{Arrival, Told, IfTold, MayCome, nothing_told, adds_sent, adds_came, SendsFront};
@@ -109,6 +109,7 @@ impl<S: Source, W: Wire> AutoDriver<S, W> {
         ensures ticks { OnOk result (self.new.controller ≡ record self.old.controller { state = turns.ticked self.old.controller.state }) }
         ensures breaks { W.failures self.old.wire ≡ 0 → OnErr result (HasSendBroken (plan_of S.items self.old.controller) self.old.unit
             self.old.controller.state self.new.controller.state (W.told self.old.wire) (W.told self.new.wire)) }
+        ensures reached { GoesOn (plan_of S.items self.old.controller) self.old.controller.state self.new.controller.state }
         ensures controller { self.new.controller ≡ record self.old.controller { state = self.new.controller.state } }
         ensures keeps { self.new ≡ record self.old { controller = self.new.controller; wire = self.new.wire } }
         ensures works { OnOk result (W.failures self.new.wire ≡ 0) }
@@ -140,6 +141,7 @@ impl<S: Source, W: Wire> AutoDriver<S, W> {
         ensures ended { IfOk result (λ ran. (ran ≡ Ran.Ended) ↔ IsSome (turns.outcome_of self.new.controller.state.stage)) }
         ensures answer { (t : Told) → W.told self.old.wire ≡ Some t →
             IfOk result (λ ran. IfTold (W.told self.new.wire) (λ u. RunsTo ran (turns.outcome_of self.new.controller.state.stage) listens t.came u.came)) }
+        ensures reached { GoesOn (plan_of S.items self.old.controller) self.old.controller.state self.new.controller.state }
         ensures controller { self.new.controller ≡ record self.old.controller { state = self.new.controller.state } }
         ensures unit { self.new.unit ≡ self.old.unit }
         ensures works { OnOk result (W.failures self.new.wire ≡ 0) }
@@ -173,6 +175,7 @@ impl<S: Source, W: Wire> AutoDriver<S, W> {
         ensures ended { IfOk result (λ ran. (ran ≡ Ran.Ended) ↔ IsSome (turns.outcome_of self.new.controller.state.stage)) }
         ensures answer { (t : Told) → W.told self.old.wire ≡ Some t →
             IfOk result (λ ran. IfTold (W.told self.new.wire) (λ u. RunsTo ran (turns.outcome_of self.new.controller.state.stage) listens t.came u.came)) }
+        ensures reached { GoesOn (plan_of S.items self.old.controller) self.old.controller.state self.new.controller.state }
         ensures controller { self.new.controller ≡ record self.old.controller { state = self.new.controller.state } }
         ensures unit { self.new.unit ≡ self.old.unit }
         ensures works { OnOk result (W.failures self.new.wire ≡ 0) }
@@ -221,6 +224,7 @@ impl<S: Source, W: Wire> AutoDriver<S, W> {
             × (W.told self.new.wire ≡ adds_came a (W.told self.old.wire))) }
         ensures breaks { W.failures self.old.wire ≡ 0 → OnErr result (W.told self.new.wire ≡ W.told self.old.wire) }
         ensures unchanged { OnErr result (self.new ≡ record self.old { wire = self.new.wire }) }
+        ensures reached { GoesOn (plan_of S.items self.old.controller) self.old.controller.state self.new.controller.state }
         ensures controller { self.new.controller ≡ record self.old.controller { state = self.new.controller.state } }
         ensures unit { self.new.unit ≡ self.old.unit }
         ensures works { OnOk result (W.failures self.new.wire ≡ 0) }
@@ -260,6 +264,7 @@ fn send_next<S: Source, W: Wire>(
     ensures ticks { OnOk result (controller.new ≡ record controller.old { state = turns.ticked controller.old.state }) }
     ensures breaks { OnErr result (HasSendBroken (plan_of S.items controller.old) unit
         controller.old.state controller.new.state (W.told wire.old) (W.told wire.new)) }
+    ensures reached { GoesOn (plan_of S.items controller.old) controller.old.state controller.new.state }
     ensures controller { controller.new ≡ record controller.old { state = controller.new.state } }
     ensures works { OnOk result (W.failures wire.new ≡ 0) }
     ensures failed { OnErr result (W.failures wire.new ≡ 1) }
@@ -304,6 +309,7 @@ fn hear<S: Source, W: Wire>(
         × (W.told wire.new ≡ adds_came a (W.told wire.old))) }
     ensures broken { OnErr result (W.told wire.new ≡ W.told wire.old) }
     ensures unchanged { OnErr result ((controller.new ≡ controller.old) × (reader.new ≡ reader.old) × (heard.new ≡ heard.old)) }
+    ensures reached { GoesOn (plan_of S.items controller.old) controller.old.state controller.new.state }
     ensures controller { controller.new ≡ record controller.old { state = controller.new.state } }
     ensures works { OnOk result (W.failures wire.new ≡ 0) }
     ensures failed { OnErr result (W.failures wire.new ≡ 1) }
@@ -366,6 +372,7 @@ fn end_burst<S: Source>(
     heard: &mut Option<Heard>,
 )
     ensures received { HasReceived (plan_of S.items controller.old) controller.old.state heard.old controller.new.state reader.new heard.new }
+    ensures reached { GoesOn (plan_of S.items controller.old) controller.old.state controller.new.state }
     ensures controller { controller.new ≡ record controller.old { state = controller.new.state } }
 {
     reader.silence();

@@ -1,3 +1,4 @@
 mod Ends
+mod Reached
 mod Unplayed
 mod Unserved

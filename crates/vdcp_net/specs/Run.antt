@@ -1,13 +1,18 @@
 -- How a run ends: what it tells then, and its exit status.
 use Rattle.std.specs.Borrow.{Bor}
 use Rattle.std.specs.Io.KnownBytes.{Appends, Keeps}
-use Rattle.std.specs.Prelude.{ℕ, ◌≡◌, ◌⊎◌, List, [], ◌++◌, codes, decimal, Option, None, Some, Result, Ok, Err, Bool, true, false, IsTrue}
+use Rattle.std.specs.Prelude.{ℕ, ◌≡◌, ◌⊎◌, List, [], ◌++◌, codes, decimal, Option, None, Some, IsSome, Result, Ok, Err, Bool, true, false, IsTrue}
 use Rattle.vdcp_value.specs.declared.part.Item.{Item}
 use Rattle.vdcp_value.specs.declared.rate.Rate.{Rate}
+use Rattle.vdcp_auto.specs.Course.{Reached}
+use Rattle.vdcp_auto.specs.Plan.{Plan}
+use Rattle.vdcp_auto.specs.Turn.{outcome_of}
+use Rattle.vdcp_auto.specs.declared.exchange.Exchange.{Exchange}
 use Rattle.vdcp_auto.specs.declared.outcome.Outcome.{Outcome}
 use Rattle.vdcp_auto.specs.declared.outcome.Outcome.TheVariants.{Done, Stopped, Lost, Denied, Missing, Refused, Foreign, Strange}
 use Rattle.vdcp_auto.specs.declared.phase.Mode.{Mode}
 use Rattle.vdcp_auto.specs.declared.phase.Mode.TheVariants.{Plain, Confirming}
+use Rattle.vdcp_auto.specs.declared.phase.State.{State}
 use Rattle.vdcp_text.specs.Failure.{failure_line, status_of}
 use Rattle.vdcp_text.specs.Text.{line}
 use Rattle.vdcp_text.specs.declared.failure.Failure.{Failure}
@@ -25,10 +30,15 @@ use Rattle.vdcp_net.specs.Address.{IsAddress}
 use Rattle.vdcp_net.specs.declared.run.LineEnd.{LineEnd}
 use Rattle.vdcp_net.specs.declared.run.LineEnd.TheVariants as line_end
 use Rattle.vdcp_net.specs.declared.run.RunEnd.{RunEnd}
+use Rattle.vdcp_net.specs.declared.run.RunSettings.{RunSettings}
 
 abbrev pub mode_of : Bool → Mode
 mode_of true = Confirming
 mode_of false = Plain
+
+-- what the controller is made with for these items
+abbrev pub plan_for : RunSettings → List Item → Plan
+plan_for settings items = record { mode = mode_of settings.confirm; list = items; port = settings.port; limit = settings.limit }
 
 -- ---- how the line ended
 
@@ -106,10 +116,29 @@ run_status end = status_unless end.unwritten (status_unless (line_failure end.li
 abbrev pub IsWholeList : Rate → File → Type 0
 IsWholeList rate list = (items : List Item) × IsListOf rate (bytes_of list) items
 
--- the file is a playlist, and a run of it ended: a writer gained the lines of that, and this is the status
-pub record IsRun (rate : Rate) (list : File) (out out' : Option (List ℕ)) (status : ℕ) : Type 0 where
-  pub whole : IsWholeList rate list
+-- this is the end of a controller that was made with this plan: some calls led it to this state, and its log has the exchanges that
+-- they ended. The outcome and the count of reported events are the state's. The line was unneeded only where the controller has
+-- ended, and where it has, the line was unneeded or it failed
+pub record IsEndOf (plan : Plan) (end : RunEnd) : Type 0 where
+  pub log : List Exchange
+  pub state : State
+  pub reached : Reached plan state log
+  pub outcome_is : end.outcome ≡ outcome_of state.stage
+  pub reported_is : end.reported ≡ state.settled
+  pub unneeded : end.line ≡ line_end.Unneeded → IsSome end.outcome
+  pub ended : IsSome end.outcome → (end.line ≡ line_end.Unneeded) ⊎ (end.line ≡ line_end.Failed)
+
+-- the file is a playlist, and this is the end of a controller that plays it
+pub record IsPlayed (settings : RunSettings) (list : File) (end : RunEnd) : Type 0 where
+  pub items : List Item
+  pub lists : IsListOf settings.rate (bytes_of list) items
+  pub ends : IsEndOf (plan_for settings items) end
+  pub unwritten : MayBeUnwritten settings.asrun end.unwritten
+
+-- the list was played to this end: a writer gained the lines of that, and this is the status
+pub record IsRun (settings : RunSettings) (list : File) (out out' : Option (List ℕ)) (status : ℕ) : Type 0 where
   pub end : RunEnd
+  pub played : IsPlayed settings list end
   pub gained : Appends out out' (end_text end)
   pub status_is : status ≡ run_status end
 

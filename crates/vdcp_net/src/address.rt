@@ -9,7 +9,7 @@ use vdcp_text::Failure;
 /// up, and no spaces.
 pub fn address_of(text: &str) -> Result<SocketAddrV4, Failure<'static>>
     ensures address { IfOk result (IsSocketV4Text text.now) }
-    ensures none { OnErr result (¬ IsAddress text.now) }
+    ensures no_address { OnErr result (¬ IsAddress text.now) }
     ensures refused { IfErr result (λ e. e ≡ Failure.Address) }
 {
     match SocketAddrV4::parse_ascii(text.as_bytes()) {

@@ -1,12 +1,14 @@
 ghost use Rattle.std.specs.Io.KnownBytes.{Appends, Keeps};
-ghost use Rattle.std.specs.Prelude.{◌≡◌, ◌≢◌, ◌⊎◌, ◌<◌, ◌≤◌, List, IfErr, IfOk, IsSome, OnOk, Some};
+ghost use Rattle.std.specs.Prelude.{◌≡◌, ◌≢◌, ◌⊎◌, ◌<◌, ◌≤◌, List, IfErr, IfOk, IsSome, OnErr, OnOk, Some};
+ghost use Rattle.vdcp_auto.specs.Course.{Reached};
 ghost use Rattle.vdcp_auto.specs.Plan.{plan_of};
 ghost use Rattle.vdcp_auto.specs.Turn as turns;
-ghost use Rattle.vdcp_drive.specs.Driven.{HasRun, HasRunBroken, IsNew, IsPartlyRun};
+ghost use Rattle.vdcp_auto.specs.declared.exchange.Exchange.{Exchange};
+ghost use Rattle.vdcp_drive.specs.Driven.{GoesOn, HasRun, HasRunBroken, IsNew, IsPartlyRun};
 ghost use Rattle.vdcp_drive.specs.Wires.{IfTold, Told};
 ghost use Rattle.vdcp_files.specs.Files.{file};
 ghost use Rattle.vdcp_net.specs.Address.{IsAddress};
-ghost use Rattle.vdcp_net.specs.Run.{EndsTo, IsListRefused, IsRun, IsUnplayed, IsWholeList, MayBeUnwritten};
+ghost use Rattle.vdcp_net.specs.Run.{EndsTo, IsEndOf, IsListRefused, IsPlayed, IsRun, IsUnplayed, IsWholeList, MayBeUnwritten};
 ghost use Rattle.vdcp_net.specs.Run.{end_text, fault_text, faults_text, line_end_of, line_failure, mode_of, run_status};
 ghost use Rattle.vdcp_text.specs.Failure.{failure_line};
 
@@ -204,16 +206,16 @@ pub fn do_run<
     requires unit { settings.unit ≤ 15 }
     requires some { 1 ≤ settings.limit }
     requires few { settings.limit ≤ 1000 }
-    ensures run { result ≡ 0 → IsRun settings.entry.rate (file list.entry.name (L.remaining list.entry.reader)) (W.contents out.old) (W.contents out.new) 0 }
+    ensures run { result ≡ 0 → IsRun settings.entry (file list.entry.name (L.remaining list.entry.reader)) (W.contents out.old) (W.contents out.new) 0 }
     ensures untold { result ≡ 0 → Keeps (E.contents err.old) (E.contents err.new) }
     // The status is 1 for how the controller ended, and for a row that is refused.
     ensures others { result ≡ 1 →
-        (IsRun settings.entry.rate (file list.entry.name (L.remaining list.entry.reader)) (W.contents out.old) (W.contents out.new) 1
+        (IsRun settings.entry (file list.entry.name (L.remaining list.entry.reader)) (W.contents out.old) (W.contents out.new) 1
         × Keeps (E.contents err.old) (E.contents err.new))
         ⊎ IsListRefused settings.entry.rate (file list.entry.name (L.remaining list.entry.reader))
         (W.contents out.old) (W.contents out.new) (E.contents err.old) (E.contents err.new) }
     // The status is 2 for an address that is none, unless this can't be told.
-    ensures none { result ≡ 2 → ¬ IsAddress address.now × Appends (E.contents err.old) (E.contents err.new) (failure_line Failure.Address) }
+    ensures no_address { result ≡ 2 → ¬ IsAddress address.now × Appends (E.contents err.old) (E.contents err.new) (failure_line Failure.Address) }
     ensures address { ¬ IsAddress address.now → ((result ≡ 2) ⊎ (result ≡ 3)) × Keeps (W.contents out.old) (W.contents out.new) }
     ensures silent { Keeps (W.contents out.old) (W.contents out.new)
         ⊎ IsWholeList settings.entry.rate (file list.entry.name (L.remaining list.entry.reader)) }
@@ -238,6 +240,7 @@ fn run_list<'a, R: Net + Files + Clock + AllocGlobal, L: io::Read + Drop, V: io:
     requires few { settings.limit ≤ 1000 }
     ensures address { OnOk result (IsAddress address.now) }
     ensures whole { OnOk result (IsWholeList settings.entry.rate (file list.entry.name (L.remaining list.entry.reader))) }
+    ensures played { IfOk result (IsPlayed settings.entry (file list.entry.name (L.remaining list.entry.reader))) }
     ensures unplayed { IfErr result (IsUnplayed settings.entry.rate address.now (file list.entry.name (L.remaining list.entry.reader))) }
 {
     let address = address_of(address)?;
@@ -252,7 +255,7 @@ fn run_list<'a, R: Net + Files + Clock + AllocGlobal, L: io::Read + Drop, V: io:
     Ok(play_connected(rt, controller, stream, settings, showing))
 }
 
-// Plays a list over a connection. One that refuses the silence is a line that failed.
+// Plays a list over a connection.
 fn play_connected<
     'a,
     R: Files + Clock + AllocGlobal,
@@ -268,9 +271,36 @@ fn play_connected<
 ) -> RunEnd<'a>
     requires { settings.unit ≤ 15 }
     ensures unwritten { MayBeUnwritten settings.entry.asrun result.unwritten }
+    // Whatever the controller's log is: from there it came to this end.
+    ensures end { (log : List Exchange) → Reached (plan_of S.items controller) controller.state log → IsEndOf (plan_of S.items controller) result }
 {
     let silence = Duration::from_millis(settings.silence as u64);
-    match StreamWire::new(stream, silence) {
+    let wire = StreamWire::new(stream, silence);
+    play_over(rt, controller, wire, settings, showing)
+}
+
+// Plays a list over the wire of a connection. One that refuses to be a wire is a line that failed.
+fn play_over<
+    'a,
+    R: Files + Clock + AllocGlobal,
+    S: Source + Drop,
+    W: Wire + Drop,
+    V: io::Write + Drop,
+>(
+    rt: &R,
+    controller: Controller<S>,
+    wire: io::Result<W>,
+    settings: RunSettings<'a>,
+    showing: Showing<V>,
+) -> RunEnd<'a>
+    requires unit { settings.unit ≤ 15 }
+    requires works { IfOk wire (λ w. W.failures w ≡ 0) }
+    ensures failed { OnErr wire (result.line ≡ LineEnd.Failed) }
+    ensures unwritten { MayBeUnwritten settings.entry.asrun result.unwritten }
+    // Whatever the controller's log is: from there it came to this end.
+    ensures end { (log : List Exchange) → Reached (plan_of S.items controller) controller.state log → IsEndOf (plan_of S.items controller) result }
+{
+    match wire {
         Ok(wire) => play_shown(rt, controller, wire, settings, showing),
         Err(_) => ended(rt, &controller, LineEnd::Failed, settings),
     }
@@ -293,6 +323,8 @@ fn play_shown<
     requires unit { settings.unit ≤ 15 }
     requires works { W.failures wire ≡ 0 }
     ensures unwritten { MayBeUnwritten settings.entry.asrun result.unwritten }
+    // Whatever the controller's log is: from there it came to this end.
+    ensures end { (log : List Exchange) → Reached (plan_of S.items controller) controller.state log → IsEndOf (plan_of S.items controller) result }
 {
     let unit = settings.unit;
     match showing {
@@ -341,7 +373,8 @@ fn play<'a, R: Files + AllocGlobal, S: Source, W: Wire, V: Watch<S>>(
     ensures reported { result.reported ≡ driver.new.controller.state.settled }
     ensures unwritten { MayBeUnwritten settings.entry.asrun result.unwritten }
     ensures unneeded { result.line ≡ LineEnd.Unneeded → IsSome result.outcome }
-    ensures broken_off { IsSome result.outcome → (result.line ≡ LineEnd.Unneeded) ⊎ (result.line ≡ LineEnd.Failed) }
+    ensures ended { IsSome result.outcome → (result.line ≡ LineEnd.Unneeded) ⊎ (result.line ≡ LineEnd.Failed) }
+    ensures reached { GoesOn (plan_of S.items driver.old.controller) driver.old.controller.state driver.new.controller.state }
     ensures line { (t : Told) → W.told driver.old.wire ≡ Some t → result.line ≢ LineEnd.Failed →
         IfTold (W.told driver.new.wire) (λ u. EndsTo result.line settings.entry.listens t.came u.came) }
     // Of a new automation: a new controller, and a fresh wire that tells its bytes.

@@ -1,4 +1,4 @@
-use Rattle.std.proofs.Common.{ℕ, ◌≡◌, Bool, true, false, List, sym, subst}
+use Rattle.std.proofs.Common.{Bool, true, false, List, sym, subst}
 use Rattle.std.specs.Prelude.{if◌then◌else◌}
 use Rattle.vdcp_auto.specs.Course.{course, Reached, called, Tick}
 use Rattle.vdcp_auto.specs.Law.{IsLawful}

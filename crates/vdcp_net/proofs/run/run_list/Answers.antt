@@ -1,5 +1,6 @@
 use Rattle.std.proofs.Common.{refl}
 use Rattle.vdcp_list.specs.List.{items_of}
+use Rattle.vdcp_net.proofs.Reached.{new_ends_so}
 use Rattle.vdcp_net.proofs.run.run_list.Goals as goal
 use Rattle.vdcp_net.specs.Run.{not_connected}
 
@@ -9,3 +10,12 @@ returns-in_default-clause-unplayed g c =
 
 pub returns-clause-whole : goal.returns-clause-whole
 returns-clause-whole g c = (items_of c.in-Ok.events, c.in-Ok.ensures.items)
+
+pub returns-clause-played : goal.returns-clause-played
+returns-clause-played g c = record {
+  items = items_of c.in-Ok.events;
+  lists = c.in-Ok.ensures.items;
+  ends = new_ends_so items_of c.in-Ok.events c.args.settings c.new_controller-controller.result c.play_connected.result c.new_controller-controller.ensures c.requires.some c.requires.few
+      c.play_connected.ensures.end;
+  unwritten = c.play_connected.ensures.unwritten;
+}

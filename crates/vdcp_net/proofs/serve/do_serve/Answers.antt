@@ -1,7 +1,7 @@
 use Rattle.vdcp_net.proofs.Unserved.{refused_with_2}
 use Rattle.vdcp_net.proofs.serve.do_serve.Goals as goal
 
-pub returns-in-Err-clause-none : goal.returns-in-Err-clause-none
-returns-in-Err-clause-none g c = λ two.
+pub returns-in-Err-clause-no_address : goal.returns-in-Err-clause-no_address
+returns-in-Err-clause-no_address g c = λ two.
     refused_with_2 c.args.settings.rate c.args.address.now _ _ _ _ _ c.in-Err.failure c.report.result c.in-Err.ensures.unserved c.report.ensures.status
     c.report.ensures.told two

@@ -10,6 +10,7 @@ use Rattle.vdcp_drive.specs.Watching.{adds_watched}
 use Rattle.vdcp_drive.specs.Wires.{Arrival}
 use Rattle.vdcp_drive.proofs.Below.{Read, Fed}
 use Rattle.vdcp_drive.proofs.Driving.{OneMore, sent_so, unsent_so, on_so, out_so, broken_listen, closes_to, closed_on, listened_on, with_front}
+use Rattle.vdcp_drive.proofs.Reaching.{goes_further}
 use Rattle.vdcp_drive.proofs.Taking.{on_err_of}
 use Rattle.vdcp_drive.proofs.Watching.{looks, watches_on}
 use Rattle.vdcp_drive.proofs.automation.AutoDriver.run_watched.Goals as goal
@@ -161,6 +162,11 @@ listens-preserved g c = record {
       ∙ ap (λ (v : View _). record v { state = c.listen.new.self.controller.state }) c.in_ok-send.ensures.controller
       ∙ ap (λ (v : View _). record v { state = c.listen.new.self.controller.state }) c.listens.invariant.controller;
   unit = c.in_ok-listen.ensures.unit ∙ ap (λ (d : Driving _ _). d.unit) c.in_ok-send.ensures.keeps ∙ c.listens.invariant.unit;
+  reached =
+      let plan : Plan = plan_of g.S.Source.items c.args.self.now.controller in
+      let planned : plan_of g.S.Source.items c.listens.self.controller ≡ plan = ap (plan_of g.S.Source.items) c.listens.invariant.controller in
+      let replanned : plan_of g.S.Source.items c.send.new.self.controller ≡ plan = ap (plan_of g.S.Source.items) c.in_ok-send.ensures.controller ∙ planned in
+      goes_further plan _ _ _ _ replanned (goes_further plan _ _ _ _ planned c.listens.invariant.reached c.in_ok-send.ensures.reached) c.in_ok-listen.ensures.reached;
   listened = λ t is.
       let told = g.W.Wire.told in
       let l = c.listens.self in

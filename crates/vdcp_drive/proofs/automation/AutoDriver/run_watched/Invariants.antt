@@ -2,7 +2,7 @@ use Rattle.std.proofs.Common.{List, ◌-◌, ◌≡◌, ◌≤◌, []}
 use Rattle.std.specs.Prelude.{Some}
 use Rattle.vdcp_auto.specs.Plan.{plan_of}
 use Rattle.vdcp_auto.specs.declared.phase.State.{State}
-use Rattle.vdcp_drive.specs.Driven.{IsNew}
+use Rattle.vdcp_drive.specs.Driven.{GoesOn, IsNew}
 use Rattle.vdcp_drive.specs.Lines.{AllListened}
 use Rattle.vdcp_drive.specs.Wires.{Told, IfTold}
 use Rattle.vdcp_drive.proofs.Driving.{RunsAt}
@@ -17,6 +17,7 @@ invariant-listens g l =
       works : g.W.Wire.failures l.self.wire ≡ 0;
       controller : l.self.controller ≡ record l.fn.self.controller { state = l.self.controller.state };
       unit : l.self.unit ≡ l.fn.self.unit;
+      reached : GoesOn (plan_of g.S.Source.items l.fn.self.controller) l.fn.self.controller.state l.self.controller.state;
       listened : (t : Told) → told l.fn.self.wire ≡ Some t → IfTold (told l.self.wire) (λ u. AllListened l.made t.came u.came);
       runs : IsNew l.fn.self.controller.state l.fn.self.reader l.fn.self.heard (told l.fn.self.wire) →
           IfTold (told l.self.wire) (λ u. RunsAt (plan_of g.S.Source.items l.fn.self.controller) l.fn.self.unit u l.self.controller.state l.self.reader
