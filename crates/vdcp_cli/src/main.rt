@@ -31,6 +31,11 @@ fn main(rt: HostRuntime) -> ExitCode {
 
 // Reads the arguments of the command line and runs what they ask for.
 fn run(rt: &HostRuntime) -> Result<u8, Failure<'static>> {
+    // Where a standard stream is closed, the next file or connection would get its descriptor, and then what is
+    // printed or told. So these three take the descriptors first.
+    let _input = open_nothing(rt)?;
+    let _output = open_nothing(rt)?;
+    let _error = open_nothing(rt)?;
     let alloc = rt.alloc();
     let arguments: Vec<String> = match env::args(rt) {
         Ok(arguments) => arguments.collect(alloc)?,
@@ -51,6 +56,15 @@ fn run(rt: &HostRuntime) -> Result<u8, Failure<'static>> {
     // Nothing more is written: dropped, the buffer would try again what a failed write has left in it.
     out.into_parts();
     Ok(status)
+}
+
+// Opens a device that has nothing to read, and can't be written to so.
+fn open_nothing(rt: &HostRuntime) -> Result<File, Failure<'static>> {
+    match File::open(rt, "/dev/null") {
+        Ok(file) => Ok(file),
+        Err(error) if error.kind() == io::ErrorKind::OutOfMemory => Err(Failure::Memory),
+        Err(_) => Err(Failure::Open("/dev/null")),
+    }
 }
 
 // Runs the subcommand of this name.
