@@ -227,12 +227,7 @@ pub fn do_run<
 }
 
 // Reads the list, connects, plays the list, and writes what is reported of it.
-fn run_list<
-    'a,
-    R: Net + Files + Clock + AllocGlobal,
-    L: io::Read + Drop,
-    V: io::Write + Drop,
->(
+fn run_list<'a, R: Net + Files + Clock + AllocGlobal, L: io::Read + Drop, V: io::Write + Drop>(
     rt: &R,
     address: &str,
     list: Input<'a, L>,
