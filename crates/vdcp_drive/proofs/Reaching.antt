@@ -27,7 +27,8 @@ goes_by_call plan call before after is log reached =
     (subst (λ (l : List Exchange). Reached plan (after_call plan call before) l) more.1 (called reached call)))
 
 -- and then further, where the plan is the same
-pub goes_further : (plan plan' : Plan) (before between after : State) → plan' ≡ plan → GoesOn plan before between → GoesOn plan' between after → GoesOn plan before after
+pub goes_further : (plan plan' : Plan) (before between after : State) → plan' ≡ plan → GoesOn plan before between → GoesOn plan' between after
+    → GoesOn plan before after
 goes_further plan plan' before between after same first then log reached =
     let a = first log reached in
     let b = subst (λ (p : Plan). GoesOn p between after) same then (log ++ a.0) a.1 in

@@ -22,7 +22,7 @@ enum Connection {
     Failed,
 }
 
-/// A wire over a connection. It doesn't tell its bytes, and each call may wait for the other end.
+/// A wire over a connection. It doesn't tell its bytes, and `send` and `listen` may wait for the other end.
 ///
 /// A read that waited for so long is a silence, and an interrupted read brings no bytes. `drop_waiting`
 /// doesn't wait, and drops what 128 reads take at most. The rest stays.

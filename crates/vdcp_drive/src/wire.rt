@@ -48,7 +48,8 @@ pub trait Wire {
         ensures works { OnOk result (failures self.new ≡ 0) }
         ensures failed { OnErr result (failures self.new ≡ 1) };
 
-    /// Drops the bytes that wait to be listened to. Where it fails, nothing is dropped.
+    /// Drops the bytes that wait to be listened to. A call that fails counts as no drop, though some of these
+    /// bytes may be gone.
     fn drop_waiting(&mut self) -> Result<(), WireFault>
         requires { failures self.old ≡ 0 }
         ensures dropped { OnOk result (told self.new ≡ adds_drop (told self.old)) }

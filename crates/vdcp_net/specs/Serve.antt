@@ -24,41 +24,42 @@ abbrev pub listening_line : SocketAddr → List ℕ
 listening_line address = line (codes "listening " ++ socket_text address)
 
 -- a writer gained the line of how a server's turns ended
-abbrev pub TellsEnd : Ran → Option (List ℕ) → Option (List ℕ) → Type 0
-TellsEnd ran.Closed out out' = Appends out out' (line (codes "closed"))
-TellsEnd ran.Spent out out' = Appends out out' (line (codes "spent"))
-TellsEnd ran.Ended out out' = ⊥
+abbrev pub PrintsEnd : Ran → Option (List ℕ) → Option (List ℕ) → Type 0
+PrintsEnd ran.Closed out out' = Appends out out' (line (codes "closed"))
+PrintsEnd ran.Spent out out' = Appends out out' (line (codes "spent"))
+PrintsEnd ran.Ended out out' = ⊥
 
 -- so many turns of a server ended so, by what its wire told before and tells since, if it tells its bytes; and a
 -- writer gained the line of it
 pub record EndsAs (turns : ℕ) (told told' : Option Told) (out out' : Option (List ℕ)) : Type 0 where
   pub ran : Ran
   pub serves : (t : Told) → told ≡ Some t → IfTold told' (λ u. ServesTo ran turns t.came u.came)
-  pub tells : TellsEnd ran out out'
+  pub prints : PrintsEnd ran out out'
 
 -- the file is a catalogue
 abbrev pub IsWhole : Rate → File → Type 0
 IsWhole rate catalogue = (clips : List (ClipId × Timecode)) × IsCatalogueOf rate (bytes_of catalogue) clips
 
 -- a writer gained the line of an address that was listened at
-abbrev pub TellsListening : Option (List ℕ) → Option (List ℕ) → Type 0
-TellsListening out out' = (address : SocketAddr) × Appends out out' (listening_line address)
+abbrev pub PrintsListening : Option (List ℕ) → Option (List ℕ) → Type 0
+PrintsListening out out' = (address : SocketAddr) × Appends out out' (listening_line address)
 
--- and then the line of how the turns ended
-pub record IsServedThere (out out' : Option (List ℕ)) : Type 0 where
+-- the file is a catalogue, and a writer gained the line of an address that was listened at, and then that of how the turns ended
+pub record IsServedThere (rate : Rate) (catalogue : File) (out out' : Option (List ℕ)) : Type 0 where
+  pub whole : IsWhole rate catalogue
   pub then : Option (List ℕ)
-  pub listens : TellsListening out then
+  pub listens : PrintsListening out then
   pub ran : Ran
-  pub tells : TellsEnd ran then out'
+  pub prints : PrintsEnd ran then out'
 
--- why a channel isn't served to its end, and what was told by then: the text is no address, or else the catalogue
+-- why a channel isn't served to its end, and what was printed by then: the text is no address, or else the catalogue
 -- isn't read, or else nobody can be listened to, or the line failed, or the writer did
 pub data IsUnserved (rate : Rate) (text : List ℕ) (catalogue : File) (out out' : Option (List ℕ)) (failure : Failure) : Type 0 where
   no_address : ¬ IsAddress text → failure ≡ failures.Address → Keeps out out' → IsUnserved rate text catalogue out out' failure
   no_catalogue : IsAddress text → RefusesCatalogue rate catalogue failure → Keeps out out' → IsUnserved rate text catalogue out out' failure
-  not_bound : IsAddress text → IsWhole rate catalogue → failure ≡ failures.Bind → Keeps out out' ⊎ TellsListening out out'
+  not_bound : IsAddress text → IsWhole rate catalogue → failure ≡ failures.Bind → Keeps out out' ⊎ PrintsListening out out'
       → IsUnserved rate text catalogue out out' failure
-  line_failed : IsAddress text → IsWhole rate catalogue → failure ≡ failures.LineFailed → TellsListening out out'
+  line_failed : IsAddress text → IsWhole rate catalogue → failure ≡ failures.LineFailed → PrintsListening out out'
       → IsUnserved rate text catalogue out out' failure
   writer_failed : IsAddress text → IsWhole rate catalogue → failure ≡ failures.Writer → IsUnserved rate text catalogue out out' failure
 

@@ -1,6 +1,6 @@
 ghost use Rattle.std.specs.Io.KnownBytes.{Appends, Keeps};
-ghost use Rattle.std.specs.Prelude.{◌≢◌, IfErr, OnOk};
-ghost use Rattle.vdcp_list.specs.Asrun.{asrun_text};
+ghost use Rattle.std.specs.Prelude.{◌≡◌, ◌≢◌, IfErr, OnOk};
+ghost use Rattle.vdcp_list.specs.Asrun.{AppendsBeginning, asrun_text};
 ghost use Rattle.vdcp_net.specs.Run.{IsUnwritten};
 
 use std::alloc::Global;
@@ -43,6 +43,8 @@ fn write_reported<S: Source, W: io::Write>(
     ensures ok { OnOk result (Appends (W.contents writer.old) (W.contents writer.new)
         (asrun_text rate (S.items controller.now.source) controller.now.state.settled)) }
     ensures kept { IfErr result (λ fault. fault ≢ WriteFault.Device → Keeps (W.contents writer.old) (W.contents writer.new)) }
+    ensures beginning { IfErr result (λ fault. fault ≡ WriteFault.Device → AppendsBeginning (W.contents writer.old) (W.contents writer.new)
+        (asrun_text rate (S.items controller.now.source) controller.now.state.settled)) }
 {
     let source = controller.source();
     // (a controller never settles more events than there are; its type doesn't say so)

@@ -4,7 +4,7 @@ ghost use Rattle.vdcp_drive.specs.Served.{HasBrokenOff, IsPartlySent, IsServed};
 ghost use Rattle.vdcp_drive.specs.Wires.{IfTold, Told};
 ghost use Rattle.vdcp_files.specs.Files.{file};
 ghost use Rattle.vdcp_net.specs.Address.{IsAddress};
-ghost use Rattle.vdcp_net.specs.Serve.{EndsAs, IsCatalogueRefused, IsServedThere, IsUnserved, IsWhole, TellsEnd, TellsListening, listening_line};
+ghost use Rattle.vdcp_net.specs.Serve.{EndsAs, IsCatalogueRefused, IsServedThere, IsUnserved, IsWhole, PrintsEnd, PrintsListening, listening_line};
 ghost use Rattle.vdcp_port.specs.Clock.{ClockedPort, new_port};
 ghost use Rattle.vdcp_text.specs.Failure.{failure_line};
 
@@ -69,7 +69,8 @@ pub fn do_serve<
     requires unit { settings.unit ≤ 15 }
     requires some_frames { 1 ≤ settings.cue_frames }
     requires few_frames { settings.cue_frames ≤ 1000 }
-    ensures served { result ≡ 0 → IsServedThere (W.contents out.old) (W.contents out.new) }
+    ensures served { result ≡ 0 → IsServedThere settings.rate (file catalogue.entry.name (C.remaining catalogue.entry.reader))
+        (W.contents out.old) (W.contents out.new) }
     ensures whole { result ≡ 0 → IsAddress address.now × IsWhole settings.rate (file catalogue.entry.name (C.remaining catalogue.entry.reader)) }
     ensures untold { result ≡ 0 → Keeps (E.contents err.old) (E.contents err.new) }
     // The status is 1 for a row that is refused.
@@ -100,7 +101,8 @@ fn serve<'a, R: Net + AllocGlobal, C: io::Read + Drop, L: io::Write + Drop, W: i
     requires unit { settings.unit ≤ 15 }
     requires some_frames { 1 ≤ settings.cue_frames }
     requires few_frames { settings.cue_frames ≤ 1000 }
-    ensures served { OnOk result (IsServedThere (W.contents out.old) (W.contents out.new)) }
+    ensures served { OnOk result (IsServedThere settings.rate (file catalogue.entry.name (C.remaining catalogue.entry.reader))
+        (W.contents out.old) (W.contents out.new)) }
     ensures address { OnOk result (IsAddress address.now) }
     ensures whole { OnOk result (IsWhole settings.rate (file catalogue.entry.name (C.remaining catalogue.entry.reader))) }
     ensures unserved { IfErr result (IsUnserved settings.rate address.now (file catalogue.entry.name (C.remaining catalogue.entry.reader))
@@ -125,9 +127,9 @@ fn accept_one<R: Net, W: io::Write>(
     address: SocketAddrV4,
     out: &mut W,
 ) -> Result<R::Stream, Failure<'static>>
-    ensures told { OnOk result (TellsListening (W.contents out.old) (W.contents out.new)) }
+    ensures prints { OnOk result (PrintsListening (W.contents out.old) (W.contents out.new)) }
     ensures refused { IfErr result (λ e. (e ≡ Failure.Writer) ⊎ ((e ≡ Failure.Bind)
-        × (Keeps (W.contents out.old) (W.contents out.new) ⊎ TellsListening (W.contents out.old) (W.contents out.new)))) }
+        × (Keeps (W.contents out.old) (W.contents out.new) ⊎ PrintsListening (W.contents out.old) (W.contents out.new)))) }
 {
     let Ok(listener) = rt.bind(SocketAddr::V4(address)) else {
         return Err(Failure::Bind);
@@ -171,7 +173,7 @@ fn serve_line<C: Catalogue + Drop, S: Wire + Drop, L: io::Write + Drop, W: io::W
     out: &mut W,
 ) -> Result<(), Failure<'static>>
     requires { S.failures wire ≡ 0 }
-    ensures ended { OnOk result ((ran : Ran) × TellsEnd ran (W.contents out.old) (W.contents out.new)) }
+    ensures ended { OnOk result ((ran : Ran) × PrintsEnd ran (W.contents out.old) (W.contents out.new)) }
     ensures failed { IfErr result (λ e. (e ≡ Failure.Writer) ⊎ ((e ≡ Failure.LineFailed) × Keeps (W.contents out.old) (W.contents out.new))) }
 {
     let ServeSettings { rate, turns, .. } = settings;
@@ -192,7 +194,7 @@ fn serve_turns<'f, C: Catalogue, S: Wire, V: WatchAir, W: io::Write>(
     watcher: &mut V,
     out: &mut W,
 ) -> Result<(), Failure<'f>>
-    // What is told is how the turns ended.
+    // What is printed is how the turns ended.
     ensures ended { OnOk result (EndsAs turns (S.told server.old.wire) (S.told server.new.wire) (W.contents out.old) (W.contents out.new)) }
     ensures works { OnOk result (S.failures server.new.wire ≡ 0) }
     ensures failed { IfErr result (λ e. ((e ≡ Failure.Writer) × (S.failures server.new.wire ≡ 0))
@@ -213,7 +215,7 @@ fn serve_turns<'f, C: Catalogue, S: Wire, V: WatchAir, W: io::Write>(
 // Tells how the turns of a server ended.
 fn write_end<W: io::Write>(ran: Ran, out: &mut W) -> io::Result<()>
     requires { ran ≢ Ran.Ended }
-    ensures { OnOk result (TellsEnd ran (W.contents out.old) (W.contents out.new)) }
+    ensures { OnOk result (PrintsEnd ran (W.contents out.old) (W.contents out.new)) }
 {
     match ran {
         Ran::Closed => writeln!(out, "closed")?,

@@ -217,6 +217,39 @@ fn catalogue_that_is_not_read_is_told(rt: HostRuntime) {
     expect_refused(&rt, &told, "vdcp: clips.csv: read\n", 3);
 }
 
+// A connection that can't have this silence is a failed line.
+#[test]
+fn refused_silence_is_a_failed_line(rt: HostRuntime) -> Result<(), Fail> {
+    let (listener, address) = listen(&rt)?;
+    let _automation = TcpStream::connect(&rt, address)?;
+    let net = (Ready { listener }, rt.alloc());
+    let settings = ServeSettings {
+        silence: 0,
+        ..settings(1)
+    };
+    let catalogue = Input {
+        name: "clips.csv",
+        reader: CLIPS,
+    };
+    let log: Option<Vec<u8>> = None;
+    let mut out = Vec::new(rt.alloc());
+    let mut err = Vec::new(rt.alloc());
+    let status = do_serve(
+        &net,
+        "127.0.0.1:0",
+        catalogue,
+        settings,
+        log,
+        &mut out,
+        &mut err,
+    );
+    let text = format!(in rt.alloc(); "listening {address}\n")?;
+    assert_eq!(rt; out.as_slice(), text.as_bytes());
+    assert_eq!(rt; err.as_slice(), b"vdcp: line failed\n".as_slice());
+    assert_eq!(rt; status, 3);
+    Ok(())
+}
+
 // A listener that doesn't wait has no connection to give.
 #[test]
 fn refused_connection_is_told(rt: HostRuntime) -> Result<(), Fail> {

@@ -15,7 +15,7 @@ pub returns-clause-played : goal.returns-clause-played
 returns-clause-played g c = record {
   items = items_of c.in-Ok.events;
   lists = c.in-Ok.ensures.items;
-  ends = new_ends_so items_of c.in-Ok.events c.args.settings c.new_controller-controller.result c.play_connected.result c.new_controller-controller.ensures c.requires.some c.requires.few
-      c.play_connected.ensures.end;
+  ends = new_ends_so items_of c.in-Ok.events c.args.settings c.new_controller-controller.result c.play_connected.result
+      c.new_controller-controller.ensures c.requires.some c.requires.few c.play_connected.ensures.end;
   unwritten = c.play_connected.ensures.unwritten;
 }

@@ -1,10 +1,15 @@
-use Rattle.vdcp_net.proofs.Unserved.{unserved_catalogue, unserved_line}
+use Rattle.vdcp_net.proofs.Unserved.{served_there, unserved_catalogue, unserved_line}
 use Rattle.vdcp_net.proofs.serve.serve.Goals as goal
+
+pub returns-clause-served : goal.returns-clause-served
+returns-clause-served g c =
+    served_there c.args.settings.rate _ _ _ _ c.serve_line.result (c.in-Ok.clips, c.in-Ok.ensures.clips) c.in_ok-stream.ensures.prints
+    c.serve_line.ensures.ended
 
 pub returns-clause-unserved : goal.returns-clause-unserved
 returns-clause-unserved g c =
     unserved_line c.args.settings.rate c.args.address.now _ _ _ _ c.serve_line.result
-    (c.in_ok-address.address, c.in_ok-address.ensures.address) (c.in-Ok.clips, c.in-Ok.ensures.clips) c.in_ok-stream.ensures.told c.serve_line.ensures.failed
+    (c.in_ok-address.address, c.in_ok-address.ensures.address) (c.in-Ok.clips, c.in-Ok.ensures.clips) c.in_ok-stream.ensures.prints c.serve_line.ensures.failed
 
 pub returns-in-Err-clause-unserved : goal.returns-in-Err-clause-unserved
 returns-in-Err-clause-unserved g c =
