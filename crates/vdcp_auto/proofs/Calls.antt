@@ -177,7 +177,8 @@ come_holds : (plan : Plan) (m : Memo) (stage : Stage) (take stop : Bool) (unansw
     (came_to plan came (state stage take stop unanswered settled tries))
 come_holds plan m (Ready p) take stop unanswered settled tries came holds = holds
 come_holds plan m (Ended outcome) take stop unanswered settled tries came holds = holds
-come_holds plan m (Awaiting p) take stop unanswered settled tries came holds = come_waiting plan m p take stop unanswered settled tries came holds.row.0 holds.settled holds
+come_holds plan m (Awaiting p) take stop unanswered settled tries came holds =
+    come_waiting plan m p take stop unanswered settled tries came holds.row.0 holds.settled holds
 
 pub came_holds : (plan : Plan) (m : Memo) (s : State) (came : Option Heard) → Holds plan m s
     → Holds plan (remembered plan m (ended_by plan came s)) (came_to plan came s)

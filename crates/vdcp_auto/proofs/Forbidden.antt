@@ -95,7 +95,8 @@ fresh-behind (x ∷ xs) ys h = or_right (is_done_status x && not (list_any is_pl
 fresh_from : (list : List Item) (log : List Exchange) → MayPlay Plain list log → is_fresh log ≡ true
 fresh_from list log m =
     let at : is_fresh (m.status ∷ m.after) ≡ true =
-    or_left (is_done_status m.status && not (list_any is_play m.after)) (is_fresh m.after) (and_from (is_done_status m.status) (not (list_any is_play m.after)) m.done (ap not m.no_play)) in
+    or_left (is_done_status m.status && not (list_any is_play m.after)) (is_fresh m.after)
+    (and_from (is_done_status m.status) (not (list_any is_play m.after)) m.done (ap not m.no_play)) in
     ap is_fresh m.in_order ∙ fresh-behind m.before (m.cue ∷ (m.between ++ (m.status ∷ m.after))) (fresh-behind (m.cue ∷ m.between) (m.status ∷ m.after) at)
 
 no_play_without_a_done_status : May Plain once (cue ∷ []) command.Play → ⊥
@@ -110,14 +111,18 @@ cue_at before log behind c e is = ap (list_any is_cue) e ∙ any-behind is_cue b
 
 no_play_without_a_cue : May Plain once (done ∷ []) command.Play → ⊥
 no_play_without_a_cue m =
-    true_not_false (sym (cue_at m.rule.before (done ∷ []) (m.rule.between ++ (m.rule.status ∷ m.rule.after)) m.rule.cue m.rule.in_order (ap is_cue_command m.rule.cues_next)))
+    let behind = m.rule.between ++ (m.rule.status ∷ m.rule.after) in
+    true_not_false (sym (cue_at m.rule.before (done ∷ []) behind m.rule.cue m.rule.in_order (ap is_cue_command m.rule.cues_next)))
 
 -- a PLAY that settled needs a new cue
-old_cue : (before behind : List Exchange) (c : Exchange) → (cue ∷ done ∷ played ∷ done ∷ []) ≡ before ++ (c ∷ behind) → is_cue c ≡ true → settled Plain before ≡ 1 → ⊥
+old_cue : (before behind : List Exchange) (c : Exchange) → (cue ∷ done ∷ played ∷ done ∷ []) ≡ before ++ (c ∷ behind) → is_cue c ≡ true
+    → settled Plain before ≡ 1 → ⊥
 old_cue [] behind c e is n = absurd (omega arith)
 old_cue (x ∷ before) behind c e is n =
     let tail : (done ∷ played ∷ done ∷ []) ≡ before ++ (c ∷ behind) = cc in
     true_not_false (sym (cue_at before (done ∷ played ∷ done ∷ []) behind c tail is))
 
 no_play_on_an_old_cue : May Plain twice (cue ∷ done ∷ played ∷ done ∷ []) command.Play → ⊥
-no_play_on_an_old_cue m = old_cue m.rule.before (m.rule.between ++ (m.rule.status ∷ m.rule.after)) m.rule.cue m.rule.in_order (ap is_cue_command m.rule.cues_next) m.rule.none_settles
+no_play_on_an_old_cue m =
+    let behind = m.rule.between ++ (m.rule.status ∷ m.rule.after) in
+    old_cue m.rule.before behind m.rule.cue m.rule.in_order (ap is_cue_command m.rule.cues_next) m.rule.none_settles

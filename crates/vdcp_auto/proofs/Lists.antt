@@ -22,7 +22,9 @@ cut (x ∷ xs) (f ∷ fs) rest e some is =
     let tail : xs ++ e ∷ [] ≡ fs ++ rest = cc in
     elim (cut xs fs rest e some tail) [
       | inl w ↦ inl (let front : fs ≡ xs = w.0 in let all : f ∷ fs ≡ x ∷ xs = cc in all, w.1)
-      | inr w ↦ inr (record { last = w.last; some = w.some; before = (let b : xs ≡ fs ++ w.last = w.before in let all : x ∷ xs ≡ f ∷ (fs ++ w.last) = cc in all); after = w.after })
+      | inr w ↦ inr (let before : xs ≡ fs ++ w.last = w.before in
+          let all : x ∷ xs ≡ f ∷ (fs ++ w.last) = cc in
+          record { last = w.last; some = w.some; before = all; after = w.after })
     ]
 
 pub last_or-push : {X : Type 0} (o : Option X) (xs : List X) (x : X) → last_or o (xs ++ x ∷ []) ≡ Some x
@@ -43,7 +45,13 @@ count_by-range_more p a zero = sum_by-cons (λ k. cond (p k) 1 0) a [] ∙ omega
 count_by-range_more p a (suc n) =
     let one : ℕ → ℕ = λ k. cond (p k) 1 0 in
     let place : a + 1 + n ≡ a + suc n = omega arith in
-    omega (arith, count_by-range_more p (a + 1) n, sum_by-cons one a (range_with_len (a + 1) (suc n)), sum_by-cons one a (range_with_len (a + 1) n), ap one place)
+    omega (
+      arith,
+      count_by-range_more p (a + 1) n,
+      sum_by-cons one a (range_with_len (a + 1) (suc n)),
+      sum_by-cons one a (range_with_len (a + 1) n),
+      ap one place,
+    )
 
 pub count_by-range_same : (p q : ℕ → Bool) (a n : ℕ) → ((k : ℕ) → k < a + n → p k ≡ q k)
     → count_by p (range_with_len a n) ≡ count_by q (range_with_len a n)

@@ -71,7 +71,8 @@ no_cue_of_another_clip may =
     let byte : 0x32 ≡ cued_byte (command.PlayCue clip_one) = ap cued_byte same in
     absurd (omega arith)
 
-no_cue_of_another_kind : ¬ May Plain (record { id = clip_one; part = Some (record { start = []; duration = [] }) } ∷ []) (granted ∷ []) (command.PlayCue clip_one)
+no_cue_of_another_kind : ¬ May Plain (record { id = clip_one; part = Some (record { start = []; duration = [] }) } ∷ []) (granted ∷ [])
+    (command.PlayCue clip_one)
 no_cue_of_another_kind may = let row = may.rule.cues_next in cc
 
 no_cue_after_the_last_item : ¬ May Plain [] (granted ∷ []) (command.PlayCue clip_one)
@@ -85,5 +86,6 @@ three_silences = (lit≤ tt, refl)
 an_answer_breaks_the_row : ¬ EndsUnanswered Plain 3 (silent (command.Open 1 1) ∷ granted ∷ silent (command.Select 1) ∷ silent (command.Select 1) ∷ [])
 an_answer_breaks_the_row ends = let row = ends.1 in cc
 
-commands_do_not_count_in_confirm_mode : ¬ EndsUnanswered Confirming 3 (granted ∷ silent (command.Select 1) ∷ silent (command.Status 1) ∷ silent (command.Status 1) ∷ [])
+commands_do_not_count_in_confirm_mode : ¬ EndsUnanswered Confirming 3
+    (granted ∷ silent (command.Select 1) ∷ silent (command.Status 1) ∷ silent (command.Status 1) ∷ [])
 commands_do_not_count_in_confirm_mode ends = let row = ends.1 in cc

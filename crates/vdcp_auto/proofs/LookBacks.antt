@@ -30,8 +30,12 @@ is_open e = is_play e && not (is_answered e)
 
 open_push : (told : List Exchange) (e : Exchange) (tells : Bool) → tells_of_play e ≡ tells
     → option_map_or is_open (last_or None (told ++ cond tells (e ∷ []) [])) false ≡ opens (option_map_or is_open (last_or None told) false) e
-open_push told e true is = rw last_or-push (open_bools (is_play e) (is_stop e) (is_empty_status e) (is_answered e) (option_map_or is_open (last_or None told) false) is)
-open_push told e false is = rw append-nil (open_others (is_play e) (is_stop e) (is_empty_status e) (is_answered e) (option_map_or is_open (last_or None told) false) is)
+open_push told e true is =
+    let was_open = option_map_or is_open (last_or None told) false in
+    rw last_or-push (open_bools (is_play e) (is_stop e) (is_empty_status e) (is_answered e) was_open is)
+open_push told e false is =
+    let was_open = option_map_or is_open (last_or None told) false in
+    rw append-nil (open_others (is_play e) (is_stop e) (is_empty_status e) (is_answered e) was_open is)
 
 pub has_open_play-push : (log : List Exchange) (e : Exchange) → has_open_play (log ++ e ∷ []) ≡ opens (has_open_play log) e
 has_open_play-push log e =
@@ -48,7 +52,8 @@ settles_at_within : (mode : Mode) (log : List Exchange) (e : Exchange) (k : ℕ)
 settles_at_within mode log e k below =
     let front : take k (log ++ e ∷ []) ≡ take k log = take-append-le k log (e ∷ []) (omega arith) in
     let here : slice_get (log ++ e ∷ []) k ≡ slice_get log k = slice_get-append log (e ∷ []) k below in
-    ap (λ before. option_map_or (settles mode before) (slice_get (log ++ e ∷ []) k) false) front ∙ ap (λ found. option_map_or (settles mode (take k log)) found false) here
+    ap (λ before. option_map_or (settles mode before) (slice_get (log ++ e ∷ []) k) false) front
+    ∙ ap (λ found. option_map_or (settles mode (take k log)) found false) here
 
 settles_at_end : (mode : Mode) (log : List Exchange) (e : Exchange) → settles_at mode (log ++ e ∷ []) (length log) ≡ settles mode log e
 settles_at_end mode log e =
@@ -56,13 +61,15 @@ settles_at_end mode log e =
     ap (λ before. option_map_or (settles mode before) (slice_get (log ++ e ∷ []) (length log)) false) front
     ∙ ap (λ found. option_map_or (settles mode log) found false) (slice_get-push log e)
 
-pub settled-push : (mode : Mode) (log : List Exchange) (e : Exchange) → settled mode (log ++ e ∷ []) ≡ settled mode log + cond (settles_now mode (has_open_play log) e) 1 0
+pub settled-push : (mode : Mode) (log : List Exchange) (e : Exchange) → settled mode (log ++ e ∷ [])
+    ≡ settled mode log + cond (settles_now mode (has_open_play log) e) 1 0
 settled-push mode log e =
     let grown : length (log ++ e ∷ []) ≡ suc (length log) = rw length-append (omega arith) in
     let p = settles_at mode (log ++ e ∷ []) in
     ap (λ n. count_by p (range_with_len 0 n)) grown
     ∙ count_by-range_more p 0 (length log)
-    ∙ ap (λ n. n + cond {A = ℕ} (p (0 + length log)) 1 0) (count_by-range_same p (settles_at mode log) 0 (length log) (λ k below. settles_at_within mode log e k (omega arith)))
+    ∙ ap (λ n. n + cond {A = ℕ} (p (0 + length log)) 1 0)
+    (count_by-range_same p (settles_at mode log) 0 (length log) (λ k below. settles_at_within mode log e k (omega arith)))
     ∙ ap (λ b. settled mode log + cond {A = ℕ} b 1 0) (ap p (omega arith) ∙ settles_at_end mode log e ∙ settles_is mode log e)
 
 pub settled_stays : (mode : Mode) (log : List Exchange) (opened : Bool) (e : Exchange) → has_open_play log ≡ opened → settles_now mode opened e ≡ false
@@ -139,7 +146,8 @@ one_more false h = omega arith
 pub last_push : (mode : Mode) (log : List Exchange) (opened : Bool) (e : Exchange) (command : Command) (acked done : Bool)
     → has_open_play log ≡ opened → settles_now mode opened e ≡ false
     → (cues : Bool) → is_cue e ≡ cues → (cued : Bool) → (cues || cued) ≡ true → (cued ≡ true → LastCue mode log command acked done)
-    → LastCue mode (log ++ e ∷ []) (if cues then e.command else command) (if cues then is_acked e else acked) (not (cues || is_play e) && (is_done_status e || done))
+    → LastCue mode (log ++ e ∷ []) (if cues then e.command else command) (if cues then is_acked e else acked)
+    (not (cues || is_play e) && (is_done_status e || done))
 last_push mode log opened e command acked done open_is none true is cued some had = record {
   before = log;
   cue = e;
@@ -162,7 +170,8 @@ last_push mode log opened e command acked done open_is none false is cued some h
       is_taken = h.is_taken;
       last = any_push is_cue h.after e false h.last ∙ is;
       none_settles = h.none_settles ∙ sym (settled_stays mode log opened e open_is none);
-      is_done = λ now. done_push h.after e done h.is_done (no_play_in (is_play e) (is_done_status e || done) now) (is_done_status e) refl (done_in (is_play e) (is_done_status e || done) now);
+      is_done = λ now. done_push h.after e done h.is_done (no_play_in (is_play e) (is_done_status e || done) now) (is_done_status e) refl
+          (done_in (is_play e) (is_done_status e || done) now);
     }
 
 pub first_push : (mode : Mode) (log : List Exchange) (opened : Bool) (e : Exchange) (command : Command) (empties : ℕ)

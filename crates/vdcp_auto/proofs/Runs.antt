@@ -31,7 +31,14 @@ no_run = record { front = []; rest = []; in_order = refl; is_row = refl; unanswe
 
 run_push : (log : List Exchange) (row : ℕ) (e : Exchange) (answered : Bool) → is_answered e ≡ answered → Run log row
     → Run (log ++ e ∷ []) (if answered then 0 else row + 1)
-run_push log row e true is run = record { front = log ++ e ∷ []; rest = []; in_order = sym (append-nil (log ++ e ∷ [])); is_row = refl; unanswered = refl; answered = ends log e is }
+run_push log row e true is run = record {
+  front = log ++ e ∷ [];
+  rest = [];
+  in_order = sym (append-nil (log ++ e ∷ []));
+  is_row = refl;
+  unanswered = refl;
+  answered = ends log e is;
+}
 run_push log row e false is run = record {
   front = run.front;
   rest = run.rest ++ e ∷ [];
@@ -46,7 +53,8 @@ run_counted : (mode : Mode) (log : List Exchange) (row : ℕ) (e : Exchange) (co
 run_counted mode log row e true run = run_push (counted mode log) row e (is_answered e) refl run
 run_counted mode log row e false run = rw append-nil run
 
-pub run_more : (mode : Mode) (log : List Exchange) (row : ℕ) (e : Exchange) → Run (counted mode log) row → Run (counted mode (log ++ e ∷ [])) (row_after mode row e)
+pub run_more : (mode : Mode) (log : List Exchange) (row : ℕ) (e : Exchange) → Run (counted mode log) row
+    → Run (counted mode (log ++ e ∷ [])) (row_after mode row e)
 run_more mode log row e run =
     subst (λ xs. Run xs (row_after mode row e)) (sym (filter-append (is_counted mode) log (e ∷ []))) (run_counted mode log row e (is_counted mode e) run)
 
@@ -90,7 +98,8 @@ pub run_is : (mode : Mode) (limit : ℕ) (log : List Exchange) (row : ℕ) → R
 run_is mode limit log row run long = run_long (counted mode log) row limit run long
 
 pub run_has : (mode : Mode) (limit : ℕ) (log : List Exchange) (row : ℕ) → Run (counted mode log) row → row < limit → EndsUnanswered mode limit log → ⊥
-run_has mode limit log row run short quiet = run_short (counted mode log) run.front run.rest limit run.in_order run.answered quiet.0 quiet.1 (omega (arith, run.is_row))
+run_has mode limit log row run short quiet = run_short (counted mode log) run.front run.rest limit run.in_order run.answered quiet.0 quiet.1
+    (omega (arith, run.is_row))
 
 -- no shorter front of the log ends so
 abbrev pub IsFirst : Mode → ℕ → List Exchange → Type 0

@@ -58,7 +58,8 @@ pub data Sends (list : List Item) (port : ℕ) : Phase → Command → Type 0 wh
   sends_seen : Sends list port phase.Seen (command.Status 1)
   sends_exists : {k : ℕ} {id : ClipId} → Sends list port (phase.Exists k) (command.IdRequest id)
   sends_whole : {k : ℕ} {id : ClipId} → CuesItemAt list k (command.PlayCue id) → Sends list port (phase.Cue k) (command.PlayCue id)
-  sends_part : {k : ℕ} {id : ClipId} {start duration : List ℕ} → CuesItemAt list k (command.CueData id start duration) → Sends list port (phase.Cue k) (command.CueData id start duration)
+  sends_part : {k : ℕ} {id : ClipId} {start duration : List ℕ} → CuesItemAt list k (command.CueData id start duration)
+      → Sends list port (phase.Cue k) (command.CueData id start duration)
   sends_wait : {k : ℕ} → Sends list port (phase.Wait k) (command.Status 1)
   sends_play : {k : ℕ} → Sends list port (phase.Play k) command.Play
   sends_probe : {k : ℕ} → Sends list port (phase.Probe k) (command.Status 1)
@@ -245,6 +246,7 @@ pub kept : (mode : Mode) (list : List Item) (limit port : ℕ) (m : Memo) (take 
 kept mode list limit port m take stop tries {p} {c} s None ends holds =
     unanswered mode list limit port m stop tries None s (mute_unheard c) refl holds (is_counted mode (exchange c None) && nat_le limit (m.row + 1))
 kept mode list limit port m take stop tries {p} {c} s (Some heard.Other) ends holds =
-    unanswered mode list limit port m stop tries (Some heard.Other) s (mute_other c) refl holds (is_counted mode (exchange c (Some heard.Other)) && nat_le limit (m.row + 1))
+    unanswered mode list limit port m stop tries (Some heard.Other) s (mute_other c) refl holds
+    (is_counted mode (exchange c (Some heard.Other)) && nat_le limit (m.row + 1))
 kept mode list limit port m take stop tries {p} {c} s (Some (heard.Reply r)) ends holds =
     kept_answer mode list limit port m take stop tries s r ends holds (is_refusal r) (fits c r) refl refl

@@ -23,11 +23,13 @@ IsDue clips p (cues item) = IsTrue (is_playable clips item)
 IsDue clips p (airs item) = p.cued ≡ done item
 IsDue clips p _ = Unit {0}
 
-due_if : (clips : List (ClipId × Timecode)) (p : PortState) (b : Bool) (r : Row) → (b ≡ true → IsDue clips p r.change) → IsDue clips p (if b then r else refused).change
+due_if : (clips : List (ClipId × Timecode)) (p : PortState) (b : Bool) (r : Row) → (b ≡ true → IsDue clips p r.change)
+    → IsDue clips p (if b then r else refused).change
 due_if clips p true r h = h refl
 due_if clips p false r h = tt
 
-due_open : (clips : List (ClipId × Timecode)) (p : PortState) (b : Bool) → IsDue clips p (if b then row (reply.Opened true) opens else row (reply.Opened false) keeps).change
+due_open : (clips : List (ClipId × Timecode)) (p : PortState) (b : Bool)
+    → IsDue clips p (if b then row (reply.Opened true) opens else row (reply.Opened false) keeps).change
 due_open clips p true = tt
 due_open clips p false = tt
 

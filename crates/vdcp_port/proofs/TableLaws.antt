@@ -51,7 +51,8 @@ same_state clips p (IdRequest id) = grind (arith, common_steps)
 same_state clips p (IdSize id) = grind (arith, common_steps)
 
 same_counts : (clips : List (ClipId × Timecode)) (frames : ℕ) (c : Counts) (p : PortState) (command : Command)
-    → counts_after clips frames (again clips p command).change (counts_after clips frames (command_row clips p command).change c) ≡ counts_after clips frames (command_row clips p command).change c
+    → counts_after clips frames (again clips p command).change (counts_after clips frames (command_row clips p command).change c)
+    ≡ counts_after clips frames (command_row clips p command).change c
 same_counts clips frames c p (Open number lock) = grind (arith, common_steps)
 same_counts clips frames c p (Close number) = grind (arith, common_steps)
 same_counts clips frames c p (Select number) = grind (arith, common_steps)
@@ -103,7 +104,8 @@ asked_same_state clips p asked.NoCommand = refl
 asked_same_state clips p (asked.Command command) = same_state clips p command
 
 asked_same_counts : (clips : List (ClipId × Timecode)) (frames : ℕ) (c : Counts) (p : PortState) (a : Asked)
-    → counts_after clips frames (again_asked clips p a).change (counts_after clips frames (asked_row clips p a).change c) ≡ counts_after clips frames (asked_row clips p a).change c
+    → counts_after clips frames (again_asked clips p a).change (counts_after clips frames (asked_row clips p a).change c)
+    ≡ counts_after clips frames (asked_row clips p a).change c
 unfolding again_asked
 asked_same_counts clips frames c p asked.Nothing = refl
 asked_same_counts clips frames c p asked.NoCommand = refl
@@ -127,7 +129,8 @@ copy_port p m =
     let change = (message_row p.clips p.state m).change in
     let state : changed (row_at (after_message p m) m).change (changed change p.state) ≡ changed change p.state =
     ap (λ (r : Row). changed r.change (changed change p.state)) (again_by_unit p.clips p.state m) ∙ asked_same_state p.clips p.state a in
-    let counts : counts_after p.clips p.cue_frames (row_at (after_message p m) m).change (counts_after p.clips p.cue_frames change p.counts) ≡ counts_after p.clips p.cue_frames change p.counts =
+    let counts : counts_after p.clips p.cue_frames (row_at (after_message p m) m).change (counts_after p.clips p.cue_frames change p.counts)
+    ≡ counts_after p.clips p.cue_frames change p.counts =
     ap (λ (r : Row). counts_after p.clips p.cue_frames r.change (counts_after p.clips p.cue_frames change p.counts)) (again_by_unit p.clips p.state m)
     ∙ asked_same_counts p.clips p.cue_frames p.counts p.state a in
     λ i. record { clips = p.clips; cue_frames = p.cue_frames; state = state i; counts = counts i }
@@ -167,13 +170,17 @@ command_airs clips p (Open number lock) item e = absurd (open_airs_nothing (nat_
 command_airs clips p (Close number) item e = let none = (airs_if (nat_eq number p.number) (row reply.Ack closes) item e).1 in cc
 command_airs clips p (Select number) item e = let none = (airs_if (nat_eq number p.number && is_open p) (row reply.Ack selects) item e).1 in cc
 command_airs clips p (PlayCue id) item e = let none = (airs_if (is_selected p && is_playable clips (whole id)) (row reply.Ack (cues (whole id))) item e).1 in cc
-command_airs clips p (CueData id start duration) item e = let none = (airs_if (is_selected p && is_playable clips (part_of id start duration)) (row reply.Ack (cues (part_of id start duration))) item e).1 in cc
+command_airs clips p (CueData id start duration) item e =
+    let cued = part_of id start duration in
+    let none = (airs_if (is_selected p && is_playable clips cued) (row reply.Ack (cues cued)) item e).1 in cc
 command_airs clips p Play item e =
     let plays = airs_if (is_selected p) (play_row p.cued) item e in
     record { play = refl; selected = plays.0; cued = play_airs p.cued item plays.1 }
 command_airs clips p Stop item e = let none = (airs_if (is_selected p) (row reply.Ack stops) item e).1 in cc
 command_airs clips p (Status bitmap) item e = let none = (airs_if (is_selected p) (row (state_reply bitmap (state_byte p)) keeps) item e).1 in cc
-command_airs clips p ActiveId item e = let none = (airs_if (is_selected p) (row (reply.Active (option_map (λ (item : Item). item.id) p.playing)) keeps) item e).1 in cc
+command_airs clips p ActiveId item e =
+    let active = row (reply.Active (option_map (λ (item : Item). item.id) p.playing)) keeps in
+    let none = (airs_if (is_selected p) active item e).1 in cc
 command_airs clips p (IdRequest id) item e = cc
 command_airs clips p (IdSize id) item e = absurd (size_airs_nothing (length_of clips id) item e)
 

@@ -30,7 +30,9 @@ same_cue : ValueLaws → (i j : ClipId) (s d t f : List ℕ) → AreBytes 4 s ×
 same_cue v i j s d t f p q e =
     let s_size = length_of_bytes v 4 s p.0 in
     let t_size = length_of_bytes v 4 t q.0 in
-    let fronts = same_front (id_bytes i ++ s) (id_bytes j ++ t) d f (omega (arith, length-append (id_bytes i) s, length-append (id_bytes j) t, length_of_id v i, length_of_id v j, s_size, t_size)) e in
+    let fronts =
+    same_front (id_bytes i ++ s) (id_bytes j ++ t) d f
+    (omega (arith, length-append (id_bytes i) s, length-append (id_bytes j) t, length_of_id v i, length_of_id v j, s_size, t_size)) e in
     let ids = same_front (id_bytes i) (id_bytes j) s t (omega (arith, length_of_id v i, length_of_id v j)) fronts.0 in
     let id_is : i ≡ j = v.one i j ids.0 in
     let s_is : s ≡ t = ids.1 in
@@ -69,7 +71,19 @@ same_length v unit other (Close x) (Close y) p q h = refl
 same_length v unit other (Select x) (Select y) p q h = refl
 same_length v unit other (PlayCue i) (PlayCue j) p q h = omega (arith, length_of_id v i, length_of_id v j)
 same_length v unit other (CueData i s d) (CueData j t f) p q h =
-    omega (arith, length-append (id_bytes i ++ s) d, length-append (id_bytes j ++ t) f, length-append (id_bytes i) s, length-append (id_bytes j) t, length_of_id v i, length_of_id v j, length_of_bytes v 4 s p.0, length_of_bytes v 4 d p.1, length_of_bytes v 4 t q.0, length_of_bytes v 4 f q.1)
+    omega (
+      arith,
+      length-append (id_bytes i ++ s) d,
+      length-append (id_bytes j ++ t) f,
+      length-append (id_bytes i) s,
+      length-append (id_bytes j) t,
+      length_of_id v i,
+      length_of_id v j,
+      length_of_bytes v 4 s p.0,
+      length_of_bytes v 4 d p.1,
+      length_of_bytes v 4 t q.0,
+      length_of_bytes v 4 f q.1,
+    )
 same_length v unit other (Open x k) (Open y l) p q h = refl
 same_length v unit other (Status x) (Status y) p q h = refl
 same_length v unit other ActiveId ActiveId p q h = refl

@@ -53,4 +53,16 @@ pub id_request_length : (unit : ℕ) (rest : List ℕ) → length rest ≢ 8 →
 id_request_length unit rest other =
     record { command = IdRequest any_id; writable = tt; code = (refl, refl); other = other }
 
-pub ruleset other_lengths = (stop_length, play_length, close_length, select_length, play_cue_length, cue_data_length, open_length, status_length, active_id_length, id_size_length, id_request_length)
+pub ruleset other_lengths = (
+  stop_length,
+  play_length,
+  close_length,
+  select_length,
+  play_cue_length,
+  cue_data_length,
+  open_length,
+  status_length,
+  active_id_length,
+  id_size_length,
+  id_request_length,
+)

@@ -141,7 +141,8 @@ module _ (v : ValueLaws) (unit : ℕ) (rest : List ℕ) (fits : All (λ b. b < 2
   cue_parts size true e =
       record {
         writable = (
-          bytes_are v 4 (take 4 (drop 8 rest)) (omega (arith, length-take 4 (drop 8 rest), length-drop 8 rest)) (All-take (λ b. b < 256) 4 (drop 8 rest) (All-drop (λ b. b < 256) 8 rest fits)),
+          bytes_are v 4 (take 4 (drop 8 rest)) (omega (arith, length-take 4 (drop 8 rest), length-drop 8 rest))
+              (All-take (λ b. b < 256) 4 (drop 8 rest) (All-drop (λ b. b < 256) 8 rest fits)),
           bytes_are v 4 (drop 12 rest) (omega (arith, length-drop 12 rest)) (All-drop (λ b. b < 256) 12 rest fits),
         );
         says = ap (λ (r : List ℕ). framed 2 unit 0x25 r)

@@ -1,14 +1,15 @@
 -- Example bytes and texts of the words, computed from the tables.
-use Rattle.std.proofs.Common.{◌≡◌, ℕ, true, false, List, [], ◌∷◌, refl, Ok, Some, None}
+use Rattle.std.proofs.Common.{◌≡◌, ℕ, true, false, List, [], ◌∷◌, refl, Ok, Err, Some, None}
 use Rattle.std.specs.Prelude.{codes}
 use Rattle.vdcp_value.specs.Ids.{id_of}
 use Rattle.vdcp_value.specs.declared.clip_id.ClipId.{ClipId}
 use Rattle.vdcp_frame.specs.Message.{spelling}
 use Rattle.vdcp_words.specs.declared.command.Command.TheVariants.{Open, Close, Select, PlayCue, CueData, Play, Stop, Status, ActiveId, IdRequest, IdSize}
 use Rattle.vdcp_words.specs.declared.reply.Reply.TheVariants.{Ack, Nak, Opened, State, Active, Present, Size}
+use Rattle.vdcp_words.specs.declared.fault.WordFault.TheVariants.{Length}
 use Rattle.vdcp_words.specs.Commands.{command_message}
 use Rattle.vdcp_words.specs.Replies.{reply_message}
-use Rattle.vdcp_words.specs.Computed.{command_of, reply_of}
+use Rattle.vdcp_words.specs.Computed.{command_of, reply_of, sense_reply_of}
 use Rattle.vdcp_words.specs.Texts.{command_text, reply_text}
 
 abbrev first : ClipId
@@ -82,7 +83,8 @@ cue_second_read = refl
 cue_second_text : command_text (PlayCue second) ≡ codes "cue CLIP0002"
 cue_second_text = refl
 
-cue_data_bytes : spelling (command_message 0 (CueData first two_seconds three_seconds)) ≡ 0x02 ∷ 0x12 ∷ 0x20 ∷ 0x25 ∷ 0x43 ∷ 0x4C ∷ 0x49 ∷ 0x50 ∷ 0x30 ∷ 0x30 ∷ 0x30 ∷ 0x31 ∷ 0x00 ∷ 0x02 ∷ 0x00 ∷ 0x00 ∷ 0x00 ∷ 0x03 ∷ 0x00 ∷ 0x00 ∷ 0xCD ∷ []
+cue_data_bytes : spelling (command_message 0 (CueData first two_seconds three_seconds))
+    ≡ 0x02 ∷ 0x12 ∷ 0x20 ∷ 0x25 ∷ 0x43 ∷ 0x4C ∷ 0x49 ∷ 0x50 ∷ 0x30 ∷ 0x30 ∷ 0x30 ∷ 0x31 ∷ 0x00 ∷ 0x02 ∷ 0x00 ∷ 0x00 ∷ 0x00 ∷ 0x03 ∷ 0x00 ∷ 0x00 ∷ 0xCD ∷ []
 cue_data_bytes = refl
 
 cue_data_read : command_of (command_message 0 (CueData first two_seconds three_seconds)) ≡ Ok (CueData first two_seconds three_seconds)
@@ -246,7 +248,8 @@ active_none_read = refl
 active_none_text : reply_text (Active None) ≡ codes "active none"
 active_none_text = refl
 
-active_first_bytes : spelling (reply_message 0 (Active (Some first))) ≡ 0x02 ∷ 0x0B ∷ 0x30 ∷ 0x87 ∷ 0x01 ∷ 0x43 ∷ 0x4C ∷ 0x49 ∷ 0x50 ∷ 0x30 ∷ 0x30 ∷ 0x30 ∷ 0x31 ∷ 0x5F ∷ []
+active_first_bytes : spelling (reply_message 0 (Active (Some first)))
+    ≡ 0x02 ∷ 0x0B ∷ 0x30 ∷ 0x87 ∷ 0x01 ∷ 0x43 ∷ 0x4C ∷ 0x49 ∷ 0x50 ∷ 0x30 ∷ 0x30 ∷ 0x30 ∷ 0x31 ∷ 0x5F ∷ []
 active_first_bytes = refl
 
 active_first_read : reply_of (reply_message 0 (Active (Some first))) ≡ Ok (Active (Some first))
@@ -281,3 +284,38 @@ ten_seconds_read = refl
 
 ten_seconds_text : reply_text (Size (0x00 ∷ 0x10 ∷ 0x00 ∷ 0x00 ∷ [])) ≡ codes "size 00100000"
 ten_seconds_text = refl
+
+-- ---- replies whose data is other than what is written here
+
+granted_by_any_byte_but_00 : sense_reply_of 0x81 (0xFF ∷ 0x00 ∷ []) ≡ Ok (Opened true)
+granted_by_any_byte_but_00 = refl
+
+denied_by_the_first_byte : sense_reply_of 0x81 (0x00 ∷ 0x01 ∷ []) ≡ Ok (Opened false)
+denied_by_the_first_byte = refl
+
+state_behind_any_bitmap_with_bit_0 : sense_reply_of 0x85 (0xFF ∷ 0x04 ∷ 0x02 ∷ []) ≡ Ok (State 0xFF (Some 0x04))
+state_behind_any_bitmap_with_bit_0 = refl
+
+no_state_behind_a_bitmap_without_bit_0 : sense_reply_of 0x85 (0x02 ∷ 0x84 ∷ []) ≡ Ok (State 0x02 None)
+no_state_behind_a_bitmap_without_bit_0 = refl
+
+missing_state : sense_reply_of 0x85 (0x01 ∷ []) ≡ Err Length
+missing_state = refl
+
+none_active_whatever_follows : sense_reply_of 0x87 (0x00 ∷ codes "CLIP0001") ≡ Ok (Active None)
+none_active_whatever_follows = refl
+
+active_behind_any_byte_but_00 : sense_reply_of 0x87 (0x02 ∷ codes "CLIP0001") ≡ Ok (Active (Some first))
+active_behind_any_byte_but_00 = refl
+
+active_id_cut_short : sense_reply_of 0x87 (0x01 ∷ codes "CLIP000") ≡ Err Length
+active_id_cut_short = refl
+
+size_with_more_behind : sense_reply_of 0x94 (0x00 ∷ 0x10 ∷ 0x00 ∷ 0x00 ∷ 0x01 ∷ []) ≡ Ok (Size (0x00 ∷ 0x10 ∷ 0x00 ∷ 0x00 ∷ []))
+size_with_more_behind = refl
+
+present_by_bit_0 : sense_reply_of 0x96 (0x03 ∷ []) ≡ Ok (Present true)
+present_by_bit_0 = refl
+
+absent_without_bit_0 : sense_reply_of 0x96 (0xFE ∷ []) ≡ Ok (Present false)
+absent_without_bit_0 = refl

@@ -48,7 +48,14 @@ command_fits v unit (commands.CueData id start duration) u w =
     frame 2 unit 0x25 (id_bytes id ++ start ++ duration) (omega arith) u (omega arith)
     (All-append (λ b. b < 256) (id_bytes id ++ start) duration
     (All-append (λ b. b < 256) (id_bytes id) start (id_below v id) (bytes_below v 4 start w.0)) (bytes_below v 4 duration w.1))
-    (omega (arith, length-append (id_bytes id ++ start) duration, length-append (id_bytes id) start, length_of_id v id, length_of_bytes v 4 start w.0, length_of_bytes v 4 duration w.1))
+    (omega (
+      arith,
+      length-append (id_bytes id ++ start) duration,
+      length-append (id_bytes id) start,
+      length_of_id v id,
+      length_of_bytes v 4 start w.0,
+      length_of_bytes v 4 duration w.1,
+    ))
 command_fits v unit (commands.Open port lock) u w =
     frame 3 unit 0x01 (port ∷ lock ∷ []) (omega arith) u (omega arith) (one_more port (lock ∷ []) w.0 (one lock w.1)) (omega arith)
 command_fits v unit (commands.Status bitmap) u w = frame 3 unit 0x05 (bitmap ∷ []) (omega arith) u (omega arith) (one bitmap w) (omega arith)
@@ -76,7 +83,8 @@ reply_fits v unit (replies.State bitmap (Some state)) u w =
 reply_fits v unit (replies.Active None) u w =
     frame 3 unit 0x87 (0 ∷ []) (omega arith) u (omega arith) (one 0 (omega arith)) (omega arith)
 reply_fits v unit (replies.Active (Some id)) u w =
-    frame 3 unit 0x87 (1 ∷ id_bytes id) (omega arith) u (omega arith) (one_more 1 (id_bytes id) (omega arith) (id_below v id)) (omega (arith, length_of_id v id))
+    frame 3 unit 0x87 (1 ∷ id_bytes id) (omega arith) u (omega arith) (one_more 1 (id_bytes id) (omega arith) (id_below v id))
+    (omega (arith, length_of_id v id))
 reply_fits v unit (replies.Size time) u w =
     frame 3 unit 0x94 time (omega arith) u (omega arith) (bytes_below v 4 time w) (omega (arith, length_of_bytes v 4 time w))
 reply_fits v unit (replies.Present there) u w =
@@ -93,7 +101,8 @@ rest_fits (framed kind unit code rest) fits = fits.rest_fits
 pub command_of-written : ValueLaws → (unit : ℕ) (command : Command) → IsWritableCommand command →
     command_of (command_message unit command) ≡ Ok command
 command_of-written v unit command writable =
-    let fits : All (λ b. b < 256) (rest_of (command_message unit command)) = rest_fits (command_message 0 command) (command_fits v 0 command (omega arith) writable) in
+    let fits : All (λ b. b < 256) (rest_of (command_message unit command)) =
+    rest_fits (command_message 0 command) (command_fits v 0 command (omega arith) writable) in
     one_command_reading v (command_message unit command) (command_of (command_message unit command)) (Ok command)
     (command_computed v (command_message unit command) fits) (command_written unit command writable)
 

@@ -10,7 +10,7 @@ use Rattle.vdcp_value.specs.declared.timecode.Timecode.{Timecode}
 use Rattle.vdcp_port.specs.Clips.{length_of, is_known, is_playable, can_cue}
 use Rattle.vdcp_port.specs.Port.{PortState, Cued}
 use Rattle.vdcp_auto.specs.Course as call
-use Rattle.vdcp_auto.specs.Course.{Reached, begun, called, Receive, logged}
+use Rattle.vdcp_auto.specs.Course.{Reached, begun, called, Receive}
 use Rattle.vdcp_auto.specs.Endings.{IsRefused}
 use Rattle.vdcp_auto.specs.Law.{IsLawful}
 use Rattle.vdcp_auto.specs.Plan.{Plan}
