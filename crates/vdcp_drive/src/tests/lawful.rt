@@ -15,7 +15,11 @@ use std::test::Fail;
 use vdcp_auto::{Controller, Source};
 
 /// Runs a new controller over a fresh wire: how many events the course of what came shows to be settled.
-fn settled_by<S: Source, W: Wire>(controller: Controller<S>, wire: W, listens: u64) -> Option<usize>
+fn settled_by<S: Source + Drop, W: Wire + Drop>(
+    controller: Controller<S>,
+    wire: W,
+    listens: u64,
+) -> Option<usize>
     requires new { controller.state ≡ turns.start }
     requires some { 1 ≤ controller.limit }
     requires few { controller.limit ≤ 1000 }
