@@ -30,6 +30,38 @@ fn wait_for(stream: &TcpStream) -> io::Result<()> {
     Ok(())
 }
 
+/// What comes next, while the wire works.
+fn listen<S: Read + Write + OpenStream + Drop>(
+    wire: &mut StreamWire<S>,
+    buffer: &mut [u8; 512],
+) -> Result<Came, WireFault> {
+    match wire.connection {
+        Connection::Failed => Err(WireFault),
+        Connection::Open | Connection::Closed => wire.listen(buffer),
+    }
+}
+
+/// Sends these bytes, while the wire works.
+fn send<S: Read + Write + OpenStream + Drop>(
+    wire: &mut StreamWire<S>,
+    bytes: &[u8],
+) -> Result<(), WireFault> {
+    match wire.connection {
+        Connection::Failed => Err(WireFault),
+        Connection::Open | Connection::Closed => wire.send(bytes),
+    }
+}
+
+/// Drops what waits, while the wire works.
+fn drop_waiting<S: Read + Write + OpenStream + Drop>(
+    wire: &mut StreamWire<S>,
+) -> Result<(), WireFault> {
+    match wire.connection {
+        Connection::Failed => Err(WireFault),
+        Connection::Open | Connection::Closed => wire.drop_waiting(),
+    }
+}
+
 const LONG: u64 = 60_000;
 
 #[test]
@@ -37,11 +69,11 @@ fn bytes_come_and_go(rt: HostRuntime) -> Result<(), Fail> {
     let (mut peer, mut wire) = wire(&rt, LONG)?;
     let mut buffer = [0; 512];
     peer.write_all(&[1, 2, 3])?;
-    assert_eq!(rt; wire.listen(&mut buffer)?, Came::Bytes(3));
+    assert_eq!(rt; listen(&mut wire, &mut buffer)?, Came::Bytes(3));
     assert_eq!(rt; &buffer[..3], [1, 2, 3].as_slice());
-    wire.send(&[4, 5])?;
-    wire.send(&[])?;
-    wire.send(&[6])?;
+    send(&mut wire, &[4, 5])?;
+    send(&mut wire, &[])?;
+    send(&mut wire, &[6])?;
     let mut sent = [0; 3];
     peer.read_exact(&mut sent)?;
     assert_eq!(rt; sent, [4, 5, 6]);
@@ -70,12 +102,12 @@ fn no_silence_is_refused(rt: HostRuntime) -> Result<(), Fail> {
 fn silence_comes_after_so_long(rt: HostRuntime) -> Result<(), Fail> {
     let (mut peer, mut wire) = wire(&rt, 40)?;
     let start = Instant::now(&rt)?;
-    assert_eq!(rt; wire.listen(&mut [0; 512])?, Came::Silence);
+    assert_eq!(rt; listen(&mut wire, &mut [0; 512])?, Came::Silence);
     assert!(rt; start.elapsed(&rt)? >= Duration::from_millis(40));
     // It goes on behind a silence.
     peer.write_all(&[7])?;
-    assert_eq!(rt; wire.listen(&mut [0; 512])?, Came::Bytes(1));
-    assert_eq!(rt; wire.listen(&mut [0; 512])?, Came::Silence);
+    assert_eq!(rt; listen(&mut wire, &mut [0; 512])?, Came::Bytes(1));
+    assert_eq!(rt; listen(&mut wire, &mut [0; 512])?, Came::Silence);
     Ok(())
 }
 
@@ -85,11 +117,11 @@ fn close_comes_at_once(rt: HostRuntime) -> Result<(), Fail> {
     let start = Instant::now(&rt)?;
     peer.write_all(&[7])?;
     drop(peer);
-    assert_eq!(rt; wire.listen(&mut [0; 512])?, Came::Bytes(1));
-    assert_eq!(rt; wire.listen(&mut [0; 512])?, Came::Closed);
-    assert_eq!(rt; wire.listen(&mut [0; 512])?, Came::Closed);
-    wire.drop_waiting()?;
-    assert_eq!(rt; wire.listen(&mut [0; 512])?, Came::Closed);
+    assert_eq!(rt; listen(&mut wire, &mut [0; 512])?, Came::Bytes(1));
+    assert_eq!(rt; listen(&mut wire, &mut [0; 512])?, Came::Closed);
+    assert_eq!(rt; listen(&mut wire, &mut [0; 512])?, Came::Closed);
+    drop_waiting(&mut wire)?;
+    assert_eq!(rt; listen(&mut wire, &mut [0; 512])?, Came::Closed);
     assert!(rt; start.elapsed(&rt)? < Duration::from_millis(LONG));
     Ok(())
 }
@@ -98,10 +130,10 @@ fn close_comes_at_once(rt: HostRuntime) -> Result<(), Fail> {
 #[test]
 fn reset_is_a_failure(rt: HostRuntime) -> Result<(), Fail> {
     let (peer, mut wire) = wire(&rt, LONG)?;
-    wire.send(&[1, 2, 3])?;
+    send(&mut wire, &[1, 2, 3])?;
     wait_for(&peer)?;
     drop(peer);
-    assert_eq!(rt; wire.listen(&mut [0; 512]), Err(WireFault));
+    assert_eq!(rt; listen(&mut wire, &mut [0; 512]), Err(WireFault));
     assert_eq!(rt; wire.connection, Connection::Failed);
     Ok(())
 }
@@ -109,10 +141,10 @@ fn reset_is_a_failure(rt: HostRuntime) -> Result<(), Fail> {
 #[test]
 fn reset_is_a_failure_of_the_drop(rt: HostRuntime) -> Result<(), Fail> {
     let (peer, mut wire) = wire(&rt, LONG)?;
-    wire.send(&[1, 2, 3])?;
+    send(&mut wire, &[1, 2, 3])?;
     wait_for(&peer)?;
     drop(peer);
-    assert_eq!(rt; wire.drop_waiting(), Err(WireFault));
+    assert_eq!(rt; drop_waiting(&mut wire), Err(WireFault));
     assert_eq!(rt; wire.connection, Connection::Failed);
     Ok(())
 }
@@ -122,15 +154,15 @@ fn what_waits_is_dropped(rt: HostRuntime) -> Result<(), Fail> {
     let (mut peer, mut wire) = wire(&rt, 40)?;
     peer.write_all(&[5, 1])?;
     wait_for(&wire.stream)?;
-    wire.drop_waiting()?;
-    assert_eq!(rt; wire.listen(&mut [0; 512])?, Came::Silence);
+    drop_waiting(&mut wire)?;
+    assert_eq!(rt; listen(&mut wire, &mut [0; 512])?, Came::Silence);
     // It doesn't wait where nothing waits, and the next listen does.
     let start = Instant::now(&rt)?;
-    wire.drop_waiting()?;
-    assert_eq!(rt; wire.listen(&mut [0; 512])?, Came::Silence);
+    drop_waiting(&mut wire)?;
+    assert_eq!(rt; listen(&mut wire, &mut [0; 512])?, Came::Silence);
     assert!(rt; start.elapsed(&rt)? >= Duration::from_millis(40));
     peer.write_all(&[7])?;
-    assert_eq!(rt; wire.listen(&mut [0; 512])?, Came::Bytes(1));
+    assert_eq!(rt; listen(&mut wire, &mut [0; 512])?, Came::Bytes(1));
     Ok(())
 }
 
@@ -138,7 +170,7 @@ fn what_waits_is_dropped(rt: HostRuntime) -> Result<(), Fail> {
 fn drop_does_not_wait(rt: HostRuntime) -> Result<(), Fail> {
     let (_peer, mut wire) = wire(&rt, LONG)?;
     let start = Instant::now(&rt)?;
-    wire.drop_waiting()?;
+    drop_waiting(&mut wire)?;
     assert!(rt; start.elapsed(&rt)? < Duration::from_millis(LONG));
     Ok(())
 }
@@ -149,8 +181,8 @@ fn close_behind_what_is_dropped_is_not_lost(rt: HostRuntime) -> Result<(), Fail>
     peer.write_all(&[5, 1])?;
     wait_for(&wire.stream)?;
     drop(peer);
-    wire.drop_waiting()?;
-    assert_eq!(rt; wire.listen(&mut [0; 512])?, Came::Closed);
+    drop_waiting(&mut wire)?;
+    assert_eq!(rt; listen(&mut wire, &mut [0; 512])?, Came::Closed);
     Ok(())
 }
 
@@ -174,12 +206,12 @@ fn what_128_reads_do_not_take_stays(rt: HostRuntime) -> Result<(), Fail> {
     let (mut peer, mut wire) = wire(&rt, 40)?;
     let written = fill(&mut peer)?;
     assert!(rt; written > 128 * 512);
-    wire.drop_waiting()?;
+    drop_waiting(&mut wire)?;
     drop(peer);
     let mut stayed = 0usize;
     let mut buffer = [0; 512];
     for _ in 0..u32::MAX {
-        match wire.listen(&mut buffer)? {
+        match listen(&mut wire, &mut buffer)? {
             Came::Bytes(n) => stayed = stayed.saturating_add(n),
             Came::Silence => {}
             Came::Closed => break,
@@ -290,10 +322,10 @@ fn reads_are_told_apart(rt: HostRuntime) -> Result<(), Fail> {
         Came::Closed,
     ];
     for expected in came {
-        assert_eq!(rt; wire.listen(&mut [0; 512])?, expected);
+        assert_eq!(rt; listen(&mut wire, &mut [0; 512])?, expected);
     }
     // After the close nothing is read.
-    wire.drop_waiting()?;
+    drop_waiting(&mut wire)?;
     assert_eq!(rt; wire.stream.reads, 6);
     Ok(())
 }
@@ -309,13 +341,13 @@ fn only_a_failed_read_is_a_failure(rt: HostRuntime) -> Result<(), Fail> {
     ];
     for kind in kinds {
         let mut wire = wire_over(rt.alloc(), &[Step::Gives(1), Step::Fails(kind)])?;
-        assert_eq!(rt; wire.listen(&mut [0; 512])?, Came::Bytes(1));
+        assert_eq!(rt; listen(&mut wire, &mut [0; 512])?, Came::Bytes(1));
         assert_eq!(rt; wire.connection, Connection::Open);
-        assert_eq!(rt; wire.listen(&mut [0; 512]), Err(WireFault));
+        assert_eq!(rt; listen(&mut wire, &mut [0; 512]), Err(WireFault));
         assert_eq!(rt; wire.connection, Connection::Failed);
 
         let mut wire = wire_over(rt.alloc(), &[Step::Gives(1), Step::Fails(kind)])?;
-        assert_eq!(rt; wire.drop_waiting(), Err(WireFault));
+        assert_eq!(rt; drop_waiting(&mut wire), Err(WireFault));
         assert_eq!(rt; wire.connection, Connection::Failed);
         assert!(rt; wire.stream.waits.get());
     }
@@ -333,10 +365,10 @@ fn drop_reads_128_times(rt: HostRuntime) -> Result<(), Fail> {
         })?;
     }
     let mut wire = wire_over(rt.alloc(), steps.as_slice())?;
-    wire.drop_waiting()?;
+    drop_waiting(&mut wire)?;
     assert_eq!(rt; wire.stream.reads, 128);
     assert!(rt; wire.stream.waits.get());
-    wire.drop_waiting()?;
+    drop_waiting(&mut wire)?;
     assert_eq!(rt; wire.stream.reads, 201);
     assert_eq!(rt; wire.connection, Connection::Open);
     Ok(())
@@ -346,9 +378,9 @@ fn drop_reads_128_times(rt: HostRuntime) -> Result<(), Fail> {
 fn all_is_sent_or_it_fails(rt: HostRuntime) -> Result<(), Fail> {
     let mut wire = wire_over(rt.alloc(), &[])?;
     wire.stream.room = 10;
-    wire.send(&[1, 2, 3, 4, 5, 6, 7])?;
+    send(&mut wire, &[1, 2, 3, 4, 5, 6, 7])?;
     assert_eq!(rt; wire.connection, Connection::Open);
-    assert_eq!(rt; wire.send(&[8, 9, 10, 11]), Err(WireFault));
+    assert_eq!(rt; send(&mut wire, &[8, 9, 10, 11]), Err(WireFault));
     assert_eq!(rt; wire.connection, Connection::Failed);
     assert_eq!(rt;
         wire.stream.written.as_slice(),
