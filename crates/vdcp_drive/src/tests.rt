@@ -4,7 +4,6 @@ mod both;
 mod broken;
 mod clips;
 mod hostile;
-mod lawful;
 mod loopback;
 mod messages;
 mod server;
