@@ -1,5 +1,6 @@
 use crate::options::{
-    CUE_FRAMES, LIMIT, LISTENS, PORT, RUN_SILENCE, SERVE_SILENCE, TURNS, UNIT, number_option, rate_option,
+    CUE_FRAMES, LIMIT, LISTENS, PORT, RUN_SILENCE, SERVE_SILENCE, TURNS, UNIT, number_option,
+    rate_option,
 };
 use clap::{Arg, ArgAction, Command};
 use std::alloc::{AllocError, Global};
@@ -81,7 +82,10 @@ fn serve<'a>(alloc: Global) -> Result<Command<'a>, AllocError> {
     Command::new(alloc, "serve")
         .about("Serves a port with the clips of a catalogue to one automation, over TCP")
         .after_help(SERVE_EXAMPLE)
-        .arg(address(alloc, "Where it listens, as 127.0.0.1:7400; for TCP port 0 the system chooses one"))?
+        .arg(address(
+            alloc,
+            "Where it listens, as 127.0.0.1:7400; for TCP port 0 the system chooses one",
+        ))?
         .arg(catalogue(alloc))?
         .arg(number_option(alloc, &UNIT))?
         .arg(number_option(alloc, &PORT))?
@@ -89,7 +93,10 @@ fn serve<'a>(alloc: Global) -> Result<Command<'a>, AllocError> {
         .arg(number_option(alloc, &CUE_FRAMES))?
         .arg(number_option(alloc, &SERVE_SILENCE))?
         .arg(number_option(alloc, &TURNS))?
-        .arg(log(alloc, "Tells standard error of each message, and of each item that goes to air"))
+        .arg(log(
+            alloc,
+            "Tells standard error of each message, and of each item that goes to air",
+        ))
 }
 
 fn run<'a>(alloc: Global) -> Result<Command<'a>, AllocError> {

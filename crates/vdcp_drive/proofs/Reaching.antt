@@ -22,9 +22,11 @@ logged_behind log (Some e) = (e ∷ [], refl)
 -- by one call
 pub goes_by_call : (plan : Plan) (call : Call) (before after : State) → after ≡ after_call plan call before → GoesOn plan before after
 goes_by_call plan call before after is log reached =
-    let more = logged_behind log (ended_by_call plan call before) in
-    (more.0, subst (λ (s : State). Reached plan s (log ++ more.0)) (sym is)
-    (subst (λ (l : List Exchange). Reached plan (after_call plan call before) l) more.1 (called reached call)))
+    let more = logged_behind log (ended_by_call plan call before) in (
+      more.0,
+      subst (λ (s : State). Reached plan s (log ++ more.0)) (sym is)
+          (subst (λ (l : List Exchange). Reached plan (after_call plan call before) l) more.1 (called reached call)),
+    )
 
 -- and then further, where the plan is the same
 pub goes_further : (plan plan' : Plan) (before between after : State) → plan' ≡ plan → GoesOn plan before between → GoesOn plan' between after

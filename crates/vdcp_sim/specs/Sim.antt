@@ -40,7 +40,6 @@ heard_text (Some (heard.Reply reply)) = reply_text reply
 abbrev pub exchange_text : Exchange → List ℕ
 exchange_text e = command_text e.command ++ codes " -> " ++ heard_text e.heard
 
-
 -- ---- lines
 
 -- a text for each thing, in order, with its number, counted from this one on
