@@ -214,7 +214,7 @@ fn each_call_fails_in_turn(rt: HostRuntime) -> Result<(), Fail> {
     let commands = [OPEN, SELECT, STATUS, CLOSE];
     let all = joined(rt.alloc(), &commands)?;
     for part in [0, 1, 100] {
-        let mut before = 0;
+        let mut before: usize = 0;
         for (k, command) in commands.iter().enumerate() {
             let first = 4 * k as u64 + 1;
             let words = [GRANTED, ACK, IDLE, ACK];
@@ -223,9 +223,9 @@ fn each_call_fails_in_turn(rt: HostRuntime) -> Result<(), Fail> {
             assert_eq!(rt; sent.as_slice(), front(&all, before)?);
             let (works, sent, awaits) = failed_at(rt.alloc(), plain(), &words, first + 1, part)?;
             assert!(rt; !works && awaits);
-            let begun = before + part.min(command.len());
+            let begun = before.saturating_add(part.min(command.len()));
             assert_eq!(rt; sent.as_slice(), front(&all, begun)?);
-            before += command.len();
+            before = before.saturating_add(command.len());
             for listen in [first + 2, first + 3] {
                 let (works, sent, awaits) = failed_at(rt.alloc(), plain(), &words, listen, part)?;
                 assert!(rt; !works && awaits);
@@ -253,8 +253,8 @@ fn each_call_fails_in_turn_in_confirm_mode(rt: HostRuntime) -> Result<(), Fail> 
     let all = joined(rt.alloc(), &commands)?;
     let words: [&[u8]; 5] = [GRANTED, &[], IDLE, IDLE, &[]];
     for part in [0, 1, 100] {
-        let mut before = 0;
-        let mut call = 1;
+        let mut before: usize = 0;
+        let mut call: u64 = 1;
         for (command, listens) in commands.iter().zip(listens) {
             let (works, sent, awaits) = failed_at(rt.alloc(), confirming(), &words, call, part)?;
             assert!(rt; !works && !awaits);
@@ -263,25 +263,25 @@ fn each_call_fails_in_turn_in_confirm_mode(rt: HostRuntime) -> Result<(), Fail> 
                 rt.alloc(),
                 confirming(),
                 &words,
-                call + 1,
+                call.saturating_add(1),
                 part,
             )?;
             assert!(rt; !works && awaits);
-            let begun = before + part.min(command.len());
+            let begun = before.saturating_add(part.min(command.len()));
             assert_eq!(rt; sent.as_slice(), front(&all, begun)?);
-            before += command.len();
+            before = before.saturating_add(command.len());
             for listen in 0..listens {
                 let (works, sent, awaits) = failed_at(
                     rt.alloc(),
                     confirming(),
                     &words,
-                    call + 2 + listen,
+                    call.saturating_add(2 + listen),
                     part,
                 )?;
                 assert!(rt; !works && awaits);
                 assert_eq!(rt; sent.as_slice(), front(&all, before)?);
             }
-            call += 2 + listens;
+            call = call.saturating_add(2 + listens);
         }
         let (works, sent, _) = failed_at(rt.alloc(), confirming(), &words, call, part)?;
         assert!(rt; works);
