@@ -275,13 +275,13 @@ fn each_call_fails_in_turn_in_confirm_mode(rt: HostRuntime) -> Result<(), Fail> 
                     rt.alloc(),
                     confirming(),
                     &words,
-                    call.saturating_add(2 + listen),
+                    call.saturating_add(2).saturating_add(listen),
                     part,
                 )?;
                 assert!(rt; !works && awaits);
                 assert_eq!(rt; sent.as_slice(), front(&all, before)?);
             }
-            call = call.saturating_add(2 + listens);
+            call = call.saturating_add(2).saturating_add(listens);
         }
         let (works, sent, _) = failed_at(rt.alloc(), confirming(), &words, call, part)?;
         assert!(rt; works);
