@@ -1,4 +1,4 @@
-ghost use Rattle.std.specs.Prelude.{◌≡◌, ◌↔◌, ◌<◌, ◌≤◌, ◌^◌, Some, None, IsTrue, is_some, IfSome};
+ghost use Rattle.std.specs.Prelude.{◌≡◌, ◌↔◌, ◌<◌, ◌≤◌, ◌^◌, Some, None, IsTrue, is_some, IfSome, length};
 ghost use Rattle.vdcp_auto.specs.Plan.{plan_of};
 ghost use Rattle.vdcp_auto.specs.Turn as turns;
 ghost use Rattle.vdcp_words.specs.Commands.{IsWritableCommand};
@@ -47,7 +47,8 @@ impl<S: Source> Model for Controller<S> {
         record { source = c.source; mode = c.mode; port = c.port; limit = c.limit; state = c.state } };
 
     ghost invariant = { λ c. (1 ≤ c.limit) × (c.limit ≤ 1000) × (c.state.tries < c.limit)
-        × IsStageOf (length (S.items c.source)) c.limit c.state.unanswered c.state.stage };
+        × IsStageOf (length (S.items c.source)) c.limit c.state.unanswered c.state.stage
+        × (c.state.settled ≤ length (S.items c.source)) };
 }
 
 impl<S: Source> Controller<S> {
@@ -119,9 +120,10 @@ impl<S: Source> Controller<S> {
         }
     }
 
-    /// How many events are known to have been aired.
+    /// How many events are known to have been aired: of the list's events the first so many.
     pub fn settled(&self) -> usize
-        ensures { result ≡ self.now.state.settled }
+        ensures count { result ≡ self.now.state.settled }
+        ensures within { result ≤ length (S.items self.now.source) }
     {
         self.state.settled
     }

@@ -1,3 +1,5 @@
+//! Courses in plain mode.
+use super::case::{CLOSE, Case, OPEN, SELECT, SILENCE, STATUS, check_commands};
 use super::clips::{
     ABSENT, ACK, CUED, CUED_AND_PLAYING, Clips, DENIED, GRANTED, IDLE, NINE, NO_STATE,
     NOTHING_PLAYS, ONE, PLAYING, PRESENT, REFUSAL, Segment, TWO, UNREAD, drive, plays,
@@ -5,44 +7,14 @@ use super::clips::{
 use crate::controller::Controller;
 use crate::exchange::{Exchange, Heard, Input};
 use crate::outcome::Outcome;
-use crate::rehearsal::{rehearse, rehearse_confirming};
+use crate::rehearsal::rehearse;
 use linked_list_allocator::LocalHeap;
-use std::process::Abort;
 use std::test::Fail;
 use vdcp_value::ClipId;
 use vdcp_words::{Command, Reply};
 
-/// What happens to a controller, and the commands of the exchanges, the outcome and the number of
-/// settled events which that gives.
-#[derive(Clone, Copy)]
-struct Case<'i, 'c> {
-    name: &'static str,
-    clips: Clips,
-    inputs: &'i [Input],
-    commands: &'c [Command],
-    outcome: Option<Outcome>,
-    settled: usize,
-}
-
-const SILENCE: Input = Input::Silence;
-
-const OPEN: Command = Command::Open(0x01, 0x01);
-
-const SELECT: Command = Command::Select(0x01);
-
-const STATUS: Command = Command::Status(0x01);
-
-const CLOSE: Command = Command::Close(0x01);
-
-fn check_commands(rt: &impl Abort, log: &[Exchange], commands: &[Command], name: &str) {
-    assert_eq!(rt; log.len(), commands.len(), "{name}");
-    for (exchange, command) in log.iter().zip(commands) {
-        assert_eq!(rt; exchange.command, *command, "{name}");
-    }
-}
-
 #[test]
-fn plain_courses(rt: HostRuntime) -> Result<(), Fail> {
+fn worked_courses(rt: HostRuntime) -> Result<(), Fail> {
     let one_plays = plays(ONE);
     let two_plays = plays(TWO);
     let request_one = Command::IdRequest(ClipId::new(ONE));
@@ -381,298 +353,6 @@ fn plain_courses(rt: HostRuntime) -> Result<(), Fail> {
 }
 
 #[test]
-fn confirming_courses(rt: HostRuntime) -> Result<(), Fail> {
-    let two_plays = plays(TWO);
-    let request_one = Command::IdRequest(ClipId::new(ONE));
-    let request_two = Command::IdRequest(ClipId::new(TWO));
-    let cue_one = Command::PlayCue(ClipId::new(ONE));
-    let cue_two = Command::PlayCue(ClipId::new(TWO));
-    let cases = [
-        Case {
-            name: "an empty list",
-            clips: Clips::none(),
-            inputs: &[GRANTED, SILENCE, IDLE, IDLE, SILENCE],
-            commands: &[OPEN, SELECT, STATUS, STATUS, CLOSE],
-            outcome: Some(Outcome::Done),
-            settled: 0,
-        },
-        Case {
-            name: "one clip, with every receipt",
-            clips: Clips::one(ONE),
-            inputs: &[
-                GRANTED,
-                ACK,
-                SILENCE,
-                IDLE,
-                PRESENT,
-                ACK,
-                SILENCE,
-                CUED,
-                ACK,
-                SILENCE,
-                IDLE,
-                NOTHING_PLAYS,
-                IDLE,
-                ACK,
-                SILENCE,
-            ],
-            commands: &[
-                OPEN,
-                SELECT,
-                STATUS,
-                request_one,
-                cue_one,
-                STATUS,
-                Command::Play,
-                STATUS,
-                Command::ActiveId,
-                STATUS,
-                CLOSE,
-            ],
-            outcome: Some(Outcome::Done),
-            settled: 1,
-        },
-        Case {
-            name: "receipts end no request",
-            clips: Clips::one(ONE),
-            inputs: &[REFUSAL, ACK],
-            commands: &[],
-            outcome: None,
-            settled: 0,
-        },
-        Case {
-            name: "a stray receipt settles nothing",
-            clips: Clips::one(ONE),
-            inputs: &[
-                GRANTED,
-                ACK,
-                SILENCE,
-                IDLE,
-                PRESENT,
-                ACK,
-                SILENCE,
-                CUED,
-                ACK,
-                SILENCE,
-                CUED,
-                ACK,
-                SILENCE,
-                IDLE,
-                NOTHING_PLAYS,
-                IDLE,
-                ACK,
-                SILENCE,
-            ],
-            commands: &[
-                OPEN,
-                SELECT,
-                STATUS,
-                request_one,
-                cue_one,
-                STATUS,
-                Command::Play,
-                STATUS,
-                Command::Play,
-                STATUS,
-                Command::ActiveId,
-                STATUS,
-                CLOSE,
-            ],
-            outcome: Some(Outcome::Done),
-            settled: 1,
-        },
-        Case {
-            name: "two lost cues are under the limit",
-            clips: Clips::one(ONE),
-            inputs: &[
-                GRANTED, SILENCE, IDLE, PRESENT, SILENCE, IDLE, SILENCE, IDLE,
-            ],
-            commands: &[
-                OPEN,
-                SELECT,
-                STATUS,
-                request_one,
-                cue_one,
-                STATUS,
-                cue_one,
-                STATUS,
-            ],
-            outcome: None,
-            settled: 0,
-        },
-        Case {
-            name: "three lost cues are a refusal",
-            clips: Clips::one(ONE),
-            inputs: &[
-                GRANTED, SILENCE, IDLE, PRESENT, SILENCE, IDLE, SILENCE, IDLE, SILENCE, IDLE,
-            ],
-            commands: &[
-                OPEN,
-                SELECT,
-                STATUS,
-                request_one,
-                cue_one,
-                STATUS,
-                cue_one,
-                STATUS,
-                cue_one,
-                STATUS,
-            ],
-            outcome: Some(Outcome::Refused(0)),
-            settled: 0,
-        },
-        Case {
-            name: "each event has its own tries",
-            clips: Clips::two(ONE, TWO),
-            inputs: &[
-                GRANTED,
-                SILENCE,
-                IDLE,
-                PRESENT,
-                SILENCE,
-                IDLE,
-                SILENCE,
-                IDLE,
-                SILENCE,
-                CUED,
-                SILENCE,
-                PLAYING,
-                NOTHING_PLAYS,
-                PRESENT,
-                SILENCE,
-                IDLE,
-                SILENCE,
-                IDLE,
-            ],
-            commands: &[
-                OPEN,
-                SELECT,
-                STATUS,
-                request_one,
-                cue_one,
-                STATUS,
-                cue_one,
-                STATUS,
-                cue_one,
-                STATUS,
-                Command::Play,
-                STATUS,
-                Command::ActiveId,
-                request_two,
-                cue_two,
-                STATUS,
-                cue_two,
-                STATUS,
-            ],
-            outcome: None,
-            settled: 1,
-        },
-        Case {
-            name: "three unanswered requests lose the port",
-            clips: Clips::one(ONE),
-            inputs: &[SILENCE, SILENCE, SILENCE],
-            commands: &[OPEN, OPEN, OPEN],
-            outcome: Some(Outcome::Lost),
-            settled: 0,
-        },
-        Case {
-            name: "three times it isn't seen whether the port is selected",
-            clips: Clips::one(ONE),
-            inputs: &[
-                GRANTED, SILENCE, SILENCE, SILENCE, SILENCE, SILENCE, SILENCE,
-            ],
-            commands: &[OPEN, SELECT, STATUS, SELECT, STATUS, SELECT, STATUS],
-            outcome: Some(Outcome::Lost),
-            settled: 0,
-        },
-        Case {
-            name: "the port is denied",
-            clips: Clips::one(ONE),
-            inputs: &[DENIED],
-            commands: &[OPEN],
-            outcome: Some(Outcome::Denied),
-            settled: 0,
-        },
-        Case {
-            name: "a missing clip ends the list",
-            clips: Clips::one(ONE),
-            inputs: &[GRANTED, SILENCE, IDLE, ABSENT],
-            commands: &[OPEN, SELECT, STATUS, request_one],
-            outcome: Some(Outcome::Missing(0)),
-            settled: 0,
-        },
-        Case {
-            name: "another clip plays",
-            clips: Clips::one(ONE),
-            inputs: &[
-                GRANTED, SILENCE, IDLE, PRESENT, SILENCE, CUED, SILENCE, IDLE, two_plays,
-            ],
-            commands: &[
-                OPEN,
-                SELECT,
-                STATUS,
-                request_one,
-                cue_one,
-                STATUS,
-                Command::Play,
-                STATUS,
-                Command::ActiveId,
-            ],
-            outcome: Some(Outcome::Foreign(0)),
-            settled: 1,
-        },
-        Case {
-            name: "a stop while a play is awaited",
-            clips: Clips::one(ONE),
-            inputs: &[
-                GRANTED,
-                SILENCE,
-                IDLE,
-                PRESENT,
-                SILENCE,
-                CUED,
-                ACK,
-                Input::Stop,
-                SILENCE,
-                SILENCE,
-                SILENCE,
-            ],
-            commands: &[
-                OPEN,
-                SELECT,
-                STATUS,
-                request_one,
-                cue_one,
-                STATUS,
-                Command::Play,
-                Command::Stop,
-                CLOSE,
-            ],
-            outcome: Some(Outcome::Stopped),
-            settled: 0,
-        },
-        Case {
-            name: "a stop while the stop is awaited",
-            clips: Clips::one(ONE),
-            inputs: &[Input::Stop, ACK, Input::Stop, SILENCE, SILENCE],
-            commands: &[Command::Stop, CLOSE],
-            outcome: Some(Outcome::Stopped),
-            settled: 0,
-        },
-    ];
-    for case in &cases {
-        let log = rehearse_confirming(rt.alloc(), case.clips, 0x01, 3, case.inputs)?;
-        check_commands(&rt, &log, case.commands, case.name);
-        let mut controller = Controller::confirming(case.clips, 0x01, 3);
-        assert!(rt; controller.is_confirming());
-        drive(&mut controller, case.inputs);
-        assert_eq!(rt; controller.outcome(), case.outcome, "{}", case.name);
-        assert_eq!(rt; controller.settled(), case.settled, "{}", case.name);
-    }
-    Ok(())
-}
-
-#[test]
 fn exchanges_of_an_empty_list(rt: HostRuntime) -> Result<(), Fail> {
     let log = rehearse(
         rt.alloc(),
@@ -707,22 +387,11 @@ fn exchanges_of_an_empty_list(rt: HostRuntime) -> Result<(), Fail> {
 #[test]
 fn a_refused_part(rt: HostRuntime) -> Result<(), Fail> {
     let id = ClipId::new(ONE);
-    let segment = Segment::new(id);
-    let request = Command::IdRequest(id);
-    let cue = Command::CueData(id, [0x00, 0x08, 0x00, 0x00], [0x00, 0x03, 0x00, 0x00]);
     let inputs = [GRANTED, ACK, PRESENT, REFUSAL, IDLE];
-    let log = rehearse(rt.alloc(), segment, 0x01, 3, &inputs)?;
-    check_commands(&rt, &log, &[OPEN, SELECT, request, cue], "in plain mode");
-
-    let unheard = [
-        GRANTED, SILENCE, IDLE, PRESENT, REFUSAL, SILENCE, IDLE, REFUSAL, SILENCE, IDLE, REFUSAL,
-        SILENCE, IDLE, IDLE,
-    ];
-    let log = rehearse_confirming(rt.alloc(), segment, 0x01, 3, &unheard)?;
-    let commands = [
-        OPEN, SELECT, STATUS, request, cue, STATUS, cue, STATUS, cue, STATUS,
-    ];
-    check_commands(&rt, &log, &commands, "in confirm mode");
+    let log = rehearse(rt.alloc(), Segment::new(id), 0x01, 3, &inputs)?;
+    let cue = Command::CueData(id, [0x00, 0x08, 0x00, 0x00], [0x00, 0x03, 0x00, 0x00]);
+    let commands = [OPEN, SELECT, Command::IdRequest(id), cue];
+    check_commands(&rt, &log, &commands, "a refused part");
     Ok(())
 }
 
@@ -781,18 +450,6 @@ fn each_refused_growth_is_answered(rt: HostRuntime) -> Result<(), Fail> {
         IDLE,
         ACK,
     ];
-    let silence = Input::Silence;
-    let unheard = [
-        GRANTED,
-        silence,
-        IDLE,
-        PRESENT,
-        silence,
-        CUED,
-        silence,
-        IDLE,
-        NOTHING_PLAYS,
-    ];
     let mut refused = false;
     let mut given = false;
     for size in [16, 256, 512, 1024, 4096, 65536] {
@@ -802,10 +459,6 @@ fn each_refused_growth_is_answered(rt: HostRuntime) -> Result<(), Fail> {
                 assert_eq!(rt; log.len(), 9);
                 given = true;
             }
-            Err(_) => refused = true,
-        }
-        match rehearse_confirming(&heap, Clips::one(ONE), 0x01, 3, &unheard) {
-            Ok(log) => assert_eq!(rt; log.len(), 9),
             Err(_) => refused = true,
         }
     }
