@@ -5,13 +5,12 @@ ghost use Rattle.vdcp_auto.specs.Course.{course};
 ghost use Rattle.vdcp_auto.specs.Plan.{plan_of};
 ghost use Rattle.vdcp_auto.specs.Settled.{settled};
 ghost use Rattle.vdcp_drive.specs.Driven.{IsNew, inputs_of};
-ghost use Rattle.vdcp_drive.specs.Wires.{IfTold};
+ghost use Rattle.vdcp_drive.specs.Wires.{IfTold, nothing_told};
 
 use super::clips::Playlist;
-use super::messages::{ACK, GRANTED, IDLE};
+use super::messages::{ACK, CUED, GRANTED, PRESENT};
 use crate::{AutoDriver, Entry, ScriptWire, Wire, laws};
 use std::alloc::{AllocError, Global};
-use std::process::Abort;
 use std::test::Fail;
 use vdcp_auto::{Controller, Source};
 
@@ -42,4 +41,15 @@ fn answers(alloc: Global, answers: &[&[u8]]) -> Result<ScriptWire<Global>, Alloc
         entries.push(Entry::Silence)?;
     }
     Ok(ScriptWire::new(alloc, entries))
+}
+
+#[test]
+fn an_event_is_reported_once_its_play_is_answered(rt: HostRuntime) -> Result<(), Fail> {
+    for (count, settled) in [(5, 0), (6, 1)] {
+        let words = [GRANTED, ACK, PRESENT, ACK, CUED, ACK];
+        let wire = answers(rt.alloc(), &words[..count])?;
+        let mut auto = AutoDriver::new(Controller::new(Playlist::of(1), 1, 3), 0, wire);
+        assert_eq!(rt; reported(&mut auto, 100), Some(settled));
+    }
+    Ok(())
 }
