@@ -1,5 +1,5 @@
 -- What a wire in memory tells.
-use Rattle.std.specs.Prelude.{ℕ, ◌≤◌, Bool, true, false, List, map, if◌then◌else◌}
+use Rattle.std.specs.Prelude.{ℕ, ◌≤◌, ◌+◌, Bool, true, false, List, [], ◌∷◌, drop, if◌then◌else◌}
 use Rattle.std.proofs.Common.{rules}
 use Rattle.vdcp_drive.specs.declared.wire.Came.{Came}
 use Rattle.vdcp_drive.specs.declared.wire.Came.TheVariants as came
@@ -10,9 +10,20 @@ pub record Script : Type 0 where
   pub told : Told
   pub failed : Bool
 
--- what came, by what each listen gave and its buffer then
-abbrev pub arrivals : List (Came × List ℕ) → List Arrival
-arrivals given = map (λ g. arrival_of g.0 g.1) given
+-- how many bytes a listen brought
+abbrev pub brought : Came → ℕ
+brought (came.Bytes n) = n
+brought came.Silence = 0
+brought came.Closed = 0
+
+abbrev pub brought_in_all : List Came → ℕ
+brought_in_all [] = 0
+brought_in_all (c ∷ later) = brought c + brought_in_all later
+
+-- what came, by what each listen gave and all bytes of these, one after another
+abbrev pub arrivals : List Came → List ℕ → List Arrival
+arrivals [] all = []
+arrivals (c ∷ later) all = arrival_of c all ∷ arrivals later (drop (brought c) all)
 
 abbrev pub closes : Came → Bool
 closes (came.Bytes n) = false

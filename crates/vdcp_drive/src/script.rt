@@ -1,5 +1,5 @@
-ghost use Rattle.std.specs.Prelude.{◌≡◌, false, OnOk, OnErr, IfOk, Some};
-ghost use Rattle.vdcp_drive.specs.Scripts.{closes};
+ghost use Rattle.std.specs.Prelude.{◌≡◌, false, length, take, OnOk, OnErr, IfOk, Some};
+ghost use Rattle.vdcp_drive.specs.Scripts.{brought, closes};
 ghost use Rattle.vdcp_drive.specs.Wires.{arrival_of, adds_came, has_closed, MayCome, FitsBuffer};
 
 use crate::wire::{Came, Wire, WireFault};
@@ -39,8 +39,9 @@ pub struct ScriptWire<A: Allocator + Copy> {
     next: usize,
     given: usize,
     sent: Vec<u8, A>,
-    /// What each `listen` gave, up to the first close, each with the buffer as it was then.
-    came: Vec<(Came, [u8; 512]), A>,
+    /// What each `listen` gave, up to the first close, and all bytes of these, one after another.
+    came: Vec<Came, A>,
+    bytes: Vec<u8, A>,
     drops: Vec<usize, A>,
     closed: bool,
     calls: u64,
@@ -49,18 +50,19 @@ pub struct ScriptWire<A: Allocator + Copy> {
 }
 
 impl<A: Allocator + Copy> Model for ScriptWire<A> {
-    ghost use Rattle.std.specs.Prelude.{◌≡◌};
+    ghost use Rattle.std.specs.Prelude.{◌≡◌, length};
     ghost use Rattle.vdcp_drive.specs.Wires.{has_closed};
-    ghost use Rattle.vdcp_drive.specs.Scripts.{Script, arrivals};
+    ghost use Rattle.vdcp_drive.specs.Scripts.{Script, arrivals, brought_in_all};
 
     ghost Value = { Script };
 
     ghost view = { λ w. record {
-      told = record { sent = w.sent.items; came = arrivals w.came.items; drops = w.drops.items };
+      told = record { sent = w.sent.items; came = arrivals w.came.items w.bytes.items; drops = w.drops.items };
       failed = w.failed;
     } };
 
-    ghost invariant = { λ w. w.closed ≡ has_closed (arrivals w.came.items) };
+    ghost invariant = { λ w. (w.closed ≡ has_closed (arrivals w.came.items w.bytes.items))
+        × (brought_in_all w.came.items ≡ length w.bytes.items) };
 }
 
 impl<A: Allocator + Copy> ScriptWire<A> {
@@ -78,6 +80,7 @@ impl<A: Allocator + Copy> ScriptWire<A> {
             given: 0,
             sent: Vec::new(alloc),
             came: Vec::new(alloc),
+            bytes: Vec::new(alloc),
             drops: Vec::new(alloc),
             closed: false,
             calls: 0,
@@ -152,16 +155,17 @@ impl<A: Allocator + Copy> ScriptWire<A> {
         }
     }
 
-    // Keeps what came; only the first close counts.
+    // Keeps what came, where no close came before.
     fn keep(&mut self, came: Came, buffer: &[u8; 512]) -> Result<(), AllocError>
+        requires fits { FitsBuffer came }
+        requires open { has_closed self.old.told.came ≡ false }
         ensures came { OnOk result (Some self.new.told ≡ adds_came (arrival_of came buffer.now) (Some self.old.told)) }
         ensures kept { OnErr result (self.new ≡ self.old) }
         ensures failed { self.new.failed ≡ self.old.failed }
     {
-        if self.closed {
-            return Ok(());
-        }
-        self.came.push((came, *buffer))?;
+        self.came.reserve(1)?;
+        self.bytes.extend_from_slice(piece_of(came, buffer))?;
+        self.came.push_reserved(came);
         self.closed = is_close(came);
         Ok(())
     }
@@ -175,7 +179,6 @@ impl<A: Allocator + Copy> ScriptWire<A> {
         ensures failed { self.new.failed ≡ self.old.failed }
     {
         if self.is_closed() {
-            self.keep(Came::Closed, buffer)?;
             return Ok(Came::Closed);
         }
         let came = self.peek(buffer);
@@ -188,6 +191,19 @@ impl<A: Allocator + Copy> ScriptWire<A> {
         ensures { result ≡ has_closed self.now.told.came }
     {
         self.closed
+    }
+}
+
+// The bytes that came.
+fn piece_of(came: Came, buffer: &[u8; 512]) -> &[u8]
+    requires { FitsBuffer came }
+    ensures bytes { result.now ≡ take (brought came) buffer.now }
+    ensures counts { length result.now ≡ brought came }
+{
+    match came {
+        Came::Bytes(n) => &buffer[..n],
+        Came::Silence => &[],
+        Came::Closed => &[],
     }
 }
 

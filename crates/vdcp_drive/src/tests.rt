@@ -4,6 +4,7 @@ mod both;
 mod broken;
 mod clips;
 mod hostile;
+mod lawful;
 mod loopback;
 mod messages;
 mod server;

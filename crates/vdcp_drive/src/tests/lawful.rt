@@ -1,0 +1,55 @@
+//! What a caller knows of what a new automation reports once it has run, by the contracts of its calls and
+//! the law of runs.
+ghost use Rattle.std.specs.Prelude.{◌≡◌, ◌≤◌, false, IfOk, IfSome};
+ghost use Rattle.vdcp_auto.specs.Course.{course};
+ghost use Rattle.vdcp_auto.specs.Plan.{plan_of};
+ghost use Rattle.vdcp_auto.specs.Settled.{settled};
+ghost use Rattle.vdcp_drive.specs.Driven.{IsNew, inputs_of};
+ghost use Rattle.vdcp_drive.specs.Wires.{IfTold, nothing_told};
+
+use super::clips::Playlist;
+use super::messages::{ACK, CUED, GRANTED, PRESENT};
+use crate::{AutoDriver, Entry, ScriptWire, Wire, laws};
+use std::alloc::{AllocError, Global};
+use std::test::Fail;
+use vdcp_auto::{Controller, Source};
+
+/// How many events a new automation reports as aired once it has run; None where its wire failed. It is
+/// what the exchanges over the wire show to be settled.
+fn reported<S: Source, W: Wire>(auto: &mut AutoDriver<S, W>, listens: u64) -> Option<usize>
+    requires new { IsNew auto.old.controller.state auto.old.reader auto.old.heard (W.told auto.old.wire) }
+    requires some { 1 ≤ auto.old.controller.limit }
+    requires few { auto.old.controller.limit ≤ 1000 }
+    ensures shown { IfSome result (λ n. IfTold (W.told auto.new.wire) (λ u.
+        n ≡ settled auto.old.controller.mode (course (plan_of S.items auto.old.controller) (inputs_of auto.old.unit u.came)))) }
+{
+    laws::a_run_is_lawful();
+    match auto.run(listens) {
+        Ok(_) => Some(auto.controller().settled()),
+        Err(_) => None,
+    }
+}
+
+/// These answers, with a silence behind each.
+fn answers(alloc: Global, answers: &[&[u8]]) -> Result<ScriptWire<Global>, AllocError>
+    ensures told { IfOk result (λ wire. wire.told ≡ nothing_told) }
+    ensures works { IfOk result (λ wire. wire.failed ≡ false) }
+{
+    let mut entries = Vec::new(alloc);
+    for answer in answers {
+        entries.push(Entry::Came(Vec::from_slice(alloc, answer)?))?;
+        entries.push(Entry::Silence)?;
+    }
+    Ok(ScriptWire::new(alloc, entries))
+}
+
+#[test]
+fn an_event_is_reported_once_its_play_is_answered(rt: HostRuntime) -> Result<(), Fail> {
+    for (count, settled) in [(5, 0), (6, 1)] {
+        let words = [GRANTED, ACK, PRESENT, ACK, CUED, ACK];
+        let wire = answers(rt.alloc(), &words[..count])?;
+        let mut auto = AutoDriver::new(Controller::new(Playlist::of(1), 1, 3), 0, wire);
+        assert_eq!(rt; reported(&mut auto, 100), Some(settled));
+    }
+    Ok(())
+}

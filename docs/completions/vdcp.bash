@@ -1,0 +1,64 @@
+# What bash offers behind vdcp; tools/completions makes this file from the program's help. It is read by: . vdcp.bash
+
+_vdcp() {
+    local words=() piece before='' word head='' subcommand='' wish='' place=0 rest='' offers='' i
+    # (bash cuts words at = and at :, and wants offers for the last piece alone)
+    for ((i = 1; i <= COMP_CWORD; i++)); do
+        piece=${COMP_WORDS[i]}
+        if [[ -n $piece && ${#words[@]} -gt 0 && ( $piece != *[!:=]* || -n $before && $before != *[!:=]* ) ]]; then
+            words[-1]+=$piece
+        else
+            words+=("$piece")
+        fi
+        before=$piece
+    done
+    COMPREPLY=()
+    [[ ${#words[@]} -gt 0 ]] || return 0
+    local last=${words[-1]}
+    [[ $piece == *[!:=]* ]] || piece=
+    local cut=${last%"$piece"}
+    unset 'words[-1]'
+    for word in ${words[@]+"${words[@]}"}; do
+        if [[ -n $wish ]]; then
+            wish=
+            continue
+        fi
+        case $rest$word in
+        --) rest=1 ;;
+        --unit | --rate | --port | --limit | --cue-frames | --silence | --turns | --listens | --asrun) wish=$word ;;
+        -*) ;;
+        *) if [[ -z $subcommand ]]; then subcommand=$word; else ((++place)); fi ;;
+        esac
+    done
+    if [[ -z $wish$rest && $last == --*=* ]]; then
+        wish=${last%%=*} head=${last%%=*}= last=${last#*=}
+    elif [[ -z $wish$rest && $last == -* ]]; then
+        wish=-
+    elif [[ -z $wish ]]; then
+        wish=$((place + 1))
+        [[ -n $subcommand ]] || wish=0
+    fi
+    case $subcommand:$wish in
+    :0 | help:1) offers="show make check sim serve run vectors help" ;;
+    :-) offers="-h --help -V --version" ;;
+    show:-) offers="--words -h --help" ;;
+    make:-) offers="--unit -h --help" ;;
+    check:-) offers="--rate -h --help" ;;
+    sim:-) offers="--unit --port --limit --rate --trace --cue-frames --confirm -h --help" ;;
+    serve:-) offers="--unit --port --rate --cue-frames --silence --turns --log -h --help" ;;
+    run:-) offers="--unit --port --limit --rate --confirm --silence --listens --asrun --log -h --help" ;;
+    vectors:-) offers="-h --help" ;;
+    make:1) offers="open close select cue cue-data play stop status active exists size" ;;
+    check:1 | check:2 | sim:1 | sim:2 | sim:3 | serve:2 | run:2 | run:--asrun | vectors:1) offers="files" ;;
+    check:--rate | sim:--rate | serve:--rate | run:--rate) offers="24 25 30 30df" ;;
+    esac
+    if [[ $offers == files ]]; then
+        compopt -o filenames -o default 2>/dev/null
+        mapfile -t COMPREPLY < <(compgen -P "$head" -f -- "$last")
+    else
+        mapfile -t COMPREPLY < <(compgen -P "$head" -W "$offers" -- "$last")
+    fi
+    COMPREPLY=("${COMPREPLY[@]#"$cut"}")
+}
+
+complete -F _vdcp vdcp
