@@ -46,10 +46,7 @@ fn write_reported<S: Source, W: io::Write>(
     ensures beginning { IfErr result (λ fault. fault ≡ WriteFault.Device → AppendsBeginning (W.contents writer.old) (W.contents writer.new)
         (asrun_text rate (S.items controller.now.source) controller.now.state.settled)) }
 {
-    let source = controller.source();
-    // (a controller never settles more events than there are; its type doesn't say so)
-    let reported = controller.settled().min(source.len());
-    write_asrun(alloc, source, rate, reported, writer)
+    write_asrun(alloc, controller.source(), rate, controller.settled(), writer)
 }
 
 #[cfg(test)]
