@@ -1,6 +1,6 @@
 use crate::options::{
-    CUE_FRAMES, LIMIT, LISTENS, PORT, RUN_SILENCE, SERVE_SILENCE, TURNS, UNIT, number_option,
-    rate_option,
+    COPY, CUE_FRAMES, CUT, DAMAGE, FORGE, LIMIT, LISTENS, LOSE, LOSSY_SILENCE, PORT, RUN_SILENCE,
+    SEED, SERVE_SILENCE, TURNS, UNIT, WITHIN, number_option, rate_option,
 };
 use clap::{Arg, ArgAction, Command};
 use std::alloc::{AllocError, Global};
@@ -16,6 +16,16 @@ const SERVE_EXAMPLE: &str = "Example: vdcp serve 127.0.0.1:7400 examples/catalog
 const RUN_EXAMPLE: &str =
     "Example: vdcp run 127.0.0.1:7400 examples/playlist.csv --asrun asrun.csv";
 
+const LOSSY_EXAMPLE: &str = "It keeps what the report of a run rests on. Each way it holds one burst. A copied command reaches
+the server as two bursts, and only the answer to the last goes on; a copied answer goes out twice at
+once. Nothing of an exchange goes on once the time of --within has passed, and what the server sends
+later is dropped before the next command goes on. Of damaged bytes no more can be read than a beginning
+of what was sent. So --silence has to be more than the server's, and --within less than the silence of
+the run; and --forge is for a run with --confirm alone.
+
+Example, between a server at 127.0.0.1:7400 and a run at 127.0.0.1:7401:
+  vdcp lossy 127.0.0.1:7401 127.0.0.1:7400 --seed 7 --lose 20";
+
 /// What the command line may be.
 pub fn command<'a>(alloc: Global) -> Result<Command<'a>, AllocError> {
     Command::new(alloc, "vdcp")
@@ -30,6 +40,7 @@ pub fn command<'a>(alloc: Global) -> Result<Command<'a>, AllocError> {
         .subcommand(sim(alloc)?)?
         .subcommand(serve(alloc)?)?
         .subcommand(run(alloc)?)?
+        .subcommand(lossy(alloc)?)?
         .subcommand(vectors(alloc)?)
 }
 
@@ -114,6 +125,30 @@ fn run<'a>(alloc: Global) -> Result<Command<'a>, AllocError> {
         .arg(number_option(alloc, &LISTENS))?
         .arg(asrun(alloc))?
         .arg(log(alloc, "Tells standard error of each message"))
+}
+
+fn lossy<'a>(alloc: Global) -> Result<Command<'a>, AllocError> {
+    Command::new(alloc, "lossy")
+        .about("A line between a run and a server, over TCP, that loses, copies, cuts and damages bursts")
+        .after_help(LOSSY_EXAMPLE)
+        .arg(address(
+            alloc,
+            "Where it listens for a run, as 127.0.0.1:7401; for TCP port 0 the system chooses one",
+        ))?
+        .arg(required(
+            alloc,
+            "SERVER",
+            "Where the server listens, as 127.0.0.1:7400",
+        ))?
+        .arg(number_option(alloc, &SEED))?
+        .arg(number_option(alloc, &LOSE))?
+        .arg(number_option(alloc, &COPY))?
+        .arg(number_option(alloc, &CUT))?
+        .arg(number_option(alloc, &DAMAGE))?
+        .arg(number_option(alloc, &FORGE))?
+        .arg(number_option(alloc, &LOSSY_SILENCE))?
+        .arg(number_option(alloc, &WITHIN))?
+        .arg(number_option(alloc, &TURNS))
 }
 
 fn vectors<'a>(alloc: Global) -> Result<Command<'a>, AllocError> {

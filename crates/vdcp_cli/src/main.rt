@@ -1,5 +1,5 @@
 // vdcp: shows, makes and tests messages of the Video Disk Communications Protocol, checks playlists, and plays them: over
-// a line that is run from a script, and over TCP, of which it can be either end.
+// a line that is run from a script, and over TCP, of which it can be either end, and also what damages it between them.
 #![tactic(auto)]
 
 ghost use Rattle.clap.specs.Matches.{first_value, found_of};
@@ -17,6 +17,7 @@ use std::io::{BufWriter, IsTerminal, Write};
 use std::process::ExitCode;
 use std::{env, io};
 use vdcp_files::{Input, do_check, do_vectors};
+use vdcp_lossy::do_lossy;
 use vdcp_net::{Showing, do_run, do_serve};
 use vdcp_sim::do_sim;
 use vdcp_text::{Failure, do_make, do_show};
@@ -82,6 +83,7 @@ fn run_named<W: Write, E: Write>(
         "sim" => run_sim(rt, matches, out, err),
         "serve" => run_serve(rt, matches, out, err),
         "run" => run_run(rt, matches, out, err),
+        "lossy" => Ok(run_lossy(rt, matches, out, err)),
         "vectors" => run_vectors(rt, matches, out, err),
         // (`clap` lets no other name through)
         _ => Ok(2),
@@ -164,6 +166,18 @@ fn run_run<'a, W: Write, E: Write>(
         Showing::Nothing
     };
     Ok(do_run(rt, address, list, settings, showing, out, err))
+}
+
+fn run_lossy<W: Write, E: Write>(
+    rt: &HostRuntime,
+    matches: &ArgMatches<'_>,
+    out: &mut W,
+    err: &mut E,
+) -> u8 {
+    let address = matches.get_str("ADDR").unwrap_or("");
+    let server = matches.get_str("SERVER").unwrap_or("");
+    let settings = options::lossy_settings_of(matches);
+    do_lossy(rt, address, server, settings, out, err)
 }
 
 fn run_vectors<'a, W: Write, E: Write>(

@@ -5,6 +5,7 @@ ghost use Rattle.vdcp_value.specs.declared.rate.Rate.{Rate};
 
 use clap::{Arg, ArgMatches, value_parser};
 use std::alloc::Global;
+use vdcp_lossy::{Chances, LossySettings};
 use vdcp_net::{RunSettings, ServeSettings};
 use vdcp_sim::Settings;
 use vdcp_value::Rate;
@@ -91,6 +92,78 @@ pub const LISTENS: Number = Number {
     most: 4_294_967_295,
     default: "4294967295",
     help: "Gives up after so many waits for bytes or for a silence",
+};
+
+pub const SEED: Number = Number {
+    name: "seed",
+    letter: "N",
+    least: 0,
+    most: 4_294_967_295,
+    default: "1",
+    help: "Which throws of the dice are made: the same seed, the same throws",
+};
+
+pub const LOSE: Number = Number {
+    name: "lose",
+    letter: "P",
+    least: 0,
+    most: 100,
+    default: "10",
+    help: "Of 100 bursts so many are lost, 0 to 100",
+};
+
+pub const COPY: Number = Number {
+    name: "copy",
+    letter: "P",
+    least: 0,
+    most: 100,
+    default: "10",
+    help: "Of 100 bursts so many come twice, 0 to 100",
+};
+
+pub const CUT: Number = Number {
+    name: "cut",
+    letter: "P",
+    least: 0,
+    most: 100,
+    default: "5",
+    help: "Of 100 bursts so many end early, 0 to 100",
+};
+
+pub const DAMAGE: Number = Number {
+    name: "damage",
+    letter: "P",
+    least: 0,
+    most: 100,
+    default: "5",
+    help: "Of 100 bursts so many have bytes changed, 0 to 100",
+};
+
+pub const FORGE: Number = Number {
+    name: "forge",
+    letter: "P",
+    least: 0,
+    most: 100,
+    default: "0",
+    help: "Of 100 answers, or where none comes, so many are an ACK or a NAK, 0 to 100; for a run with --confirm",
+};
+
+pub const LOSSY_SILENCE: Number = Number {
+    name: "silence",
+    letter: "MS",
+    least: 1,
+    most: 60_000,
+    default: "30",
+    help: "A burst has ended when nothing came for so many milliseconds, 1 to 60000; more than the server's",
+};
+
+pub const WITHIN: Number = Number {
+    name: "within",
+    letter: "MS",
+    least: 1,
+    most: 60_000,
+    default: "80",
+    help: "Nothing goes on so many milliseconds after its command, 1 to 60000; less than the silence of the run",
 };
 
 /// The option, for the command line.
@@ -270,5 +343,41 @@ pub fn run_settings_of<'a>(matches: &'a ArgMatches<'_>) -> RunSettings<'a>
         silence: number_of(matches, &RUN_SILENCE),
         listens: number_of(matches, &LISTENS),
         asrun: matches.get_str("asrun"),
+    }
+}
+
+/// What the options say of a line that loses bursts.
+pub fn lossy_settings_of(matches: &ArgMatches) -> LossySettings
+    ensures lose { result.chances.lose ≤ 100 }
+    ensures copy { result.chances.copy ≤ 100 }
+    ensures cut { result.chances.cut ≤ 100 }
+    ensures damage { result.chances.damage ≤ 100 }
+    ensures forge { result.chances.forge ≤ 100 }
+    ensures some_silence { 1 ≤ result.silence }
+    ensures short_silence { result.silence ≤ 60000 }
+    ensures some_time { 1 ≤ result.within }
+    ensures short_time { result.within ≤ 60000 }
+    ensures seeds { (n : ℕ) → GivesNumber (found_of matches.now) (codes "seed") 0 4294967295 n → result.seed ≡ n }
+    ensures loses { (n : ℕ) → GivesNumber (found_of matches.now) (codes "lose") 0 100 n → result.chances.lose ≡ n }
+    ensures copies { (n : ℕ) → GivesNumber (found_of matches.now) (codes "copy") 0 100 n → result.chances.copy ≡ n }
+    ensures cuts { (n : ℕ) → GivesNumber (found_of matches.now) (codes "cut") 0 100 n → result.chances.cut ≡ n }
+    ensures damages { (n : ℕ) → GivesNumber (found_of matches.now) (codes "damage") 0 100 n → result.chances.damage ≡ n }
+    ensures forges { (n : ℕ) → GivesNumber (found_of matches.now) (codes "forge") 0 100 n → result.chances.forge ≡ n }
+    ensures silences { (n : ℕ) → GivesNumber (found_of matches.now) (codes "silence") 1 60000 n → result.silence ≡ n }
+    ensures times { (n : ℕ) → GivesNumber (found_of matches.now) (codes "within") 1 60000 n → result.within ≡ n }
+    ensures turns { (n : ℕ) → GivesNumber (found_of matches.now) (codes "turns") 1 4294967295 n → result.turns ≡ n }
+{
+    LossySettings {
+        seed: number_of(matches, &SEED),
+        chances: Chances {
+            lose: number_of(matches, &LOSE) as u8,
+            copy: number_of(matches, &COPY) as u8,
+            cut: number_of(matches, &CUT) as u8,
+            damage: number_of(matches, &DAMAGE) as u8,
+            forge: number_of(matches, &FORGE) as u8,
+        },
+        silence: number_of(matches, &LOSSY_SILENCE),
+        within: number_of(matches, &WITHIN),
+        turns: number_of(matches, &TURNS),
     }
 }

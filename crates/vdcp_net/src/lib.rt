@@ -3,6 +3,9 @@
 //! `do_serve` waits for one automation at an address, and serves it with a new port. `do_run` connects to
 //! an address and plays a list through the port of the server there. Each tells standard error of a failure
 //! in one line, and gives the exit status.
+//!
+//! `address_of` reads an address, and `accept_one` takes one connection there: who stands between the two ends
+//! begins with these too.
 #![tactic(auto)]
 
 mod address;
@@ -18,5 +21,6 @@ mod progress;
 mod run;
 mod serve;
 
+pub use address::address_of;
 pub use run::{RunSettings, Showing, do_run};
-pub use serve::{ServeSettings, do_serve};
+pub use serve::{ServeSettings, accept_one, do_serve};

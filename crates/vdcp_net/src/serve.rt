@@ -121,8 +121,11 @@ fn serve<'a, R: Net + AllocGlobal, C: io::Read + Drop, L: io::Write + Drop, W: i
     serve_line(new_port(clips, settings), wire, settings, log, out)
 }
 
-// Listens at an address, tells it, and takes the first connection. Nobody is listened to from then on.
-fn accept_one<R: Net, W: io::Write>(
+/// Listens at an address, for port 0 at one that the system chooses, and takes the first connection. Before
+/// that `out` gets a line with the address that is listened at, and is flushed. The other connections are
+/// refused from then on. `Bind` where the address can't be listened at or no connection be taken, and `Writer`
+/// where `out` failed.
+pub fn accept_one<R: Net, W: io::Write>(
     rt: &R,
     address: SocketAddrV4,
     out: &mut W,

@@ -11,9 +11,9 @@ use vdcp_frame::{Step, read_at};
 /// How many bytes can be on the way in place of others.
 const MOST: usize = 1024;
 
-/// Whether what is on the way can become these bytes: of them no more can be read than a beginning of
-/// what could be read before.
-pub(crate) fn can_become(way: &[u8], bytes: &[u8]) -> bool
+/// Whether damage can make these bytes of a burst that is on the way, or of nothing: they are 1,024 at most, and
+/// no more can be read of them than a beginning of the messages that could be read before.
+pub fn can_become(way: &[u8], bytes: &[u8]) -> bool
     ensures { result ≡ channel.can_become way.now bytes.now }
 {
     bytes.len() <= MOST && is_beginning(bytes, way)

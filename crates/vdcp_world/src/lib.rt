@@ -9,7 +9,8 @@
 //! world.aired(), world.reported(), world.log(), world.outcome()
 //! ```
 //!
-//! An event that can't happen changes nothing. `read_script` makes events of a text.
+//! An event that can't happen changes nothing. `read_script` makes events of a text, and `can_become` says
+//! what damage may make of a burst.
 #![tactic(auto)]
 
 mod burst;
@@ -22,6 +23,7 @@ mod script;
 mod world;
 
 pub use burst::Burst;
+pub use damage::can_become;
 pub use event::Event;
 pub use script::{ScriptFault, read_script};
 pub use world::World;

@@ -1,0 +1,14 @@
+use Rattle.std.proofs.Common.{◌≡◌, ◌<◌, ◌≤◌, ◌⊎◌, true, length}
+use Rattle.std.specs.Prelude.{IsNone}
+use Rattle.vdcp_lossy.proofs.course.Course.receive.Given as goal
+
+-- where bytes came, some are held, or the burst is too long
+abbrev pub invariant-listens : goal.invariant-listens
+invariant-listens g l = record {
+  works : g.W.Wire.failures l.wire ≡ 0;
+  left : l.self.left ≤ l.initial.self.left;
+  some : IsNone l.began ⊎ (l.is_long ≡ true) ⊎ (0 < length l.burst.items);
+}
+
+abbrev pub decreases-listens : goal.decreases-listens
+decreases-listens g l = l.self.left

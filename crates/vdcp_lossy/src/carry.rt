@@ -1,0 +1,173 @@
+ghost use Rattle.std.specs.Prelude.{◌≡◌, ◌<◌, ◌≤◌, IfOk, OnOk, length};
+ghost use Rattle.vdcp_drive.specs.Wires.{adds_drop, adds_sent};
+ghost use Rattle.vdcp_lossy.specs.Bursts.{HasSome};
+
+use crate::course::{Brought, Course, Ended};
+use crate::doing::{Burst, Doing, Receipt, Way};
+use std::io;
+use std::rt::Clock;
+use std::time::Instant;
+use vdcp_drive::{Wire, WireFault};
+use vdcp_text::Failure;
+
+/// Carries bursts between an automation and a server until either closes, or the turns are used up.
+pub fn carry<R: Clock, A: Wire, S: Wire, W: io::Write>(
+    course: &mut Course<R>,
+    automation: &mut A,
+    server: &mut S,
+    out: &mut W,
+) -> Result<Ended, Failure<'static>>
+    requires automation { A.failures automation.old ≡ 0 }
+    requires server { S.failures server.old ≡ 0 }
+{
+    let mut command = Burst::new();
+    'bursts: while course.left() > 0 {
+        let brought = course.receive(automation, &mut command)?;
+        if let Some(ended) = take(course, automation, server, brought, &command, out)? {
+            return Ok(ended);
+        }
+    }
+    Ok(Ended::Spent)
+}
+
+// Takes what the automation brought, and says whether nothing more is to be carried.
+fn take<R: Clock, A: Wire, S: Wire, W: io::Write>(
+    course: &mut Course<R>,
+    automation: &mut A,
+    server: &mut S,
+    brought: Brought,
+    command: &Burst,
+    out: &mut W,
+) -> Result<Option<Ended>, Failure<'static>>
+    requires automation { A.failures automation.old ≡ 0 }
+    requires server { S.failures server.old ≡ 0 }
+    requires some { HasSome brought command.now.items }
+    ensures no_more { course.new.left ≤ course.old.left }
+    ensures automation { OnOk result (A.failures automation.new ≡ 0) }
+    ensures server { OnOk result (S.failures server.new ≡ 0) }
+{
+    match brought {
+        Brought::Nothing => Ok(None),
+        Brought::Over(ended) => Ok(Some(ended)),
+        Brought::Long(_) => {
+            course.count_command();
+            course.tell(Way::Down, &Doing::Lost, command.as_slice(), out)?;
+            Ok(None)
+        }
+        Brought::Burst(began) => {
+            course.count_command();
+            let mut answer = Burst::new();
+            let brought = ask(course, server, command, began, &mut answer, out)?;
+            answer_with(course, automation, brought, &answer, began, out)
+        }
+    }
+}
+
+// Carries a command down, and takes what comes for it. What waits from the exchange before is dropped first.
+fn ask<R: Clock, S: Wire, W: io::Write>(
+    course: &mut Course<R>,
+    server: &mut S,
+    command: &Burst,
+    began: Instant,
+    answer: &mut Burst,
+    out: &mut W,
+) -> Result<Brought, Failure<'static>>
+    requires server { S.failures server.old ≡ 0 }
+    requires some { 0 < length command.now.items }
+    ensures no_more { course.new.left ≤ course.old.left }
+    ensures some { IfOk result (λ brought. HasSome brought answer.new.items) }
+    ensures server { OnOk result (S.failures server.new ≡ 0) }
+{
+    drop_waiting(server)?;
+    let doing = course.doing(Way::Down, command, began)?;
+    send_once(server, &doing, command.as_slice())?;
+    course.tell(Way::Down, &doing, command.as_slice(), out)?;
+    if let Doing::Lost | Doing::Late = doing {
+        return Ok(Brought::Nothing);
+    }
+    let first = course.receive(server, answer)?;
+    let (Doing::Copied, Brought::Nothing | Brought::Long(_) | Brought::Burst(_)) = (doing, first)
+    else {
+        return Ok(first);
+    };
+    if course.is_late(began)? {
+        return Ok(first);
+    }
+    send(server, command.as_slice())?;
+    course.receive(server, answer)
+}
+
+// Carries what came for a command up, and says whether nothing more is to be carried.
+fn answer_with<R: Clock, A: Wire, W: io::Write>(
+    course: &mut Course<R>,
+    automation: &mut A,
+    brought: Brought,
+    answer: &Burst,
+    began: Instant,
+    out: &mut W,
+) -> Result<Option<Ended>, Failure<'static>>
+    requires automation { A.failures automation.old ≡ 0 }
+    requires some { HasSome brought answer.now.items }
+    ensures no_more { course.new.left ≡ course.old.left }
+    ensures automation { OnOk result (A.failures automation.new ≡ 0) }
+{
+    let (doing, came) = match brought {
+        Brought::Over(ended) => return Ok(Some(ended)),
+        Brought::Long(_) => (Some(Doing::Lost), answer.as_slice()),
+        Brought::Burst(_) => (
+            Some(course.doing(Way::Up, answer, began)?),
+            answer.as_slice(),
+        ),
+        Brought::Nothing => (course.forged(began)?, [].as_slice()),
+    };
+    if !matches!(brought, Brought::Nothing) {
+        course.count_answer();
+    }
+    if let Some(doing) = doing {
+        send_once(automation, &doing, came)?;
+        if let Doing::Copied = doing {
+            send(automation, came)?;
+        }
+        course.tell(Way::Up, &doing, came, out)?;
+    }
+    Ok(None)
+}
+
+// Sends what goes on of a burst, once.
+fn send_once<W: Wire>(wire: &mut W, doing: &Doing, came: &[u8]) -> Result<(), Failure<'static>>
+    requires { W.failures wire.old ≡ 0 }
+    ensures { OnOk result (W.failures wire.new ≡ 0) }
+{
+    match doing {
+        Doing::Through | Doing::Copied => send(wire, came),
+        Doing::Lost | Doing::Late => Ok(()),
+        Doing::Cut(count) => send(wire, &came[..(*count).min(came.len())]),
+        Doing::Damaged(bytes) => send(wire, bytes.as_slice()),
+        Doing::Forged(Receipt::Ack) => send(wire, &[0x04]),
+        Doing::Forged(Receipt::Nak(byte)) => send(wire, &[0x05, *byte]),
+    }
+}
+
+// Sends bytes; where the wire fails, the line does.
+fn send<W: Wire>(wire: &mut W, bytes: &[u8]) -> Result<(), Failure<'static>>
+    requires { W.failures wire.old ≡ 0 }
+    ensures sent { OnOk result (W.told wire.new ≡ adds_sent bytes.now (W.told wire.old)) }
+    ensures works { OnOk result (W.failures wire.new ≡ 0) }
+{
+    match wire.send(bytes) {
+        Ok(()) => Ok(()),
+        Err(WireFault) => Err(Failure::LineFailed),
+    }
+}
+
+// Drops what waits; where the wire fails, the line does.
+fn drop_waiting<W: Wire>(wire: &mut W) -> Result<(), Failure<'static>>
+    requires { W.failures wire.old ≡ 0 }
+    ensures dropped { OnOk result (W.told wire.new ≡ adds_drop (W.told wire.old)) }
+    ensures works { OnOk result (W.failures wire.new ≡ 0) }
+{
+    match wire.drop_waiting() {
+        Ok(()) => Ok(()),
+        Err(WireFault) => Err(Failure::LineFailed),
+    }
+}

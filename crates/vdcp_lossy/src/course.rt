@@ -1,0 +1,203 @@
+ghost use Rattle.std.specs.Prelude.{◌≡◌, ◌<◌, ◌≤◌, OnOk, IfOk, length};
+ghost use Rattle.arrayvec.specs.ArrayVec.{array_vec_len};
+ghost use Rattle.vdcp_drive.specs.Wires.{FitsBuffer, adds_came, arrival_of};
+ghost use Rattle.vdcp_lossy.specs.Bursts.{HasSome};
+
+use crate::dice::Dice;
+use crate::doing::{Burst, Doing, Way};
+use crate::lossy::LossySettings;
+use crate::tally::Tally;
+use crate::text::ReadingText;
+use std::io;
+use std::rt::Clock;
+use std::time::Instant;
+use vdcp_drive::{Came, Wire, WireFault};
+use vdcp_text::Failure;
+
+/// Why nothing more is carried.
+#[derive(Clone, Copy, Debug, PartialEq, Eq)]
+pub enum Ended {
+    /// Either end has closed.
+    Closed,
+    /// All turns were made.
+    Spent,
+}
+
+/// What a wire brought.
+#[derive(Clone, Copy, PartialEq, Eq)]
+pub enum Brought {
+    /// A burst, whose first bytes came then.
+    Burst(Instant),
+    /// A burst that is too long to be held, likewise.
+    Long(Instant),
+    /// A silence.
+    Nothing,
+    /// Nothing more.
+    Over(Ended),
+}
+
+/// What a line is run with, how many turns are left, and what was done with what came so far.
+#[derive(Drop)]
+pub struct Course<'a, R: Clock> {
+    clock: &'a R,
+    settings: LossySettings,
+    left: u32,
+    tally: Tally,
+}
+
+impl<'a, R: Clock> Course<'a, R> {
+    /// Nothing came yet.
+    pub fn new(clock: &'a R, settings: LossySettings) -> Self
+        ensures { result.settings ≡ settings }
+    {
+        Course {
+            clock,
+            settings,
+            left: settings.turns,
+            tally: Tally::new(),
+        }
+    }
+
+    /// How many turns are left.
+    pub fn left(&self) -> u32
+        ensures { result ≡ self.now.left }
+    {
+        self.left
+    }
+
+    /// What came, and what was done with it.
+    pub fn tally(&self) -> &Tally
+        ensures { result.now ≡ self.now.tally }
+    {
+        &self.tally
+    }
+
+    /// Listens until a burst has ended, or nothing came at all for the time of a silence.
+    pub fn receive<W: Wire>(
+        &mut self,
+        wire: &mut W,
+        burst: &mut Burst,
+    ) -> Result<Brought, Failure<'static>>
+        requires { W.failures wire.old ≡ 0 }
+        ensures fewer { 0 < self.old.left → self.new.left < self.old.left }
+        ensures no_more { self.new.left ≤ self.old.left }
+        ensures some { IfOk result (λ brought. HasSome brought burst.new.items) }
+        ensures works { OnOk result (W.failures wire.new ≡ 0) }
+    {
+        burst.clear();
+        let mut began = None;
+        let mut is_long = false;
+        let mut buffer = [0; 512];
+        'listens: while self.left > 0 {
+            self.left -= 1;
+            match listen(wire, &mut buffer)? {
+                Came::Bytes(0) => {}
+                Came::Bytes(n) => {
+                    if began.is_none() {
+                        began = Some(now(self.clock)?);
+                    }
+                    is_long = is_long || burst.try_extend_from_slice(&buffer[..n]).is_err();
+                }
+                Came::Silence => {
+                    return Ok(match began {
+                        Some(began) if is_long => Brought::Long(began),
+                        Some(began) => Brought::Burst(began),
+                        None => Brought::Nothing,
+                    });
+                }
+                Came::Closed => return Ok(Brought::Over(Ended::Closed)),
+            }
+        }
+        Ok(Brought::Over(Ended::Spent))
+    }
+
+    /// Counts a command.
+    pub fn count_command(&mut self)
+        ensures { self.new.left ≡ self.old.left }
+    {
+        self.tally.commands = self.tally.commands.saturating_add(1);
+    }
+
+    /// Counts an answer.
+    pub fn count_answer(&mut self)
+        ensures { self.new.left ≡ self.old.left }
+    {
+        self.tally.answers = self.tally.answers.saturating_add(1);
+    }
+
+    /// Whether it is too late for what belongs to a command that came then.
+    pub fn is_late(&self, began: Instant) -> Result<bool, Failure<'static>> {
+        let elapsed = now(self.clock)?.duration_since(began);
+        Ok(elapsed.as_millis() >= u128::from(self.settings.within))
+    }
+
+    /// What is done with a burst that came on this way.
+    pub fn doing(&self, way: Way, burst: &Burst, began: Instant) -> Result<Doing, Failure<'static>>
+        requires { 0 < length burst.now.items }
+    {
+        if self.is_late(began)? {
+            return Ok(Doing::Late);
+        }
+        let mut dice = self.dice(way);
+        Ok(Doing::of_burst(&mut dice, &self.settings.chances, way, burst.as_slice()))
+    }
+
+    /// What comes where no answer does to a command that came then: a receipt, if one is forged.
+    pub fn forged(&self, began: Instant) -> Result<Option<Doing>, Failure<'static>> {
+        if self.is_late(began)? {
+            return Ok(None);
+        }
+        let mut dice = self.dice(Way::Up);
+        Ok(Doing::of_nothing(&mut dice, &self.settings.chances))
+    }
+
+    // The dice of the burst that goes this way in the exchange at hand.
+    fn dice(&self, way: Way) -> Dice {
+        let number = self.tally.commands.wrapping_mul(2);
+        match way {
+            Way::Down => Dice::new(self.settings.seed, number),
+            Way::Up => Dice::new(self.settings.seed, number.wrapping_add(1)),
+        }
+    }
+
+    /// Counts what was done with a burst, and tells it in a line.
+    pub fn tell<W: io::Write>(
+        &mut self,
+        way: Way,
+        doing: &Doing,
+        came: &[u8],
+        out: &mut W,
+    ) -> Result<(), Failure<'static>>
+        ensures { self.new.left ≡ self.old.left }
+    {
+        self.tally.count(doing);
+        let number = self.tally.commands;
+        let reading = ReadingText(came);
+        let written = writeln!(out, "{number} {way} {doing} {reading}");
+        if written.is_err() || out.flush().is_err() {
+            return Err(Failure::Writer);
+        }
+        Ok(())
+    }
+}
+
+// One listen of a wire; where it fails, the line does.
+fn listen<W: Wire>(wire: &mut W, buffer: &mut [u8; 512]) -> Result<Came, Failure<'static>>
+    requires { W.failures wire.old ≡ 0 }
+    ensures fits { IfOk result FitsBuffer }
+    ensures came { IfOk result (λ c. W.told wire.new ≡ adds_came (arrival_of c buffer.new) (W.told wire.old)) }
+    ensures works { OnOk result (W.failures wire.new ≡ 0) }
+{
+    match wire.listen(buffer) {
+        Ok(came) => Ok(came),
+        Err(WireFault) => Err(Failure::LineFailed),
+    }
+}
+
+// The time, by a clock that may fail.
+fn now<R: Clock>(clock: &R) -> Result<Instant, Failure<'static>> {
+    match Instant::now(clock) {
+        Ok(now) => Ok(now),
+        Err(_) => Err(Failure::LineFailed),
+    }
+}

@@ -1,0 +1,36 @@
+ghost use Rattle.std.specs.Prelude.{◌≡◌, ◌<◌, ◌≤◌, true, false};
+
+use rand_core::{Rng, SeedableRng};
+use rand_xoshiro::SplitMix64;
+
+/// The dice that are thrown for one burst.
+#[derive(Drop)]
+pub struct Dice {
+    words: SplitMix64,
+}
+
+impl Dice {
+    /// The dice of the burst with this number: the same seed and number, the same throws.
+    pub fn new(seed: u32, number: u32) -> Dice {
+        let state = (u64::from(seed) << 32) | u64::from(number);
+        Dice {
+            words: SplitMix64::seed_from_u64(state),
+        }
+    }
+
+    /// Whether a throw hits that does so many times of 100.
+    pub fn hits(&mut self, chance: u8) -> bool
+        ensures never { chance ≡ 0 → result ≡ false }
+        ensures always { 100 ≤ chance → result ≡ true }
+    {
+        self.words.next_u64() % 100 < u64::from(chance)
+    }
+
+    /// A number below this one.
+    pub fn below(&mut self, bound: usize) -> usize
+        requires { 0 < bound }
+        ensures { result < bound }
+    {
+        (self.words.next_u64() % bound as u64) as usize
+    }
+}

@@ -1,0 +1,179 @@
+ghost use Rattle.arrayvec.specs.ArrayVec.{array_vec_len};
+ghost use Rattle.std.specs.Prelude.{◌≡◌, ◌<◌, ◌≤◌, true, false, length, take};
+
+use crate::dice::Dice;
+use arrayvec::ArrayVec;
+use vdcp_frame::{Message, Step, read_at};
+use vdcp_world::can_become;
+
+/// So many bytes of a burst are held at most. A longer one is lost.
+pub const MOST: usize = 1024;
+
+/// A burst that is held.
+pub type Burst = ArrayVec<u8, 1024>;
+
+/// The way that a burst goes.
+#[derive(Clone, Copy, Debug, PartialEq, Eq)]
+pub enum Way {
+    /// From the automation to the server.
+    Down,
+    /// From the server to the automation.
+    Up,
+}
+
+/// How many of 100 bursts are lost, come twice, end early, or have bytes changed, and of how many answers, or
+/// where none comes, a receipt comes in their place.
+#[derive(Clone, Copy, Debug, PartialEq, Eq)]
+pub struct Chances {
+    pub lose: u8,
+    pub copy: u8,
+    pub cut: u8,
+    pub damage: u8,
+    pub forge: u8,
+}
+
+/// What is done with a burst.
+#[derive(Drop)]
+pub enum Doing {
+    /// It goes on as it came.
+    Through,
+    /// It is lost.
+    Lost,
+    /// It is lost since its exchange has taken too long.
+    Late,
+    /// It goes on twice.
+    Copied,
+    /// So many of its first bytes go on.
+    Cut(usize),
+    /// These bytes go on in its place.
+    Damaged(Burst),
+    /// This receipt goes on in its place.
+    Forged(Receipt),
+}
+
+/// What stands in an answer's place.
+#[derive(Clone, Copy, Debug, PartialEq, Eq)]
+pub enum Receipt {
+    Ack,
+    Nak(u8),
+}
+
+impl Receipt {
+    /// The receipt as a message.
+    pub fn message(self) -> Message<'static> {
+        match self {
+            Receipt::Ack => Message::Ack,
+            Receipt::Nak(byte) => Message::Nak(byte),
+        }
+    }
+}
+
+/// What a throw of the dice says.
+#[derive(Clone, Copy, Debug, PartialEq, Eq)]
+enum Fate {
+    Through,
+    Lost,
+    Copied,
+    Cut,
+    Damaged,
+    Forged,
+}
+
+// Throws each chance in its turn, and says which one hits first.
+fn throw(dice: &mut Dice, chances: &Chances, way: Way) -> Fate {
+    if dice.hits(chances.lose) {
+        return Fate::Lost;
+    }
+    if dice.hits(chances.copy) {
+        return Fate::Copied;
+    }
+    if dice.hits(chances.cut) {
+        return Fate::Cut;
+    }
+    if dice.hits(chances.damage) {
+        return Fate::Damaged;
+    }
+    if way == Way::Up && dice.hits(chances.forge) {
+        return Fate::Forged;
+    }
+    Fate::Through
+}
+
+impl Doing {
+    /// What is done with a burst that came on this way.
+    pub fn of_burst(dice: &mut Dice, chances: &Chances, way: Way, came: &[u8]) -> Doing
+        requires some { 0 < length came.now }
+        requires held { length came.now ≤ MOST }
+    {
+        match throw(dice, chances, way) {
+            Fate::Through => Doing::Through,
+            Fate::Lost => Doing::Lost,
+            Fate::Copied => copied(way, came),
+            Fate::Cut => cut(dice, came),
+            Fate::Damaged => damaged(dice, came),
+            Fate::Forged => Doing::Forged(throw_receipt(dice)),
+        }
+    }
+
+    /// What comes where no answer does: a receipt, if one is forged.
+    pub fn of_nothing(dice: &mut Dice, chances: &Chances) -> Option<Doing> {
+        match throw(dice, chances, Way::Up) {
+            Fate::Forged => Some(Doing::Forged(throw_receipt(dice))),
+            Fate::Through | Fate::Lost | Fate::Copied | Fate::Cut | Fate::Damaged => None,
+        }
+    }
+}
+
+// Two copies go up as one burst, of which the first message is heard: so they are made where there is one.
+fn copied(way: Way, came: &[u8]) -> Doing {
+    match way {
+        Way::Down => Doing::Copied,
+        Way::Up => match read_at(came, 0) {
+            Step::Message(_, _) => Doing::Copied,
+            Step::Clean | Step::Cut(_) | Step::Fault(_, _) => Doing::Through,
+        },
+    }
+}
+
+// Some of the first bytes go on, not all; of a burst of one byte none, so it is lost.
+fn cut(dice: &mut Dice, came: &[u8]) -> Doing
+    requires { 0 < length came.now }
+{
+    if came.len() == 1 {
+        return Doing::Lost;
+    }
+    let count = 1 + dice.below(came.len() - 1);
+    if can_become(came, &came[..count]) {
+        Doing::Cut(count)
+    } else {
+        Doing::Lost
+    }
+}
+
+// One to three bytes are changed. What couldn't be seen to be damaged is lost instead.
+fn damaged(dice: &mut Dice, came: &[u8]) -> Doing
+    requires some { 0 < length came.now }
+    requires held { length came.now ≤ MOST }
+{
+    let mut bytes = Burst::new();
+    bytes.try_extend_from_slice(came).unwrap();
+    let changes = 1 + dice.below(3);
+    for _ in 0..changes {
+        let place = dice.below(came.len());
+        bytes[place] = dice.below(256) as u8;
+    }
+    if bytes.as_slice() != came && can_become(came, bytes.as_slice()) {
+        Doing::Damaged(bytes)
+    } else {
+        Doing::Lost
+    }
+}
+
+// ACK or NAK with some byte.
+fn throw_receipt(dice: &mut Dice) -> Receipt {
+    if dice.below(2) == 0 {
+        Receipt::Ack
+    } else {
+        Receipt::Nak(dice.below(256) as u8)
+    }
+}

@@ -1,0 +1,18 @@
+//! The subcommand `lossy`: a line between an automation and a server, over TCP, that loses, copies, cuts, damages
+//! and forges bursts.
+//!
+//! `do_lossy` listens at an address, takes one automation there, connects to a server, and carries bursts between
+//! the two; what it does with each it throws with dice of a seed. It tells standard error of a failure in one
+//! line, and gives the exit status.
+#![tactic(auto)]
+
+mod carry;
+mod course;
+mod dice;
+mod doing;
+mod lossy;
+mod tally;
+mod text;
+
+pub use doing::Chances;
+pub use lossy::{LossySettings, do_lossy};

@@ -1,0 +1,92 @@
+ghost use Rattle.std.specs.Io.KnownBytes.{Appends, Keeps};
+ghost use Rattle.std.specs.Prelude.{◌≡◌, ◌⊎◌, ◌≤◌, IfErr, OnOk};
+ghost use Rattle.vdcp_net.specs.Address.{IsAddress};
+
+use crate::carry::carry;
+use crate::course::{Course, Ended};
+use crate::doing::Chances;
+use crate::tally::Tally;
+use std::io;
+use std::net::{Net, SocketAddr};
+use std::rt::Clock;
+use std::time::Duration;
+use vdcp_drive::StreamWire;
+use vdcp_net::{accept_one, address_of};
+use vdcp_text::Failure;
+
+/// What a line is run with.
+#[derive(Clone, Copy, Debug, PartialEq, Eq)]
+pub struct LossySettings {
+    /// Which throws of the dice are made.
+    pub seed: u32,
+    /// What is done with how many bursts.
+    pub chances: Chances,
+    /// A burst has ended when nothing has come for so many milliseconds, 1 to 60,000. It has to be longer than
+    /// the server's.
+    pub silence: u32,
+    /// Nothing goes on so many milliseconds after its command has come, or later, 1 to 60,000. It has to be
+    /// shorter than the automation's silence.
+    pub within: u32,
+    /// So many waits are made at most, each for bytes or for a silence.
+    pub turns: u32,
+}
+
+/// Carries bursts between the first automation that connects to `address` and the server at `server`, each an
+/// IPv4 address, a colon and a port number; for `address` 0 is one that the system chooses. `out` gets a line
+/// with the address that is listened at, one for each burst, which says what was done with it, one that says
+/// whether either end has `closed` or the turns are `spent`, and nine counts. Each line is flushed at once.
+///
+/// The status is 0 where it came to that end. It is 2 where an address is none, and 3 where the address can't
+/// be listened at, nobody takes the connection to the server, or the line failed; `err` is told of these. The
+/// status is 3 where `out` failed, to which nothing more is written.
+pub fn do_lossy<R: Net + Clock, W: io::Write, E: io::Write>(
+    rt: &R,
+    address: &str,
+    server: &str,
+    settings: LossySettings,
+    out: &mut W,
+    err: &mut E,
+) -> u8
+    ensures statuses { result ≤ 3 }
+{
+    match lossy(rt, address, server, settings, out) {
+        Ok(()) => 0,
+        Err(failure) => failure.report(err),
+    }
+}
+
+// Takes an automation, connects to the server, and carries bursts between the two.
+fn lossy<R: Net + Clock, W: io::Write>(
+    rt: &R,
+    address: &str,
+    server: &str,
+    settings: LossySettings,
+    out: &mut W,
+) -> Result<(), Failure<'static>> {
+    let address = address_of(address)?;
+    let server = address_of(server)?;
+    let near = accept_one(rt, address, out)?;
+    let Ok(far) = rt.connect(SocketAddr::V4(server)) else {
+        return Err(Failure::Connect);
+    };
+    let silence = Duration::from_millis(settings.silence as u64);
+    let Ok(mut automation) = StreamWire::new(near, silence) else {
+        return Err(Failure::LineFailed);
+    };
+    let Ok(mut server) = StreamWire::new(far, silence) else {
+        return Err(Failure::LineFailed);
+    };
+    let mut course = Course::new(rt, settings);
+    let ended = carry(&mut course, &mut automation, &mut server, out)?;
+    write_end(ended, course.tally(), out).map_err(|_| Failure::Writer)
+}
+
+// Tells how a line ended, and the counts.
+fn write_end<W: io::Write>(ended: Ended, tally: &Tally, out: &mut W) -> io::Result<()> {
+    match ended {
+        Ended::Closed => writeln!(out, "closed")?,
+        Ended::Spent => writeln!(out, "spent")?,
+    }
+    tally.write(out)?;
+    out.flush()
+}
