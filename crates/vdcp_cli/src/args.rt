@@ -16,7 +16,8 @@ const SERVE_EXAMPLE: &str = "Example: vdcp serve 127.0.0.1:7400 examples/catalog
 const RUN_EXAMPLE: &str =
     "Example: vdcp run 127.0.0.1:7400 examples/playlist.csv --asrun asrun.csv";
 
-const LOSSY_EXAMPLE: &str = "It keeps what the report of a run rests on. Each way it holds one burst. A copied command reaches
+const LOSSY_EXAMPLE: &str =
+    "It keeps what the report of a run rests on. Each way it holds one burst. A copied command reaches
 the server as two bursts, and only the answer to the last goes on; a copied answer goes out twice at
 once. Nothing of an exchange goes on once the time of --within has passed, and what the server sends
 later is dropped before the next command goes on. Of damaged bytes no more can be read than a beginning
@@ -129,7 +130,9 @@ fn run<'a>(alloc: Global) -> Result<Command<'a>, AllocError> {
 
 fn lossy<'a>(alloc: Global) -> Result<Command<'a>, AllocError> {
     Command::new(alloc, "lossy")
-        .about("A line between a run and a server, over TCP, that loses, copies, cuts and damages bursts")
+        .about(
+            "A line between a run and a server, over TCP, that loses, copies, cuts and damages bursts",
+        )
         .after_help(LOSSY_EXAMPLE)
         .arg(address(
             alloc,
