@@ -1,5 +1,6 @@
 -- An automation that has heard what came, after one more command and one more listen.
-use Rattle.std.proofs.Common.{ℕ, ◌≡◌, ◌+◌, List, [], ◌∷◌, ◌++◌, Bool, false, true, map, length, refl, sym, ap, ap₂, subst, ◌∙◌, append_assoc, append-nil, length-append, arith, rules}
+use Rattle.std.proofs.Common.{ℕ, ◌≡◌, ◌+◌, List, [], ◌∷◌, ◌++◌, Bool, false, true, map, length, refl, sym, ap, ap₂}
+use Rattle.std.proofs.Common.{subst, ◌∙◌, append_assoc, append-nil, length-append, arith, rules}
 use Rattle.std.specs.Prelude.{Option, Some, None, IsTrue, IsSome, ◌≢◌, ◌<◌, ◌≤◌, if◌then◌else◌}
 use Rattle.std.specs.Option.{option_to_list, option_map, option_map_or}
 use Rattle.std.proofs.lemmas.Grind.{flat_map-append, common_steps}
@@ -13,7 +14,8 @@ use Rattle.vdcp_words.specs.declared.command.Command.{Command}
 use Rattle.vdcp_auto.specs.Course.{course, course_from, after_input, after_inputs, after_inputs_from, ended_by_input, logged}
 use Rattle.vdcp_auto.specs.Heard.{heard_first, heard_in}
 use Rattle.vdcp_auto.specs.Plan.{Plan}
-use Rattle.vdcp_auto.specs.Turn.{start, is_awaiting, outcome_of, awaited, given, given_in, ticked, tick_in, awaited_in, came_to, ended_by, ended_in, exchange_of, is_end, turn_of, unanswered_after, turned}
+use Rattle.vdcp_auto.specs.Turn.{start, is_awaiting, outcome_of, awaited, given, given_in, ticked, tick_in, awaited_in}
+use Rattle.vdcp_auto.specs.Turn.{came_to, ended_by, ended_in, exchange_of, is_end, turn_of, unanswered_after, turned}
 use Rattle.vdcp_auto.specs.declared.exchange.Exchange.{Exchange}
 use Rattle.vdcp_auto.specs.declared.exchange.Heard.{Heard}
 use Rattle.vdcp_auto.specs.declared.exchange.Input.{Input}
@@ -24,7 +26,8 @@ use Rattle.vdcp_auto.specs.declared.phase.State.{State}
 use Rattle.vdcp_auto.specs.declared.phase.Turn.{Turn}
 use Rattle.vdcp_auto.specs.declared.phase.Turn.TheVariants.{Goes, Settles, Retries, Ends}
 use Rattle.vdcp_drive.specs.Bursts.{finished_bursts, open_burst, is_within_burst}
-use Rattle.vdcp_drive.specs.Driven.{input_of, inputs_of, state_between, state_after, commands_of, commands_by, bytes_of, starts_behind, starts_of, IsNew, HasRun, HasRunBroken, IsPartlyRun, in_drop, in_send, in_listen, states_listening, states_watched}
+use Rattle.vdcp_drive.specs.Driven.{input_of, inputs_of, state_between, state_after, commands_of, commands_by, bytes_of, starts_behind, starts_of}
+use Rattle.vdcp_drive.specs.Driven.{IsNew, HasRun, HasRunBroken, IsPartlyRun, in_drop, in_send, in_listen, states_listening, states_watched}
 use Rattle.vdcp_drive.specs.Hearing as sending
 use Rattle.vdcp_drive.specs.Hearing.{HasSent, HasSendBroken, HasHeard, HasReceived, Hears, heard_by_then, command_bytes}
 use Rattle.vdcp_drive.specs.Wires.{Arrival, bytes, silence, close, Told, IfTold, MayCome, adds_sent, adds_came, adds_drop, came_with, has_closed, nothing_told}
@@ -33,7 +36,8 @@ use Rattle.vdcp_drive.specs.Lines.{line_of, ran_unless_ended, RunsTo, AllListene
 use Rattle.vdcp_drive.specs.declared.line.Ran.TheVariants as ran
 use Rattle.vdcp_drive.specs.declared.line.Line.TheVariants as line
 use Rattle.vdcp_drive.proofs.Below.{Read, Fed}
-use Rattle.vdcp_drive.proofs.Cutting.{finished_bytes, finished_silence, finished_close, open_bytes, open_silence, within_bytes, within_silence, within_close, closed_bytes, closed_silence, closed_close, counts}
+use Rattle.vdcp_drive.proofs.Cutting.{finished_bytes, finished_silence, finished_close, open_bytes, open_silence, within_bytes}
+use Rattle.vdcp_drive.proofs.Cutting.{within_silence, within_close, closed_bytes, closed_silence, closed_close, counts}
 use Rattle.vdcp_drive.proofs.Listening.{heard_more}
 use Rattle.vdcp_drive.proofs.Standing.{listened_so, closed_so, at_most_all, at_most_so}
 

@@ -25,8 +25,8 @@ use vdcp_words::Command;
 /// `send` sends the next command, `listen` brings in what came for it, and `run` does both in turn.
 /// `take` and `stop` are the operator's. `controller` and `wire` only look.
 ///
-/// At a silence or a close the first message of the burst is heard; where the burst has none, nothing
-/// came in time.
+/// A burst is over once a silence or the close comes. The controller then hears its first message, or, if
+/// there is none in it, that no answer came in time.
 #[derive(Drop)]
 pub struct AutoDriver<S: Source, W: Wire> {
     controller: Controller<S>,
@@ -100,8 +100,9 @@ impl<S: Source, W: Wire> AutoDriver<S, W> {
         self.controller.stop();
     }
 
-    /// Sends the next command, after dropping what waits. False, and nothing is done, where an answer
-    /// is awaited or the controller has ended. `Device` where the wire failed, now or before.
+    /// Drops what waits on the wire and sends the next command. It answers whether there was one to send:
+    /// while an answer is awaited, and once the controller has ended, there is none, and nothing changes.
+    /// `Device` if the wire fails or has failed before.
     pub fn send(&mut self) -> Result<bool, DriveFault>
         ensures sends { IfOk result (λ is_sent. HasSent self.old.unit (turns.given (plan_of S.items self.old.controller) self.old.controller.state)
             is_sent (W.told self.old.wire) (W.told self.new.wire)) }
@@ -128,8 +129,9 @@ impl<S: Source, W: Wire> AutoDriver<S, W> {
         }
     }
 
-    /// So many listens, or up to the close or the controller's end. It sends the next command only
-    /// while a listen is left. `Device` where the wire failed, now or before.
+    /// Sends commands and listens for their answers until the controller has ended, the other end has
+    /// closed or this many listens were made. It sends a command only if a listen for its answer is left.
+    /// `Device` if the wire fails or has failed before.
     pub fn run(&mut self, listens: u64) -> Result<Ran, DriveFault>
         // Of a new automation: a new controller, and a fresh wire that tells its bytes.
         ensures run { IsNew self.old.controller.state self.old.reader self.old.heard (W.told self.old.wire) →
@@ -214,8 +216,8 @@ impl<S: Source, W: Wire> AutoDriver<S, W> {
         }
     }
 
-    /// One `listen` while an answer is awaited, and what comes of it. `Device` where the wire failed,
-    /// now or before.
+    /// Listens once on the wire, for the answer that is awaited, and takes in what came. `Device` if the
+    /// wire fails or has failed before.
     pub fn listen(&mut self) -> Result<Line, DriveFault>
         requires { IsSome (turns.awaited (plan_of S.items self.old.controller) self.old.controller.state) }
         ensures hears { IfOk result (λ line. (a : Arrival) × (line ≡ line_of a) × MayCome a (W.told self.old.wire)
@@ -295,7 +297,7 @@ fn send_command<W: Wire>(command: &Command, unit: u8, wire: &mut W) -> Result<()
     wire.send(bytes.as_slice())
 }
 
-// One `listen`, and what comes of it.
+// Listens once, and takes in what came.
 fn hear<S: Source, W: Wire>(
     controller: &mut Controller<S>,
     unit: u8,

@@ -84,7 +84,8 @@ impl<C: Catalogue, W: Wire> Server<C, W> {
         self.aired
     }
 
-    /// So many turns, or up to the close. `Device` where the wire failed, now or before.
+    /// Takes this many turns, or fewer if the other end closes. `Device` if the wire fails or has failed
+    /// before.
     pub fn serve(&mut self, turns: u64) -> Result<Ran, DriveFault>
         // Of a new server, whose fresh wire tells its bytes: what is sent, and the port that this leaves.
         ensures sent { self.old.reader ≡ reading 0 [] → W.told self.old.wire ≡ Some nothing_told →
@@ -164,7 +165,7 @@ impl<C: Catalogue, W: Wire> Server<C, W> {
         Ok(Ran::Spent)
     }
 
-    /// One `listen`, and what comes of it. `Device` where the wire failed, now or before.
+    /// Listens once on the wire, and answers what came. `Device` if the wire fails or has failed before.
     pub fn turn(&mut self) -> Result<Line, DriveFault>
         // Of any server.
         ensures serves { IfOk result (λ line. (a : Arrival) × (line ≡ line_of a) × MayCome a (W.told self.old.wire)
@@ -226,7 +227,7 @@ fn lend<V: WatchAir>(aired: &Option<Item>, watcher: &mut V)
     }
 }
 
-// One `listen`, and what comes of it.
+// Listens once, and answers what came.
 fn hear<C: Catalogue, W: Wire>(
     reader: &mut Reader,
     port: &mut Port<C>,

@@ -11,7 +11,8 @@ use Rattle.vdcp_drive.specs.Driven.{in_drop, in_send, in_listen, inputs_of}
 use Rattle.vdcp_drive.proofs.laws.a_run_is_lawful.Goals as goal
 
 -- also where its next command was given since
-given_since : (plan : Plan) (state : State) (log : List Exchange) (within : Bool) → Reached plan state log → Reached plan (if within then ticked state else state) log
+given_since : (plan : Plan) (state : State) (log : List Exchange) (within : Bool) → Reached plan state log
+    → Reached plan (if within then ticked state else state) log
 given_since plan state log true h = called h Tick
 given_since plan state log false h = h
 

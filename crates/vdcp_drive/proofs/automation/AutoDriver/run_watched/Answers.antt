@@ -24,8 +24,8 @@ returns-in_err-send-clause-broken g c is works =
     let plan : Plan = plan_of g.S.Source.items s.controller in
     let planned : plan_of g.S.Source.items l.controller ≡ plan = ap (plan_of g.S.Source.items) c.listens.invariant.controller in
     let h = c.listens.invariant.runs is in
-    let b = unsent_so plan (plan_of g.S.Source.items l.controller) s.unit l.unit h.0 l.controller.state l.reader l.heard (told l.wire) n.controller.state (told n.wire)
-    planned c.listens.invariant.unit h.1 h.2.0 (c.in_err-send.ensures.breaks c.listens.invariant.works) in
+    let b = unsent_so plan (plan_of g.S.Source.items l.controller) s.unit l.unit h.0 l.controller.state l.reader l.heard (told l.wire) n.controller.state
+    (told n.wire) planned c.listens.invariant.unit h.1 h.2.0 (c.in_err-send.ensures.breaks c.listens.invariant.works) in
     on_err_of c.from_residual.result (with_front plan s.unit n.controller.state (told n.wire) (b.0, b.1, b.2.0))
 
 pub returns-in_err-send-clause-watched_broken : goal.returns-in_err-send-clause-watched_broken
@@ -37,8 +37,8 @@ returns-in_err-send-clause-watched_broken g c is works states was =
     let plan : Plan = plan_of g.S.Source.items s.controller in
     let planned : plan_of g.S.Source.items l.controller ≡ plan = ap (plan_of g.S.Source.items) c.listens.invariant.controller in
     let h = c.listens.invariant.runs is in
-    let b = unsent_so plan (plan_of g.S.Source.items l.controller) s.unit l.unit h.0 l.controller.state l.reader l.heard (told l.wire) n.controller.state (told n.wire)
-    planned c.listens.invariant.unit h.1 h.2.0 (c.in_err-send.ensures.breaks c.listens.invariant.works) in
+    let b = unsent_so plan (plan_of g.S.Source.items l.controller) s.unit l.unit h.0 l.controller.state l.reader l.heard (told l.wire) n.controller.state
+    (told n.wire) planned c.listens.invariant.unit h.1 h.2.0 (c.in_err-send.ensures.breaks c.listens.invariant.works) in
     on_err_of c.from_residual.result (b.0, b.1, (b.2.0, h.2.2 states was ∙ ap (λ (l : List State). Some (states ++ l)) (sym b.2.1)))
 
 pub returns-in_err-listen-clause-broken : goal.returns-in_err-listen-clause-broken
@@ -151,7 +151,8 @@ returns-in-Closed-clause-answer g c t is =
     let h = c.listens.invariant.listened t is in
     let e = c.in_ok-listen.ensures.hears in
     let o = closed_on c.listens.made c.args.listens t h.0 l.unit (given (plan_of g.S.Source.items l.controller) l.controller.state) c.in_ok-send.field-0 e.0
-    (told l.wire) (told c.send.new.self.wire) (told c.listen.new.self.wire) h.1 h.2 (omega arith) c.in_ok-send.ensures.sends (sym e.1 ∙ c.in-Closed.is) e.2 e.4 in
+    (told l.wire) (told c.send.new.self.wire) (told c.listen.new.self.wire) h.1 h.2 (omega arith) c.in_ok-send.ensures.sends (sym e.1 ∙ c.in-Closed.is)
+    e.2 e.4 in
     (o.0, o.1, rw c.unless_ended.ensures (closes_to _ c.args.listens t.came o.0.came o.2.0 o.2.1))
 
 pub listens-preserved : goal.listens-preserved
@@ -166,7 +167,8 @@ listens-preserved g c = record {
       let plan : Plan = plan_of g.S.Source.items c.args.self.now.controller in
       let planned : plan_of g.S.Source.items c.listens.self.controller ≡ plan = ap (plan_of g.S.Source.items) c.listens.invariant.controller in
       let replanned : plan_of g.S.Source.items c.send.new.self.controller ≡ plan = ap (plan_of g.S.Source.items) c.in_ok-send.ensures.controller ∙ planned in
-      goes_further plan _ _ _ _ replanned (goes_further plan _ _ _ _ planned c.listens.invariant.reached c.in_ok-send.ensures.reached) c.in_ok-listen.ensures.reached;
+      goes_further plan _ _ _ _ replanned (goes_further plan _ _ _ _ planned c.listens.invariant.reached c.in_ok-send.ensures.reached)
+      c.in_ok-listen.ensures.reached;
   listened = λ t is.
       let told = g.W.Wire.told in
       let l = c.listens.self in
