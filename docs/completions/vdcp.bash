@@ -25,7 +25,7 @@ _vdcp() {
         fi
         case $rest$word in
         --) rest=1 ;;
-        --unit | --rate | --port | --limit | --cue-frames | --silence | --turns | --listens | --asrun) wish=$word ;;
+        --unit | --rate | --port | --limit | --cue-frames | --silence | --turns | --listens | --asrun | --seed | --lose | --copy | --cut | --damage | --forge | --within) wish=$word ;;
         -*) ;;
         *) if [[ -z $subcommand ]]; then subcommand=$word; else ((++place)); fi ;;
         esac
@@ -39,7 +39,7 @@ _vdcp() {
         [[ -n $subcommand ]] || wish=0
     fi
     case $subcommand:$wish in
-    :0 | help:1) offers="show make check sim serve run vectors help" ;;
+    :0 | help:1) offers="show make check sim serve run lossy vectors help" ;;
     :-) offers="-h --help -V --version" ;;
     show:-) offers="--words -h --help" ;;
     make:-) offers="--unit -h --help" ;;
@@ -47,6 +47,7 @@ _vdcp() {
     sim:-) offers="--unit --port --limit --rate --trace --cue-frames --confirm -h --help" ;;
     serve:-) offers="--unit --port --rate --cue-frames --silence --turns --log -h --help" ;;
     run:-) offers="--unit --port --limit --rate --confirm --silence --listens --asrun --log -h --help" ;;
+    lossy:-) offers="--seed --lose --copy --cut --damage --forge --silence --within --turns -h --help" ;;
     vectors:-) offers="-h --help" ;;
     make:1) offers="open close select cue cue-data play stop status active exists size" ;;
     check:1 | check:2 | sim:1 | sim:2 | sim:3 | serve:2 | run:2 | run:--asrun | vectors:1) offers="files" ;;
