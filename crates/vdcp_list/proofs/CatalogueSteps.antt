@@ -29,7 +29,7 @@ pub record GivenSoFar (rate : Rate) (file : Option (List ℕ)) (left : Option (L
   pub size : n ≡ length front
   pub given : Gives rate front clips
 
-no_clips : (rate : Rate) → Gives rate [] []
+pub no_clips : (rate : Rate) → Gives rate [] []
 unfolding IsDistinct
 no_clips rate = record { rows_are = refl; can_last = λ k d below. absurd (omega (arith, below)); once = tt }
 
@@ -43,7 +43,7 @@ not_among (clip ∷ clips) id e =
     let h = none_of clip clips id e in
     rw h.first (not_among clips id h.rest)
 
-gives_push : (rate : Rate) (front : List FileRow) (clips : List (ClipId × Timecode)) (row : FileRow) (clip : ClipId × Timecode) → Gives rate front clips
+pub gives_push : (rate : Rate) (front : List FileRow) (clips : List (ClipId × Timecode)) (row : FileRow) (clip : ClipId × Timecode) → Gives rate front clips
     → clip_row clip ≡ row → CanLast rate clip.1 → length_of clips clip.0 ≡ None → Gives rate (front ++ row ∷ []) (clips ++ clip ∷ [])
 gives_push rate front clips row clip h e can new = record {
   rows_are =
@@ -76,7 +76,7 @@ given_all rate file left left' n clips row h t few = (
 )
 
 -- a row that is refused
-next_row : (rate : Rate) (front rows : List FileRow) (k : ℕ) (clips : List (ClipId × Timecode)) (row : FileRow) → Begins (front ++ row ∷ []) rows
+pub next_row : (rate : Rate) (front rows : List FileRow) (k : ℕ) (clips : List (ClipId × Timecode)) (row : FileRow) → Begins (front ++ row ∷ []) rows
     → k ≡ length front + 1 → k ≤ most_rows → Gives rate front clips → IsNextRow rate rows k row
 next_row rate front rows k clips row b e few given =
     let s = next_of front rows row b in
@@ -88,7 +88,7 @@ next_row rate front rows k clips row b e few given =
       next = ap (slice_get rows) back ∙ s.here;
     }
 
-of_row : (rate : Rate) (rows : List FileRow) (k : ℕ) (row : FileRow) (fault : ListFault) → IsNextRow rate rows k row
+pub of_row : (rate : Rate) (rows : List FileRow) (k : ℕ) (row : FileRow) (fault : ListFault) → IsNextRow rate rows k row
     → IsClipFault rate row k fault → IsCatalogueFault rate rows fault
 of_row rate rows k row (Columns j) f h = subst (λ m. RefusesRow rate rows m (Columns m)) (sym h.0) (row, f, (refl, h.1))
 of_row rate rows k row (Id j) f h = subst (λ m. RefusesRow rate rows m (Id m)) (sym h.0) (row, f, (refl, h.1, h.2))
@@ -116,6 +116,21 @@ stands same (clip ∷ clips) id e = stands_if (is_same_id id clip.0) refl e (sta
     stands_if true is h later = (0, omega arith, ap (λ i. Some (text_of_id i)) (sym ((same id clip.0).0 is)))
     stands_if false is h later = let (k, below, at) = later h in (suc k, omega (arith, below), at)
 
+pub twice : ((a b : ClipId) → IsTrue (is_same_id a b) ↔ (a ≡ b)) → (rate : Rate) (front rows : List FileRow)
+    → (clips : List (ClipId × Timecode)) (row : FileRow) (clip : ClipId × Timecode)
+    → Begins (front ++ row ∷ []) rows → length front < most_rows → Gives rate front clips
+    → clip_row clip ≡ row → CanLast rate clip.1 → IsSome (length_of clips clip.0)
+    → IsCatalogueFault rate rows (Twice (length front + 1))
+twice same rate front rows clips row clip b few given e can there =
+    let back : length front + 1 - 1 ≡ length front = omega arith in
+    let before : take (length front + 1 - 1) rows ≡ front = ap (λ m. take m rows) back ∙ (next_of front rows row b).before in (
+      clip,
+      subst (λ r. IsNextRow rate rows (length front + 1) r) (sym e)
+          (next_row rate front rows (length front + 1) clips row b refl (omega (arith, few)) given),
+      can,
+      subst (λ fs. StandsIn fs clip.0) (sym (before ∙ given.rows_are)) (stands same clips clip.0 there),
+    )
+
 pub given_twice : ((a b : ClipId) → IsTrue (is_same_id a b) ↔ (a ≡ b)) → (rate : Rate) (file : Option (List ℕ)) (left left' : Option (List FileRow)) (n : ℕ)
     → (clips : List (ClipId × Timecode)) (row : FileRow) (clip : ClipId × Timecode)
     → GivenSoFar rate file left n clips → TakesRow left left' true row → n < most_rows
@@ -123,37 +138,26 @@ pub given_twice : ((a b : ClipId) → IsTrue (is_same_id a b) ↔ (a ≡ b)) →
     → IsCatalogueFaultOf rate file (Twice (n + 1))
 given_twice same rate file left left' n clips row clip h t few e can there =
     let (rows, are, b) = front_begins file left' (h.front ++ row ∷ []) (front_next (option_map rows_of file) left left' h.front row h.is_front t) in
-    let before : take (n + 1 - 1) rows ≡ h.front =
-    let back : n + 1 - 1 ≡ length h.front = omega (arith, h.size) in ap (λ m. take m rows) back ∙ (next_of h.front rows row b).before
-    in (
-      rows,
-      are,
-      (
-        clip,
-        subst (λ r. IsNextRow rate rows (n + 1) r) (sym e)
-            (next_row rate h.front rows (n + 1) clips row b (omega (arith, h.size)) (omega (arith, few)) h.given),
-        can,
-        subst (λ front. StandsIn front clip.0) (sym (before ∙ h.given.rows_are)) (stands same clips clip.0 there),
-      ),
-    )
+    let below = subst (λ m. m < most_rows) h.size few in
+    (rows, are, subst (λ m. IsCatalogueFault rate rows (Twice (m + 1))) (sym h.size) (twice same rate h.front rows clips row clip b below h.given e can there))
 
 -- a row too many
+pub too_many : (rate : Rate) (front rows : List FileRow) (clips : List (ClipId × Timecode)) (row : FileRow) → Begins (front ++ row ∷ []) rows
+    → length front ≡ most_rows → Gives rate front clips → IsCatalogueFault rate rows (TooMany (most_rows + 1))
+too_many rate front rows clips row b full given =
+    let s = next_of front rows row b in (
+      refl,
+      subst (λ m. m < length rows) full s.below,
+      clips,
+      subst (λ fs. Gives rate fs clips) (sym (ap (λ m. take m rows) (sym full) ∙ s.before)) given,
+    )
+
 pub given_too_many : (rate : Rate) (file : Option (List ℕ)) (left left' : Option (List FileRow)) (n : ℕ) (clips : List (ClipId × Timecode)) (row : FileRow)
     → GivenSoFar rate file left n clips → TakesRow left left' true row → n ≡ most_rows
     → IsCatalogueFaultOf rate file (TooMany (most_rows + 1))
 given_too_many rate file left left' n clips row h t full =
     let (rows, are, b) = front_begins file left' (h.front ++ row ∷ []) (front_next (option_map rows_of file) left left' h.front row h.is_front t) in
-    let s = next_of h.front rows row b in
-    let most : length h.front ≡ most_rows = sym h.size ∙ full in (
-      rows,
-      are,
-      (
-        refl,
-        subst (λ m. m < length rows) most s.below,
-        clips,
-        subst (λ fs. Gives rate fs clips) (sym (ap (λ m. take m rows) (sym most) ∙ s.before)) h.given,
-      ),
-    )
+    (rows, are, too_many rate h.front rows clips row b (sym h.size ∙ full) h.given)
 
 -- a fault of the reader or of memory
 read_fault : (rate : Rate) (rows : List FileRow) (fault : ListFault) → IsReadFault fault → IsCatalogueFault rate rows fault

@@ -116,7 +116,8 @@ place_of-push_same (first ∷ clips) clip id e same =
 abbrev here_or_later : Bool → Option ℕ → Option ℕ
 here_or_later b place = if b then Some 0 else option_map suc place
 
-pub place_of-push_other : ((a b : ClipId) → key_of a ≡ key_of b → a ≡ b) → (clips : List (ClipId × Timecode)) (clip : ClipId × Timecode) (id : ClipId) → id ≢ clip.0
+pub place_of-push_other : ((a b : ClipId) → key_of a ≡ key_of b → a ≡ b) → (clips : List (ClipId × Timecode)) (clip : ClipId × Timecode) (id : ClipId)
+    → id ≢ clip.0
     → place_of (clips ++ clip ∷ []) id ≡ place_of clips id
 place_of-push_other one [] clip id other = push_other_here (is_same_id id clip.0) refl
   where
@@ -152,7 +153,8 @@ equal_at : (a b : ℕ) → a ≡ b → is_at (nat_cmp a) b ≡ true
 equal_at a b e = grind arith
 
 -- the places after one more clip, in the entries that a map has once they are written
-pub places_push : ((a b : ClipId) → key_of a ≡ key_of b → a ≡ b) → (clips : List (ClipId × Timecode)) (clip : ClipId × Timecode) (m : BTreeMap ℕ ℕ) (written entries : List (ℕ × ℕ)) (key place : ℕ)
+pub places_push : ((a b : ClipId) → key_of a ≡ key_of b → a ≡ b)
+    → (clips : List (ClipId × Timecode)) (clip : ClipId × Timecode) (m : BTreeMap ℕ ℕ) (written entries : List (ℕ × ℕ)) (key place : ℕ)
     → ((id : ClipId) → get nat_cmp m (key_of id) ≡ place_of clips id) → key ≡ key_of clip.0 → place ≡ length clips → place_of clips clip.0 ≡ None
     → ((other : ℕ) → lookup (is_at (nat_cmp other)) written ≡ cond (is_at (nat_cmp key) other) (Some place) (get nat_cmp m other))
     → entries ≡ written

@@ -1,9 +1,11 @@
 -- An as-run list, event by event.
 use Rattle.csv.specs.Writing.{default_writer, row_text}
-use Rattle.std.proofs.Common.{◌≡◌, ℕ, ◌+◌, ◌<◌, Bool, true, false, List, [], ◌∷◌, ◌++◌, length, take, refl, sym, ap, ap₂, subst, ◌∙◌, arith, zero, suc, add-one, add-zero, zero-add, append_assoc, append-nil, true≢false, IfErr, Ok, Err, Result}
+use Rattle.std.specs.Io.KnownBytes.{Appends}
+use Rattle.std.proofs.Common.{◌≡◌, ℕ, ◌+◌, ◌<◌, Bool, true, false, List, [], ◌∷◌, ◌++◌, length, take, refl, sym, ap, ap₂, subst, ◌∙◌, arith, zero}
+use Rattle.std.proofs.Common.{suc, add-one, add-zero, zero-add, append_assoc, append-nil, true≢false, IfErr, Ok, Err, Result}
 use Rattle.std.proofs.Math.Bool.{and-eq-true_iff}
 use Rattle.std.proofs.lemmas.List.Folds.{list_all-append, list_any-append}
-use Rattle.std.specs.Prelude.{Option, Some, OnOk, decimal, is_err, is_some, slice_get, ◌||◌, ◌≢◌, ◌↔◌}
+use Rattle.std.specs.Prelude.{Option, None, Some, OnOk, decimal, is_err, is_some, slice_get, ◌||◌, ◌≢◌, ◌↔◌}
 use Rattle.vdcp_list.specs.Asrun.{IsUnlawful, are_lawful, events_text, has_part, is_lawful_event}
 use Rattle.vdcp_list.specs.Playlists.{item_row, part_fields}
 use Rattle.vdcp_list.specs.declared.faults.WriteFault.TheVariants.{Device, Memory, Time}
@@ -85,13 +87,15 @@ events_text-push rate with_parts k (first ∷ items) item =
     let size : suc k + length items ≡ k + suc (length items) = omega arith in
     ap (λ text. row ++ text) (events_text-push rate with_parts (suc k) items item
     ∙ ap (λ n. events_text rate with_parts (suc k) items ++ row_text default_writer (decimal n ∷ item_row rate with_parts item)) size)
-    ∙ sym (append_assoc row (events_text rate with_parts (suc k) items) (row_text default_writer (decimal (k + suc (length items)) ∷ item_row rate with_parts item)))
+    ∙ sym (append_assoc row (events_text rate with_parts (suc k) items)
+    (row_text default_writer (decimal (k + suc (length items)) ∷ item_row rate with_parts item)))
 
 -- the fields of an event's row
 pub whole_fields : (rate : Rate) (item : Item) (number id : List ℕ) → id ≡ text_of_id item.id → number ∷ item_row rate false item ≡ number ∷ id ∷ []
 whole_fields rate item number id e = ap (λ i. number ∷ i ∷ []) (sym e)
 
-pub part_fields_of : (rate : Rate) (item : Item) (number id start duration : List ℕ) → id ≡ text_of_id item.id → part_fields rate item.part ≡ start ∷ duration ∷ []
+pub part_fields_of : (rate : Rate) (item : Item) (number id start duration : List ℕ) → id ≡ text_of_id item.id
+    → part_fields rate item.part ≡ start ∷ duration ∷ []
     → number ∷ item_row rate true item ≡ number ∷ id ∷ start ∷ duration ∷ []
 part_fields_of rate item number id start duration e h = ap₂ (λ i fields. number ∷ i ∷ fields) (sym e) h
 
@@ -122,7 +126,8 @@ memory_no_time : (fault : WriteFault) → fault ≡ Memory → (k : ℕ) → fau
 memory_no_time fault e k t = cc
 
 pub untold_memory : (rate : Rate) (items : List Item) (reported : ℕ) (fault : WriteFault) → fault ≡ Memory
-    → are_lawful rate (take reported items) ≡ true → (k : ℕ) → (◌≡◌ {A = Result (Unit {0}) WriteFault} (Err fault) (Err (Time k))) ↔ IsUnlawful rate items reported k
+    → are_lawful rate (take reported items) ≡ true → (k : ℕ)
+    → (◌≡◌ {A = Result (Unit {0}) WriteFault} (Err fault) (Err (Time k))) ↔ IsUnlawful rate items reported k
 untold_memory rate items reported fault e lawful = untold rate items reported (Err fault) (memory_no_time fault e) lawful
 
 pub untold_device : (rate : Rate) (items : List Item) (reported : ℕ) (result : Result (Unit {0}) WriteFault) → IfErr result (λ fault. fault ≡ Device)
@@ -143,11 +148,13 @@ one_text : (a b : List ℕ) → ◌≡◌ {A = Option (List ℕ)} (Some a) (Some
 one_text a b e = cc
 
 -- the text after one more row
-pub events_step : (rate : Rate) (with_parts : Bool) (items : List Item) (k : ℕ) (item : Item) (number old new : List ℕ) → slice_get items k ≡ Some item
-    → number ≡ decimal k → ◌≡◌ {A = Option (List ℕ)} (Some old) (Some (events_text rate with_parts 0 (take k items)))
-    → new ≡ old ++ row_text default_writer (number ∷ item_row rate with_parts item)
-    → ◌≡◌ {A = Option (List ℕ)} (Some new) (Some (events_text rate with_parts 0 (take (k + 1) items)))
-events_step rate with_parts items k item number old new at is were grown =
+pub events_step : (rate : Rate) (with_parts : Bool) (items : List Item) (k : ℕ) (item : Item) (number : List ℕ) (old new : Option (List ℕ))
+    → slice_get items k ≡ Some item → number ≡ decimal k → old ≡ Some (events_text rate with_parts 0 (take k items))
+    → Appends old new (row_text default_writer (number ∷ item_row rate with_parts item))
+    → new ≡ Some (events_text rate with_parts 0 (take (k + 1) items))
+events_step rate with_parts items k item number None new at is were grown = cc were
+events_step rate with_parts items k item number (Some old) None at is were grown = absurd grown
+events_step rate with_parts items k item number (Some old) (Some new) at is were grown =
     let count : 0 + length (take k items) ≡ k = zero-add (length (take k items)) ∙ taken items k item at in
     ap Some (grown
     ∙ ap₂ (λ text n. text ++ row_text default_writer (n ∷ item_row rate with_parts item)) (one_text old (events_text rate with_parts 0 (take k items)) were)

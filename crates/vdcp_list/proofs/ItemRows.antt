@@ -44,10 +44,11 @@ time_of v rate bytes four e =
     }
 
 -- the bytes of a time code write its text
-pub own_text : ((timecode : Timecode) → label_of_bcd (bcd_of timecode) ≡ label_of timecode) → (rate : Rate) (time : Timecode) → rate_of time ≡ rate → time_text rate (bcd_of time) ≡ text_of time
+pub own_text : ((timecode : Timecode) → label_of_bcd (bcd_of timecode) ≡ label_of timecode) → (rate : Rate) (time : Timecode) → rate_of time ≡ rate
+    → time_text rate (bcd_of time) ≡ text_of time
 own_text label rate time e = ap (label_text rate) (label time) ∙ ap (λ r. label_text r (label_of time)) (sym e)
 
-own_is_lawful : TimeLaws → (rate : Rate) (time : Timecode) → rate_of time ≡ rate → is_time rate (bcd_of time) ≡ true
+pub own_is_lawful : TimeLaws → (rate : Rate) (time : Timecode) → rate_of time ≡ rate → is_time rate (bcd_of time) ≡ true
 own_is_lawful v rate time e = rw (← e) (v.lawful time)
 
 own_frames : TimeLaws → (rate : Rate) (time : Timecode) → rate_of time ≡ rate → frames_in rate (bcd_of time) ≡ frames_of time

@@ -6,9 +6,12 @@ mod Listings
 mod Steps
 mod ItemRows
 mod PlaylistSteps
+mod FieldTexts
+mod SomeReading
 mod ClipPlaces
 mod SlotClips
 mod CatalogueSteps
+mod SomeCatalogue
 mod Events
 mod Written
 mod Writable

@@ -1,5 +1,6 @@
 -- Items are read from their own texts, ends and parts, also after one more.
-use Rattle.std.proofs.Common.{◌≡◌, ℕ, ◌+◌, ◌-◌, ◌<◌, ◌≤◌, true, List, [], ◌∷◌, ◌++◌, length, take, refl, sym, ap, ap₂, subst, ◌∙◌, arith, zero, suc, append_assoc, append-nil, length-append, get_or, zero-add}
+use Rattle.std.proofs.Common.{◌≡◌, ℕ, ◌+◌, ◌-◌, ◌<◌, ◌≤◌, true, List, [], ◌∷◌, ◌++◌, length, take, refl, sym, ap, ap₂, subst, ◌∙◌, arith, zero, suc}
+use Rattle.std.proofs.Common.{append_assoc, append-nil, length-append, get_or, zero-add}
 use Rattle.std.proofs.Math.Bool.{and-eq-true_iff}
 use Rattle.std.proofs.Math.Seq.{drop-append_seam, take-append_seam}
 use Rattle.std.proofs.lemmas.Str.{IsAscii-append}
@@ -28,9 +29,11 @@ items_from-all t before (item ∷ items) =
     let text = text_of_id item.id in
     let id : id_of_text (slice_range (before ++ (text ++ ids_text items)) (length before) (length before + length text)) ≡ item.id =
     ap id_of_text (slice_range-middle before text (ids_text items)) ∙ t.says item.id (text_of_id item.id) (t.some item.id) in
-    let rest : items_from (length before + length text) (before ++ (text ++ ids_text items)) (ends_from (length before + length text) items) (parts_of items) ≡ items =
+    let rest : items_from (length before + length text) (before ++ (text ++ ids_text items)) (ends_from (length before + length text) items)
+    (parts_of items) ≡ items =
     subst (λ n. items_from n (before ++ (text ++ ids_text items)) (ends_from n items) (parts_of items) ≡ items) (length-append before text)
-    (subst (λ all. items_from (length (before ++ text)) all (ends_from (length (before ++ text)) items) (parts_of items) ≡ items) (append_assoc before text (ids_text items))
+    (subst (λ all. items_from (length (before ++ text)) all (ends_from (length (before ++ text)) items) (parts_of items) ≡ items)
+    (append_assoc before text (ids_text items))
     (items_from-all t (before ++ text) items)) in
     ap₂ (λ i is. record { id = i; part = item.part } ∷ is) id rest
 
@@ -71,7 +74,8 @@ pub record Holds (text ends : List ℕ) (parts : List (Option Part)) (items : Li
   pub ends_are : ends ≡ ends_from 0 items
   pub parts_are : parts ≡ parts_of items
 
-pub holds_read : TextLaws → (text ends : List ℕ) (parts : List (Option Part)) (items : List Item) → Holds text ends parts items → items_from 0 text ends parts ≡ items
+pub holds_read : TextLaws → (text ends : List ℕ) (parts : List (Option Part)) (items : List Item) → Holds text ends parts items
+    → items_from 0 text ends parts ≡ items
 holds_read t text ends parts items h = rw (h.text_is, h.ends_are, h.parts_are) (items_from-of t items)
 
 pub holds_push : (text ends : List ℕ) (parts : List (Option Part)) (items : List Item) (item : Item) → Holds text ends parts items
@@ -121,9 +125,11 @@ pieces (first ∷ items) before zero item e =
     }
 pieces (first ∷ items) before (suc k) item e =
     let text = text_of_id first.id in
-    piece_next (length before) (length before + length text) (before ++ (text ++ ids_text items)) (ends_from (length before + length text) items) k (text_of_id item.id)
+    piece_next (length before) (length before + length text) (before ++ (text ++ ids_text items)) (ends_from (length before + length text) items) k
+    (text_of_id item.id)
     (subst (λ n. Piece n (before ++ (text ++ ids_text items)) (ends_from n items) k (text_of_id item.id)) (length-append before text)
-    (subst (λ t. Piece (length (before ++ text)) t (ends_from (length (before ++ text)) items) k (text_of_id item.id)) (append_assoc before text (ids_text items))
+    (subst (λ t. Piece (length (before ++ text)) t (ends_from (length (before ++ text)) items) k (text_of_id item.id))
+    (append_assoc before text (ids_text items))
     (pieces items (before ++ text) k item e)))
 
 pub piece_of : (list : Playlist) (k : ℕ) (item : Item) → slice_get (items_of list) k ≡ Some item
@@ -156,7 +162,8 @@ held_pushed list item text ends parts p =
     subst (λ t. Holds t ends parts (items_of list ++ item ∷ [])) (sym p.text_is)
     (subst (λ es. Holds (string_bytes list.text ++ text_of_id item.id) es parts (items_of list ++ item ∷ []))
     (sym (p.ends_are ∙ ap (λ t. list.ends.items ++ length t ∷ []) p.text_is))
-    (subst (λ ps. Holds (string_bytes list.text ++ text_of_id item.id) (list.ends.items ++ length (string_bytes list.text ++ text_of_id item.id) ∷ []) ps (items_of list ++ item ∷ []))
+    (subst (λ ps. Holds (string_bytes list.text ++ text_of_id item.id)
+    (list.ends.items ++ length (string_bytes list.text ++ text_of_id item.id) ∷ []) ps (items_of list ++ item ∷ []))
     (sym p.parts_are)
     (holds_push (string_bytes list.text) list.ends.items list.parts.items (items_of list) item (held list))))
 

@@ -22,7 +22,7 @@ pub record NamedSoFar (rate : Rate) (file : Option (List ℕ)) (left : Option (L
   pub columns_are : 0 < n → columns ≡ columns_of front
   pub named : Names rate (has_parts columns) front items
 
-no_names : (rate : Rate) (with_parts : Bool) → Names rate with_parts [] []
+pub no_names : (rate : Rate) (with_parts : Bool) → Names rate with_parts [] []
 no_names rate with_parts = record { rows_are = refl; can_name = λ k d below. absurd (omega (arith, below)) }
 
 pub named_first : (rate : Rate) (file : Option (List ℕ)) → NamedSoFar rate file (option_map rows_of file) 0 0 []
@@ -59,7 +59,7 @@ named_now : (rate : Rate) (front : List FileRow) (items : List Item) (old new : 
 named_now rate [] items old new row c h = names_none rate (has_parts old) (has_parts new) items h
 named_now rate (first ∷ front) items old new row c h = subst (λ n. Names rate (has_parts n) (first ∷ front) items) (sym (c.1 (λ e. omega (arith, e)))) h
 
-names_push : (rate : Rate) (with_parts : Bool) (front : List FileRow) (items : List Item) (row : FileRow) (item : Item) → Names rate with_parts front items
+pub names_push : (rate : Rate) (with_parts : Bool) (front : List FileRow) (items : List Item) (row : FileRow) (item : Item) → Names rate with_parts front items
     → item_row rate with_parts item ≡ row → CanName rate with_parts item.part → Names rate with_parts (front ++ row ∷ []) (items ++ item ∷ [])
 names_push rate with_parts front items row item h e can = record {
   rows_are =
@@ -103,7 +103,7 @@ named_all rate file left left' n old items row h t few = (
 )
 
 -- a row that is refused
-next_row : (rate : Rate) (front rows : List FileRow) (k : ℕ) (items : List Item) (row : FileRow) → Begins (front ++ row ∷ []) rows
+pub next_row : (rate : Rate) (front rows : List FileRow) (k : ℕ) (items : List Item) (row : FileRow) → Begins (front ++ row ∷ []) rows
     → k ≡ length front + 1 → k ≤ most_rows → Names rate (has_parts (columns_of rows)) front items → IsNextRow rate rows k row
 next_row rate front rows k items row b e few named =
     let s = next_of front rows row b in
@@ -115,7 +115,7 @@ next_row rate front rows k items row b e few named =
       next = ap (slice_get rows) back ∙ s.here;
     }
 
-of_row : (rate : Rate) (rows : List FileRow) (k columns : ℕ) (row : FileRow) (fault : ListFault) → IsNextRow rate rows k row → columns ≡ columns_of rows
+pub of_row : (rate : Rate) (rows : List FileRow) (k columns : ℕ) (row : FileRow) (fault : ListFault) → IsNextRow rate rows k row → columns ≡ columns_of rows
     → IsItemFault rate columns row k fault → IsPlaylistFault rate rows fault
 of_row rate rows k columns row (Columns j) f e h =
     let g = subst (λ n. IsItemFault rate n row k (Columns j)) e h in
@@ -133,7 +133,8 @@ of_row rate rows k columns row Read f e h = absurd h
 
 -- the columns now and the names so far, in rows that begin with those read
 pub named_refused : (rate : Rate) (file : Option (List ℕ)) (left left' : Option (List FileRow)) (n old new : ℕ)
-    → (items : List Item) (row : FileRow) (fault : ListFault) → NamedSoFar rate file left n old items → TakesRow left left' true row → ColumnsNow n old new row → n < most_rows
+    → (items : List Item) (row : FileRow) (fault : ListFault) → NamedSoFar rate file left n old items → TakesRow left left' true row
+    → ColumnsNow n old new row → n < most_rows
     → IsItemFault rate new row (n + 1) fault → IsListFaultOf rate file fault
 named_refused rate file left left' n old new items row fault h t c few f =
     let (rows, are, (more, is)) = front_begins file left' (h.front ++ row ∷ []) (front_next (option_map rows_of file) left left' h.front row h.is_front t) in
@@ -147,23 +148,23 @@ named_refused rate file left left' n old new items row fault h t c few f =
     )
 
 -- a row too many
+pub too_many : (rate : Rate) (front rows : List FileRow) (items : List Item) (row : FileRow) → Begins (front ++ row ∷ []) rows → length front ≡ most_rows
+    → Names rate (has_parts (columns_of rows)) front items → IsPlaylistFault rate rows (TooMany (most_rows + 1))
+too_many rate front rows items row b full named =
+    let s = next_of front rows row b in (
+      refl,
+      subst (λ m. m < length rows) full s.below,
+      items,
+      subst (λ fs. Names rate (has_parts (columns_of rows)) fs items) (sym (ap (λ m. take m rows) (sym full) ∙ s.before)) named,
+    )
+
 pub named_too_many : (rate : Rate) (file : Option (List ℕ)) (left left' : Option (List FileRow)) (n old : ℕ) (items : List Item) (row : FileRow)
     → NamedSoFar rate file left n old items → TakesRow left left' true row → n ≡ most_rows
     → IsListFaultOf rate file (TooMany (most_rows + 1))
 named_too_many rate file left left' n old items row h t full =
     let (rows, are, (more, is)) = front_begins file left' (h.front ++ row ∷ []) (front_next (option_map rows_of file) left left' h.front row h.is_front t) in
-    let s = next_of h.front rows row (more, is) in
-    let most : length h.front ≡ most_rows = sym h.size ∙ full in
-    let named = of_columns rate h.front (row ∷ more) rows old items (rw h.size at h.columns_are) (is ∙ append_assoc h.front (row ∷ []) more) h.named in (
-      rows,
-      are,
-      (
-        refl,
-        subst (λ m. m < length rows) most s.below,
-        items,
-        subst (λ fs. Names rate (has_parts (columns_of rows)) fs items) (sym (ap (λ m. take m rows) (sym most) ∙ s.before)) named,
-      ),
-    )
+    let named = of_columns rate h.front (row ∷ more) rows old items (rw h.size at h.columns_are) (is ∙ append_assoc h.front (row ∷ []) more) h.named in
+    (rows, are, too_many rate h.front rows items row (more, is) (sym h.size ∙ full) named)
 
 -- a fault of the reader or of memory
 read_fault : (rate : Rate) (rows : List FileRow) (fault : ListFault) → IsReadFault fault → IsPlaylistFault rate rows fault

@@ -97,7 +97,8 @@ enough zero (suc m) s [] b p q = rw (none_between s b) refl
 enough (suc n) zero s [] b p q = rw (none_between s b) refl
 enough zero (suc m) s (c ∷ rest) b p q = absurd (omega arith)
 enough (suc n) zero s (c ∷ rest) b p q = absurd (omega arith)
-enough (suc n) (suc m) s xs b p q = enough_next n m (next_record default_config s [] [] xs) (λ r e. let h = left xs s [] [] r e in enough n m r.1 r.2 h.between (omega arith) (omega arith))
+enough (suc n) (suc m) s xs b p q = enough_next n m (next_record default_config s [] [] xs)
+    (λ r e. let h = left xs s [] [] r e in enough n m r.1 r.2 h.between (omega arith) (omega arith))
 
 -- the rows from a state on are the next one and those after it
 pub rows_from-some : (s : State) (xs : List ℕ) (p : Read) → next_record default_config s [] [] xs ≡ Some p

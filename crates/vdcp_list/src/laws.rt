@@ -1,18 +1,22 @@
 //! The laws of the definitions in `specs/`. What a law says is the contract of its function, whose
 //! body does nothing, or calls the laws that it stands on.
 
-ghost use Rattle.std.specs.Prelude.{◌≡◌, ◌++◌, ◌∷◌, [], IsTrue, List, Option, false, option_map, true, ℕ};
+ghost use Rattle.std.specs.Prelude.{◌≡◌, ◌⊎◌, ◌++◌, ◌∷◌, [], IsTrue, List, Option, false, option_map, true, ℕ};
 ghost use Rattle.vdcp_list.specs.Asrun.{IsUnlawful, are_lawful};
+ghost use Rattle.vdcp_list.specs.Catalogues.{IsCatalogue, IsCatalogueFault};
 ghost use Rattle.vdcp_list.specs.Playlists.{IsListOf, IsPlaylist, IsPlaylistFault};
 ghost use Rattle.vdcp_list.specs.Reading.{IsFront, IsReadFault, TakesRow};
 ghost use Rattle.vdcp_list.specs.Rows.{AreRowsOf, FileRow, HasRows, rows_of};
 ghost use Rattle.vdcp_list.specs.declared.faults.ListFault.{ListFault};
+ghost use Rattle.vdcp_value.specs.declared.clip_id.ClipId.{ClipId};
 ghost use Rattle.vdcp_value.specs.declared.part.Item.{Item};
 ghost use Rattle.vdcp_value.specs.declared.rate.Rate.{Rate};
+ghost use Rattle.vdcp_value.specs.declared.timecode.Timecode.{Timecode};
 
 use vdcp_value::laws::{
-    a_text_is_of_one_id, a_time_code_has_lawful_bytes, a_time_code_is_one, an_id_has_one_text,
-    lawful_bytes_are_a_time_codes, the_text_of_a_time_code_is_eleven_bytes,
+    a_text_is_of_one_id, a_text_says_its_id, a_time_code_has_lawful_bytes, a_time_code_is_one,
+    an_id_has_one_text, an_id_is_its_bytes, lawful_bytes_are_a_time_codes,
+    the_text_of_a_time_code_is_eleven_bytes,
 };
 
 /// The rows that were read of a file are its first, in order: none before the first read, one more
@@ -38,6 +42,8 @@ pub fn what_is_read_can_be_written()
 /// Rows have one reading: they are a playlist of one list of items, or have one fault, and not both.
 /// Of the reader and of memory rows say nothing.
 pub fn rows_have_one_reading()
+    ensures one_of_both { (rate : Rate) (rows : List FileRow) → ((items : List Item) × IsPlaylist rate rows items)
+        ⊎ ((fault : ListFault) × IsPlaylistFault rate rows fault × ¬ IsReadFault fault) }
     ensures one_list { (rate : Rate) (rows : List FileRow) (a b : List Item) → IsPlaylist rate rows a → IsPlaylist rate rows b → a ≡ b }
     ensures one_fault { (rate : Rate) (rows : List FileRow) (a b : ListFault) → IsPlaylistFault rate rows a → IsPlaylistFault rate rows b →
         ¬ IsReadFault a → ¬ IsReadFault b → a ≡ b }
@@ -45,9 +51,24 @@ pub fn rows_have_one_reading()
         IsPlaylistFault rate rows fault → IsReadFault fault }
 {
     a_text_is_of_one_id();
+    a_text_says_its_id();
     an_id_has_one_text();
     a_time_code_has_lawful_bytes();
     lawful_bytes_are_a_time_codes();
     a_time_code_is_one();
     the_text_of_a_time_code_is_eleven_bytes();
+}
+
+/// Rows have a reading as a catalogue: of some clips, or a fault, which isn't one of the reader or of
+/// memory.
+pub fn rows_are_a_catalogue_or_have_a_fault()
+    ensures { (rate : Rate) (rows : List FileRow) → ((clips : List (ClipId × Timecode)) × IsCatalogue rate rows clips)
+        ⊎ ((fault : ListFault) × IsCatalogueFault rate rows fault × ¬ IsReadFault fault) }
+{
+    a_text_says_its_id();
+    an_id_has_one_text();
+    an_id_is_its_bytes();
+    a_time_code_has_lawful_bytes();
+    lawful_bytes_are_a_time_codes();
+    a_time_code_is_one();
 }

@@ -28,4 +28,6 @@ pub use slots::Slots;
 pub use table::Table;
 
 #[cfg(test)]
+mod fault_tests;
+#[cfg(test)]
 mod tests;

@@ -15,7 +15,8 @@ status_1 failure status (inl e) one = sym e ∙ one
 status_1 failure status (inr three) one = absurd (omega (arith, three, one))
 
 pub refused_with_1 : (rate : Rate) (list catalogue : File) (name : Bor (List ℕ)) (out out' err err' : Option (List ℕ)) (failure : Failure) (status : ℕ)
-    → (failure ≡ Writer) ⊎ ((Refuses rate list catalogue failure × Keeps out out') ⊎ ((AreWhole rate list catalogue × IsScriptFailure name failure) × Keeps out out'))
+    → (failure ≡ Writer) ⊎ ((Refuses rate list catalogue failure × Keeps out out')
+    ⊎ ((AreWhole rate list catalogue × IsScriptFailure name failure) × Keeps out out'))
     → (status ≡ status_of failure) ⊎ (status ≡ 3) → (status < 3 → Appends err err' (failure_line failure)) → status ≡ 1
     → IsRefused rate list catalogue out out' err err' ⊎ IsScriptRefused rate list catalogue name out out' err err'
 refused_with_1 rate list catalogue name out out' err err' failure status (inl writer) is told one =
@@ -24,4 +25,11 @@ refused_with_1 rate list catalogue name out out' err err' failure status (inl wr
 refused_with_1 rate list catalogue name out out' err err' failure status (inr (inl (refuses, silent))) is told one =
     inl (record { failure = failure; refused = refuses; of_row = status_1 failure status is one; told = told (omega (arith, one)); silent = silent })
 refused_with_1 rate list catalogue name out out' err err' failure status (inr (inr ((whole, refused), silent))) is told one =
-    inr (record { whole = whole; failure = failure; refused = refused; of_script = status_1 failure status is one; told = told (omega (arith, one)); silent = silent })
+    inr (record {
+      whole = whole;
+      failure = failure;
+      refused = refused;
+      of_script = status_1 failure status is one;
+      told = told (omega (arith, one));
+      silent = silent;
+    })

@@ -2,6 +2,7 @@
 use crate::burst::Burst;
 use crate::event::Event;
 use crate::script::{ScriptFault, read_script};
+use std::process::Abort;
 use std::test::Fail;
 
 #[test]
@@ -153,5 +154,72 @@ fn the_longest_burst(rt: HostRuntime) -> Result<(), Fail> {
         read_script(rt.alloc(), text.as_str()).err(),
         Some(ScriptFault::Hex(1))
     );
+    Ok(())
+}
+
+/// Each of these values equals itself, and none of the others.
+fn are_all_different<T: PartialEq>(rt: &impl Abort, values: &[T]) {
+    for (i, a) in values.iter().enumerate() {
+        for (j, b) in values.iter().enumerate() {
+            assert_eq!(rt; a == b, i == j, "values {i} and {j}");
+        }
+    }
+}
+
+#[test]
+fn events_differ_by_what_they_bring(rt: HostRuntime) -> Result<(), Fail> {
+    let alloc = rt.alloc();
+    let events = [
+        Event::Tick,
+        Event::Down,
+        Event::Up,
+        Event::DownCopy,
+        Event::UpCopy,
+        Event::LoseDown,
+        Event::LoseUp,
+        Event::AlterDown(Burst::new(Vec::from_slice(alloc, &[0x02])?)),
+        Event::AlterDown(Burst::new(Vec::from_slice(alloc, &[0x03])?)),
+        Event::AlterDown(Burst::new(Vec::from_slice(alloc, &[0x02, 0x02])?)),
+        Event::AlterUp(Burst::new(Vec::from_slice(alloc, &[0x02])?)),
+        Event::AlterUp(Burst::new(Vec::from_slice(alloc, &[0x03])?)),
+        Event::Timeout,
+        Event::Ready,
+        Event::End,
+        Event::Frame,
+        Event::Take,
+        Event::Stop,
+        Event::StrayAck,
+        Event::StrayNak(0x00),
+        Event::StrayNak(0x01),
+    ];
+    are_all_different(&rt, &events);
+    Ok(())
+}
+
+#[test]
+fn faults_are_told_apart_and_worded(rt: HostRuntime) -> Result<(), Fail> {
+    let faults = [
+        ScriptFault::Word(1),
+        ScriptFault::Word(2),
+        ScriptFault::Number(1),
+        ScriptFault::Number(2),
+        ScriptFault::Hex(1),
+        ScriptFault::Hex(2),
+        ScriptFault::TooMany,
+        ScriptFault::Memory,
+    ];
+    are_all_different(&rt, &faults);
+    for (fault, text) in [
+        (ScriptFault::Word(2), "line 2 is no event"),
+        (
+            ScriptFault::Number(3),
+            "line 3 has no number that it can have",
+        ),
+        (ScriptFault::Hex(4), "line 4 has no bytes that it can have"),
+        (ScriptFault::TooMany, "there are too many events"),
+        (ScriptFault::Memory, "out of memory"),
+    ] {
+        assert_eq!(rt; format!(in rt.alloc(); "{fault}")?.as_str(), text);
+    }
     Ok(())
 }

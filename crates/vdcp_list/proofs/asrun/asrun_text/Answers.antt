@@ -1,5 +1,6 @@
+use Rattle.csv.specs.Writing.{text_written}
 use Rattle.std.proofs.Common.{◌≡◌, false, sym, ◌∙◌}
-use Rattle.std.specs.Prelude.{decimal, is_err}
+use Rattle.std.specs.Prelude.{Some, decimal, is_err}
 use Rattle.vdcp_list.proofs.Events.{events_step, lawful_at, on_ok}
 use Rattle.vdcp_list.proofs.asrun.asrun_text.Goals as goal
 
@@ -15,7 +16,8 @@ loop-k-preserved g c =
     let number : c.as_str.result.now ≡ decimal c.loop-k.k = c.as_str.ensures.value ∙ on_ok c.show_number.result shown c.show_number.ensures in
     record {
       text =
-          events_step c.args.rate c.has_part-with_parts.result (g.S.Source.items c.args.source.now) c.loop-k.k c.at-item.result c.as_str.result.now _ _
+          events_step c.args.rate c.has_part-with_parts.result (g.S.Source.items c.args.source.now) c.loop-k.k c.at-item.result c.as_str.result.now
+          (text_written (λ text. Some text.items) c.loop-k.rows) (text_written (λ text. Some text.items) c.write_event.new.rows)
           c.at-item.ensures number c.loop-k.invariant.text (on_ok c.write_event.result good c.write_event.ensures.text);
       setup = on_ok c.write_event.result good c.write_event.ensures.setup;
       ended = on_ok c.write_event.result good c.write_event.ensures.ended;

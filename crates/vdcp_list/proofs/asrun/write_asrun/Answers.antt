@@ -6,7 +6,8 @@ use Rattle.vdcp_list.proofs.asrun.write_asrun.Goals as goal
 pub returns-in_err-check_parts-clause-unlawful : goal.returns-in_err-check_parts-clause-unlawful
 returns-in_err-check_parts-clause-unlawful g c =
     let p = err_from_is_err_and c.from_residual.result c.from_residual.ensures.1 in
-    rw (p.1, p.2) (told c.args.rate (g.S.Source.items c.args.source.now) c.args.reported _ c.in_err-check_parts.field-0.0 refl c.in_err-check_parts.ensures.unlawful)
+    rw (p.1, p.2) (told c.args.rate (g.S.Source.items c.args.source.now) c.args.reported _ c.in_err-check_parts.field-0.0 refl
+    c.in_err-check_parts.ensures.unlawful)
 
 pub returns-in_err-text-clause-unlawful : goal.returns-in_err-text-clause-unlawful
 returns-in_err-text-clause-unlawful g c =

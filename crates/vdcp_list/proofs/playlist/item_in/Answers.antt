@@ -8,12 +8,14 @@ use Rattle.vdcp_list.proofs.playlist.item_in.Goals as goal
 
 pub returns-then-columns-eq1-clause-row : goal.returns-then-columns-eq1-clause-row
 returns-then-columns-eq1-clause-row c =
-    whole_row c.args.rate c.args.columns (fields_of c.args.row.now) c.in-Some.id (grind (arith, common_steps)) (grind (arith, common_steps)) c.in-Some.ensures.some
+    whole_row c.args.rate c.args.columns (fields_of c.args.row.now) c.in-Some.id (grind (arith, common_steps))
+    (grind (arith, common_steps)) c.in-Some.ensures.some
 
 pub returns-in-Some-last_part-clause-row : goal.returns-in-Some-last_part-clause-row
 returns-in-Some-last_part-clause-row c =
     let three : c.args.columns ≡ 3 = grind (arith, common_steps) in
-    part_row c.args.rate c.args.columns (fields_of c.args.row.now) c.in-Some.id c.in-Some-last_part.part three c.in-Some.ensures.some c.in-Some-last_part.ensures.some.0
+    part_row c.args.rate c.args.columns (fields_of c.args.row.now) c.in-Some.id c.in-Some-last_part.part three c.in-Some.ensures.some
+    c.in-Some-last_part.ensures.some.0
 
 pub returns-in-None-clause-fault : goal.returns-in-None-clause-fault
 returns-in-None-clause-fault c =

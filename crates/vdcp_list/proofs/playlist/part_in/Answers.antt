@@ -46,7 +46,8 @@ returns-then-frames-eq0-clause-none c =
       number = c.a_time_code_has_lawful_bytes.ensures.number;
       of_bytes = c.lawful_bytes_are_a_time_codes.ensures;
     }) c.args.rate c.args.start.now c.args.duration.now some (λ s d rs rd ts td f.
-    no_frames c.a_time_code_is_one.ensures.by_text c.args.rate c.in-Some-time_in.duration d c.args.duration.now c.in-Some-time_in.ensures.same_rate c.in-Some-time_in.ensures.some
+    no_frames c.a_time_code_is_one.ensures.by_text c.args.rate c.in-Some-time_in.duration d c.args.duration.now c.in-Some-time_in.ensures.same_rate
+    c.in-Some-time_in.ensures.some
     (sym c.frames.ensures.number ∙ c.if-frames-eq0.true) rd td f)
 
 pub returns-clause-some : goal.returns-clause-some

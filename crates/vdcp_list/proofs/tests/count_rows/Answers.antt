@@ -4,7 +4,6 @@ use Rattle.std.proofs.lemmas.Grind.{common_steps}
 use Rattle.std.proofs.lemmas.List.{length-append}
 use Rattle.std.specs.Prelude.{option_map}
 use Rattle.vdcp_list.proofs.tests.count_rows.Goals as goal
-use Rattle.vdcp_list.specs.Reading.{rows_left}
 use Rattle.vdcp_list.specs.Rows.{rows_of}
 
 pub loop-read-init : goal.loop-read-init
@@ -33,7 +32,8 @@ returns-then-not-branch g c =
     let none : c.in_ok-next_row.field-0 ≡ false = grind (arith, common_steps) in
     let (front, read, size) = c.loop-read.invariant.front in (
       front,
-      c.rows_are_read_in_order.ensures.all (g.R.Read.remaining c.args.source) _ _ front (fields_of c.next_row.new.row) read (rw none at c.in_ok-next_row.ensures.takes),
+      c.rows_are_read_in_order.ensures.all (g.R.Read.remaining c.args.source) _ _ front (fields_of c.next_row.new.row) read
+          (rw none at c.in_ok-next_row.ensures.takes),
       size,
     )
 

@@ -24,12 +24,30 @@ returns-in-Err-read_catalogue-clause-refused g c =
 pub returns-in_err-script-clause-refused : goal.returns-in_err-script-clause-refused
 returns-in_err-script-clause-refused g c =
     let p = err_from_is_err_and c.from_residual.result c.from_residual.ensures.1 in
-    rw (p.1, p.2) (inr (inr ((((items_of c.in-Ok.events, c.in-Ok.ensures.items), (c.in-Ok-read_catalogue.clips, c.in-Ok-read_catalogue.ensures.clips)), c.in_err-script.ensures.refused), kept (g.W.Write.contents c.args.out.now))))
+    rw (p.1, p.2) (inr (inr (
+      (
+        (
+          (items_of c.in-Ok.events, c.in-Ok.ensures.items),
+          (c.in-Ok-read_catalogue.clips, c.in-Ok-read_catalogue.ensures.clips),
+        ),
+        c.in_err-script.ensures.refused,
+      ),
+      kept (g.W.Write.contents c.args.out.now),
+    )))
 
 pub returns-in_err-run-clause-refused : goal.returns-in_err-run-clause-refused
 returns-in_err-run-clause-refused g c =
     let p = err_from_is_err_and c.from_residual-in_err-run.result c.from_residual-in_err-run.ensures.1 in
-    rw (p.1, p.2) (inr (inr ((((items_of c.in-Ok.events, c.in-Ok.ensures.items), (c.in-Ok-read_catalogue.clips, c.in-Ok-read_catalogue.ensures.clips)), inr (inr (inr (inr refl)))), kept (g.W.Write.contents c.args.out.now))))
+    rw (p.1, p.2) (inr (inr (
+      (
+        (
+          (items_of c.in-Ok.events, c.in-Ok.ensures.items),
+          (c.in-Ok-read_catalogue.clips, c.in-Ok-read_catalogue.ensures.clips),
+        ),
+        inr (inr (inr (inr refl))),
+      ),
+      kept (g.W.Write.contents c.args.out.now),
+    )))
 
 pub returns-clause-silent : goal.returns-clause-silent
 returns-clause-silent g c =

@@ -16,7 +16,8 @@ invariant_of-self-in-Vacant c =
     let update = rw c.in-Vacant.is at c.in_ok-self-inside.ensures.update in
     let size : c.len-place.result ≡ length c.self.inside.clips.items = grind (arith, common_steps) in
     let pushed : c.push.new.self.items ≡ c.self.inside.clips.items ++ (c.args.id, c.args.duration) ∷ [] = grind (arith, common_steps) in
-    λ id. rw pushed (places_push c.an_id_is_its_number.ensures c.self.inside.clips.items (c.args.id, c.args.duration) c.self.inside.places _ _ c.key_of.result c.insert.result.now
+    λ id. rw pushed (places_push c.an_id_is_its_number.ensures c.self.inside.clips.items
+    (c.args.id, c.args.duration) c.self.inside.places _ _ c.key_of.result c.insert.result.now
     c.self.invariant c.key_of.ensures (c.insert.ensures.value ∙ size) (sym at ∙ new) (update.0 c.insert.result.now).0 (search rules) id)
 
 pub returns-in-Occupied-clause-there : goal.returns-in-Occupied-clause-there
