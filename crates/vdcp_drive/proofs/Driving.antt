@@ -6,6 +6,7 @@ use Rattle.std.specs.Option.{option_to_list, option_map, option_map_or}
 use Rattle.std.proofs.lemmas.Grind.{flat_map-append, common_steps}
 use Rattle.std.proofs.lemmas.List.{map-append}
 use Rattle.std.proofs.lemmas.List.Elements.{All-append, All-nil}
+use Rattle.vdcp_value.specs.declared.part.Item.{Item}
 use Rattle.vdcp_frame.specs.Burst.{messages_of}
 use Rattle.vdcp_frame.specs.Message.{Content, AreOctets}
 use Rattle.vdcp_frame.specs.Progress.{Progress, reading}
@@ -13,7 +14,7 @@ use Rattle.vdcp_frame.specs.Reader.{Follows}
 use Rattle.vdcp_words.specs.declared.command.Command.{Command}
 use Rattle.vdcp_auto.specs.Course.{course, course_from, after_input, after_inputs, after_inputs_from, ended_by_input, logged}
 use Rattle.vdcp_auto.specs.Heard.{heard_first, heard_in}
-use Rattle.vdcp_auto.specs.Plan.{Plan}
+use Rattle.vdcp_auto.specs.Plan.{Plan, View, plan_of}
 use Rattle.vdcp_auto.specs.Turn.{start, is_awaiting, outcome_of, awaited, given, given_in, ticked, tick_in, awaited_in}
 use Rattle.vdcp_auto.specs.Turn.{came_to, ended_by, ended_in, exchange_of, is_end, turn_of, unanswered_after, turned}
 use Rattle.vdcp_auto.specs.declared.exchange.Exchange.{Exchange}
@@ -29,7 +30,7 @@ use Rattle.vdcp_drive.specs.Bursts.{finished_bursts, open_burst, is_within_burst
 use Rattle.vdcp_drive.specs.Driven.{input_of, inputs_of, state_between, state_after, commands_of, commands_by, bytes_of, starts_behind, starts_of}
 use Rattle.vdcp_drive.specs.Driven.{IsNew, HasRun, HasRunBroken, IsPartlyRun, in_drop, in_send, in_listen, states_listening, states_watched}
 use Rattle.vdcp_drive.specs.Hearing as sending
-use Rattle.vdcp_drive.specs.Hearing.{HasSent, HasSendBroken, HasHeard, HasReceived, Hears, heard_by_then, command_bytes}
+use Rattle.vdcp_drive.specs.Hearing.{Driving, HasSent, HasSendBroken, HasHeard, HasReceived, Hears, heard_by_then, command_bytes}
 use Rattle.vdcp_drive.specs.Wires.{Arrival, bytes, silence, close, Told, IfTold, MayCome, adds_sent, adds_came, adds_drop, came_with, has_closed, nothing_told}
 use Rattle.vdcp_auto.specs.declared.outcome.Outcome.{Outcome}
 use Rattle.vdcp_drive.specs.Lines.{line_of, ran_unless_ended, RunsTo, AllListened, AtMostListened}
@@ -592,60 +593,84 @@ listened_then n silence came came' l not is = record {
 }
 listened_then n close came came' l not is = absurd (not refl)
 
--- The same where a caller's plan and unit are known by equations.
+-- The same of whole automations, where the one that a run began with gives the plan and the unit.
 
-pub sent_so : (plan planned : Plan) (unit united : ℕ) (t : Told) (state : State) (reader : Progress) (heard : Option Heard) (is_sent : Bool) (told : Option
-    Told) (state' : State) (reader' : Progress) (heard' : Option Heard) (told' : Option Told)
-    → planned ≡ plan → united ≡ unit → reader' ≡ reader → heard' ≡ heard
-    → told ≡ Some t → RunsAt plan unit t state reader heard → HasSent united (given planned state) is_sent told told' → state' ≡ ticked state
-    → IfTold told' (λ u. AwaitsAt plan unit u state' reader' heard' × (u.came ≡ t.came))
-sent_so plan planned unit united t state reader heard is_sent told state' reader' heard' told' p n r x is h e ticks =
-    let w = awaits_then plan unit t state reader heard is_sent told state' told' is h
-    (subst (λ (q : Plan). HasSent unit (given q state) is_sent told told') p (subst (λ (m : ℕ). HasSent m (given planned state) is_sent told told') n e))
-    ticks in (
+-- what is sent, where l sends and n is left
+pub sent_so : {S W : Type 0} (items : S → List Item) (told : W → Option Told) (s l n : Driving S W) (t : Told) (is_sent : Bool)
+    → l.controller ≡ record s.controller { state = l.controller.state } → l.unit ≡ s.unit
+    → told l.wire ≡ Some t → RunsAt (plan_of items s.controller) s.unit t l.controller.state l.reader l.heard
+    → HasSent l.unit (given (plan_of items l.controller) l.controller.state) is_sent (told l.wire) (told n.wire)
+    → n.controller ≡ record l.controller { state = ticked l.controller.state } → n ≡ record l { controller = n.controller; wire = n.wire }
+    → IfTold (told n.wire) (λ u. AwaitsAt (plan_of items s.controller) s.unit u n.controller.state n.reader n.heard × (u.came ≡ t.came))
+sent_so {S} {W} items told s l n t is_sent same united is h e ticks keeps =
+    let plan : Plan = plan_of items s.controller in
+    let w = awaits_then plan s.unit t l.controller.state l.reader l.heard is_sent (told l.wire) n.controller.state (told n.wire) is h
+    (subst (λ (q : Plan). HasSent s.unit (given q l.controller.state) is_sent (told l.wire) (told n.wire)) (ap (plan_of items) same)
+    (subst (λ (m : ℕ). HasSent m (given (plan_of items l.controller) l.controller.state) is_sent (told l.wire) (told n.wire)) united e))
+    (ap (λ (v : View S). v.state) ticks) in (
       w.0,
       w.1,
       (
-        subst (λ (o : Option Heard). AwaitsAt plan unit w.0 state' reader' o) (sym x) (subst (λ (q : Progress). AwaitsAt plan unit w.0 state' q
-            heard) (sym r) w.2.0),
+        subst (λ (o : Option Heard). AwaitsAt plan s.unit w.0 n.controller.state n.reader o) (sym (ap (λ (d : Driving S W). d.heard) keeps))
+            (subst (λ (q : Progress). AwaitsAt plan s.unit w.0 n.controller.state q l.heard) (sym (ap (λ (d : Driving S W). d.reader) keeps)) w.2.0),
         w.2.1,
       ),
     )
 
-pub unsent_so : (plan planned : Plan) (unit united : ℕ) (t : Told) (state : State) (reader : Progress) (heard : Option Heard) (told : Option Told) (state'
-    : State) (told' : Option Told)
-    → planned ≡ plan → united ≡ unit → told ≡ Some t → RunsAt plan unit t state reader heard → HasSendBroken planned united state state' told told'
-    → IfTold told' (λ u. (b : HasRunBroken plan unit u state') × (states_watched b ≡ states_listening plan unit t.came))
-unsent_so plan planned unit united t state reader heard told state' told' p n is h e =
-    broken_send plan unit t state reader heard told state' told' is h
-    (subst (λ (q : Plan). HasSendBroken q unit state state' told told') p (subst (λ (m : ℕ). HasSendBroken planned m state state' told told') n e))
+-- where the wire failed in that
+pub unsent_so : {S W : Type 0} (items : S → List Item) (told : W → Option Told) (s l n : Driving S W) (t : Told)
+    → l.controller ≡ record s.controller { state = l.controller.state } → l.unit ≡ s.unit
+    → told l.wire ≡ Some t → RunsAt (plan_of items s.controller) s.unit t l.controller.state l.reader l.heard
+    → HasSendBroken (plan_of items l.controller) l.unit l.controller.state n.controller.state (told l.wire) (told n.wire)
+    → IfTold (told n.wire) (λ u. (b : HasRunBroken (plan_of items s.controller) s.unit u n.controller.state)
+    × (states_watched b ≡ states_listening (plan_of items s.controller) s.unit t.came))
+unsent_so items told s l n t same united is h e =
+    broken_send (plan_of items s.controller) s.unit t l.controller.state l.reader l.heard (told l.wire) n.controller.state (told n.wire) is h
+    (subst (λ (q : Plan). HasSendBroken q s.unit l.controller.state n.controller.state (told l.wire) (told n.wire)) (ap (plan_of items) same)
+    (subst (λ (m : ℕ). HasSendBroken (plan_of items l.controller) m l.controller.state n.controller.state (told l.wire) (told n.wire)) united e))
 
-hears_so : (plan planned : Plan) (unit united : ℕ) (a : Arrival) (state : State) (reader : Progress) (heard : Option Heard) (state' : State) (reader' :
-    Progress) (heard' : Option Heard)
-    → planned ≡ plan → united ≡ unit → Hears planned united a state reader heard state' reader' heard'
-    → Hears plan unit a state reader heard state' reader' heard'
-hears_so plan planned unit united a state reader heard state' reader' heard' p n e =
-    subst (λ (q : Plan). Hears q unit a state reader heard state' reader' heard') p (subst (λ (m : ℕ). Hears planned m a state reader heard state' reader'
-    heard') n e)
+-- where it failed in the listen behind it, which leaves m
+pub unheard_so : {S W : Type 0} (items : S → List Item) (told : W → Option Told) (s n m : Driving S W) (t : Told)
+    → told n.wire ≡ Some t → AwaitsAt (plan_of items s.controller) s.unit t n.controller.state n.reader n.heard
+    → m ≡ record n { wire = m.wire } → told m.wire ≡ told n.wire
+    → IfTold (told m.wire) (λ u. (b : HasRunBroken (plan_of items s.controller) s.unit u m.controller.state)
+    × (states_watched b ≡ states_listening (plan_of items s.controller) s.unit t.came ++ m.controller.state ∷ []))
+unheard_so {S} {W} items told s n m t is h keeps same =
+    broken_listen (plan_of items s.controller) s.unit t n.controller.state n.reader n.heard (told n.wire) m.controller.state (told m.wire) is h
+    (ap (λ (d : Driving S W). d.controller.state) keeps) same
 
-pub on_so : (read : Read) (fed : Fed) (law : OneMore) (made : ℕ) (plan planned : Plan) (unit united : ℕ) (t : Told) (state : State) (reader : Progress)
-    (heard : Option Heard) (a : Arrival) (told : Option Told) (state' : State) (reader' : Progress) (heard' : Option Heard) (told' : Option Told)
-    → planned ≡ plan → united ≡ unit → told ≡ Some t → AwaitsAt plan unit t state reader heard → AllListened made [] t.came → line_of a ≢ line.Closed
-    → Hears planned united a state reader heard state' reader' heard' → told' ≡ adds_came a told
-    → IfTold told' (λ u. RunsAt plan unit u state' reader' heard' × AllListened (made + 1) [] u.came × (u.came ≡ t.came ++ a ∷ []))
-on_so read fed law made plan planned unit united t state reader heard a told state' reader' heard' told' p n is h l not e more =
-    let r = runs_on read fed law plan unit t state reader heard a told state' reader' heard' told' is h not (hears_so plan planned unit united a state
-    reader heard state' reader' heard' p n e) more in
+-- what a listen does, by the plan and the unit of s
+hears_so : {S W : Type 0} (items : S → List Item) (s n m : Driving S W) (a : Arrival)
+    → n.controller ≡ record s.controller { state = n.controller.state } → n.unit ≡ s.unit
+    → Hears (plan_of items n.controller) n.unit a n.controller.state n.reader n.heard m.controller.state m.reader m.heard
+    → Hears (plan_of items s.controller) s.unit a n.controller.state n.reader n.heard m.controller.state m.reader m.heard
+hears_so items s n m a same united e =
+    subst (λ (q : Plan). Hears q s.unit a n.controller.state n.reader n.heard m.controller.state m.reader m.heard) (ap (plan_of items) same)
+    (subst (λ (u : ℕ). Hears (plan_of items n.controller) u a n.controller.state n.reader n.heard m.controller.state m.reader m.heard) united e)
+
+pub on_so : {S W : Type 0} (read : Read) (fed : Fed) (law : OneMore) (made : ℕ) (items : S → List Item) (told : W → Option Told) (s n m : Driving S W)
+    (t : Told) (a : Arrival)
+    → n.controller ≡ record s.controller { state = n.controller.state } → n.unit ≡ s.unit
+    → told n.wire ≡ Some t → AwaitsAt (plan_of items s.controller) s.unit t n.controller.state n.reader n.heard
+    → AllListened made [] t.came → line_of a ≢ line.Closed
+    → Hears (plan_of items n.controller) n.unit a n.controller.state n.reader n.heard m.controller.state m.reader m.heard
+    → told m.wire ≡ adds_came a (told n.wire)
+    → IfTold (told m.wire) (λ u. RunsAt (plan_of items s.controller) s.unit u m.controller.state m.reader m.heard × AllListened (made + 1) [] u.came
+    × (u.came ≡ t.came ++ a ∷ []))
+on_so read fed law made items told s n m t a same united is h l not e more =
+    let r = runs_on read fed law (plan_of items s.controller) s.unit t n.controller.state n.reader n.heard a (told n.wire) m.controller.state m.reader m.heard
+    (told m.wire) is h not (hears_so items s n m a same united e) more in
     (r.0, r.1, (r.2.0, listened_then made a t.came r.0.came l not r.2.1, r.2.1))
 
-pub out_so : (law : OneMore) (plan planned : Plan) (unit united : ℕ) (t : Told) (state : State) (reader : Progress) (heard : Option Heard) (a : Arrival)
-    (told : Option Told) (state' : State) (reader' : Progress) (heard' : Option Heard) (told' : Option Told)
-    → planned ≡ plan → united ≡ unit → told ≡ Some t → AwaitsAt plan unit t state reader heard → line_of a ≡ line.Closed
-    → Hears planned united a state reader heard state' reader' heard' → told' ≡ adds_came a told
-    → IfTold told' (λ u. HasRun plan unit u state' × IsTrue (has_closed u.came) × (u.came ≡ t.came ++ a ∷ []))
-out_so law plan planned unit united t state reader heard a told state' reader' heard' told' p n is h closed e more =
-    runs_out law plan unit t state reader heard a told state' reader' heard' told' is h closed (hears_so plan planned unit united a state reader heard
-    state' reader' heard' p n e) more
+pub out_so : {S W : Type 0} (law : OneMore) (items : S → List Item) (told : W → Option Told) (s n m : Driving S W) (t : Told) (a : Arrival)
+    → n.controller ≡ record s.controller { state = n.controller.state } → n.unit ≡ s.unit
+    → told n.wire ≡ Some t → AwaitsAt (plan_of items s.controller) s.unit t n.controller.state n.reader n.heard → line_of a ≡ line.Closed
+    → Hears (plan_of items n.controller) n.unit a n.controller.state n.reader n.heard m.controller.state m.reader m.heard
+    → told m.wire ≡ adds_came a (told n.wire)
+    → IfTold (told m.wire) (λ u. HasRun (plan_of items s.controller) s.unit u m.controller.state × IsTrue (has_closed u.came) × (u.came ≡ t.came ++ a ∷ []))
+out_so law items told s n m t a same united is h closed e more =
+    runs_out law (plan_of items s.controller) s.unit t n.controller.state n.reader n.heard a (told n.wire) m.controller.state m.reader m.heard (told m.wire)
+    is h closed (hears_so items s n m a same united e) more
 
 -- a new automation runs from its beginning
 pub begins : (fed : Fed) (plan : Plan) (unit : ℕ) (state : State) (reader : Progress) (heard : Option Heard) (told : Option Told)

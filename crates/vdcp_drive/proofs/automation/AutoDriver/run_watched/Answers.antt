@@ -9,7 +9,7 @@ use Rattle.vdcp_drive.specs.Lines.{AllListened}
 use Rattle.vdcp_drive.specs.Watching.{adds_watched}
 use Rattle.vdcp_drive.specs.Wires.{Arrival}
 use Rattle.vdcp_drive.proofs.Below.{Read, Fed}
-use Rattle.vdcp_drive.proofs.Driving.{OneMore, sent_so, unsent_so, on_so, out_so, broken_listen, closes_to, closed_on, listened_on, with_front}
+use Rattle.vdcp_drive.proofs.Driving.{OneMore, sent_so, unsent_so, on_so, out_so, unheard_so, closes_to, closed_on, listened_on, with_front}
 use Rattle.vdcp_drive.proofs.Reaching.{goes_further}
 use Rattle.vdcp_drive.proofs.Taking.{on_err_of}
 use Rattle.vdcp_drive.proofs.Watching.{looks, watches_on}
@@ -17,72 +17,52 @@ use Rattle.vdcp_drive.proofs.automation.AutoDriver.run_watched.Goals as goal
 
 pub returns-in_err-send-clause-broken : goal.returns-in_err-send-clause-broken
 returns-in_err-send-clause-broken g c is works =
+    let items = g.S.Source.items in
     let told = g.W.Wire.told in
     let s = c.args.self.now in
-    let l = c.listens.self in
     let n = c.send.new.self in
-    let plan : Plan = plan_of g.S.Source.items s.controller in
-    let planned : plan_of g.S.Source.items l.controller ≡ plan = ap (plan_of g.S.Source.items) c.listens.invariant.controller in
-    let h = c.listens.invariant.runs is in
-    let b = unsent_so plan (plan_of g.S.Source.items l.controller) s.unit l.unit h.0 l.controller.state l.reader l.heard (told l.wire) n.controller.state
-    (told n.wire) planned c.listens.invariant.unit h.1 h.2.0 (c.in_err-send.ensures.breaks c.listens.invariant.works) in
-    on_err_of c.from_residual.result (with_front plan s.unit n.controller.state (told n.wire) (b.0, b.1, b.2.0))
+    let inv = c.listens.invariant in
+    let h = inv.runs is in
+    let b = unsent_so items told s c.listens.self n h.0 inv.controller inv.unit h.1 h.2.0 (c.in_err-send.ensures.breaks inv.works) in
+    on_err_of c.from_residual.result (with_front (plan_of items s.controller) s.unit n.controller.state (told n.wire) (b.0, b.1, b.2.0))
 
 pub returns-in_err-send-clause-watched_broken : goal.returns-in_err-send-clause-watched_broken
 returns-in_err-send-clause-watched_broken g c is works states was =
-    let told = g.W.Wire.told in
-    let s = c.args.self.now in
-    let l = c.listens.self in
-    let n = c.send.new.self in
-    let plan : Plan = plan_of g.S.Source.items s.controller in
-    let planned : plan_of g.S.Source.items l.controller ≡ plan = ap (plan_of g.S.Source.items) c.listens.invariant.controller in
-    let h = c.listens.invariant.runs is in
-    let b = unsent_so plan (plan_of g.S.Source.items l.controller) s.unit l.unit h.0 l.controller.state l.reader l.heard (told l.wire) n.controller.state
-    (told n.wire) planned c.listens.invariant.unit h.1 h.2.0 (c.in_err-send.ensures.breaks c.listens.invariant.works) in
+    let inv = c.listens.invariant in
+    let h = inv.runs is in
+    let b = unsent_so g.S.Source.items g.W.Wire.told c.args.self.now c.listens.self c.send.new.self h.0 inv.controller inv.unit h.1 h.2.0
+    (c.in_err-send.ensures.breaks inv.works) in
     on_err_of c.from_residual.result (b.0, b.1, (b.2.0, h.2.2 states was ∙ ap (λ (l : List State). Some (states ++ l)) (sym b.2.1)))
 
 pub returns-in_err-listen-clause-broken : goal.returns-in_err-listen-clause-broken
 returns-in_err-listen-clause-broken g c is works =
+    let items = g.S.Source.items in
     let told = g.W.Wire.told in
     let s = c.args.self.now in
-    let l = c.listens.self in
     let n = c.send.new.self in
-    let plan : Plan = plan_of g.S.Source.items s.controller in
-    let planned : plan_of g.S.Source.items l.controller ≡ plan = ap (plan_of g.S.Source.items) c.listens.invariant.controller in
-    let h = c.listens.invariant.runs is in
-    let w = sent_so plan (plan_of g.S.Source.items l.controller) s.unit l.unit h.0 l.controller.state l.reader l.heard c.in_ok-send.field-0 (told l.wire)
-    n.controller.state n.reader n.heard (told n.wire)
-    planned c.listens.invariant.unit (ap (λ (d : Driving _ _). d.reader) c.in_ok-send.ensures.keeps) (ap (λ (d : Driving _ _). d.heard)
-    c.in_ok-send.ensures.keeps)
-    h.1 h.2.0 c.in_ok-send.ensures.sends (ap (λ (v : View _). v.state) c.in_ok-send.ensures.ticks) in
     let m = c.listen.new.self in
-    let replanned : plan_of g.S.Source.items n.controller ≡ plan = ap (plan_of g.S.Source.items) c.in_ok-send.ensures.controller ∙ planned in
-    let reunited : n.unit ≡ s.unit = ap (λ (d : Driving _ _). d.unit) c.in_ok-send.ensures.keeps ∙ c.listens.invariant.unit in
-    let b = broken_listen plan s.unit w.0 n.controller.state n.reader n.heard (told n.wire) m.controller.state (told m.wire)
-    w.1 w.2.0 (ap (λ (d : Driving _ _). d.controller.state) c.in_err-listen.ensures.unchanged) (c.in_err-listen.ensures.breaks c.in_ok-send.ensures.works) in
-    on_err_of c.from_residual-in_err-listen.result (with_front plan s.unit m.controller.state (told m.wire) (b.0, b.1, b.2.0))
+    let inv = c.listens.invariant in
+    let h = inv.runs is in
+    let o = c.in_ok-send.ensures in
+    let w = sent_so items told s c.listens.self n h.0 c.in_ok-send.field-0 inv.controller inv.unit h.1 h.2.0 o.sends o.ticks o.keeps in
+    let b = unheard_so items told s n m w.0 w.1 w.2.0 c.in_err-listen.ensures.unchanged (c.in_err-listen.ensures.breaks o.works) in
+    on_err_of c.from_residual-in_err-listen.result (with_front (plan_of items s.controller) s.unit m.controller.state (told m.wire) (b.0, b.1, b.2.0))
 
 pub returns-in_err-listen-clause-watched_broken : goal.returns-in_err-listen-clause-watched_broken
 returns-in_err-listen-clause-watched_broken g c is works states was =
+    let items = g.S.Source.items in
     let told = g.W.Wire.told in
     let s = c.args.self.now in
-    let l = c.listens.self in
     let n = c.send.new.self in
-    let plan : Plan = plan_of g.S.Source.items s.controller in
-    let planned : plan_of g.S.Source.items l.controller ≡ plan = ap (plan_of g.S.Source.items) c.listens.invariant.controller in
-    let h = c.listens.invariant.runs is in
-    let w = sent_so plan (plan_of g.S.Source.items l.controller) s.unit l.unit h.0 l.controller.state l.reader l.heard c.in_ok-send.field-0 (told l.wire)
-    n.controller.state n.reader n.heard (told n.wire)
-    planned c.listens.invariant.unit (ap (λ (d : Driving _ _). d.reader) c.in_ok-send.ensures.keeps) (ap (λ (d : Driving _ _). d.heard)
-    c.in_ok-send.ensures.keeps)
-    h.1 h.2.0 c.in_ok-send.ensures.sends (ap (λ (v : View _). v.state) c.in_ok-send.ensures.ticks) in
     let m = c.listen.new.self in
-    let replanned : plan_of g.S.Source.items n.controller ≡ plan = ap (plan_of g.S.Source.items) c.in_ok-send.ensures.controller ∙ planned in
-    let reunited : n.unit ≡ s.unit = ap (λ (d : Driving _ _). d.unit) c.in_ok-send.ensures.keeps ∙ c.listens.invariant.unit in
-    let b = broken_listen plan s.unit w.0 n.controller.state n.reader n.heard (told n.wire) m.controller.state (told m.wire)
-    w.1 w.2.0 (ap (λ (d : Driving _ _). d.controller.state) c.in_err-listen.ensures.unchanged) (c.in_err-listen.ensures.breaks c.in_ok-send.ensures.works) in
+    let inv = c.listens.invariant in
+    let h = inv.runs is in
+    let o = c.in_ok-send.ensures in
+    let w = sent_so items told s c.listens.self n h.0 c.in_ok-send.field-0 inv.controller inv.unit h.1 h.2.0 o.sends o.ticks o.keeps in
+    let b = unheard_so items told s n m w.0 w.1 w.2.0 c.in_err-listen.ensures.unchanged (c.in_err-listen.ensures.breaks o.works) in
     let watched = g.V.Watch.watched in
     let looked = c.look.ensures ∙ ap (λ (d : Driving _ _). adds_watched d.controller.state (watched c.listens.watcher)) c.self-in-listens.view_is in
+    let plan : Plan = plan_of items s.controller in
     let more = looks states (states_listening plan s.unit h.0.came) n.controller.state (watched c.listens.watcher) (watched c.look.new.self) (h.2.2 states
     was) looked
     ∙ ap (λ (came : List Arrival). Some (states ++ (states_listening plan s.unit came ++ n.controller.state ∷ []))) (sym w.2.1)
@@ -93,55 +73,45 @@ returns-in_err-listen-clause-watched_broken g c is works states was =
 pub returns-in-Closed-clause-run : goal.returns-in-Closed-clause-run
 returns-in-Closed-clause-run g c is =
     let law : OneMore = record { logs = c.courses_follow_one_another.ensures.one_more; leaves = c.courses_follow_one_another.ensures.left_by_one_more } in
+    let items = g.S.Source.items in
     let told = g.W.Wire.told in
     let s = c.args.self.now in
-    let l = c.listens.self in
     let n = c.send.new.self in
-    let plan : Plan = plan_of g.S.Source.items s.controller in
-    let planned : plan_of g.S.Source.items l.controller ≡ plan = ap (plan_of g.S.Source.items) c.listens.invariant.controller in
-    let h = c.listens.invariant.runs is in
-    let w = sent_so plan (plan_of g.S.Source.items l.controller) s.unit l.unit h.0 l.controller.state l.reader l.heard c.in_ok-send.field-0 (told l.wire)
-    n.controller.state n.reader n.heard (told n.wire)
-    planned c.listens.invariant.unit (ap (λ (d : Driving _ _). d.reader) c.in_ok-send.ensures.keeps) (ap (λ (d : Driving _ _). d.heard)
-    c.in_ok-send.ensures.keeps)
-    h.1 h.2.0 c.in_ok-send.ensures.sends (ap (λ (v : View _). v.state) c.in_ok-send.ensures.ticks) in
     let m = c.listen.new.self in
-    let replanned : plan_of g.S.Source.items n.controller ≡ plan = ap (plan_of g.S.Source.items) c.in_ok-send.ensures.controller ∙ planned in
-    let reunited : n.unit ≡ s.unit = ap (λ (d : Driving _ _). d.unit) c.in_ok-send.ensures.keeps ∙ c.listens.invariant.unit in
+    let inv = c.listens.invariant in
+    let h = inv.runs is in
+    let o = c.in_ok-send.ensures in
+    let w = sent_so items told s c.listens.self n h.0 c.in_ok-send.field-0 inv.controller inv.unit h.1 h.2.0 o.sends o.ticks o.keeps in
+    let same : n.controller ≡ record s.controller { state = n.controller.state } =
+    o.controller ∙ ap (λ (v : View _). record v { state = n.controller.state }) inv.controller in
+    let united : n.unit ≡ s.unit = ap (λ (d : Driving _ _). d.unit) o.keeps ∙ inv.unit in
     let e = c.in_ok-listen.ensures.hears in
-    let o = out_so law plan (plan_of g.S.Source.items n.controller) s.unit n.unit w.0 n.controller.state n.reader n.heard e.0 (told n.wire)
-    m.controller.state m.reader m.heard (told m.wire)
-    replanned reunited w.1 w.2.0 (sym e.1 ∙ c.in-Closed.is) e.3 e.4 in
-    (o.0, o.1, o.2.0)
+    let r = out_so law items told s n m w.0 e.0 same united w.1 w.2.0 (sym e.1 ∙ c.in-Closed.is) e.3 e.4 in
+    (r.0, r.1, r.2.0)
 
 pub returns-in-Closed-clause-watched : goal.returns-in-Closed-clause-watched
 returns-in-Closed-clause-watched g c is states was =
     let law : OneMore = record { logs = c.courses_follow_one_another.ensures.one_more; leaves = c.courses_follow_one_another.ensures.left_by_one_more } in
+    let items = g.S.Source.items in
     let told = g.W.Wire.told in
     let s = c.args.self.now in
-    let l = c.listens.self in
     let n = c.send.new.self in
-    let plan : Plan = plan_of g.S.Source.items s.controller in
-    let planned : plan_of g.S.Source.items l.controller ≡ plan = ap (plan_of g.S.Source.items) c.listens.invariant.controller in
-    let h = c.listens.invariant.runs is in
-    let w = sent_so plan (plan_of g.S.Source.items l.controller) s.unit l.unit h.0 l.controller.state l.reader l.heard c.in_ok-send.field-0 (told l.wire)
-    n.controller.state n.reader n.heard (told n.wire)
-    planned c.listens.invariant.unit (ap (λ (d : Driving _ _). d.reader) c.in_ok-send.ensures.keeps) (ap (λ (d : Driving _ _). d.heard)
-    c.in_ok-send.ensures.keeps)
-    h.1 h.2.0 c.in_ok-send.ensures.sends (ap (λ (v : View _). v.state) c.in_ok-send.ensures.ticks) in
     let m = c.listen.new.self in
-    let replanned : plan_of g.S.Source.items n.controller ≡ plan = ap (plan_of g.S.Source.items) c.in_ok-send.ensures.controller ∙ planned in
-    let reunited : n.unit ≡ s.unit = ap (λ (d : Driving _ _). d.unit) c.in_ok-send.ensures.keeps ∙ c.listens.invariant.unit in
+    let inv = c.listens.invariant in
+    let h = inv.runs is in
+    let o = c.in_ok-send.ensures in
+    let w = sent_so items told s c.listens.self n h.0 c.in_ok-send.field-0 inv.controller inv.unit h.1 h.2.0 o.sends o.ticks o.keeps in
+    let same : n.controller ≡ record s.controller { state = n.controller.state } =
+    o.controller ∙ ap (λ (v : View _). record v { state = n.controller.state }) inv.controller in
+    let united : n.unit ≡ s.unit = ap (λ (d : Driving _ _). d.unit) o.keeps ∙ inv.unit in
     let e = c.in_ok-listen.ensures.hears in
-    let o = out_so law plan (plan_of g.S.Source.items n.controller) s.unit n.unit w.0 n.controller.state n.reader n.heard e.0 (told n.wire)
-    m.controller.state m.reader m.heard (told m.wire)
-    replanned reunited w.1 w.2.0 (sym e.1 ∙ c.in-Closed.is) e.3 e.4 in
+    let r = out_so law items told s n m w.0 e.0 same united w.1 w.2.0 (sym e.1 ∙ c.in-Closed.is) e.3 e.4 in
     let watched = g.V.Watch.watched in
     let looked = c.look.ensures ∙ ap (λ (d : Driving _ _). adds_watched d.controller.state (watched c.listens.watcher)) c.self-in-listens.view_is in (
-      o.0,
-      o.1,
-      watches_on plan s.unit h.0.came w.0.came o.0.came e.0 states n.controller.state (watched c.listens.watcher) (watched c.look.new.self) (h.2.2
-          states was) w.2.1 w.2.0.state_is looked o.2.2,
+      r.0,
+      r.1,
+      watches_on (plan_of items s.controller) s.unit h.0.came w.0.came r.0.came e.0 states n.controller.state (watched c.listens.watcher) (watched
+          c.look.new.self) (h.2.2 states was) w.2.1 w.2.0.state_is looked r.2.2,
     )
 
 pub returns-in-Closed-clause-answer : goal.returns-in-Closed-clause-answer
@@ -186,35 +156,30 @@ listens-preserved g c = record {
         further = c.what_is_followed_is_read.ensures.further;
       } in
       let fed : Fed = record { start = c.what_is_fed_is_followed.ensures.start; next = c.what_is_fed_is_followed.ensures.next } in
+      let items = g.S.Source.items in
       let told = g.W.Wire.told in
       let s = c.args.self.now in
-      let l = c.listens.self in
       let n = c.send.new.self in
-      let plan : Plan = plan_of g.S.Source.items s.controller in
-      let planned : plan_of g.S.Source.items l.controller ≡ plan = ap (plan_of g.S.Source.items) c.listens.invariant.controller in
-      let h = c.listens.invariant.runs is in
-      let w = sent_so plan (plan_of g.S.Source.items l.controller) s.unit l.unit h.0 l.controller.state l.reader l.heard c.in_ok-send.field-0 (told l.wire)
-      n.controller.state n.reader n.heard (told n.wire)
-      planned c.listens.invariant.unit (ap (λ (d : Driving _ _). d.reader) c.in_ok-send.ensures.keeps) (ap (λ (d : Driving _ _). d.heard)
-      c.in_ok-send.ensures.keeps)
-      h.1 h.2.0 c.in_ok-send.ensures.sends (ap (λ (v : View _). v.state) c.in_ok-send.ensures.ticks) in
       let m = c.listen.new.self in
-      let replanned : plan_of g.S.Source.items n.controller ≡ plan = ap (plan_of g.S.Source.items) c.in_ok-send.ensures.controller ∙ planned in
-      let reunited : n.unit ≡ s.unit = ap (λ (d : Driving _ _). d.unit) c.in_ok-send.ensures.keeps ∙ c.listens.invariant.unit in
+      let inv = c.listens.invariant in
+      let h = inv.runs is in
+      let o = c.in_ok-send.ensures in
+      let w = sent_so items told s c.listens.self n h.0 c.in_ok-send.field-0 inv.controller inv.unit h.1 h.2.0 o.sends o.ticks o.keeps in
+      let same : n.controller ≡ record s.controller { state = n.controller.state } =
+      o.controller ∙ ap (λ (v : View _). record v { state = n.controller.state }) inv.controller in
+      let united : n.unit ≡ s.unit = ap (λ (d : Driving _ _). d.unit) o.keeps ∙ inv.unit in
       let e = c.in_ok-listen.ensures.hears in
       let watched = g.V.Watch.watched in
       let looked = c.look.ensures ∙ ap (λ (d : Driving _ _). adds_watched d.controller.state (watched c.listens.watcher)) c.self-in-listens.view_is in
-      let r = on_so read fed law c.listens.made plan (plan_of g.S.Source.items n.controller) s.unit n.unit w.0 n.controller.state n.reader n.heard e.0 (told
-      n.wire) m.controller.state m.reader m.heard (told m.wire)
-      replanned reunited w.1 w.2.0 (subst (λ (x : List Arrival). AllListened c.listens.made [] x) (sym w.2.1) h.2.1) (λ x. c.in_default.not-Closed (e.1
-      ∙ x)) e.3 e.4 in (
+      let r = on_so read fed law c.listens.made items told s n m w.0 e.0 same united w.1 w.2.0 (subst (λ (x : List Arrival). AllListened c.listens.made [] x)
+      (sym w.2.1) h.2.1) (λ x. c.in_default.not-Closed (e.1 ∙ x)) e.3 e.4 in (
         r.0,
         r.1,
         (
           r.2.0,
           r.2.1,
-          λ states was. watches_on plan s.unit h.0.came w.0.came r.0.came e.0 states n.controller.state (watched c.listens.watcher) (watched c.look.new.self)
-              (h.2.2 states was) w.2.1 w.2.0.state_is looked r.2.2,
+          λ states was. watches_on (plan_of items s.controller) s.unit h.0.came w.0.came r.0.came e.0 states n.controller.state (watched c.listens.watcher)
+              (watched c.look.new.self) (h.2.2 states was) w.2.1 w.2.0.state_is looked r.2.2,
         ),
       );
 }
