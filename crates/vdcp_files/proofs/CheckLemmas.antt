@@ -1,5 +1,6 @@
 -- The lines of one more event.
-use Rattle.std.proofs.Common.{◌≡◌, ℕ, ◌+◌, Bool, true, false, List, [], ◌∷◌, ◌++◌, length, take, refl, sym, ap, ◌∙◌, arith, zero, suc, add-one, add-zero, zero-add, append_assoc, append-nil}
+use Rattle.std.proofs.Common.{◌≡◌, ℕ, ◌+◌, Bool, true, false, List, [], ◌∷◌, ◌++◌, length, take, refl, sym, ap, ◌∙◌, arith, zero, suc, add-one}
+use Rattle.std.proofs.Common.{add-zero, zero-add, append_assoc, append-nil}
 use Rattle.std.proofs.lemmas.List.Folds.{list_all-append}
 use Rattle.std.specs.Io.KnownBytes.{Appends, Keeps}
 use Rattle.std.specs.Prelude.{Option, None, Some, is_none, is_some, not, slice_get, ◌&&◌, if◌then◌else◌}
@@ -59,20 +60,21 @@ events_text-take clips items k item at =
     ∙ sym (events_text-push clips 0 (take k items) item)
     ∙ ap (events_text clips 0) (sym (take_more items k item at))
 
-pub appends_event : (clips : List (ClipId × Timecode)) (items : List Item) (k : ℕ) (item : Item) (old middle new : Option (List ℕ))
-    → slice_get items k ≡ Some item → Appends old middle (events_text clips 0 (take k items))
-    → Appends middle new (event_text k item.id (fault_of clips item))
+pub appends_event : (clips : List (ClipId × Timecode)) (items : List Item) (k : ℕ) (item : Item) (fault : Option EventFault)
+    → (old middle new : Option (List ℕ)) → slice_get items k ≡ Some item → fault ≡ fault_of clips item
+    → Appends old middle (events_text clips 0 (take k items)) → Appends middle new (event_text k item.id fault)
     → Appends old new (events_text clips 0 (take (k + 1) items))
-appends_event clips items k item None middle new at before now = tt
-appends_event clips items k item (Some xs) None new at before now = absurd before
-appends_event clips items k item (Some xs) (Some ys) None at before now = now
-appends_event clips items k item (Some xs) (Some ys) (Some zs) at before now =
-    now ∙ ap (λ bytes. bytes ++ event_text k item.id (fault_of clips item)) before
+appends_event clips items k item fault None middle new at is before now = tt
+appends_event clips items k item fault (Some xs) None new at is before now = absurd before
+appends_event clips items k item fault (Some xs) (Some ys) None at is before now = now
+appends_event clips items k item fault (Some xs) (Some ys) (Some zs) at is before now =
+    now ∙ ap (λ (f : Option EventFault). ys ++ event_text k item.id f) is
+    ∙ ap (λ bytes. bytes ++ event_text k item.id (fault_of clips item)) before
     ∙ append_assoc xs (events_text clips 0 (take k items)) (event_text k item.id (fault_of clips item))
     ∙ ap (λ text. xs ++ text) (events_text-take clips items k item at)
 
 -- whether all events before k, and event k, can be played
-pub playable_more : (clips : List (ClipId × Timecode)) (items : List Item) (k : ℕ) (item : Item) (before : Bool) → slice_get items k ≡ Some item
+playable_more : (clips : List (ClipId × Timecode)) (items : List Item) (k : ℕ) (item : Item) (before : Bool) → slice_get items k ≡ Some item
     → before ≡ are_playable clips (take k items)
     → (before && is_none (fault_of clips item)) ≡ are_playable clips (take (k + 1) items)
 playable_more clips items k item before at e =
@@ -83,8 +85,14 @@ double : (b : Bool) → not (not b) ≡ b
 double true = refl
 double false = refl
 
-pub none_is : (fault found : Option EventFault) (none : Bool) → fault ≡ found → is_some fault ≡ not none → none ≡ is_none found
+none_is : (fault found : Option EventFault) (none : Bool) → fault ≡ found → is_some fault ≡ not none → none ≡ is_none found
 none_is fault found none same e = sym (ap not e ∙ double none) ∙ ap (λ (f : Option EventFault). not (is_some f)) same
+
+pub playable_after : (clips : List (ClipId × Timecode)) (items : List Item) (k : ℕ) (item : Item) (before : Bool) (fault : Option EventFault) (none : Bool)
+    → slice_get items k ≡ Some item → before ≡ are_playable clips (take k items) → fault ≡ fault_of clips item → is_some fault ≡ not none
+    → (before && none) ≡ are_playable clips (take (k + 1) items)
+playable_after clips items k item before fault none at e is same =
+    ap (λ n. before && n) (none_is fault (fault_of clips item) none is same) ∙ playable_more clips items k item before at e
 
 pub kept : (bytes : Option (List ℕ)) → Keeps bytes bytes
 kept None = tt

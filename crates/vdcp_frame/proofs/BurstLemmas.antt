@@ -1,5 +1,6 @@
 -- The computed reading is the reading.
-use Rattle.std.proofs.Common.{◌≡◌, ℕ, zero, suc, ◌-◌, ◌<◌, ◌≤◌, cond, ltb, List, [], ◌++◌, length, take, drop, refl, sym, ap, subst, ◌∙◌, append_assoc, arith, length-append}
+use Rattle.std.proofs.Common.{◌≡◌, ℕ, zero, suc, ◌-◌, ◌<◌, ◌≤◌, cond, ltb, List, [], ◌++◌, length, take, drop, refl, sym, ap, subst, ◌∙◌}
+use Rattle.std.proofs.Common.{append_assoc, arith, length-append}
 use Rattle.std.proofs.lemmas.List.{take-append-drop, length-drop, nil_from_length}
 use Rattle.std.proofs.lemmas.List.Elements.{All-take, All-drop}
 use Rattle.vdcp_frame.specs.Message.{Content, AreOctets}
@@ -31,7 +32,8 @@ split_at n bytes (found m size) le fits is more =
     let s = more tail (omega (arith, is.some, is.within, length-drop size bytes)) (All-drop (λ b. b < 256) size bytes fits) in
     record {
       whole = take size bytes ++ s.whole;
-      parts = sym (take-append-drop size bytes) ∙ ap (λ (t : List ℕ). take size bytes ++ t) s.parts ∙ sym (append_assoc (take size bytes) s.whole (left_within n tail));
+      parts = sym (take-append-drop size bytes) ∙ ap (λ (t : List ℕ). take size bytes ++ t) s.parts
+          ∙ sym (append_assoc (take size bytes) s.whole (left_within n tail));
       spelt = (take size bytes, s.whole, is.spelt, s.spelt, refl);
       fits = s.fits;
       none = s.none;
@@ -58,8 +60,15 @@ reads_short bytes fits =
       parts = s.parts;
       spelt = s.spelt;
       no_front = s.none;
-      ends = subst (λ (n : ℕ). Ends n remainder (short_end bytes)) (sym before) (ends_at (length bytes - length remainder) remainder (head_of remainder) (head_is remainder s.fits) s.none);
+      ends = subst (λ (n : ℕ). Ends n remainder (short_end bytes)) (sym before)
+          (ends_at (length bytes - length remainder) remainder (head_of remainder) (head_is remainder s.fits) s.none);
     }
 
-pub reads_computed : (limit : ℕ) (burst : List ℕ) → AreOctets burst → ReadsUpTo limit burst (messages_within (length (take limit burst)) (take limit burst)) (cond (ltb limit (length burst)) (long_end limit (short_end (take limit burst))) (short_end (take limit burst)))
-reads_computed limit burst fits = record { short = short_end (take limit burst); front = reads_short (take limit burst) (All-take (λ b. b < 256) limit burst fits); long = refl }
+pub reads_computed : (limit : ℕ) (burst : List ℕ) → AreOctets burst
+    → ReadsUpTo limit burst (messages_within (length (take limit burst)) (take limit burst))
+    (cond (ltb limit (length burst)) (long_end limit (short_end (take limit burst))) (short_end (take limit burst)))
+reads_computed limit burst fits = record {
+  short = short_end (take limit burst);
+  front = reads_short (take limit burst) (All-take (λ b. b < 256) limit burst fits);
+  long = refl;
+}

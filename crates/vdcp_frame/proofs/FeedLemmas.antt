@@ -28,7 +28,8 @@ pub now_failed : (now : Progress) (f : Bool) (t : ℕ) (p : Partial) → cond f 
 now_failed now f t p old_is f_is = sym old_is ∙ ap (λ (b : Bool). cond b failed (reading t (held_bytes p))) f_is
 
 -- a reader that took t bytes and holds p is fed n of the first k bytes of a piece
-module _ (now : Progress) (f : Bool) (t : ℕ) (p new : Partial) (piece : List ℕ) (k n : ℕ) (old_is : cond f failed (reading t (held_bytes p)) ≡ now) (f_is : f ≡ false) (t_fits : t ≤ 4096) (k_is : k ≡ min (length piece) (4096 - t)) (within : n ≤ length (take k piece)) where
+module _ (now : Progress) (f : Bool) (t : ℕ) (p new : Partial) (piece : List ℕ) (k n : ℕ) (old_is : cond f failed (reading t (held_bytes p)) ≡ now)
+    (f_is : f ≡ false) (t_fits : t ≤ 4096) (k_is : k ≡ min (length piece) (4096 - t)) (within : n ≤ length (take k piece)) where
   now_is : now ≡ reading t (held_bytes p)
   now_is = sym old_is ∙ ap (λ (b : Bool). cond b failed (reading t (held_bytes p))) f_is
 
@@ -54,7 +55,8 @@ module _ (now : Progress) (f : Bool) (t : ℕ) (p new : Partial) (piece : List �
       } in
       subst (λ (o : Progress). Gives o piece n (message m)) (sym now_is) takes
 
-  pub message_after : (m : Content) → BringsMessage (held_bytes p) (take k piece) n m new → cond f failed (reading (t + n) (held_bytes new)) ≡ fed now piece n (message m)
+  pub message_after : (m : Content) → BringsMessage (held_bytes p) (take k piece) n m new
+      → cond f failed (reading (t + n) (held_bytes new)) ≡ fed now piece n (message m)
   message_after m b = view_is [] b.done ∙ ap (λ (o : Progress). fed o piece n (message m)) (sym now_is)
 
   pub more_gives : BringsAll (held_bytes p) (take k piece) n new → length piece ≤ n → Gives now piece n more
@@ -78,7 +80,8 @@ module _ (now : Progress) (f : Bool) (t : ℕ) (p new : Partial) (piece : List �
         some = omega arith;
         within = omega arith;
         past = omega (arith, b.all, length-take k piece);
-        unfinished = subst (λ (i : ℕ). IsUnfinished (held_bytes p ++ take i piece)) one (subst (λ (l : List ℕ). IsUnfinished (held_bytes p ++ l)) same b.unfinished);
+        unfinished = subst (λ (i : ℕ). IsUnfinished (held_bytes p ++ take i piece)) one
+            (subst (λ (l : List ℕ). IsUnfinished (held_bytes p ++ l)) same b.unfinished);
       } in
       subst (λ (o : Progress). Gives o piece (n + 1) (wrong Long 4097)) (sym now_is) (takes, sym takes.past)
 

@@ -1,5 +1,6 @@
 -- What stands at the front of some bytes: the answer of head_of means what it says.
-use Rattle.std.proofs.Common.{◌≡◌, ℕ, zero, suc, ◌+◌, ◌-◌, ◌*◌, ◌/◌, ◌%◌, ◌<◌, ◌≤◌, ◌==◌, true, false, ltb, List, [], ◌∷◌, ◌++◌, length, get_or, take, drop, sum, refl, sym, ap, subst, ◌∙◌, append_assoc, arith, inl, inr, length-append, replicate}
+use Rattle.std.proofs.Common.{◌≡◌, ℕ, zero, suc, ◌+◌, ◌-◌, ◌*◌, ◌/◌, ◌%◌, ◌<◌, ◌≤◌, ◌==◌, true, false, ltb, List, [], ◌∷◌, ◌++◌, length, get_or, take}
+use Rattle.std.proofs.Common.{drop, sum, refl, sym, ap, subst, ◌∙◌, append_assoc, arith, inl, inr, length-append, replicate}
 use Rattle.std.specs.Prelude.{All}
 use Rattle.std.proofs.lemmas.Bool.{cases_lt, cases_eq, lt-ltb, le-ltb, eq-eqb, ne_eqb}
 use Rattle.std.proofs.lemmas.List.{take-append-drop, length-take, append-nil, take-take, take_more, length-replicate}
@@ -29,20 +30,23 @@ remainder kind unit h = omega arith
 data_found : (kind unit code : ℕ) (rest : List ℕ) (check : ℕ) (more : List ℕ) → unit < 16 → (16 * kind + unit + code + sum rest + check) % 256 ≡ 0 →
     data_head (length rest) (16 * kind + unit) code ((rest ++ check ∷ []) ++ more) ≡ found (framed kind unit code rest) (length rest + 5)
 data_found kind unit code rest check more h adds_up =
-    let long : ltb (length rest) (length ((rest ++ check ∷ []) ++ more)) ≡ true = lt-ltb _ _ (omega (arith, length-append (rest ++ check ∷ []) more, length-append rest (check ∷ []))) in
+    let long : ltb (length rest) (length ((rest ++ check ∷ []) ++ more)) ≡ true =
+    lt-ltb _ _ (omega (arith, length-append (rest ++ check ∷ []) more, length-append rest (check ∷ []))) in
     rw (long, front_of_data rest check more, at_check rest check more, adds_up, quotient kind unit h, remainder kind unit h) refl
 
 -- a frame whose bytes don't add up is wrong, whatever follows
 pub data_bad : (n x code : ℕ) (rest : List ℕ) (check : ℕ) (more : List ℕ) → length rest ≡ n → ((x + code + sum rest + check) % 256 ≡ 0 → ⊥) →
     data_head n x code ((rest ++ check ∷ []) ++ more) ≡ wrong BadSum (n + 5)
 data_bad n x code rest check more size bad =
-    let long : ltb (length rest) (length ((rest ++ check ∷ []) ++ more)) ≡ true = lt-ltb _ _ (omega (arith, length-append (rest ++ check ∷ []) more, length-append rest (check ∷ []))) in
+    let long : ltb (length rest) (length ((rest ++ check ∷ []) ++ more)) ≡ true =
+    lt-ltb _ _ (omega (arith, length-append (rest ++ check ∷ []) more, length-append rest (check ∷ []))) in
     let test : ((x + code + sum rest + check) % 256 == 0) ≡ false = ne_eqb _ _ bad in
     let is : data_head (length rest) x code ((rest ++ check ∷ []) ++ more) ≡ wrong BadSum (length rest + 5) =
     rw (long, front_of_data rest check more, at_check rest check more, test) refl in
     subst (λ (k : ℕ). data_head k x code ((rest ++ check ∷ []) ++ more) ≡ wrong BadSum (k + 5)) size is
 
-pub spelt_list : (kind unit code : ℕ) (rest front : List ℕ) (s : SpellsFrame kind unit code rest front) → front ≡ 2 ∷ suc (suc (length rest)) ∷ (16 * kind + unit) ∷ code ∷ (rest ++ s.check ∷ [])
+pub spelt_list : (kind unit code : ℕ) (rest front : List ℕ) (s : SpellsFrame kind unit code rest front)
+    → front ≡ 2 ∷ suc (suc (length rest)) ∷ (16 * kind + unit) ∷ code ∷ (rest ++ s.check ∷ [])
 spelt_list kind unit code rest front s =
     let two : length rest + 2 ≡ suc (suc (length rest)) = omega arith in
     s.spelt ∙ ap (λ (n : ℕ). 2 ∷ n ∷ (16 * kind + unit) ∷ code ∷ (rest ++ s.check ∷ [])) two
@@ -88,7 +92,8 @@ Begins-take k bytes h = Begins-front (take k bytes) (drop k bytes) (subst Begins
 pub Begins-spelt : (m : Content) (bytes : List ℕ) → Spells m bytes → Begins bytes
 Begins-spelt m bytes s = record { message = m; more = []; spelt = subst (Spells m) (sym (append-nil bytes)) s }
 
-pub frame_spelt : (x code : ℕ) (rest : List ℕ) (check : ℕ) → x < 256 → code < 256 → check < 256 → AreOctets rest → length rest ≤ 253 → (x + code + sum rest + check) % 256 ≡ 0 →
+pub frame_spelt : (x code : ℕ) (rest : List ℕ) (check : ℕ) → x < 256 → code < 256 → check < 256 → AreOctets rest → length rest ≤ 253
+    → (x + code + sum rest + check) % 256 ≡ 0 →
     Spells (framed (x / 16) (x % 16) code rest) (2 ∷ suc (suc (length rest)) ∷ x ∷ code ∷ (rest ++ check ∷ []))
 frame_spelt x code rest check x_fits code_fits byte fits size adds_up =
     let whole : 16 * (x / 16) + x % 16 ≡ x = omega arith in
@@ -163,7 +168,8 @@ wrong_start b bs e = record {
   fault_is = refl;
 }
 
-wrong_count : (count : ℕ) (body : List ℕ) → ((more : List ℕ) → head_of (2 ∷ count ∷ more) ≡ wrong (BadCount count) 2) → IsWrong (2 ∷ count ∷ body) (BadCount count) 2
+wrong_count : (count : ℕ) (body : List ℕ) → ((more : List ℕ) → head_of (2 ∷ count ∷ more) ≡ wrong (BadCount count) 2)
+    → IsWrong (2 ∷ count ∷ body) (BadCount count) 2
 wrong_count count body e = record {
   first = record {
     within = omega arith;
@@ -185,7 +191,8 @@ module _ (n x code : ℕ) (tail : List ℕ) (n_fits : n ≤ 253) (x_fits : x < 2
       let five : n + 5 ≡ suc (suc (suc (suc (n + 1)))) = omega arith in
       rw five (ap (λ (t : List ℕ). 2 ∷ suc (suc n) ∷ x ∷ code ∷ t) (take_more tail n 0 long))
 
-  data_spelt : n < length tail → (x + code + sum (take n tail) + get_or tail n 0) % 256 ≡ 0 → IsFound (2 ∷ suc (suc n) ∷ x ∷ code ∷ tail) (framed (x / 16) (x % 16) code (take n tail)) (n + 5)
+  data_spelt : n < length tail → (x + code + sum (take n tail) + get_or tail n 0) % 256 ≡ 0
+      → IsFound (2 ∷ suc (suc n) ∷ x ∷ code ∷ tail) (framed (x / 16) (x % 16) code (take n tail)) (n + 5)
   data_spelt long adds_up =
       let size : length (take n tail) ≡ n = omega (arith, length-take n tail) in
       let check_fits : get_or tail n 0 < 256 = All-get_or (λ b. b < 256) tail n 0 long fits in
@@ -193,7 +200,8 @@ module _ (n x code : ℕ) (tail : List ℕ) (n_fits : n ≤ 253) (x_fits : x < 2
       record {
         some = omega arith;
         within = omega arith;
-        spelt = rw (data_whole long) (subst (λ (k : ℕ). Spells (framed (x / 16) (x % 16) code (take n tail)) (2 ∷ suc (suc k) ∷ x ∷ code ∷ (take n tail ++ get_or tail n 0 ∷ []))) size spelt);
+        spelt = rw (data_whole long) (subst (λ (k : ℕ). Spells (framed (x / 16) (x % 16) code (take n tail))
+            (2 ∷ suc (suc k) ∷ x ∷ code ∷ (take n tail ++ get_or tail n 0 ∷ []))) size spelt);
       }
 
   data_wrong : n < length tail → ((x + code + sum (take n tail) + get_or tail n 0) % 256 ≡ 0 → ⊥) → IsWrong (2 ∷ suc (suc n) ∷ x ∷ code ∷ tail) BadSum (n + 5)
@@ -210,7 +218,8 @@ module _ (n x code : ℕ) (tail : List ℕ) (n_fits : n ≤ 253) (x_fits : x < 2
           within = omega arith;
           wrong = rw (data_whole long) (not_wrong (2 ∷ suc (suc n) ∷ x ∷ code ∷ (take n tail ++ get_or tail n 0 ∷ [])) BadSum (n + 5)
               (λ more. data_bad n x code (take n tail) (get_or tail n 0) more size bad));
-          shorter = subst (λ (m : ℕ). (k : ℕ) → k < m → Begins (take k (2 ∷ suc (suc n) ∷ x ∷ code ∷ tail))) five (shorter_than (2 ∷ suc (suc n) ∷ x ∷ code ∷ tail) (n + 4) begins);
+          shorter = subst (λ (m : ℕ). (k : ℕ) → k < m → Begins (take k (2 ∷ suc (suc n) ∷ x ∷ code ∷ tail))) five
+              (shorter_than (2 ∷ suc (suc n) ∷ x ∷ code ∷ tail) (n + 4) begins);
         };
         no_front = no_front_of (2 ∷ suc (suc n) ∷ x ∷ code ∷ tail) (wrong BadSum (n + 5)) is tt;
         fault_is = rw (data_whole long) refl;
@@ -232,7 +241,8 @@ body_is n [] n_fits fits = part_is 2 (suc (suc n) ∷ []) refl (Begins-count n n
 body_is n (x ∷ []) n_fits fits = part_is 2 (suc (suc n) ∷ x ∷ []) refl (Begins-counted n x n_fits (All-head (λ b. b < 256) x [] fits))
 body_is n (x ∷ code ∷ tail) n_fits fits =
     let rest_fits = All-tail (λ b. b < 256) x (code ∷ tail) fits in
-    data_is n x code tail n_fits (All-head (λ b. b < 256) x (code ∷ tail) fits) (All-head (λ b. b < 256) code tail rest_fits) (All-tail (λ b. b < 256) code tail rest_fits)
+    data_is n x code tail n_fits (All-head (λ b. b < 256) x (code ∷ tail) fits) (All-head (λ b. b < 256) code tail rest_fits)
+    (All-tail (λ b. b < 256) code tail rest_fits)
 
 frame_is : (bytes : List ℕ) → AreOctets bytes → HeadIs (2 ∷ bytes) (frame_head bytes)
 frame_is [] fits = part_is 2 [] refl Begins-start
@@ -257,7 +267,8 @@ head_is (b ∷ bytes) fits =
         | inl is_nak ↦ rw is_nak (nak_is bytes rest_fits)
         | inr no_nak ↦ elim (cases_eq b 2) [
           | inl is_frame ↦ rw is_frame (frame_is bytes rest_fits)
-          | inr no_frame ↦ rw (ne_eqb _ _ no_ack, ne_eqb _ _ no_nak, ne_eqb _ _ no_frame) (wrong_start b bytes (λ more. rw (ne_eqb _ _ no_ack, ne_eqb _ _ no_nak, ne_eqb _ _ no_frame) refl))
+          | inr no_frame ↦ rw (ne_eqb _ _ no_ack, ne_eqb _ _ no_nak, ne_eqb _ _ no_frame)
+              (wrong_start b bytes (λ more. rw (ne_eqb _ _ no_ack, ne_eqb _ _ no_nak, ne_eqb _ _ no_frame) refl))
         ]
       ]
     ]

@@ -1,5 +1,6 @@
 -- What the bytes of a piece bring to those that are held.
-use Rattle.std.proofs.Common.{◌≡◌, ℕ, zero, suc, ◌+◌, ◌-◌, ◌*◌, ◌/◌, ◌%◌, ◌<◌, ◌≤◌, List, [], ◌∷◌, ◌++◌, length, take, drop, get_or, sum, sym, ap, subst, ◌∙◌, append_assoc, arith}
+use Rattle.std.proofs.Common.{◌≡◌, ℕ, zero, suc, ◌+◌, ◌-◌, ◌*◌, ◌/◌, ◌%◌, ◌<◌, ◌≤◌, List, [], ◌∷◌, ◌++◌, length, take, drop, get_or, sum, sym, ap}
+use Rattle.std.proofs.Common.{subst, ◌∙◌, append_assoc, arith}
 use Rattle.std.proofs.lemmas.Bool.{le-ltb}
 use Rattle.std.proofs.lemmas.List.{length-take, take_all, take-take, drop-take, get_or-take, append-nil}
 use Rattle.std.proofs.lemmas.List.Sums.{sum_by-append}
@@ -14,7 +15,8 @@ use Rattle.vdcp_frame.specs.Message.{Content, ack, nak, framed, AreOctets, Spell
 use Rattle.vdcp_frame.specs.Head as head
 use Rattle.vdcp_frame.specs.Head.{head_of, body_head, HeadIs}
 use Rattle.vdcp_frame.specs.Reader.{IsUnfinished}
-use Rattle.vdcp_frame.specs.Held.{bytes_of, held_bytes, AreBegun, IsPartial, IsWhole, frame_in, IsBegun, Brings, BringsMessage, BringsFrame, BringsWrong, BringsAll, Yields}
+use Rattle.vdcp_frame.specs.Held.{bytes_of, held_bytes, AreBegun, IsPartial, IsWhole, frame_in, IsBegun, Brings, BringsMessage, BringsFrame}
+use Rattle.vdcp_frame.specs.Held.{BringsWrong, BringsAll, Yields}
 use Rattle.vdcp_frame.proofs.HeadLemmas.{head_is}
 use Rattle.vdcp_frame.proofs.FrameLemmas.{frame_found}
 use Rattle.vdcp_frame.proofs.ReaderLemmas.{unfinished_nil}
@@ -25,15 +27,25 @@ taken_first old byte bytes n =
     append_assoc old (byte ∷ []) (take n bytes) ∙ ap (λ (k : ℕ). old ++ take k (byte ∷ bytes)) (sym more)
 
 -- a byte that is held already may as well be the first one taken
-pub Brings-first : (old : List ℕ) (byte : ℕ) (bytes : List ℕ) (n : ℕ) (f : Found) (new : Partial) → Brings (old ++ byte ∷ []) bytes n f new → Brings old (byte ∷ bytes) (n + 1) f new
+pub Brings-first : (old : List ℕ) (byte : ℕ) (bytes : List ℕ) (n : ℕ) (f : Found) (new : Partial) → Brings (old ++ byte ∷ []) bytes n f new
+    → Brings old (byte ∷ bytes) (n + 1) f new
 Brings-first old byte bytes n found.Nothing new b = (omega (arith, b.0), b.1 ∙ taken_first old byte bytes n)
 Brings-first old byte bytes n found.Ack new b = (subst (λ (l : List ℕ). head_of l ≡ head.found ack (length l)) (taken_first old byte bytes n) b.0, b.1)
-Brings-first old byte bytes n (found.Nak other) new b = (subst (λ (l : List ℕ). head_of l ≡ head.found (nak other) (length l)) (taken_first old byte bytes n) b.0, b.1)
+Brings-first old byte bytes n (found.Nak other) new b = (
+  subst (λ (l : List ℕ). head_of l ≡ head.found (nak other) (length l))
+      (taken_first old byte bytes n) b.0,
+  b.1,
+)
 Brings-first old byte bytes n (found.Frame len) new b = (subst (λ (l : List ℕ). IsWhole l len new.buffer) (taken_first old byte bytes n) b.0, b.1)
-Brings-first old byte bytes n (found.Wrong which) new b = (subst (λ (l : List ℕ). head_of l ≡ head.wrong which (length l)) (taken_first old byte bytes n) b.0, b.1)
+Brings-first old byte bytes n (found.Wrong which) new b = (
+  subst (λ (l : List ℕ). head_of l ≡ head.wrong which (length l))
+      (taken_first old byte bytes n) b.0,
+  b.1,
+)
 
 -- the same as a slice pattern cuts the piece
-pub Brings-behind : (old bytes : List ℕ) (n : ℕ) (f : Found) (new : Partial) → 1 ≤ length bytes → Brings (old ++ get_or bytes 0 0 ∷ []) (take (length bytes - 1) (drop 1 bytes)) n f new → Brings old bytes (n + 1) f new
+pub Brings-behind : (old bytes : List ℕ) (n : ℕ) (f : Found) (new : Partial) → 1 ≤ length bytes
+    → Brings (old ++ get_or bytes 0 0 ∷ []) (take (length bytes - 1) (drop 1 bytes)) n f new → Brings old bytes (n + 1) f new
 Brings-behind old [] n f new some b = absurd (omega arith)
 Brings-behind old (byte ∷ bytes) n f new some b =
     let all : take (length (byte ∷ bytes) - 1) bytes ≡ bytes = take_all (length (byte ∷ bytes) - 1) bytes (omega arith) in
@@ -77,7 +89,8 @@ unfinished_at bytes (head.wrong which size) is o = absurd o
 unfinished_at bytes (head.found message size) is o = absurd o
 
 begun_unfinished : (h : Held) (buffer : List ℕ) → AreBegun h buffer → IsUnfinished (bytes_of h buffer)
-begun_unfinished h buffer b = unfinished_at (bytes_of h buffer) (head_of (bytes_of h buffer)) (head_is (bytes_of h buffer) (begun_bytes h buffer b)) (begun_open h buffer b)
+begun_unfinished h buffer b = unfinished_at (bytes_of h buffer) (head_of (bytes_of h buffer)) (head_is (bytes_of h buffer) (begun_bytes h buffer b))
+    (begun_open h buffer b)
 
 -- something was taken where the head isn't open any more
 some_taken : (old bytes : List ℕ) (n : ℕ) (h : head.Head) → IsOpen (head_of old) → head_of (old ++ take n bytes) ≡ h → (IsOpen h → ⊥) → 0 < n
@@ -96,7 +109,8 @@ whole_is frame len buffer w =
     let split : len ≡ 2 + (len - 2) = omega (arith, w.least) in
     let less : n ≤ len - 2 = omega (arith, w.least) in
     let rest : take n (drop 2 body) ≡ take n (drop 2 buffer) =
-    ap (λ (k : ℕ). take n (drop 2 (take k buffer))) split ∙ ap (λ (b : List ℕ). take n b) (drop-take 2 (len - 2) buffer) ∙ take-take n (len - 2) (drop 2 buffer) less in
+    ap (λ (k : ℕ). take n (drop 2 (take k buffer))) split ∙ ap (λ (b : List ℕ). take n b) (drop-take 2 (len - 2) buffer)
+    ∙ take-take n (len - 2) (drop 2 buffer) less in
     let total : n + 5 ≡ length frame = omega (arith, size, ap (length {A = ℕ}) is) in
     ap head_of is ∙ frame_found n body size w.adds_up
     ∙ ap (λ (x : ℕ). head.found (framed (x / 16) (x % 16) (get_or body 1 0) (take n (drop 2 body))) (n + 5)) first
@@ -105,7 +119,8 @@ whole_is frame len buffer w =
     ∙ ap (λ (k : ℕ). head.found (frame_in len buffer) k) total
 
 module _ (old bytes : List ℕ) (n : ℕ) (new : Partial) (o : IsOpen (head_of old)) (fits : AreOctets (old ++ take n bytes)) where
-  yields_message : (m : Content) → head_of (old ++ take n bytes) ≡ head.found m (length (old ++ take n bytes)) → held_bytes new ≡ [] → BringsMessage old bytes n m new
+  yields_message : (m : Content) → head_of (old ++ take n bytes) ≡ head.found m (length (old ++ take n bytes)) → held_bytes new ≡ []
+      → BringsMessage old bytes n m new
   yields_message m e done =
       let is = subst (HeadIs (old ++ take n bytes)) e (head_is (old ++ take n bytes) fits) in
       record {
@@ -114,7 +129,8 @@ module _ (old bytes : List ℕ) (n : ℕ) (new : Partial) (o : IsOpen (head_of o
         done = done;
       }
 
-  yields_wrong : (which : Fault) → head_of (old ++ take n bytes) ≡ head.wrong which (length (old ++ take n bytes)) → held_bytes new ≡ [] → BringsWrong old bytes n which new
+  yields_wrong : (which : Fault) → head_of (old ++ take n bytes) ≡ head.wrong which (length (old ++ take n bytes)) → held_bytes new ≡ []
+      → BringsWrong old bytes n which new
   yields_wrong which e done = record {
     some = some_taken old bytes n (head.wrong which (length (old ++ take n bytes))) o e (λ x. x);
     first = subst (HeadIs (old ++ take n bytes)) e (head_is (old ++ take n bytes) fits);
@@ -131,7 +147,8 @@ module _ (old bytes : List ℕ) (n : ℕ) (new : Partial) (o : IsOpen (head_of o
     message = yields_message (frame_in len new.buffer) (whole_is (old ++ take n bytes) len new.buffer w) done;
   }
 
-yields : (old bytes : List ℕ) (n : ℕ) (f : Found) (new : Partial) → IsOpen (head_of old) → AreOctets (old ++ take n bytes) → IsPartial new → Brings old bytes n f new → Yields old bytes n f new
+yields : (old bytes : List ℕ) (n : ℕ) (f : Found) (new : Partial) → IsOpen (head_of old) → AreOctets (old ++ take n bytes) → IsPartial new
+    → Brings old bytes n f new → Yields old bytes n f new
 yields old bytes n found.Nothing new o fits p b = yields_all old bytes n new o fits b.0 b.1 p
 yields old bytes n found.Ack new o fits p b = yields_message old bytes n new o fits ack b.0 b.1
 yields old bytes n (found.Nak byte) new o fits p b = yields_message old bytes n new o fits (nak byte) b.0 b.1
@@ -139,13 +156,15 @@ yields old bytes n (found.Frame len) new o fits p b = yields_frame old bytes n n
 yields old bytes n (found.Wrong which) new o fits p b = yields_wrong old bytes n new o fits which b.0 b.1
 
 -- behind what is held, the bytes bring what their spellings say
-pub yields_from : (h : Held) (buffer bytes : List ℕ) (n : ℕ) (f : Found) (new : Partial) → AreBegun h buffer → AreOctets bytes → IsPartial new → Brings (bytes_of h buffer) bytes n f new → Yields (bytes_of h buffer) bytes n f new
+pub yields_from : (h : Held) (buffer bytes : List ℕ) (n : ℕ) (f : Found) (new : Partial) → AreBegun h buffer → AreOctets bytes → IsPartial new
+    → Brings (bytes_of h buffer) bytes n f new → Yields (bytes_of h buffer) bytes n f new
 yields_from h buffer bytes n f new b fits p brings =
     yields (bytes_of h buffer) bytes n f new (begun_open h buffer b)
     (All-append (λ x. x < 256) (bytes_of h buffer) (take n bytes) (begun_bytes h buffer b) (All-take (λ x. x < 256) n bytes fits)) p brings
 
 -- a piece that doesn't fill the frame leaves it begun
-pub begun_more : (count len total : ℕ) (old new piece : List ℕ) (n extra : ℕ) → IsBegun count len total old → n ≡ length piece → take (len + n) new ≡ take len old ++ piece → AreOctets piece → extra ≡ sum piece → extra ≤ 255 * length piece → len + n ≤ count →
+pub begun_more : (count len total : ℕ) (old new piece : List ℕ) (n extra : ℕ) → IsBegun count len total old → n ≡ length piece
+    → take (len + n) new ≡ take len old ++ piece → AreOctets piece → extra ≡ sum piece → extra ≤ 255 * length piece → len + n ≤ count →
     IsBegun count (len + n) (total + extra) new
 begun_more count len total old new piece n extra b size is fits adds bound lacks = record {
   counted = b.counted;

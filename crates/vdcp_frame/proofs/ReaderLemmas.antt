@@ -1,5 +1,6 @@
 -- A call of feed goes on the reading of the burst, and a silence ends it.
-use Rattle.std.proofs.Common.{◌≡◌, ℕ, ◌+◌, ◌-◌, ◌<◌, ◌≤◌, Bool, cond, ltb, List, [], ◌∷◌, ◌++◌, length, take, drop, refl, sym, ap, subst, ◌∙◌, append_assoc, arith, length-append}
+use Rattle.std.proofs.Common.{◌≡◌, ℕ, ◌+◌, ◌-◌, ◌<◌, ◌≤◌, Bool, cond, ltb, List, [], ◌∷◌, ◌++◌, length, take, drop, refl, sym, ap, subst, ◌∙◌}
+use Rattle.std.proofs.Common.{append_assoc, arith, length-append}
 use Rattle.std.proofs.lemmas.Bool.{lt-ltb, le-ltb}
 use Rattle.std.proofs.lemmas.List.{take-append-drop, take_at, take_all, take-take, length-take, length-drop, append-nil}
 use Rattle.vdcp_frame.specs.declared.message.Fault.{Fault}
@@ -7,7 +8,8 @@ use Rattle.vdcp_frame.specs.declared.message.Fault.TheVariants.{BadStart, BadCou
 use Rattle.vdcp_frame.specs.Message.{Content}
 use Rattle.vdcp_frame.specs.Reading.{SpellsAll, End, clean, cut, fault, Ends, long_end, ReadsUpTo, Reads}
 use Rattle.vdcp_frame.specs.Progress.{Progress, reading, failed}
-use Rattle.vdcp_frame.specs.Reader.{Answer, message, more, wrong, IsUnfinished, TakesMessage, TakesAll, TakesWrong, TakesLong, TakesFault, Gives, fed, ended_of, FollowsReading, FollowsFault, Follows, FollowsNext, ReadsAs}
+use Rattle.vdcp_frame.specs.Reader.{Answer, message, more, wrong, IsUnfinished, TakesMessage, TakesAll, TakesWrong, TakesLong, TakesFault, Gives, fed}
+use Rattle.vdcp_frame.specs.Reader.{ended_of, FollowsReading, FollowsFault, Follows, FollowsNext, ReadsAs}
 use Rattle.vdcp_frame.proofs.HeadLemmas.{Begins-nil}
 use Rattle.vdcp_frame.proofs.ReadingLemmas.{nil_no_front, SpellsAll-push, wrong_reads}
 
@@ -25,7 +27,8 @@ long_unfinished : (limit : ℕ) (held : List ℕ) → long_end limit (unfinished
 long_unfinished limit [] = refl
 long_unfinished limit (byte ∷ bytes) = refl
 
-unfinished_reads : (limit : ℕ) (burst : List ℕ) (ms : List Content) (whole held : List ℕ) → take limit burst ≡ whole ++ held → SpellsAll ms whole → IsUnfinished held →
+unfinished_reads : (limit : ℕ) (burst : List ℕ) (ms : List Content) (whole held : List ℕ) → take limit burst ≡ whole ++ held → SpellsAll ms whole
+    → IsUnfinished held →
     ReadsUpTo limit burst ms (cond (ltb limit (length burst)) (long_end limit (unfinished_end held)) (unfinished_end held))
 unfinished_reads limit burst ms whole held parts all h = record {
   short = unfinished_end held;
@@ -34,13 +37,16 @@ unfinished_reads limit burst ms whole held parts all h = record {
 }
 
 -- a burst within the limit
-pub short_reads : (limit : ℕ) (ms : List Content) (whole held : List ℕ) → SpellsAll ms whole → IsUnfinished held → length (whole ++ held) ≤ limit → ReadsUpTo limit (whole ++ held) ms (unfinished_end held)
+pub short_reads : (limit : ℕ) (ms : List Content) (whole held : List ℕ) → SpellsAll ms whole → IsUnfinished held → length (whole ++ held) ≤ limit
+    → ReadsUpTo limit (whole ++ held) ms (unfinished_end held)
 short_reads limit ms whole held all h room =
-    subst (λ (b : Bool). ReadsUpTo limit (whole ++ held) ms (cond b (long_end limit (unfinished_end held)) (unfinished_end held))) (le-ltb limit (length (whole ++ held)) room)
+    subst (λ (b : Bool). ReadsUpTo limit (whole ++ held) ms (cond b (long_end limit (unfinished_end held)) (unfinished_end held)))
+    (le-ltb limit (length (whole ++ held)) room)
     (unfinished_reads limit (whole ++ held) ms whole held (take_all limit (whole ++ held) room) all h)
 
 -- a burst past it
-pub long_reads : (limit : ℕ) (ms : List Content) (whole held remainder : List ℕ) → SpellsAll ms whole → IsUnfinished held → length (whole ++ held) ≡ limit → 0 < length remainder → ReadsUpTo limit ((whole ++ held) ++ remainder) ms (fault Long (limit + 1))
+pub long_reads : (limit : ℕ) (ms : List Content) (whole held remainder : List ℕ) → SpellsAll ms whole → IsUnfinished held
+    → length (whole ++ held) ≡ limit → 0 < length remainder → ReadsUpTo limit ((whole ++ held) ++ remainder) ms (fault Long (limit + 1))
 long_reads limit ms whole held remainder all h size some =
     let burst : List ℕ = (whole ++ held) ++ remainder in
     let past : limit < length burst = omega (arith, length-append (whole ++ held) remainder) in
@@ -59,9 +65,11 @@ grown burst piece taken n size within = omega (arith, length-append burst (take 
 pub unfinished_nil : IsUnfinished []
 unfinished_nil = record { begins = Begins-nil; no_front = nil_no_front }
 
-pub follows_message : (burst : List ℕ) (ms : List Content) (taken : ℕ) (held piece : List ℕ) (n : ℕ) (m : Content) → FollowsReading burst ms taken held → TakesMessage taken held piece n m → FollowsReading (burst ++ take n piece) (ms ++ m ∷ []) (taken + n) []
+pub follows_message : (burst : List ℕ) (ms : List Content) (taken : ℕ) (held piece : List ℕ) (n : ℕ) (m : Content)
+    → FollowsReading burst ms taken held → TakesMessage taken held piece n m → FollowsReading (burst ++ take n piece) (ms ++ m ∷ []) (taken + n) []
 follows_message burst ms taken held piece n m f t =
-    let front : burst ++ take n piece ≡ f.whole ++ (held ++ take n piece) = ap (λ (b : List ℕ). b ++ take n piece) f.parts ∙ joined f.whole held (take n piece) in
+    let front : burst ++ take n piece ≡ f.whole ++ (held ++ take n piece) = ap (λ (b : List ℕ). b ++ take n piece) f.parts
+    ∙ joined f.whole held (take n piece) in
     record {
       whole = f.whole ++ (held ++ take n piece);
       parts = front ∙ sym (append-nil (f.whole ++ (held ++ take n piece)));
@@ -71,7 +79,8 @@ follows_message burst ms taken held piece n m f t =
       limit = t.limit;
     }
 
-pub follows_more : (burst : List ℕ) (ms : List Content) (taken : ℕ) (held piece : List ℕ) (n : ℕ) → FollowsReading burst ms taken held → TakesAll taken held piece n → FollowsReading (burst ++ take n piece) ms (taken + n) (held ++ take n piece)
+pub follows_more : (burst : List ℕ) (ms : List Content) (taken : ℕ) (held piece : List ℕ) (n : ℕ) → FollowsReading burst ms taken held
+    → TakesAll taken held piece n → FollowsReading (burst ++ take n piece) ms (taken + n) (held ++ take n piece)
 follows_more burst ms taken held piece n f t = record {
   whole = f.whole;
   parts = ap (λ (b : List ℕ). b ++ take n piece) f.parts ∙ joined f.whole held (take n piece);
@@ -81,16 +90,23 @@ follows_more burst ms taken held piece n f t = record {
   limit = t.limit;
 }
 
-follows_wrong : (burst : List ℕ) (ms : List Content) (taken : ℕ) (held piece : List ℕ) (n : ℕ) (which : Fault) → FollowsReading burst ms taken held → TakesWrong taken held piece n which → FollowsFault (burst ++ take n piece) ms which (taken + n)
+follows_wrong : (burst : List ℕ) (ms : List Content) (taken : ℕ) (held piece : List ℕ) (n : ℕ) (which : Fault) → FollowsReading burst ms taken held
+    → TakesWrong taken held piece n which → FollowsFault (burst ++ take n piece) ms which (taken + n)
 follows_wrong burst ms taken held piece n which f t remainder =
     let w : List ℕ = held ++ take n piece in
     let front : burst ++ take n piece ≡ f.whole ++ w = ap (λ (b : List ℕ). b ++ take n piece) f.parts ∙ joined f.whole held (take n piece) in
-    let size : length f.whole + length w ≡ taken + n = omega (arith, grown burst piece taken n f.count t.within, ap (length {A = ℕ}) front, length-append f.whole w) in
+    let size : length f.whole + length w ≡ taken + n = omega (
+      arith,
+      grown burst piece taken n f.count t.within,
+      ap (length {A = ℕ}) front,
+      length-append f.whole w,
+    ) in
     subst (λ (p : ℕ). Reads ((burst ++ take n piece) ++ remainder) ms (fault which p)) size
     (subst (λ (b : List ℕ). Reads (b ++ remainder) ms (fault which (length f.whole + length w))) (sym front)
     (wrong_reads 4096 ms f.whole w remainder which f.spelt t.first (omega (arith, t.limit))))
 
-follows_long : (burst : List ℕ) (ms : List Content) (taken : ℕ) (held piece : List ℕ) (n : ℕ) → FollowsReading burst ms taken held → TakesLong taken held piece n → FollowsFault (burst ++ take n piece) ms Long (taken + n)
+follows_long : (burst : List ℕ) (ms : List Content) (taken : ℕ) (held piece : List ℕ) (n : ℕ) → FollowsReading burst ms taken held
+    → TakesLong taken held piece n → FollowsFault (burst ++ take n piece) ms Long (taken + n)
 follows_long burst ms taken held piece n f t remainder =
     let w : List ℕ = held ++ take (n - 1) piece in
     let last : List ℕ = drop (n - 1) (take n piece) in
@@ -100,27 +116,52 @@ follows_long burst ms taken held piece n f t remainder =
     ap (λ (b : List ℕ). b ++ take n piece) f.parts ∙ ap (λ (p : List ℕ). (f.whole ++ held) ++ p) split
     ∙ sym (append_assoc (f.whole ++ held) (take (n - 1) piece) last) ∙ ap (λ (b : List ℕ). b ++ last) (joined f.whole held (take (n - 1) piece)) in
     let size : length (f.whole ++ w) ≡ 4096 =
-    omega (arith, f.count, t.past, t.some, t.within, ap (length {A = ℕ}) f.parts, length-append f.whole held, length-append f.whole w, length-append held (take (n - 1) piece), length-take (n - 1) piece) in
-    let some : 0 < length (last ++ remainder) = omega (arith, t.some, t.within, length-append last remainder, length-drop (n - 1) (take n piece), length-take n piece) in
-    let long : Reads ((f.whole ++ w) ++ (last ++ remainder)) ms (fault Long 4097) = long_reads 4096 ms f.whole w (last ++ remainder) f.spelt t.unfinished size some in
+    omega (
+      arith,
+      f.count,
+      t.past,
+      t.some,
+      t.within,
+      ap (length {A = ℕ}) f.parts,
+      length-append f.whole held,
+      length-append f.whole w,
+      length-append held (take (n - 1) piece),
+      length-take (n - 1) piece,
+    ) in
+    let some : 0 < length (last ++ remainder) = omega (
+      arith,
+      t.some,
+      t.within,
+      length-append last remainder,
+      length-drop (n - 1) (take n piece),
+      length-take n piece,
+    ) in
+    let long : Reads ((f.whole ++ w) ++ (last ++ remainder)) ms (fault Long 4097) =
+    long_reads 4096 ms f.whole w (last ++ remainder) f.spelt t.unfinished size some in
     subst (λ (p : ℕ). Reads ((burst ++ take n piece) ++ remainder) ms (fault Long p)) (sym t.past)
     (subst (λ (b : List ℕ). Reads b ms (fault Long 4097)) (sym (ap (λ (b : List ℕ). b ++ remainder) front ∙ append_assoc (f.whole ++ w) last remainder)) long)
 
-pub follows_fault : (burst : List ℕ) (ms : List Content) (taken : ℕ) (held piece : List ℕ) (n : ℕ) (which : Fault) → FollowsReading burst ms taken held → TakesFault taken held piece n which → FollowsFault (burst ++ take n piece) ms which (taken + n)
+pub follows_fault : (burst : List ℕ) (ms : List Content) (taken : ℕ) (held piece : List ℕ) (n : ℕ) (which : Fault)
+    → FollowsReading burst ms taken held → TakesFault taken held piece n which → FollowsFault (burst ++ take n piece) ms which (taken + n)
 follows_fault burst ms taken held piece n BadStart f t = follows_wrong burst ms taken held piece n BadStart f t
 follows_fault burst ms taken held piece n (BadCount count) f t = follows_wrong burst ms taken held piece n (BadCount count) f t
 follows_fault burst ms taken held piece n BadSum f t = follows_wrong burst ms taken held piece n BadSum f t
 follows_fault burst ms taken held piece n Long f t = follows_long burst ms taken held piece n f t
 
 -- what follows the burst so far follows it with the bytes of one more call
-pub gives_follows : (burst : List ℕ) (ms : List Content) (old : Progress) (piece : List ℕ) (n : ℕ) (answer : Answer) → Gives old piece n answer → Follows burst ms old → FollowsNext (burst ++ take n piece) ms answer (fed old piece n answer)
+pub gives_follows : (burst : List ℕ) (ms : List Content) (old : Progress) (piece : List ℕ) (n : ℕ) (answer : Answer) → Gives old piece n answer
+    → Follows burst ms old → FollowsNext (burst ++ take n piece) ms answer (fed old piece n answer)
 gives_follows burst ms (reading taken held) piece n (message m) g f = follows_message burst ms taken held piece n m f g
 gives_follows burst ms (reading taken held) piece n more g f = follows_more burst ms taken held piece n f g
 gives_follows burst ms (reading taken held) piece n (wrong which place) g f =
     (subst (FollowsFault (burst ++ take n piece) ms which) (sym g.1) (follows_fault burst ms taken held piece n which f g.0), refl)
 gives_follows burst ms failed piece n (message m) g f = absurd g
-gives_follows burst ms failed piece n more g f =
-    (f.0, f.1, λ remainder. subst (λ (b : List ℕ). Reads b ms (fault f.0 f.1)) (sym (append_assoc burst (take n piece) remainder)) (f.2 (take n piece ++ remainder)))
+gives_follows burst ms failed piece n more g f = (
+  f.0,
+  f.1,
+  λ remainder. subst (λ (b : List ℕ). Reads b ms (fault f.0 f.1)) (sym (append_assoc burst (take n piece) remainder))
+      (f.2 (take n piece ++ remainder)),
+)
 gives_follows burst ms failed piece n (wrong which place) g f = absurd g
 
 -- ---- a silence

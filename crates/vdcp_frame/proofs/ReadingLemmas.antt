@@ -1,7 +1,9 @@
 -- Each burst has exactly one reading, and a step along it is a step of the reading.
-use Rattle.std.proofs.Common.{◌≡◌, ◌⊎◌, ℕ, ◌+◌, ◌-◌, ◌*◌, ◌%◌, ◌<◌, ◌≤◌, Bool, true, false, cond, ltb, List, [], ◌∷◌, ◌++◌, length, take, drop, sum, refl, sym, ap, subst, ◌∙◌, append_assoc, arith, inl, inr, length-append}
+use Rattle.std.proofs.Common.{◌≡◌, ◌⊎◌, ℕ, ◌+◌, ◌-◌, ◌*◌, ◌%◌, ◌<◌, ◌≤◌, Bool, true, false, cond, ltb, List, [], ◌∷◌, ◌++◌, length, take, drop, sum}
+use Rattle.std.proofs.Common.{refl, sym, ap, subst, ◌∙◌, append_assoc, arith, inl, inr, length-append}
 use Rattle.std.proofs.lemmas.Bool.{cases_lt, lt-ltb, le-ltb}
-use Rattle.std.proofs.lemmas.List.{take_at, take-append-drop, length-take, length-drop, append-nil, append_cancel_left, take_all, take-take, take-append-le, drop-take}
+use Rattle.std.proofs.lemmas.List.{take_at, take-append-drop, length-take, length-drop, append-nil, append_cancel_left, take_all, take-take}
+use Rattle.std.proofs.lemmas.List.{take-append-le, drop-take}
 use Rattle.vdcp_frame.specs.declared.message.Fault.{Fault}
 use Rattle.vdcp_frame.specs.declared.message.Fault.TheVariants.{Long}
 use Rattle.vdcp_frame.specs.Message.{Content, ack, nak, framed, Fits, Spells, check_byte, spelling}
@@ -64,7 +66,8 @@ SpellsAll-append (m ∷ ms) ns a b p q =
 pub nil_no_front : HasNoFront []
 nil_no_front m front more s e = absurd (omega (arith, spelt_some m front s, ap (length {A = ℕ}) e, length-append front more))
 
-same_whole : (ms ns : List Content) (a b x y : List ℕ) → SpellsAll ms a → SpellsAll ns b → HasNoFront x → HasNoFront y → a ++ x ≡ b ++ y → (ms ≡ ns) × (a ≡ b) × (x ≡ y)
+same_whole : (ms ns : List Content) (a b x y : List ℕ) → SpellsAll ms a → SpellsAll ns b → HasNoFront x → HasNoFront y → a ++ x ≡ b ++ y
+    → (ms ≡ ns) × (a ≡ b) × (x ≡ y)
 same_whole [] [] a b x y p q no_x no_y e =
     (refl, p ∙ sym q, sym (ap (λ (f : List ℕ). f ++ x) p) ∙ e ∙ ap (λ (f : List ℕ). f ++ y) q)
 same_whole [] (n ∷ ns) a b x y p q no_x no_y e =
@@ -120,7 +123,8 @@ one_short bytes ms ns e f p q =
     (same.0, one_end (length p.whole) p.remainder e f p.ends there)
 
 -- a burst has one reading at most
-pub one_reading : (limit : ℕ) (burst : List ℕ) (ms ns : List Content) (e f : End) → ReadsUpTo limit burst ms e → ReadsUpTo limit burst ns f → (ms ≡ ns) × (e ≡ f)
+pub one_reading : (limit : ℕ) (burst : List ℕ) (ms ns : List Content) (e f : End) → ReadsUpTo limit burst ms e → ReadsUpTo limit burst ns f
+    → (ms ≡ ns) × (e ≡ f)
 one_reading limit burst ms ns e f p q =
     let same = one_short (take limit burst) ms ns p.short q.short p.front q.front in
     (same.0, p.long ∙ ap (λ (s : End). cond (ltb limit (length burst)) (long_end limit s) s) same.1 ∙ sym q.long)
@@ -146,21 +150,33 @@ module _ (limit : ℕ) (burst : List ℕ) (from : ℕ) (within : from ≤ limit)
   found_within m size f = omega (arith, f.some, f.within, length-drop from (take limit burst), length-take limit burst)
 
   -- a message that is found in what is left goes on the messages of the front
-  pub next_front : (ms : List Content) (m : Content) (size : ℕ) → IsFound (left limit burst from) m size → SpellsAll ms (take from burst) → SpellsAll (ms ++ m ∷ []) (take (from + size) burst)
+  pub next_front : (ms : List Content) (m : Content) (size : ℕ) → IsFound (left limit burst from) m size → SpellsAll ms (take from burst)
+      → SpellsAll (ms ++ m ∷ []) (take (from + size) burst)
   next_front ms m size f all =
       let whole : take (from + size) burst ≡ take from burst ++ take size (left limit burst from) =
-      sym (take-take (from + size) limit burst (found_within m size f)) ∙ take-add from size (take limit burst) ∙ ap (λ (b : List ℕ). b ++ take size (left limit burst from)) front_of in
+      sym (take-take (from + size) limit burst (found_within m size f)) ∙ take-add from size (take limit burst)
+      ∙ ap (λ (b : List ℕ). b ++ take size (left limit burst from)) front_of in
       subst (SpellsAll (ms ++ m ∷ [])) (sym whole) (SpellsAll-push ms m (take from burst) (take size (left limit burst from)) all f.spelt)
 
-  reads_left : (ms : List Content) (end : End) → SpellsAll ms (take from burst) → HasNoFront (left limit burst from) → Ends (length (take from burst)) (left limit burst from) end → ReadsShort (take limit burst) ms end
-  reads_left ms end all none ends = record { whole = take from burst; remainder = left limit burst from; parts = left_parts; spelt = all; no_front = none; ends = ends }
+  reads_left : (ms : List Content) (end : End) → SpellsAll ms (take from burst) → HasNoFront (left limit burst from)
+      → Ends (length (take from burst)) (left limit burst from) end → ReadsShort (take limit burst) ms end
+  reads_left ms end all none ends = record {
+    whole = take from burst;
+    remainder = left limit burst from;
+    parts = left_parts;
+    spelt = all;
+    no_front = none;
+    ends = ends;
+  }
 
-  reads_end : (ms : List Content) (end : End) → SpellsAll ms (take from burst) → HasNoFront (left limit burst from) → Ends (length (take from burst)) (left limit burst from) end →
+  reads_end : (ms : List Content) (end : End) → SpellsAll ms (take from burst) → HasNoFront (left limit burst from)
+      → Ends (length (take from burst)) (left limit burst from) end →
       ReadsUpTo limit burst ms (cond (ltb limit (length burst)) (long_end limit end) end)
   reads_end ms end all none ends = record { short = end; front = reads_left ms end all none ends; long = refl }
 
   -- nothing is left
-  pub reads_nothing : (ms : List Content) → SpellsAll ms (take from burst) → left limit burst from ≡ [] → ReadsUpTo limit burst ms (cond (ltb limit (length burst)) (fault Long (limit + 1)) clean)
+  pub reads_nothing : (ms : List Content) → SpellsAll ms (take from burst) → left limit burst from ≡ []
+      → ReadsUpTo limit burst ms (cond (ltb limit (length burst)) (fault Long (limit + 1)) clean)
   reads_nothing ms all none = reads_end ms clean all (subst HasNoFront (sym none) nil_no_front) none
 
   -- part of a message is left
@@ -169,27 +185,36 @@ module _ (limit : ℕ) (burst : List ℕ) (from : ℕ) (within : from ≤ limit)
   reads_part ms all p = reads_end ms (cut (length (left limit burst from))) all p.no_front (p.some, p.begins, refl)
 
   -- what is left begins with a fault
-  pub reads_wrong : (ms : List Content) (which : Fault) (size : ℕ) → from ≤ length burst → SpellsAll ms (take from burst) → IsWrong (left limit burst from) which size → ReadsUpTo limit burst ms (fault which (from + size))
+  pub reads_wrong : (ms : List Content) (which : Fault) (size : ℕ) → from ≤ length burst → SpellsAll ms (take from burst)
+      → IsWrong (left limit burst from) which size → ReadsUpTo limit burst ms (fault which (from + size))
   reads_wrong ms which size fits all w =
       let before : length (take from burst) ≡ from = omega (arith, length-take from burst) in
-      let ends : Ends (length (take from burst)) (left limit burst from) (fault which (from + size)) = (size, w.first, ap (λ (n : ℕ). n + size) (sym before), w.fault_is) in
-      subst (ReadsUpTo limit burst ms) (either_way (ltb limit (length burst)) (fault which (from + size))) (reads_end ms (fault which (from + size)) all w.no_front ends)
+      let ends : Ends (length (take from burst)) (left limit burst from) (fault which (from + size)) =
+      (size, w.first, ap (λ (n : ℕ). n + size) (sym before), w.fault_is) in
+      subst (ReadsUpTo limit burst ms) (either_way (ltb limit (length burst)) (fault which (from + size)))
+      (reads_end ms (fault which (from + size)) all w.no_front ends)
 
   -- a burst that isn't too long ends behind a whole message
   pub reads_clean : (ms : List Content) → length burst ≤ limit → left limit burst from ≡ [] → SpellsAll ms (take from burst) → ReadsUpTo limit burst ms clean
-  reads_clean ms short none all = subst (λ (b : Bool). ReadsUpTo limit burst ms (cond b (fault Long (limit + 1)) clean)) (le-ltb limit (length burst) short) (reads_nothing ms all none)
+  reads_clean ms short none all = subst (λ (b : Bool). ReadsUpTo limit burst ms (cond b (fault Long (limit + 1)) clean))
+      (le-ltb limit (length burst) short) (reads_nothing ms all none)
 
   -- or inside a message
-  pub reads_cut : (ms : List Content) → from ≤ length burst → length burst ≤ limit → IsPart (left limit burst from) → SpellsAll ms (take from burst) → ReadsUpTo limit burst ms (cut (length burst - from))
+  pub reads_cut : (ms : List Content) → from ≤ length burst → length burst ≤ limit → IsPart (left limit burst from) → SpellsAll ms (take from burst)
+      → ReadsUpTo limit burst ms (cut (length burst - from))
   reads_cut ms fits short p all =
       let size : length (left limit burst from) ≡ length burst - from = omega (arith, length-drop from (take limit burst), length-take limit burst) in
       subst (λ (n : ℕ). ReadsUpTo limit burst ms (cut n)) size
-      (subst (λ (b : Bool). ReadsUpTo limit burst ms (cond b (fault Long (limit + 1)) (cut (length (left limit burst from))))) (le-ltb limit (length burst) short) (reads_part ms all p))
+      (subst (λ (b : Bool). ReadsUpTo limit burst ms (cond b (fault Long (limit + 1)) (cut (length (left limit burst from)))))
+      (le-ltb limit (length burst) short) (reads_part ms all p))
 
   -- and a longer one is a fault, where there was none before
-  pub reads_long : (ms : List Content) → limit < length burst → (left limit burst from ≡ []) ⊎ IsPart (left limit burst from) → SpellsAll ms (take from burst) → ReadsUpTo limit burst ms (fault Long (limit + 1))
-  reads_long ms long (inl none) all = subst (λ (b : Bool). ReadsUpTo limit burst ms (cond b (fault Long (limit + 1)) clean)) (lt-ltb limit (length burst) long) (reads_nothing ms all none)
-  reads_long ms long (inr p) all = subst (λ (b : Bool). ReadsUpTo limit burst ms (cond b (fault Long (limit + 1)) (cut (length (left limit burst from))))) (lt-ltb limit (length burst) long) (reads_part ms all p)
+  pub reads_long : (ms : List Content) → limit < length burst → (left limit burst from ≡ []) ⊎ IsPart (left limit burst from)
+      → SpellsAll ms (take from burst) → ReadsUpTo limit burst ms (fault Long (limit + 1))
+  reads_long ms long (inl none) all = subst (λ (b : Bool). ReadsUpTo limit burst ms (cond b (fault Long (limit + 1)) clean))
+      (lt-ltb limit (length burst) long) (reads_nothing ms all none)
+  reads_long ms long (inr p) all = subst (λ (b : Bool). ReadsUpTo limit burst ms
+      (cond b (fault Long (limit + 1)) (cut (length (left limit burst from))))) (lt-ltb limit (length burst) long) (reads_part ms all p)
 
   -- where the message that is found lies in the burst
   pub found_spelt : (m : Content) (size : ℕ) → IsFound (left limit burst from) m size → Spells m (take (from + size - from) (drop from burst))
@@ -197,13 +222,20 @@ module _ (limit : ℕ) (burst : List ℕ) (from : ℕ) (within : from ≤ limit)
       let fits : from + size ≤ limit = found_within m size f in
       let whole : limit ≡ from + (limit - from) = omega arith in
       let less : size ≤ limit - from = omega arith in
-      let same : left limit burst from ≡ take (limit - from) (drop from burst) = ap (λ (n : ℕ). drop from (take n burst)) whole ∙ drop-take from (limit - from) burst in
-      let there : take size (left limit burst from) ≡ take size (drop from burst) = ap (λ (b : List ℕ). take size b) same ∙ take-take size (limit - from) (drop from burst) less in
+      let same : left limit burst from ≡ take (limit - from) (drop from burst) = ap (λ (n : ℕ). drop from (take n burst)) whole
+      ∙ drop-take from (limit - from) burst in
+      let there : take size (left limit burst from) ≡ take size (drop from burst) = ap (λ (b : List ℕ). take size b) same
+      ∙ take-take size (limit - from) (drop from burst) less in
       let count : size ≡ from + size - from = omega arith in
       subst (λ (n : ℕ). Spells m (take n (drop from burst))) count (subst (Spells m) there f.spelt)
 
-  pub found_further : (m : Content) (size : ℕ) → IsFound (left limit burst from) m size → (from < from + size) × (from + size ≤ limit) × (from + size ≤ length burst)
-  found_further m size f = (omega (arith, f.some), found_within m size f, omega (arith, f.some, f.within, length-drop from (take limit burst), length-take limit burst))
+  pub found_further : (m : Content) (size : ℕ) → IsFound (left limit burst from) m size
+      → (from < from + size) × (from + size ≤ limit) × (from + size ≤ length burst)
+  found_further m size f = (
+    omega (arith, f.some),
+    found_within m size f,
+    omega (arith, f.some, f.within, length-drop from (take limit burst), length-take limit burst),
+  )
 
 -- ---- spellings
 
@@ -225,7 +257,8 @@ the_spelling m bytes s =
 -- ---- written messages are read again
 
 -- the messages of a longer list begin with those of a front
-goes_on : (ms ns : List Content) (a b more remainder : List ℕ) → SpellsAll ms a → SpellsAll ns b → HasNoFront remainder → a ++ more ≡ b ++ remainder → (others : List Content) × (ns ≡ ms ++ others)
+goes_on : (ms ns : List Content) (a b more remainder : List ℕ) → SpellsAll ms a → SpellsAll ns b → HasNoFront remainder → a ++ more ≡ b ++ remainder
+    → (others : List Content) × (ns ≡ ms ++ others)
 goes_on [] ns a b more remainder p q none e = (ns, refl)
 goes_on (m ∷ ms) [] a b more remainder p q none e =
     absurd (none m p.0 (p.1 ++ more) p.2 (sym (ap (λ (f : List ℕ). f ++ remainder) q) ∙ sym e ∙ ap (λ (f : List ℕ). f ++ more) p.4 ∙ append_assoc p.0 p.1 more))
@@ -241,7 +274,8 @@ front_up_to limit bytes more fits =
     let whole : limit ≡ length bytes + (limit - length bytes) = omega arith in
     ap (λ (n : ℕ). take n (bytes ++ more)) whole ∙ take-append-add bytes more (limit - length bytes)
 
-pub read_again : (limit : ℕ) (ms ns : List Content) (bytes more : List ℕ) (end : End) → SpellsAll ms bytes → length bytes ≤ limit → ReadsUpTo limit (bytes ++ more) ns end → (others : List Content) × (ns ≡ ms ++ others)
+pub read_again : (limit : ℕ) (ms ns : List Content) (bytes more : List ℕ) (end : End) → SpellsAll ms bytes → length bytes ≤ limit
+    → ReadsUpTo limit (bytes ++ more) ns end → (others : List Content) × (ns ≡ ms ++ others)
 read_again limit ms ns bytes more end all fits reads =
     goes_on ms ns bytes reads.front.whole (take (limit - length bytes) more) reads.front.remainder all reads.front.spelt reads.front.no_front
     (sym (front_up_to limit bytes more fits) ∙ reads.front.parts)
@@ -271,19 +305,23 @@ IsWrong-more w remainder which h =
         | inl longer ↦
             let front_is : front ≡ w ++ drop (length w) front =
             sym (take-append-drop (length w) front)
-            ∙ ap (λ (f : List ℕ). f ++ drop (length w) front) (sym (take-append-le (length w) front tail (omega arith)) ∙ ap (λ (f : List ℕ). take (length w) f) (sym e) ∙ take_at w remainder (length w) refl) in
+            ∙ ap (λ (f : List ℕ). f ++ drop (length w) front)
+            (sym (take-append-le (length w) front tail (omega arith)) ∙ ap (λ (f : List ℕ). take (length w) f) (sym e) ∙ take_at w remainder (length w) refl) in
             let begins : Begins w = record { message = m; more = drop (length w) front; spelt = subst (Spells m) front_is s } in
             h.first.wrong (subst Begins (sym (take_all (length w) w (omega arith))) begins)
         | inr fits ↦
             let front_is : front ≡ take (length front) w =
-            sym (take_at front tail (length front) refl) ∙ ap (λ (f : List ℕ). take (length front) f) (sym e) ∙ take-append-le (length front) w remainder fits in
-            h.no_front m front (drop (length front) w) s (sym (take-append-drop (length front) w) ∙ ap (λ (f : List ℕ). f ++ drop (length front) w) (sym front_is))
+            sym (take_at front tail (length front) refl) ∙ ap (λ (f : List ℕ). take (length front) f) (sym e)
+            ∙ take-append-le (length front) w remainder fits in
+            h.no_front m front (drop (length front) w) s (sym (take-append-drop (length front) w)
+            ∙ ap (λ (f : List ℕ). f ++ drop (length front) w) (sym front_is))
       ];
       fault_is = h.fault_is ∙ ap fault_of (sym at_end);
     }
 
 -- a burst that is wrong behind whole messages, whatever follows
-pub wrong_reads : (limit : ℕ) (ms : List Content) (whole w remainder : List ℕ) (which : Fault) → SpellsAll ms whole → IsWrong w which (length w) → length whole + length w ≤ limit →
+pub wrong_reads : (limit : ℕ) (ms : List Content) (whole w remainder : List ℕ) (which : Fault) → SpellsAll ms whole → IsWrong w which (length w)
+    → length whole + length w ≤ limit →
     ReadsUpTo limit ((whole ++ w) ++ remainder) ms (fault which (length whole + length w))
 wrong_reads limit ms whole w remainder which all h room =
     let front : List ℕ = whole ++ w in
@@ -293,6 +331,13 @@ wrong_reads limit ms whole w remainder which all h room =
     let there = IsWrong-more w tail which h in
     record {
       short = fault which (length whole + length w);
-      front = record { whole = whole; remainder = w ++ tail; parts = read; spelt = all; no_front = there.no_front; ends = (length w, there.first, refl, there.fault_is) };
+      front = record {
+        whole = whole;
+        remainder = w ++ tail;
+        parts = read;
+        spelt = all;
+        no_front = there.no_front;
+        ends = (length w, there.first, refl, there.fault_is);
+      };
       long = sym (either_way (ltb limit (length (front ++ remainder))) (fault which (length whole + length w)));
     }

@@ -48,6 +48,8 @@ pub use reader::Reader;
 pub use spelling::{Full, write};
 
 #[cfg(test)]
+mod equality_tests;
+#[cfg(test)]
 mod limit_tests;
 #[cfg(test)]
 mod reader_tests;

@@ -1,3 +1,5 @@
+use crate::access::Access;
+use crate::asked::Asked;
 use crate::{Catalogue, Port, reply_at_end};
 use arrayvec::ArrayVec;
 use linked_list_allocator::LocalHeap;
@@ -516,4 +518,27 @@ fn the_end_of_a_burst_is_answered(rt: HostRuntime) {
     for (ended, reply) in rows {
         assert_eq!(rt; reply_at_end(ended), reply, "to {ended:?}");
     }
+}
+
+/// Each of these values equals itself, and none of the others.
+fn are_all_different<T: PartialEq>(rt: &impl Abort, values: &[T]) {
+    for (i, a) in values.iter().enumerate() {
+        for (j, b) in values.iter().enumerate() {
+            assert_eq!(rt; a == b, i == j, "values {i} and {j}");
+        }
+    }
+}
+
+#[test]
+fn accesses_and_what_is_asked_are_told_apart(rt: HostRuntime) {
+    are_all_different(&rt, &[Access::Closed, Access::Open, Access::Selected]);
+    are_all_different(
+        &rt,
+        &[
+            Asked::Nothing,
+            Asked::NoCommand,
+            Asked::Command(Command::Play),
+            Asked::Command(Command::Stop),
+        ],
+    );
 }

@@ -401,21 +401,6 @@ fn parts_fit_within_their_clip(rt: HostRuntime) {
 }
 
 #[test]
-fn items_differ_by_their_parts(rt: HostRuntime) {
-    let whole = Item {
-        id: ClipId::new(CLIP0001),
-        part: None,
-    };
-    let mut cut = whole;
-    cut.part = Some(Part {
-        start: [0x00; 4],
-        duration: [0x01, 0x00, 0x00, 0x00],
-    });
-    assert!(rt; whole != cut);
-    assert_eq!(rt; whole.id, cut.id);
-}
-
-#[test]
 fn faults_are_worded(rt: HostRuntime) -> Result<(), Fail> {
     let alloc = rt.alloc();
     for (fault, words) in [
@@ -461,4 +446,125 @@ fn faults_are_worded(rt: HostRuntime) -> Result<(), Fail> {
         assert_eq!(rt; format!(in alloc; "{fault}")?.as_str(), words);
     }
     Ok(())
+}
+
+/// Each of these values equals itself, and none of the others.
+fn are_all_different<T: PartialEq>(rt: &impl Abort, values: &[T]) {
+    for (i, a) in values.iter().enumerate() {
+        for (j, b) in values.iter().enumerate() {
+            assert_eq!(rt; a == b, i == j, "values {i} and {j}");
+        }
+    }
+}
+
+#[test]
+fn ids_differ_by_each_byte(rt: HostRuntime) {
+    let id = |bytes| ClipId::new(bytes);
+    are_all_different(
+        &rt,
+        &[
+            id([0, 0, 0, 0, 0, 0, 0, 0]),
+            id([1, 0, 0, 0, 0, 0, 0, 0]),
+            id([0, 1, 0, 0, 0, 0, 0, 0]),
+            id([0, 0, 1, 0, 0, 0, 0, 0]),
+            id([0, 0, 0, 1, 0, 0, 0, 0]),
+            id([0, 0, 0, 0, 1, 0, 0, 0]),
+            id([0, 0, 0, 0, 0, 1, 0, 0]),
+            id([0, 0, 0, 0, 0, 0, 1, 0]),
+            id([0, 0, 0, 0, 0, 0, 0, 1]),
+        ],
+    );
+}
+
+#[test]
+fn time_codes_differ_by_their_rate_and_each_field(rt: HostRuntime) {
+    are_all_different(&rt, &[Rate::F24, Rate::F25, Rate::F30, Rate::D30]);
+    are_all_different(
+        &rt,
+        &[
+            Timecode::parse(Rate::F24, "00:00:00:00"),
+            Timecode::parse(Rate::F25, "00:00:00:00"),
+            Timecode::parse(Rate::F30, "00:00:00:00"),
+            Timecode::parse(Rate::D30, "00:00:00;00"),
+            Timecode::parse(Rate::F25, "01:00:00:00"),
+            Timecode::parse(Rate::F25, "00:01:00:00"),
+            Timecode::parse(Rate::F25, "00:00:01:00"),
+            Timecode::parse(Rate::F25, "00:00:00:01"),
+        ],
+    );
+}
+
+#[test]
+fn items_differ_by_their_ids_and_each_byte_of_their_parts(rt: HostRuntime) {
+    let zeros = Part {
+        start: [0; 4],
+        duration: [0; 4],
+    };
+    let start = |start| Part { start, ..zeros };
+    let duration = |duration| Part { duration, ..zeros };
+    let parts = [
+        zeros,
+        start([1, 0, 0, 0]),
+        start([0, 1, 0, 0]),
+        start([0, 0, 1, 0]),
+        start([0, 0, 0, 1]),
+        duration([1, 0, 0, 0]),
+        duration([0, 1, 0, 0]),
+        duration([0, 0, 1, 0]),
+        duration([0, 0, 0, 1]),
+    ];
+    are_all_different(&rt, &parts);
+    let whole = Item {
+        id: ClipId::new(CLIP0001),
+        part: None,
+    };
+    are_all_different(
+        &rt,
+        &[
+            whole,
+            Item {
+                id: ClipId::new([0; 8]),
+                ..whole
+            },
+            Item {
+                part: Some(zeros),
+                ..whole
+            },
+            Item {
+                part: Some(start([1, 0, 0, 0])),
+                ..whole
+            },
+        ],
+    );
+}
+
+#[test]
+fn faults_differ_by_what_they_tell(rt: HostRuntime) {
+    are_all_different(
+        &rt,
+        &[
+            IdFault::Empty,
+            IdFault::TooLong,
+            IdFault::BadByte(1),
+            IdFault::BadByte(2),
+            IdFault::EdgeSpace,
+            IdFault::BadHex,
+            IdFault::HasPlainForm,
+        ],
+    );
+    are_all_different(
+        &rt,
+        &[Field::Frames, Field::Seconds, Field::Minutes, Field::Hours],
+    );
+    are_all_different(
+        &rt,
+        &[
+            TcFault::NotBcd(1),
+            TcFault::NotBcd(2),
+            TcFault::OutOfRange(Field::Frames),
+            TcFault::OutOfRange(Field::Seconds),
+            TcFault::Dropped,
+            TcFault::Shape,
+        ],
+    );
 }

@@ -364,3 +364,81 @@ fn reply_read_back(reply: Reply, unit: u8) -> Result<Reply, WordFault>
     let mut room = [0; 16];
     Reply::read(&reply.to_message(unit, &mut room))
 }
+
+/// Each of these values equals itself, and none of the others.
+fn are_all_different<T: PartialEq>(rt: &impl Abort, values: &[T]) {
+    for (i, a) in values.iter().enumerate() {
+        for (j, b) in values.iter().enumerate() {
+            assert_eq!(rt; a == b, i == j, "values {i} and {j}");
+        }
+    }
+}
+
+#[test]
+fn words_differ_by_each_field(rt: HostRuntime) {
+    let first = clip(b"CLIP0001");
+    let second = clip(b"CLIP0002");
+    are_all_different(
+        &rt,
+        &[
+            Command::Open(0, 0),
+            Command::Open(1, 0),
+            Command::Open(0, 1),
+            Command::Close(0),
+            Command::Close(1),
+            Command::Select(0),
+            Command::Select(1),
+            Command::PlayCue(first),
+            Command::PlayCue(second),
+            Command::CueData(first, [0; 4], [0; 4]),
+            Command::CueData(second, [0; 4], [0; 4]),
+            Command::CueData(first, [1, 0, 0, 0], [0; 4]),
+            Command::CueData(first, [0; 4], [0, 0, 0, 1]),
+            Command::Play,
+            Command::Stop,
+            Command::Status(0),
+            Command::Status(1),
+            Command::ActiveId,
+            Command::IdRequest(first),
+            Command::IdRequest(second),
+            Command::IdSize(first),
+            Command::IdSize(second),
+        ],
+    );
+    are_all_different(
+        &rt,
+        &[
+            Reply::Ack,
+            Reply::Nak(0),
+            Reply::Nak(1),
+            Reply::Opened(false),
+            Reply::Opened(true),
+            Reply::State(0, None),
+            Reply::State(1, None),
+            Reply::State(1, Some(0)),
+            Reply::State(1, Some(1)),
+            Reply::Active(None),
+            Reply::Active(Some(first)),
+            Reply::Active(Some(second)),
+            Reply::Present(false),
+            Reply::Present(true),
+            Reply::Size([0; 4]),
+            Reply::Size([1, 0, 0, 0]),
+            Reply::Size([0, 0, 0, 1]),
+        ],
+    );
+}
+
+#[test]
+fn faults_are_told_apart_and_worded(rt: HostRuntime) -> Result<(), Fail> {
+    let faults = [WordFault::NotCommand, WordFault::Unknown, WordFault::Length];
+    are_all_different(&rt, &faults);
+    for (fault, text) in [
+        (WordFault::NotCommand, "an answer and no command"),
+        (WordFault::Unknown, "an unknown type and code"),
+        (WordFault::Length, "a wrong number of data bytes"),
+    ] {
+        assert_eq!(rt; format!(in rt.alloc(); "{fault}")?.as_str(), text);
+    }
+    Ok(())
+}

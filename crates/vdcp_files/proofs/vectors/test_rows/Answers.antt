@@ -33,7 +33,8 @@ add-requires-clause-within g c =
 pub loop-tally-preserved : goal.loop-tally-preserved
 loop-tally-preserved g c =
     let found : c.next_row.result ≡ Ok true = grind (arith, common_steps) in
-    let takes = if_ok (λ f. TakesRow (rows_left g.R.Read.remaining c.loop-tally.rows) (rows_left g.R.Read.remaining c.next_row.new.reader) f (fields_of c.next_row.new.row))
+    let takes = if_ok (λ f. TakesRow (rows_left g.R.Read.remaining c.loop-tally.rows) (rows_left g.R.Read.remaining c.next_row.new.reader) f
+    (fields_of c.next_row.new.row))
     c.next_row.result true c.next_row.ensures.takes found in
     let h = counted (g.R.Read.remaining c.args.file.reader) (rows_left g.R.Read.remaining c.loop-tally.rows) c.loop-tally.tally c.loop-tally.invariant.tested in
     let room : c.loop-tally.tally.rows < most_rows = omega (arith, h.1, c.if-tally-eq-MAX_ROWS.false) in
@@ -46,7 +47,8 @@ loop-tally-preserved g c =
             all = c.rows_are_read_in_order.ensures.all;
             begins = c.rows_are_read_in_order.ensures.begins;
           }) (g.R.Read.remaining c.args.file.reader) (rows_left g.R.Read.remaining c.loop-tally.rows) (rows_left g.R.Read.remaining c.next_row.new.reader)
-          c.loop-tally.tally c.add.new.self (fields_of c.next_row.new.row) (finding_of c.in_ok-verdict.verdict) c.loop-tally.invariant.tested takes room c.in_ok-verdict.ensures c.in_ok-add.ensures;
+          c.loop-tally.tally c.add.new.self (fields_of c.next_row.new.row)
+          (finding_of c.in_ok-verdict.verdict) c.loop-tally.invariant.tested takes room c.in_ok-verdict.ensures c.in_ok-add.ensures;
     }
 
 pub loop-tally-smaller : goal.loop-tally-smaller
@@ -60,7 +62,8 @@ loop-tally-smaller g c =
 pub returns-then-tally-eq-MAX_ROWS-clause-refused : goal.returns-then-tally-eq-MAX_ROWS-clause-refused
 returns-then-tally-eq-MAX_ROWS-clause-refused g c =
     let found : c.next_row.result ≡ Ok true = grind (arith, common_steps) in
-    let takes = if_ok (λ f. TakesRow (rows_left g.R.Read.remaining c.loop-tally.rows) (rows_left g.R.Read.remaining c.next_row.new.reader) f (fields_of c.next_row.new.row))
+    let takes = if_ok (λ f. TakesRow (rows_left g.R.Read.remaining c.loop-tally.rows) (rows_left g.R.Read.remaining c.next_row.new.reader) f
+    (fields_of c.next_row.new.row))
     c.next_row.result true c.next_row.ensures.takes found in
     inr (inr (
       c.too_many.ensures,
@@ -70,13 +73,15 @@ returns-then-tally-eq-MAX_ROWS-clause-refused g c =
         all = c.rows_are_read_in_order.ensures.all;
         begins = c.rows_are_read_in_order.ensures.begins;
       }) (g.R.Read.remaining c.args.file.reader) (rows_left g.R.Read.remaining c.loop-tally.rows)
-          (rows_left g.R.Read.remaining c.next_row.new.reader) c.loop-tally.tally (fields_of c.next_row.new.row) c.loop-tally.invariant.tested takes c.if-tally-eq-MAX_ROWS.true,
+          (rows_left g.R.Read.remaining c.next_row.new.reader) c.loop-tally.tally
+          (fields_of c.next_row.new.row) c.loop-tally.invariant.tested takes c.if-tally-eq-MAX_ROWS.true,
     ))
 
 pub returns-clause-tally : goal.returns-clause-tally
 returns-clause-tally g c =
     let none : c.next_row.result ≡ Ok false = grind (arith, common_steps) in
-    let takes = if_ok (λ f. TakesRow (rows_left g.R.Read.remaining c.loop-tally.rows) (rows_left g.R.Read.remaining c.next_row.new.reader) f (fields_of c.next_row.new.row))
+    let takes = if_ok (λ f. TakesRow (rows_left g.R.Read.remaining c.loop-tally.rows) (rows_left g.R.Read.remaining c.next_row.new.reader) f
+    (fields_of c.next_row.new.row))
     c.next_row.result false c.next_row.ensures.takes none in
     tested_all (record {
       none = c.rows_are_read_in_order.ensures.none;

@@ -31,7 +31,8 @@ returns-in-Nothing-clause-end c ms all =
 
 pub returns-in-Part-clause-end : goal.returns-in-Part-clause-end
 returns-in-Part-clause-end c ms all =
-    reads_cut 4096 c.args.burst.now c.args.from c.requires.limit ms c.requires.within c.if-burst-le-LIMIT-2.true (subst IsPart c.left.ensures c.in-Part.ensures) all
+    reads_cut 4096 c.args.burst.now c.args.from c.requires.limit ms c.requires.within c.if-burst-le-LIMIT-2.true
+    (subst IsPart c.left.ensures c.in-Part.ensures) all
 
 pub returns-in-Nothing-2-clause-end : goal.returns-in-Nothing-2-clause-end
 returns-in-Nothing-2-clause-end c ms all =

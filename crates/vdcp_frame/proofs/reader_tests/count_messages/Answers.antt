@@ -9,11 +9,17 @@ use Rattle.vdcp_frame.proofs.reader_tests.count_messages.Goals as goal
 
 -- what was counted behind a burst
 Counts : Progress → Progress → List ℕ → ℕ → Type 0
-Counts old new bytes n = (burst : List ℕ) (ms : List Content) → Follows burst ms old → (ns : List Content) × (length ns ≡ n) × Follows (burst ++ bytes) (ms ++ ns) new
+Counts old new bytes n = (burst : List ℕ) (ms : List Content) → Follows burst ms old → (ns : List Content) × (length ns ≡ n)
+    × Follows (burst ++ bytes) (ms ++ ns) new
 
 none : (old : Progress) → Counts old old [] 0
 unfolding Counts
-none old burst ms f = ([], refl, subst (λ (b : List ℕ). Follows b (ms ++ []) old) (sym (append-nil burst)) (subst (λ (l : List Content). Follows burst l old) (sym (append-nil ms)) f))
+none old burst ms f = (
+  [],
+  refl,
+  subst (λ (b : List ℕ). Follows b (ms ++ []) old) (sym (append-nil burst))
+      (subst (λ (l : List Content). Follows burst l old) (sym (append-nil ms)) f),
+)
 
 further : (old mid new : Progress) (front bytes : List ℕ) (n k : ℕ) → Counts old mid front n → Counts mid new bytes k → Counts old new (front ++ bytes) (n + k)
 unfolding Counts
@@ -22,7 +28,8 @@ further old mid new front bytes n k first second burst ms f =
     let b = second (burst ++ front) (ms ++ a.0) a.2 in (
       a.0 ++ b.0,
       length-append a.0 b.0 ∙ ap (λ (i : ℕ). i + length b.0) a.1 ∙ ap (λ (i : ℕ). n + i) b.1,
-      subst (λ (l : List ℕ). Follows l (ms ++ (a.0 ++ b.0)) new) (append_assoc burst front bytes) (subst (λ (l : List Content). Follows ((burst ++ front) ++ bytes) l new) (append_assoc ms a.0 b.0) b.2),
+      subst (λ (l : List ℕ). Follows l (ms ++ (a.0 ++ b.0)) new) (append_assoc burst front bytes)
+          (subst (λ (l : List Content). Follows ((burst ++ front) ++ bytes) l new) (append_assoc ms a.0 b.0) b.2),
     )
 
 pub piece-init : goal.piece-init
@@ -38,7 +45,8 @@ piece-preserved c =
     let left : 0 < length (take (length piece - c.piece.at) (drop c.piece.at piece)) = omega (arith, ap (length {A = ℕ}) rest, length-drop c.piece.at piece) in
     let front : take c.piece.at piece ++ take n (take (length piece - c.piece.at) (drop c.piece.at piece)) ≡ take (c.piece.at + n) piece =
     ap (λ (b : List ℕ). take c.piece.at piece ++ take n b) rest ∙ sym (take-add c.piece.at n piece) in
-    let next = further c.args.reader.now c.piece.reader c.feed_once-taken.new.reader (take c.piece.at piece) (take n (take (length piece - c.piece.at) (drop c.piece.at piece))) c.piece.count c.feed_once-taken.result.1
+    let next = further c.args.reader.now c.piece.reader c.feed_once-taken.new.reader (take c.piece.at piece)
+    (take n (take (length piece - c.piece.at) (drop c.piece.at piece))) c.piece.count c.feed_once-taken.result.1
     c.piece.invariant.2 c.feed_once-taken.ensures.follows in
     let some = c.feed_once-taken.ensures.some left in (
       omega (arith, c.feed_once-taken.ensures.within, ap (length {A = ℕ}) rest, length-drop c.piece.at piece),

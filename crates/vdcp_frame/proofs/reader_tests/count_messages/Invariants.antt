@@ -8,7 +8,8 @@ use Rattle.vdcp_frame.proofs.reader_tests.count_messages.Given as goal
 abbrev pub invariant-piece : goal.invariant-piece
 invariant-piece l =
     (l.at ≤ length l.piece) × (l.count ≤ l.at)
-    × ((burst : List ℕ) (ms : List Content) → Follows burst ms l.fn.reader → (ns : List Content) × (length ns ≡ l.count) × Follows (burst ++ take l.at l.piece) (ms ++ ns) l.reader)
+    × ((burst : List ℕ) (ms : List Content) → Follows burst ms l.fn.reader → (ns : List Content) × (length ns ≡ l.count)
+    × Follows (burst ++ take l.at l.piece) (ms ++ ns) l.reader)
 
 abbrev pub decreases-piece : goal.decreases-piece
 decreases-piece l = length l.piece - l.at

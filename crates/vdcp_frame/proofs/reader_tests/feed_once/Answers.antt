@@ -12,7 +12,8 @@ number (message m) = 1
 number more = 0
 number (wrong which place) = 0
 
-counted : (burst : List ℕ) (ms : List Content) (answer : Answer) (new : Progress) → FollowsNext burst ms answer new → (ns : List Content) × (length ns ≡ number answer) × Follows burst (ms ++ ns) new
+counted : (burst : List ℕ) (ms : List Content) (answer : Answer) (new : Progress) → FollowsNext burst ms answer new
+    → (ns : List Content) × (length ns ≡ number answer) × Follows burst (ms ++ ns) new
 unfolding number
 counted burst ms (message m) new f = (m ∷ [], refl, f)
 counted burst ms more new f = ([], refl, subst (λ (l : List Content). Follows burst l new) (sym (append-nil ms)) f)
@@ -25,17 +26,22 @@ unfolding number
 returns-in-Message-clause-follows c burst ms f =
     let now : Progress = c.args.reader.now in
     let bytes : List ℕ = burst ++ take c.feed.result.0 c.args.piece.now in
-    let next = subst (λ (g : Got). FollowsNext bytes ms (answer_of g) (fed now c.args.piece.now c.feed.result.0 (answer_of g))) c.in-Message.is (c.feed.ensures.follows burst ms f) in
-    let after = subst (λ (g : Got). c.feed.follows.lender-at-none ≡ fed now c.args.piece.now c.feed.result.0 (answer_of g)) c.in-Message.is c.feed.follows.holds-at-none in
-    counted bytes ms (message (content_of c.in-Message.field-0)) c.feed.follows.lender-at-none (subst (FollowsNext bytes ms (message (content_of c.in-Message.field-0))) (sym after) next)
+    let next = subst (λ (g : Got). FollowsNext bytes ms (answer_of g) (fed now c.args.piece.now c.feed.result.0 (answer_of g))) c.in-Message.is
+    (c.feed.ensures.follows burst ms f) in
+    let after = subst (λ (g : Got). c.feed.follows.lender-at-none ≡ fed now c.args.piece.now c.feed.result.0 (answer_of g)) c.in-Message.is
+    c.feed.follows.holds-at-none in
+    counted bytes ms (message (content_of c.in-Message.field-0)) c.feed.follows.lender-at-none
+    (subst (FollowsNext bytes ms (message (content_of c.in-Message.field-0))) (sym after) next)
 
 pub returns-in-More-clause-follows : goal.returns-in-More-clause-follows
 unfolding number
 returns-in-More-clause-follows c burst ms f =
     let now : Progress = c.args.reader.now in
     let bytes : List ℕ = burst ++ take c.feed.result.0 c.args.piece.now in
-    let next = subst (λ (g : Got). FollowsNext bytes ms (answer_of g) (fed now c.args.piece.now c.feed.result.0 (answer_of g))) c.in-More.is (c.feed.ensures.follows burst ms f) in
-    let after = subst (λ (g : Got). c.feed.follows.lender-at-none ≡ fed now c.args.piece.now c.feed.result.0 (answer_of g)) c.in-More.is c.feed.follows.holds-at-none in
+    let next = subst (λ (g : Got). FollowsNext bytes ms (answer_of g) (fed now c.args.piece.now c.feed.result.0 (answer_of g))) c.in-More.is
+    (c.feed.ensures.follows burst ms f) in
+    let after = subst (λ (g : Got). c.feed.follows.lender-at-none ≡ fed now c.args.piece.now c.feed.result.0 (answer_of g)) c.in-More.is
+    c.feed.follows.holds-at-none in
     counted bytes ms (more) c.feed.follows.lender-at-none (subst (FollowsNext bytes ms (more)) (sym after) next)
 
 pub returns-in-Fault-clause-follows : goal.returns-in-Fault-clause-follows
@@ -43,6 +49,9 @@ unfolding number
 returns-in-Fault-clause-follows c burst ms f =
     let now : Progress = c.args.reader.now in
     let bytes : List ℕ = burst ++ take c.feed.result.0 c.args.piece.now in
-    let next = subst (λ (g : Got). FollowsNext bytes ms (answer_of g) (fed now c.args.piece.now c.feed.result.0 (answer_of g))) c.in-Fault.is (c.feed.ensures.follows burst ms f) in
-    let after = subst (λ (g : Got). c.feed.follows.lender-at-none ≡ fed now c.args.piece.now c.feed.result.0 (answer_of g)) c.in-Fault.is c.feed.follows.holds-at-none in
-    counted bytes ms (wrong c.in-Fault.field-0 c.in-Fault.field-1) c.feed.follows.lender-at-none (subst (FollowsNext bytes ms (wrong c.in-Fault.field-0 c.in-Fault.field-1)) (sym after) next)
+    let next = subst (λ (g : Got). FollowsNext bytes ms (answer_of g) (fed now c.args.piece.now c.feed.result.0 (answer_of g))) c.in-Fault.is
+    (c.feed.ensures.follows burst ms f) in
+    let after = subst (λ (g : Got). c.feed.follows.lender-at-none ≡ fed now c.args.piece.now c.feed.result.0 (answer_of g)) c.in-Fault.is
+    c.feed.follows.holds-at-none in
+    counted bytes ms (wrong c.in-Fault.field-0 c.in-Fault.field-1) c.feed.follows.lender-at-none
+    (subst (FollowsNext bytes ms (wrong c.in-Fault.field-0 c.in-Fault.field-1)) (sym after) next)

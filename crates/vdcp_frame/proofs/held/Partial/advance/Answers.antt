@@ -20,8 +20,10 @@ returns-in-Nak-clause-yields c =
     let bytes : List ℕ = c.args.bytes.now in
     let buffer : List ℕ = c.args.self.now.buffer in
     let fits : AreOctets bytes = All-from_get_or (λ b. b < 256) bytes 0 (λ i h. omega (arith, c.type_inv.bytes i)) in
-    yields_from c.args.self.now.held buffer bytes c.finish_nak.result.0 c.finish_nak.result.1 c.finish_nak.new.self c.requires.partial fits c.finish_nak.ensures.partial
-    (subst (λ (h : Held). Brings (bytes_of h buffer) bytes c.finish_nak.result.0 c.finish_nak.result.1 c.finish_nak.new.self) (sym c.in-Nak.is) c.finish_nak.ensures.brings)
+    yields_from c.args.self.now.held buffer bytes c.finish_nak.result.0 c.finish_nak.result.1 c.finish_nak.new.self c.requires.partial fits
+    c.finish_nak.ensures.partial
+    (subst (λ (h : Held). Brings (bytes_of h buffer) bytes c.finish_nak.result.0 c.finish_nak.result.1 c.finish_nak.new.self)
+    (sym c.in-Nak.is) c.finish_nak.ensures.brings)
 
 pub returns-in-Frame-clause-yields : goal.returns-in-Frame-clause-yields
 returns-in-Frame-clause-yields c =

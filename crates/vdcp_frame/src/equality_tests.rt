@@ -1,0 +1,128 @@
+//! Values that differ in one field are unequal, and the one fault of a call has its text.
+use crate::held::{Found, Held};
+use crate::{Ended, Fault, Full, Got, Message, Step};
+use std::process::Abort;
+use std::test::Fail;
+
+/// Each of these values equals itself, and none of the others.
+fn are_all_different<T: PartialEq>(rt: &impl Abort, values: &[T]) {
+    for (i, a) in values.iter().enumerate() {
+        for (j, b) in values.iter().enumerate() {
+            assert_eq!(rt; a == b, i == j, "values {i} and {j}");
+        }
+    }
+}
+
+fn framed(kind: u8, unit: u8, code: u8, rest: &'static [u8]) -> Message<'static> {
+    Message::Framed {
+        kind,
+        unit,
+        code,
+        rest,
+    }
+}
+
+#[test]
+fn messages(rt: HostRuntime) {
+    are_all_different(
+        &rt,
+        &[
+            Message::Ack,
+            Message::Nak(0),
+            Message::Nak(1),
+            framed(0, 0, 0, &[]),
+            framed(1, 0, 0, &[]),
+            framed(0, 1, 0, &[]),
+            framed(0, 0, 1, &[]),
+            framed(0, 0, 0, &[0]),
+            framed(0, 0, 0, &[1]),
+            framed(0, 0, 0, &[0, 0]),
+            framed(0, 0, 0, &[0, 1]),
+        ],
+    );
+}
+
+#[test]
+fn what_bytes_bring(rt: HostRuntime) {
+    are_all_different(
+        &rt,
+        &[
+            Fault::BadStart,
+            Fault::BadCount(0),
+            Fault::BadCount(1),
+            Fault::BadSum,
+            Fault::Long,
+        ],
+    );
+    are_all_different(
+        &rt,
+        &[
+            Step::Message(Message::Ack, 1),
+            Step::Message(Message::Ack, 2),
+            Step::Message(Message::Nak(0), 2),
+            Step::Clean,
+            Step::Cut(1),
+            Step::Cut(2),
+            Step::Fault(Fault::BadStart, 1),
+            Step::Fault(Fault::BadStart, 2),
+            Step::Fault(Fault::BadSum, 1),
+        ],
+    );
+    are_all_different(
+        &rt,
+        &[
+            Got::Message(Message::Ack),
+            Got::Message(Message::Nak(0)),
+            Got::More,
+            Got::Fault(Fault::BadStart, 1),
+            Got::Fault(Fault::BadStart, 2),
+            Got::Fault(Fault::BadSum, 1),
+        ],
+    );
+    are_all_different(
+        &rt,
+        &[
+            Ended::Clean,
+            Ended::Cut(1),
+            Ended::Cut(2),
+            Ended::AfterFault,
+        ],
+    );
+}
+
+#[test]
+fn what_is_held(rt: HostRuntime) {
+    let body = |count, len, total| Held::Body { count, len, total };
+    are_all_different(
+        &rt,
+        &[
+            Held::Nothing,
+            Held::Nak,
+            Held::Frame,
+            body(2, 0, 0),
+            body(3, 0, 0),
+            body(2, 1, 0),
+            body(2, 0, 1),
+        ],
+    );
+    are_all_different(
+        &rt,
+        &[
+            Found::Nothing,
+            Found::Ack,
+            Found::Nak(0),
+            Found::Nak(1),
+            Found::Frame(3),
+            Found::Frame(4),
+            Found::Wrong(Fault::BadStart),
+            Found::Wrong(Fault::BadSum),
+        ],
+    );
+}
+
+#[test]
+fn want_of_room_is_worded(rt: HostRuntime) -> Result<(), Fail> {
+    let text = format!(in rt.alloc(); "{}", Full)?;
+    assert_eq!(rt; text.as_str(), "no room for the message");
+    Ok(())
+}
