@@ -113,7 +113,7 @@ room n most few = by (eqb_tells n most)
     by (inl (t, e)) = inr e
     by (inr (f, n)) = inl (grind (arith, few, n))
 
--- the rows of the front name these items; one more row is left
+-- the rows are these in front, and those that are left
 abbrev IsFrontOf : List FileRow → List FileRow → List FileRow → Type 0
 IsFrontOf rows front left = rows ≡ front ++ left
 
