@@ -207,12 +207,14 @@ pub watched_first : (start : ClockedPort) (t u : Told) (told told' : Option Told
     Item))
     → told ≡ Some u → IfTold told (λ x. HasWatched start t x items watched) → IfTold told' (λ v. AirsFirst start u v aired)
     → watched' ≡ adds_aired aired watched
-    → IfTold told' (λ v. HasPartlyWatched start t v items watched')
+    → IfTold told' (λ v. HasPartlyWatched start t v items aired watched')
 watched_first start t u told told' items aired watched watched' is h e more = (
   e.0,
   e.1,
   record {
+    before = h.2.since;
     since = h.2.since ++ option_to_list aired;
+    ends = refl;
     others = e.2.0;
     airs = e.2.1 ∙ ap (λ (l : List Item). (l ++ option_to_list aired) ++ e.2.0) (ap (λ (x : Told). items_served start x.came) (told_once told u h.0 is h.1)
         ∙ h.2.airs)

@@ -1,4 +1,5 @@
 -- What a server sends for all that came to it, and the port that this leaves.
+use Rattle.std.specs.Option.{option_to_list}
 use Rattle.std.specs.Prelude.{ℕ, ◌≡◌, false, List, [], ◌∷◌, ◌++◌, Option, Some}
 use Rattle.vdcp_value.specs.declared.part.Item.{Item}
 use Rattle.vdcp_frame.specs.Burst.{messages_of, end_of}
@@ -96,9 +97,11 @@ pub record HasWatched (start : ClockedPort) (old now : Told) (items : List Item)
   pub airs : items_served start now.came ≡ items_served start old.came ++ since
   pub watches : watched ≡ Some (items ++ since)
 
--- or a beginning of those
-pub record HasPartlyWatched (start : ClockedPort) (old now : Told) (items : List Item) (watched : Option (List Item)) : Type 0 where
+-- or a beginning of those, up to the item of the turn that failed, if it put one to air
+pub record HasPartlyWatched (start : ClockedPort) (old now : Told) (items : List Item) (last : Option Item) (watched : Option (List Item)) : Type 0 where
+  pub before : List Item
   pub since : List Item
+  pub ends : since ≡ before ++ option_to_list last
   pub others : List Item
   pub airs : items_served start now.came ≡ (items_served start old.came ++ since) ++ others
   pub watches : watched ≡ Some (items ++ since)

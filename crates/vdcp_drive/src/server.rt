@@ -138,7 +138,7 @@ impl<C: Catalogue, W: Wire> Server<C, W> {
             OnOk result (IfTold (W.told self.new.wire) (λ u. HasWatched start t u items (V.watched watcher.new))) }
         ensures watched_first { (start : ClockedPort) (t : Told) (items : List Item) → W.told self.old.wire ≡ Some t →
             IsServed start t self.old.port self.old.reader → W.failures self.old.wire ≡ 0 → V.watched watcher.old ≡ Some items →
-            OnErr result (IfTold (W.told self.new.wire) (λ u. HasPartlyWatched start t u items (V.watched watcher.new))) }
+            OnErr result (IfTold (W.told self.new.wire) (λ u. HasPartlyWatched start t u items self.new.aired (V.watched watcher.new))) }
         // Which answer it gives: Spent where all turns were made and no close came.
         ensures answer { (t : Told) → W.told self.old.wire ≡ Some t →
             IfOk result (λ ran. IfTold (W.told self.new.wire) (λ u. ServesTo ran turns t.came u.came)) }
