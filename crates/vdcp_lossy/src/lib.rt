@@ -10,6 +10,7 @@ mod carry;
 mod course;
 mod dice;
 mod doing;
+pub mod laws;
 mod lossy;
 mod tally;
 mod text;
