@@ -17,3 +17,6 @@ mod text;
 
 pub use doing::Chances;
 pub use lossy::{LossySettings, do_lossy};
+
+#[cfg(test)]
+mod tests;
