@@ -1,4 +1,4 @@
-ghost use Rattle.std.specs.Prelude.{◌≡◌, false, IfOk};
+ghost use Rattle.std.specs.Prelude.{◌≡◌, ◌<◌, false, IfOk};
 
 use crate::carry::carry;
 use crate::course::{CarryFault, Course, Ended};
@@ -341,7 +341,9 @@ fn readings_are_one_line(rt: HostRuntime) -> Result<(), Fail> {
 }
 
 /// What is done with a burst: a number for each kind.
-fn kind(doing: &Doing) -> u8 {
+fn kind(doing: &Doing) -> usize
+    ensures { result < 7 }
+{
     match doing {
         Doing::Through => 0,
         Doing::Lost => 1,
@@ -367,7 +369,7 @@ fn dice_throw_by_the_chances(rt: HostRuntime) -> Result<(), Fail> {
     let mut counts: [u32; 7] = [0; 7];
     for number in 0..1000 {
         let mut dice = Dice::new(3, number);
-        let kind = kind(&Doing::of_burst(&mut dice, &chances, Way::Up, GRANTED)) as usize;
+        let kind = kind(&Doing::of_burst(&mut dice, &chances, Way::Up, GRANTED));
         counts[kind] = counts[kind].saturating_add(1);
     }
     assert_eq!(rt; counts[2], 0);
