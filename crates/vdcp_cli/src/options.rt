@@ -367,6 +367,7 @@ pub fn lossy_settings_of(matches: &ArgMatches) -> LossySettings
     ensures times { (n : ℕ) → GivesNumber (found_of matches.now) (codes "within") 1 60000 n → result.within ≡ n }
     ensures turns { (n : ℕ) → GivesNumber (found_of matches.now) (codes "turns") 1 4294967295 n → result.turns ≡ n }
 {
+    let turns = number_of(matches, &TURNS);
     LossySettings {
         seed: number_of(matches, &SEED),
         chances: Chances {
@@ -378,6 +379,6 @@ pub fn lossy_settings_of(matches: &ArgMatches) -> LossySettings
         },
         silence: number_of(matches, &LOSSY_SILENCE),
         within: number_of(matches, &WITHIN),
-        turns: number_of(matches, &TURNS),
+        turns,
     }
 }

@@ -1,14 +1,16 @@
-ghost use Rattle.std.specs.Prelude.{◌≡◌, ◌<◌, ◌≤◌, IfOk, OnOk, length};
+ghost use Rattle.std.specs.Io.KnownBytes.{Appends, Keeps};
+ghost use Rattle.std.specs.Prelude.{◌≡◌, ◌⊎◌, ◌<◌, ◌≤◌, IfOk, OnOk, length};
 ghost use Rattle.vdcp_drive.specs.Wires.{adds_drop, adds_sent};
 ghost use Rattle.vdcp_lossy.specs.Bursts.{HasSome};
+ghost use Rattle.vdcp_lossy.specs.Carried.{GoesOn, GoesUp, sent_by};
+ghost use Rattle.vdcp_lossy.specs.Doings.{adds_part, goes_on, joined, part_on};
 
-use crate::course::{Brought, Course, Ended};
+use crate::course::{Brought, CarryFault, Course, Ended};
 use crate::doing::{Burst, Doing, Receipt, Way};
 use std::io;
 use std::rt::Clock;
 use std::time::Instant;
 use vdcp_drive::{Wire, WireFault};
-use vdcp_text::Failure;
 
 /// Carries bursts between an automation and a server until either closes, or the turns are used up.
 pub fn carry<R: Clock, A: Wire, S: Wire, W: io::Write>(
@@ -16,7 +18,7 @@ pub fn carry<R: Clock, A: Wire, S: Wire, W: io::Write>(
     automation: &mut A,
     server: &mut S,
     out: &mut W,
-) -> Result<Ended, Failure<'static>>
+) -> Result<Ended, CarryFault>
     requires automation { A.failures automation.old ≡ 0 }
     requires server { S.failures server.old ≡ 0 }
 {
@@ -38,10 +40,11 @@ fn take<R: Clock, A: Wire, S: Wire, W: io::Write>(
     brought: Brought,
     command: &Burst,
     out: &mut W,
-) -> Result<Option<Ended>, Failure<'static>>
+) -> Result<Option<Ended>, CarryFault>
     requires automation { A.failures automation.old ≡ 0 }
     requires server { S.failures server.old ≡ 0 }
     requires some { HasSome brought command.now.items }
+    ensures settings { course.new.settings ≡ course.old.settings }
     ensures no_more { course.new.left ≤ course.old.left }
     ensures automation { OnOk result (A.failures automation.new ≡ 0) }
     ensures server { OnOk result (S.failures server.new ≡ 0) }
@@ -71,9 +74,11 @@ fn ask<R: Clock, S: Wire, W: io::Write>(
     began: Instant,
     answer: &mut Burst,
     out: &mut W,
-) -> Result<Brought, Failure<'static>>
+) -> Result<Brought, CarryFault>
     requires server { S.failures server.old ≡ 0 }
     requires some { 0 < length command.now.items }
+    ensures sent { OnOk result (GoesOn course.old.settings.chances Way.Down command.now.items (S.told server.old) (S.told server.new)) }
+    ensures settings { course.new.settings ≡ course.old.settings }
     ensures no_more { course.new.left ≤ course.old.left }
     ensures some { IfOk result (λ brought. HasSome brought answer.new.items) }
     ensures server { OnOk result (S.failures server.new ≡ 0) }
@@ -82,14 +87,36 @@ fn ask<R: Clock, S: Wire, W: io::Write>(
     let doing = course.doing(Way::Down, command, began)?;
     send_once(server, &doing, command.as_slice())?;
     course.tell(Way::Down, &doing, command.as_slice(), out)?;
-    if let Doing::Lost | Doing::Late = doing {
-        return Ok(Brought::Nothing);
+    match doing {
+        Doing::Lost | Doing::Late => Ok(Brought::Nothing),
+        Doing::Copied => ask_twice(course, server, command, began, answer),
+        Doing::Through | Doing::Cut(_) | Doing::Damaged(_) => course.receive(server, answer),
+        // (a command is never forged)
+        Doing::Forged(_) => course.receive(server, answer),
     }
+}
+
+// Takes the answer to a command, sends its copy, and takes the answer to that. Where it is too late for a copy by
+// then, the first answer is too.
+fn ask_twice<R: Clock, S: Wire>(
+    course: &mut Course<R>,
+    server: &mut S,
+    command: &Burst,
+    began: Instant,
+    answer: &mut Burst,
+) -> Result<Brought, CarryFault>
+    requires server { S.failures server.old ≡ 0 }
+    ensures sent { OnOk result (Keeps (sent_by (S.told server.old)) (sent_by (S.told server.new))
+        ⊎ Appends (sent_by (S.told server.old)) (sent_by (S.told server.new)) command.now.items) }
+    ensures settings { course.new.settings ≡ course.old.settings }
+    ensures no_more { course.new.left ≤ course.old.left }
+    ensures some { IfOk result (λ brought. HasSome brought answer.new.items) }
+    ensures server { OnOk result (S.failures server.new ≡ 0) }
+{
     let first = course.receive(server, answer)?;
-    let (Doing::Copied, Brought::Nothing | Brought::Long(_) | Brought::Burst(_)) = (doing, first)
-    else {
+    if let Brought::Over(_) = first {
         return Ok(first);
-    };
+    }
     if course.is_late(began)? {
         return Ok(first);
     }
@@ -105,38 +132,59 @@ fn answer_with<R: Clock, A: Wire, W: io::Write>(
     answer: &Burst,
     began: Instant,
     out: &mut W,
-) -> Result<Option<Ended>, Failure<'static>>
+) -> Result<Option<Ended>, CarryFault>
     requires automation { A.failures automation.old ≡ 0 }
     requires some { HasSome brought answer.now.items }
-    ensures no_more { course.new.left ≡ course.old.left }
+    ensures sent { OnOk result (GoesUp course.old.settings.chances brought answer.now.items (A.told automation.old) (A.told automation.new)) }
+    ensures settings { course.new.settings ≡ course.old.settings }
+    ensures left { course.new.left ≡ course.old.left }
     ensures automation { OnOk result (A.failures automation.new ≡ 0) }
 {
-    let (doing, came) = match brought {
-        Brought::Over(ended) => return Ok(Some(ended)),
-        Brought::Long(_) => (Some(Doing::Lost), answer.as_slice()),
-        Brought::Burst(_) => (
-            Some(course.doing(Way::Up, answer, began)?),
-            answer.as_slice(),
-        ),
-        Brought::Nothing => (course.forged(began)?, [].as_slice()),
-    };
-    if !matches!(brought, Brought::Nothing) {
-        course.count_answer();
-    }
-    if let Some(doing) = doing {
-        send_once(automation, &doing, came)?;
-        if let Doing::Copied = doing {
-            send(automation, came)?;
+    match brought {
+        Brought::Over(ended) => Ok(Some(ended)),
+        Brought::Nothing => match course.forged(began)? {
+            Some(doing) => go_up(course, automation, &doing, &[], out),
+            None => Ok(None),
+        },
+        Brought::Long(_) => {
+            course.count_answer();
+            go_up(course, automation, &Doing::Lost, answer.as_slice(), out)
         }
-        course.tell(Way::Up, &doing, came, out)?;
+        Brought::Burst(_) => {
+            course.count_answer();
+            let doing = course.doing(Way::Up, answer, began)?;
+            go_up(course, automation, &doing, answer.as_slice(), out)
+        }
     }
+}
+
+// Sends what goes on of an answer, and tells that.
+fn go_up<R: Clock, A: Wire, W: io::Write>(
+    course: &mut Course<R>,
+    automation: &mut A,
+    doing: &Doing,
+    came: &[u8],
+    out: &mut W,
+) -> Result<Option<Ended>, CarryFault>
+    requires automation { A.failures automation.old ≡ 0 }
+    ensures sent { OnOk result (Appends (sent_by (A.told automation.old)) (sent_by (A.told automation.new)) (joined (goes_on doing.now came.now))) }
+    ensures settings { course.new.settings ≡ course.old.settings }
+    ensures left { course.new.left ≡ course.old.left }
+    ensures automation { OnOk result (A.failures automation.new ≡ 0) }
+{
+    send_once(automation, doing, came)?;
+    if let Doing::Copied = doing {
+        send(automation, came)?;
+    }
+    course.tell(Way::Up, doing, came, out)?;
     Ok(None)
 }
 
 // Sends what goes on of a burst, once.
-fn send_once<W: Wire>(wire: &mut W, doing: &Doing, came: &[u8]) -> Result<(), Failure<'static>>
+fn send_once<W: Wire>(wire: &mut W, doing: &Doing, came: &[u8]) -> Result<(), CarryFault>
     requires { W.failures wire.old ≡ 0 }
-    ensures { OnOk result (W.failures wire.new ≡ 0) }
+    ensures sent { OnOk result (W.told wire.new ≡ adds_part (part_on doing.now came.now) (W.told wire.old)) }
+    ensures works { OnOk result (W.failures wire.new ≡ 0) }
 {
     match doing {
         Doing::Through | Doing::Copied => send(wire, came),
@@ -149,25 +197,25 @@ fn send_once<W: Wire>(wire: &mut W, doing: &Doing, came: &[u8]) -> Result<(), Fa
 }
 
 // Sends bytes; where the wire fails, the line does.
-fn send<W: Wire>(wire: &mut W, bytes: &[u8]) -> Result<(), Failure<'static>>
+fn send<W: Wire>(wire: &mut W, bytes: &[u8]) -> Result<(), CarryFault>
     requires { W.failures wire.old ≡ 0 }
     ensures sent { OnOk result (W.told wire.new ≡ adds_sent bytes.now (W.told wire.old)) }
     ensures works { OnOk result (W.failures wire.new ≡ 0) }
 {
     match wire.send(bytes) {
         Ok(()) => Ok(()),
-        Err(WireFault) => Err(Failure::LineFailed),
+        Err(WireFault) => Err(CarryFault::Line),
     }
 }
 
 // Drops what waits; where the wire fails, the line does.
-fn drop_waiting<W: Wire>(wire: &mut W) -> Result<(), Failure<'static>>
+fn drop_waiting<W: Wire>(wire: &mut W) -> Result<(), CarryFault>
     requires { W.failures wire.old ≡ 0 }
     ensures dropped { OnOk result (W.told wire.new ≡ adds_drop (W.told wire.old)) }
     ensures works { OnOk result (W.failures wire.new ≡ 0) }
 {
     match wire.drop_waiting() {
         Ok(()) => Ok(()),
-        Err(WireFault) => Err(Failure::LineFailed),
+        Err(WireFault) => Err(CarryFault::Line),
     }
 }

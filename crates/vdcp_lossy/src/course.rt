@@ -1,7 +1,9 @@
-ghost use Rattle.std.specs.Prelude.{◌≡◌, ◌<◌, ◌≤◌, OnOk, IfOk, length};
-ghost use Rattle.arrayvec.specs.ArrayVec.{array_vec_len};
+ghost use Rattle.std.specs.Io.KnownBytes.{Keeps};
+ghost use Rattle.std.specs.Prelude.{◌≡◌, ◌<◌, ◌≤◌, OnOk, IfOk, IfSome, length};
 ghost use Rattle.vdcp_drive.specs.Wires.{FitsBuffer, adds_came, arrival_of};
 ghost use Rattle.vdcp_lossy.specs.Bursts.{HasSome};
+ghost use Rattle.vdcp_lossy.specs.Carried.{sent_by};
+ghost use Rattle.vdcp_lossy.specs.Doings.{HasChance, IsForged, MayBeDone};
 
 use crate::dice::Dice;
 use crate::doing::{Burst, Doing, Way};
@@ -12,7 +14,6 @@ use std::io;
 use std::rt::Clock;
 use std::time::Instant;
 use vdcp_drive::{Came, Wire, WireFault};
-use vdcp_text::Failure;
 
 /// Why nothing more is carried.
 #[derive(Clone, Copy, Debug, PartialEq, Eq)]
@@ -21,6 +22,15 @@ pub enum Ended {
     Closed,
     /// All turns were made.
     Spent,
+}
+
+/// Why a line gives up.
+#[derive(Clone, Copy, Debug, PartialEq, Eq)]
+pub enum CarryFault {
+    /// A wire failed, or the clock did.
+    Line,
+    /// The writer failed.
+    Writer,
 }
 
 /// What a wire brought.
@@ -77,12 +87,14 @@ impl<'a, R: Clock> Course<'a, R> {
         &mut self,
         wire: &mut W,
         burst: &mut Burst,
-    ) -> Result<Brought, Failure<'static>>
+    ) -> Result<Brought, CarryFault>
         requires { W.failures wire.old ≡ 0 }
         ensures fewer { 0 < self.old.left → self.new.left < self.old.left }
         ensures no_more { self.new.left ≤ self.old.left }
         ensures some { IfOk result (λ brought. HasSome brought burst.new.items) }
+        ensures sent { OnOk result (Keeps (sent_by (W.told wire.old)) (sent_by (W.told wire.new))) }
         ensures works { OnOk result (W.failures wire.new ≡ 0) }
+        ensures settings { self.new.settings ≡ self.old.settings }
     {
         burst.clear();
         let mut began = None;
@@ -113,27 +125,30 @@ impl<'a, R: Clock> Course<'a, R> {
 
     /// Counts a command.
     pub fn count_command(&mut self)
-        ensures { self.new.left ≡ self.old.left }
+        ensures left { self.new.left ≡ self.old.left }
+        ensures settings { self.new.settings ≡ self.old.settings }
     {
         self.tally.commands = self.tally.commands.saturating_add(1);
     }
 
     /// Counts an answer.
     pub fn count_answer(&mut self)
-        ensures { self.new.left ≡ self.old.left }
+        ensures left { self.new.left ≡ self.old.left }
+        ensures settings { self.new.settings ≡ self.old.settings }
     {
         self.tally.answers = self.tally.answers.saturating_add(1);
     }
 
     /// Whether it is too late for what belongs to a command that came then.
-    pub fn is_late(&self, began: Instant) -> Result<bool, Failure<'static>> {
+    pub fn is_late(&self, began: Instant) -> Result<bool, CarryFault> {
         let elapsed = now(self.clock)?.duration_since(began);
         Ok(elapsed.as_millis() >= u128::from(self.settings.within))
     }
 
     /// What is done with a burst that came on this way.
-    pub fn doing(&self, way: Way, burst: &Burst, began: Instant) -> Result<Doing, Failure<'static>>
+    pub fn doing(&self, way: Way, burst: &Burst, began: Instant) -> Result<Doing, CarryFault>
         requires { 0 < length burst.now.items }
+        ensures { IfOk result (MayBeDone self.now.settings.chances way burst.now.items) }
     {
         if self.is_late(began)? {
             return Ok(Doing::Late);
@@ -143,7 +158,10 @@ impl<'a, R: Clock> Course<'a, R> {
     }
 
     /// What comes where no answer does to a command that came then: a receipt, if one is forged.
-    pub fn forged(&self, began: Instant) -> Result<Option<Doing>, Failure<'static>> {
+    pub fn forged(&self, began: Instant) -> Result<Option<Doing>, CarryFault>
+        ensures chance { IfOk result (λ forged. IfSome forged (HasChance self.now.settings.chances)) }
+        ensures forged { IfOk result (λ forged. IfSome forged IsForged) }
+    {
         if self.is_late(began)? {
             return Ok(None);
         }
@@ -167,22 +185,23 @@ impl<'a, R: Clock> Course<'a, R> {
         doing: &Doing,
         came: &[u8],
         out: &mut W,
-    ) -> Result<(), Failure<'static>>
-        ensures { self.new.left ≡ self.old.left }
+    ) -> Result<(), CarryFault>
+        ensures left { self.new.left ≡ self.old.left }
+        ensures settings { self.new.settings ≡ self.old.settings }
     {
         self.tally.count(doing);
         let number = self.tally.commands;
         let reading = ReadingText(came);
         let written = writeln!(out, "{number} {way} {doing} {reading}");
         if written.is_err() || out.flush().is_err() {
-            return Err(Failure::Writer);
+            return Err(CarryFault::Writer);
         }
         Ok(())
     }
 }
 
 // One listen of a wire; where it fails, the line does.
-fn listen<W: Wire>(wire: &mut W, buffer: &mut [u8; 512]) -> Result<Came, Failure<'static>>
+fn listen<W: Wire>(wire: &mut W, buffer: &mut [u8; 512]) -> Result<Came, CarryFault>
     requires { W.failures wire.old ≡ 0 }
     ensures fits { IfOk result FitsBuffer }
     ensures came { IfOk result (λ c. W.told wire.new ≡ adds_came (arrival_of c buffer.new) (W.told wire.old)) }
@@ -190,14 +209,14 @@ fn listen<W: Wire>(wire: &mut W, buffer: &mut [u8; 512]) -> Result<Came, Failure
 {
     match wire.listen(buffer) {
         Ok(came) => Ok(came),
-        Err(WireFault) => Err(Failure::LineFailed),
+        Err(WireFault) => Err(CarryFault::Line),
     }
 }
 
 // The time, by a clock that may fail.
-fn now<R: Clock>(clock: &R) -> Result<Instant, Failure<'static>> {
+fn now<R: Clock>(clock: &R) -> Result<Instant, CarryFault> {
     match Instant::now(clock) {
         Ok(now) => Ok(now),
-        Err(_) => Err(Failure::LineFailed),
+        Err(_) => Err(CarryFault::Line),
     }
 }

@@ -1,9 +1,13 @@
-ghost use Rattle.arrayvec.specs.ArrayVec.{array_vec_len};
-ghost use Rattle.std.specs.Prelude.{◌≡◌, ◌<◌, ◌≤◌, true, false, length, take};
+ghost use Rattle.std.specs.Prelude.{◌≡◌, ◌≢◌, ◌⊎◌, ◌<◌, ◌≤◌, ◌∷◌, List, length, true, IfSome};
+ghost use Rattle.vdcp_frame.specs.Burst.{messages_of};
+ghost use Rattle.vdcp_frame.specs.Message.{Content, content_of};
+ghost use Rattle.vdcp_lossy.specs.Doings.{CanBe, CanBeForged, CanBeThrown, HasChance, IsForged, receipt_message};
+ghost use Rattle.vdcp_lossy.specs.declared.doing.Chances.{Chances};
+ghost use Rattle.vdcp_lossy.specs.declared.doing.Way.{Way};
 
 use crate::dice::Dice;
 use arrayvec::ArrayVec;
-use vdcp_frame::{Message, Step, read_at};
+use vdcp_frame::{Message, Step, laws as bursts, read_at};
 use vdcp_world::can_become;
 
 /// So many bytes of a burst are held at most. A longer one is lost.
@@ -60,7 +64,9 @@ pub enum Receipt {
 
 impl Receipt {
     /// The receipt as a message.
-    pub fn message(self) -> Message<'static> {
+    pub fn message(self) -> Message<'static>
+        ensures { content_of result ≡ receipt_message self }
+    {
         match self {
             Receipt::Ack => Message::Ack,
             Receipt::Nak(byte) => Message::Nak(byte),
@@ -80,7 +86,10 @@ enum Fate {
 }
 
 // Throws each chance in its turn, and says which one hits first.
-fn throw(dice: &mut Dice, chances: &Chances, way: Way) -> Fate {
+fn throw(dice: &mut Dice, chances: &Chances, way: Way) -> Fate
+    ensures thrown { CanBeThrown chances.now result }
+    ensures down { way ≡ Way.Down → result ≢ Fate.Forged }
+{
     if dice.hits(chances.lose) {
         return Fate::Lost;
     }
@@ -104,6 +113,8 @@ impl Doing {
     pub fn of_burst(dice: &mut Dice, chances: &Chances, way: Way, came: &[u8]) -> Doing
         requires some { 0 < length came.now }
         requires held { length came.now ≤ MOST }
+        ensures chance { HasChance chances.now result }
+        ensures can { CanBe way came.now result }
     {
         match throw(dice, chances, way) {
             Fate::Through => Doing::Through,
@@ -116,7 +127,10 @@ impl Doing {
     }
 
     /// What comes where no answer does: a receipt, if one is forged.
-    pub fn of_nothing(dice: &mut Dice, chances: &Chances) -> Option<Doing> {
+    pub fn of_nothing(dice: &mut Dice, chances: &Chances) -> Option<Doing>
+        ensures chance { IfSome result (HasChance chances.now) }
+        ensures forged { IfSome result IsForged }
+    {
         match throw(dice, chances, Way::Up) {
             Fate::Forged => Some(Doing::Forged(throw_receipt(dice))),
             Fate::Through | Fate::Lost | Fate::Copied | Fate::Cut | Fate::Damaged => None,
@@ -125,19 +139,31 @@ impl Doing {
 }
 
 // Two copies go up as one burst, of which the first message is heard: so they are made where there is one.
-fn copied(way: Way, came: &[u8]) -> Doing {
+fn copied(way: Way, came: &[u8]) -> Doing
+    ensures kind { (result ≡ Doing.Through) ⊎ (result ≡ Doing.Copied) }
+    ensures can { CanBe way came.now result }
+{
     match way {
         Way::Down => Doing::Copied,
-        Way::Up => match read_at(came, 0) {
-            Step::Message(_, _) => Doing::Copied,
-            Step::Clean | Step::Cut(_) | Step::Fault(_, _) => Doing::Through,
-        },
+        Way::Up if begins_with_message(came) => Doing::Copied,
+        Way::Up => Doing::Through,
     }
+}
+
+// Whether a message stands at the front of a burst.
+fn begins_with_message(burst: &[u8]) -> bool
+    ensures { result ≡ true → (m : Content) × (more : List Content) × (messages_of burst.now ≡ m ∷ more) }
+{
+    bursts::one_reading();
+    bursts::written_is_read();
+    matches!(read_at(burst, 0), Step::Message(_, _))
 }
 
 // Some of the first bytes go on, not all; of a burst of one byte none, so it is lost.
 fn cut(dice: &mut Dice, came: &[u8]) -> Doing
     requires { 0 < length came.now }
+    ensures chance { (chances : Chances) → 0 < chances.cut → chances.lose < 100 → HasChance chances result }
+    ensures can { (way : Way) → CanBe way came.now result }
 {
     if came.len() == 1 {
         return Doing::Lost;
@@ -154,6 +180,8 @@ fn cut(dice: &mut Dice, came: &[u8]) -> Doing
 fn damaged(dice: &mut Dice, came: &[u8]) -> Doing
     requires some { 0 < length came.now }
     requires held { length came.now ≤ MOST }
+    ensures chance { (chances : Chances) → 0 < chances.damage → chances.lose < 100 → HasChance chances result }
+    ensures can { (way : Way) → CanBe way came.now result }
 {
     let mut bytes = Burst::new();
     bytes.try_extend_from_slice(came).unwrap();
@@ -170,7 +198,9 @@ fn damaged(dice: &mut Dice, came: &[u8]) -> Doing
 }
 
 // ACK or NAK with some byte.
-fn throw_receipt(dice: &mut Dice) -> Receipt {
+fn throw_receipt(dice: &mut Dice) -> Receipt
+    ensures { CanBeForged Way.Up result }
+{
     if dice.below(2) == 0 {
         Receipt::Ack
     } else {

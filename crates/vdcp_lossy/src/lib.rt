@@ -10,9 +10,13 @@ mod carry;
 mod course;
 mod dice;
 mod doing;
+pub mod laws;
 mod lossy;
 mod tally;
 mod text;
 
 pub use doing::Chances;
 pub use lossy::{LossySettings, do_lossy};
+
+#[cfg(test)]
+mod tests;

@@ -1,13 +1,15 @@
 ghost use Rattle.std.specs.Io.KnownBytes.{Appends, Keeps};
-ghost use Rattle.std.specs.Prelude.{◌≡◌, ◌⊎◌, ◌≤◌, IfErr, OnOk};
+ghost use Rattle.std.specs.Prelude.{◌≡◌, ◌⊎◌, IfErr, OnOk};
+ghost use Rattle.vdcp_lossy.specs.Lossy.{IsUncarried};
 ghost use Rattle.vdcp_net.specs.Address.{IsAddress};
+ghost use Rattle.vdcp_text.specs.Failure.{failure_line, status_of};
 
 use crate::carry::carry;
-use crate::course::{Course, Ended};
+use crate::course::{CarryFault, Course, Ended};
 use crate::doing::Chances;
 use crate::tally::Tally;
 use std::io;
-use std::net::{Net, SocketAddr};
+use std::net::{Net, SocketAddr, SocketAddrV4};
 use std::rt::Clock;
 use std::time::Duration;
 use vdcp_drive::StreamWire;
@@ -47,7 +49,14 @@ pub fn do_lossy<R: Net + Clock, W: io::Write, E: io::Write>(
     out: &mut W,
     err: &mut E,
 ) -> u8
-    ensures statuses { result ≤ 3 }
+    ensures whole { result ≡ 0 → IsAddress address.now × IsAddress server.now }
+    ensures untold { result ≡ 0 → Keeps (E.contents err.old) (E.contents err.new) }
+    // The status is 2 for an address that is none, unless this can't be told.
+    ensures no_address { result ≡ 2 → ((¬ IsAddress address.now) ⊎ (¬ IsAddress server.now))
+        × Appends (E.contents err.old) (E.contents err.new) (failure_line Failure.Address) }
+    ensures address { ((¬ IsAddress address.now) ⊎ (¬ IsAddress server.now))
+        → ((result ≡ 2) ⊎ (result ≡ 3)) × Keeps (W.contents out.old) (W.contents out.new) }
+    ensures statuses { (result ≡ 0) ⊎ (result ≡ 2) ⊎ (result ≡ 3) }
 {
     match lossy(rt, address, server, settings, out) {
         Ok(()) => 0,
@@ -62,9 +71,26 @@ fn lossy<R: Net + Clock, W: io::Write>(
     server: &str,
     settings: LossySettings,
     out: &mut W,
-) -> Result<(), Failure<'static>> {
+) -> Result<(), Failure<'static>>
+    ensures whole { OnOk result (IsAddress address.now × IsAddress server.now) }
+    ensures uncarried { IfErr result (IsUncarried address.now server.now (W.contents out.old) (W.contents out.new)) }
+{
     let address = address_of(address)?;
     let server = address_of(server)?;
+    carry_between(rt, address, server, settings, out)
+}
+
+// Takes an automation, connects to the server, and carries bursts between the two. A connection that refuses to
+// be a wire is a line that failed.
+fn carry_between<R: Net + Clock, W: io::Write>(
+    rt: &R,
+    address: SocketAddrV4,
+    server: SocketAddrV4,
+    settings: LossySettings,
+    out: &mut W,
+) -> Result<(), Failure<'static>>
+    ensures { IfErr result (λ e. status_of e ≡ 3) }
+{
     let near = accept_one(rt, address, out)?;
     let Ok(far) = rt.connect(SocketAddr::V4(server)) else {
         return Err(Failure::Connect);
@@ -77,8 +103,15 @@ fn lossy<R: Net + Clock, W: io::Write>(
         return Err(Failure::LineFailed);
     };
     let mut course = Course::new(rt, settings);
-    let ended = carry(&mut course, &mut automation, &mut server, out)?;
-    write_end(ended, course.tally(), out).map_err(|_| Failure::Writer)
+    let ended = match carry(&mut course, &mut automation, &mut server, out) {
+        Ok(ended) => ended,
+        Err(CarryFault::Line) => return Err(Failure::LineFailed),
+        Err(CarryFault::Writer) => return Err(Failure::Writer),
+    };
+    match write_end(ended, course.tally(), out) {
+        Ok(()) => Ok(()),
+        Err(_) => Err(Failure::Writer),
+    }
 }
 
 // Tells how a line ended, and the counts.

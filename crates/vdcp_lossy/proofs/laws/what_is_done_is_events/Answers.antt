@@ -1,0 +1,9 @@
+use Rattle.vdcp_lossy.proofs.Goings.{down, up}
+use Rattle.vdcp_lossy.proofs.laws.what_is_done_is_events.Goals as goal
+
+pub returns-clause-down : goal.returns-clause-down
+returns-clause-down c = down
+
+pub returns-clause-up : goal.returns-clause-up
+returns-clause-up c =
+    up (record { some = c.one_reading.ensures.some; size = c.what_is_spelt_is_bytes.ensures.size; first = c.written_is_read.ensures.first })

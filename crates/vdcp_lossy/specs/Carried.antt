@@ -1,0 +1,36 @@
+-- What is carried of a command, and of what comes for it, by what the wires tell that was sent.
+use Rattle.std.specs.Io.KnownBytes.{Appends, Keeps}
+use Rattle.std.specs.Prelude.{ℕ, ◌⊎◌, List, [], Option, None, Some}
+use Rattle.vdcp_drive.specs.Wires.{Told}
+use Rattle.vdcp_lossy.specs.Doings.{HasChance, IsForged, MayBeDone, goes_on, joined}
+use Rattle.vdcp_lossy.specs.declared.course.Brought.{Brought}
+use Rattle.vdcp_lossy.specs.declared.course.Brought.TheVariants as brought
+use Rattle.vdcp_lossy.specs.declared.doing.Chances.{Chances}
+use Rattle.vdcp_lossy.specs.declared.doing.Doing.{Doing}
+use Rattle.vdcp_lossy.specs.declared.doing.Way.{Way}
+use Rattle.vdcp_lossy.specs.declared.doing.Way.TheVariants as way
+
+-- the bytes that went out, where a wire tells them
+abbrev pub sent_by : Option Told → Option (List ℕ)
+sent_by None = None
+sent_by (Some told) = Some told.sent
+
+-- what went on of a burst that came this way is what may be done with it
+pub record GoesOn (chances : Chances) (w : Way) (came : List ℕ) (old new : Option Told) : Type 0 where
+  pub doing : Doing
+  pub may : MayBeDone chances w came doing
+  pub sent : Appends (sent_by old) (sent_by new) (joined (goes_on doing came))
+
+-- a receipt went on in place of nothing
+pub record ComesOfNothing (chances : Chances) (old new : Option Told) : Type 0 where
+  pub doing : Doing
+  pub chance : HasChance chances doing
+  pub forged : IsForged doing
+  pub sent : Appends (sent_by old) (sent_by new) (joined (goes_on doing []))
+
+-- what went up for what a server brought: of a burst what may be done with it; of none nothing, or a receipt; else nothing
+abbrev pub GoesUp : Chances → Brought → List ℕ → Option Told → Option Told → Type 0
+GoesUp chances (brought.Burst began) came old new = GoesOn chances way.Up came old new
+GoesUp chances (brought.Long began) came old new = Keeps (sent_by old) (sent_by new)
+GoesUp chances brought.Nothing came old new = Keeps (sent_by old) (sent_by new) ⊎ ComesOfNothing chances old new
+GoesUp chances (brought.Over ended) came old new = Keeps (sent_by old) (sent_by new)
