@@ -22,10 +22,13 @@ the server as two bursts, and only the answer to the last goes on; a copied answ
 once. Nothing of an exchange goes on once the time of --within has passed, and what the server sends
 later is dropped before the next command goes on. Of damaged bytes no more can be read than a beginning
 of what was sent. So --silence has to be more than the server's, and --within less than the silence of
-the run; and --forge is for a run with --confirm alone.
+the run; and --forge is for a run with --confirm alone. A copied command takes three times --silence,
+and its answer is late unless --within is more.
 
-Example, between a server at 127.0.0.1:7400 and a run at 127.0.0.1:7401:
-  vdcp lossy 127.0.0.1:7401 127.0.0.1:7400 --seed 7 --lose 20";
+Example, in three terminals:
+  vdcp serve 127.0.0.1:7400 examples/catalogue.csv
+  vdcp lossy 127.0.0.1:7401 127.0.0.1:7400 --seed 7 --lose 20 --within 150
+  vdcp run 127.0.0.1:7401 examples/playlist.csv --silence 200 --limit 20";
 
 /// What the command line may be.
 pub fn command<'a>(alloc: Global) -> Result<Command<'a>, AllocError> {
