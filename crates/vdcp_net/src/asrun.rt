@@ -46,7 +46,13 @@ fn write_reported<S: Source, W: io::Write>(
     ensures beginning { IfErr result (λ fault. fault ≡ WriteFault.Device → AppendsBeginning (W.contents writer.old) (W.contents writer.new)
         (asrun_text rate (S.items controller.now.source) controller.now.state.settled)) }
 {
-    write_asrun(alloc, controller.source(), rate, controller.settled(), writer)
+    write_asrun(
+        alloc,
+        controller.source(),
+        rate,
+        controller.settled(),
+        writer,
+    )
 }
 
 #[cfg(test)]
