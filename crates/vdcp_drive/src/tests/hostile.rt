@@ -136,7 +136,7 @@ fn junk_answers_nothing(rt: HostRuntime) -> Result<(), Fail> {
     Ok(())
 }
 
-// In a heap that has no room, the first growth of each kind is refused: of what came, of what was sent,
+// In a heap that has no room, the first growth is refused: of what each listen gave, of the bytes that came,
 // of the places of drops.
 #[test]
 fn refused_growth_is_a_failure_of_the_wire(rt: HostRuntime) -> Result<(), Fail> {
@@ -144,10 +144,20 @@ fn refused_growth_is_a_failure_of_the_wire(rt: HostRuntime) -> Result<(), Fail> 
     let shelf = Shelf::of(250).ok_or("250 frames")?;
     let mut entries = Vec::new(&heap);
     entries.push(Entry::Silence)?;
+    let _rest = Vec::<u8, &LocalHeap>::with_capacity(&heap, 64);
+    let _more = Vec::<u8, &LocalHeap>::with_capacity(&heap, 32);
     let mut server = Server::new(Port::new(shelf, 0, 1), ScriptWire::new(&heap, entries));
     assert_eq!(rt; server.turn(), Err(DriveFault::Device));
     assert_eq!(rt; server.turn(), Err(DriveFault::Device));
     assert_eq!(rt; server.port().status_byte(), 0x01);
+
+    let narrow = LocalHeap::new(rt.alloc(), 1024)?;
+    let shelf = Shelf::of(250).ok_or("250 frames")?;
+    let mut entries = Vec::new(&narrow);
+    entries.push(Entry::Came(Vec::from_slice(&narrow, &[0x03; 512])?))?;
+    let mut server = Server::new(Port::new(shelf, 0, 1), ScriptWire::new(&narrow, entries));
+    assert_eq!(rt; server.turn(), Err(DriveFault::Device));
+    assert_eq!(rt; server.turn(), Err(DriveFault::Device));
 
     let full = LocalHeap::new(rt.alloc(), 128)?;
     let _rest = Vec::<u8, &LocalHeap>::with_capacity(&full, 64)?;
