@@ -15,8 +15,6 @@ mod asrun;
 #[cfg(test)]
 mod failing;
 mod log;
-#[cfg(test)]
-mod loopback_tests;
 mod progress;
 mod run;
 mod serve;
