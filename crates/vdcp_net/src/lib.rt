@@ -18,6 +18,8 @@ mod log;
 mod progress;
 mod run;
 mod serve;
+#[cfg(test)]
+mod told;
 
 pub use address::address_of;
 pub use run::{RunSettings, Showing, do_run};
