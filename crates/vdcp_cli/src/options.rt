@@ -7,7 +7,7 @@ use clap::{Arg, ArgMatches, value_parser};
 use std::alloc::Global;
 use vdcp_lossy::{Chances, LossySettings};
 use vdcp_net::{RunSettings, ServeSettings};
-use vdcp_sim::Settings;
+use vdcp_sim::SimSettings;
 use vdcp_value::Rate;
 
 /// An option whose value is a number, in decimal digits, from `least` to `most`.
@@ -273,7 +273,7 @@ fn rate_named(name: &str) -> Option<Rate>
 }
 
 /// What the options say of a channel, and of what is printed of it.
-pub fn settings_of(matches: &ArgMatches) -> Settings
+pub fn sim_settings_of(matches: &ArgMatches) -> SimSettings
     ensures unit { result.unit ≤ 15 }
     ensures some { 1 ≤ result.limit }
     ensures few { result.limit ≤ 1000 }
@@ -285,7 +285,7 @@ pub fn settings_of(matches: &ArgMatches) -> Settings
     ensures frames { (n : ℕ) → GivesNumber (found_of matches.now) (codes "cue-frames") 1 1000 n → result.cue_frames ≡ n }
     ensures rates { (rate : Rate) → GivesRate (found_of matches.now) (codes "rate") rate → result.rate ≡ rate }
 {
-    Settings {
+    SimSettings {
         unit: unit_of(matches),
         port: port_of(matches),
         limit: limit_of(matches),

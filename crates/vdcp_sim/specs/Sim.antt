@@ -28,7 +28,7 @@ use Rattle.vdcp_files.specs.Outcome.{outcome_text}
 use Rattle.vdcp_world.specs.Channel.{Channel, new_channel, after_events}
 use Rattle.vdcp_world.specs.Headline.{Headline}
 use Rattle.vdcp_world.specs.declared.event.Event.{Event}
-use Rattle.vdcp_sim.specs.declared.sim.Settings.{Settings}
+use Rattle.vdcp_sim.specs.declared.sim.SimSettings.{SimSettings}
 
 -- ---- texts
 
@@ -78,13 +78,13 @@ mode_of true = Confirming
 mode_of false = Plain
 
 -- the new channel of a playlist and a catalogue
-abbrev pub channel_of : Settings → List Item → List (ClipId × Timecode) → Channel
+abbrev pub channel_of : SimSettings → List Item → List (ClipId × Timecode) → Channel
 channel_of settings items clips =
     new_channel (record { mode = mode_of settings.confirm; list = items; port = settings.port; limit = settings.limit }) clips settings.unit settings.cue_frames
 
 -- the files are a playlist and a catalogue, and a writer gained what is printed of the channel that some
 -- events led to from their new one; and this channel keeps the headline
-pub record IsSimulated (settings : Settings) (list catalogue : File) (old new : Option (List ℕ)) : Type 0 where
+pub record IsSimulated (settings : SimSettings) (list catalogue : File) (old new : Option (List ℕ)) : Type 0 where
   pub items : List Item
   pub clips : List (ClipId × Timecode)
   pub events : List Event

@@ -19,7 +19,7 @@ use vdcp_world::World;
 
 /// What a channel is made with, and what is printed of it.
 #[derive(Clone, Copy, Debug, PartialEq, Eq)]
-pub struct Settings {
+pub struct SimSettings {
     /// The unit address of both ends, 0 to 15.
     pub unit: u8,
     /// The port's number.
@@ -56,7 +56,7 @@ pub fn do_sim<
     list: Input<'_, L>,
     catalogue: Input<'_, C>,
     script: Input<'_, R>,
-    settings: Settings,
+    settings: SimSettings,
     out: &mut W,
     err: &mut E,
 ) -> u8
@@ -90,7 +90,7 @@ fn simulate<'a, L: io::Read + Drop, C: io::Read + Drop, R: io::Read + Drop, W: i
     list: Input<'a, L>,
     catalogue: Input<'a, C>,
     script: Input<'a, R>,
-    settings: Settings,
+    settings: SimSettings,
     out: &mut W,
 ) -> Result<(), Failure<'a>>
     requires unit { settings.unit ≤ 15 }
@@ -126,7 +126,7 @@ fn new_world<S: Source, C: Catalogue>(
     alloc: Global,
     source: S,
     catalogue: C,
-    settings: Settings,
+    settings: SimSettings,
 ) -> World<S, C, Global>
     requires unit { settings.unit ≤ 15 }
     requires some { 1 ≤ settings.limit }
@@ -135,7 +135,7 @@ fn new_world<S: Source, C: Catalogue>(
     requires few_frames { settings.cue_frames ≤ 1000 }
     ensures { result ≡ channel_of settings (S.items source) (C.clips catalogue) }
 {
-    let Settings {
+    let SimSettings {
         unit,
         port,
         limit,
@@ -152,7 +152,7 @@ fn new_world<S: Source, C: Catalogue>(
 // Writes what came of a world.
 fn write_world<S: Source, C: Catalogue, A: Allocator + Copy, W: io::Write>(
     world: &World<S, C, A>,
-    settings: Settings,
+    settings: SimSettings,
     out: &mut W,
 ) -> io::Result<()>
     ensures { OnOk result (Appends (W.contents out.old) (W.contents out.new) (channel_text settings.trace settings.rate world.now)) }
