@@ -80,7 +80,7 @@ pub const TURNS: NumberOption = NumberOption {
     name: "turns",
     value_name: "N",
     least: 1,
-    most: 4_294_967_295,
+    most: u32::MAX,
     default: "4294967295",
     help: "Ends after so many waits for bytes or for a silence",
 };
@@ -89,7 +89,7 @@ pub const LISTENS: NumberOption = NumberOption {
     name: "listens",
     value_name: "N",
     least: 1,
-    most: 4_294_967_295,
+    most: u32::MAX,
     default: "4294967295",
     help: "Gives up after so many waits for bytes or for a silence",
 };
@@ -98,7 +98,7 @@ pub const SEED: NumberOption = NumberOption {
     name: "seed",
     value_name: "N",
     least: 0,
-    most: 4_294_967_295,
+    most: u32::MAX,
     default: "1",
     help: "Which throws of the dice are made: the same seed, the same throws",
 };
