@@ -4,14 +4,15 @@ ghost use Rattle.vdcp_drive.specs.Served.{HasBrokenOff, IsPartlySent, IsServed};
 ghost use Rattle.vdcp_drive.specs.Wires.{IfTold, Told};
 ghost use Rattle.vdcp_files.specs.Files.{file};
 ghost use Rattle.vdcp_net.specs.Address.{IsAddress};
-ghost use Rattle.vdcp_net.specs.Serve.{EndsAs, IsCatalogueRefused, IsServedThere, IsUnserved, IsWhole, PrintsEnd, PrintsListening, listening_line};
+ghost use Rattle.vdcp_net.specs.Serve.{EndsAs, IsCatalogueRefused, IsServedThere, IsUnserved, IsWhole, PrintsEnd};
 ghost use Rattle.vdcp_port.specs.Clock.{ClockedPort, new_port};
 ghost use Rattle.vdcp_text.specs.Failure.{failure_line};
 
+use crate::accept::accept_one;
 use crate::address::address_of;
 use crate::log::{AirLog, Log, Logged};
 use std::io;
-use std::net::{Net, OpenListener, SocketAddr, SocketAddrV4};
+use std::net::Net;
 use std::time::Duration;
 use vdcp_drive::{DriveFault, Ran, Server, StreamWire, Unwatched, WatchAir, Wire};
 use vdcp_files::{Input, file_failure};
@@ -119,42 +120,6 @@ fn serve<'a, R: Net + AllocGlobal, C: io::Read + Drop, L: io::Write + Drop, W: i
         return Err(Failure::LineFailed);
     };
     serve_line(new_port(clips, settings), wire, settings, log, out)
-}
-
-/// Listens at an address, for port 0 at one that the system chooses, and takes the first connection. Before
-/// that `out` gets a line with the address that is listened at, and is flushed. The other connections are
-/// refused from then on. `Bind` where the address can't be listened at or no connection be taken, and `Writer`
-/// where `out` failed.
-pub fn accept_one<R: Net, W: io::Write>(
-    rt: &R,
-    address: SocketAddrV4,
-    out: &mut W,
-) -> Result<R::Stream, Failure<'static>>
-    ensures prints { OnOk result (PrintsListening (W.contents out.old) (W.contents out.new)) }
-    ensures refused { IfErr result (λ e. (e ≡ Failure.Writer) ⊎ ((e ≡ Failure.Bind)
-        × (Keeps (W.contents out.old) (W.contents out.new) ⊎ PrintsListening (W.contents out.old) (W.contents out.new)))) }
-{
-    let Ok(listener) = rt.bind(SocketAddr::V4(address)) else {
-        return Err(Failure::Bind);
-    };
-    let Ok(bound) = listener.local_addr() else {
-        return Err(Failure::Bind);
-    };
-    if write_listening(bound, out).is_err() {
-        return Err(Failure::Writer);
-    }
-    match listener.accept() {
-        Ok((stream, _)) => Ok(stream),
-        Err(_) => Err(Failure::Bind),
-    }
-}
-
-// Tells the address that is listened at.
-fn write_listening<W: io::Write>(address: SocketAddr, out: &mut W) -> io::Result<()>
-    ensures { OnOk result (Appends (W.contents out.old) (W.contents out.new) (listening_line address)) }
-{
-    writeln!(out, "listening {address}")?;
-    out.flush()
 }
 
 // The new port of a catalogue.
