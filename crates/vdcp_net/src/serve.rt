@@ -4,7 +4,7 @@ ghost use Rattle.vdcp_drive.specs.Served.{HasBrokenOff, IsPartlySent, IsServed};
 ghost use Rattle.vdcp_drive.specs.Wires.{IfTold, Told};
 ghost use Rattle.vdcp_files.specs.Files.{file};
 ghost use Rattle.vdcp_net.specs.Address.{IsAddress};
-ghost use Rattle.vdcp_net.specs.Serve.{EndsAs, IsCatalogueRefused, IsServedThere, IsUnserved, IsWhole, PrintsEnd};
+ghost use Rattle.vdcp_net.specs.Serve.{EndsAs, IsCatalogueRefused, IsServedThere, IsUnserved, IsWholeCatalogue, PrintsEnd};
 ghost use Rattle.vdcp_port.specs.Clock.{ClockedPort, new_port};
 ghost use Rattle.vdcp_text.specs.Failure.{failure_line};
 
@@ -72,7 +72,7 @@ pub fn do_serve<
     requires few_frames { settings.cue_frames ≤ 1000 }
     ensures served { result ≡ 0 → IsServedThere settings.rate (file catalogue.entry.name (C.remaining catalogue.entry.reader))
         (W.contents out.old) (W.contents out.new) }
-    ensures whole { result ≡ 0 → IsAddress address.now × IsWhole settings.rate (file catalogue.entry.name (C.remaining catalogue.entry.reader)) }
+    ensures whole { result ≡ 0 → IsAddress address.now × IsWholeCatalogue settings.rate (file catalogue.entry.name (C.remaining catalogue.entry.reader)) }
     ensures untold { result ≡ 0 → Keeps (E.contents err.old) (E.contents err.new) }
     // The status is 1 for a row that is refused.
     ensures others { result ≡ 1 → IsCatalogueRefused settings.rate (file catalogue.entry.name (C.remaining catalogue.entry.reader))
@@ -81,7 +81,7 @@ pub fn do_serve<
     ensures no_address { result ≡ 2 → ¬ IsAddress address.now × Appends (E.contents err.old) (E.contents err.new) (failure_line Failure.Address) }
     ensures address { ¬ IsAddress address.now → ((result ≡ 2) ⊎ (result ≡ 3)) × Keeps (W.contents out.old) (W.contents out.new) }
     ensures silent { Keeps (W.contents out.old) (W.contents out.new)
-        ⊎ IsWhole settings.rate (file catalogue.entry.name (C.remaining catalogue.entry.reader)) }
+        ⊎ IsWholeCatalogue settings.rate (file catalogue.entry.name (C.remaining catalogue.entry.reader)) }
     ensures statuses { result ≤ 3 }
 {
     match serve(rt, address, catalogue, settings, log, out) {
@@ -105,7 +105,7 @@ fn serve<'a, R: Net + AllocGlobal, C: io::Read + Drop, L: io::Write + Drop, W: i
     ensures served { OnOk result (IsServedThere settings.rate (file catalogue.entry.name (C.remaining catalogue.entry.reader))
         (W.contents out.old) (W.contents out.new)) }
     ensures address { OnOk result (IsAddress address.now) }
-    ensures whole { OnOk result (IsWhole settings.rate (file catalogue.entry.name (C.remaining catalogue.entry.reader))) }
+    ensures whole { OnOk result (IsWholeCatalogue settings.rate (file catalogue.entry.name (C.remaining catalogue.entry.reader))) }
     ensures unserved { IfErr result (IsUnserved settings.rate address.now (file catalogue.entry.name (C.remaining catalogue.entry.reader))
         (W.contents out.old) (W.contents out.new)) }
 {
