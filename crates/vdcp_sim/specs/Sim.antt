@@ -12,8 +12,6 @@ use Rattle.vdcp_auto.specs.declared.exchange.Exchange.{Exchange}
 use Rattle.vdcp_auto.specs.declared.exchange.Heard.{Heard}
 use Rattle.vdcp_auto.specs.declared.exchange.Heard.TheVariants as heard
 use Rattle.vdcp_auto.specs.declared.outcome.Outcome.{Outcome}
-use Rattle.vdcp_auto.specs.declared.phase.Mode.{Mode}
-use Rattle.vdcp_auto.specs.declared.phase.Mode.TheVariants.{Plain, Confirming}
 use Rattle.vdcp_list.specs.Catalogues.{IsCatalogueOf}
 use Rattle.vdcp_list.specs.Playlists.{IsListOf}
 use Rattle.vdcp_text.specs.Failure.{failure_line, status_of}
@@ -24,6 +22,7 @@ use Rattle.vdcp_text.specs.declared.failure.LineFault.{LineFault}
 use Rattle.vdcp_files.specs.Check.{AreWhole}
 use Rattle.vdcp_files.specs.Files.{File, bytes_of}
 use Rattle.vdcp_files.specs.Items.{item_text}
+use Rattle.vdcp_files.specs.Mode.{mode_of}
 use Rattle.vdcp_files.specs.Outcome.{outcome_text}
 use Rattle.vdcp_world.specs.Channel.{Channel, new_channel, after_events}
 use Rattle.vdcp_world.specs.Headline.{Headline}
@@ -72,10 +71,6 @@ abbrev pub channel_text : Bool → Rate → Channel → List ℕ
 channel_text trace rate c = trace_text trace c.log ++ aired_text rate c.aired ++ end_text c.state.settled (length c.log) (outcome_of c.state.stage)
 
 -- ---- the channel
-
-abbrev pub mode_of : Bool → Mode
-mode_of true = Confirming
-mode_of false = Plain
 
 -- the new channel of a playlist and a catalogue
 abbrev pub channel_of : SimSettings → List Item → List (ClipId × Timecode) → Channel
