@@ -1,6 +1,6 @@
 ghost use Rattle.std.specs.Io.KnownBytes.{Appends, Keeps};
 ghost use Rattle.std.specs.Prelude.{◌≡◌, ◌≢◌, ◌⊎◌, ◌<◌, IfErr, IfOk, OnOk, false, if◌then◌else◌, length, true};
-ghost use Rattle.vdcp_files.specs.Check.{AreWhole, IsChecked, IsRefused, Refuses, RefusesCatalogue, RefusesList, are_playable, check_text, event_text, events_text, fault_of};
+ghost use Rattle.vdcp_files.specs.Check.{AreWhole, IsChecked, IsRefused, IsUnchecked, RefusesCatalogue, RefusesList, are_playable, check_text, event_text, events_text, fault_of};
 ghost use Rattle.vdcp_text.specs.Failure.{status_of};
 ghost use Rattle.vdcp_files.specs.Files.{file};
 ghost use Rattle.vdcp_list.specs.Catalogues.{IsCatalogueOf};
@@ -69,8 +69,8 @@ fn check<'a, L: io::Read + Drop, C: io::Read + Drop, W: io::Write>(
 ) -> Result<bool, Failure<'a>>
     ensures checked { IfOk result (IsChecked rate (file list.entry.name (L.remaining list.entry.reader)) (file catalogue.entry.name (C.remaining catalogue.entry.reader))
         (W.contents out.old) (W.contents out.new)) }
-    ensures refused { IfErr result (λ e. (e ≡ Failure.Writer)
-        ⊎ (Refuses rate (file list.entry.name (L.remaining list.entry.reader)) (file catalogue.entry.name (C.remaining catalogue.entry.reader)) e × Keeps (W.contents out.old) (W.contents out.new))) }
+    ensures unchecked { IfErr result (IsUnchecked rate (file list.entry.name (L.remaining list.entry.reader)) (file catalogue.entry.name (C.remaining catalogue.entry.reader))
+        (W.contents out.old) (W.contents out.new)) }
     ensures silent { Keeps (W.contents out.old) (W.contents out.new)
         ⊎ AreWhole rate (file list.entry.name (L.remaining list.entry.reader)) (file catalogue.entry.name (C.remaining catalogue.entry.reader)) }
     ensures statuses { IfErr result (λ e. status_of e ≢ 2) }
