@@ -19,7 +19,7 @@ use Rattle.vdcp_text.specs.Text.{line}
 use Rattle.vdcp_text.specs.declared.failure.Failure.{Failure}
 use Rattle.vdcp_text.specs.declared.failure.Failure.TheVariants as failures
 use Rattle.vdcp_text.specs.declared.failure.LineFault.{LineFault}
-use Rattle.vdcp_files.specs.Check.{AreWhole}
+use Rattle.vdcp_files.specs.Check.{AreWhole, Refuses}
 use Rattle.vdcp_files.specs.Files.{File, bytes_of}
 use Rattle.vdcp_files.specs.Items.{item_text}
 use Rattle.vdcp_files.specs.Mode.{mode_of}
@@ -96,6 +96,14 @@ abbrev pub IsScriptFailure : Bor (List ℕ) → Failure → Type 0
 IsScriptFailure name failure =
     ((number : ℕ) × (fault : LineFault) × (failure ≡ failures.Line name number fault))
     ⊎ ((failure ≡ failures.TooManyEvents name) ⊎ ((failure ≡ failures.NotText name) ⊎ ((failure ≡ failures.Read name) ⊎ (failure ≡ failures.Memory))))
+
+-- why nothing is simulated, and what was printed by then: the list or the catalogue isn't read, or else the script isn't,
+-- or else the writer failed
+pub data IsUnsimulated (rate : Rate) (list catalogue : File) (script : Bor (List ℕ)) (out out' : Option (List ℕ)) (failure : Failure) : Type 0 where
+  no_files : Refuses rate list catalogue failure → Keeps out out' → IsUnsimulated rate list catalogue script out out' failure
+  no_script : AreWhole rate list catalogue → IsScriptFailure script failure → Keeps out out'
+      → IsUnsimulated rate list catalogue script out out' failure
+  writer_failed : failure ≡ failures.Writer → IsUnsimulated rate list catalogue script out out' failure
 
 -- the files are whole, and the script is refused: one writer gained the line that tells it, and the other nothing
 pub record IsScriptRefused (rate : Rate) (list catalogue : File) (name : Bor (List ℕ)) (out out' err err' : Option (List ℕ)) : Type 0 where

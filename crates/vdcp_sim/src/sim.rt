@@ -1,8 +1,8 @@
 ghost use Rattle.std.specs.Io.KnownBytes.{Appends, Keeps};
 ghost use Rattle.std.specs.Prelude.{◌≡◌, ◌≢◌, ◌⊎◌, ◌<◌, ◌≤◌, IfErr, OnOk, true};
-ghost use Rattle.vdcp_files.specs.Check.{AreWhole, IsRefused, Refuses};
+ghost use Rattle.vdcp_files.specs.Check.{AreWhole, IsRefused};
 ghost use Rattle.vdcp_files.specs.Files.{file};
-ghost use Rattle.vdcp_sim.specs.Sim.{IsScriptFailure, IsScriptRefused, IsSimulated, aired_line, aired_text, channel_of, channel_text, end_text, exchange_line, trace_text};
+ghost use Rattle.vdcp_sim.specs.Sim.{IsScriptRefused, IsSimulated, IsUnsimulated, aired_line, aired_text, channel_of, channel_text, end_text, exchange_line, trace_text};
 ghost use Rattle.vdcp_text.specs.Failure.{status_of};
 
 use crate::script::read_events;
@@ -100,9 +100,8 @@ fn simulate<'a, L: io::Read + Drop, C: io::Read + Drop, R: io::Read + Drop, W: i
     requires few_frames { settings.cue_frames ≤ 1000 }
     ensures simulated { OnOk result (IsSimulated settings (file list.entry.name (L.remaining list.entry.reader)) (file catalogue.entry.name (C.remaining catalogue.entry.reader))
         (W.contents out.old) (W.contents out.new)) }
-    ensures refused { IfErr result (λ e. (e ≡ Failure.Writer)
-        ⊎ ((Refuses settings.rate (file list.entry.name (L.remaining list.entry.reader)) (file catalogue.entry.name (C.remaining catalogue.entry.reader)) e × Keeps (W.contents out.old) (W.contents out.new))
-        ⊎ ((AreWhole settings.rate (file list.entry.name (L.remaining list.entry.reader)) (file catalogue.entry.name (C.remaining catalogue.entry.reader)) × IsScriptFailure script.entry.name e) × Keeps (W.contents out.old) (W.contents out.new)))) }
+    ensures unsimulated { IfErr result (IsUnsimulated settings.rate (file list.entry.name (L.remaining list.entry.reader)) (file catalogue.entry.name (C.remaining catalogue.entry.reader))
+        script.entry.name (W.contents out.old) (W.contents out.new)) }
     ensures silent { Keeps (W.contents out.old) (W.contents out.new)
         ⊎ AreWhole settings.rate (file list.entry.name (L.remaining list.entry.reader)) (file catalogue.entry.name (C.remaining catalogue.entry.reader)) }
     ensures statuses { IfErr result (λ e. status_of e ≢ 2) }
