@@ -10,8 +10,7 @@ use crate::text::ExchangeText;
 use std::alloc::{Allocator, Global};
 use std::io;
 use vdcp_auto::{Exchange, Outcome, Source};
-use vdcp_files::{Input, ItemText, OutcomeText, file_failure};
-use vdcp_list::{read_catalogue, read_list};
+use vdcp_files::{Input, ItemText, OutcomeText};
 use vdcp_port::Catalogue;
 use vdcp_text::Failure;
 use vdcp_value::{Item, Rate};
@@ -106,14 +105,8 @@ fn simulate<'a, L: io::Read + Drop, C: io::Read + Drop, R: io::Read + Drop, W: i
         ⊎ AreWhole settings.rate (file list.entry.name (L.remaining list.entry.reader)) (file catalogue.entry.name (C.remaining catalogue.entry.reader)) }
     ensures statuses { IfErr result (λ e. status_of e ≢ 2) }
 {
-    let events = match read_list(alloc, list.reader, settings.rate) {
-        Ok(events) => events,
-        Err(fault) => return Err(file_failure(list.name, fault)),
-    };
-    let clips = match read_catalogue(alloc, catalogue.reader, settings.rate) {
-        Ok(clips) => clips,
-        Err(fault) => return Err(file_failure(catalogue.name, fault)),
-    };
+    let events = list.read_list(alloc, settings.rate)?;
+    let clips = catalogue.read_catalogue(alloc, settings.rate)?;
     let script = read_events(alloc, script)?;
     let mut world = new_world(alloc, events, clips, settings);
     world.run(script.as_slice())?;
