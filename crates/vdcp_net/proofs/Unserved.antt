@@ -4,7 +4,6 @@ use Rattle.std.specs.Io.KnownBytes.{Appends, Keeps}
 use Rattle.std.specs.Prelude.{IfErr, OnOk, Option, None, Some, Result, Ok, Err}
 use Rattle.vdcp_drive.specs.declared.line.Ran.{Ran}
 use Rattle.vdcp_files.specs.Files.{File, file, file_failure}
-use Rattle.vdcp_list.specs.Catalogues.{IsCatalogueFaultOf}
 use Rattle.vdcp_list.specs.declared.faults.ListFault.{ListFault}
 use Rattle.vdcp_list.specs.declared.faults.ListFault.TheVariants as lists
 use Rattle.vdcp_net.specs.Address.{IsAddress}
@@ -21,14 +20,9 @@ listens_still (Some xs) None out' (address, prints) keeps = absurd prints
 listens_still (Some xs) (Some ys) None (address, prints) keeps = absurd keeps
 listens_still (Some xs) (Some ys) (Some zs) (address, prints) keeps = (address, keeps ∙ prints)
 
-keeps_itself : (out : Option (List ℕ)) → Keeps out out
+pub keeps_itself : (out : Option (List ℕ)) → Keeps out out
 keeps_itself None = tt
 keeps_itself (Some xs) = refl
-
--- the catalogue isn't read, and nothing was told
-pub unserved_catalogue : (rate : Rate) (text : List ℕ) (name : Bor (List ℕ)) (bytes out : Option (List ℕ)) (fault : ListFault) (failure : Failure) → IsAddress text
-    → failure ≡ file_failure name fault → IsCatalogueFaultOf rate bytes fault → IsUnserved rate text (file name bytes) out out failure
-unserved_catalogue rate text name bytes out fault failure address told faulty = no_catalogue address (fault, told, faulty) (keeps_itself out)
 
 -- a line that was served ended
 pub served_there : {A : Type 0} (rate : Rate) (catalogue : File) (out then out' : Option (List ℕ)) (result : Result A Failure) → IsWholeCatalogue rate catalogue

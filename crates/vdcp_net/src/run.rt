@@ -23,8 +23,7 @@ use std::rt::{Clock, Files};
 use std::time::Duration;
 use vdcp_auto::{Controller, Outcome, Source};
 use vdcp_drive::{AutoDriver, DriveFault, Ran, StreamWire, Unwatched, Watch, Wire};
-use vdcp_files::{Input, OutcomeText, file_failure};
-use vdcp_list::read_list;
+use vdcp_files::{Input, OutcomeText};
 use vdcp_text::Failure;
 use vdcp_value::Rate;
 
@@ -245,10 +244,7 @@ fn run_list<'a, R: Net + Files + Clock + AllocGlobal, L: io::Read + Drop, V: io:
     ensures unplayed { IfErr result (IsUnplayed settings.entry.rate address.now (file list.entry.name (L.remaining list.entry.reader))) }
 {
     let address = address_of(address)?;
-    let events = match read_list(rt.alloc(), list.reader, settings.rate) {
-        Ok(events) => events,
-        Err(fault) => return Err(file_failure(list.name, fault)),
-    };
+    let events = list.read_list(rt.alloc(), settings.rate)?;
     let Ok(stream) = rt.connect(SocketAddr::V4(address)) else {
         return Err(Failure::Connect);
     };

@@ -15,8 +15,7 @@ use std::io;
 use std::net::Net;
 use std::time::Duration;
 use vdcp_drive::{DriveFault, Ran, Server, StreamWire, Unwatched, WatchAir, Wire};
-use vdcp_files::{Input, file_failure};
-use vdcp_list::read_catalogue;
+use vdcp_files::Input;
 use vdcp_port::{Catalogue, Port};
 use vdcp_text::Failure;
 use vdcp_value::Rate;
@@ -110,10 +109,7 @@ fn serve<'a, R: Net + AllocGlobal, C: io::Read + Drop, L: io::Write + Drop, W: i
         (W.contents out.old) (W.contents out.new)) }
 {
     let address = address_of(address)?;
-    let clips = match read_catalogue(rt.alloc(), catalogue.reader, settings.rate) {
-        Ok(clips) => clips,
-        Err(fault) => return Err(file_failure(catalogue.name, fault)),
-    };
+    let clips = catalogue.read_catalogue(rt.alloc(), settings.rate)?;
     let stream = accept_one(rt, address, out)?;
     let silence = Duration::from_millis(settings.silence as u64);
     let Ok(wire) = StreamWire::new(stream, silence) else {
