@@ -162,8 +162,8 @@ fn write_world<S: Source, C: Catalogue, A: Allocator + Copy, W: io::Write>(
 fn write_log<W: io::Write>(log: &[Exchange], out: &mut W) -> io::Result<()>
     ensures { OnOk result (Appends (W.contents out.old) (W.contents out.new) (trace_text true log.now)) }
 {
-    for k in 0..log.len() {
-        write_exchange(k + 1, log[k], out)?;
+    for (k, exchange) in log.iter().enumerate() {
+        write_exchange(k + 1, *exchange, out)?;
     }
     Ok(())
 }
@@ -179,8 +179,8 @@ fn write_exchange<W: io::Write>(number: usize, exchange: Exchange, out: &mut W) 
 fn write_aired<W: io::Write>(aired: &[Item], rate: Rate, out: &mut W) -> io::Result<()>
     ensures { OnOk result (Appends (W.contents out.old) (W.contents out.new) (aired_text rate aired.now)) }
 {
-    for k in 0..aired.len() {
-        write_item(k, aired[k], rate, out)?;
+    for (k, item) in aired.iter().enumerate() {
+        write_item(k, *item, rate, out)?;
     }
     Ok(())
 }
