@@ -271,7 +271,7 @@ fn play_connected<
     // Whatever the controller's log is: from there it came to this end.
     ensures end { (log : List Exchange) → Reached (plan_of S.items controller) controller.state log → IsEndOf (plan_of S.items controller) result }
 {
-    let silence = Duration::from_millis(settings.silence as u64);
+    let silence = Duration::from_millis(u64::from(settings.silence));
     let wire = StreamWire::new(stream, silence);
     play_over(rt, controller, wire, settings, showing)
 }

@@ -111,7 +111,7 @@ fn serve<'a, R: Net + AllocGlobal, C: io::Read + Drop, L: io::Write + Drop, W: i
     let address = address_of(address)?;
     let clips = catalogue.read_catalogue(rt.alloc(), settings.rate)?;
     let stream = accept_one(rt, address, out)?;
-    let silence = Duration::from_millis(settings.silence as u64);
+    let silence = Duration::from_millis(u64::from(settings.silence));
     let Ok(wire) = StreamWire::new(stream, silence) else {
         return Err(Failure::LineFailed);
     };
