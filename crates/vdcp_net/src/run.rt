@@ -385,7 +385,7 @@ fn play<'a, R: Files + AllocGlobal, S: Source, W: Wire, V: Watch<S>>(
     ensures works { result.line ≢ LineEnd.Failed → W.failures driver.new.wire ≡ 0 }
     ensures device { result.line ≡ LineEnd.Failed → W.failures driver.new.wire ≡ 1 }
 {
-    let line = LineEnd::of_run(driver.run_watched(settings.listens as u64, watcher));
+    let line = LineEnd::of_run(driver.run_watched(u64::from(settings.listens), watcher));
     ended(rt, driver.controller(), line, settings)
 }
 

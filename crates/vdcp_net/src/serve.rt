@@ -170,7 +170,7 @@ fn serve_turns<'f, C: Catalogue, S: Wire, V: WatchAir, W: io::Write>(
         S.failures server.old.wire ≡ 0 → S.failures server.new.wire ≡ 1 →
         IfTold (S.told server.new.wire) (λ u. HasBrokenOff start u server.new.port × IsPartlySent start u) }
 {
-    match server.serve_watched(turns as u64, watcher) {
+    match server.serve_watched(u64::from(turns), watcher) {
         Ok(ran) => write_end(ran, out).map_err(|_| Failure::Writer),
         Err(DriveFault::Device) => Err(Failure::LineFailed),
     }
