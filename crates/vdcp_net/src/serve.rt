@@ -49,8 +49,9 @@ pub struct ServeSettings {
 ///
 /// The status is 0 where the connection was served to its end. It is 2 where `address` isn't one, 1 where a
 /// row of the catalogue is refused, and 3 where the catalogue can't be read, memory was refused, the address
-/// can't be listened at, or the line failed; `err` is told of these. The address is tested first, and then
-/// the catalogue is read. The status is 3 where `out` failed, to which nothing more is written.
+/// can't be listened at, no connection is taken, or the line failed; `err` is told of these. The address is
+/// tested first, and then the catalogue is read. The status is 3 where `out` failed, to which nothing more is
+/// written.
 pub fn do_serve<
     R: Net + AllocGlobal,
     C: io::Read + Drop,
