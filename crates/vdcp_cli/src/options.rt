@@ -1,6 +1,6 @@
-ghost use Rattle.clap.specs.Matches.{found_of};
-ghost use Rattle.std.specs.Prelude.{◌≡◌, ◌≢◌, ◌≤◌, ℕ, codes, IfSome, None};
-ghost use Rattle.vdcp_cli.specs.Options.{GivesNumber, GivesRate, NamesRate, WritesNumber};
+ghost use Rattle.clap.specs.Matches.{first_value, found_of};
+ghost use Rattle.std.specs.Prelude.{◌≡◌, ◌≢◌, ◌≤◌, ℕ, codes, false, IfSome, None, option_map, true};
+ghost use Rattle.vdcp_cli.specs.Options.{GivesNumber, GivesRate, HasFlag, NamesRate, WritesNumber};
 ghost use Rattle.vdcp_value.specs.declared.rate.Rate.{Rate};
 
 use clap::{Arg, ArgMatches, value_parser};
@@ -272,6 +272,14 @@ fn rate_named(name: &str) -> Option<Rate>
     }
 }
 
+// Whether the flag of this name is there.
+fn flag_of(matches: &ArgMatches, name: &str) -> bool
+    ensures there { HasFlag (found_of matches.now) name.now true → result ≡ true }
+    ensures missing { HasFlag (found_of matches.now) name.now false → result ≡ false }
+{
+    matches.get_flag(name)
+}
+
 /// What the options say of a channel, and of what is printed of it.
 pub fn sim_settings_of(matches: &ArgMatches) -> SimSettings
     ensures unit { result.unit ≤ 15 }
@@ -284,15 +292,19 @@ pub fn sim_settings_of(matches: &ArgMatches) -> SimSettings
     ensures limits { (n : ℕ) → GivesNumber (found_of matches.now) (codes "limit") 1 1000 n → result.limit ≡ n }
     ensures frames { (n : ℕ) → GivesNumber (found_of matches.now) (codes "cue-frames") 1 1000 n → result.cue_frames ≡ n }
     ensures rates { (rate : Rate) → GivesRate (found_of matches.now) (codes "rate") rate → result.rate ≡ rate }
+    ensures confirms { HasFlag (found_of matches.now) (codes "confirm") true → result.confirm ≡ true }
+    ensures confirms_not { HasFlag (found_of matches.now) (codes "confirm") false → result.confirm ≡ false }
+    ensures traces { HasFlag (found_of matches.now) (codes "trace") true → result.trace ≡ true }
+    ensures traces_not { HasFlag (found_of matches.now) (codes "trace") false → result.trace ≡ false }
 {
     SimSettings {
         unit: unit_of(matches),
         port: port_of(matches),
         limit: limit_of(matches),
         cue_frames: cue_frames_of(matches),
-        confirm: matches.get_flag("confirm"),
+        confirm: flag_of(matches, "confirm"),
         rate: rate_of(matches),
-        trace: matches.get_flag("trace"),
+        trace: flag_of(matches, "trace"),
     }
 }
 
@@ -333,12 +345,15 @@ pub fn run_settings_of<'a>(matches: &'a ArgMatches<'_>) -> RunSettings<'a>
     ensures silences { (n : ℕ) → GivesNumber (found_of matches.now) (codes "silence") 1 60000 n → result.silence ≡ n }
     ensures listens { (n : ℕ) → GivesNumber (found_of matches.now) (codes "listens") 1 4294967295 n → result.listens ≡ n }
     ensures rates { (rate : Rate) → GivesRate (found_of matches.now) (codes "rate") rate → result.rate ≡ rate }
+    ensures confirms { HasFlag (found_of matches.now) (codes "confirm") true → result.confirm ≡ true }
+    ensures confirms_not { HasFlag (found_of matches.now) (codes "confirm") false → result.confirm ≡ false }
+    ensures asruns { option_map (λ name. name.now) result.asrun ≡ first_value (found_of matches.now) (codes "asrun") }
 {
     RunSettings {
         unit: unit_of(matches),
         port: port_of(matches),
         limit: limit_of(matches),
-        confirm: matches.get_flag("confirm"),
+        confirm: flag_of(matches, "confirm"),
         rate: rate_of(matches),
         silence: number_of(matches, &RUN_SILENCE),
         listens: number_of(matches, &LISTENS),
