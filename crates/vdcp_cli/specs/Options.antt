@@ -1,7 +1,7 @@
--- What the text of an option says: a number, or a rate.
-use Rattle.std.specs.Prelude.{ℕ, List, ◌≡◌, ◌≤◌, Some, codes}
+-- What an option says: a number, a rate, or whether it is wanted.
+use Rattle.std.specs.Prelude.{ℕ, List, ◌≡◌, ◌≤◌, ◌⊎◌, Bool, true, false, None, Some, codes}
 use Rattle.std.specs.Str.Parse.{IsNumeral, digits_value, without_leading_plus}
-use Rattle.clap.specs.Matches.{first_value}
+use Rattle.clap.specs.Matches.{first_value, one_text}
 use Rattle.clap.specs.declared.parser.matches.Found.{Found}
 use Rattle.vdcp_value.specs.declared.rate.Rate.{Rate}
 use Rattle.vdcp_value.specs.declared.rate.Rate.TheVariants.{F24, F25, F30, D30}
@@ -25,3 +25,8 @@ NamesRate text D30 = text ≡ codes "30df"
 -- the option of this name has a text, and that names the rate
 abbrev pub GivesRate : Found → List ℕ → Rate → Type 0
 GivesRate found name rate = (text : List ℕ) × (first_value found name ≡ Some text) × NamesRate text rate
+
+-- the flag of this name is there, as `clap` notes it, or it isn't
+abbrev pub HasFlag : Found → List ℕ → Bool → Type 0
+HasFlag found name true = one_text found name ≡ Some (codes "true")
+HasFlag found name false = (one_text found name ≡ None) ⊎ (one_text found name ≡ Some (codes "false"))

@@ -53,7 +53,7 @@ fn show<'a>(alloc: Global) -> Result<Command<'a>, AllocError> {
         .about("Shows a burst: its messages, and how it ends")
         .after_help("Example: vdcp show 02021001ef --words")
         .arg(required(alloc, "HEX", "The burst's bytes in hexadecimal digits"))?
-        .arg(meanings(alloc))
+        .arg(words(alloc))
 }
 
 fn make<'a>(alloc: Global) -> Result<Command<'a>, AllocError> {
@@ -181,7 +181,7 @@ fn address<'a>(alloc: Global, help: &'a str) -> Arg<'a> {
     required(alloc, "ADDR", help)
 }
 
-fn meanings<'a>(alloc: Global) -> Arg<'a> {
+fn words<'a>(alloc: Global) -> Arg<'a> {
     Arg::new(alloc, "words")
         .long("words")
         .action(ArgAction::SetTrue)

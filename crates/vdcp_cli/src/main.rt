@@ -131,7 +131,7 @@ fn run_sim<'a, W: Write, E: Write>(
     let list = open(rt, matches, "LIST")?;
     let catalogue = open(rt, matches, "CATALOGUE")?;
     let script = open(rt, matches, "SCRIPT")?;
-    let settings = options::settings_of(matches);
+    let settings = options::sim_settings_of(matches);
     Ok(do_sim(rt.alloc(), list, catalogue, script, settings, out, err))
 }
 

@@ -1,20 +1,20 @@
-ghost use Rattle.clap.specs.Matches.{found_of};
-ghost use Rattle.std.specs.Prelude.{◌≡◌, ◌≢◌, ◌≤◌, ℕ, codes, IfSome, None};
-ghost use Rattle.vdcp_cli.specs.Options.{GivesNumber, GivesRate, NamesRate, WritesNumber};
+ghost use Rattle.clap.specs.Matches.{first_value, found_of};
+ghost use Rattle.std.specs.Prelude.{◌≡◌, ◌≢◌, ◌≤◌, ℕ, codes, false, IfSome, None, option_map, true};
+ghost use Rattle.vdcp_cli.specs.Options.{GivesNumber, GivesRate, HasFlag, NamesRate, WritesNumber};
 ghost use Rattle.vdcp_value.specs.declared.rate.Rate.{Rate};
 
 use clap::{Arg, ArgMatches, value_parser};
 use std::alloc::Global;
 use vdcp_lossy::{Chances, LossySettings};
 use vdcp_net::{RunSettings, ServeSettings};
-use vdcp_sim::Settings;
+use vdcp_sim::SimSettings;
 use vdcp_value::Rate;
 
 /// An option whose value is a number, in decimal digits, from `least` to `most`.
-pub struct Number {
+pub struct NumberOption {
     pub name: &'static str,
     /// What stands for the number in help.
-    pub letter: &'static str,
+    pub value_name: &'static str,
     pub least: u32,
     pub most: u32,
     /// The number where the option is left out, as text.
@@ -22,144 +22,144 @@ pub struct Number {
     pub help: &'static str,
 }
 
-pub const UNIT: Number = Number {
+pub const UNIT: NumberOption = NumberOption {
     name: "unit",
-    letter: "U",
+    value_name: "U",
     least: 0,
     most: 15,
     default: "0",
     help: "The unit address, 0 to 15",
 };
 
-pub const PORT: Number = Number {
+pub const PORT: NumberOption = NumberOption {
     name: "port",
-    letter: "P",
+    value_name: "P",
     least: 0,
     most: 255,
     default: "1",
     help: "The port's number, 0 to 255",
 };
 
-pub const LIMIT: Number = Number {
+pub const LIMIT: NumberOption = NumberOption {
     name: "limit",
-    letter: "L",
+    value_name: "L",
     least: 1,
     most: 1_000,
     default: "3",
     help: "The controller gives up after so many unanswered exchanges in a row, 1 to 1000",
 };
 
-pub const CUE_FRAMES: Number = Number {
+pub const CUE_FRAMES: NumberOption = NumberOption {
     name: "cue-frames",
-    letter: "F",
+    value_name: "F",
     least: 1,
     most: 1_000,
     default: "1",
     help: "A cue takes so many frames, 1 to 1000",
 };
 
-pub const SERVE_SILENCE: Number = Number {
+pub const SERVE_SILENCE: NumberOption = NumberOption {
     name: "silence",
-    letter: "MS",
+    value_name: "MS",
     least: 1,
     most: 60_000,
     default: "20",
     help: "A command has ended, and a frame has passed, when nothing came for so many milliseconds, 1 to 60000",
 };
 
-pub const RUN_SILENCE: Number = Number {
+pub const RUN_SILENCE: NumberOption = NumberOption {
     name: "silence",
-    letter: "MS",
+    value_name: "MS",
     least: 1,
     most: 60_000,
     default: "100",
     help: "An answer has ended when nothing came for so many milliseconds, 1 to 60000; more than the server's",
 };
 
-pub const TURNS: Number = Number {
+pub const TURNS: NumberOption = NumberOption {
     name: "turns",
-    letter: "N",
+    value_name: "N",
     least: 1,
-    most: 4_294_967_295,
+    most: u32::MAX,
     default: "4294967295",
     help: "Ends after so many waits for bytes or for a silence",
 };
 
-pub const LISTENS: Number = Number {
+pub const LISTENS: NumberOption = NumberOption {
     name: "listens",
-    letter: "N",
+    value_name: "N",
     least: 1,
-    most: 4_294_967_295,
+    most: u32::MAX,
     default: "4294967295",
     help: "Gives up after so many waits for bytes or for a silence",
 };
 
-pub const SEED: Number = Number {
+pub const SEED: NumberOption = NumberOption {
     name: "seed",
-    letter: "N",
+    value_name: "N",
     least: 0,
-    most: 4_294_967_295,
+    most: u32::MAX,
     default: "1",
     help: "Which throws of the dice are made: the same seed, the same throws",
 };
 
-pub const LOSE: Number = Number {
+pub const LOSE: NumberOption = NumberOption {
     name: "lose",
-    letter: "P",
+    value_name: "P",
     least: 0,
     most: 100,
     default: "10",
     help: "Of 100 bursts so many are lost, 0 to 100",
 };
 
-pub const COPY: Number = Number {
+pub const COPY: NumberOption = NumberOption {
     name: "copy",
-    letter: "P",
+    value_name: "P",
     least: 0,
     most: 100,
     default: "10",
     help: "Of 100 bursts so many come twice, 0 to 100",
 };
 
-pub const CUT: Number = Number {
+pub const CUT: NumberOption = NumberOption {
     name: "cut",
-    letter: "P",
+    value_name: "P",
     least: 0,
     most: 100,
     default: "5",
     help: "Of 100 bursts so many end early, 0 to 100",
 };
 
-pub const DAMAGE: Number = Number {
+pub const DAMAGE: NumberOption = NumberOption {
     name: "damage",
-    letter: "P",
+    value_name: "P",
     least: 0,
     most: 100,
     default: "5",
     help: "Of 100 bursts so many have bytes changed, 0 to 100",
 };
 
-pub const FORGE: Number = Number {
+pub const FORGE: NumberOption = NumberOption {
     name: "forge",
-    letter: "P",
+    value_name: "P",
     least: 0,
     most: 100,
     default: "0",
     help: "Of 100 answers, or where none comes, so many are an ACK or a NAK, 0 to 100; for a run with --confirm",
 };
 
-pub const LOSSY_SILENCE: Number = Number {
+pub const LOSSY_SILENCE: NumberOption = NumberOption {
     name: "silence",
-    letter: "MS",
+    value_name: "MS",
     least: 1,
     most: 60_000,
     default: "30",
     help: "A burst has ended when nothing came for so many milliseconds, 1 to 60000; more than the server's",
 };
 
-pub const WITHIN: Number = Number {
+pub const WITHIN: NumberOption = NumberOption {
     name: "within",
-    letter: "MS",
+    value_name: "MS",
     least: 1,
     most: 60_000,
     default: "80",
@@ -167,11 +167,11 @@ pub const WITHIN: Number = Number {
 };
 
 /// The option, for the command line.
-pub fn number_option<'a>(alloc: Global, option: &Number) -> Arg<'a> {
+pub fn number_option<'a>(alloc: Global, option: &NumberOption) -> Arg<'a> {
     let range = i64::from(option.least)..=i64::from(option.most);
     Arg::new(alloc, option.name)
         .long(option.name)
-        .value_name(option.letter)
+        .value_name(option.value_name)
         .value_parser(value_parser!(u32).range(range))
         .default_value(option.default)
         .help(option.help)
@@ -189,7 +189,7 @@ pub fn rate_option<'a>(alloc: Global) -> Arg<'a> {
 
 /// The number that the option's text writes; `clap` lets no text through that writes none in the
 /// range, and gives the default where the option is left out.
-pub fn number_of(matches: &ArgMatches, option: &Number) -> u32
+pub fn number_of(matches: &ArgMatches, option: &NumberOption) -> u32
     requires { option.now.least ≤ option.now.most }
     ensures least { option.now.least ≤ result }
     ensures most { result ≤ option.now.most }
@@ -272,8 +272,16 @@ fn rate_named(name: &str) -> Option<Rate>
     }
 }
 
+// Whether the flag of this name is there.
+fn flag_of(matches: &ArgMatches, name: &str) -> bool
+    ensures there { HasFlag (found_of matches.now) name.now true → result ≡ true }
+    ensures missing { HasFlag (found_of matches.now) name.now false → result ≡ false }
+{
+    matches.get_flag(name)
+}
+
 /// What the options say of a channel, and of what is printed of it.
-pub fn settings_of(matches: &ArgMatches) -> Settings
+pub fn sim_settings_of(matches: &ArgMatches) -> SimSettings
     ensures unit { result.unit ≤ 15 }
     ensures some { 1 ≤ result.limit }
     ensures few { result.limit ≤ 1000 }
@@ -284,15 +292,19 @@ pub fn settings_of(matches: &ArgMatches) -> Settings
     ensures limits { (n : ℕ) → GivesNumber (found_of matches.now) (codes "limit") 1 1000 n → result.limit ≡ n }
     ensures frames { (n : ℕ) → GivesNumber (found_of matches.now) (codes "cue-frames") 1 1000 n → result.cue_frames ≡ n }
     ensures rates { (rate : Rate) → GivesRate (found_of matches.now) (codes "rate") rate → result.rate ≡ rate }
+    ensures confirms { HasFlag (found_of matches.now) (codes "confirm") true → result.confirm ≡ true }
+    ensures confirms_not { HasFlag (found_of matches.now) (codes "confirm") false → result.confirm ≡ false }
+    ensures traces { HasFlag (found_of matches.now) (codes "trace") true → result.trace ≡ true }
+    ensures traces_not { HasFlag (found_of matches.now) (codes "trace") false → result.trace ≡ false }
 {
-    Settings {
+    SimSettings {
         unit: unit_of(matches),
         port: port_of(matches),
         limit: limit_of(matches),
         cue_frames: cue_frames_of(matches),
-        confirm: matches.get_flag("confirm"),
+        confirm: flag_of(matches, "confirm"),
         rate: rate_of(matches),
-        trace: matches.get_flag("trace"),
+        trace: flag_of(matches, "trace"),
     }
 }
 
@@ -333,12 +345,15 @@ pub fn run_settings_of<'a>(matches: &'a ArgMatches<'_>) -> RunSettings<'a>
     ensures silences { (n : ℕ) → GivesNumber (found_of matches.now) (codes "silence") 1 60000 n → result.silence ≡ n }
     ensures listens { (n : ℕ) → GivesNumber (found_of matches.now) (codes "listens") 1 4294967295 n → result.listens ≡ n }
     ensures rates { (rate : Rate) → GivesRate (found_of matches.now) (codes "rate") rate → result.rate ≡ rate }
+    ensures confirms { HasFlag (found_of matches.now) (codes "confirm") true → result.confirm ≡ true }
+    ensures confirms_not { HasFlag (found_of matches.now) (codes "confirm") false → result.confirm ≡ false }
+    ensures asruns { option_map (λ name. name.now) result.asrun ≡ first_value (found_of matches.now) (codes "asrun") }
 {
     RunSettings {
         unit: unit_of(matches),
         port: port_of(matches),
         limit: limit_of(matches),
-        confirm: matches.get_flag("confirm"),
+        confirm: flag_of(matches, "confirm"),
         rate: rate_of(matches),
         silence: number_of(matches, &RUN_SILENCE),
         listens: number_of(matches, &LISTENS),

@@ -8,6 +8,7 @@ use Rattle.vdcp_text.specs.Text.{line}
 use Rattle.vdcp_files.specs.declared.check.EventFault.{EventFault}
 use Rattle.vdcp_files.specs.declared.check.EventFault.TheVariants.{Missing, Outside}
 use Rattle.vdcp_text.specs.declared.failure.Failure.{Failure}
+use Rattle.vdcp_text.specs.declared.failure.Failure.TheVariants as failures
 use Rattle.vdcp_list.specs.Catalogues.{IsCatalogueFaultOf, IsCatalogueOf}
 use Rattle.vdcp_list.specs.Playlists.{IsListFaultOf, IsListOf}
 use Rattle.vdcp_list.specs.declared.faults.ListFault.{ListFault}
@@ -81,6 +82,11 @@ RefusesCatalogue rate (file name bytes) failure =
 abbrev pub Refuses : Rate → File → File → Failure → Type 0
 Refuses rate list catalogue failure =
     RefusesList rate list failure ⊎ (((items : List Item) × IsListOf rate (bytes_of list) items) × RefusesCatalogue rate catalogue failure)
+
+-- why nothing is checked, and what was printed by then: a file isn't read, or else the writer failed
+pub data IsUnchecked (rate : Rate) (list catalogue : File) (out out' : Option (List ℕ)) (failure : Failure) : Type 0 where
+  no_files : Refuses rate list catalogue failure → Keeps out out' → IsUnchecked rate list catalogue out out' failure
+  writer_failed : failure ≡ failures.Writer → IsUnchecked rate list catalogue out out' failure
 
 -- a row of one of the files is refused: one writer gained the line that tells it, and the other nothing
 pub record IsRefused (rate : Rate) (list catalogue : File) (out out' err err' : Option (List ℕ)) : Type 0 where

@@ -2,4 +2,5 @@ pub mod Files
 pub mod Check
 pub mod Vectors
 pub mod Items
+pub mod Mode
 pub mod Outcome

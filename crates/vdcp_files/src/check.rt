@@ -1,18 +1,14 @@
 ghost use Rattle.std.specs.Io.KnownBytes.{Appends, Keeps};
 ghost use Rattle.std.specs.Prelude.{◌≡◌, ◌≢◌, ◌⊎◌, ◌<◌, IfErr, IfOk, OnOk, false, if◌then◌else◌, length, true};
-ghost use Rattle.vdcp_files.specs.Check.{AreWhole, IsChecked, IsRefused, Refuses, RefusesCatalogue, RefusesList, are_playable, check_text, event_text, events_text, fault_of};
+ghost use Rattle.vdcp_files.specs.Check.{AreWhole, IsChecked, IsRefused, IsUnchecked, are_playable, check_text, event_text, events_text, fault_of};
 ghost use Rattle.vdcp_text.specs.Failure.{status_of};
 ghost use Rattle.vdcp_files.specs.Files.{file};
-ghost use Rattle.vdcp_list.specs.Catalogues.{IsCatalogueOf};
-ghost use Rattle.vdcp_list.specs.List.{items_of};
-ghost use Rattle.vdcp_list.specs.Playlists.{IsListOf};
 
-use crate::input::{Input, file_failure};
+use crate::input::Input;
 use arrayvec::ArrayString;
 use std::alloc::Global;
 use std::{fmt, io};
 use vdcp_auto::Source;
-use vdcp_list::{List, Table, read_catalogue, read_list};
 use vdcp_port::Catalogue;
 use vdcp_text::Failure;
 use vdcp_value::{ClipId, Item, Rate};
@@ -69,47 +65,15 @@ fn check<'a, L: io::Read + Drop, C: io::Read + Drop, W: io::Write>(
 ) -> Result<bool, Failure<'a>>
     ensures checked { IfOk result (IsChecked rate (file list.entry.name (L.remaining list.entry.reader)) (file catalogue.entry.name (C.remaining catalogue.entry.reader))
         (W.contents out.old) (W.contents out.new)) }
-    ensures refused { IfErr result (λ e. (e ≡ Failure.Writer)
-        ⊎ (Refuses rate (file list.entry.name (L.remaining list.entry.reader)) (file catalogue.entry.name (C.remaining catalogue.entry.reader)) e × Keeps (W.contents out.old) (W.contents out.new))) }
+    ensures unchecked { IfErr result (IsUnchecked rate (file list.entry.name (L.remaining list.entry.reader)) (file catalogue.entry.name (C.remaining catalogue.entry.reader))
+        (W.contents out.old) (W.contents out.new)) }
     ensures silent { Keeps (W.contents out.old) (W.contents out.new)
         ⊎ AreWhole rate (file list.entry.name (L.remaining list.entry.reader)) (file catalogue.entry.name (C.remaining catalogue.entry.reader)) }
     ensures statuses { IfErr result (λ e. status_of e ≢ 2) }
 {
-    let events = read_events(alloc, list, rate)?;
-    let clips = read_clips(alloc, catalogue, rate)?;
+    let events = list.read_list(alloc, rate)?;
+    let clips = catalogue.read_catalogue(alloc, rate)?;
     write_findings(&events, &clips, clips.len(), out).map_err(|_| Failure::Writer)
-}
-
-// Reads the list.
-fn read_events<'a, R: io::Read + Drop>(
-    alloc: Global,
-    list: Input<'a, R>,
-    rate: Rate,
-) -> Result<List, Failure<'a>>
-    ensures events { IfOk result (λ events. IsListOf rate (R.remaining list.entry.reader) (items_of events)) }
-    ensures refused { IfErr result (RefusesList rate (file list.entry.name (R.remaining list.entry.reader))) }
-    ensures statuses { IfErr result (λ e. status_of e ≢ 2) }
-{
-    match read_list(alloc, list.reader, rate) {
-        Ok(events) => Ok(events),
-        Err(fault) => Err(file_failure(list.name, fault)),
-    }
-}
-
-// Reads the catalogue.
-fn read_clips<'a, R: io::Read + Drop>(
-    alloc: Global,
-    catalogue: Input<'a, R>,
-    rate: Rate,
-) -> Result<Table, Failure<'a>>
-    ensures clips { IfOk result (IsCatalogueOf rate (R.remaining catalogue.entry.reader)) }
-    ensures refused { IfErr result (RefusesCatalogue rate (file catalogue.entry.name (R.remaining catalogue.entry.reader))) }
-    ensures statuses { IfErr result (λ e. status_of e ≢ 2) }
-{
-    match read_catalogue(alloc, catalogue.reader, rate) {
-        Ok(clips) => Ok(clips),
-        Err(fault) => Err(file_failure(catalogue.name, fault)),
-    }
 }
 
 // Writes what was found, and says whether each event can be played.

@@ -7,7 +7,8 @@ use Rattle.vdcp_auto.specs.Turn.{new_controller, outcome_of}
 use Rattle.vdcp_auto.specs.declared.exchange.Exchange.{Exchange}
 use Rattle.vdcp_auto.specs.declared.phase.State.{State}
 use Rattle.vdcp_drive.specs.Driven.{GoesOn}
-use Rattle.vdcp_net.specs.Run.{IsEndOf, mode_of, plan_for}
+use Rattle.vdcp_files.specs.Mode.{mode_of}
+use Rattle.vdcp_net.specs.Run.{IsEndOf, plan_for}
 use Rattle.vdcp_net.specs.declared.run.LineEnd.TheVariants as line_end
 use Rattle.vdcp_net.specs.declared.run.RunEnd.{RunEnd}
 use Rattle.vdcp_net.specs.declared.run.RunSettings.{RunSettings}

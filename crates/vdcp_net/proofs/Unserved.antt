@@ -4,11 +4,10 @@ use Rattle.std.specs.Io.KnownBytes.{Appends, Keeps}
 use Rattle.std.specs.Prelude.{IfErr, OnOk, Option, None, Some, Result, Ok, Err}
 use Rattle.vdcp_drive.specs.declared.line.Ran.{Ran}
 use Rattle.vdcp_files.specs.Files.{File, file, file_failure}
-use Rattle.vdcp_list.specs.Catalogues.{IsCatalogueFaultOf}
 use Rattle.vdcp_list.specs.declared.faults.ListFault.{ListFault}
 use Rattle.vdcp_list.specs.declared.faults.ListFault.TheVariants as lists
 use Rattle.vdcp_net.specs.Address.{IsAddress}
-use Rattle.vdcp_net.specs.Serve.{IsServedThere, IsUnserved, IsWhole, PrintsEnd, PrintsListening}
+use Rattle.vdcp_net.specs.Serve.{IsServedThere, IsUnserved, IsWholeCatalogue, PrintsEnd, PrintsListening}
 use Rattle.vdcp_net.specs.Serve.{no_address, no_catalogue, not_bound, line_failed, writer_failed}
 use Rattle.vdcp_text.specs.Failure.{failure_line, status_of}
 use Rattle.vdcp_text.specs.declared.failure.Failure.{Failure}
@@ -21,17 +20,12 @@ listens_still (Some xs) None out' (address, prints) keeps = absurd prints
 listens_still (Some xs) (Some ys) None (address, prints) keeps = absurd keeps
 listens_still (Some xs) (Some ys) (Some zs) (address, prints) keeps = (address, keeps ∙ prints)
 
-keeps_itself : (out : Option (List ℕ)) → Keeps out out
+pub keeps_itself : (out : Option (List ℕ)) → Keeps out out
 keeps_itself None = tt
 keeps_itself (Some xs) = refl
 
--- the catalogue isn't read, and nothing was told
-pub unserved_catalogue : (rate : Rate) (text : List ℕ) (name : Bor (List ℕ)) (bytes out : Option (List ℕ)) (fault : ListFault) (failure : Failure) → IsAddress text
-    → failure ≡ file_failure name fault → IsCatalogueFaultOf rate bytes fault → IsUnserved rate text (file name bytes) out out failure
-unserved_catalogue rate text name bytes out fault failure address told faulty = no_catalogue address (fault, told, faulty) (keeps_itself out)
-
 -- a line that was served ended
-pub served_there : {A : Type 0} (rate : Rate) (catalogue : File) (out then out' : Option (List ℕ)) (result : Result A Failure) → IsWhole rate catalogue
+pub served_there : {A : Type 0} (rate : Rate) (catalogue : File) (out then out' : Option (List ℕ)) (result : Result A Failure) → IsWholeCatalogue rate catalogue
     → PrintsListening out then → OnOk result ((ran : Ran) × PrintsEnd ran then out') → OnOk result (IsServedThere rate catalogue out out')
 served_there rate catalogue out then out' (Ok x) whole listens (ran, prints) =
     record { whole = whole; then = then; listens = listens; ran = ran; prints = prints }
@@ -39,7 +33,7 @@ served_there rate catalogue out then out' (Err e) whole listens h = tt
 
 -- a line that was served failed, or the writer did
 pub unserved_line : {A : Type 0} (rate : Rate) (text : List ℕ) (catalogue : File) (out then out' : Option (List ℕ)) (result : Result A Failure) → IsAddress text
-    → IsWhole rate catalogue → PrintsListening out then → IfErr result (λ e. (e ≡ Writer) ⊎ ((e ≡ LineFailed) × Keeps then out'))
+    → IsWholeCatalogue rate catalogue → PrintsListening out then → IfErr result (λ e. (e ≡ Writer) ⊎ ((e ≡ LineFailed) × Keeps then out'))
     → IfErr result (IsUnserved rate text catalogue out out')
 unserved_line rate text catalogue out then out' (Ok x) address whole listens h = tt
 unserved_line rate text catalogue out then out' (Err e) address whole listens (inl writer) = writer_failed address whole writer

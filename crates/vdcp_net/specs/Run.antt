@@ -1,7 +1,7 @@
 -- How a run ends: what it tells then, and its exit status.
 use Rattle.std.specs.Borrow.{Bor}
 use Rattle.std.specs.Io.KnownBytes.{Appends, Keeps}
-use Rattle.std.specs.Prelude.{ℕ, ◌≡◌, ◌⊎◌, List, [], ◌++◌, codes, decimal, Option, None, Some, IsSome, Result, Ok, Err, Bool, true, false, IsTrue}
+use Rattle.std.specs.Prelude.{ℕ, ◌≡◌, ◌⊎◌, List, [], ◌++◌, codes, decimal, Option, None, Some, IsSome, Result, Ok, Err, IsTrue}
 use Rattle.vdcp_value.specs.declared.part.Item.{Item}
 use Rattle.vdcp_value.specs.declared.rate.Rate.{Rate}
 use Rattle.vdcp_auto.specs.Course.{Reached}
@@ -10,8 +10,6 @@ use Rattle.vdcp_auto.specs.Turn.{outcome_of}
 use Rattle.vdcp_auto.specs.declared.exchange.Exchange.{Exchange}
 use Rattle.vdcp_auto.specs.declared.outcome.Outcome.{Outcome}
 use Rattle.vdcp_auto.specs.declared.outcome.Outcome.TheVariants.{Done, Stopped, Lost, Denied, Missing, Refused, Foreign, Strange}
-use Rattle.vdcp_auto.specs.declared.phase.Mode.{Mode}
-use Rattle.vdcp_auto.specs.declared.phase.Mode.TheVariants.{Plain, Confirming}
 use Rattle.vdcp_auto.specs.declared.phase.State.{State}
 use Rattle.vdcp_text.specs.Failure.{failure_line, status_of}
 use Rattle.vdcp_text.specs.Text.{line}
@@ -19,6 +17,7 @@ use Rattle.vdcp_text.specs.declared.failure.Failure.{Failure}
 use Rattle.vdcp_text.specs.declared.failure.Failure.TheVariants as failures
 use Rattle.vdcp_files.specs.Check.{RefusesList}
 use Rattle.vdcp_files.specs.Files.{File, bytes_of}
+use Rattle.vdcp_files.specs.Mode.{mode_of}
 use Rattle.vdcp_list.specs.Playlists.{IsListOf}
 use Rattle.vdcp_files.specs.Outcome.{outcome_text}
 use Rattle.vdcp_drive.specs.Lines.{AllListened, AtMostListened}
@@ -31,10 +30,6 @@ use Rattle.vdcp_net.specs.declared.run.LineEnd.{LineEnd}
 use Rattle.vdcp_net.specs.declared.run.LineEnd.TheVariants as line_end
 use Rattle.vdcp_net.specs.declared.run.RunEnd.{RunEnd}
 use Rattle.vdcp_net.specs.declared.run.RunSettings.{RunSettings}
-
-abbrev pub mode_of : Bool → Mode
-mode_of true = Confirming
-mode_of false = Plain
 
 -- what the controller is made with for these items
 abbrev pub plan_for : RunSettings → List Item → Plan

@@ -37,8 +37,8 @@ pub record EndsAs (turns : ℕ) (told told' : Option Told) (out out' : Option (L
   pub prints : PrintsEnd ran out out'
 
 -- the file is a catalogue
-abbrev pub IsWhole : Rate → File → Type 0
-IsWhole rate catalogue = (clips : List (ClipId × Timecode)) × IsCatalogueOf rate (bytes_of catalogue) clips
+abbrev pub IsWholeCatalogue : Rate → File → Type 0
+IsWholeCatalogue rate catalogue = (clips : List (ClipId × Timecode)) × IsCatalogueOf rate (bytes_of catalogue) clips
 
 -- a writer gained the line of an address that was listened at
 abbrev pub PrintsListening : Option (List ℕ) → Option (List ℕ) → Type 0
@@ -46,7 +46,7 @@ PrintsListening out out' = (address : SocketAddr) × Appends out out' (listening
 
 -- the file is a catalogue, and a writer gained the line of an address that was listened at, and then that of how the turns ended
 pub record IsServedThere (rate : Rate) (catalogue : File) (out out' : Option (List ℕ)) : Type 0 where
-  pub whole : IsWhole rate catalogue
+  pub whole : IsWholeCatalogue rate catalogue
   pub then : Option (List ℕ)
   pub listens : PrintsListening out then
   pub ran : Ran
@@ -57,11 +57,11 @@ pub record IsServedThere (rate : Rate) (catalogue : File) (out out' : Option (Li
 pub data IsUnserved (rate : Rate) (text : List ℕ) (catalogue : File) (out out' : Option (List ℕ)) (failure : Failure) : Type 0 where
   no_address : ¬ IsAddress text → failure ≡ failures.Address → Keeps out out' → IsUnserved rate text catalogue out out' failure
   no_catalogue : IsAddress text → RefusesCatalogue rate catalogue failure → Keeps out out' → IsUnserved rate text catalogue out out' failure
-  not_bound : IsAddress text → IsWhole rate catalogue → failure ≡ failures.Bind → Keeps out out' ⊎ PrintsListening out out'
+  not_bound : IsAddress text → IsWholeCatalogue rate catalogue → failure ≡ failures.Bind → Keeps out out' ⊎ PrintsListening out out'
       → IsUnserved rate text catalogue out out' failure
-  line_failed : IsAddress text → IsWhole rate catalogue → failure ≡ failures.LineFailed → PrintsListening out out'
+  line_failed : IsAddress text → IsWholeCatalogue rate catalogue → failure ≡ failures.LineFailed → PrintsListening out out'
       → IsUnserved rate text catalogue out out' failure
-  writer_failed : IsAddress text → IsWhole rate catalogue → failure ≡ failures.Writer → IsUnserved rate text catalogue out out' failure
+  writer_failed : IsAddress text → IsWholeCatalogue rate catalogue → failure ≡ failures.Writer → IsUnserved rate text catalogue out out' failure
 
 -- a row of the catalogue is refused: one writer gained the line that tells it, and the other nothing
 pub record IsCatalogueRefused (rate : Rate) (catalogue : File) (out out' err err' : Option (List ℕ)) : Type 0 where

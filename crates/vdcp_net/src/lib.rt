@@ -8,6 +8,7 @@
 //! begins with these too.
 #![tactic(auto)]
 
+mod accept;
 mod address;
 #[cfg(test)]
 mod answers;
@@ -15,12 +16,13 @@ mod asrun;
 #[cfg(test)]
 mod failing;
 mod log;
-#[cfg(test)]
-mod loopback_tests;
 mod progress;
 mod run;
 mod serve;
+#[cfg(test)]
+mod told;
 
+pub use accept::accept_one;
 pub use address::address_of;
 pub use run::{RunSettings, Showing, do_run};
-pub use serve::{ServeSettings, accept_one, do_serve};
+pub use serve::{ServeSettings, do_serve};

@@ -37,18 +37,18 @@ impl<L: io::Write + Drop> Log<L> {
     }
 }
 
-/// The way that a message goes, as a line of a log shows it at its front.
+/// Which way a message goes, as a line of a log shows it at its front.
 #[derive(Clone, Copy, Debug, PartialEq, Eq)]
-enum Way {
+enum Direction {
     In,
     Out,
 }
 
-impl fmt::Display for Way {
+impl fmt::Display for Direction {
     fn fmt<W: fmt::Write>(&self, f: &mut fmt::Formatter<W>) -> fmt::Result {
         match self {
-            Way::In => write!(f, "<-"),
-            Way::Out => write!(f, "->"),
+            Direction::In => write!(f, "<-"),
+            Direction::Out => write!(f, "->"),
         }
     }
 }
@@ -83,16 +83,16 @@ impl<W: Wire, L: io::Write + Drop> Wire for Logged<'_, W, L> {
     fn send(&mut self, bytes: &[u8]) -> Result<(), WireFault> {
         self.wire.send(bytes)?;
         let mut sent = Reader::new();
-        tell_piece(self.log, Way::Out, &mut sent, bytes);
-        tell_end(self.log, Way::Out, &mut sent);
+        tell_piece(self.log, Direction::Out, &mut sent, bytes);
+        tell_end(self.log, Direction::Out, &mut sent);
         Ok(())
     }
 
     fn listen(&mut self, buffer: &mut [u8; 512]) -> Result<Came, WireFault> {
         let came = self.wire.listen(buffer)?;
         match came {
-            Came::Bytes(n) => tell_piece(self.log, Way::In, &mut self.came, &buffer[..n]),
-            Came::Silence | Came::Closed => tell_end(self.log, Way::In, &mut self.came),
+            Came::Bytes(n) => tell_piece(self.log, Direction::In, &mut self.came, &buffer[..n]),
+            Came::Silence | Came::Closed => tell_end(self.log, Direction::In, &mut self.came),
         }
         Ok(came)
     }
@@ -136,17 +136,22 @@ impl<L: io::Write + Drop> WatchAir for AirLog<'_, L> {
 }
 
 // Tells the messages that a piece of a burst completes, and a fault that it shows.
-fn tell_piece<L: io::Write + Drop>(log: &Log<L>, way: Way, reader: &mut Reader, piece: &[u8]) {
+fn tell_piece<L: io::Write + Drop>(
+    log: &Log<L>,
+    direction: Direction,
+    reader: &mut Reader,
+    piece: &[u8],
+) {
     let mut at = 0;
     'piece: while at < piece.len() {
-        at += tell_some(log, way, reader, &piece[at..]);
+        at += tell_some(log, direction, reader, &piece[at..]);
     }
 }
 
 // Takes bytes up to the end of one message or one fault, or all of them. Answers how many.
 fn tell_some<L: io::Write + Drop>(
     log: &Log<L>,
-    way: Way,
+    direction: Direction,
     reader: &mut Reader,
     piece: &[u8],
 ) -> usize
@@ -158,24 +163,24 @@ fn tell_some<L: io::Write + Drop>(
         Got::Message(message) => {
             let text = MessageText(message);
             let meaning = MeaningText(message);
-            log.tell(&format_args!("{way} {text}{meaning}"));
+            log.tell(&format_args!("{direction} {text}{meaning}"));
         }
-        Got::Fault(fault, place) => tell_fault(log, way, End::Fault(fault, place)),
+        Got::Fault(fault, place) => tell_fault(log, direction, End::Fault(fault, place)),
         Got::More => {}
     }
     taken
 }
 
 // The burst ends: tells where it was cut.
-fn tell_end<L: io::Write + Drop>(log: &Log<L>, way: Way, reader: &mut Reader) {
+fn tell_end<L: io::Write + Drop>(log: &Log<L>, direction: Direction, reader: &mut Reader) {
     match reader.silence() {
-        Ended::Cut(count) => tell_fault(log, way, End::Cut(count)),
+        Ended::Cut(count) => tell_fault(log, direction, End::Cut(count)),
         Ended::Clean | Ended::AfterFault => {}
     }
 }
 
-fn tell_fault<L: io::Write + Drop>(log: &Log<L>, way: Way, end: End) {
-    log.tell(&format_args!("{way} {end}"));
+fn tell_fault<L: io::Write + Drop>(log: &Log<L>, direction: Direction, end: End) {
+    log.tell(&format_args!("{direction} {end}"));
 }
 
 #[cfg(test)]

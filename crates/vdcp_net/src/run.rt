@@ -7,9 +7,10 @@ ghost use Rattle.vdcp_auto.specs.declared.exchange.Exchange.{Exchange};
 ghost use Rattle.vdcp_drive.specs.Driven.{GoesOn, HasRun, HasRunBroken, IsNew, IsPartlyRun};
 ghost use Rattle.vdcp_drive.specs.Wires.{IfTold, Told};
 ghost use Rattle.vdcp_files.specs.Files.{file};
+ghost use Rattle.vdcp_files.specs.Mode.{mode_of};
 ghost use Rattle.vdcp_net.specs.Address.{IsAddress};
 ghost use Rattle.vdcp_net.specs.Run.{EndsTo, IsEndOf, IsListRefused, IsPlayed, IsRun, IsUnplayed, IsWholeList, MayBeUnwritten};
-ghost use Rattle.vdcp_net.specs.Run.{end_text, fault_text, faults_text, line_end_of, line_failure, mode_of, run_status};
+ghost use Rattle.vdcp_net.specs.Run.{end_text, fault_text, faults_text, line_end_of, line_failure, run_status};
 ghost use Rattle.vdcp_text.specs.Failure.{failure_line};
 
 use crate::address::address_of;
@@ -22,8 +23,7 @@ use std::rt::{Clock, Files};
 use std::time::Duration;
 use vdcp_auto::{Controller, Outcome, Source};
 use vdcp_drive::{AutoDriver, DriveFault, Ran, StreamWire, Unwatched, Watch, Wire};
-use vdcp_files::{Input, OutcomeText, file_failure};
-use vdcp_list::read_list;
+use vdcp_files::{Input, OutcomeText};
 use vdcp_text::Failure;
 use vdcp_value::Rate;
 
@@ -242,10 +242,7 @@ fn run_list<'a, R: Net + Files + Clock + AllocGlobal, L: io::Read + Drop, V: io:
     ensures unplayed { IfErr result (IsUnplayed settings.entry.rate address.now (file list.entry.name (L.remaining list.entry.reader))) }
 {
     let address = address_of(address)?;
-    let events = match read_list(rt.alloc(), list.reader, settings.rate) {
-        Ok(events) => events,
-        Err(fault) => return Err(file_failure(list.name, fault)),
-    };
+    let events = list.read_list(rt.alloc(), settings.rate)?;
     let Ok(stream) = rt.connect(SocketAddr::V4(address)) else {
         return Err(Failure::Connect);
     };
@@ -272,7 +269,7 @@ fn play_connected<
     // Whatever the controller's log is: from there it came to this end.
     ensures end { (log : List Exchange) → Reached (plan_of S.items controller) controller.state log → IsEndOf (plan_of S.items controller) result }
 {
-    let silence = Duration::from_millis(settings.silence as u64);
+    let silence = Duration::from_millis(u64::from(settings.silence));
     let wire = StreamWire::new(stream, silence);
     play_over(rt, controller, wire, settings, showing)
 }
@@ -386,7 +383,7 @@ fn play<'a, R: Files + AllocGlobal, S: Source, W: Wire, V: Watch<S>>(
     ensures works { result.line ≢ LineEnd.Failed → W.failures driver.new.wire ≡ 0 }
     ensures device { result.line ≡ LineEnd.Failed → W.failures driver.new.wire ≡ 1 }
 {
-    let line = LineEnd::of_run(driver.run_watched(settings.listens as u64, watcher));
+    let line = LineEnd::of_run(driver.run_watched(u64::from(settings.listens), watcher));
     ended(rt, driver.controller(), line, settings)
 }
 

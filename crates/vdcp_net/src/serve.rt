@@ -4,18 +4,18 @@ ghost use Rattle.vdcp_drive.specs.Served.{HasBrokenOff, IsPartlySent, IsServed};
 ghost use Rattle.vdcp_drive.specs.Wires.{IfTold, Told};
 ghost use Rattle.vdcp_files.specs.Files.{file};
 ghost use Rattle.vdcp_net.specs.Address.{IsAddress};
-ghost use Rattle.vdcp_net.specs.Serve.{EndsAs, IsCatalogueRefused, IsServedThere, IsUnserved, IsWhole, PrintsEnd, PrintsListening, listening_line};
+ghost use Rattle.vdcp_net.specs.Serve.{EndsAs, IsCatalogueRefused, IsServedThere, IsUnserved, IsWholeCatalogue, PrintsEnd};
 ghost use Rattle.vdcp_port.specs.Clock.{ClockedPort, new_port};
 ghost use Rattle.vdcp_text.specs.Failure.{failure_line};
 
+use crate::accept::accept_one;
 use crate::address::address_of;
 use crate::log::{AirLog, Log, Logged};
 use std::io;
-use std::net::{Net, OpenListener, SocketAddr, SocketAddrV4};
+use std::net::Net;
 use std::time::Duration;
 use vdcp_drive::{DriveFault, Ran, Server, StreamWire, Unwatched, WatchAir, Wire};
-use vdcp_files::{Input, file_failure};
-use vdcp_list::read_catalogue;
+use vdcp_files::Input;
 use vdcp_port::{Catalogue, Port};
 use vdcp_text::Failure;
 use vdcp_value::Rate;
@@ -49,8 +49,9 @@ pub struct ServeSettings {
 ///
 /// The status is 0 where the connection was served to its end. It is 2 where `address` isn't one, 1 where a
 /// row of the catalogue is refused, and 3 where the catalogue can't be read, memory was refused, the address
-/// can't be listened at, or the line failed; `err` is told of these. The address is tested first, and then
-/// the catalogue is read. The status is 3 where `out` failed, to which nothing more is written.
+/// can't be listened at, no connection is taken, or the line failed; `err` is told of these. The address is
+/// tested first, and then the catalogue is read. The status is 3 where `out` failed, to which nothing more is
+/// written.
 pub fn do_serve<
     R: Net + AllocGlobal,
     C: io::Read + Drop,
@@ -71,7 +72,7 @@ pub fn do_serve<
     requires few_frames { settings.cue_frames ≤ 1000 }
     ensures served { result ≡ 0 → IsServedThere settings.rate (file catalogue.entry.name (C.remaining catalogue.entry.reader))
         (W.contents out.old) (W.contents out.new) }
-    ensures whole { result ≡ 0 → IsAddress address.now × IsWhole settings.rate (file catalogue.entry.name (C.remaining catalogue.entry.reader)) }
+    ensures whole { result ≡ 0 → IsAddress address.now × IsWholeCatalogue settings.rate (file catalogue.entry.name (C.remaining catalogue.entry.reader)) }
     ensures untold { result ≡ 0 → Keeps (E.contents err.old) (E.contents err.new) }
     // The status is 1 for a row that is refused.
     ensures others { result ≡ 1 → IsCatalogueRefused settings.rate (file catalogue.entry.name (C.remaining catalogue.entry.reader))
@@ -80,7 +81,7 @@ pub fn do_serve<
     ensures no_address { result ≡ 2 → ¬ IsAddress address.now × Appends (E.contents err.old) (E.contents err.new) (failure_line Failure.Address) }
     ensures address { ¬ IsAddress address.now → ((result ≡ 2) ⊎ (result ≡ 3)) × Keeps (W.contents out.old) (W.contents out.new) }
     ensures silent { Keeps (W.contents out.old) (W.contents out.new)
-        ⊎ IsWhole settings.rate (file catalogue.entry.name (C.remaining catalogue.entry.reader)) }
+        ⊎ IsWholeCatalogue settings.rate (file catalogue.entry.name (C.remaining catalogue.entry.reader)) }
     ensures statuses { result ≤ 3 }
 {
     match serve(rt, address, catalogue, settings, log, out) {
@@ -104,57 +105,18 @@ fn serve<'a, R: Net + AllocGlobal, C: io::Read + Drop, L: io::Write + Drop, W: i
     ensures served { OnOk result (IsServedThere settings.rate (file catalogue.entry.name (C.remaining catalogue.entry.reader))
         (W.contents out.old) (W.contents out.new)) }
     ensures address { OnOk result (IsAddress address.now) }
-    ensures whole { OnOk result (IsWhole settings.rate (file catalogue.entry.name (C.remaining catalogue.entry.reader))) }
+    ensures whole { OnOk result (IsWholeCatalogue settings.rate (file catalogue.entry.name (C.remaining catalogue.entry.reader))) }
     ensures unserved { IfErr result (IsUnserved settings.rate address.now (file catalogue.entry.name (C.remaining catalogue.entry.reader))
         (W.contents out.old) (W.contents out.new)) }
 {
     let address = address_of(address)?;
-    let clips = match read_catalogue(rt.alloc(), catalogue.reader, settings.rate) {
-        Ok(clips) => clips,
-        Err(fault) => return Err(file_failure(catalogue.name, fault)),
-    };
+    let clips = catalogue.read_catalogue(rt.alloc(), settings.rate)?;
     let stream = accept_one(rt, address, out)?;
-    let silence = Duration::from_millis(settings.silence as u64);
+    let silence = Duration::from_millis(u64::from(settings.silence));
     let Ok(wire) = StreamWire::new(stream, silence) else {
         return Err(Failure::LineFailed);
     };
     serve_line(new_port(clips, settings), wire, settings, log, out)
-}
-
-/// Listens at an address, for port 0 at one that the system chooses, and takes the first connection. Before
-/// that `out` gets a line with the address that is listened at, and is flushed. The other connections are
-/// refused from then on. `Bind` where the address can't be listened at or no connection be taken, and `Writer`
-/// where `out` failed.
-pub fn accept_one<R: Net, W: io::Write>(
-    rt: &R,
-    address: SocketAddrV4,
-    out: &mut W,
-) -> Result<R::Stream, Failure<'static>>
-    ensures prints { OnOk result (PrintsListening (W.contents out.old) (W.contents out.new)) }
-    ensures refused { IfErr result (λ e. (e ≡ Failure.Writer) ⊎ ((e ≡ Failure.Bind)
-        × (Keeps (W.contents out.old) (W.contents out.new) ⊎ PrintsListening (W.contents out.old) (W.contents out.new)))) }
-{
-    let Ok(listener) = rt.bind(SocketAddr::V4(address)) else {
-        return Err(Failure::Bind);
-    };
-    let Ok(bound) = listener.local_addr() else {
-        return Err(Failure::Bind);
-    };
-    if write_listening(bound, out).is_err() {
-        return Err(Failure::Writer);
-    }
-    match listener.accept() {
-        Ok((stream, _)) => Ok(stream),
-        Err(_) => Err(Failure::Bind),
-    }
-}
-
-// Tells the address that is listened at.
-fn write_listening<W: io::Write>(address: SocketAddr, out: &mut W) -> io::Result<()>
-    ensures { OnOk result (Appends (W.contents out.old) (W.contents out.new) (listening_line address)) }
-{
-    writeln!(out, "listening {address}")?;
-    out.flush()
 }
 
 // The new port of a catalogue.
@@ -209,7 +171,7 @@ fn serve_turns<'f, C: Catalogue, S: Wire, V: WatchAir, W: io::Write>(
         S.failures server.old.wire ≡ 0 → S.failures server.new.wire ≡ 1 →
         IfTold (S.told server.new.wire) (λ u. HasBrokenOff start u server.new.port × IsPartlySent start u) }
 {
-    match server.serve_watched(turns as u64, watcher) {
+    match server.serve_watched(u64::from(turns), watcher) {
         Ok(ran) => write_end(ran, out).map_err(|_| Failure::Writer),
         Err(DriveFault::Device) => Err(Failure::LineFailed),
     }

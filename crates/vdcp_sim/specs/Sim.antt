@@ -12,8 +12,6 @@ use Rattle.vdcp_auto.specs.declared.exchange.Exchange.{Exchange}
 use Rattle.vdcp_auto.specs.declared.exchange.Heard.{Heard}
 use Rattle.vdcp_auto.specs.declared.exchange.Heard.TheVariants as heard
 use Rattle.vdcp_auto.specs.declared.outcome.Outcome.{Outcome}
-use Rattle.vdcp_auto.specs.declared.phase.Mode.{Mode}
-use Rattle.vdcp_auto.specs.declared.phase.Mode.TheVariants.{Plain, Confirming}
 use Rattle.vdcp_list.specs.Catalogues.{IsCatalogueOf}
 use Rattle.vdcp_list.specs.Playlists.{IsListOf}
 use Rattle.vdcp_text.specs.Failure.{failure_line, status_of}
@@ -21,14 +19,15 @@ use Rattle.vdcp_text.specs.Text.{line}
 use Rattle.vdcp_text.specs.declared.failure.Failure.{Failure}
 use Rattle.vdcp_text.specs.declared.failure.Failure.TheVariants as failures
 use Rattle.vdcp_text.specs.declared.failure.LineFault.{LineFault}
-use Rattle.vdcp_files.specs.Check.{AreWhole}
+use Rattle.vdcp_files.specs.Check.{AreWhole, Refuses}
 use Rattle.vdcp_files.specs.Files.{File, bytes_of}
 use Rattle.vdcp_files.specs.Items.{item_text}
+use Rattle.vdcp_files.specs.Mode.{mode_of}
 use Rattle.vdcp_files.specs.Outcome.{outcome_text}
 use Rattle.vdcp_world.specs.Channel.{Channel, new_channel, after_events}
 use Rattle.vdcp_world.specs.Headline.{Headline}
 use Rattle.vdcp_world.specs.declared.event.Event.{Event}
-use Rattle.vdcp_sim.specs.declared.sim.Settings.{Settings}
+use Rattle.vdcp_sim.specs.declared.sim.SimSettings.{SimSettings}
 
 -- ---- texts
 
@@ -73,18 +72,14 @@ channel_text trace rate c = trace_text trace c.log ++ aired_text rate c.aired ++
 
 -- ---- the channel
 
-abbrev pub mode_of : Bool → Mode
-mode_of true = Confirming
-mode_of false = Plain
-
 -- the new channel of a playlist and a catalogue
-abbrev pub channel_of : Settings → List Item → List (ClipId × Timecode) → Channel
+abbrev pub channel_of : SimSettings → List Item → List (ClipId × Timecode) → Channel
 channel_of settings items clips =
     new_channel (record { mode = mode_of settings.confirm; list = items; port = settings.port; limit = settings.limit }) clips settings.unit settings.cue_frames
 
 -- the files are a playlist and a catalogue, and a writer gained what is printed of the channel that some
 -- events led to from their new one; and this channel keeps the headline
-pub record IsSimulated (settings : Settings) (list catalogue : File) (old new : Option (List ℕ)) : Type 0 where
+pub record IsSimulated (settings : SimSettings) (list catalogue : File) (old new : Option (List ℕ)) : Type 0 where
   pub items : List Item
   pub clips : List (ClipId × Timecode)
   pub events : List Event
@@ -101,6 +96,14 @@ abbrev pub IsScriptFailure : Bor (List ℕ) → Failure → Type 0
 IsScriptFailure name failure =
     ((number : ℕ) × (fault : LineFault) × (failure ≡ failures.Line name number fault))
     ⊎ ((failure ≡ failures.TooManyEvents name) ⊎ ((failure ≡ failures.NotText name) ⊎ ((failure ≡ failures.Read name) ⊎ (failure ≡ failures.Memory))))
+
+-- why nothing is simulated, and what was printed by then: the list or the catalogue isn't read, or else the script isn't,
+-- or else the writer failed
+pub data IsUnsimulated (rate : Rate) (list catalogue : File) (script : Bor (List ℕ)) (out out' : Option (List ℕ)) (failure : Failure) : Type 0 where
+  no_files : Refuses rate list catalogue failure → Keeps out out' → IsUnsimulated rate list catalogue script out out' failure
+  no_script : AreWhole rate list catalogue → IsScriptFailure script failure → Keeps out out'
+      → IsUnsimulated rate list catalogue script out out' failure
+  writer_failed : failure ≡ failures.Writer → IsUnsimulated rate list catalogue script out out' failure
 
 -- the files are whole, and the script is refused: one writer gained the line that tells it, and the other nothing
 pub record IsScriptRefused (rate : Rate) (list catalogue : File) (name : Bor (List ℕ)) (out out' err err' : Option (List ℕ)) : Type 0 where

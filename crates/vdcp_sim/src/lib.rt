@@ -12,4 +12,4 @@ mod script;
 mod sim;
 mod text;
 
-pub use sim::{Settings, do_sim};
+pub use sim::{SimSettings, do_sim};

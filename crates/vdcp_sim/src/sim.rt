@@ -1,8 +1,8 @@
 ghost use Rattle.std.specs.Io.KnownBytes.{Appends, Keeps};
 ghost use Rattle.std.specs.Prelude.{◌≡◌, ◌≢◌, ◌⊎◌, ◌<◌, ◌≤◌, IfErr, OnOk, true};
-ghost use Rattle.vdcp_files.specs.Check.{AreWhole, IsRefused, Refuses};
+ghost use Rattle.vdcp_files.specs.Check.{AreWhole, IsRefused};
 ghost use Rattle.vdcp_files.specs.Files.{file};
-ghost use Rattle.vdcp_sim.specs.Sim.{IsScriptFailure, IsScriptRefused, IsSimulated, aired_line, aired_text, channel_of, channel_text, end_text, exchange_line, trace_text};
+ghost use Rattle.vdcp_sim.specs.Sim.{IsScriptRefused, IsSimulated, IsUnsimulated, aired_line, aired_text, channel_of, channel_text, end_text, exchange_line, trace_text};
 ghost use Rattle.vdcp_text.specs.Failure.{status_of};
 
 use crate::script::read_events;
@@ -10,8 +10,7 @@ use crate::text::ExchangeText;
 use std::alloc::{Allocator, Global};
 use std::io;
 use vdcp_auto::{Exchange, Outcome, Source};
-use vdcp_files::{Input, ItemText, OutcomeText, file_failure};
-use vdcp_list::{read_catalogue, read_list};
+use vdcp_files::{Input, ItemText, OutcomeText};
 use vdcp_port::Catalogue;
 use vdcp_text::Failure;
 use vdcp_value::{Item, Rate};
@@ -19,7 +18,7 @@ use vdcp_world::World;
 
 /// What a channel is made with, and what is printed of it.
 #[derive(Clone, Copy, Debug, PartialEq, Eq)]
-pub struct Settings {
+pub struct SimSettings {
     /// The unit address of both ends, 0 to 15.
     pub unit: u8,
     /// The port's number.
@@ -56,7 +55,7 @@ pub fn do_sim<
     list: Input<'_, L>,
     catalogue: Input<'_, C>,
     script: Input<'_, R>,
-    settings: Settings,
+    settings: SimSettings,
     out: &mut W,
     err: &mut E,
 ) -> u8
@@ -90,7 +89,7 @@ fn simulate<'a, L: io::Read + Drop, C: io::Read + Drop, R: io::Read + Drop, W: i
     list: Input<'a, L>,
     catalogue: Input<'a, C>,
     script: Input<'a, R>,
-    settings: Settings,
+    settings: SimSettings,
     out: &mut W,
 ) -> Result<(), Failure<'a>>
     requires unit { settings.unit ≤ 15 }
@@ -100,21 +99,14 @@ fn simulate<'a, L: io::Read + Drop, C: io::Read + Drop, R: io::Read + Drop, W: i
     requires few_frames { settings.cue_frames ≤ 1000 }
     ensures simulated { OnOk result (IsSimulated settings (file list.entry.name (L.remaining list.entry.reader)) (file catalogue.entry.name (C.remaining catalogue.entry.reader))
         (W.contents out.old) (W.contents out.new)) }
-    ensures refused { IfErr result (λ e. (e ≡ Failure.Writer)
-        ⊎ ((Refuses settings.rate (file list.entry.name (L.remaining list.entry.reader)) (file catalogue.entry.name (C.remaining catalogue.entry.reader)) e × Keeps (W.contents out.old) (W.contents out.new))
-        ⊎ ((AreWhole settings.rate (file list.entry.name (L.remaining list.entry.reader)) (file catalogue.entry.name (C.remaining catalogue.entry.reader)) × IsScriptFailure script.entry.name e) × Keeps (W.contents out.old) (W.contents out.new)))) }
+    ensures unsimulated { IfErr result (IsUnsimulated settings.rate (file list.entry.name (L.remaining list.entry.reader)) (file catalogue.entry.name (C.remaining catalogue.entry.reader))
+        script.entry.name (W.contents out.old) (W.contents out.new)) }
     ensures silent { Keeps (W.contents out.old) (W.contents out.new)
         ⊎ AreWhole settings.rate (file list.entry.name (L.remaining list.entry.reader)) (file catalogue.entry.name (C.remaining catalogue.entry.reader)) }
     ensures statuses { IfErr result (λ e. status_of e ≢ 2) }
 {
-    let events = match read_list(alloc, list.reader, settings.rate) {
-        Ok(events) => events,
-        Err(fault) => return Err(file_failure(list.name, fault)),
-    };
-    let clips = match read_catalogue(alloc, catalogue.reader, settings.rate) {
-        Ok(clips) => clips,
-        Err(fault) => return Err(file_failure(catalogue.name, fault)),
-    };
+    let events = list.read_list(alloc, settings.rate)?;
+    let clips = catalogue.read_catalogue(alloc, settings.rate)?;
     let script = read_events(alloc, script)?;
     let mut world = new_world(alloc, events, clips, settings);
     world.run(script.as_slice())?;
@@ -126,7 +118,7 @@ fn new_world<S: Source, C: Catalogue>(
     alloc: Global,
     source: S,
     catalogue: C,
-    settings: Settings,
+    settings: SimSettings,
 ) -> World<S, C, Global>
     requires unit { settings.unit ≤ 15 }
     requires some { 1 ≤ settings.limit }
@@ -135,7 +127,7 @@ fn new_world<S: Source, C: Catalogue>(
     requires few_frames { settings.cue_frames ≤ 1000 }
     ensures { result ≡ channel_of settings (S.items source) (C.clips catalogue) }
 {
-    let Settings {
+    let SimSettings {
         unit,
         port,
         limit,
@@ -152,7 +144,7 @@ fn new_world<S: Source, C: Catalogue>(
 // Writes what came of a world.
 fn write_world<S: Source, C: Catalogue, A: Allocator + Copy, W: io::Write>(
     world: &World<S, C, A>,
-    settings: Settings,
+    settings: SimSettings,
     out: &mut W,
 ) -> io::Result<()>
     ensures { OnOk result (Appends (W.contents out.old) (W.contents out.new) (channel_text settings.trace settings.rate world.now)) }
@@ -170,8 +162,8 @@ fn write_world<S: Source, C: Catalogue, A: Allocator + Copy, W: io::Write>(
 fn write_log<W: io::Write>(log: &[Exchange], out: &mut W) -> io::Result<()>
     ensures { OnOk result (Appends (W.contents out.old) (W.contents out.new) (trace_text true log.now)) }
 {
-    for k in 0..log.len() {
-        write_exchange(k + 1, log[k], out)?;
+    for (k, exchange) in log.iter().enumerate() {
+        write_exchange(k + 1, *exchange, out)?;
     }
     Ok(())
 }
@@ -187,8 +179,8 @@ fn write_exchange<W: io::Write>(number: usize, exchange: Exchange, out: &mut W) 
 fn write_aired<W: io::Write>(aired: &[Item], rate: Rate, out: &mut W) -> io::Result<()>
     ensures { OnOk result (Appends (W.contents out.old) (W.contents out.new) (aired_text rate aired.now)) }
 {
-    for k in 0..aired.len() {
-        write_item(k, aired[k], rate, out)?;
+    for (k, item) in aired.iter().enumerate() {
+        write_item(k, *item, rate, out)?;
     }
     Ok(())
 }

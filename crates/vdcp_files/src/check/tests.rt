@@ -160,8 +160,9 @@ fn refused_rows_are_told(rt: HostRuntime) -> Result<(), Fail> {
 fn each_failing_read_is_told(rt: HostRuntime) {
     let alloc = rt.alloc();
     let list = b"CLIP0001\nCLIP0002\n".as_slice();
-    let mut told = false;
-    let mut whole = false;
+    // Of the list, and of the catalogue.
+    let mut told = [false; 2];
+    let mut whole = [false; 2];
     for left in 0..30 {
         let mut out = Vec::new(alloc);
         let mut err = Vec::new(alloc);
@@ -171,11 +172,11 @@ fn each_failing_read_is_told(rt: HostRuntime) {
             3 => {
                 assert_eq!(rt; err.as_slice(), b"vdcp: list.csv: read\n".as_slice());
                 assert!(rt; out.is_empty());
-                told = true;
+                told[0] = true;
             }
             status => {
                 assert_eq!(rt; status, 0);
-                whole = true;
+                whole[0] = true;
             }
         }
         let mut out = Vec::new(alloc);
@@ -186,15 +187,16 @@ fn each_failing_read_is_told(rt: HostRuntime) {
             3 => {
                 assert_eq!(rt; err.as_slice(), b"vdcp: clips.csv: read\n".as_slice());
                 assert!(rt; out.is_empty());
-                told = true;
+                told[1] = true;
             }
             status => {
                 assert_eq!(rt; status, 0);
-                whole = true;
+                whole[1] = true;
             }
         }
     }
-    assert!(rt; told && whole);
+    assert!(rt; told[0] && told[1]);
+    assert!(rt; whole[0] && whole[1]);
 }
 
 #[test]

@@ -6,6 +6,7 @@ use crate::answers::{
     wire_of,
 };
 use crate::failing::Failing;
+use crate::told::Told;
 use std::alloc::Global;
 use std::process::Abort;
 use std::test::Fail;
@@ -26,14 +27,6 @@ const SETTINGS: RunSettings<'static> = RunSettings {
     listens: 100,
     asrun: None,
 };
-
-/// What was told of a run: the text on `out`, that on `err`, and the status.
-#[derive(Drop)]
-struct Told {
-    out: Vec<u8>,
-    err: Vec<u8>,
-    status: u8,
-}
 
 // Plays a list over a wire.
 fn played(
@@ -63,6 +56,7 @@ fn expect(rt: &impl Abort, told: &Told, out: &str, err: &str, status: u8) {
     assert_eq!(rt; told.status, status, "{out}");
 }
 
+// But for Stopped: nobody stops a run.
 #[test]
 fn each_outcome_is_told(rt: HostRuntime) -> Result<(), Fail> {
     let part: &[u8] = b"CLIP0001,00:00:08:00,00:00:03:00\n";

@@ -1,7 +1,9 @@
 ghost use Rattle.std.specs.Prelude.{◌≡◌};
 
 use super::{ServeSettings, do_serve, serve_line};
+use crate::answers::GRANTED;
 use crate::failing::{Failing, FailingReader};
+use crate::told::Told;
 use std::alloc::Global;
 use std::io::{self, ErrorKind, Read, Write};
 use std::net::{Ipv4Addr, Net, Shutdown, SocketAddr, TcpListener, TcpStream};
@@ -22,8 +24,6 @@ const OPEN: &[u8] = &[0x02, 0x04, 0x30, 0x01, 0x01, 0x01, 0xCD];
 const SELECT: &[u8] = &[0x02, 0x03, 0x20, 0x22, 0x01, 0xBD];
 
 const STATUS: &[u8] = &[0x02, 0x03, 0x30, 0x05, 0x01, 0xCA];
-
-const GRANTED: &[u8] = &[0x02, 0x03, 0x30, 0x81, 0x01, 0x4E];
 
 /// OPEN, SELECT and STATUS are answered so.
 const OPENED: &[u8] = &[
@@ -58,14 +58,6 @@ where
     let listener = TcpListener::bind(rt, SocketAddr::from((Ipv4Addr::LOCALHOST, 0)))?;
     let address = listener.local_addr()?;
     Ok((listener, address))
-}
-
-/// What a served channel gives: the text on `out`, the text on `err`, and the status.
-#[derive(Drop)]
-struct Told {
-    out: Vec<u8>,
-    err: Vec<u8>,
-    status: u8,
 }
 
 /// Port 1 of unit 0, for so many turns, each with four milliseconds of silence.

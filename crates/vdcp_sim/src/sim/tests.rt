@@ -1,4 +1,4 @@
-use super::{Settings, do_sim};
+use super::{SimSettings, do_sim};
 use crate::failing::{Failing, FailingReader};
 use std::alloc::Global;
 use std::process::Abort;
@@ -8,7 +8,7 @@ use vdcp_value::Rate;
 
 const CLIPS: &[u8] = b"CLIP0001,00:00:10:00\nCLIP0002,00:00:10:00\n";
 
-const PLAIN: Settings = Settings {
+const PLAIN: SimSettings = SimSettings {
     unit: 0,
     port: 1,
     limit: 3,
@@ -18,12 +18,12 @@ const PLAIN: Settings = Settings {
     trace: false,
 };
 
-const TRACED: Settings = Settings {
+const TRACED: SimSettings = SimSettings {
     trace: true,
     ..PLAIN
 };
 
-const CONFIRMING: Settings = Settings {
+const CONFIRMING: SimSettings = SimSettings {
     confirm: true,
     ..PLAIN
 };
@@ -34,8 +34,8 @@ fn file<R>(name: &str, reader: R) -> Input<'_, R> {
 
 // What a run of this script at unit 0 and port 1, with limit 3, gives: the text on `out`, the text on
 // `err`, and the status.
-fn ran(alloc: Global, list: &[u8], script: &[u8], settings: Settings) -> (Vec<u8>, Vec<u8>, u8) {
-    let settings = Settings {
+fn ran(alloc: Global, list: &[u8], script: &[u8], settings: SimSettings) -> (Vec<u8>, Vec<u8>, u8) {
+    let settings = SimSettings {
         unit: 0,
         port: 1,
         limit: 3,
@@ -55,7 +55,7 @@ fn expect_text(
     rt: &(impl Abort + AllocGlobal),
     list: &[u8],
     script: &[u8],
-    settings: Settings,
+    settings: SimSettings,
     text: &str,
 ) {
     let (out, err, status) = ran(rt.alloc(), list, script, settings);
@@ -134,7 +134,7 @@ fn exchanges_are_traced(rt: HostRuntime) {
 
 #[test]
 fn a_cue_takes_its_frames(rt: HostRuntime) {
-    let settings = Settings {
+    let settings = SimSettings {
         cue_frames: 3,
         ..TRACED
     };
@@ -183,7 +183,7 @@ fn a_controller_confirms(rt: HostRuntime) {
 
 #[test]
 fn a_lost_play_is_asked_after(rt: HostRuntime) {
-    let settings = Settings {
+    let settings = SimSettings {
         trace: true,
         ..CONFIRMING
     };

@@ -3,7 +3,7 @@ use std::alloc::Global;
 use std::test::Fail;
 
 // Each failure, with the line that tells it and its status.
-const ROWS: [(Failure<'static>, &str, u8); 20] = [
+const ROWS: [(Failure<'static>, &str, u8); 27] = [
     (Failure::Hex, "vdcp: hex\n", 1),
     (Failure::Word, "vdcp: word\n", 1),
     (Failure::Arguments, "vdcp: arguments\n", 1),
@@ -67,6 +67,13 @@ const ROWS: [(Failure<'static>, &str, u8); 20] = [
         1,
     ),
     (Failure::NotText("a.txt"), "vdcp: a.txt: text\n", 1),
+    (Failure::Write("a.csv"), "vdcp: a.csv: write\n", 3),
+    (Failure::Address, "vdcp: address\n", 2),
+    (Failure::Connect, "vdcp: cannot connect\n", 3),
+    (Failure::Bind, "vdcp: cannot bind\n", 3),
+    (Failure::LineFailed, "vdcp: line failed\n", 3),
+    (Failure::LineClosed, "vdcp: line closed\n", 3),
+    (Failure::Spent, "vdcp: spent\n", 3),
     (Failure::Memory, "vdcp: memory\n", 3),
 ];
 

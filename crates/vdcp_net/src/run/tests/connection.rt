@@ -1,9 +1,10 @@
 //! Runs over a connection within this process. The far end answers as the near end writes to it.
 ghost use Rattle.std.specs.Prelude.{◌≤◌};
 
-use super::{SETTINGS, Told, expect, temporary};
+use super::{SETTINGS, expect, temporary};
 use crate::answers::{GRANTED, TWO_EVENTS};
 use crate::run::{RunSettings, Showing, do_run, new_controller, play_connected};
+use crate::told::Told;
 use std::io::{self, ErrorKind, Read, Write};
 use std::net::{Ipv4Addr, OpenStream, SocketAddr, TcpListener, TcpStream};
 use std::process::Abort;
