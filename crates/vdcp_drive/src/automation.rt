@@ -153,7 +153,7 @@ impl<S: Source, W: Wire> AutoDriver<S, W> {
         self.run_watched(listens, &mut Unwatched)
     }
 
-    /// The same, where a watcher is lent the controller before each listen.
+    /// As `run`, and lends `watcher` the controller before each listen.
     pub fn run_watched<V: Watch<S>>(
         &mut self,
         listens: u64,

@@ -112,7 +112,7 @@ impl<C: Catalogue, W: Wire> Server<C, W> {
         self.serve_watched(turns, &mut Unwatched)
     }
 
-    /// The same, where a watcher is lent each item that is put to air, behind its turn.
+    /// As `serve`, and lends `watcher` each item put to air, behind its turn.
     pub fn serve_watched<V: WatchAir>(
         &mut self,
         turns: u64,

@@ -61,7 +61,7 @@ impl<S: Source, C: Catalogue, A: Allocator + Copy> World<S, C, A> {
         World::with_clock(alloc, source, catalogue, unit, port, limit, 1)
     }
 
-    /// The same, in which a cue takes so many frames, 1 to 1,000.
+    /// As `new`, but a cue takes `cue_frames` frames, 1 to 1,000.
     pub fn with_clock(
         alloc: A,
         source: S,
@@ -91,8 +91,8 @@ impl<S: Source, C: Catalogue, A: Allocator + Copy> World<S, C, A> {
         }
     }
 
-    /// The same in confirm mode: a receipt may come to the controller from nowhere, and what is on the
-    /// way to it may become one.
+    /// As `with_clock`, but in confirm mode: a receipt may come to the controller from nowhere, and what is
+    /// on the way to it may become one.
     pub fn confirming(
         alloc: A,
         source: S,
