@@ -156,6 +156,7 @@ impl<S: Source, C: Catalogue, A: Allocator + Copy> World<S, C, A> {
     {
         reached_keeps_the_headline();
         good_rounds_bring_all_to_air();
+        // Read once, so that the prover knows that events have led to this world.
         let _ = &self.link;
         for event in events {
             self.step(event)?;
