@@ -246,7 +246,7 @@ fn hear<C: Catalogue, W: Wire>(
     let mut buffer = [0; 512];
     match wire.listen(&mut buffer)? {
         Came::Bytes(n) => {
-            take(reader, port, aired, wire, &buffer[..n])?;
+            take_piece(reader, port, aired, wire, &buffer[..n])?;
             Ok(Line::More)
         }
         Came::Silence => {
@@ -258,7 +258,7 @@ fn hear<C: Catalogue, W: Wire>(
 }
 
 // Takes bytes of a burst, and answers each message once it is whole.
-fn take<C: Catalogue, W: Wire>(
+fn take_piece<C: Catalogue, W: Wire>(
     reader: &mut Reader,
     port: &mut Port<C>,
     aired: &mut Option<Item>,
