@@ -127,11 +127,11 @@ impl<A: Allocator + Copy> ScriptWire<A> {
         ensures { FitsBuffer result }
     {
         match self.entries.get(self.next) {
-            Some(Entry::Came(bytes)) => put(bytes.as_slice(), self.given, buffer),
-            Some(Entry::Stale(bytes)) => put(bytes.as_slice(), self.given, buffer),
+            Some(Entry::Came(bytes) | Entry::Stale(bytes)) => {
+                put(bytes.as_slice(), self.given, buffer)
+            }
             Some(Entry::Silence) => Came::Silence,
-            Some(Entry::Closed) => Came::Closed,
-            None => Came::Closed,
+            Some(Entry::Closed) | None => Came::Closed,
         }
     }
 
@@ -143,11 +143,9 @@ impl<A: Allocator + Copy> ScriptWire<A> {
             self.given = self.given.saturating_add(n);
         }
         let is_over = match self.entries.get(self.next) {
-            Some(Entry::Came(bytes)) => bytes.len() <= self.given,
-            Some(Entry::Stale(bytes)) => bytes.len() <= self.given,
+            Some(Entry::Came(bytes) | Entry::Stale(bytes)) => bytes.len() <= self.given,
             Some(Entry::Silence) => true,
-            Some(Entry::Closed) => false,
-            None => false,
+            Some(Entry::Closed) | None => false,
         };
         if is_over {
             self.next += 1;
