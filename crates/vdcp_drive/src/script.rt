@@ -200,8 +200,7 @@ fn piece_of(came: Came, buffer: &[u8; 512]) -> &[u8]
 {
     match came {
         Came::Bytes(n) => &buffer[..n],
-        Came::Silence => &[],
-        Came::Closed => &[],
+        Came::Silence | Came::Closed => &[],
     }
 }
 
@@ -209,8 +208,7 @@ fn is_close(came: Came) -> bool
     ensures { result ≡ closes came }
 {
     match came {
-        Came::Bytes(_) => false,
-        Came::Silence => false,
+        Came::Bytes(_) | Came::Silence => false,
         Came::Closed => true,
     }
 }
