@@ -13,7 +13,7 @@ ghost use Rattle.vdcp_drive.specs.Wires.{Arrival, Told, IfTold, MayCome, nothing
 
 use crate::line::{DriveFault, Line, Ran};
 use crate::watch::{Unwatched, Watch};
-use crate::wire::{Came, Wire, WireFault};
+use crate::wire::{Came, PIECE, Wire, WireFault};
 use arrayvec::ArrayVec;
 use std::marker::Model;
 use vdcp_auto::{Controller, Heard, Source, laws as courses};
@@ -316,7 +316,7 @@ fn hear<S: Source, W: Wire>(
     ensures works { OnOk result (W.failures wire.new ≡ 0) }
     ensures failed { OnErr result (W.failures wire.new ≡ 1) }
 {
-    let mut buffer = [0; 512];
+    let mut buffer = [0; PIECE];
     match wire.listen(&mut buffer)? {
         Came::Bytes(n) => {
             take_piece(unit, reader, heard, &buffer[..n]);

@@ -12,7 +12,7 @@ ghost use Rattle.vdcp_drive.specs.Wires.{Arrival, Told, IfTold, MayCome, adds_se
 
 use crate::line::{DriveFault, Line, Ran};
 use crate::watch::{Unwatched, WatchAir};
-use crate::wire::{Came, Wire, WireFault};
+use crate::wire::{Came, PIECE, Wire, WireFault};
 use arrayvec::ArrayVec;
 use std::marker::Model;
 use vdcp_frame::{Got, Message, Reader, laws as bursts, write};
@@ -243,7 +243,7 @@ fn hear<C: Catalogue, W: Wire>(
     ensures failed { OnErr result (W.failures wire.new ≡ 1) }
 {
     *aired = None;
-    let mut buffer = [0; 512];
+    let mut buffer = [0; PIECE];
     match wire.listen(&mut buffer)? {
         Came::Bytes(n) => {
             take_piece(reader, port, aired, wire, &buffer[..n])?;

@@ -1,5 +1,8 @@
 use thiserror::Error;
 
+/// So many bytes one `listen` brings at most.
+pub const PIECE: usize = 512;
+
 /// A wire failed.
 #[derive(Clone, Copy, Debug, PartialEq, Eq, Error)]
 #[error("the line failed")]
@@ -8,7 +11,7 @@ pub struct WireFault;
 /// What one `listen` brings.
 #[derive(Clone, Copy, Debug, PartialEq, Eq)]
 pub enum Came {
-    /// So many bytes, at the front of the buffer: none to 512.
+    /// So many bytes, at the front of the buffer: none to `PIECE`.
     Bytes(usize),
     /// Nothing came for so long that the burst has ended.
     Silence,
@@ -39,7 +42,7 @@ pub trait Wire {
 
     /// Waits for bytes, a silence or the close. After a close it answers only that. Where it fails,
     /// nothing is taken.
-    fn listen(&mut self, buffer: &mut [u8; 512]) -> Result<Came, WireFault>
+    fn listen(&mut self, buffer: &mut [u8; PIECE]) -> Result<Came, WireFault>
         requires { failures self.old ≡ 0 }
         ensures fits { IfOk result FitsBuffer }
         ensures came { IfOk result (λ c. told self.new ≡ adds_came (arrival_of c buffer.new) (told self.old)) }
