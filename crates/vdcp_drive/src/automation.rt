@@ -13,11 +13,10 @@ ghost use Rattle.vdcp_drive.specs.Wires.{Arrival, Told, IfTold, MayCome, nothing
 
 use crate::line::{DriveFault, Line, Ran};
 use crate::watch::{Unwatched, Watch};
-use crate::wire::{Came, PIECE, Wire, WireFault};
-use arrayvec::ArrayVec;
+use crate::wire::{Came, PIECE, Wire, WireFault, send_message};
 use std::marker::Model;
 use vdcp_auto::{Controller, Heard, Source, laws as courses};
-use vdcp_frame::{Got, Reader, laws as bursts, write};
+use vdcp_frame::{Got, Reader, laws as bursts};
 use vdcp_words::Command;
 
 /// The automation's end of one playout channel, over a wire.
@@ -291,10 +290,7 @@ fn send_command<W: Wire>(command: &Command, unit: u8, wire: &mut W) -> Result<()
     ensures failed { OnErr result (W.failures wire.new ≡ 1) }
 {
     let mut room = [0; 16];
-    let message = command.to_message(unit, &mut room);
-    let mut bytes = ArrayVec::<u8, 512>::new();
-    write(&message, &mut bytes).unwrap();
-    wire.send(bytes.as_slice())
+    send_message(&command.to_message(unit, &mut room), wire)
 }
 
 // Listens once, and takes in what came.

@@ -12,10 +12,9 @@ ghost use Rattle.vdcp_drive.specs.Wires.{Arrival, Told, IfTold, MayCome, adds_se
 
 use crate::line::{DriveFault, Line, Ran};
 use crate::watch::{Unwatched, WatchAir};
-use crate::wire::{Came, PIECE, Wire, WireFault};
-use arrayvec::ArrayVec;
+use crate::wire::{Came, PIECE, Wire, WireFault, send_message};
 use std::marker::Model;
-use vdcp_frame::{Got, Message, Reader, laws as bursts, write};
+use vdcp_frame::{Got, Message, Reader, laws as bursts};
 use vdcp_port::{Catalogue, Port, laws as answers, reply_at_end};
 use vdcp_value::Item;
 use vdcp_words::Reply;
@@ -361,10 +360,7 @@ fn send_reply<W: Wire>(reply: Option<Reply>, unit: u8, wire: &mut W) -> Result<(
         None => Ok(()),
         Some(reply) => {
             let mut room = [0; 16];
-            let message = reply.to_message(unit, &mut room);
-            let mut bytes = ArrayVec::<u8, 512>::new();
-            write(&message, &mut bytes).unwrap();
-            wire.send(bytes.as_slice())
+            send_message(&reply.to_message(unit, &mut room), wire)
         }
     }
 }
