@@ -13,11 +13,10 @@ ghost use Rattle.vdcp_drive.specs.Wires.{Arrival, Told, IfTold, MayCome, nothing
 
 use crate::line::{DriveFault, Line, Ran};
 use crate::watch::{Unwatched, Watch};
-use crate::wire::{Came, Wire, WireFault};
-use arrayvec::ArrayVec;
+use crate::wire::{Came, PIECE, Wire, WireFault, send_message};
 use std::marker::Model;
 use vdcp_auto::{Controller, Heard, Source, laws as courses};
-use vdcp_frame::{Got, Reader, laws as bursts, write};
+use vdcp_frame::{Got, Reader, laws as bursts};
 use vdcp_words::Command;
 
 /// The automation's end of one playout channel, over a wire.
@@ -153,7 +152,7 @@ impl<S: Source, W: Wire> AutoDriver<S, W> {
         self.run_watched(listens, &mut Unwatched)
     }
 
-    /// The same, where a watcher is lent the controller before each listen.
+    /// As `run`, and lends `watcher` the controller before each listen.
     pub fn run_watched<V: Watch<S>>(
         &mut self,
         listens: u64,
@@ -291,10 +290,7 @@ fn send_command<W: Wire>(command: &Command, unit: u8, wire: &mut W) -> Result<()
     ensures failed { OnErr result (W.failures wire.new ≡ 1) }
 {
     let mut room = [0; 16];
-    let message = command.to_message(unit, &mut room);
-    let mut bytes = ArrayVec::<u8, 512>::new();
-    write(&message, &mut bytes).unwrap();
-    wire.send(bytes.as_slice())
+    send_message(&command.to_message(unit, &mut room), wire)
 }
 
 // Listens once, and takes in what came.
@@ -316,7 +312,7 @@ fn hear<S: Source, W: Wire>(
     ensures works { OnOk result (W.failures wire.new ≡ 0) }
     ensures failed { OnErr result (W.failures wire.new ≡ 1) }
 {
-    let mut buffer = [0; 512];
+    let mut buffer = [0; PIECE];
     match wire.listen(&mut buffer)? {
         Came::Bytes(n) => {
             take_piece(unit, reader, heard, &buffer[..n]);

@@ -31,7 +31,7 @@ pub use script::{Entry, ScriptWire};
 pub use server::Server;
 pub use stream::StreamWire;
 pub use watch::{Unwatched, Watch, WatchAir};
-pub use wire::{Came, Wire, WireFault};
+pub use wire::{Came, PIECE, Wire, WireFault};
 
 #[cfg(test)]
 mod tests;

@@ -2,14 +2,14 @@ ghost use Rattle.std.specs.Prelude.{◌≡◌, false, length, take, OnOk, OnErr,
 ghost use Rattle.vdcp_drive.specs.Scripts.{brought, closes};
 ghost use Rattle.vdcp_drive.specs.Wires.{arrival_of, adds_came, has_closed, MayCome, FitsBuffer};
 
-use crate::wire::{Came, Wire, WireFault};
+use crate::wire::{Came, PIECE, Wire, WireFault};
 use std::alloc::{AllocError, Allocator};
 use std::marker::Model;
 
 /// What happens on a `ScriptWire`.
 #[derive(Drop)]
 pub enum Entry<A: Allocator> {
-    /// These bytes come, in pieces of 512 at most.
+    /// These bytes come, in pieces of `PIECE` at most.
     Came(Vec<u8, A>),
     /// A silence.
     Silence,
@@ -123,15 +123,15 @@ impl<A: Allocator + Copy> ScriptWire<A> {
     }
 
     // What comes next. Its bytes, if it has some, are put into the buffer.
-    fn peek(&self, buffer: &mut [u8; 512]) -> Came
+    fn peek(&self, buffer: &mut [u8; PIECE]) -> Came
         ensures { FitsBuffer result }
     {
         match self.entries.get(self.next) {
-            Some(Entry::Came(bytes)) => put(bytes.as_slice(), self.given, buffer),
-            Some(Entry::Stale(bytes)) => put(bytes.as_slice(), self.given, buffer),
+            Some(Entry::Came(bytes) | Entry::Stale(bytes)) => {
+                put(bytes.as_slice(), self.given, buffer)
+            }
             Some(Entry::Silence) => Came::Silence,
-            Some(Entry::Closed) => Came::Closed,
-            None => Came::Closed,
+            Some(Entry::Closed) | None => Came::Closed,
         }
     }
 
@@ -143,11 +143,9 @@ impl<A: Allocator + Copy> ScriptWire<A> {
             self.given = self.given.saturating_add(n);
         }
         let is_over = match self.entries.get(self.next) {
-            Some(Entry::Came(bytes)) => bytes.len() <= self.given,
-            Some(Entry::Stale(bytes)) => bytes.len() <= self.given,
+            Some(Entry::Came(bytes) | Entry::Stale(bytes)) => bytes.len() <= self.given,
             Some(Entry::Silence) => true,
-            Some(Entry::Closed) => false,
-            None => false,
+            Some(Entry::Closed) | None => false,
         };
         if is_over {
             self.next += 1;
@@ -156,7 +154,7 @@ impl<A: Allocator + Copy> ScriptWire<A> {
     }
 
     // Keeps what came, where no close came before.
-    fn keep(&mut self, came: Came, buffer: &[u8; 512]) -> Result<(), AllocError>
+    fn keep(&mut self, came: Came, buffer: &[u8; PIECE]) -> Result<(), AllocError>
         requires fits { FitsBuffer came }
         requires open { has_closed self.old.told.came ≡ false }
         ensures came { OnOk result (Some self.new.told ≡ adds_came (arrival_of came buffer.now) (Some self.old.told)) }
@@ -171,7 +169,7 @@ impl<A: Allocator + Copy> ScriptWire<A> {
     }
 
     // Gives what comes next.
-    fn give(&mut self, buffer: &mut [u8; 512]) -> Result<Came, AllocError>
+    fn give(&mut self, buffer: &mut [u8; PIECE]) -> Result<Came, AllocError>
         ensures fits { IfOk result FitsBuffer }
         ensures came { IfOk result (λ c. Some self.new.told ≡ adds_came (arrival_of c buffer.new) (Some self.old.told)) }
         ensures may_come { IfOk result (λ c. MayCome (arrival_of c buffer.new) (Some self.old.told)) }
@@ -195,15 +193,14 @@ impl<A: Allocator + Copy> ScriptWire<A> {
 }
 
 // The bytes that came.
-fn piece_of(came: Came, buffer: &[u8; 512]) -> &[u8]
+fn piece_of(came: Came, buffer: &[u8; PIECE]) -> &[u8]
     requires { FitsBuffer came }
     ensures bytes { result.now ≡ take (brought came) buffer.now }
     ensures counts { length result.now ≡ brought came }
 {
     match came {
         Came::Bytes(n) => &buffer[..n],
-        Came::Silence => &[],
-        Came::Closed => &[],
+        Came::Silence | Came::Closed => &[],
     }
 }
 
@@ -211,18 +208,17 @@ fn is_close(came: Came) -> bool
     ensures { result ≡ closes came }
 {
     match came {
-        Came::Bytes(_) => false,
-        Came::Silence => false,
+        Came::Bytes(_) | Came::Silence => false,
         Came::Closed => true,
     }
 }
 
 // Puts the next piece of some bytes, of which so many were given, into the buffer.
-fn put(bytes: &[u8], given: usize, buffer: &mut [u8; 512]) -> Came
+fn put(bytes: &[u8], given: usize, buffer: &mut [u8; PIECE]) -> Came
     ensures { FitsBuffer result }
 {
     let rest = &bytes[given.min(bytes.len())..];
-    let n = rest.len().min(512);
+    let n = rest.len().min(PIECE);
     buffer[..n].copy_from_slice(&rest[..n]);
     Came::Bytes(n)
 }
@@ -246,7 +242,7 @@ impl<A: Allocator + Copy> Wire for ScriptWire<A> {
         Err(WireFault)
     }
 
-    fn listen(&mut self, buffer: &mut [u8; 512]) -> Result<Came, WireFault> {
+    fn listen(&mut self, buffer: &mut [u8; PIECE]) -> Result<Came, WireFault> {
         if self.count_call().is_none() {
             if let Ok(came) = self.give(buffer) {
                 return Ok(came);

@@ -5,17 +5,16 @@ ghost use Rattle.vdcp_frame.specs.Progress.{reading};
 ghost use Rattle.vdcp_port.specs.Answers.{answer_bytes, bytes_for, items_for};
 ghost use Rattle.vdcp_port.specs.Clock.{ClockedPort, after_message};
 ghost use Rattle.vdcp_drive.specs.Lines.{line_of, ServesTo};
-ghost use Rattle.vdcp_drive.specs.Served.{IsServed, IsPartlySent, HasBrokenOff, HasWatched, HasPartlyWatched, served, port_after, items_served};
+ghost use Rattle.vdcp_drive.specs.Served.{IsNewServer, IsServed, IsPartlySent, HasBrokenOff, HasWatched, HasPartlyWatched, served, port_after, items_served};
 ghost use Rattle.vdcp_drive.specs.Serving.{HasTaken, HasBroken, HasEnded, HasEndBroken, Serves, Breaks, last_aired};
 ghost use Rattle.vdcp_drive.specs.Watching.{adds_aired};
-ghost use Rattle.vdcp_drive.specs.Wires.{Arrival, Told, IfTold, MayCome, nothing_told, adds_sent, adds_came, SendsFront};
+ghost use Rattle.vdcp_drive.specs.Wires.{Arrival, Told, IfTold, MayCome, adds_sent, adds_came, SendsFront};
 
 use crate::line::{DriveFault, Line, Ran};
 use crate::watch::{Unwatched, WatchAir};
-use crate::wire::{Came, Wire, WireFault};
-use arrayvec::ArrayVec;
+use crate::wire::{Came, PIECE, Wire, WireFault, send_message};
 use std::marker::Model;
-use vdcp_frame::{Got, Message, Reader, laws as bursts, write};
+use vdcp_frame::{Got, Message, Reader, laws as bursts};
 use vdcp_port::{Catalogue, Port, laws as answers, reply_at_end};
 use vdcp_value::Item;
 use vdcp_words::Reply;
@@ -88,11 +87,11 @@ impl<C: Catalogue, W: Wire> Server<C, W> {
     /// before.
     pub fn serve(&mut self, turns: u64) -> Result<Ran, DriveFault>
         // Of a new server, whose fresh wire tells its bytes: what is sent, and the port that this leaves.
-        ensures sent { self.old.reader ≡ reading 0 [] → W.told self.old.wire ≡ Some nothing_told →
+        ensures sent { IsNewServer self.old.reader (W.told self.old.wire) →
             OnOk result (IfTold (W.told self.new.wire) (λ u. u.sent ≡ served self.old.port u.came)) }
-        ensures port { self.old.reader ≡ reading 0 [] → W.told self.old.wire ≡ Some nothing_told →
+        ensures port { IsNewServer self.old.reader (W.told self.old.wire) →
             OnOk result (IfTold (W.told self.new.wire) (λ u. self.new.port ≡ port_after self.old.port u.came)) }
-        ensures broken { self.old.reader ≡ reading 0 [] → W.told self.old.wire ≡ Some nothing_told → W.failures self.old.wire ≡ 0 →
+        ensures broken { IsNewServer self.old.reader (W.told self.old.wire) → W.failures self.old.wire ≡ 0 →
             OnErr result (IfTold (W.told self.new.wire) (λ u. HasBrokenOff self.old.port u self.new.port × IsPartlySent self.old.port u)) }
         // Of a server that began with some port, and has served what its wire tells that came.
         ensures served { (start : ClockedPort) (t : Told) → W.told self.old.wire ≡ Some t → IsServed start t self.old.port self.old.reader →
@@ -112,18 +111,18 @@ impl<C: Catalogue, W: Wire> Server<C, W> {
         self.serve_watched(turns, &mut Unwatched)
     }
 
-    /// The same, where a watcher is lent each item that is put to air, behind its turn.
+    /// As `serve`, and lends `watcher` each item put to air, behind its turn.
     pub fn serve_watched<V: WatchAir>(
         &mut self,
         turns: u64,
         watcher: &mut V,
     ) -> Result<Ran, DriveFault>
         // Of a new server, whose fresh wire tells its bytes: what is sent, and the port that this leaves.
-        ensures sent { self.old.reader ≡ reading 0 [] → W.told self.old.wire ≡ Some nothing_told →
+        ensures sent { IsNewServer self.old.reader (W.told self.old.wire) →
             OnOk result (IfTold (W.told self.new.wire) (λ u. u.sent ≡ served self.old.port u.came)) }
-        ensures port { self.old.reader ≡ reading 0 [] → W.told self.old.wire ≡ Some nothing_told →
+        ensures port { IsNewServer self.old.reader (W.told self.old.wire) →
             OnOk result (IfTold (W.told self.new.wire) (λ u. self.new.port ≡ port_after self.old.port u.came)) }
-        ensures broken { self.old.reader ≡ reading 0 [] → W.told self.old.wire ≡ Some nothing_told → W.failures self.old.wire ≡ 0 →
+        ensures broken { IsNewServer self.old.reader (W.told self.old.wire) → W.failures self.old.wire ≡ 0 →
             OnErr result (IfTold (W.told self.new.wire) (λ u. HasBrokenOff self.old.port u self.new.port × IsPartlySent self.old.port u)) }
         // Of a server that began with some port, and has served what its wire tells that came.
         ensures served { (start : ClockedPort) (t : Told) → W.told self.old.wire ≡ Some t → IsServed start t self.old.port self.old.reader →
@@ -131,7 +130,7 @@ impl<C: Catalogue, W: Wire> Server<C, W> {
         ensures broken_off { (start : ClockedPort) (t : Told) → W.told self.old.wire ≡ Some t → IsServed start t self.old.port self.old.reader →
             W.failures self.old.wire ≡ 0 → OnErr result (IfTold (W.told self.new.wire) (λ u. HasBrokenOff start u self.new.port × IsPartlySent start u)) }
         // A watcher that tells what it watched: it was lent what went to air, each item once and in order.
-        ensures watched { self.old.reader ≡ reading 0 [] → W.told self.old.wire ≡ Some nothing_told → (items : List Item) → V.watched watcher.old ≡ Some items →
+        ensures watched { IsNewServer self.old.reader (W.told self.old.wire) → (items : List Item) → V.watched watcher.old ≡ Some items →
             OnOk result (IfTold (W.told self.new.wire) (λ u. V.watched watcher.new ≡ Some (items ++ items_served self.old.port u.came))) }
         ensures watched_since { (start : ClockedPort) (t : Told) (items : List Item) → W.told self.old.wire ≡ Some t →
             IsServed start t self.old.port self.old.reader → V.watched watcher.old ≡ Some items →
@@ -243,10 +242,10 @@ fn hear<C: Catalogue, W: Wire>(
     ensures failed { OnErr result (W.failures wire.new ≡ 1) }
 {
     *aired = None;
-    let mut buffer = [0; 512];
+    let mut buffer = [0; PIECE];
     match wire.listen(&mut buffer)? {
         Came::Bytes(n) => {
-            take(reader, port, aired, wire, &buffer[..n])?;
+            take_piece(reader, port, aired, wire, &buffer[..n])?;
             Ok(Line::More)
         }
         Came::Silence => {
@@ -258,7 +257,7 @@ fn hear<C: Catalogue, W: Wire>(
 }
 
 // Takes bytes of a burst, and answers each message once it is whole.
-fn take<C: Catalogue, W: Wire>(
+fn take_piece<C: Catalogue, W: Wire>(
     reader: &mut Reader,
     port: &mut Port<C>,
     aired: &mut Option<Item>,
@@ -361,10 +360,7 @@ fn send_reply<W: Wire>(reply: Option<Reply>, unit: u8, wire: &mut W) -> Result<(
         None => Ok(()),
         Some(reply) => {
             let mut room = [0; 16];
-            let message = reply.to_message(unit, &mut room);
-            let mut bytes = ArrayVec::<u8, 512>::new();
-            write(&message, &mut bytes).unwrap();
-            wire.send(bytes.as_slice())
+            send_message(&reply.to_message(unit, &mut room), wire)
         }
     }
 }

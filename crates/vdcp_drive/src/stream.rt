@@ -2,7 +2,7 @@ ghost use Rattle.std.specs.Prelude.{◌≡◌, IfOk, IsOk};
 ghost use Rattle.vdcp_drive.specs.Streams.{came_of, connection_behind, failures_of};
 ghost use Rattle.vdcp_drive.specs.Wires.{FitsBuffer};
 
-use crate::wire::{Came, Wire, WireFault};
+use crate::wire::{Came, PIECE, Wire, WireFault};
 use std::io::{self, ErrorKind, Read, Write};
 use std::marker::Model;
 use std::net::{OpenStream, TcpStream};
@@ -55,7 +55,7 @@ impl<S: Read + Write + OpenStream + Drop> StreamWire<S> {
     }
 
     // What comes next. After a close nothing is read.
-    fn receive(&mut self, buffer: &mut [u8; 512]) -> io::Result<Came>
+    fn receive(&mut self, buffer: &mut [u8; PIECE]) -> io::Result<Came>
         requires { failures_of self.old ≡ 0 }
         ensures fits { IfOk result FitsBuffer }
         ensures next { IfOk result (λ came. self.new ≡ connection_behind came self.old) }
@@ -112,7 +112,7 @@ impl<S: Read + Write + OpenStream + Drop> Wire for StreamWire<S> {
         }
     }
 
-    fn listen(&mut self, buffer: &mut [u8; 512]) -> Result<Came, WireFault> {
+    fn listen(&mut self, buffer: &mut [u8; PIECE]) -> Result<Came, WireFault> {
         match self.receive(buffer) {
             Ok(came) => Ok(came),
             Err(_) => Err(self.fail()),
@@ -133,7 +133,7 @@ impl<S: Read + Write + OpenStream + Drop> Wire for StreamWire<S> {
 fn read_waiting<S: Read>(stream: &mut S) -> io::Result<Connection>
     ensures { IfOk result (λ connection. failures_of connection ≡ 0) }
 {
-    let mut buffer = [0; 512];
+    let mut buffer = [0; PIECE];
     for _ in 0..MOST_READS {
         match came_of(stream.read(&mut buffer))? {
             Came::Bytes(_) => {}

@@ -1,4 +1,13 @@
+ghost use Rattle.std.specs.Prelude.{◌≡◌, OnOk, OnErr};
+ghost use Rattle.vdcp_frame.specs.Message.{content_of, spelling, IsWritable};
+ghost use Rattle.vdcp_drive.specs.Wires.{adds_sent, SendsFront};
+
+use arrayvec::ArrayVec;
 use thiserror::Error;
+use vdcp_frame::{Message, write};
+
+/// So many bytes one `listen` brings at most.
+pub const PIECE: usize = 512;
 
 /// A wire failed.
 #[derive(Clone, Copy, Debug, PartialEq, Eq, Error)]
@@ -8,7 +17,7 @@ pub struct WireFault;
 /// What one `listen` brings.
 #[derive(Clone, Copy, Debug, PartialEq, Eq)]
 pub enum Came {
-    /// So many bytes, at the front of the buffer: none to 512.
+    /// So many bytes, at the front of the buffer: none to `PIECE`.
     Bytes(usize),
     /// Nothing came for so long that the burst has ended.
     Silence,
@@ -39,7 +48,7 @@ pub trait Wire {
 
     /// Waits for bytes, a silence or the close. After a close it answers only that. Where it fails,
     /// nothing is taken.
-    fn listen(&mut self, buffer: &mut [u8; 512]) -> Result<Came, WireFault>
+    fn listen(&mut self, buffer: &mut [u8; PIECE]) -> Result<Came, WireFault>
         requires { failures self.old ≡ 0 }
         ensures fits { IfOk result FitsBuffer }
         ensures came { IfOk result (λ c. told self.new ≡ adds_came (arrival_of c buffer.new) (told self.old)) }
@@ -59,4 +68,18 @@ pub trait Wire {
 
     /// A failure is counted once.
     ghost fails_once: { (wire : Self) → failures wire ≤ 1 };
+}
+
+/// Sends the bytes of a message.
+pub(crate) fn send_message<W: Wire>(message: &Message, wire: &mut W) -> Result<(), WireFault>
+    requires writable { IsWritable (content_of message.now) }
+    requires works { W.failures wire.old ≡ 0 }
+    ensures sent { OnOk result (W.told wire.new ≡ adds_sent (spelling (content_of message.now)) (W.told wire.old)) }
+    ensures front { OnErr result (SendsFront (spelling (content_of message.now)) (W.told wire.old) (W.told wire.new)) }
+    ensures works { OnOk result (W.failures wire.new ≡ 0) }
+    ensures failed { OnErr result (W.failures wire.new ≡ 1) }
+{
+    let mut bytes = ArrayVec::<u8, 512>::new();
+    write(message, &mut bytes).unwrap();
+    wire.send(bytes.as_slice())
 }

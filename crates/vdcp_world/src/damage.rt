@@ -9,14 +9,14 @@ use vdcp_auto::{Controller, Source};
 use vdcp_frame::{Step, read_at};
 
 /// How many bytes can be on the way in place of others.
-const MOST: usize = 1024;
+pub(crate) const MOST_BYTES: usize = 1024;
 
 /// Whether damage can make these bytes of a burst that is on the way, or of nothing: they are 1,024 at most, and
 /// no more can be read of them than a beginning of the messages that could be read before.
 pub fn can_become(way: &[u8], bytes: &[u8]) -> bool
     ensures { result ≡ channel.can_become way.now bytes.now }
 {
-    bytes.len() <= MOST && is_beginning(bytes, way)
+    bytes.len() <= MOST_BYTES && is_beginning(bytes, way)
 }
 
 /// Whether what is on the way up can become these bytes; in confirm mode they may also begin with ACK
@@ -32,7 +32,7 @@ pub(crate) fn can_become_up<S: Source>(
     if can_become(way, bytes) {
         return true;
     }
-    controller.is_confirming() && bytes.len() <= MOST && heard::is_receipt_first(bytes, unit)
+    controller.is_confirming() && bytes.len() <= MOST_BYTES && heard::is_receipt_first(bytes, unit)
 }
 
 /// Whether the messages of a burst are the first ones of another's.

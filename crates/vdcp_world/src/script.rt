@@ -1,6 +1,7 @@
 ghost use Rattle.std.specs.Prelude.{◌≤◌, length, IfOk};
 
 use crate::burst::Burst;
+use crate::damage::MOST_BYTES;
 use crate::event::Event;
 use hex::{FromHex, FromHexError};
 use std::alloc::Global;
@@ -10,8 +11,6 @@ use thiserror::Error;
 const MOST_EVENTS: usize = 100_000;
 /// A round, or a frame, comes so many times at most in one line.
 const MOST_TIMES: u32 = 10_000;
-/// So many bytes can be on the way in place of others.
-const MOST_BYTES: usize = 1024;
 
 /// Why a script is refused. Lines are read one after another and count from 1, blank ones and comments
 /// included, and the first refusal is given; within a line the order is `Word`, `Number` or `Hex`,

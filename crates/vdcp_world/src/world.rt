@@ -61,7 +61,7 @@ impl<S: Source, C: Catalogue, A: Allocator + Copy> World<S, C, A> {
         World::with_clock(alloc, source, catalogue, unit, port, limit, 1)
     }
 
-    /// The same, in which a cue takes so many frames, 1 to 1,000.
+    /// As `new`, but a cue takes `cue_frames` frames, 1 to 1,000.
     pub fn with_clock(
         alloc: A,
         source: S,
@@ -91,8 +91,8 @@ impl<S: Source, C: Catalogue, A: Allocator + Copy> World<S, C, A> {
         }
     }
 
-    /// The same in confirm mode: a receipt may come to the controller from nowhere, and what is on the
-    /// way to it may become one.
+    /// As `with_clock`, but in confirm mode: a receipt may come to the controller from nowhere, and what is
+    /// on the way to it may become one.
     pub fn confirming(
         alloc: A,
         source: S,
@@ -156,6 +156,7 @@ impl<S: Source, C: Catalogue, A: Allocator + Copy> World<S, C, A> {
     {
         reached_keeps_the_headline();
         good_rounds_bring_all_to_air();
+        // Read once, so that the prover knows that events have led to this world.
         let _ = &self.link;
         for event in events {
             self.step(event)?;

@@ -1,5 +1,5 @@
 use super::{Connection, StreamWire};
-use crate::wire::{Came, Wire, WireFault};
+use crate::wire::{Came, PIECE, Wire, WireFault};
 use std::alloc::Global;
 use std::cell::Cell;
 use std::io::{self, ErrorKind, Read, Write};
@@ -33,7 +33,7 @@ fn wait_for(stream: &TcpStream) -> io::Result<()> {
 /// What comes next, while the wire works.
 fn listen<S: Read + Write + OpenStream + Drop>(
     wire: &mut StreamWire<S>,
-    buffer: &mut [u8; 512],
+    buffer: &mut [u8; PIECE],
 ) -> Result<Came, WireFault> {
     match wire.connection {
         Connection::Failed => Err(WireFault),
@@ -67,7 +67,7 @@ const LONG: u64 = 60_000;
 #[test]
 fn bytes_come_and_go(rt: HostRuntime) -> Result<(), Fail> {
     let (mut peer, mut wire) = wire(&rt, LONG)?;
-    let mut buffer = [0; 512];
+    let mut buffer = [0; PIECE];
     peer.write_all(&[1, 2, 3])?;
     assert_eq!(rt; listen(&mut wire, &mut buffer)?, Came::Bytes(3));
     assert_eq!(rt; &buffer[..3], [1, 2, 3].as_slice());
@@ -102,12 +102,12 @@ fn no_silence_is_refused(rt: HostRuntime) -> Result<(), Fail> {
 fn silence_comes_after_so_long(rt: HostRuntime) -> Result<(), Fail> {
     let (mut peer, mut wire) = wire(&rt, 40)?;
     let start = Instant::now(&rt)?;
-    assert_eq!(rt; listen(&mut wire, &mut [0; 512])?, Came::Silence);
+    assert_eq!(rt; listen(&mut wire, &mut [0; PIECE])?, Came::Silence);
     assert!(rt; start.elapsed(&rt)? >= Duration::from_millis(40));
     // It goes on behind a silence.
     peer.write_all(&[7])?;
-    assert_eq!(rt; listen(&mut wire, &mut [0; 512])?, Came::Bytes(1));
-    assert_eq!(rt; listen(&mut wire, &mut [0; 512])?, Came::Silence);
+    assert_eq!(rt; listen(&mut wire, &mut [0; PIECE])?, Came::Bytes(1));
+    assert_eq!(rt; listen(&mut wire, &mut [0; PIECE])?, Came::Silence);
     Ok(())
 }
 
@@ -117,11 +117,11 @@ fn close_comes_at_once(rt: HostRuntime) -> Result<(), Fail> {
     let start = Instant::now(&rt)?;
     peer.write_all(&[7])?;
     drop(peer);
-    assert_eq!(rt; listen(&mut wire, &mut [0; 512])?, Came::Bytes(1));
-    assert_eq!(rt; listen(&mut wire, &mut [0; 512])?, Came::Closed);
-    assert_eq!(rt; listen(&mut wire, &mut [0; 512])?, Came::Closed);
+    assert_eq!(rt; listen(&mut wire, &mut [0; PIECE])?, Came::Bytes(1));
+    assert_eq!(rt; listen(&mut wire, &mut [0; PIECE])?, Came::Closed);
+    assert_eq!(rt; listen(&mut wire, &mut [0; PIECE])?, Came::Closed);
     drop_waiting(&mut wire)?;
-    assert_eq!(rt; listen(&mut wire, &mut [0; 512])?, Came::Closed);
+    assert_eq!(rt; listen(&mut wire, &mut [0; PIECE])?, Came::Closed);
     assert!(rt; start.elapsed(&rt)? < Duration::from_millis(LONG));
     Ok(())
 }
@@ -133,7 +133,7 @@ fn reset_is_a_failure(rt: HostRuntime) -> Result<(), Fail> {
     send(&mut wire, &[1, 2, 3])?;
     wait_for(&peer)?;
     drop(peer);
-    assert_eq!(rt; listen(&mut wire, &mut [0; 512]), Err(WireFault));
+    assert_eq!(rt; listen(&mut wire, &mut [0; PIECE]), Err(WireFault));
     assert_eq!(rt; wire.connection, Connection::Failed);
     Ok(())
 }
@@ -155,14 +155,14 @@ fn what_waits_is_dropped(rt: HostRuntime) -> Result<(), Fail> {
     peer.write_all(&[5, 1])?;
     wait_for(&wire.stream)?;
     drop_waiting(&mut wire)?;
-    assert_eq!(rt; listen(&mut wire, &mut [0; 512])?, Came::Silence);
+    assert_eq!(rt; listen(&mut wire, &mut [0; PIECE])?, Came::Silence);
     // It doesn't wait where nothing waits, and the next listen does.
     let start = Instant::now(&rt)?;
     drop_waiting(&mut wire)?;
-    assert_eq!(rt; listen(&mut wire, &mut [0; 512])?, Came::Silence);
+    assert_eq!(rt; listen(&mut wire, &mut [0; PIECE])?, Came::Silence);
     assert!(rt; start.elapsed(&rt)? >= Duration::from_millis(40));
     peer.write_all(&[7])?;
-    assert_eq!(rt; listen(&mut wire, &mut [0; 512])?, Came::Bytes(1));
+    assert_eq!(rt; listen(&mut wire, &mut [0; PIECE])?, Came::Bytes(1));
     Ok(())
 }
 
@@ -182,7 +182,7 @@ fn close_behind_what_is_dropped_is_not_lost(rt: HostRuntime) -> Result<(), Fail>
     wait_for(&wire.stream)?;
     drop(peer);
     drop_waiting(&mut wire)?;
-    assert_eq!(rt; listen(&mut wire, &mut [0; 512])?, Came::Closed);
+    assert_eq!(rt; listen(&mut wire, &mut [0; PIECE])?, Came::Closed);
     Ok(())
 }
 
@@ -209,7 +209,7 @@ fn what_128_reads_do_not_take_stays(rt: HostRuntime) -> Result<(), Fail> {
     drop_waiting(&mut wire)?;
     drop(peer);
     let mut stayed = 0usize;
-    let mut buffer = [0; 512];
+    let mut buffer = [0; PIECE];
     for _ in 0..u32::MAX {
         match listen(&mut wire, &mut buffer)? {
             Came::Bytes(n) => stayed = stayed.saturating_add(n),
@@ -322,7 +322,7 @@ fn reads_are_told_apart(rt: HostRuntime) -> Result<(), Fail> {
         Came::Closed,
     ];
     for expected in came {
-        assert_eq!(rt; listen(&mut wire, &mut [0; 512])?, expected);
+        assert_eq!(rt; listen(&mut wire, &mut [0; PIECE])?, expected);
     }
     // After the close nothing is read.
     drop_waiting(&mut wire)?;
@@ -341,9 +341,9 @@ fn only_a_failed_read_is_a_failure(rt: HostRuntime) -> Result<(), Fail> {
     ];
     for kind in kinds {
         let mut wire = wire_over(rt.alloc(), &[Step::Gives(1), Step::Fails(kind)])?;
-        assert_eq!(rt; listen(&mut wire, &mut [0; 512])?, Came::Bytes(1));
+        assert_eq!(rt; listen(&mut wire, &mut [0; PIECE])?, Came::Bytes(1));
         assert_eq!(rt; wire.connection, Connection::Open);
-        assert_eq!(rt; listen(&mut wire, &mut [0; 512]), Err(WireFault));
+        assert_eq!(rt; listen(&mut wire, &mut [0; PIECE]), Err(WireFault));
         assert_eq!(rt; wire.connection, Connection::Failed);
 
         let mut wire = wire_over(rt.alloc(), &[Step::Gives(1), Step::Fails(kind)])?;

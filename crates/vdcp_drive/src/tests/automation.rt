@@ -155,6 +155,16 @@ fn operator_stops(rt: HostRuntime) -> Result<(), Fail> {
     Ok(())
 }
 
+/// What a listen answers, where an answer is awaited.
+fn listen(
+    driver: &mut AutoDriver<Playlist, ScriptWire<Global>>,
+) -> Result<Result<Line, DriveFault>, &'static str> {
+    if !driver.controller().awaiting() {
+        return Err("nothing is awaited");
+    }
+    Ok(driver.listen())
+}
+
 #[test]
 fn failed_wire_is_a_device_for_good(rt: HostRuntime) -> Result<(), Fail> {
     let mut wire = ScriptWire::new(rt.alloc(), answers(rt.alloc(), &[GRANTED], None)?);
@@ -170,16 +180,9 @@ fn failed_wire_is_a_device_for_good(rt: HostRuntime) -> Result<(), Fail> {
     wire.fail_at(4, 0);
     let mut driver = AutoDriver::new(plain(), 0, wire);
     assert_eq!(rt; driver.send(), Ok(true));
-    assert!(rt; driver.controller().awaiting());
-    if driver.controller().awaiting() {
-        assert_eq!(rt; driver.listen(), Ok(Line::More));
-    }
-    if driver.controller().awaiting() {
-        assert_eq!(rt; driver.listen(), Err(DriveFault::Device));
-    }
-    if driver.controller().awaiting() {
-        assert_eq!(rt; driver.listen(), Err(DriveFault::Device));
-    }
+    assert_eq!(rt; listen(&mut driver)?, Ok(Line::More));
+    assert_eq!(rt; listen(&mut driver)?, Err(DriveFault::Device));
+    assert_eq!(rt; listen(&mut driver)?, Err(DriveFault::Device));
     assert!(rt; driver.controller().awaiting());
     assert_eq!(rt; driver.send(), Err(DriveFault::Device));
     assert_eq!(rt; driver.wire().sent(), OPEN);

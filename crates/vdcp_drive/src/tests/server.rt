@@ -126,25 +126,25 @@ fn failed_send_is_a_device_for_good(rt: HostRuntime) -> Result<(), Fail> {
     Ok(())
 }
 
-/// A wire whose call of this number fails behind `part` bytes: the answer, and how much was sent.
-fn failed_at(alloc: Global, call: u64, part: usize) -> Result<(bool, Vec<u8>, u8), Fail> {
+/// A server over a wire whose call of this number fails behind `part` bytes of a send: whether no call failed, and
+/// what was sent.
+fn failed_at(alloc: Global, call: u64, part: usize) -> Result<(bool, Vec<u8>), Fail> {
     let shelf = Shelf::of(250).ok_or("250 frames")?;
     let mut wire = ScriptWire::new(alloc, opening(alloc)?);
     wire.fail_at(call, part);
     let mut server = Server::new(Port::new(shelf, 0, 1), wire);
     let works = server.serve(100).is_ok();
     let sent = Vec::from_slice(alloc, server.wire().sent())?;
-    Ok((works, sent, server.port().status_byte()))
+    Ok((works, sent))
 }
 
 #[test]
 fn each_call_fails_in_turn(rt: HostRuntime) -> Result<(), Fail> {
     // How many bytes had gone out before each call: eight listens and three sends in between.
     let before = [0, 0, 6, 6, 6, 6, 7, 7, 7, 14, 14];
-    let sends = [2, 6, 9];
     for part in [0, 1, 100] {
         for call in 1..12 {
-            let (works, sent, _) = failed_at(rt.alloc(), call, part)?;
+            let (works, sent) = failed_at(rt.alloc(), call, part)?;
             assert!(rt; !works);
             let whole = before[call as usize - 1];
             let most = match call {
@@ -153,14 +153,9 @@ fn each_call_fails_in_turn(rt: HostRuntime) -> Result<(), Fail> {
                 9 => 7,
                 _ => 0,
             };
-            let more = if sends.contains(&call) {
-                part.min(most)
-            } else {
-                0
-            };
-            assert_eq!(rt; sent.as_slice(), &OPENED[..whole + more]);
+            assert_eq!(rt; sent.as_slice(), &OPENED[..whole + part.min(most)]);
         }
-        let (works, sent, _) = failed_at(rt.alloc(), 12, part)?;
+        let (works, sent) = failed_at(rt.alloc(), 12, part)?;
         assert!(rt; works);
         assert_eq!(rt; sent.as_slice(), OPENED);
     }

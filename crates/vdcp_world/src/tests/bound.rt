@@ -100,7 +100,7 @@ fn one_good_round_fewer_is_not_enough(rt: HostRuntime) -> Result<(), Fail> {
 }
 
 #[test]
-fn new_worlds_of_each_length(rt: HostRuntime) -> Result<(), Fail> {
+fn each_length_of_playlist_has_its_least_rounds(rt: HostRuntime) -> Result<(), Fail> {
     let alloc = rt.alloc();
     for (clips, events, enough, few, enough_to_confirm, few_to_confirm) in [
         (

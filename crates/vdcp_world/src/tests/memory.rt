@@ -52,15 +52,24 @@ fn each_refused_growth_leaves_the_world_as_it_was(rt: HostRuntime) -> Result<(),
 }
 
 #[test]
-fn a_refused_run_has_run_a_front(rt: HostRuntime) -> Result<(), Fail> {
+fn a_run_goes_as_far_as_memory_does(rt: HostRuntime) -> Result<(), Fail> {
     let heap = LocalHeap::new(rt.alloc(), 4096)?;
     let mut world = World::new(&heap, Clips::one(ONE), Shelf::two_clips()?, 0, 0x01, 3);
+    let round = read_script(rt.alloc(), "good\n")?;
+    let more = read_script(rt.alloc(), "good 9\n")?;
+    let rest = read_script(rt.alloc(), "good 5\n")?;
     let blocks = fill(rt.alloc(), &heap)?;
-    let events = read_script(rt.alloc(), "good 10\n")?;
-    assert!(rt; world.run(events.as_slice()).is_err());
+    assert!(rt; world.run(round.as_slice()).is_err());
     assert_eq!(rt; world.log().len(), 0);
     drop(blocks);
-    world.run(events.as_slice())?;
+    world.run(round.as_slice())?;
+    let blocks = fill(rt.alloc(), &heap)?;
+    // There is room for four exchanges: the first event of the fifth round asks for more.
+    assert!(rt; world.run(more.as_slice()).is_err());
+    assert_eq!(rt; world.log().len(), 4);
+    assert!(rt; world.outcome().is_none());
+    drop(blocks);
+    world.run(rest.as_slice())?;
     assert_eq!(rt; world.log().len(), 9);
     assert_eq!(rt; world.outcome(), Some(Outcome::Done));
     Ok(())

@@ -103,7 +103,7 @@ fn world(alloc: Global, confirms: bool) -> Result<World<Clips, Shelf, Global>, &
 }
 
 /// With the event and without it, the same comes of a world.
-fn is_same(
+fn expect_same(
     rt: &impl Abort,
     alloc: Global,
     confirms: bool,
@@ -131,9 +131,9 @@ fn is_same(
 fn what_cannot_happen_changes_nothing(rt: HostRuntime) -> Result<(), Fail> {
     for place in [NEW, ASKED, ANSWERED, ENDED] {
         for (event, modes) in place.events {
-            is_same(&rt, rt.alloc(), false, &place, event)?;
+            expect_same(&rt, rt.alloc(), false, &place, event)?;
             if *modes == Modes::Both {
-                is_same(&rt, rt.alloc(), true, &place, event)?;
+                expect_same(&rt, rt.alloc(), true, &place, event)?;
             }
         }
     }

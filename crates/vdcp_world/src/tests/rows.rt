@@ -308,7 +308,7 @@ fn check(
 }
 
 #[test]
-fn plain_rows(rt: HostRuntime) -> Result<(), Fail> {
+fn scripts_come_to_their_rows_in_plain_mode(rt: HostRuntime) -> Result<(), Fail> {
     for row in PLAIN {
         let world = World::new(rt.alloc(), clips_of(row), Shelf::two_clips()?, 0, 0x01, 3);
         check(&rt, rt.alloc(), world, row)?;
@@ -337,7 +337,7 @@ fn the_active_clip_is_asked_for(rt: HostRuntime) -> Result<(), Fail> {
 }
 
 #[test]
-fn rows_by_the_frame(rt: HostRuntime) -> Result<(), Fail> {
+fn scripts_come_to_their_rows_by_the_frame(rt: HostRuntime) -> Result<(), Fail> {
     let row = BY_THE_FRAME;
     let world = World::with_clock(
         rt.alloc(),
@@ -352,7 +352,7 @@ fn rows_by_the_frame(rt: HostRuntime) -> Result<(), Fail> {
 }
 
 #[test]
-fn confirm_rows(rt: HostRuntime) -> Result<(), Fail> {
+fn scripts_come_to_their_rows_in_confirm_mode(rt: HostRuntime) -> Result<(), Fail> {
     for row in CONFIRMING {
         let world = World::confirming(
             rt.alloc(),

@@ -6,7 +6,7 @@ use std::process::Abort;
 use std::test::Fail;
 
 #[test]
-fn every_word(rt: HostRuntime) -> Result<(), Fail> {
+fn each_word_is_its_event(rt: HostRuntime) -> Result<(), Fail> {
     let alloc = rt.alloc();
     let text =
         "tick\ndown\nup\ndown-copy\nup-copy\nlose-down\nlose-up\ntimeout\nready\nend\ntake\nstop\n\
@@ -55,7 +55,7 @@ fn every_word(rt: HostRuntime) -> Result<(), Fail> {
 }
 
 #[test]
-fn numbers_of_events(rt: HostRuntime) -> Result<(), Fail> {
+fn rounds_and_frames_count_as_their_events(rt: HostRuntime) -> Result<(), Fail> {
     let counts = [
         ("", 0),
         ("\n\n# tick\n#\n\n", 0),
@@ -73,7 +73,7 @@ fn numbers_of_events(rt: HostRuntime) -> Result<(), Fail> {
 }
 
 #[test]
-fn refusals(rt: HostRuntime) -> Result<(), Fail> {
+fn the_first_fault_is_told(rt: HostRuntime) -> Result<(), Fail> {
     let refused = [
         ("tick\n\njump\n", ScriptFault::Word(3)),
         ("jump 3 4\n", ScriptFault::Word(1)),
@@ -125,20 +125,7 @@ fn refusals(rt: HostRuntime) -> Result<(), Fail> {
 }
 
 #[test]
-fn eleven_times_ten_thousand_good_rounds(rt: HostRuntime) -> Result<(), Fail> {
-    let mut text = String::new(rt.alloc());
-    for _ in 0..11 {
-        text.push_str("good 10000\n")?;
-    }
-    assert_eq!(rt;
-        read_script(rt.alloc(), text.as_str()).err(),
-        Some(ScriptFault::TooMany)
-    );
-    Ok(())
-}
-
-#[test]
-fn the_longest_burst(rt: HostRuntime) -> Result<(), Fail> {
+fn a_burst_has_1024_bytes_at_most(rt: HostRuntime) -> Result<(), Fail> {
     let mut text = String::new(rt.alloc());
     text.push_str("alter-down ")?;
     for _ in 0..1024 {

@@ -15,25 +15,26 @@ may_bytes : (c : Came) (n : ℕ) (buffer : List ℕ) (old : Option Told) → c �
     → MayCome (bytes (take n buffer)) old
 may_bytes c n buffer old is h = subst (λ (x : Came). MayCome (arrival_of x buffer) old) is h
 
-pub returns-in_err-take-in-Bytes-clause-breaks : goal.returns-in_err-take-in-Bytes-clause-breaks
-returns-in_err-take-in-Bytes-clause-breaks g c =
+pub returns-in_err-take_piece-in-Bytes-clause-breaks : goal.returns-in_err-take_piece-in-Bytes-clause-breaks
+returns-in_err-take_piece-in-Bytes-clause-breaks g c =
     let n : ℕ = c.in-Bytes.n in
     let piece = take n c.listen.new.buffer in
     let told = g.W.Wire.told in
-    on_err_of c.from_residual-in_err-take-in-Bytes.result
+    on_err_of c.from_residual-in_err-take_piece-in-Bytes.result
     (inr (
       bytes piece,
       may_bytes c.in_ok-n.field-0 n c.listen.new.buffer (told c.args.wire.now) c.in-Bytes.is c.in_ok-n.ensures.may_come,
       (
-        c.take.ensures.fits,
-        subst (λ (t : Option Told). HasBroken c.args.port.now c.args.reader.now None t piece c.take.new.port c.take.new.aired (told c.take.new.wire))
+        c.take_piece.ensures.fits,
+        subst (λ (t : Option Told). HasBroken c.args.port.now c.args.reader.now None t piece c.take_piece.new.port c.take_piece.new.aired (told
+            c.take_piece.new.wire))
             (told_bytes c.in_ok-n.field-0 n c.listen.new.buffer (told c.args.wire.now) (told c.listen.new.self) c.in-Bytes.is c.in_ok-n.ensures.came)
-            c.in_err-take-in-Bytes.ensures.broken,
+            c.in_err-take_piece-in-Bytes.ensures.broken,
       ),
     ))
 
-pub returns-in_ok-take-in-Bytes-clause-serves : goal.returns-in_ok-take-in-Bytes-clause-serves
-returns-in_ok-take-in-Bytes-clause-serves g c =
+pub returns-in_ok-take_piece-in-Bytes-clause-serves : goal.returns-in_ok-take_piece-in-Bytes-clause-serves
+returns-in_ok-take_piece-in-Bytes-clause-serves g c =
     let n : ℕ = c.in-Bytes.n in
     let piece = take n c.listen.new.buffer in
     let told = g.W.Wire.told in (
@@ -41,10 +42,10 @@ returns-in_ok-take-in-Bytes-clause-serves g c =
       refl,
       may_bytes c.in_ok-n.field-0 n c.listen.new.buffer (told c.args.wire.now) c.in-Bytes.is c.in_ok-n.ensures.may_come,
       (
-        c.take.ensures.fits,
-        subst (λ (t : Option Told). HasTaken c.args.port.now c.args.reader.now None t piece c.take.new.port c.take.new.reader c.take.new.aired (told
-            c.take.new.wire))
+        c.take_piece.ensures.fits,
+        subst (λ (t : Option Told). HasTaken c.args.port.now c.args.reader.now None t piece c.take_piece.new.port c.take_piece.new.reader
+            c.take_piece.new.aired (told c.take_piece.new.wire))
             (told_bytes c.in_ok-n.field-0 n c.listen.new.buffer (told c.args.wire.now) (told c.listen.new.self) c.in-Bytes.is c.in_ok-n.ensures.came)
-            c.in_ok-take-in-Bytes.ensures.taken,
+            c.in_ok-take_piece-in-Bytes.ensures.taken,
       ),
     )

@@ -48,40 +48,40 @@ returns-in-Closed-clause-answer g c t is =
     l.1 l.2.0 (omega arith) e.2 (sym e.1 ∙ c.in-Closed.is) e.3
 
 pub returns-in-Closed-clause-sent : goal.returns-in-Closed-clause-sent
-returns-in-Closed-clause-sent g c r is =
+returns-in-Closed-clause-sent g c new =
     let fed : Fed = record { start = c.what_is_fed_is_followed.ensures.start; next = c.what_is_fed_is_followed.ensures.next } in
     let s = c.args.self.now in
-    let h = c.turns.invariant.served s.port nothing_told is (fresh fed s.port s.reader r) in
+    let h = c.turns.invariant.served s.port nothing_told new.fresh (fresh fed s.port s.reader new.at_start) in
     let n = c.in_ok-line.ensures.served s.port h.0 h.1 h.2 in
     (n.0, n.1, n.2.sent_is)
 
 pub returns-in-Closed-clause-port : goal.returns-in-Closed-clause-port
-returns-in-Closed-clause-port g c r is =
+returns-in-Closed-clause-port g c new =
     let fed : Fed = record { start = c.what_is_fed_is_followed.ensures.start; next = c.what_is_fed_is_followed.ensures.next } in
     let s = c.args.self.now in
-    let h = c.turns.invariant.served s.port nothing_told is (fresh fed s.port s.reader r) in
+    let h = c.turns.invariant.served s.port nothing_told new.fresh (fresh fed s.port s.reader new.at_start) in
     let n = c.in_ok-line.ensures.served s.port h.0 h.1 h.2 in
     (n.0, n.1, n.2.port_is)
 
 pub returns-clause-sent : goal.returns-clause-sent
-returns-clause-sent g c r is =
+returns-clause-sent g c new =
     let fed : Fed = record { start = c.what_is_fed_is_followed.ensures.start; next = c.what_is_fed_is_followed.ensures.next } in
     let s = c.args.self.now in
-    let h = c.turns.invariant.served s.port nothing_told is (fresh fed s.port s.reader r) in
+    let h = c.turns.invariant.served s.port nothing_told new.fresh (fresh fed s.port s.reader new.at_start) in
     (h.0, h.1, h.2.sent_is)
 
 pub returns-clause-port : goal.returns-clause-port
-returns-clause-port g c r is =
+returns-clause-port g c new =
     let fed : Fed = record { start = c.what_is_fed_is_followed.ensures.start; next = c.what_is_fed_is_followed.ensures.next } in
     let s = c.args.self.now in
-    let h = c.turns.invariant.served s.port nothing_told is (fresh fed s.port s.reader r) in
+    let h = c.turns.invariant.served s.port nothing_told new.fresh (fresh fed s.port s.reader new.at_start) in
     (h.0, h.1, h.2.port_is)
 
 pub returns-in_err-line-clause-broken : goal.returns-in_err-line-clause-broken
-returns-in_err-line-clause-broken g c r is works =
+returns-in_err-line-clause-broken g c new works =
     let fed : Fed = record { start = c.what_is_fed_is_followed.ensures.start; next = c.what_is_fed_is_followed.ensures.next } in
     let s = c.args.self.now in
-    let h = c.turns.invariant.served s.port nothing_told is (fresh fed s.port s.reader r) in
+    let h = c.turns.invariant.served s.port nothing_told new.fresh (fresh fed s.port s.reader new.at_start) in
     on_err_of c.from_residual.result (c.in_err-line.ensures.broken_off s.port h.0 h.1 h.2 c.turns.invariant.works)
 
 pub returns-in-Closed-clause-watched_since : goal.returns-in-Closed-clause-watched_since
@@ -94,25 +94,25 @@ returns-in-Closed-clause-watched_since g c start t items is h w =
     (watched c.lend.new.watcher) s.1 (c.turns.invariant.watched start t items is h w) (c.in_ok-line.ensures.airs start s.0 s.1 s.2) lent
 
 pub returns-in-Closed-clause-watched : goal.returns-in-Closed-clause-watched
-returns-in-Closed-clause-watched g c r is items w =
+returns-in-Closed-clause-watched g c new items w =
     let fed : Fed = record { start = c.what_is_fed_is_followed.ensures.start; next = c.what_is_fed_is_followed.ensures.next } in
     let told = g.W.Wire.told in
     let watched = g.V.WatchAir.watched in
     let lent = c.lend.ensures ∙ ap (λ (v : Serving _). adds_aired v.aired (watched c.turns.watcher)) c.self-in-turns.view_is in
     let a = c.args.self.now in
-    let h = fresh fed a.port a.reader r in
-    let s = c.turns.invariant.served a.port nothing_told is h in
+    let h = fresh fed a.port a.reader new.at_start in
+    let s = c.turns.invariant.served a.port nothing_told new.fresh h in
     watched_all a.port nothing_told (told c.turn-line.new.self.wire) items (watched c.lend.new.watcher) refl
     (watched_more a.port nothing_told s.0 (told c.turns.self.wire) (told c.turn-line.new.self.wire) items c.turn-line.new.self.aired (watched
-    c.turns.watcher) (watched c.lend.new.watcher) s.1 (c.turns.invariant.watched a.port nothing_told items is h w)
+    c.turns.watcher) (watched c.lend.new.watcher) s.1 (c.turns.invariant.watched a.port nothing_told items new.fresh h w)
     (c.in_ok-line.ensures.airs a.port s.0 s.1 s.2) lent)
 
 pub returns-clause-watched : goal.returns-clause-watched
-returns-clause-watched g c r is items w =
+returns-clause-watched g c new items w =
     let fed : Fed = record { start = c.what_is_fed_is_followed.ensures.start; next = c.what_is_fed_is_followed.ensures.next } in
     let a = c.args.self.now in
     watched_all a.port nothing_told (g.W.Wire.told c.turns.self.wire) items (g.V.WatchAir.watched c.turns.watcher) refl
-    (c.turns.invariant.watched a.port nothing_told items is (fresh fed a.port a.reader r) w)
+    (c.turns.invariant.watched a.port nothing_told items new.fresh (fresh fed a.port a.reader new.at_start) w)
 
 pub returns-in_err-line-clause-watched_first : goal.returns-in_err-line-clause-watched_first
 returns-in_err-line-clause-watched_first g c start t items is h works w =

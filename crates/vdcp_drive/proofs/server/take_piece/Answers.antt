@@ -4,7 +4,7 @@ use Rattle.std.proofs.Math.Seq.{take-add}
 use Rattle.vdcp_drive.specs.Serving.{HasTaken, HasBroken}
 use Rattle.vdcp_drive.proofs.Below.{InOrder}
 use Rattle.vdcp_drive.proofs.Taking.{taken_none, taken_further, broken_further, on_err_of, fitting}
-use Rattle.vdcp_drive.proofs.server.take.Goals as goal
+use Rattle.vdcp_drive.proofs.server.take_piece.Goals as goal
 
 pub piece-init : goal.piece-init
 piece-init g c = record {

@@ -1,6 +1,6 @@
 use Rattle.std.proofs.Common.{length, ◌≡◌, ◌-◌, ◌≤◌, take}
 use Rattle.vdcp_drive.specs.Serving.{HasTaken}
-use Rattle.vdcp_drive.proofs.server.take.Given as goal
+use Rattle.vdcp_drive.proofs.server.take_piece.Given as goal
 
 abbrev pub invariant-piece : goal.invariant-piece
 invariant-piece g l =
