@@ -74,9 +74,9 @@ impl Receipt {
     }
 }
 
-/// What a throw of the dice says.
+/// What is thrown for a burst.
 #[derive(Clone, Copy, Debug, PartialEq, Eq)]
-enum Fate {
+enum Throw {
     Through,
     Lost,
     Copied,
@@ -86,26 +86,26 @@ enum Fate {
 }
 
 // Throws each chance in its turn, and says which one hits first.
-fn throw(dice: &mut Dice, chances: &Chances, way: Way) -> Fate
+fn throw_chances(dice: &mut Dice, chances: &Chances, way: Way) -> Throw
     ensures thrown { CanBeThrown chances.now result }
-    ensures down { way ≡ Way.Down → result ≢ Fate.Forged }
+    ensures down { way ≡ Way.Down → result ≢ Throw.Forged }
 {
     if dice.hits(chances.lose) {
-        return Fate::Lost;
+        return Throw::Lost;
     }
     if dice.hits(chances.copy) {
-        return Fate::Copied;
+        return Throw::Copied;
     }
     if dice.hits(chances.cut) {
-        return Fate::Cut;
+        return Throw::Cut;
     }
     if dice.hits(chances.damage) {
-        return Fate::Damaged;
+        return Throw::Damaged;
     }
     if way == Way::Up && dice.hits(chances.forge) {
-        return Fate::Forged;
+        return Throw::Forged;
     }
-    Fate::Through
+    Throw::Through
 }
 
 impl Doing {
@@ -116,13 +116,13 @@ impl Doing {
         ensures chance { HasChance chances.now result }
         ensures can { CanBe way came.now result }
     {
-        match throw(dice, chances, way) {
-            Fate::Through => Doing::Through,
-            Fate::Lost => Doing::Lost,
-            Fate::Copied => copied(way, came),
-            Fate::Cut => cut(dice, came),
-            Fate::Damaged => damaged(dice, came),
-            Fate::Forged => Doing::Forged(throw_receipt(dice)),
+        match throw_chances(dice, chances, way) {
+            Throw::Through => Doing::Through,
+            Throw::Lost => Doing::Lost,
+            Throw::Copied => copied(way, came),
+            Throw::Cut => cut(dice, came),
+            Throw::Damaged => damaged(dice, came),
+            Throw::Forged => Doing::Forged(throw_receipt(dice)),
         }
     }
 
@@ -131,9 +131,9 @@ impl Doing {
         ensures chance { IfSome result (HasChance chances.now) }
         ensures forged { IfSome result IsForged }
     {
-        match throw(dice, chances, Way::Up) {
-            Fate::Forged => Some(Doing::Forged(throw_receipt(dice))),
-            Fate::Through | Fate::Lost | Fate::Copied | Fate::Cut | Fate::Damaged => None,
+        match throw_chances(dice, chances, Way::Up) {
+            Throw::Forged => Some(Doing::Forged(throw_receipt(dice))),
+            Throw::Through | Throw::Lost | Throw::Copied | Throw::Cut | Throw::Damaged => None,
         }
     }
 }

@@ -7,11 +7,11 @@
 #![tactic(auto)]
 
 mod carry;
-mod course;
 mod dice;
 mod doing;
 pub mod laws;
 mod lossy;
+mod session;
 mod tally;
 mod text;
 

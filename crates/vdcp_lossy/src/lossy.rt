@@ -5,8 +5,8 @@ ghost use Rattle.vdcp_net.specs.Address.{IsAddress};
 ghost use Rattle.vdcp_text.specs.Failure.{failure_line, status_of};
 
 use crate::carry::carry;
-use crate::course::{CarryFault, Course, Ended};
 use crate::doing::Chances;
+use crate::session::{CarryEnd, CarryFault, Session};
 use crate::tally::Tally;
 use std::io;
 use std::net::{Net, SocketAddr, SocketAddrV4};
@@ -102,23 +102,23 @@ fn carry_between<R: Net + Clock, W: io::Write>(
     let Ok(mut server) = StreamWire::new(far, silence) else {
         return Err(Failure::LineFailed);
     };
-    let mut course = Course::new(rt, settings);
-    let ended = match carry(&mut course, &mut automation, &mut server, out) {
-        Ok(ended) => ended,
+    let mut session = Session::new(rt, settings);
+    let end = match carry(&mut session, &mut automation, &mut server, out) {
+        Ok(end) => end,
         Err(CarryFault::Line) => return Err(Failure::LineFailed),
         Err(CarryFault::Writer) => return Err(Failure::Writer),
     };
-    match write_end(ended, course.tally(), out) {
+    match write_end(end, session.tally(), out) {
         Ok(()) => Ok(()),
         Err(_) => Err(Failure::Writer),
     }
 }
 
 // Tells how a line ended, and the counts.
-fn write_end<W: io::Write>(ended: Ended, tally: &Tally, out: &mut W) -> io::Result<()> {
-    match ended {
-        Ended::Closed => writeln!(out, "closed")?,
-        Ended::Spent => writeln!(out, "spent")?,
+fn write_end<W: io::Write>(end: CarryEnd, tally: &Tally, out: &mut W) -> io::Result<()> {
+    match end {
+        CarryEnd::Closed => writeln!(out, "closed")?,
+        CarryEnd::Spent => writeln!(out, "spent")?,
     }
     tally.write(out)?;
     out.flush()

@@ -1,10 +1,10 @@
 ghost use Rattle.std.specs.Prelude.{◌≡◌, ◌<◌, false, IfOk};
 
 use crate::carry::carry;
-use crate::course::{CarryFault, Course, Ended};
 use crate::dice::Dice;
 use crate::doing::{Chances, Doing, Way};
 use crate::lossy::LossySettings;
+use crate::session::{CarryEnd, CarryFault, Session};
 use crate::text::ReadingText;
 use std::alloc::{AllocError, Global};
 use std::cell::Cell;
@@ -127,10 +127,10 @@ fn carried(
     let mut automation = wire_of(alloc, commands)?;
     let mut server = wire_of(alloc, answers)?;
     let mut lines = Vec::new(alloc);
-    let mut course = Course::new(&clock, settings);
-    match carry(&mut course, &mut automation, &mut server, &mut lines) {
-        Ok(Ended::Closed) => {}
-        Ok(Ended::Spent) | Err(_) => return Err("no close".into()),
+    let mut session = Session::new(&clock, settings);
+    match carry(&mut session, &mut automation, &mut server, &mut lines) {
+        Ok(CarryEnd::Closed) => {}
+        Ok(CarryEnd::Spent) | Err(_) => return Err("no close".into()),
     }
     Ok(Seen {
         lines,
@@ -208,10 +208,10 @@ fn what_waits_is_dropped(rt: HostRuntime) -> Result<(), Fail> {
     let mut server = ScriptWire::new(alloc, entries);
     let mut automation = wire_of(alloc, &[OPEN])?;
     let mut lines = Vec::new(alloc);
-    let mut course = Course::new(&rt, settings(NONE));
+    let mut session = Session::new(&rt, settings(NONE));
     assert_eq!(rt;
-        carry(&mut course, &mut automation, &mut server, &mut lines),
-        Ok(Ended::Closed)
+        carry(&mut session, &mut automation, &mut server, &mut lines),
+        Ok(CarryEnd::Closed)
     );
     assert_eq!(rt; automation.sent(), DENIED);
     Ok(())
@@ -295,9 +295,9 @@ fn a_wire_that_fails_is_a_failed_line(rt: HostRuntime) -> Result<(), Fail> {
                 automation.fail_at(call, 0);
             }
             let mut lines = Vec::new(alloc);
-            let mut course = Course::new(&rt, settings(NONE));
-            let ended = carry(&mut course, &mut automation, &mut server, &mut lines);
-            assert_eq!(rt; ended, Err(CarryFault::Line));
+            let mut session = Session::new(&rt, settings(NONE));
+            let end = carry(&mut session, &mut automation, &mut server, &mut lines);
+            assert_eq!(rt; end, Err(CarryFault::Line));
         }
     }
     Ok(())
@@ -311,9 +311,9 @@ fn a_writer_that_fails_ends_the_line(rt: HostRuntime) -> Result<(), Fail> {
         let mut automation = wire_of(alloc, &[PLAY, PLAY])?;
         let mut server = wire_of(alloc, &[ACK, ACK])?;
         let mut out = Failing { left, calls: 0 };
-        let mut course = Course::new(&rt, settings(NONE));
-        let ended = carry(&mut course, &mut automation, &mut server, &mut out);
-        assert_eq!(rt; ended, Err(CarryFault::Writer));
+        let mut session = Session::new(&rt, settings(NONE));
+        let end = carry(&mut session, &mut automation, &mut server, &mut out);
+        assert_eq!(rt; end, Err(CarryFault::Writer));
         assert_eq!(rt; out.calls, left + 1);
     }
     Ok(())

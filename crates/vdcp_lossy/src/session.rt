@@ -17,7 +17,7 @@ use vdcp_drive::{Came, Wire, WireFault};
 
 /// Why nothing more is carried.
 #[derive(Clone, Copy, Debug, PartialEq, Eq)]
-pub enum Ended {
+pub enum CarryEnd {
     /// Either end has closed.
     Closed,
     /// All turns were made.
@@ -43,24 +43,24 @@ pub enum Brought {
     /// A silence.
     Nothing,
     /// Nothing more.
-    Over(Ended),
+    Over(CarryEnd),
 }
 
 /// What a line is run with, how many turns are left, and what was done with what came so far.
 #[derive(Drop)]
-pub struct Course<'a, R: Clock> {
+pub struct Session<'a, R: Clock> {
     clock: &'a R,
     settings: LossySettings,
     left: u32,
     tally: Tally,
 }
 
-impl<'a, R: Clock> Course<'a, R> {
+impl<'a, R: Clock> Session<'a, R> {
     /// Nothing came yet.
     pub fn new(clock: &'a R, settings: LossySettings) -> Self
         ensures { result.settings ≡ settings }
     {
-        Course {
+        Session {
             clock,
             settings,
             left: settings.turns,
@@ -117,10 +117,10 @@ impl<'a, R: Clock> Course<'a, R> {
                         None => Brought::Nothing,
                     });
                 }
-                Came::Closed => return Ok(Brought::Over(Ended::Closed)),
+                Came::Closed => return Ok(Brought::Over(CarryEnd::Closed)),
             }
         }
-        Ok(Brought::Over(Ended::Spent))
+        Ok(Brought::Over(CarryEnd::Spent))
     }
 
     /// Counts a command.
