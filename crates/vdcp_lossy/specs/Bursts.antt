@@ -6,6 +6,6 @@ use Rattle.vdcp_lossy.specs.declared.session.Brought.TheVariants as brought
 -- a burst has bytes
 abbrev pub HasSome : Brought → List ℕ → Type 0
 HasSome (brought.Burst began) held = 0 < length held
-HasSome (brought.Long began) held = Unit {0}
+HasSome brought.Long held = Unit {0}
 HasSome brought.Nothing held = Unit {0}
 HasSome (brought.Over end) held = Unit {0}

@@ -31,6 +31,6 @@ pub record ComesOfNothing (chances : Chances) (old new : Option Told) : Type 0 w
 -- what went up for what a server brought: of a burst what may be done with it; of none nothing, or a receipt; else nothing
 abbrev pub GoesUp : Chances → Brought → List ℕ → Option Told → Option Told → Type 0
 GoesUp chances (brought.Burst began) came old new = GoesOn chances way.Up came old new
-GoesUp chances (brought.Long began) came old new = Keeps (sent_by old) (sent_by new)
+GoesUp chances brought.Long came old new = Keeps (sent_by old) (sent_by new)
 GoesUp chances brought.Nothing came old new = Keeps (sent_by old) (sent_by new) ⊎ ComesOfNothing chances old new
 GoesUp chances (brought.Over end) came old new = Keeps (sent_by old) (sent_by new)

@@ -52,7 +52,7 @@ fn take<R: Clock, A: Wire, S: Wire, W: io::Write>(
     match brought {
         Brought::Nothing => Ok(None),
         Brought::Over(end) => Ok(Some(end)),
-        Brought::Long(_) => {
+        Brought::Long => {
             session.count_command();
             session.tell(Way::Down, &Doing::Lost, command.as_slice(), out)?;
             Ok(None)
@@ -146,7 +146,7 @@ fn answer_with<R: Clock, A: Wire, W: io::Write>(
             Some(doing) => go_up(session, automation, &doing, &[], out),
             None => Ok(None),
         },
-        Brought::Long(_) => {
+        Brought::Long => {
             session.count_answer();
             go_up(session, automation, &Doing::Lost, answer.as_slice(), out)
         }

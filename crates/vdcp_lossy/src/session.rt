@@ -38,8 +38,8 @@ pub enum CarryFault {
 pub enum Brought {
     /// A burst, whose first bytes came then.
     Burst(Instant),
-    /// A burst that is too long to be held, likewise.
-    Long(Instant),
+    /// A burst that is too long to be held.
+    Long,
     /// A silence.
     Nothing,
     /// Nothing more.
@@ -112,7 +112,7 @@ impl<'a, R: Clock> Session<'a, R> {
                 }
                 Came::Silence => {
                     return Ok(match began {
-                        Some(began) if is_long => Brought::Long(began),
+                        Some(_) if is_long => Brought::Long,
                         Some(began) => Brought::Burst(began),
                         None => Brought::Nothing,
                     });
