@@ -1,10 +1,11 @@
-ghost use Rattle.std.specs.Prelude.{◌≡◌, ◌<◌, false, IfOk};
+ghost use Rattle.std.specs.Prelude.{◌≡◌, false, IfOk};
 
 use crate::carry::carry;
 use crate::dice::Dice;
 use crate::doing::{Chances, Doing, Way};
 use crate::lossy::LossySettings;
 use crate::session::{CarryEnd, CarryFault, Session};
+use crate::tally::Tally;
 use crate::text::ReadingText;
 use std::alloc::{AllocError, Global};
 use std::cell::Cell;
@@ -340,21 +341,6 @@ fn readings_are_one_line(rt: HostRuntime) -> Result<(), Fail> {
     Ok(())
 }
 
-/// What is done with a burst: a number for each kind.
-fn kind(doing: &Doing) -> usize
-    ensures { result < 7 }
-{
-    match doing {
-        Doing::Through => 0,
-        Doing::Lost => 1,
-        Doing::Late => 2,
-        Doing::Copied => 3,
-        Doing::Cut(_) => 4,
-        Doing::Damaged(_) => 5,
-        Doing::Forged(_) => 6,
-    }
-}
-
 /// Of many bursts each thing is done with some, and with about as many as the chances say: 20 of 100 are lost, and
 /// 20 of what is left are copied.
 #[test]
@@ -366,16 +352,21 @@ fn dice_throw_by_the_chances(rt: HostRuntime) -> Result<(), Fail> {
         damage: 20,
         forge: 20,
     };
-    let mut counts: [u32; 7] = [0; 7];
+    let mut tally = Tally::new();
     for number in 0..1000 {
         let mut dice = Dice::new(3, number);
-        let kind = kind(&Doing::of_burst(&mut dice, &chances, Way::Up, GRANTED));
-        counts[kind] = counts[kind].saturating_add(1);
+        tally.count(&Doing::of_burst(&mut dice, &chances, Way::Up, GRANTED));
     }
-    assert_eq!(rt; counts[2], 0);
-    assert!(rt; counts[3] > 120 && counts[3] < 200);
-    for kind in [0, 1, 4, 5, 6] {
-        assert!(rt; counts[kind] > 50);
+    assert_eq!(rt; tally.late, 0);
+    assert!(rt; tally.copied > 120 && tally.copied < 200);
+    for count in [
+        tally.through,
+        tally.lost,
+        tally.cut,
+        tally.damaged,
+        tally.forged,
+    ] {
+        assert!(rt; count > 50);
     }
     Ok(())
 }
