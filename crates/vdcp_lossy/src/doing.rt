@@ -11,7 +11,7 @@ use vdcp_frame::{Message, Step, laws as bursts, read_at};
 use vdcp_world::can_become;
 
 /// So many bytes of a burst are held at most. A longer one is lost.
-pub const MOST: usize = 1024;
+pub const MOST_BYTES: usize = 1024;
 
 /// A burst that is held.
 pub type Burst = ArrayVec<u8, 1024>;
@@ -25,8 +25,8 @@ pub enum Way {
     Up,
 }
 
-/// How many of 100 bursts are lost, come twice, end early, or have bytes changed, and of how many answers, or
-/// where none comes, a receipt comes in their place.
+/// Chances of 100, each 0 to 100; each is of the bursts that those before it spare. `forge` is of answers alone, and
+/// of exchanges without one.
 #[derive(Clone, Copy, Debug, PartialEq, Eq)]
 pub struct Chances {
     pub lose: u8,
@@ -112,7 +112,7 @@ impl Doing {
     /// What is done with a burst that came on this way.
     pub fn of_burst(dice: &mut Dice, chances: &Chances, way: Way, came: &[u8]) -> Doing
         requires some { 0 < length came.now }
-        requires held { length came.now ≤ MOST }
+        requires held { length came.now ≤ MOST_BYTES }
         ensures chance { HasChance chances.now result }
         ensures can { CanBe way came.now result }
     {
@@ -179,7 +179,7 @@ fn cut(dice: &mut Dice, came: &[u8]) -> Doing
 // One to three bytes are changed. What couldn't be seen to be damaged is lost instead.
 fn damaged(dice: &mut Dice, came: &[u8]) -> Doing
     requires some { 0 < length came.now }
-    requires held { length came.now ≤ MOST }
+    requires held { length came.now ≤ MOST_BYTES }
     ensures chance { (chances : Chances) → 0 < chances.damage → chances.lose < 100 → HasChance chances result }
     ensures can { (way : Way) → CanBe way came.now result }
 {
