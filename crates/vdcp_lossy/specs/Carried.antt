@@ -3,8 +3,8 @@ use Rattle.std.specs.Io.KnownBytes.{Appends, Keeps}
 use Rattle.std.specs.Prelude.{ℕ, ◌⊎◌, List, [], Option, None, Some}
 use Rattle.vdcp_drive.specs.Wires.{Told}
 use Rattle.vdcp_lossy.specs.Doings.{HasChance, IsForged, MayBeDone, goes_on, joined}
-use Rattle.vdcp_lossy.specs.declared.course.Brought.{Brought}
-use Rattle.vdcp_lossy.specs.declared.course.Brought.TheVariants as brought
+use Rattle.vdcp_lossy.specs.declared.session.Brought.{Brought}
+use Rattle.vdcp_lossy.specs.declared.session.Brought.TheVariants as brought
 use Rattle.vdcp_lossy.specs.declared.doing.Chances.{Chances}
 use Rattle.vdcp_lossy.specs.declared.doing.Doing.{Doing}
 use Rattle.vdcp_lossy.specs.declared.doing.Way.{Way}
@@ -31,6 +31,6 @@ pub record ComesOfNothing (chances : Chances) (old new : Option Told) : Type 0 w
 -- what went up for what a server brought: of a burst what may be done with it; of none nothing, or a receipt; else nothing
 abbrev pub GoesUp : Chances → Brought → List ℕ → Option Told → Option Told → Type 0
 GoesUp chances (brought.Burst began) came old new = GoesOn chances way.Up came old new
-GoesUp chances (brought.Long began) came old new = Keeps (sent_by old) (sent_by new)
+GoesUp chances brought.Long came old new = Keeps (sent_by old) (sent_by new)
 GoesUp chances brought.Nothing came old new = Keeps (sent_by old) (sent_by new) ⊎ ComesOfNothing chances old new
-GoesUp chances (brought.Over ended) came old new = Keeps (sent_by old) (sent_by new)
+GoesUp chances (brought.Over end) came old new = Keeps (sent_by old) (sent_by new)

@@ -7,8 +7,8 @@ use Rattle.vdcp_frame.specs.Message.{Content, ack, nak, spelling}
 use Rattle.vdcp_lossy.specs.declared.doing.Chances.{Chances}
 use Rattle.vdcp_lossy.specs.declared.doing.Doing.{Doing}
 use Rattle.vdcp_lossy.specs.declared.doing.Doing.TheVariants as doing
-use Rattle.vdcp_lossy.specs.declared.doing.Fate.{Fate}
-use Rattle.vdcp_lossy.specs.declared.doing.Fate.TheVariants as fate
+use Rattle.vdcp_lossy.specs.declared.doing.Throw.{Throw}
+use Rattle.vdcp_lossy.specs.declared.doing.Throw.TheVariants as throw
 use Rattle.vdcp_lossy.specs.declared.doing.Receipt.{Receipt}
 use Rattle.vdcp_lossy.specs.declared.doing.Receipt.TheVariants as receipt
 use Rattle.vdcp_lossy.specs.declared.doing.Way.{Way}
@@ -68,13 +68,13 @@ CanBe w came (doing.Damaged bytes) = can_become came bytes.items ≡ true
 CanBe w came (doing.Forged r) = CanBeForged w r
 
 -- what dice with these chances can throw: nothing that has no chance, and nothing else where the chance is 100
-abbrev pub CanBeThrown : Chances → Fate → Type 0
-CanBeThrown chances fate.Through = (chances.lose < 100) × (chances.copy < 100) × (chances.cut < 100) × (chances.damage < 100)
-CanBeThrown chances fate.Lost = 0 < chances.lose
-CanBeThrown chances fate.Copied = (0 < chances.copy) × (chances.lose < 100)
-CanBeThrown chances fate.Cut = (0 < chances.cut) × (chances.lose < 100) × (chances.copy < 100)
-CanBeThrown chances fate.Damaged = (0 < chances.damage) × (chances.lose < 100) × (chances.copy < 100) × (chances.cut < 100)
-CanBeThrown chances fate.Forged = (0 < chances.forge) × (chances.lose < 100) × (chances.copy < 100) × (chances.cut < 100) × (chances.damage < 100)
+abbrev pub CanBeThrown : Chances → Throw → Type 0
+CanBeThrown chances throw.Through = (chances.lose < 100) × (chances.copy < 100) × (chances.cut < 100) × (chances.damage < 100)
+CanBeThrown chances throw.Lost = 0 < chances.lose
+CanBeThrown chances throw.Copied = (0 < chances.copy) × (chances.lose < 100)
+CanBeThrown chances throw.Cut = (0 < chances.cut) × (chances.lose < 100) × (chances.copy < 100)
+CanBeThrown chances throw.Damaged = (0 < chances.damage) × (chances.lose < 100) × (chances.copy < 100) × (chances.cut < 100)
+CanBeThrown chances throw.Forged = (0 < chances.forge) × (chances.lose < 100) × (chances.copy < 100) × (chances.cut < 100) × (chances.damage < 100)
 
 -- what is done by them. What can't be cut or seen to be damaged is lost, and an answer that can't be copied goes through
 abbrev pub HasChance : Chances → Doing → Type 0

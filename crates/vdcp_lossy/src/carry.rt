@@ -5,8 +5,8 @@ ghost use Rattle.vdcp_lossy.specs.Bursts.{HasSome};
 ghost use Rattle.vdcp_lossy.specs.Carried.{GoesOn, GoesUp, sent_by};
 ghost use Rattle.vdcp_lossy.specs.Doings.{adds_part, goes_on, joined, part_on};
 
-use crate::course::{Brought, CarryFault, Course, Ended};
 use crate::doing::{Burst, Doing, Receipt, Way};
+use crate::session::{Brought, CarryEnd, CarryFault, Session};
 use std::io;
 use std::rt::Clock;
 use std::time::Instant;
@@ -14,61 +14,61 @@ use vdcp_drive::{Wire, WireFault};
 
 /// Carries bursts between an automation and a server until either closes, or the turns are used up.
 pub fn carry<R: Clock, A: Wire, S: Wire, W: io::Write>(
-    course: &mut Course<R>,
+    session: &mut Session<R>,
     automation: &mut A,
     server: &mut S,
     out: &mut W,
-) -> Result<Ended, CarryFault>
+) -> Result<CarryEnd, CarryFault>
     requires automation { A.failures automation.old ≡ 0 }
     requires server { S.failures server.old ≡ 0 }
 {
     let mut command = Burst::new();
-    'bursts: while course.left() > 0 {
-        let brought = course.receive(automation, &mut command)?;
-        if let Some(ended) = take(course, automation, server, brought, &command, out)? {
-            return Ok(ended);
+    'bursts: while session.left() > 0 {
+        let brought = session.receive(automation, &mut command)?;
+        if let Some(end) = take(session, automation, server, brought, &command, out)? {
+            return Ok(end);
         }
     }
-    Ok(Ended::Spent)
+    Ok(CarryEnd::Spent)
 }
 
 // Takes what the automation brought, and says whether nothing more is to be carried.
 fn take<R: Clock, A: Wire, S: Wire, W: io::Write>(
-    course: &mut Course<R>,
+    session: &mut Session<R>,
     automation: &mut A,
     server: &mut S,
     brought: Brought,
     command: &Burst,
     out: &mut W,
-) -> Result<Option<Ended>, CarryFault>
+) -> Result<Option<CarryEnd>, CarryFault>
     requires automation { A.failures automation.old ≡ 0 }
     requires server { S.failures server.old ≡ 0 }
     requires some { HasSome brought command.now.items }
-    ensures settings { course.new.settings ≡ course.old.settings }
-    ensures no_more { course.new.left ≤ course.old.left }
+    ensures settings { session.new.settings ≡ session.old.settings }
+    ensures no_more { session.new.left ≤ session.old.left }
     ensures automation { OnOk result (A.failures automation.new ≡ 0) }
     ensures server { OnOk result (S.failures server.new ≡ 0) }
 {
     match brought {
         Brought::Nothing => Ok(None),
-        Brought::Over(ended) => Ok(Some(ended)),
-        Brought::Long(_) => {
-            course.count_command();
-            course.tell(Way::Down, &Doing::Lost, command.as_slice(), out)?;
+        Brought::Over(end) => Ok(Some(end)),
+        Brought::Long => {
+            session.count_command();
+            session.tell(Way::Down, &Doing::Lost, command.as_slice(), out)?;
             Ok(None)
         }
         Brought::Burst(began) => {
-            course.count_command();
+            session.count_command();
             let mut answer = Burst::new();
-            let brought = ask(course, server, command, began, &mut answer, out)?;
-            answer_with(course, automation, brought, &answer, began, out)
+            let brought = ask(session, server, command, began, &mut answer, out)?;
+            answer_with(session, automation, brought, &answer, began, out)
         }
     }
 }
 
 // Carries a command down, and takes what comes for it. What waits from the exchange before is dropped first.
 fn ask<R: Clock, S: Wire, W: io::Write>(
-    course: &mut Course<R>,
+    session: &mut Session<R>,
     server: &mut S,
     command: &Burst,
     began: Instant,
@@ -77,29 +77,29 @@ fn ask<R: Clock, S: Wire, W: io::Write>(
 ) -> Result<Brought, CarryFault>
     requires server { S.failures server.old ≡ 0 }
     requires some { 0 < length command.now.items }
-    ensures sent { OnOk result (GoesOn course.old.settings.chances Way.Down command.now.items (S.told server.old) (S.told server.new)) }
-    ensures settings { course.new.settings ≡ course.old.settings }
-    ensures no_more { course.new.left ≤ course.old.left }
+    ensures sent { OnOk result (GoesOn session.old.settings.chances Way.Down command.now.items (S.told server.old) (S.told server.new)) }
+    ensures settings { session.new.settings ≡ session.old.settings }
+    ensures no_more { session.new.left ≤ session.old.left }
     ensures some { IfOk result (λ brought. HasSome brought answer.new.items) }
     ensures server { OnOk result (S.failures server.new ≡ 0) }
 {
     drop_waiting(server)?;
-    let doing = course.doing(Way::Down, command, began)?;
+    let doing = session.doing(Way::Down, command, began)?;
     send_once(server, &doing, command.as_slice())?;
-    course.tell(Way::Down, &doing, command.as_slice(), out)?;
+    session.tell(Way::Down, &doing, command.as_slice(), out)?;
     match doing {
         Doing::Lost | Doing::Late => Ok(Brought::Nothing),
-        Doing::Copied => ask_twice(course, server, command, began, answer),
-        Doing::Through | Doing::Cut(_) | Doing::Damaged(_) => course.receive(server, answer),
+        Doing::Copied => ask_twice(session, server, command, began, answer),
+        Doing::Through | Doing::Cut(_) | Doing::Damaged(_) => session.receive(server, answer),
         // (a command is never forged)
-        Doing::Forged(_) => course.receive(server, answer),
+        Doing::Forged(_) => session.receive(server, answer),
     }
 }
 
 // Takes the answer to a command, sends its copy, and takes the answer to that. Where it is too late for a copy by
 // then, the first answer is too.
 fn ask_twice<R: Clock, S: Wire>(
-    course: &mut Course<R>,
+    session: &mut Session<R>,
     server: &mut S,
     command: &Burst,
     began: Instant,
@@ -108,75 +108,75 @@ fn ask_twice<R: Clock, S: Wire>(
     requires server { S.failures server.old ≡ 0 }
     ensures sent { OnOk result (Keeps (sent_by (S.told server.old)) (sent_by (S.told server.new))
         ⊎ Appends (sent_by (S.told server.old)) (sent_by (S.told server.new)) command.now.items) }
-    ensures settings { course.new.settings ≡ course.old.settings }
-    ensures no_more { course.new.left ≤ course.old.left }
+    ensures settings { session.new.settings ≡ session.old.settings }
+    ensures no_more { session.new.left ≤ session.old.left }
     ensures some { IfOk result (λ brought. HasSome brought answer.new.items) }
     ensures server { OnOk result (S.failures server.new ≡ 0) }
 {
-    let first = course.receive(server, answer)?;
+    let first = session.receive(server, answer)?;
     if let Brought::Over(_) = first {
         return Ok(first);
     }
-    if course.is_late(began)? {
+    if session.is_late(began)? {
         return Ok(first);
     }
     send(server, command.as_slice())?;
-    course.receive(server, answer)
+    session.receive(server, answer)
 }
 
 // Carries what came for a command up, and says whether nothing more is to be carried.
 fn answer_with<R: Clock, A: Wire, W: io::Write>(
-    course: &mut Course<R>,
+    session: &mut Session<R>,
     automation: &mut A,
     brought: Brought,
     answer: &Burst,
     began: Instant,
     out: &mut W,
-) -> Result<Option<Ended>, CarryFault>
+) -> Result<Option<CarryEnd>, CarryFault>
     requires automation { A.failures automation.old ≡ 0 }
     requires some { HasSome brought answer.now.items }
-    ensures sent { OnOk result (GoesUp course.old.settings.chances brought answer.now.items (A.told automation.old) (A.told automation.new)) }
-    ensures settings { course.new.settings ≡ course.old.settings }
-    ensures left { course.new.left ≡ course.old.left }
+    ensures sent { OnOk result (GoesUp session.old.settings.chances brought answer.now.items (A.told automation.old) (A.told automation.new)) }
+    ensures settings { session.new.settings ≡ session.old.settings }
+    ensures left { session.new.left ≡ session.old.left }
     ensures automation { OnOk result (A.failures automation.new ≡ 0) }
 {
     match brought {
-        Brought::Over(ended) => Ok(Some(ended)),
-        Brought::Nothing => match course.forged(began)? {
-            Some(doing) => go_up(course, automation, &doing, &[], out),
+        Brought::Over(end) => Ok(Some(end)),
+        Brought::Nothing => match session.forged(began)? {
+            Some(doing) => go_up(session, automation, &doing, &[], out),
             None => Ok(None),
         },
-        Brought::Long(_) => {
-            course.count_answer();
-            go_up(course, automation, &Doing::Lost, answer.as_slice(), out)
+        Brought::Long => {
+            session.count_answer();
+            go_up(session, automation, &Doing::Lost, answer.as_slice(), out)
         }
         Brought::Burst(_) => {
-            course.count_answer();
-            let doing = course.doing(Way::Up, answer, began)?;
-            go_up(course, automation, &doing, answer.as_slice(), out)
+            session.count_answer();
+            let doing = session.doing(Way::Up, answer, began)?;
+            go_up(session, automation, &doing, answer.as_slice(), out)
         }
     }
 }
 
 // Sends what goes on of an answer, and tells that.
 fn go_up<R: Clock, A: Wire, W: io::Write>(
-    course: &mut Course<R>,
+    session: &mut Session<R>,
     automation: &mut A,
     doing: &Doing,
     came: &[u8],
     out: &mut W,
-) -> Result<Option<Ended>, CarryFault>
+) -> Result<Option<CarryEnd>, CarryFault>
     requires automation { A.failures automation.old ≡ 0 }
     ensures sent { OnOk result (Appends (sent_by (A.told automation.old)) (sent_by (A.told automation.new)) (joined (goes_on doing.now came.now))) }
-    ensures settings { course.new.settings ≡ course.old.settings }
-    ensures left { course.new.left ≡ course.old.left }
+    ensures settings { session.new.settings ≡ session.old.settings }
+    ensures left { session.new.left ≡ session.old.left }
     ensures automation { OnOk result (A.failures automation.new ≡ 0) }
 {
     send_once(automation, doing, came)?;
     if let Doing::Copied = doing {
         send(automation, came)?;
     }
-    course.tell(Way::Up, doing, came, out)?;
+    session.tell(Way::Up, doing, came, out)?;
     Ok(None)
 }
 

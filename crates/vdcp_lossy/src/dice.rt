@@ -18,7 +18,7 @@ impl Dice {
         }
     }
 
-    /// Whether a throw hits that does so many times of 100.
+    /// Whether a throw hits, with this chance of 100.
     pub fn hits(&mut self, chance: u8) -> bool
         ensures never { chance ≡ 0 → result ≡ false }
         ensures always { 100 ≤ chance → result ≡ true }
@@ -26,7 +26,7 @@ impl Dice {
         self.words.next_u64() % 100 < u64::from(chance)
     }
 
-    /// A number below this one.
+    /// A number from 0 to below `bound`.
     pub fn below(&mut self, bound: usize) -> usize
         requires { 0 < bound }
         ensures { result < bound }

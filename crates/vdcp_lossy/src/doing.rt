@@ -11,7 +11,7 @@ use vdcp_frame::{Message, Step, laws as bursts, read_at};
 use vdcp_world::can_become;
 
 /// So many bytes of a burst are held at most. A longer one is lost.
-pub const MOST: usize = 1024;
+pub const MOST_BYTES: usize = 1024;
 
 /// A burst that is held.
 pub type Burst = ArrayVec<u8, 1024>;
@@ -25,8 +25,8 @@ pub enum Way {
     Up,
 }
 
-/// How many of 100 bursts are lost, come twice, end early, or have bytes changed, and of how many answers, or
-/// where none comes, a receipt comes in their place.
+/// Chances of 100, each 0 to 100; each is of the bursts that those before it spare. `forge` is of answers alone, and
+/// of exchanges without one.
 #[derive(Clone, Copy, Debug, PartialEq, Eq)]
 pub struct Chances {
     pub lose: u8,
@@ -74,9 +74,9 @@ impl Receipt {
     }
 }
 
-/// What a throw of the dice says.
+/// What is thrown for a burst.
 #[derive(Clone, Copy, Debug, PartialEq, Eq)]
-enum Fate {
+enum Throw {
     Through,
     Lost,
     Copied,
@@ -86,43 +86,43 @@ enum Fate {
 }
 
 // Throws each chance in its turn, and says which one hits first.
-fn throw(dice: &mut Dice, chances: &Chances, way: Way) -> Fate
+fn throw_chances(dice: &mut Dice, chances: &Chances, way: Way) -> Throw
     ensures thrown { CanBeThrown chances.now result }
-    ensures down { way ≡ Way.Down → result ≢ Fate.Forged }
+    ensures down { way ≡ Way.Down → result ≢ Throw.Forged }
 {
     if dice.hits(chances.lose) {
-        return Fate::Lost;
+        return Throw::Lost;
     }
     if dice.hits(chances.copy) {
-        return Fate::Copied;
+        return Throw::Copied;
     }
     if dice.hits(chances.cut) {
-        return Fate::Cut;
+        return Throw::Cut;
     }
     if dice.hits(chances.damage) {
-        return Fate::Damaged;
+        return Throw::Damaged;
     }
     if way == Way::Up && dice.hits(chances.forge) {
-        return Fate::Forged;
+        return Throw::Forged;
     }
-    Fate::Through
+    Throw::Through
 }
 
 impl Doing {
     /// What is done with a burst that came on this way.
     pub fn of_burst(dice: &mut Dice, chances: &Chances, way: Way, came: &[u8]) -> Doing
         requires some { 0 < length came.now }
-        requires held { length came.now ≤ MOST }
+        requires held { length came.now ≤ MOST_BYTES }
         ensures chance { HasChance chances.now result }
         ensures can { CanBe way came.now result }
     {
-        match throw(dice, chances, way) {
-            Fate::Through => Doing::Through,
-            Fate::Lost => Doing::Lost,
-            Fate::Copied => copied(way, came),
-            Fate::Cut => cut(dice, came),
-            Fate::Damaged => damaged(dice, came),
-            Fate::Forged => Doing::Forged(throw_receipt(dice)),
+        match throw_chances(dice, chances, way) {
+            Throw::Through => Doing::Through,
+            Throw::Lost => Doing::Lost,
+            Throw::Copied => copied(way, came),
+            Throw::Cut => cut(dice, came),
+            Throw::Damaged => damaged(dice, came),
+            Throw::Forged => Doing::Forged(throw_receipt(dice)),
         }
     }
 
@@ -131,9 +131,9 @@ impl Doing {
         ensures chance { IfSome result (HasChance chances.now) }
         ensures forged { IfSome result IsForged }
     {
-        match throw(dice, chances, Way::Up) {
-            Fate::Forged => Some(Doing::Forged(throw_receipt(dice))),
-            Fate::Through | Fate::Lost | Fate::Copied | Fate::Cut | Fate::Damaged => None,
+        match throw_chances(dice, chances, Way::Up) {
+            Throw::Forged => Some(Doing::Forged(throw_receipt(dice))),
+            Throw::Through | Throw::Lost | Throw::Copied | Throw::Cut | Throw::Damaged => None,
         }
     }
 }
@@ -179,7 +179,7 @@ fn cut(dice: &mut Dice, came: &[u8]) -> Doing
 // One to three bytes are changed. What couldn't be seen to be damaged is lost instead.
 fn damaged(dice: &mut Dice, came: &[u8]) -> Doing
     requires some { 0 < length came.now }
-    requires held { length came.now ≤ MOST }
+    requires held { length came.now ≤ MOST_BYTES }
     ensures chance { (chances : Chances) → 0 < chances.damage → chances.lose < 100 → HasChance chances result }
     ensures can { (way : Way) → CanBe way came.now result }
 {

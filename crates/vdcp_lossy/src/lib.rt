@@ -2,16 +2,16 @@
 //! and forges bursts.
 //!
 //! `do_lossy` listens at an address, takes one automation there, connects to a server, and carries bursts between
-//! the two; what it does with each it throws with dice of a seed. It tells standard error of a failure in one
-//! line, and gives the exit status.
+//! the two; what befalls each is thrown by a generator that `seed` starts. It tells standard error of a failure in
+//! one line, and gives the exit status.
 #![tactic(auto)]
 
 mod carry;
-mod course;
 mod dice;
 mod doing;
 pub mod laws;
 mod lossy;
+mod session;
 mod tally;
 mod text;
 

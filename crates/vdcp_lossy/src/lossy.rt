@@ -5,8 +5,8 @@ ghost use Rattle.vdcp_net.specs.Address.{IsAddress};
 ghost use Rattle.vdcp_text.specs.Failure.{failure_line, status_of};
 
 use crate::carry::carry;
-use crate::course::{CarryFault, Course, Ended};
 use crate::doing::Chances;
+use crate::session::{CarryEnd, CarryFault, Session};
 use crate::tally::Tally;
 use std::io;
 use std::net::{Net, SocketAddr, SocketAddrV4};
@@ -19,7 +19,7 @@ use vdcp_text::Failure;
 /// What a line is run with.
 #[derive(Clone, Copy, Debug, PartialEq, Eq)]
 pub struct LossySettings {
-    /// Which throws of the dice are made.
+    /// What the generator starts from: the same seed, the same throws.
     pub seed: u32,
     /// What is done with how many bursts.
     pub chances: Chances,
@@ -38,9 +38,9 @@ pub struct LossySettings {
 /// with the address that is listened at, one for each burst, which says what was done with it, one that says
 /// whether either end has `closed` or the turns are `spent`, and nine counts. Each line is flushed at once.
 ///
-/// The status is 0 where it came to that end. It is 2 where an address is none, and 3 where the address can't
-/// be listened at, nobody takes the connection to the server, or the line failed; `err` is told of these. The
-/// status is 3 where `out` failed, to which nothing more is written.
+/// The status is 0 where it came to that end. It is 2 where `address` or `server` isn't an address, and 3 where
+/// `address` can't be listened at, nobody takes the connection to the server, or the line failed; `err` is told of
+/// these. The status is 3 where `out` failed, to which nothing more is written.
 pub fn do_lossy<R: Net + Clock, W: io::Write, E: io::Write>(
     rt: &R,
     address: &str,
@@ -64,7 +64,7 @@ pub fn do_lossy<R: Net + Clock, W: io::Write, E: io::Write>(
     }
 }
 
-// Takes an automation, connects to the server, and carries bursts between the two.
+// Reads the two addresses, and carries bursts between them.
 fn lossy<R: Net + Clock, W: io::Write>(
     rt: &R,
     address: &str,
@@ -95,30 +95,30 @@ fn carry_between<R: Net + Clock, W: io::Write>(
     let Ok(far) = rt.connect(SocketAddr::V4(server)) else {
         return Err(Failure::Connect);
     };
-    let silence = Duration::from_millis(settings.silence as u64);
+    let silence = Duration::from_millis(u64::from(settings.silence));
     let Ok(mut automation) = StreamWire::new(near, silence) else {
         return Err(Failure::LineFailed);
     };
     let Ok(mut server) = StreamWire::new(far, silence) else {
         return Err(Failure::LineFailed);
     };
-    let mut course = Course::new(rt, settings);
-    let ended = match carry(&mut course, &mut automation, &mut server, out) {
-        Ok(ended) => ended,
+    let mut session = Session::new(rt, settings);
+    let end = match carry(&mut session, &mut automation, &mut server, out) {
+        Ok(end) => end,
         Err(CarryFault::Line) => return Err(Failure::LineFailed),
         Err(CarryFault::Writer) => return Err(Failure::Writer),
     };
-    match write_end(ended, course.tally(), out) {
+    match write_end(end, session.tally(), out) {
         Ok(()) => Ok(()),
         Err(_) => Err(Failure::Writer),
     }
 }
 
 // Tells how a line ended, and the counts.
-fn write_end<W: io::Write>(ended: Ended, tally: &Tally, out: &mut W) -> io::Result<()> {
-    match ended {
-        Ended::Closed => writeln!(out, "closed")?,
-        Ended::Spent => writeln!(out, "spent")?,
+fn write_end<W: io::Write>(end: CarryEnd, tally: &Tally, out: &mut W) -> io::Result<()> {
+    match end {
+        CarryEnd::Closed => writeln!(out, "closed")?,
+        CarryEnd::Spent => writeln!(out, "spent")?,
     }
     tally.write(out)?;
     out.flush()

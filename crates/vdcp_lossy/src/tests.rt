@@ -1,10 +1,11 @@
-ghost use Rattle.std.specs.Prelude.{◌≡◌, ◌<◌, false, IfOk};
+ghost use Rattle.std.specs.Prelude.{◌≡◌, false, IfOk};
 
 use crate::carry::carry;
-use crate::course::{CarryFault, Course, Ended};
 use crate::dice::Dice;
 use crate::doing::{Chances, Doing, Way};
 use crate::lossy::LossySettings;
+use crate::session::{CarryEnd, CarryFault, Session};
+use crate::tally::Tally;
 use crate::text::ReadingText;
 use std::alloc::{AllocError, Global};
 use std::cell::Cell;
@@ -127,10 +128,10 @@ fn carried(
     let mut automation = wire_of(alloc, commands)?;
     let mut server = wire_of(alloc, answers)?;
     let mut lines = Vec::new(alloc);
-    let mut course = Course::new(&clock, settings);
-    match carry(&mut course, &mut automation, &mut server, &mut lines) {
-        Ok(Ended::Closed) => {}
-        Ok(Ended::Spent) | Err(_) => return Err("no close".into()),
+    let mut session = Session::new(&clock, settings);
+    match carry(&mut session, &mut automation, &mut server, &mut lines) {
+        Ok(CarryEnd::Closed) => {}
+        Ok(CarryEnd::Spent) | Err(_) => return Err("no close".into()),
     }
     Ok(Seen {
         lines,
@@ -208,10 +209,10 @@ fn what_waits_is_dropped(rt: HostRuntime) -> Result<(), Fail> {
     let mut server = ScriptWire::new(alloc, entries);
     let mut automation = wire_of(alloc, &[OPEN])?;
     let mut lines = Vec::new(alloc);
-    let mut course = Course::new(&rt, settings(NONE));
+    let mut session = Session::new(&rt, settings(NONE));
     assert_eq!(rt;
-        carry(&mut course, &mut automation, &mut server, &mut lines),
-        Ok(Ended::Closed)
+        carry(&mut session, &mut automation, &mut server, &mut lines),
+        Ok(CarryEnd::Closed)
     );
     assert_eq!(rt; automation.sent(), DENIED);
     Ok(())
@@ -295,9 +296,9 @@ fn a_wire_that_fails_is_a_failed_line(rt: HostRuntime) -> Result<(), Fail> {
                 automation.fail_at(call, 0);
             }
             let mut lines = Vec::new(alloc);
-            let mut course = Course::new(&rt, settings(NONE));
-            let ended = carry(&mut course, &mut automation, &mut server, &mut lines);
-            assert_eq!(rt; ended, Err(CarryFault::Line));
+            let mut session = Session::new(&rt, settings(NONE));
+            let end = carry(&mut session, &mut automation, &mut server, &mut lines);
+            assert_eq!(rt; end, Err(CarryFault::Line));
         }
     }
     Ok(())
@@ -311,9 +312,9 @@ fn a_writer_that_fails_ends_the_line(rt: HostRuntime) -> Result<(), Fail> {
         let mut automation = wire_of(alloc, &[PLAY, PLAY])?;
         let mut server = wire_of(alloc, &[ACK, ACK])?;
         let mut out = Failing { left, calls: 0 };
-        let mut course = Course::new(&rt, settings(NONE));
-        let ended = carry(&mut course, &mut automation, &mut server, &mut out);
-        assert_eq!(rt; ended, Err(CarryFault::Writer));
+        let mut session = Session::new(&rt, settings(NONE));
+        let end = carry(&mut session, &mut automation, &mut server, &mut out);
+        assert_eq!(rt; end, Err(CarryFault::Writer));
         assert_eq!(rt; out.calls, left + 1);
     }
     Ok(())
@@ -340,21 +341,6 @@ fn readings_are_one_line(rt: HostRuntime) -> Result<(), Fail> {
     Ok(())
 }
 
-/// What is done with a burst: a number for each kind.
-fn kind(doing: &Doing) -> usize
-    ensures { result < 7 }
-{
-    match doing {
-        Doing::Through => 0,
-        Doing::Lost => 1,
-        Doing::Late => 2,
-        Doing::Copied => 3,
-        Doing::Cut(_) => 4,
-        Doing::Damaged(_) => 5,
-        Doing::Forged(_) => 6,
-    }
-}
-
 /// Of many bursts each thing is done with some, and with about as many as the chances say: 20 of 100 are lost, and
 /// 20 of what is left are copied.
 #[test]
@@ -366,16 +352,21 @@ fn dice_throw_by_the_chances(rt: HostRuntime) -> Result<(), Fail> {
         damage: 20,
         forge: 20,
     };
-    let mut counts: [u32; 7] = [0; 7];
+    let mut tally = Tally::new();
     for number in 0..1000 {
         let mut dice = Dice::new(3, number);
-        let kind = kind(&Doing::of_burst(&mut dice, &chances, Way::Up, GRANTED));
-        counts[kind] = counts[kind].saturating_add(1);
+        tally.count(&Doing::of_burst(&mut dice, &chances, Way::Up, GRANTED));
     }
-    assert_eq!(rt; counts[2], 0);
-    assert!(rt; counts[3] > 120 && counts[3] < 200);
-    for kind in [0, 1, 4, 5, 6] {
-        assert!(rt; counts[kind] > 50);
+    assert_eq!(rt; tally.late, 0);
+    assert!(rt; tally.copied > 120 && tally.copied < 200);
+    for count in [
+        tally.through,
+        tally.lost,
+        tally.cut,
+        tally.damaged,
+        tally.forged,
+    ] {
+        assert!(rt; count > 50);
     }
     Ok(())
 }

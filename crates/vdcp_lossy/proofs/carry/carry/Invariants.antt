@@ -8,4 +8,4 @@ invariant-bursts g l = record {
 }
 
 abbrev pub decreases-bursts : goal.decreases-bursts
-decreases-bursts g l = l.course.left
+decreases-bursts g l = l.session.left

@@ -17,7 +17,7 @@ use vdcp_drive::{Came, Wire, WireFault};
 
 /// Why nothing more is carried.
 #[derive(Clone, Copy, Debug, PartialEq, Eq)]
-pub enum Ended {
+pub enum CarryEnd {
     /// Either end has closed.
     Closed,
     /// All turns were made.
@@ -38,29 +38,29 @@ pub enum CarryFault {
 pub enum Brought {
     /// A burst, whose first bytes came then.
     Burst(Instant),
-    /// A burst that is too long to be held, likewise.
-    Long(Instant),
+    /// A burst that is too long to be held.
+    Long,
     /// A silence.
     Nothing,
     /// Nothing more.
-    Over(Ended),
+    Over(CarryEnd),
 }
 
 /// What a line is run with, how many turns are left, and what was done with what came so far.
 #[derive(Drop)]
-pub struct Course<'a, R: Clock> {
+pub struct Session<'a, R: Clock> {
     clock: &'a R,
     settings: LossySettings,
     left: u32,
     tally: Tally,
 }
 
-impl<'a, R: Clock> Course<'a, R> {
+impl<'a, R: Clock> Session<'a, R> {
     /// Nothing came yet.
     pub fn new(clock: &'a R, settings: LossySettings) -> Self
         ensures { result.settings ≡ settings }
     {
-        Course {
+        Session {
             clock,
             settings,
             left: settings.turns,
@@ -112,15 +112,15 @@ impl<'a, R: Clock> Course<'a, R> {
                 }
                 Came::Silence => {
                     return Ok(match began {
-                        Some(began) if is_long => Brought::Long(began),
+                        Some(_) if is_long => Brought::Long,
                         Some(began) => Brought::Burst(began),
                         None => Brought::Nothing,
                     });
                 }
-                Came::Closed => return Ok(Brought::Over(Ended::Closed)),
+                Came::Closed => return Ok(Brought::Over(CarryEnd::Closed)),
             }
         }
-        Ok(Brought::Over(Ended::Spent))
+        Ok(Brought::Over(CarryEnd::Spent))
     }
 
     /// Counts a command.

@@ -2,7 +2,7 @@ use Rattle.std.proofs.Common.{◌≡◌, ◌<◌, ◌≤◌, ◌⊎◌, true, le
 use Rattle.std.specs.Prelude.{IsNone}
 use Rattle.std.specs.Io.KnownBytes.{Keeps}
 use Rattle.vdcp_lossy.specs.Carried.{sent_by}
-use Rattle.vdcp_lossy.proofs.course.Course.receive.Given as goal
+use Rattle.vdcp_lossy.proofs.session.Session.receive.Given as goal
 
 -- where bytes came, some are held, or the burst is too long
 abbrev pub invariant-listens : goal.invariant-listens
