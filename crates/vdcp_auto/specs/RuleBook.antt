@@ -25,8 +25,8 @@ pub record MayCue (mode : Mode) (list : List Item) (log : List Exchange) (c : Co
   pub cues_next : CuesItemAt list (settled mode log) c
   pub no_open_play : has_open_play log ≡ false
 
--- the log's last cue is one of the next item and was taken, nothing from it on settles, and a done
--- status stands after it, with no PLAY behind that
+-- the last cue that was sent is the next item's, and it was taken; since then nothing has settled, a
+-- done status has come, and after that no PLAY was sent
 pub record MayPlay (mode : Mode) (list : List Item) (log : List Exchange) : Type 0 where
   pub before : List Exchange
   pub cue : Exchange

@@ -7,5 +7,6 @@ mod hostile;
 mod lawful;
 mod loopback;
 mod messages;
+mod pieces;
 mod server;
 mod watching;

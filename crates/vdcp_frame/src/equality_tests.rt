@@ -23,7 +23,7 @@ fn framed(kind: u8, unit: u8, code: u8, rest: &'static [u8]) -> Message<'static>
 }
 
 #[test]
-fn messages(rt: HostRuntime) {
+fn messages_differ_by_each_part(rt: HostRuntime) {
     are_all_different(
         &rt,
         &[
@@ -43,7 +43,7 @@ fn messages(rt: HostRuntime) {
 }
 
 #[test]
-fn what_bytes_bring(rt: HostRuntime) {
+fn steps_and_ends_differ_by_each_part(rt: HostRuntime) {
     are_all_different(
         &rt,
         &[
@@ -91,7 +91,7 @@ fn what_bytes_bring(rt: HostRuntime) {
 }
 
 #[test]
-fn what_is_held(rt: HostRuntime) {
+fn what_is_held_differs_by_each_part(rt: HostRuntime) {
     let body = |count, len, total| Held::Body { count, len, total };
     are_all_different(
         &rt,

@@ -40,7 +40,7 @@ pub(crate) struct Partial {
 }
 
 impl Partial {
-    /// Takes bytes up to the end of one message or one fault, or all of them.
+    /// Takes bytes as far as the first message or fault that they complete, or else all of them.
     pub(crate) fn advance(&mut self, bytes: &[u8]) -> (usize, Found)
         requires partial { IsPartial self.old }
         ensures within { result.0 ≤ length bytes.now }

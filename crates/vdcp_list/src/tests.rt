@@ -342,13 +342,13 @@ fn unlawful_parts_are_told_and_nothing_is_written(rt: HostRuntime) -> Result<(),
 
 /// A reader of a text, at most so many bytes a read, that fails at one of its reads and works at each other.
 #[derive(Drop)]
-struct Failing<'a> {
+struct FailingReader<'a> {
     text: &'a [u8],
     size: usize,
     reads: Option<usize>,
 }
 
-impl Read for Failing<'_> {
+impl Read for FailingReader<'_> {
     fn read(&mut self, buf: &mut [u8]) -> io::Result<usize> {
         match self.reads {
             Some(0) => {
@@ -384,7 +384,7 @@ fn a_read_that_fails_is_told_of_a_list(rt: HostRuntime) -> Result<(), Fail> {
     let text = text.as_bytes();
     let reads = text.len().div_ceil(100);
     for failed in 0..2 * reads {
-        let reader = Failing {
+        let reader = FailingReader {
             text,
             size: 100,
             reads: Some(failed),
@@ -409,7 +409,7 @@ fn a_read_that_fails_is_told_of_a_catalogue(rt: HostRuntime) -> Result<(), Fail>
     let text = text.as_bytes();
     let reads = text.len().div_ceil(100);
     for failed in 0..2 * reads {
-        let reader = Failing {
+        let reader = FailingReader {
             text,
             size: 100,
             reads: Some(failed),
@@ -466,15 +466,15 @@ fn many_clips_are_read(rt: HostRuntime) -> Result<(), Fail> {
 
 /// A writer that takes a few bytes a write, fails so at one of its writes or flushes, and works at each other.
 #[derive(Drop)]
-struct Jammed {
+struct FailingWriter {
     taken: Vec<u8>,
     calls: Option<usize>,
     kind: io::ErrorKind,
 }
 
-impl Jammed {
-    fn new(alloc: Global, calls: usize, kind: io::ErrorKind) -> Jammed {
-        Jammed {
+impl FailingWriter {
+    fn new(alloc: Global, calls: usize, kind: io::ErrorKind) -> FailingWriter {
+        FailingWriter {
             taken: Vec::new(alloc),
             calls: Some(calls),
             kind,
@@ -494,7 +494,7 @@ impl Jammed {
     }
 }
 
-impl Write for Jammed {
+impl Write for FailingWriter {
     fn write(&mut self, buf: &[u8]) -> io::Result<usize> {
         self.call()?;
         let count = buf.len().min(5);
@@ -514,7 +514,7 @@ const ASRUN: &[u8] = b"0,CLIP0001\n1,\"A,B\"\n";
 fn a_write_that_fails_leaves_a_beginning(rt: HostRuntime) -> Result<(), Fail> {
     let list = read_list(rt.alloc(), b"CLIP0001\n\"A,B\"\n".as_slice(), Rate::F25)?;
     for calls in 0..8 {
-        let mut out = Jammed::new(rt.alloc(), calls, io::ErrorKind::Other);
+        let mut out = FailingWriter::new(rt.alloc(), calls, io::ErrorKind::Other);
         let written = write_asrun(rt.alloc(), &list, Rate::F25, list.len(), &mut out);
         let taken = ASRUN.len().min(5 * calls);
         assert_eq!(rt; out.taken.as_slice(), &ASRUN[..taken]);
@@ -531,7 +531,7 @@ fn a_write_that_fails_leaves_a_beginning(rt: HostRuntime) -> Result<(), Fail> {
 fn an_interrupted_write_is_made_again(rt: HostRuntime) -> Result<(), Fail> {
     let list = read_list(rt.alloc(), b"CLIP0001\n\"A,B\"\n".as_slice(), Rate::F25)?;
     for calls in 0..4 {
-        let mut out = Jammed::new(rt.alloc(), calls, io::ErrorKind::Interrupted);
+        let mut out = FailingWriter::new(rt.alloc(), calls, io::ErrorKind::Interrupted);
         write_asrun(rt.alloc(), &list, Rate::F25, list.len(), &mut out)?;
         assert_eq!(rt; out.taken.as_slice(), ASRUN);
     }

@@ -112,16 +112,14 @@ struct RunEnd<'a> {
 }
 
 impl RunEnd<'_> {
-    // Tells `out` what came of the run, and `err` what failed, and gives the exit status. What failed is
-    // told also where `out` fails.
+    // Tells `out` what came of the run, then `err` what failed, and gives the exit status.
     fn tell<W: io::Write, E: io::Write>(self, out: &mut W, err: &mut E) -> io::Result<u8>
         ensures lines { OnOk result (Appends (W.contents out.old) (W.contents out.new) (end_text self.entry)) }
         ensures faults { OnOk result (Appends (E.contents err.old) (E.contents err.new) (faults_text self.entry)) }
         ensures status { IfOk result (λ status. status ≡ run_status self.entry) }
     {
-        let written = self.write_lines(out);
+        self.write_lines(out)?;
         self.write_faults(err)?;
-        written?;
         Ok(self.status())
     }
 

@@ -179,6 +179,27 @@ own_number_is_selected = refl
 open_port_plays_nothing : sent_for opened play_bytes ≡ 0x05 ∷ 0x01 ∷ []
 open_port_plays_nothing = refl
 
+open_port_cues_nothing : sent_for opened cue_1_bytes ≡ 0x05 ∷ 0x01 ∷ []
+open_port_cues_nothing = refl
+
+open_port_stops_nothing : sent_for opened stop_bytes ≡ 0x05 ∷ 0x01 ∷ []
+open_port_stops_nothing = refl
+
+open_port_has_no_state : sent_for opened status_bytes ≡ 0x05 ∷ 0x01 ∷ []
+open_port_has_no_state = refl
+
+open_port_has_no_active_clip : sent_for opened active_bytes ≡ 0x05 ∷ 0x01 ∷ []
+open_port_has_no_active_clip = refl
+
+abbrev close_2_bytes : List ℕ
+close_2_bytes = 0x02 ∷ 0x03 ∷ 0x20 ∷ 0x21 ∷ 0x02 ∷ 0xBD ∷ []
+
+other_number_is_not_closed : sent_for (selected two_clips) close_2_bytes ≡ 0x05 ∷ 0x01 ∷ []
+other_number_is_not_closed = refl
+
+other_number_closes_nothing : after_burst (selected two_clips) close_2_bytes ≡ selected two_clips
+other_number_closes_nothing = refl
+
 -- ---- two clips are cued and aired
 
 abbrev cueing_1 : ClockedPort

@@ -14,7 +14,7 @@ use Rattle.vdcp_words.specs.declared.reply.Reply.{Reply}
 use Rattle.vdcp_words.specs.declared.reply.Reply.TheVariants.{Nak}
 use Rattle.vdcp_port.specs.Clock.{ClockedPort, answer_to, after_message, aired_by}
 
--- the answers to messages, in order, each from the port that the message before left
+-- the answers to messages, in order: each message finds the port that those before it have left
 abbrev pub answers_to : ClockedPort → List Content → List Reply
 answers_to p [] = []
 answers_to p (m ∷ ms) = option_to_list (answer_to p m) ++ answers_to (after_message p m) ms

@@ -60,7 +60,7 @@ pub fn only_play_airs()
         (after_message p m).state.cued ≡ empty }
 {}
 
-/// And such a PLAY airs it.
+/// A PLAY to a selected port whose cue is done airs the item that is cued.
 pub fn play_airs_what_is_cued()
     ensures { (p : ClockedPort) (m : Content) (item : Item) →
         asked_of p.state.unit m ≡ asked.Command command.Play → IsTrue (is_selected p.state) → p.state.cued ≡ done item →
@@ -116,7 +116,7 @@ pub fn a_command_asks_its_own_unit()
     vdcp_words::laws::written_command_is_read();
 }
 
-/// Its row is that of the command.
+/// The row of a command's message, at its own unit, is the command's.
 pub fn a_command_has_its_own_row()
     ensures { (p : ClockedPort) (c : Command) → IsWritableCommand c →
         row_at p (command_message p.state.unit c) ≡ command_row p.clips p.state c }
@@ -166,8 +166,8 @@ pub fn a_burst_is_answered_as_it_is_read()
     vdcp_frame::laws::one_reading();
 }
 
-/// The same where the streaming reader gave the messages and says how the burst ended: what is sent for the
-/// burst is what was sent for its messages, and behind it the bytes of `reply_at_end`.
+/// A burst of which the streaming reader gave the messages, and said how it ended, is answered as they are:
+/// what is sent for it is what was sent for its messages, and behind that the bytes of `reply_at_end`.
 pub fn a_burst_is_answered_as_it_ended()
     ensures sent { (p : ClockedPort) (burst : List ℕ) (ms : List Content) (ended : Ended) → AreOctets burst → ReadsAs burst ms ended →
         sent_for p burst ≡ bytes_for_all p ms ++ bytes_at_end p.state.unit ended }

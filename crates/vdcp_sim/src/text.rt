@@ -44,3 +44,6 @@ impl fmt::Display for ExchangeText {
         write!(f, "{command} -> {heard}")
     }
 }
+
+#[cfg(test)]
+mod tests;

@@ -13,7 +13,7 @@ is_plain_byte byte = nat_le 32 byte && nat_le byte 126
 abbrev pub has_edge_space : List ℕ → Bool
 has_edge_space text = nat_eq (slice_index text 0) 32 || nat_eq (slice_index text (length text - 1)) 32
 
--- one to eight bytes of 20h to 7Eh whose first and last aren't spaces
+-- one to eight printable characters of ASCII, with no space at either end
 abbrev pub is_plain : List ℕ → Bool
 is_plain text =
     nat_le 1 (length text) && nat_le (length text) 8 && list_all is_plain_byte text && not (has_edge_space text)

@@ -11,9 +11,9 @@ use arrayvec::ArrayString;
 
 /// A clip's ID: eight bytes, of any values.
 ///
-/// As text it is the bytes without the spaces at their end, where these are one to eight bytes of
-/// 20h to 7Eh and the first isn't a space; any other ID is `0x` and sixteen lower-case hexadecimal
-/// digits. So each ID has exactly one text (this profile).
+/// Its text is plain where all bytes are printable ASCII (20h to 7Eh) and the first isn't a space:
+/// the bytes up to the last that isn't a space. Else the text is `0x` with the bytes in sixteen
+/// lower-case hexadecimal digits. So an ID has one text and no other (this profile).
 #[derive(Clone, Copy, Debug, PartialEq, Eq)]
 pub struct ClipId {
     bytes: [u8; 8],
@@ -48,9 +48,9 @@ impl ClipId {
         self.bytes
     }
 
-    /// The ID of a text. The first fault that applies is given: `Empty`; for a text of 18 bytes that
-    /// begins `0x`, `BadHex` and then `HasPlainForm`; for any other text `TooLong`, `BadByte` and
-    /// then `EdgeSpace`.
+    /// The ID that has this text. A text that no ID has is refused by its first fault: `Empty`;
+    /// where it is `0x` with sixteen bytes behind it, `BadHex`, then `HasPlainForm`; where it is any
+    /// other, `TooLong`, then `BadByte`, then `EdgeSpace`.
     pub fn parse(text: &str) -> Result<ClipId, IdFault>
         ensures read { IfOk result (λ id. IsTextOf text.now (id_bytes id)) }
         ensures accepts { (id : ClipId) → IsTextOf text.now (id_bytes id) → result ≡ Ok id }

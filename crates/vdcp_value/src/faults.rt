@@ -1,9 +1,7 @@
 use std::fmt;
 use thiserror::Error;
 
-/// Why a text is no ID's. Where several hold, the first that applies is given: `Empty`; for a text
-/// of 18 bytes that begins `0x`, `BadHex` and then `HasPlainForm`; for any other text `TooLong`,
-/// `BadByte` and then `EdgeSpace`.
+/// Why no ID has a text. `ClipId::parse` says which is told where several are true.
 #[derive(Clone, Copy, Debug, PartialEq, Eq, Error)]
 pub enum IdFault {
     #[error("the id is empty")]

@@ -13,8 +13,8 @@ use crate::rate::Rate;
 use arrayvec::ArrayString;
 
 /// A lawful time code of a day at a rate: hours 0 to 23, minutes and seconds 0 to 59, frames from 0
-/// to below the rate's. At drop frame the seconds 00 with frames 00 and 01 stand only in minutes
-/// divisible by ten (SMPTE ST 12-1).
+/// to below the rate's. At drop frame second 00 has no frames 00 and 01, except in the minutes 00, 10,
+/// 20, 30, 40 and 50 (SMPTE ST 12-1).
 #[derive(Clone, Copy, Debug, PartialEq, Eq)]
 pub struct Timecode {
     rate: Rate,

@@ -52,8 +52,8 @@ pub fn written_command_is_read()
     one_command();
 }
 
-/// The message of a reply whose state byte stands exactly where bit 0 of its bitmap is set is read
-/// as that reply and as no other. If it is framed it names its unit.
+/// A reply's message is read as that reply and as no other, if it has a state byte just where bit 0
+/// of its bitmap asks for one. If it is framed it names its unit.
 pub fn written_reply_is_read()
     ensures read { (unit : ℕ) (reply : Reply) → IsWritableReply reply →
         ReadsReply (reply_message unit reply) (Ok reply) }

@@ -354,7 +354,7 @@ fn command_read_back(command: Command, unit: u8) -> Result<Command, WordFault>
     Command::read(&command.to_message(unit, &mut room))
 }
 
-/// Each reply is read back whose state byte stands exactly where bit 0 of its bitmap is set.
+/// Each reply is read back that has a state byte just where bit 0 of its bitmap asks for one.
 fn reply_read_back(reply: Reply, unit: u8) -> Result<Reply, WordFault>
     requires unit { unit ≤ 15 }
     requires state { MatchesBitmap reply }

@@ -17,7 +17,7 @@ fn are_all_different<T: PartialEq>(rt: &impl Abort, values: &[T]) {
 const ACK: Heard = Heard::Reply(Reply::Ack);
 
 #[test]
-fn exchanges(rt: HostRuntime) {
+fn exchanges_differ_by_each_part(rt: HostRuntime) {
     let refusal = Heard::Reply(Reply::Nak(0x01));
     are_all_different(&rt, &[ACK, refusal, Heard::Other]);
     are_all_different(
@@ -55,7 +55,7 @@ fn exchanges(rt: HostRuntime) {
 }
 
 #[test]
-fn outcomes(rt: HostRuntime) {
+fn outcomes_differ_by_kind_and_event(rt: HostRuntime) {
     are_all_different(
         &rt,
         &[
@@ -76,7 +76,7 @@ fn outcomes(rt: HostRuntime) {
 }
 
 #[test]
-fn phases(rt: HostRuntime) {
+fn phases_differ_by_kind_and_event(rt: HostRuntime) {
     are_all_different(&rt, &[Mode::Plain, Mode::Confirming]);
     are_all_different(
         &rt,
@@ -118,7 +118,7 @@ fn phases(rt: HostRuntime) {
 }
 
 #[test]
-fn states(rt: HostRuntime) {
+fn states_differ_by_each_part(rt: HostRuntime) {
     let start = State::start();
     let stages = [
         Stage::Ready(Phase::Open),

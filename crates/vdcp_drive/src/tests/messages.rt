@@ -10,6 +10,8 @@ pub const STATUS: &'static [u8] = &[0x02, 0x03, 0x30, 0x05, 0x01, 0xCA];
 
 pub const PLAY: &'static [u8] = &[0x02, 0x02, 0x10, 0x01, 0xEF];
 
+pub const STOP: &'static [u8] = &[0x02, 0x02, 0x10, 0x00, 0xF0];
+
 pub const CUE_1: &'static [u8] = b"\x02\x0A\x20\x24CLIP0001\xD3";
 
 pub const CUE_2: &'static [u8] = b"\x02\x0A\x20\x24CLIP0002\xD2";

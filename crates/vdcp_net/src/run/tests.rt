@@ -327,7 +327,7 @@ fn asrun_file_that_is_not_written_is_told_first(rt: HostRuntime) -> Result<(), F
     Ok(())
 }
 
-// What failed is told also where standard output fails.
+// Where standard output fails, standard error is told nothing.
 #[test]
 fn failing_call_of_a_writer_is_its_last(rt: HostRuntime) -> Result<(), Fail> {
     let list = read_list(rt.alloc(), TWO_EVENTS, Rate::F25)?;
@@ -354,7 +354,7 @@ fn failing_call_of_a_writer_is_its_last(rt: HostRuntime) -> Result<(), Fail> {
         assert!(rt; end.tell(&mut out, &mut err).is_err());
         assert_eq!(rt; out.calls, left + 1);
         assert!(rt; text.starts_with(out.bytes.as_slice()), "after {left}");
-        assert_eq!(rt; err.bytes.as_slice(), faults, "after {left}");
+        assert_eq!(rt; err.calls, 0, "after {left}");
     }
     for left in 0..told.calls {
         let mut out = Failing::new(rt.alloc(), 1000);
