@@ -1,5 +1,5 @@
 -- What is done with a burst on its way, and what the events of that leave.
-use Rattle.std.proofs.Common.{ℕ, All, ◌≡◌, ◌≤◌, ◌<◌, List, [], ◌∷◌, ◌++◌, length, take, drop, refl, arith, sym, ap, subst, ◌∙◌, true, false, Bool, Some}
+use Rattle.std.proofs.Common.{ℕ, ◌≡◌, ◌≤◌, ◌<◌, List, [], ◌∷◌, ◌++◌, length, take, drop, refl, arith, sym, ap, subst, ◌∙◌, true, false, Bool}
 use Rattle.std.proofs.lemmas.List.{append_assoc, append-nil, take-append-drop}
 use Rattle.std.proofs.lemmas.List.Elements.{All-append}
 use Rattle.std.specs.Prelude.{◌||◌}
@@ -7,9 +7,9 @@ use Rattle.vdcp_auto.specs.Heard.{heard_in, heard_first}
 use Rattle.vdcp_auto.specs.declared.phase.Mode.{Mode}
 use Rattle.vdcp_auto.specs.declared.phase.Mode.TheVariants.{Plain, Confirming}
 use Rattle.vdcp_frame.specs.Burst.{messages_of, end_of}
-use Rattle.vdcp_frame.specs.Message.{Content, Spells, Fits, AreOctets, ack, nak, spelling}
+use Rattle.vdcp_frame.specs.Message.{Content, Spells, AreOctets, ack, nak, spelling}
 use Rattle.vdcp_frame.specs.Reading.{End, Reads, SpellsAll, burst_limit}
-use Rattle.vdcp_lossy.specs.Doings.{CanBe, goes_on, receipt_message}
+use Rattle.vdcp_lossy.specs.Doings.{CanBe, goes_on}
 use Rattle.vdcp_lossy.specs.Events.{CanGoUp, answering, events_down, events_up, hearing, hearing_joined}
 use Rattle.vdcp_lossy.specs.declared.doing.Doing.{Doing}
 use Rattle.vdcp_lossy.specs.declared.doing.Doing.TheVariants as doing

@@ -1,3 +1,5 @@
 mod Goings
 mod Sending
 mod Uncarried
+mod Reading
+mod Printing

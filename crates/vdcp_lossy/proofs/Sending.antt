@@ -1,11 +1,11 @@
 -- What a wire tells that was sent, once something went on of a burst.
-use Rattle.std.proofs.Common.{ℕ, ◌≡◌, ◌⊎◌, ◌<◌, List, [], ◌∷◌, ◌++◌, refl, sym, ap, ◌∙◌, inl, inr, subst}
+use Rattle.std.proofs.Common.{ℕ, ◌≡◌, ◌⊎◌, List, [], ◌++◌, refl, sym, ap, ◌∙◌, inl, inr, subst}
 use Rattle.std.proofs.lemmas.List.{append_assoc, append-nil}
 use Rattle.std.specs.Io.KnownBytes.{Appends, Keeps}
 use Rattle.std.specs.Prelude.{Option, None, Some, OnOk, Result, Ok, Err}
 use Rattle.vdcp_drive.specs.Wires.{Told, adds_drop, adds_sent}
 use Rattle.vdcp_lossy.specs.Carried.{GoesOn, sent_by}
-use Rattle.vdcp_lossy.specs.Doings.{HasChance, MayBeDone, adds_part, goes_on, joined, part_on}
+use Rattle.vdcp_lossy.specs.Doings.{MayBeDone, adds_part, goes_on, joined, part_on}
 use Rattle.vdcp_lossy.specs.declared.doing.Chances.{Chances}
 use Rattle.vdcp_lossy.specs.declared.doing.Doing.{Doing}
 use Rattle.vdcp_lossy.specs.declared.doing.Doing.TheVariants as doing

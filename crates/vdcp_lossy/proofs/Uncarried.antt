@@ -1,6 +1,6 @@
 -- Why nothing was carried, and which status that has.
 use Rattle.std.proofs.Common.{◌≡◌, ◌⊎◌, ℕ, ◌<◌, List, inl, inr, sym, subst, ◌∙◌, arith}
-use Rattle.std.specs.Io.KnownBytes.{Appends, Keeps}
+use Rattle.std.specs.Io.KnownBytes.{Appends}
 use Rattle.std.specs.Prelude.{IfErr, OnOk, Option, Result, Ok, Err}
 use Rattle.vdcp_lossy.specs.Lossy.{IsUncarried, no_address, failed}
 use Rattle.vdcp_net.specs.Address.{IsAddress}

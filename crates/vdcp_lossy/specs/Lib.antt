@@ -3,4 +3,6 @@ pub mod Bursts
 pub mod Doings
 pub mod Events
 pub mod Carried
+pub mod Texts
+pub mod Printed
 pub mod Lossy

@@ -4,12 +4,13 @@ ghost use Rattle.vdcp_drive.specs.Wires.{FitsBuffer, adds_came, arrival_of};
 ghost use Rattle.vdcp_lossy.specs.Bursts.{HasSome};
 ghost use Rattle.vdcp_lossy.specs.Carried.{sent_by};
 ghost use Rattle.vdcp_lossy.specs.Doings.{HasChance, IsForged, MayBeDone};
+ghost use Rattle.vdcp_lossy.specs.Printed.{IsTold, no_counts, with_answer, with_command};
 
 use crate::dice::Dice;
 use crate::doing::{Burst, Doing, Way};
 use crate::lossy::LossySettings;
 use crate::tally::Tally;
-use crate::text::ReadingText;
+use crate::text::write_told;
 use std::io;
 use std::rt::Clock;
 use std::time::Instant;
@@ -58,7 +59,8 @@ pub struct Session<'a, R: Clock> {
 impl<'a, R: Clock> Session<'a, R> {
     /// Nothing came yet.
     pub fn new(clock: &'a R, settings: LossySettings) -> Self
-        ensures { result.settings ≡ settings }
+        ensures settings { result.settings ≡ settings }
+        ensures tally { result.tally ≡ no_counts }
     {
         Session {
             clock,
@@ -95,6 +97,7 @@ impl<'a, R: Clock> Session<'a, R> {
         ensures sent { OnOk result (Keeps (sent_by (W.told wire.old)) (sent_by (W.told wire.new))) }
         ensures works { OnOk result (W.failures wire.new ≡ 0) }
         ensures settings { self.new.settings ≡ self.old.settings }
+        ensures tally { self.new.tally ≡ self.old.tally }
     {
         burst.clear();
         let mut began = None;
@@ -127,16 +130,18 @@ impl<'a, R: Clock> Session<'a, R> {
     pub fn count_command(&mut self)
         ensures left { self.new.left ≡ self.old.left }
         ensures settings { self.new.settings ≡ self.old.settings }
+        ensures tally { self.new.tally ≡ with_command self.old.tally }
     {
-        self.tally.commands = self.tally.commands.saturating_add(1);
+        self.tally.count_command();
     }
 
     /// Counts an answer.
     pub fn count_answer(&mut self)
         ensures left { self.new.left ≡ self.old.left }
         ensures settings { self.new.settings ≡ self.old.settings }
+        ensures tally { self.new.tally ≡ with_answer self.old.tally }
     {
-        self.tally.answers = self.tally.answers.saturating_add(1);
+        self.tally.count_answer();
     }
 
     /// Whether it is too late for what belongs to a command that came then.
@@ -188,15 +193,14 @@ impl<'a, R: Clock> Session<'a, R> {
     ) -> Result<(), CarryFault>
         ensures left { self.new.left ≡ self.old.left }
         ensures settings { self.new.settings ≡ self.old.settings }
+        ensures told { OnOk result (IsTold way doing.now came.now self.old.tally self.new.tally (W.contents out.old) (W.contents out.new)) }
     {
-        self.tally.count(doing);
         let number = self.tally.commands;
-        let reading = ReadingText(came);
-        let written = writeln!(out, "{number} {way} {doing} {reading}");
-        if written.is_err() || out.flush().is_err() {
-            return Err(CarryFault::Writer);
+        self.tally.count(doing);
+        match write_told(number, way, doing, came, out) {
+            Ok(()) => Ok(()),
+            Err(_) => Err(CarryFault::Writer),
         }
-        Ok(())
     }
 }
 

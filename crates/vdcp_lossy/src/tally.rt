@@ -1,3 +1,7 @@
+ghost use Rattle.std.specs.Io.KnownBytes.{Appends};
+ghost use Rattle.std.specs.Prelude.{◌≡◌, OnOk};
+ghost use Rattle.vdcp_lossy.specs.Printed.{counts_text, no_counts, one_more, with_answer, with_command, with_doing};
+
 use crate::doing::Doing;
 use std::io;
 
@@ -17,7 +21,9 @@ pub struct Tally {
 
 impl Tally {
     /// Nothing came yet.
-    pub fn new() -> Tally {
+    pub fn new() -> Tally
+        ensures { result ≡ no_counts }
+    {
         Tally {
             commands: 0,
             answers: 0,
@@ -31,22 +37,39 @@ impl Tally {
         }
     }
 
+    /// Counts a command.
+    pub fn count_command(&mut self)
+        ensures { self.new ≡ with_command self.old }
+    {
+        self.commands = self.commands.saturating_add(1);
+    }
+
+    /// Counts an answer.
+    pub fn count_answer(&mut self)
+        ensures { self.new ≡ with_answer self.old }
+    {
+        self.answers = self.answers.saturating_add(1);
+    }
+
     /// Counts what was done with a burst.
-    pub fn count(&mut self, doing: &Doing) {
-        let counted = match doing {
-            Doing::Through => &mut self.through,
-            Doing::Lost => &mut self.lost,
-            Doing::Late => &mut self.late,
-            Doing::Copied => &mut self.copied,
-            Doing::Cut(_) => &mut self.cut,
-            Doing::Damaged(_) => &mut self.damaged,
-            Doing::Forged(_) => &mut self.forged,
-        };
-        *counted = counted.saturating_add(1);
+    pub fn count(&mut self, doing: &Doing)
+        ensures { self.new ≡ with_doing doing.now self.old }
+    {
+        match doing {
+            Doing::Through => add_one(&mut self.through),
+            Doing::Lost => add_one(&mut self.lost),
+            Doing::Late => add_one(&mut self.late),
+            Doing::Copied => add_one(&mut self.copied),
+            Doing::Cut(_) => add_one(&mut self.cut),
+            Doing::Damaged(_) => add_one(&mut self.damaged),
+            Doing::Forged(_) => add_one(&mut self.forged),
+        }
     }
 
     /// Writes a line for each count.
-    pub fn write<W: io::Write>(&self, out: &mut W) -> io::Result<()> {
+    pub fn write<W: io::Write>(&self, out: &mut W) -> io::Result<()>
+        ensures { OnOk result (Appends (W.contents out.old) (W.contents out.new) (counts_text self.now)) }
+    {
         let Tally {
             commands,
             answers,
@@ -68,4 +91,11 @@ impl Tally {
         writeln!(out, "damaged {damaged}")?;
         writeln!(out, "forged {forged}")
     }
+}
+
+// One more, up to the largest number.
+fn add_one(count: &mut u64)
+    ensures { count.new ≡ one_more 64 count.old }
+{
+    *count = count.saturating_add(1);
 }

@@ -6,7 +6,7 @@ use crate::doing::{Chances, Doing, Way};
 use crate::lossy::LossySettings;
 use crate::session::{CarryEnd, CarryFault, Session};
 use crate::tally::Tally;
-use crate::text::ReadingText;
+use crate::text::write_reading;
 use std::alloc::{AllocError, Global};
 use std::cell::Cell;
 use std::io::{self, Write};
@@ -335,8 +335,9 @@ fn readings_are_one_line(rt: HostRuntime) -> Result<(), Fail> {
         ),
     ];
     for (burst, text) in rows {
-        let reading = ReadingText(burst);
-        assert_eq!(rt; format!(in rt.alloc(); "{reading}")?.as_str(), text);
+        let mut line = Vec::new(rt.alloc());
+        assert!(rt; write_reading(burst, &mut line).is_ok());
+        assert_eq!(rt; line.as_slice(), text.as_bytes());
     }
     Ok(())
 }

@@ -8,4 +8,4 @@ returns-clause-whole g c =
 pub returns-clause-uncarried : goal.returns-clause-uncarried
 returns-clause-uncarried g c =
     uncarried c.carry_between.result _ _ _ _ (c.in_ok-address.address, c.in_ok-address.ensures.address)
-    (c.in_ok-server.server, c.in_ok-server.ensures.address) c.carry_between.ensures
+    (c.in_ok-server.server, c.in_ok-server.ensures.address) c.carry_between.ensures.failed

@@ -1,0 +1,53 @@
+-- What is done with a burst, as text.
+use Rattle.std.specs.Io.KnownBytes.{Appends}
+use Rattle.std.specs.List.{flat_map}
+use Rattle.std.specs.Prelude.{ℕ, true, List, [], ◌∷◌, ◌++◌, codes, decimal, map, Option}
+use Rattle.vdcp_frame.specs.Burst.{messages_of, end_of}
+use Rattle.vdcp_frame.specs.Message.{Content}
+use Rattle.vdcp_frame.specs.Reading.{End, clean, cut, fault, Reads}
+use Rattle.vdcp_lossy.specs.Doings.{receipt_message}
+use Rattle.vdcp_lossy.specs.declared.doing.Doing.{Doing}
+use Rattle.vdcp_lossy.specs.declared.doing.Doing.TheVariants as doing
+use Rattle.vdcp_lossy.specs.declared.doing.Way.{Way}
+use Rattle.vdcp_lossy.specs.declared.doing.Way.TheVariants as way
+use Rattle.vdcp_text.specs.Text.{end_text, line, message_text, shown_text}
+
+abbrev pub way_text : Way → List ℕ
+way_text way.Down = codes "down"
+way_text way.Up = codes "up"
+
+abbrev pub doing_text : Doing → List ℕ
+doing_text doing.Through = codes "through"
+doing_text doing.Lost = codes "lost"
+doing_text doing.Late = codes "late"
+doing_text doing.Copied = codes "copied"
+doing_text (doing.Cut count) = codes "cut " ++ decimal count
+doing_text (doing.Damaged bytes) = codes "damaged"
+doing_text (doing.Forged r) = codes "forged " ++ message_text (receipt_message r) ++ codes " in place of"
+
+-- the parts of a reading: each message with what it says, and the end where it isn't clean
+abbrev pub parts_of : List Content → End → List (List ℕ)
+parts_of ms clean = map (shown_text true) ms
+parts_of ms (cut count) = map (shown_text true) ms ++ end_text (cut count) ∷ []
+parts_of ms (fault which place) = map (shown_text true) ms ++ end_text (fault which place) ∷ []
+
+-- joined by `; `, and `nothing` where there is none
+abbrev pub joined_parts : List (List ℕ) → List ℕ
+joined_parts [] = codes "nothing"
+joined_parts (part ∷ parts) = part ++ flat_map (λ p. codes "; " ++ p) parts
+
+-- a burst has these messages and this end, and a writer gained the parts of that
+pub record GainsParts (burst : List ℕ) (old new : Option (List ℕ)) : Type 0 where
+  pub messages : List Content
+  pub end : End
+  pub reads : Reads burst messages end
+  pub gained : Appends old new (joined_parts (parts_of messages end))
+
+-- a burst's reading in one line
+unfoldable pub reading_line : List ℕ → List ℕ
+reading_line burst = joined_parts (parts_of (messages_of burst) (end_of burst))
+
+-- the line of what was done with a burst of an exchange with this number, which came this way
+abbrev pub told_line : ℕ → Way → Doing → List ℕ → List ℕ
+told_line number w d came =
+    line (decimal number ++ codes " " ++ way_text w ++ codes " " ++ doing_text d ++ codes " " ++ reading_line came)
