@@ -1,5 +1,6 @@
 use super::{Failure, LineFault, RowFault};
 use std::alloc::Global;
+use std::process::Abort;
 use std::test::Fail;
 
 // Each failure, with the line that tells it and its status.
@@ -91,14 +92,19 @@ fn each_failure_is_told(rt: HostRuntime) -> Result<(), Fail> {
     Ok(())
 }
 
+// A failure that this line tells equals those that it tells too, and no other.
+fn expect_equal_where_told_alike(rt: &impl Abort, failure: Failure<'_>, line: &str) {
+    for (other, told, _) in ROWS {
+        let is_equal = failure == other;
+        assert!(rt; is_equal == (line == told));
+    }
+    assert!(rt; failure != Failure::Writer);
+}
+
 #[test]
 fn failures_are_equal_where_they_are_told_alike(rt: HostRuntime) {
     for (failure, line, _) in ROWS {
-        for (other, told, _) in ROWS {
-            let is_equal = failure == other;
-            assert!(rt; is_equal == (line == told));
-        }
-        assert!(rt; failure != Failure::Writer);
+        expect_equal_where_told_alike(&rt, failure, line);
     }
     assert!(rt; Failure::Writer == Failure::Writer);
 }
