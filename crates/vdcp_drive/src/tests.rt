@@ -7,6 +7,5 @@ mod hostile;
 mod lawful;
 mod loopback;
 mod messages;
-mod pieces;
 mod server;
 mod watching;

@@ -14,7 +14,7 @@ use crate::text::write_told;
 use std::io;
 use std::rt::Clock;
 use std::time::Instant;
-use vdcp_drive::{Came, Wire, WireFault};
+use vdcp_drive::{Came, PIECE, Wire, WireFault};
 
 /// Why nothing more is carried.
 #[derive(Clone, Copy, Debug, PartialEq, Eq)]
@@ -102,7 +102,7 @@ impl<'a, R: Clock> Session<'a, R> {
         burst.clear();
         let mut began = None;
         let mut is_long = false;
-        let mut buffer = [0; 512];
+        let mut buffer = [0; PIECE];
         'listens: while self.left > 0 {
             self.left -= 1;
             match listen(wire, &mut buffer)? {
@@ -205,7 +205,7 @@ impl<'a, R: Clock> Session<'a, R> {
 }
 
 // One listen of a wire; where it fails, the line does.
-fn listen<W: Wire>(wire: &mut W, buffer: &mut [u8; 512]) -> Result<Came, CarryFault>
+fn listen<W: Wire>(wire: &mut W, buffer: &mut [u8; PIECE]) -> Result<Came, CarryFault>
     requires { W.failures wire.old ≡ 0 }
     ensures fits { IfOk result FitsBuffer }
     ensures came { IfOk result (λ c. W.told wire.new ≡ adds_came (arrival_of c buffer.new) (W.told wire.old)) }

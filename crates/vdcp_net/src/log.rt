@@ -2,7 +2,7 @@ ghost use Rattle.std.specs.Prelude.{◌≡◌, ◌<◌, ◌≤◌, length};
 
 use std::cell::Cell;
 use std::{fmt, io};
-use vdcp_drive::{Came, WatchAir, Wire, WireFault};
+use vdcp_drive::{Came, PIECE, WatchAir, Wire, WireFault};
 use vdcp_files::ItemText;
 use vdcp_frame::{Ended, Got, Reader};
 use vdcp_text::{End, MeaningText, MessageText};
@@ -88,7 +88,7 @@ impl<W: Wire, L: io::Write + Drop> Wire for Logged<'_, W, L> {
         Ok(())
     }
 
-    fn listen(&mut self, buffer: &mut [u8; 512]) -> Result<Came, WireFault> {
+    fn listen(&mut self, buffer: &mut [u8; PIECE]) -> Result<Came, WireFault> {
         let came = self.wire.listen(buffer)?;
         match came {
             Came::Bytes(n) => tell_piece(self.log, Direction::In, &mut self.came, &buffer[..n]),

@@ -1,6 +1,6 @@
 //! An automation over a wire in memory.
 use super::clips::Playlist;
-use super::messages::{ACK, CLOSE, GRANTED, IDLE, OPEN, SELECT, STATUS};
+use super::messages::{ACK, CLOSE, GRANTED, IDLE, OPEN, SELECT, STATUS, STOP};
 use crate::{AutoDriver, DriveFault, Entry, Line, Ran, ScriptWire};
 use std::alloc::{AllocError, Allocator, Global};
 use std::process::Abort;
@@ -148,8 +148,7 @@ fn operator_stops(rt: HostRuntime) -> Result<(), Fail> {
     assert_eq!(rt; driver.run(2), Ok(Ran::Spent));
     driver.stop();
     assert_eq!(rt; driver.run(100), Ok(Ran::Ended));
-    let stop = [0x02, 0x02, 0x10, 0x00, 0xF0];
-    let sent = joined(rt.alloc(), &[OPEN, &stop, CLOSE])?;
+    let sent = joined(rt.alloc(), &[OPEN, STOP, CLOSE])?;
     assert_eq!(rt; driver.wire().sent(), sent.as_slice());
     assert_eq!(rt; driver.controller().outcome(), Some(Outcome::Stopped));
     Ok(())

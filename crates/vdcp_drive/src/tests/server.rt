@@ -1,6 +1,6 @@
 //! A server over a wire in memory.
 use super::clips::Shelf;
-use super::messages::{CUE_1, IDLE, OPEN, PLAY, SELECT, STATUS};
+use super::messages::{CUE_1, IDLE, OPEN, PLAY, SELECT, STATUS, STOP};
 use crate::{DriveFault, Entry, Line, Ran, ScriptWire, Server};
 use linked_list_allocator::LocalHeap;
 use std::alloc::{AllocError, Allocator, Global};
@@ -55,6 +55,23 @@ fn opening_is_served(rt: HostRuntime) -> Result<(), Fail> {
     assert_eq!(rt; server.wire().sent(), OPENED);
     assert!(rt; server.wire().drops().is_empty());
     assert_eq!(rt; server.port().status_byte(), 0x01);
+    Ok(())
+}
+
+#[test]
+fn play_and_stop_in_two_pieces_are_acknowledged_once_each(rt: HostRuntime) -> Result<(), Fail> {
+    let mut burst = Vec::from_slice(rt.alloc(), PLAY)?;
+    burst.extend_from_slice(STOP)?;
+    for cut in 1..burst.len() {
+        let mut entries = Vec::new(rt.alloc());
+        add_burst(rt.alloc(), &mut entries, &[OPEN])?;
+        add_burst(rt.alloc(), &mut entries, &[SELECT])?;
+        add_burst(rt.alloc(), &mut entries, &[&burst[..cut], &burst[cut..]])?;
+        let mut server = server(rt.alloc(), entries)?;
+        assert_eq!(rt; server.serve(7), Ok(Ran::Spent));
+        let answers = [0x02, 0x03, 0x30, 0x81, 0x01, 0x4E, 0x04, 0x04, 0x04];
+        assert_eq!(rt; server.wire().sent(), answers.as_slice(), "cut at {cut}");
+    }
     Ok(())
 }
 

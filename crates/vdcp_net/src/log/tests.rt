@@ -2,7 +2,7 @@ use super::{AirLog, Log, Logged};
 use crate::failing::Failing;
 use std::alloc::Global;
 use std::test::Fail;
-use vdcp_drive::{Came, Entry, Ran, ScriptWire, Server, WatchAir, Wire};
+use vdcp_drive::{Came, Entry, PIECE, Ran, ScriptWire, Server, WatchAir, Wire};
 use vdcp_list::Slots;
 use vdcp_port::Port;
 use vdcp_value::{ClipId, Item, Part, Rate};
@@ -84,7 +84,7 @@ fn failed_calls_are_not_logged(rt: HostRuntime) -> Result<(), Fail> {
     let mut script = ScriptWire::new(alloc, Vec::new(alloc));
     script.fail_at(2, 1);
     let mut wire = Logged::new(script, &log);
-    assert_eq!(rt; wire.listen(&mut [0; 512])?, Came::Closed);
+    assert_eq!(rt; wire.listen(&mut [0; PIECE])?, Came::Closed);
     assert!(rt; wire.send(&[0x04]).is_err());
     drop(wire);
     drop(log);
@@ -103,7 +103,7 @@ fn dropped_bytes_are_not_logged(rt: HostRuntime) -> Result<(), Fail> {
     entries.push(Entry::Came(Vec::from_slice(alloc, &[0x04])?))?;
     let mut wire = Logged::new(ScriptWire::new(alloc, entries), &log);
     wire.drop_waiting()?;
-    assert_eq!(rt; wire.listen(&mut [0; 512])?, Came::Bytes(1));
+    assert_eq!(rt; wire.listen(&mut [0; PIECE])?, Came::Bytes(1));
     drop(wire);
     drop(log);
     assert_eq!(rt; lines.as_slice(), b"<- ack\n".as_slice());
