@@ -1,9 +1,9 @@
-use crate::options::{
+use clap::{Arg, ArgAction, Command};
+use std::alloc::{AllocError, Global};
+use vdcp_options::{
     COPY, CUE_FRAMES, CUT, DAMAGE, FORGE, LIMIT, LISTENS, LOSE, LOSSY_SILENCE, PORT, RUN_SILENCE,
     SEED, SERVE_SILENCE, TURNS, UNIT, WITHIN, number_option, rate_option,
 };
-use clap::{Arg, ArgAction, Command};
-use std::alloc::{AllocError, Global};
 
 // The program's version, and the toolchain that it is proved with.
 const VERSION: &str = "0.1.0\nrattle-kit-13b logic dac8208d650f15bf";

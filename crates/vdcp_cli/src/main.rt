@@ -8,7 +8,6 @@ ghost use Rattle.vdcp_text.specs.Failure.{failure_text};
 ghost use Rattle.vdcp_text.specs.declared.failure.Failure.TheVariants as failures;
 
 mod args;
-mod options;
 
 use clap::ArgMatches;
 use clap::error::ErrorKind;
@@ -19,6 +18,9 @@ use std::{env, io};
 use vdcp_files::{Input, do_check, do_vectors};
 use vdcp_lossy::do_lossy;
 use vdcp_net::{Showing, do_run, do_serve};
+use vdcp_options::{
+    lossy_settings_of, rate_of, run_settings_of, serve_settings_of, sim_settings_of, unit_of,
+};
 use vdcp_sim::do_sim;
 use vdcp_text::{Failure, do_make, do_show};
 
@@ -107,7 +109,7 @@ fn run_show<W: Write, E: Write>(
 fn run_make<W: Write, E: Write>(matches: &ArgMatches<'_>, out: &mut W, err: &mut E) -> u8 {
     let name = matches.get_str("COMMAND").unwrap_or("");
     let arguments = matches.get_strs("ARG").unwrap_or(&[]);
-    do_make(name, arguments, options::unit_of(matches), out, err)
+    do_make(name, arguments, unit_of(matches), out, err)
 }
 
 fn run_check<'a, W: Write, E: Write>(
@@ -118,7 +120,7 @@ fn run_check<'a, W: Write, E: Write>(
 ) -> Result<u8, Failure<'a>> {
     let list = open(rt, matches, "LIST")?;
     let catalogue = open(rt, matches, "CATALOGUE")?;
-    let rate = options::rate_of(matches);
+    let rate = rate_of(matches);
     Ok(do_check(rt.alloc(), list, catalogue, rate, out, err))
 }
 
@@ -131,7 +133,7 @@ fn run_sim<'a, W: Write, E: Write>(
     let list = open(rt, matches, "LIST")?;
     let catalogue = open(rt, matches, "CATALOGUE")?;
     let script = open(rt, matches, "SCRIPT")?;
-    let settings = options::sim_settings_of(matches);
+    let settings = sim_settings_of(matches);
     Ok(do_sim(rt.alloc(), list, catalogue, script, settings, out, err))
 }
 
@@ -143,7 +145,7 @@ fn run_serve<'a, W: Write, E: Write>(
 ) -> Result<u8, Failure<'a>> {
     let catalogue = open(rt, matches, "CATALOGUE")?;
     let address = matches.get_str("ADDR").unwrap_or("");
-    let settings = options::serve_settings_of(matches);
+    let settings = serve_settings_of(matches);
     let log = matches.get_flag("log").then_some(rt.stderr());
     Ok(do_serve(rt, address, catalogue, settings, log, out, err))
 }
@@ -156,7 +158,7 @@ fn run_run<'a, W: Write, E: Write>(
 ) -> Result<u8, Failure<'a>> {
     let list = open(rt, matches, "LIST")?;
     let address = matches.get_str("ADDR").unwrap_or("");
-    let settings = options::run_settings_of(matches);
+    let settings = run_settings_of(matches);
     let terminal = rt.stderr();
     let showing = if matches.get_flag("log") {
         Showing::Messages(terminal)
@@ -176,7 +178,7 @@ fn run_lossy<W: Write, E: Write>(
 ) -> u8 {
     let address = matches.get_str("ADDR").unwrap_or("");
     let server = matches.get_str("SERVER").unwrap_or("");
-    let settings = options::lossy_settings_of(matches);
+    let settings = lossy_settings_of(matches);
     do_lossy(rt, address, server, settings, out, err)
 }
 

@@ -5,3 +5,4 @@ mod memory;
 mod nothing;
 mod rows;
 mod scripts;
+mod seen;

@@ -1,5 +1,5 @@
 //! Courses in confirm mode.
-use super::case::{CLOSE, Case, OPEN, SELECT, SILENCE, STATUS, check_commands};
+use super::case::{CLOSE, Case, OPEN, SELECT, SILENCE, STATUS, check_commands, cue, request};
 use super::clips::{
     ABSENT, ACK, CUED, Clips, DENIED, GRANTED, IDLE, NOTHING_PLAYS, ONE, PLAYING, PRESENT, REFUSAL,
     Segment, TWO, drive, plays,
@@ -9,28 +9,42 @@ use crate::exchange::Input;
 use crate::outcome::Outcome;
 use crate::rehearsal::rehearse_confirming;
 use linked_list_allocator::LocalHeap;
+use std::process::Abort;
 use std::test::Fail;
 use vdcp_value::ClipId;
 use vdcp_words::Command;
 
+/// In confirm mode the inputs of the case give what it says.
+fn check_course(rt: &(impl Abort + AllocGlobal), case: &Case) -> Result<(), Fail> {
+    let log = rehearse_confirming(rt.alloc(), case.clips, 0x01, 3, case.inputs)?;
+    check_commands(rt, &log, case.commands);
+    let mut controller = Controller::confirming(case.clips, 0x01, 3);
+    assert!(rt; controller.is_confirming());
+    drive(&mut controller, case.inputs);
+    assert_eq!(rt; controller.outcome(), case.outcome);
+    assert_eq!(rt; controller.settled(), case.settled);
+    Ok(())
+}
+
 #[test]
-fn worked_courses(rt: HostRuntime) -> Result<(), Fail> {
-    let two_plays = plays(TWO);
-    let request_one = Command::IdRequest(ClipId::new(ONE));
-    let request_two = Command::IdRequest(ClipId::new(TWO));
-    let cue_one = Command::PlayCue(ClipId::new(ONE));
-    let cue_two = Command::PlayCue(ClipId::new(TWO));
-    let cases = [
-        Case {
-            name: "an empty list",
+fn an_empty_list_is_seen_to_close(rt: HostRuntime) -> Result<(), Fail> {
+    check_course(
+        &rt,
+        &Case {
             clips: Clips::none(),
             inputs: &[GRANTED, SILENCE, IDLE, IDLE, SILENCE],
             commands: &[OPEN, SELECT, STATUS, STATUS, CLOSE],
             outcome: Some(Outcome::Done),
             settled: 0,
         },
-        Case {
-            name: "one clip, with every receipt",
+    )
+}
+
+#[test]
+fn one_clip_airs_with_every_receipt(rt: HostRuntime) -> Result<(), Fail> {
+    check_course(
+        &rt,
+        &Case {
             clips: Clips::one(ONE),
             inputs: &[
                 GRANTED,
@@ -53,8 +67,8 @@ fn worked_courses(rt: HostRuntime) -> Result<(), Fail> {
                 OPEN,
                 SELECT,
                 STATUS,
-                request_one,
-                cue_one,
+                request(ONE),
+                cue(ONE),
                 STATUS,
                 Command::Play,
                 STATUS,
@@ -65,43 +79,58 @@ fn worked_courses(rt: HostRuntime) -> Result<(), Fail> {
             outcome: Some(Outcome::Done),
             settled: 1,
         },
-        Case {
-            name: "receipts end no request",
+    )
+}
+
+#[test]
+fn receipts_end_no_request(rt: HostRuntime) -> Result<(), Fail> {
+    check_course(
+        &rt,
+        &Case {
             clips: Clips::one(ONE),
             inputs: &[REFUSAL, ACK],
             commands: &[],
             outcome: None,
             settled: 0,
         },
-        Case {
-            name: "a stray receipt settles nothing",
+    )
+}
+
+/// What comes where a receipt of PLAY strays.
+const STRAY_RECEIPT: [Input; 18] = [
+    GRANTED,
+    ACK,
+    SILENCE,
+    IDLE,
+    PRESENT,
+    ACK,
+    SILENCE,
+    CUED,
+    ACK,
+    SILENCE,
+    CUED,
+    ACK,
+    SILENCE,
+    IDLE,
+    NOTHING_PLAYS,
+    IDLE,
+    ACK,
+    SILENCE,
+];
+
+#[test]
+fn a_stray_receipt_settles_nothing(rt: HostRuntime) -> Result<(), Fail> {
+    check_course(
+        &rt,
+        &Case {
             clips: Clips::one(ONE),
-            inputs: &[
-                GRANTED,
-                ACK,
-                SILENCE,
-                IDLE,
-                PRESENT,
-                ACK,
-                SILENCE,
-                CUED,
-                ACK,
-                SILENCE,
-                CUED,
-                ACK,
-                SILENCE,
-                IDLE,
-                NOTHING_PLAYS,
-                IDLE,
-                ACK,
-                SILENCE,
-            ],
+            inputs: &STRAY_RECEIPT,
             commands: &[
                 OPEN,
                 SELECT,
                 STATUS,
-                request_one,
-                cue_one,
+                request(ONE),
+                cue(ONE),
                 STATUS,
                 Command::Play,
                 STATUS,
@@ -114,8 +143,14 @@ fn worked_courses(rt: HostRuntime) -> Result<(), Fail> {
             outcome: Some(Outcome::Done),
             settled: 1,
         },
-        Case {
-            name: "two lost cues are under the limit",
+    )
+}
+
+#[test]
+fn two_lost_cues_are_under_the_limit(rt: HostRuntime) -> Result<(), Fail> {
+    check_course(
+        &rt,
+        &Case {
             clips: Clips::one(ONE),
             inputs: &[
                 GRANTED, SILENCE, IDLE, PRESENT, SILENCE, IDLE, SILENCE, IDLE,
@@ -124,17 +159,23 @@ fn worked_courses(rt: HostRuntime) -> Result<(), Fail> {
                 OPEN,
                 SELECT,
                 STATUS,
-                request_one,
-                cue_one,
+                request(ONE),
+                cue(ONE),
                 STATUS,
-                cue_one,
+                cue(ONE),
                 STATUS,
             ],
             outcome: None,
             settled: 0,
         },
-        Case {
-            name: "three lost cues are a refusal",
+    )
+}
+
+#[test]
+fn three_lost_cues_are_a_refusal(rt: HostRuntime) -> Result<(), Fail> {
+    check_course(
+        &rt,
+        &Case {
             clips: Clips::one(ONE),
             inputs: &[
                 GRANTED, SILENCE, IDLE, PRESENT, SILENCE, IDLE, SILENCE, IDLE, SILENCE, IDLE,
@@ -143,73 +184,94 @@ fn worked_courses(rt: HostRuntime) -> Result<(), Fail> {
                 OPEN,
                 SELECT,
                 STATUS,
-                request_one,
-                cue_one,
+                request(ONE),
+                cue(ONE),
                 STATUS,
-                cue_one,
+                cue(ONE),
                 STATUS,
-                cue_one,
+                cue(ONE),
                 STATUS,
             ],
             outcome: Some(Outcome::Refused(0)),
             settled: 0,
         },
-        Case {
-            name: "each event has its own tries",
+    )
+}
+
+/// What comes where two cues of each of two events are lost.
+const OWN_TRIES: [Input; 18] = [
+    GRANTED,
+    SILENCE,
+    IDLE,
+    PRESENT,
+    SILENCE,
+    IDLE,
+    SILENCE,
+    IDLE,
+    SILENCE,
+    CUED,
+    SILENCE,
+    PLAYING,
+    NOTHING_PLAYS,
+    PRESENT,
+    SILENCE,
+    IDLE,
+    SILENCE,
+    IDLE,
+];
+
+#[test]
+fn each_event_has_its_own_tries(rt: HostRuntime) -> Result<(), Fail> {
+    check_course(
+        &rt,
+        &Case {
             clips: Clips::two(ONE, TWO),
-            inputs: &[
-                GRANTED,
-                SILENCE,
-                IDLE,
-                PRESENT,
-                SILENCE,
-                IDLE,
-                SILENCE,
-                IDLE,
-                SILENCE,
-                CUED,
-                SILENCE,
-                PLAYING,
-                NOTHING_PLAYS,
-                PRESENT,
-                SILENCE,
-                IDLE,
-                SILENCE,
-                IDLE,
-            ],
+            inputs: &OWN_TRIES,
             commands: &[
                 OPEN,
                 SELECT,
                 STATUS,
-                request_one,
-                cue_one,
+                request(ONE),
+                cue(ONE),
                 STATUS,
-                cue_one,
+                cue(ONE),
                 STATUS,
-                cue_one,
+                cue(ONE),
                 STATUS,
                 Command::Play,
                 STATUS,
                 Command::ActiveId,
-                request_two,
-                cue_two,
+                request(TWO),
+                cue(TWO),
                 STATUS,
-                cue_two,
+                cue(TWO),
                 STATUS,
             ],
             outcome: None,
             settled: 1,
         },
-        Case {
-            name: "three unanswered requests lose the port",
+    )
+}
+
+#[test]
+fn three_unanswered_requests_lose_the_port(rt: HostRuntime) -> Result<(), Fail> {
+    check_course(
+        &rt,
+        &Case {
             clips: Clips::one(ONE),
             inputs: &[SILENCE, SILENCE, SILENCE],
             commands: &[OPEN, OPEN, OPEN],
             outcome: Some(Outcome::Lost),
             settled: 0,
         },
-        Case {
-            name: "three times it isn't seen whether the port is selected",
+    )
+}
+
+#[test]
+fn a_selection_not_seen_three_times_loses_the_port(rt: HostRuntime) -> Result<(), Fail> {
+    check_course(
+        &rt,
+        &Case {
             clips: Clips::one(ONE),
             inputs: &[
                 GRANTED, SILENCE, SILENCE, SILENCE, SILENCE, SILENCE, SILENCE,
@@ -218,34 +280,60 @@ fn worked_courses(rt: HostRuntime) -> Result<(), Fail> {
             outcome: Some(Outcome::Lost),
             settled: 0,
         },
-        Case {
-            name: "the port is denied",
+    )
+}
+
+#[test]
+fn the_port_is_denied(rt: HostRuntime) -> Result<(), Fail> {
+    check_course(
+        &rt,
+        &Case {
             clips: Clips::one(ONE),
             inputs: &[DENIED],
             commands: &[OPEN],
             outcome: Some(Outcome::Denied),
             settled: 0,
         },
-        Case {
-            name: "a missing clip ends the list",
+    )
+}
+
+#[test]
+fn a_missing_clip_ends_the_list(rt: HostRuntime) -> Result<(), Fail> {
+    check_course(
+        &rt,
+        &Case {
             clips: Clips::one(ONE),
             inputs: &[GRANTED, SILENCE, IDLE, ABSENT],
-            commands: &[OPEN, SELECT, STATUS, request_one],
+            commands: &[OPEN, SELECT, STATUS, request(ONE)],
             outcome: Some(Outcome::Missing(0)),
             settled: 0,
         },
-        Case {
-            name: "another clip plays",
+    )
+}
+
+#[test]
+fn another_clip_plays(rt: HostRuntime) -> Result<(), Fail> {
+    check_course(
+        &rt,
+        &Case {
             clips: Clips::one(ONE),
             inputs: &[
-                GRANTED, SILENCE, IDLE, PRESENT, SILENCE, CUED, SILENCE, IDLE, two_plays,
+                GRANTED,
+                SILENCE,
+                IDLE,
+                PRESENT,
+                SILENCE,
+                CUED,
+                SILENCE,
+                IDLE,
+                plays(TWO),
             ],
             commands: &[
                 OPEN,
                 SELECT,
                 STATUS,
-                request_one,
-                cue_one,
+                request(ONE),
+                cue(ONE),
                 STATUS,
                 Command::Play,
                 STATUS,
@@ -254,8 +342,14 @@ fn worked_courses(rt: HostRuntime) -> Result<(), Fail> {
             outcome: Some(Outcome::Foreign(0)),
             settled: 1,
         },
-        Case {
-            name: "a stop while a play is awaited",
+    )
+}
+
+#[test]
+fn a_stop_while_a_play_is_awaited(rt: HostRuntime) -> Result<(), Fail> {
+    check_course(
+        &rt,
+        &Case {
             clips: Clips::one(ONE),
             inputs: &[
                 GRANTED,
@@ -274,8 +368,8 @@ fn worked_courses(rt: HostRuntime) -> Result<(), Fail> {
                 OPEN,
                 SELECT,
                 STATUS,
-                request_one,
-                cue_one,
+                request(ONE),
+                cue(ONE),
                 STATUS,
                 Command::Play,
                 Command::Stop,
@@ -284,25 +378,21 @@ fn worked_courses(rt: HostRuntime) -> Result<(), Fail> {
             outcome: Some(Outcome::Stopped),
             settled: 0,
         },
-        Case {
-            name: "a stop while the stop is awaited",
+    )
+}
+
+#[test]
+fn a_stop_while_the_stop_is_awaited(rt: HostRuntime) -> Result<(), Fail> {
+    check_course(
+        &rt,
+        &Case {
             clips: Clips::one(ONE),
             inputs: &[Input::Stop, ACK, Input::Stop, SILENCE, SILENCE],
             commands: &[Command::Stop, CLOSE],
             outcome: Some(Outcome::Stopped),
             settled: 0,
         },
-    ];
-    for case in &cases {
-        let log = rehearse_confirming(rt.alloc(), case.clips, 0x01, 3, case.inputs)?;
-        check_commands(&rt, &log, case.commands, case.name);
-        let mut controller = Controller::confirming(case.clips, 0x01, 3);
-        assert!(rt; controller.is_confirming());
-        drive(&mut controller, case.inputs);
-        assert_eq!(rt; controller.outcome(), case.outcome, "{}", case.name);
-        assert_eq!(rt; controller.settled(), case.settled, "{}", case.name);
-    }
-    Ok(())
+    )
 }
 
 #[test]
@@ -318,7 +408,7 @@ fn a_refused_part(rt: HostRuntime) -> Result<(), Fail> {
     let commands = [
         OPEN, SELECT, STATUS, request, cue, STATUS, cue, STATUS, cue, STATUS,
     ];
-    check_commands(&rt, &log, &commands, "a refused part");
+    check_commands(&rt, &log, &commands);
     Ok(())
 }
 

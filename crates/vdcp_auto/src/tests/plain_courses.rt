@@ -1,5 +1,5 @@
 //! Courses in plain mode.
-use super::case::{CLOSE, Case, OPEN, SELECT, SILENCE, STATUS, check_commands};
+use super::case::{CLOSE, Case, OPEN, SELECT, SILENCE, STATUS, check_commands, cue, request};
 use super::clips::{
     ABSENT, ACK, CUED, CUED_AND_PLAYING, Clips, DENIED, GRANTED, IDLE, NINE, NO_STATE,
     NOTHING_PLAYS, ONE, PLAYING, PRESENT, REFUSAL, Segment, TWO, UNREAD, drive, plays,
@@ -9,57 +9,72 @@ use crate::exchange::{Exchange, Heard, Input};
 use crate::outcome::Outcome;
 use crate::rehearsal::rehearse;
 use linked_list_allocator::LocalHeap;
+use std::process::Abort;
 use std::test::Fail;
 use vdcp_value::ClipId;
 use vdcp_words::{Command, Reply};
 
+/// In plain mode the inputs of the case give what it says.
+fn check_course(rt: &(impl Abort + AllocGlobal), case: &Case) -> Result<(), Fail> {
+    let log = rehearse(rt.alloc(), case.clips, 0x01, 3, case.inputs)?;
+    check_commands(rt, &log, case.commands);
+    let mut controller = Controller::new(case.clips, 0x01, 3);
+    assert!(rt; !controller.is_confirming());
+    drive(&mut controller, case.inputs);
+    assert_eq!(rt; controller.outcome(), case.outcome);
+    assert_eq!(rt; controller.settled(), case.settled);
+    Ok(())
+}
+
 #[test]
-fn worked_courses(rt: HostRuntime) -> Result<(), Fail> {
-    let one_plays = plays(ONE);
-    let two_plays = plays(TWO);
-    let request_one = Command::IdRequest(ClipId::new(ONE));
-    let request_two = Command::IdRequest(ClipId::new(TWO));
-    let request_nine = Command::IdRequest(ClipId::new(NINE));
-    let cue_one = Command::PlayCue(ClipId::new(ONE));
-    let cue_two = Command::PlayCue(ClipId::new(TWO));
-    let cases = [
-        Case {
-            name: "an empty list closes at once",
+fn an_empty_list_closes_at_once(rt: HostRuntime) -> Result<(), Fail> {
+    check_course(
+        &rt,
+        &Case {
             clips: Clips::none(),
             inputs: &[GRANTED, ACK, IDLE, ACK],
             commands: &[OPEN, SELECT, STATUS, CLOSE],
             outcome: Some(Outcome::Done),
             settled: 0,
         },
-        Case {
-            name: "two clips air one after another",
+    )
+}
+
+/// What comes where two clips air.
+const TWO_CLIPS: [Input; 14] = [
+    GRANTED,
+    ACK,
+    PRESENT,
+    ACK,
+    CUED,
+    ACK,
+    NOTHING_PLAYS,
+    PRESENT,
+    ACK,
+    CUED,
+    ACK,
+    NOTHING_PLAYS,
+    IDLE,
+    ACK,
+];
+
+#[test]
+fn two_clips_air_one_after_another(rt: HostRuntime) -> Result<(), Fail> {
+    check_course(
+        &rt,
+        &Case {
             clips: Clips::two(ONE, TWO),
-            inputs: &[
-                GRANTED,
-                ACK,
-                PRESENT,
-                ACK,
-                CUED,
-                ACK,
-                NOTHING_PLAYS,
-                PRESENT,
-                ACK,
-                CUED,
-                ACK,
-                NOTHING_PLAYS,
-                IDLE,
-                ACK,
-            ],
+            inputs: &TWO_CLIPS,
             commands: &[
                 OPEN,
                 SELECT,
-                request_one,
-                cue_one,
+                request(ONE),
+                cue(ONE),
                 STATUS,
                 Command::Play,
                 Command::ActiveId,
-                request_two,
-                cue_two,
+                request(TWO),
+                cue(TWO),
                 STATUS,
                 Command::Play,
                 Command::ActiveId,
@@ -69,15 +84,21 @@ fn worked_courses(rt: HostRuntime) -> Result<(), Fail> {
             outcome: Some(Outcome::Done),
             settled: 2,
         },
-        Case {
-            name: "another clip plays",
+    )
+}
+
+#[test]
+fn another_clip_plays(rt: HostRuntime) -> Result<(), Fail> {
+    check_course(
+        &rt,
+        &Case {
             clips: Clips::one(ONE),
-            inputs: &[GRANTED, ACK, PRESENT, ACK, CUED, ACK, two_plays],
+            inputs: &[GRANTED, ACK, PRESENT, ACK, CUED, ACK, plays(TWO)],
             commands: &[
                 OPEN,
                 SELECT,
-                request_one,
-                cue_one,
+                request(ONE),
+                cue(ONE),
                 STATUS,
                 Command::Play,
                 Command::ActiveId,
@@ -85,31 +106,49 @@ fn worked_courses(rt: HostRuntime) -> Result<(), Fail> {
             outcome: Some(Outcome::Foreign(0)),
             settled: 1,
         },
-        Case {
-            name: "the cue is gone",
+    )
+}
+
+#[test]
+fn the_cue_is_gone(rt: HostRuntime) -> Result<(), Fail> {
+    check_course(
+        &rt,
+        &Case {
             clips: Clips::one(ONE),
             inputs: &[GRANTED, ACK, PRESENT, ACK, IDLE],
-            commands: &[OPEN, SELECT, request_one, cue_one, STATUS],
+            commands: &[OPEN, SELECT, request(ONE), cue(ONE), STATUS],
             outcome: Some(Outcome::Strange(0)),
             settled: 0,
         },
-        Case {
-            name: "the cue is refused",
+    )
+}
+
+#[test]
+fn the_cue_is_refused(rt: HostRuntime) -> Result<(), Fail> {
+    check_course(
+        &rt,
+        &Case {
             clips: Clips::one(ONE),
             inputs: &[GRANTED, ACK, PRESENT, REFUSAL],
-            commands: &[OPEN, SELECT, request_one, cue_one],
+            commands: &[OPEN, SELECT, request(ONE), cue(ONE)],
             outcome: Some(Outcome::Refused(0)),
             settled: 0,
         },
-        Case {
-            name: "an unread play is probed and sent again",
+    )
+}
+
+#[test]
+fn an_unread_play_is_probed_and_sent_again(rt: HostRuntime) -> Result<(), Fail> {
+    check_course(
+        &rt,
+        &Case {
             clips: Clips::one(ONE),
             inputs: &[GRANTED, ACK, PRESENT, ACK, CUED, UNREAD, CUED, ACK],
             commands: &[
                 OPEN,
                 SELECT,
-                request_one,
-                cue_one,
+                request(ONE),
+                cue(ONE),
                 STATUS,
                 Command::Play,
                 STATUS,
@@ -118,62 +157,91 @@ fn worked_courses(rt: HostRuntime) -> Result<(), Fail> {
             outcome: None,
             settled: 1,
         },
-        Case {
-            name: "silences under the limit",
+    )
+}
+
+#[test]
+fn silences_under_the_limit_send_again(rt: HostRuntime) -> Result<(), Fail> {
+    check_course(
+        &rt,
+        &Case {
             clips: Clips::one(ONE),
             inputs: &[SILENCE, SILENCE, GRANTED, SILENCE, SILENCE],
             commands: &[OPEN, OPEN, OPEN, SELECT, SELECT],
             outcome: None,
             settled: 0,
         },
-        Case {
-            name: "the port is denied",
+    )
+}
+
+#[test]
+fn the_port_is_denied(rt: HostRuntime) -> Result<(), Fail> {
+    check_course(
+        &rt,
+        &Case {
             clips: Clips::one(ONE),
             inputs: &[DENIED],
             commands: &[OPEN],
             outcome: Some(Outcome::Denied),
             settled: 0,
         },
-        Case {
-            name: "a state without a byte is no answer",
+    )
+}
+
+#[test]
+fn a_state_without_a_byte_is_no_answer(rt: HostRuntime) -> Result<(), Fail> {
+    check_course(
+        &rt,
+        &Case {
             clips: Clips::none(),
             inputs: &[GRANTED, NO_STATE, ACK],
             commands: &[OPEN, SELECT, SELECT],
             outcome: None,
             settled: 0,
         },
-        Case {
-            name: "a lost play is sent again",
+    )
+}
+
+/// What comes where a PLAY is lost.
+fn lost_play() -> [Input; 17] {
+    [
+        GRANTED,
+        ACK,
+        PRESENT,
+        ACK,
+        CUED,
+        ACK,
+        plays(ONE),
+        PRESENT,
+        ACK,
+        Input::Take,
+        CUED_AND_PLAYING,
+        SILENCE,
+        CUED_AND_PLAYING,
+        ACK,
+        NOTHING_PLAYS,
+        IDLE,
+        ACK,
+    ]
+}
+
+#[test]
+fn a_lost_play_is_sent_again(rt: HostRuntime) -> Result<(), Fail> {
+    check_course(
+        &rt,
+        &Case {
             clips: Clips::two(ONE, ONE),
-            inputs: &[
-                GRANTED,
-                ACK,
-                PRESENT,
-                ACK,
-                CUED,
-                ACK,
-                one_plays,
-                PRESENT,
-                ACK,
-                Input::Take,
-                CUED_AND_PLAYING,
-                SILENCE,
-                CUED_AND_PLAYING,
-                ACK,
-                NOTHING_PLAYS,
-                IDLE,
-                ACK,
-            ],
+            inputs: &lost_play(),
             commands: &[
                 OPEN,
                 SELECT,
-                request_one,
-                cue_one,
+                request(ONE),
+                cue(ONE),
                 STATUS,
                 Command::Play,
                 Command::ActiveId,
-                request_one,
-                cue_one,
+                request(ONE),
+                cue(ONE),
                 STATUS,
                 Command::Play,
                 STATUS,
@@ -185,36 +253,45 @@ fn worked_courses(rt: HostRuntime) -> Result<(), Fail> {
             outcome: Some(Outcome::Done),
             settled: 2,
         },
-        Case {
-            name: "a lost receipt of play is settled by a status",
+    )
+}
+
+/// What comes where a PLAY is executed and its receipt lost.
+const LOST_RECEIPT: [Input; 15] = [
+    GRANTED,
+    ACK,
+    PRESENT,
+    ACK,
+    CUED,
+    ACK,
+    NOTHING_PLAYS,
+    PRESENT,
+    ACK,
+    CUED,
+    SILENCE,
+    PLAYING,
+    NOTHING_PLAYS,
+    IDLE,
+    ACK,
+];
+
+#[test]
+fn a_lost_receipt_of_play_is_settled_by_a_status(rt: HostRuntime) -> Result<(), Fail> {
+    check_course(
+        &rt,
+        &Case {
             clips: Clips::two(ONE, ONE),
-            inputs: &[
-                GRANTED,
-                ACK,
-                PRESENT,
-                ACK,
-                CUED,
-                ACK,
-                NOTHING_PLAYS,
-                PRESENT,
-                ACK,
-                CUED,
-                SILENCE,
-                PLAYING,
-                NOTHING_PLAYS,
-                IDLE,
-                ACK,
-            ],
+            inputs: &LOST_RECEIPT,
             commands: &[
                 OPEN,
                 SELECT,
-                request_one,
-                cue_one,
+                request(ONE),
+                cue(ONE),
                 STATUS,
                 Command::Play,
                 Command::ActiveId,
-                request_one,
-                cue_one,
+                request(ONE),
+                cue(ONE),
                 STATUS,
                 Command::Play,
                 STATUS,
@@ -225,8 +302,14 @@ fn worked_courses(rt: HostRuntime) -> Result<(), Fail> {
             outcome: Some(Outcome::Done),
             settled: 2,
         },
-        Case {
-            name: "an executed play that heard a fault is settled by a status",
+    )
+}
+
+#[test]
+fn an_executed_play_that_heard_a_fault_is_settled_by_a_status(rt: HostRuntime) -> Result<(), Fail> {
+    check_course(
+        &rt,
+        &Case {
             clips: Clips::one(ONE),
             inputs: &[
                 GRANTED,
@@ -243,8 +326,8 @@ fn worked_courses(rt: HostRuntime) -> Result<(), Fail> {
             commands: &[
                 OPEN,
                 SELECT,
-                request_one,
-                cue_one,
+                request(ONE),
+                cue(ONE),
                 STATUS,
                 Command::Play,
                 STATUS,
@@ -255,41 +338,65 @@ fn worked_courses(rt: HostRuntime) -> Result<(), Fail> {
             outcome: Some(Outcome::Done),
             settled: 1,
         },
-        Case {
-            name: "a missing clip ends the list",
+    )
+}
+
+#[test]
+fn a_missing_clip_ends_the_list(rt: HostRuntime) -> Result<(), Fail> {
+    check_course(
+        &rt,
+        &Case {
             clips: Clips::two(ONE, NINE),
             inputs: &[GRANTED, ACK, PRESENT, ACK, CUED, ACK, NOTHING_PLAYS, ABSENT],
             commands: &[
                 OPEN,
                 SELECT,
-                request_one,
-                cue_one,
+                request(ONE),
+                cue(ONE),
                 STATUS,
                 Command::Play,
                 Command::ActiveId,
-                request_nine,
+                request(NINE),
             ],
             outcome: Some(Outcome::Missing(1)),
             settled: 1,
         },
-        Case {
-            name: "two silences are under the limit",
+    )
+}
+
+#[test]
+fn two_silences_are_under_the_limit(rt: HostRuntime) -> Result<(), Fail> {
+    check_course(
+        &rt,
+        &Case {
             clips: Clips::one(ONE),
             inputs: &[SILENCE, SILENCE],
             commands: &[OPEN, OPEN],
             outcome: None,
             settled: 0,
         },
-        Case {
-            name: "three silences lose the port",
+    )
+}
+
+#[test]
+fn three_silences_lose_the_port(rt: HostRuntime) -> Result<(), Fail> {
+    check_course(
+        &rt,
+        &Case {
             clips: Clips::one(ONE),
             inputs: &[SILENCE, SILENCE, SILENCE, SILENCE],
             commands: &[OPEN, OPEN, OPEN],
             outcome: Some(Outcome::Lost),
             settled: 0,
         },
-        Case {
-            name: "a clip airs over the last one after a take",
+    )
+}
+
+#[test]
+fn a_clip_airs_over_the_last_one_after_a_take(rt: HostRuntime) -> Result<(), Fail> {
+    check_course(
+        &rt,
+        &Case {
             clips: Clips::two(ONE, TWO),
             inputs: &[
                 GRANTED,
@@ -298,7 +405,7 @@ fn worked_courses(rt: HostRuntime) -> Result<(), Fail> {
                 ACK,
                 CUED,
                 ACK,
-                one_plays,
+                plays(ONE),
                 PRESENT,
                 ACK,
                 CUED_AND_PLAYING,
@@ -309,13 +416,13 @@ fn worked_courses(rt: HostRuntime) -> Result<(), Fail> {
             commands: &[
                 OPEN,
                 SELECT,
-                request_one,
-                cue_one,
+                request(ONE),
+                cue(ONE),
                 STATUS,
                 Command::Play,
                 Command::ActiveId,
-                request_two,
-                cue_two,
+                request(TWO),
+                cue(TWO),
                 STATUS,
                 STATUS,
                 Command::Play,
@@ -323,33 +430,35 @@ fn worked_courses(rt: HostRuntime) -> Result<(), Fail> {
             outcome: None,
             settled: 2,
         },
-        Case {
-            name: "a stop is obeyed at once",
+    )
+}
+
+#[test]
+fn a_stop_is_obeyed_at_once(rt: HostRuntime) -> Result<(), Fail> {
+    check_course(
+        &rt,
+        &Case {
             clips: Clips::one(ONE),
             inputs: &[GRANTED, ACK, Input::Stop, ACK, ACK],
             commands: &[OPEN, SELECT, Command::Stop, CLOSE],
             outcome: Some(Outcome::Stopped),
             settled: 0,
         },
-        Case {
-            name: "a refusal is an answer, behind which silences count anew",
+    )
+}
+
+#[test]
+fn silences_count_anew_behind_a_refusal(rt: HostRuntime) -> Result<(), Fail> {
+    check_course(
+        &rt,
+        &Case {
             clips: Clips::one(ONE),
             inputs: &[Input::Stop, SILENCE, SILENCE, REFUSAL, SILENCE, SILENCE],
             commands: &[Command::Stop, Command::Stop, Command::Stop, CLOSE, CLOSE],
             outcome: None,
             settled: 0,
         },
-    ];
-    for case in &cases {
-        let log = rehearse(rt.alloc(), case.clips, 0x01, 3, case.inputs)?;
-        check_commands(&rt, &log, case.commands, case.name);
-        let mut controller = Controller::new(case.clips, 0x01, 3);
-        assert!(rt; !controller.is_confirming());
-        drive(&mut controller, case.inputs);
-        assert_eq!(rt; controller.outcome(), case.outcome, "{}", case.name);
-        assert_eq!(rt; controller.settled(), case.settled, "{}", case.name);
-    }
-    Ok(())
+    )
 }
 
 #[test]
@@ -391,7 +500,7 @@ fn a_refused_part(rt: HostRuntime) -> Result<(), Fail> {
     let log = rehearse(rt.alloc(), Segment::new(id), 0x01, 3, &inputs)?;
     let cue = Command::CueData(id, [0x00, 0x08, 0x00, 0x00], [0x00, 0x03, 0x00, 0x00]);
     let commands = [OPEN, SELECT, Command::IdRequest(id), cue];
-    check_commands(&rt, &log, &commands, "a refused part");
+    check_commands(&rt, &log, &commands);
     Ok(())
 }
 
@@ -406,15 +515,27 @@ fn a_stop_while_play_is_awaited(rt: HostRuntime) {
         heard: None,
     };
     assert_eq!(rt; controller.receive(None), Some(silent));
+    check_stopping(&rt, &mut controller);
+    check_stopped(&rt, &mut controller);
+}
+
+/// A controller that obeys a stop sends STOP and CLOSE.
+fn check_stopping(rt: &impl Abort, controller: &mut Controller<Clips>) {
     assert_eq!(rt; controller.tick(), Some(Command::Stop));
     controller.hear(&Heard::Reply(Reply::Ack));
     assert_eq!(rt; controller.tick(), Some(CLOSE));
     controller.hear(&Heard::Reply(Reply::Ack));
-    assert_eq!(rt; controller.outcome(), Some(Outcome::Stopped));
-    assert_eq!(rt; controller.settled(), 0);
+}
+
+/// A controller that was stopped before its first event stays so, also after another stop.
+fn check_stopped(rt: &impl Abort, controller: &mut Controller<Clips>) {
+    let stopped = Some(Outcome::Stopped);
+    assert_eq!(rt; (controller.outcome(), controller.settled()), (stopped, 0));
     controller.stop();
-    assert_eq!(rt; controller.outcome(), Some(Outcome::Stopped));
-    assert!(rt; !controller.is_ready());
+    assert_eq!(rt;
+        (controller.outcome(), controller.is_ready()),
+        (stopped, false)
+    );
     assert_eq!(rt; controller.tick(), None);
 }
 

@@ -5,6 +5,7 @@ use super::clips::{
 use crate::controller::Controller;
 use crate::exchange::Input;
 use crate::source::Source;
+use std::process::Abort;
 use vdcp_value::ClipId;
 use vdcp_words::Command;
 
@@ -42,17 +43,27 @@ fn stop_in_each_phase(rt: HostRuntime) {
         in_phase("HaltClose", &[Input::Stop, ACK], close, close),
     ];
     for case in &cases {
-        let mut controller = Controller::new(Clips::one(ONE), 0x01, 3);
-        drive(&mut controller, case.inputs);
-        assert_eq!(rt; controller.tick(), Some(case.command), "{}", case.phase);
-        assert!(rt; controller.awaiting());
-        assert_eq!(rt; controller.awaited(), Some(case.command), "{}", case.phase);
-
-        let mut other = Controller::new(Clips::one(ONE), 0x01, 3);
-        drive(&mut other, case.inputs);
-        other.stop();
-        assert_eq!(rt; other.tick(), Some(case.stopped), "{}", case.phase);
+        check_sent(&rt, case);
+        check_sent_after_a_stop(&rt, case);
     }
+}
+
+/// The phase sends its command, and awaits what comes of it.
+fn check_sent(rt: &impl Abort, case: &InPhase) {
+    let mut controller = Controller::new(Clips::one(ONE), 0x01, 3);
+    drive(&mut controller, case.inputs);
+    let sent = Some(case.command);
+    assert_eq!(rt; controller.tick(), sent, "{}", case.phase);
+    assert!(rt; controller.awaiting());
+    assert_eq!(rt; controller.awaited(), sent, "{}", case.phase);
+}
+
+/// Where the operator stops in the phase, it sends what it has to send then.
+fn check_sent_after_a_stop(rt: &impl Abort, case: &InPhase) {
+    let mut controller = Controller::new(Clips::one(ONE), 0x01, 3);
+    drive(&mut controller, case.inputs);
+    controller.stop();
+    assert_eq!(rt; controller.tick(), Some(case.stopped), "{}", case.phase);
 }
 
 fn in_phase<'a>(
@@ -94,23 +105,24 @@ fn a_wish_to_stop_in_drain_holds_in_close(rt: HostRuntime) {
 #[test]
 fn a_wish_to_take_holds_until_play_is_sent(rt: HostRuntime) {
     for place in 0..5 {
-        let mut controller = Controller::new(Clips::two(ONE, TWO), 0x01, 3);
-        drive(&mut controller, &CUE[..place]);
-        controller.take();
-        drive(&mut controller, &CUE[place..4]);
-        drive(&mut controller, &[CUED_AND_PLAYING]);
-        assert_eq!(rt; controller.tick(), Some(Command::Play), "after {place}");
-
-        drive(
-            &mut controller,
-            &[ACK, plays(ONE), PRESENT, ACK, CUED_AND_PLAYING],
-        );
-        assert_eq!(rt;
-            controller.tick(),
-            Some(Command::Status(0x01)),
-            "after {place}"
-        );
+        check_take(&rt, &CUE[..place], &CUE[place..4]);
     }
+}
+
+/// A take between these inputs holds for the first clip, and no longer for the second.
+fn check_take(rt: &impl Abort, before: &[Input], behind: &[Input]) {
+    let place = before.len();
+    let mut controller = Controller::new(Clips::two(ONE, TWO), 0x01, 3);
+    drive(&mut controller, before);
+    controller.take();
+    drive(&mut controller, behind);
+    drive(&mut controller, &[CUED_AND_PLAYING]);
+    assert_eq!(rt; controller.tick(), Some(Command::Play), "after {place}");
+
+    let second = [ACK, plays(ONE), PRESENT, ACK, CUED_AND_PLAYING];
+    drive(&mut controller, &second);
+    let status = Some(Command::Status(0x01));
+    assert_eq!(rt; controller.tick(), status, "after {place}");
 }
 
 #[test]

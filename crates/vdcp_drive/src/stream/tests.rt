@@ -4,6 +4,7 @@ use std::alloc::Global;
 use std::cell::Cell;
 use std::io::{self, ErrorKind, Read, Write};
 use std::net::{Ipv4Addr, OpenStream, SocketAddr, TcpListener, TcpStream};
+use std::process::Abort;
 use std::test::Fail;
 use std::time::{Duration, Instant};
 
@@ -65,12 +66,18 @@ fn drop_waiting<S: Read + Write + OpenStream + Drop>(
 const LONG: u64 = 60_000;
 
 #[test]
-fn bytes_come_and_go(rt: HostRuntime) -> Result<(), Fail> {
+fn bytes_come(rt: HostRuntime) -> Result<(), Fail> {
     let (mut peer, mut wire) = wire(&rt, LONG)?;
     let mut buffer = [0; PIECE];
     peer.write_all(&[1, 2, 3])?;
-    assert_eq!(rt; listen(&mut wire, &mut buffer)?, Came::Bytes(3));
+    assert_eq!(rt; listen(&mut wire, &mut buffer), Ok(Came::Bytes(3)));
     assert_eq!(rt; &buffer[..3], [1, 2, 3].as_slice());
+    Ok(())
+}
+
+#[test]
+fn bytes_go(rt: HostRuntime) -> Result<(), Fail> {
+    let (mut peer, mut wire) = wire(&rt, LONG)?;
     send(&mut wire, &[4, 5])?;
     send(&mut wire, &[])?;
     send(&mut wire, &[6])?;
@@ -102,12 +109,12 @@ fn no_silence_is_refused(rt: HostRuntime) -> Result<(), Fail> {
 fn silence_comes_after_so_long(rt: HostRuntime) -> Result<(), Fail> {
     let (mut peer, mut wire) = wire(&rt, 40)?;
     let start = Instant::now(&rt)?;
-    assert_eq!(rt; listen(&mut wire, &mut [0; PIECE])?, Came::Silence);
+    assert_eq!(rt; listen(&mut wire, &mut [0; PIECE]), Ok(Came::Silence));
     assert!(rt; start.elapsed(&rt)? >= Duration::from_millis(40));
     // It goes on behind a silence.
     peer.write_all(&[7])?;
-    assert_eq!(rt; listen(&mut wire, &mut [0; PIECE])?, Came::Bytes(1));
-    assert_eq!(rt; listen(&mut wire, &mut [0; PIECE])?, Came::Silence);
+    assert_eq!(rt; listen(&mut wire, &mut [0; PIECE]), Ok(Came::Bytes(1)));
+    assert_eq!(rt; listen(&mut wire, &mut [0; PIECE]), Ok(Came::Silence));
     Ok(())
 }
 
@@ -117,12 +124,20 @@ fn close_comes_at_once(rt: HostRuntime) -> Result<(), Fail> {
     let start = Instant::now(&rt)?;
     peer.write_all(&[7])?;
     drop(peer);
-    assert_eq!(rt; listen(&mut wire, &mut [0; PIECE])?, Came::Bytes(1));
-    assert_eq!(rt; listen(&mut wire, &mut [0; PIECE])?, Came::Closed);
-    assert_eq!(rt; listen(&mut wire, &mut [0; PIECE])?, Came::Closed);
-    drop_waiting(&mut wire)?;
-    assert_eq!(rt; listen(&mut wire, &mut [0; PIECE])?, Came::Closed);
+    assert_eq!(rt; listen(&mut wire, &mut [0; PIECE]), Ok(Came::Bytes(1)));
+    assert_eq!(rt; listen(&mut wire, &mut [0; PIECE]), Ok(Came::Closed));
     assert!(rt; start.elapsed(&rt)? < Duration::from_millis(LONG));
+    Ok(())
+}
+
+#[test]
+fn close_stays(rt: HostRuntime) -> Result<(), Fail> {
+    let (peer, mut wire) = wire(&rt, LONG)?;
+    drop(peer);
+    assert_eq!(rt; listen(&mut wire, &mut [0; PIECE]), Ok(Came::Closed));
+    assert_eq!(rt; listen(&mut wire, &mut [0; PIECE]), Ok(Came::Closed));
+    assert_eq!(rt; drop_waiting(&mut wire), Ok(()));
+    assert_eq!(rt; listen(&mut wire, &mut [0; PIECE]), Ok(Came::Closed));
     Ok(())
 }
 
@@ -155,14 +170,20 @@ fn what_waits_is_dropped(rt: HostRuntime) -> Result<(), Fail> {
     peer.write_all(&[5, 1])?;
     wait_for(&wire.stream)?;
     drop_waiting(&mut wire)?;
-    assert_eq!(rt; listen(&mut wire, &mut [0; PIECE])?, Came::Silence);
-    // It doesn't wait where nothing waits, and the next listen does.
+    assert_eq!(rt; listen(&mut wire, &mut [0; PIECE]), Ok(Came::Silence));
+    Ok(())
+}
+
+// The drop doesn't wait where nothing waits, and the next listen does.
+#[test]
+fn listen_behind_a_drop_waits(rt: HostRuntime) -> Result<(), Fail> {
+    let (mut peer, mut wire) = wire(&rt, 40)?;
     let start = Instant::now(&rt)?;
     drop_waiting(&mut wire)?;
-    assert_eq!(rt; listen(&mut wire, &mut [0; PIECE])?, Came::Silence);
+    assert_eq!(rt; listen(&mut wire, &mut [0; PIECE]), Ok(Came::Silence));
     assert!(rt; start.elapsed(&rt)? >= Duration::from_millis(40));
     peer.write_all(&[7])?;
-    assert_eq!(rt; listen(&mut wire, &mut [0; PIECE])?, Came::Bytes(1));
+    assert_eq!(rt; listen(&mut wire, &mut [0; PIECE]), Ok(Came::Bytes(1)));
     Ok(())
 }
 
@@ -182,7 +203,7 @@ fn close_behind_what_is_dropped_is_not_lost(rt: HostRuntime) -> Result<(), Fail>
     wait_for(&wire.stream)?;
     drop(peer);
     drop_waiting(&mut wire)?;
-    assert_eq!(rt; listen(&mut wire, &mut [0; PIECE])?, Came::Closed);
+    assert_eq!(rt; listen(&mut wire, &mut [0; PIECE]), Ok(Came::Closed));
     Ok(())
 }
 
@@ -322,11 +343,30 @@ fn reads_are_told_apart(rt: HostRuntime) -> Result<(), Fail> {
         Came::Closed,
     ];
     for expected in came {
-        assert_eq!(rt; listen(&mut wire, &mut [0; PIECE])?, expected);
+        assert_eq!(rt; listen(&mut wire, &mut [0; PIECE]), Ok(expected));
     }
     // After the close nothing is read.
     drop_waiting(&mut wire)?;
     assert_eq!(rt; wire.stream.reads, 6);
+    Ok(())
+}
+
+/// A read that fails so, behind a byte, is a failure of the listen.
+fn expect_failed_listen(rt: &impl Abort, alloc: Global, kind: ErrorKind) -> Result<(), Fail> {
+    let mut wire = wire_over(alloc, &[Step::Gives(1), Step::Fails(kind)])?;
+    assert_eq!(rt; listen(&mut wire, &mut [0; PIECE]), Ok(Came::Bytes(1)));
+    assert_eq!(rt; wire.connection, Connection::Open);
+    assert_eq!(rt; listen(&mut wire, &mut [0; PIECE]), Err(WireFault));
+    assert_eq!(rt; wire.connection, Connection::Failed);
+    Ok(())
+}
+
+/// It is one of the drop.
+fn expect_failed_drop(rt: &impl Abort, alloc: Global, kind: ErrorKind) -> Result<(), Fail> {
+    let mut wire = wire_over(alloc, &[Step::Gives(1), Step::Fails(kind)])?;
+    assert_eq!(rt; drop_waiting(&mut wire), Err(WireFault));
+    assert_eq!(rt; wire.connection, Connection::Failed);
+    assert!(rt; wire.stream.waits.get());
     Ok(())
 }
 
@@ -340,16 +380,8 @@ fn only_a_failed_read_is_a_failure(rt: HostRuntime) -> Result<(), Fail> {
         ErrorKind::Other,
     ];
     for kind in kinds {
-        let mut wire = wire_over(rt.alloc(), &[Step::Gives(1), Step::Fails(kind)])?;
-        assert_eq!(rt; listen(&mut wire, &mut [0; PIECE])?, Came::Bytes(1));
-        assert_eq!(rt; wire.connection, Connection::Open);
-        assert_eq!(rt; listen(&mut wire, &mut [0; PIECE]), Err(WireFault));
-        assert_eq!(rt; wire.connection, Connection::Failed);
-
-        let mut wire = wire_over(rt.alloc(), &[Step::Gives(1), Step::Fails(kind)])?;
-        assert_eq!(rt; drop_waiting(&mut wire), Err(WireFault));
-        assert_eq!(rt; wire.connection, Connection::Failed);
-        assert!(rt; wire.stream.waits.get());
+        expect_failed_listen(&rt, rt.alloc(), kind)?;
+        expect_failed_drop(&rt, rt.alloc(), kind)?;
     }
     Ok(())
 }

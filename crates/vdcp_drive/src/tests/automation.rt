@@ -1,4 +1,5 @@
 //! An automation over a wire in memory.
+use super::calls::{run, send};
 use super::clips::Playlist;
 use super::messages::{ACK, CLOSE, GRANTED, IDLE, OPEN, SELECT, STATUS, STOP};
 use crate::{AutoDriver, DriveFault, Entry, Line, Ran, ScriptWire};
@@ -50,7 +51,7 @@ fn empty_playlist_is_played(rt: HostRuntime) -> Result<(), Fail> {
         answers(rt.alloc(), &[GRANTED, ACK, IDLE, ACK], None)?,
     );
     let mut driver = AutoDriver::new(plain(), 0, wire);
-    assert_eq!(rt; driver.run(100), Ok(Ran::Ended));
+    assert_eq!(rt; run(&mut driver, 100), Ok(Ran::Ended));
     let sent = joined(rt.alloc(), &[OPEN, SELECT, STATUS, CLOSE])?;
     assert_eq!(rt; driver.wire().sent(), sent.as_slice());
     assert_eq!(rt; driver.controller().outcome(), Some(Outcome::Done));
@@ -64,7 +65,7 @@ fn stale_bytes_are_dropped_before_each_command(rt: HostRuntime) -> Result<(), Fa
         answers(rt.alloc(), &[GRANTED, ACK, IDLE, ACK], Some(1))?,
     );
     let mut driver = AutoDriver::new(plain(), 0, wire);
-    assert_eq!(rt; driver.run(100), Ok(Ran::Ended));
+    assert_eq!(rt; run(&mut driver, 100), Ok(Ran::Ended));
     let sent = joined(rt.alloc(), &[OPEN, SELECT, STATUS, CLOSE])?;
     assert_eq!(rt; driver.wire().sent(), sent.as_slice());
     assert_eq!(rt; driver.wire().drops(), [0, 7, 13, 19].as_slice());
@@ -72,40 +73,53 @@ fn stale_bytes_are_dropped_before_each_command(rt: HostRuntime) -> Result<(), Fa
     Ok(())
 }
 
-#[test]
-fn close_inside_a_message_is_a_time_out(rt: HostRuntime) -> Result<(), Fail> {
-    for confirms in [false, true] {
-        let mut entries = Vec::new(rt.alloc());
-        entries.push(Entry::Came(Vec::from_slice(rt.alloc(), &[0x02, 0x03, 0x30])?))?;
-        entries.push(Entry::Closed)?;
-        let controller = if confirms { confirming() } else { plain() };
-        let mut driver = AutoDriver::new(controller, 0, ScriptWire::new(rt.alloc(), entries));
-        assert_eq!(rt; driver.run(100), Ok(Ran::Closed));
-        assert_eq!(rt; driver.wire().sent(), OPEN);
-        assert!(rt; driver.controller().outcome().is_none());
-        assert!(rt; !driver.controller().awaiting());
-    }
+/// A beginning of an answer comes, and then the close.
+fn closed_inside_a_message(alloc: Global) -> Result<Vec<Entry<Global>>, AllocError> {
+    let mut entries = Vec::new(alloc);
+    entries.push(Entry::Came(Vec::from_slice(alloc, &[0x02, 0x03, 0x30])?))?;
+    entries.push(Entry::Closed)?;
+    Ok(entries)
+}
+
+/// Of a command whose answer is cut off so, nothing more is sent or awaited.
+fn expect_cut_off(
+    rt: &impl Abort,
+    alloc: Global,
+    controller: Controller<Playlist>,
+) -> Result<(), Fail> {
+    let wire = ScriptWire::new(alloc, closed_inside_a_message(alloc)?);
+    let mut driver = AutoDriver::new(controller, 0, wire);
+    assert_eq!(rt; run(&mut driver, 100), Ok(Ran::Closed));
+    assert_eq!(rt; driver.wire().sent(), OPEN);
+    assert!(rt; driver.controller().outcome().is_none());
+    assert!(rt; !driver.controller().awaiting());
     Ok(())
 }
 
-// In confirm mode SELECT ends by its time-out alone: the three answers behind it are heard and change
-// nothing, and the close is the time-out.
+#[test]
+fn close_inside_a_message_is_a_time_out(rt: HostRuntime) -> Result<(), Fail> {
+    expect_cut_off(&rt, rt.alloc(), plain())?;
+    expect_cut_off(&rt, rt.alloc(), confirming())
+}
+
+/// In confirm mode SELECT ends by its time-out alone: the three answers behind it are heard and change
+/// nothing, and the close is the time-out.
+fn expect_unconfirmed(rt: &impl Abort, alloc: Global, stale: Option<usize>) -> Result<(), Fail> {
+    let wire = ScriptWire::new(alloc, answers(alloc, &[GRANTED, ACK, IDLE, ACK], stale)?);
+    let mut driver = AutoDriver::new(confirming(), 0, wire);
+    assert_eq!(rt; run(&mut driver, 100), Ok(Ran::Closed));
+    let sent = joined(alloc, &[OPEN, SELECT])?;
+    assert_eq!(rt; driver.wire().sent(), sent.as_slice());
+    assert_eq!(rt; driver.wire().drops(), [0, 7].as_slice());
+    assert!(rt; driver.controller().outcome().is_none());
+    assert!(rt; !driver.controller().awaiting());
+    Ok(())
+}
+
 #[test]
 fn answers_to_select_confirm_nothing(rt: HostRuntime) -> Result<(), Fail> {
-    for stale in [None, Some(1)] {
-        let wire = ScriptWire::new(
-            rt.alloc(),
-            answers(rt.alloc(), &[GRANTED, ACK, IDLE, ACK], stale)?,
-        );
-        let mut driver = AutoDriver::new(confirming(), 0, wire);
-        assert_eq!(rt; driver.run(100), Ok(Ran::Closed));
-        let sent = joined(rt.alloc(), &[OPEN, SELECT])?;
-        assert_eq!(rt; driver.wire().sent(), sent.as_slice());
-        assert_eq!(rt; driver.wire().drops(), [0, 7].as_slice());
-        assert!(rt; driver.controller().outcome().is_none());
-        assert!(rt; !driver.controller().awaiting());
-    }
-    Ok(())
+    expect_unconfirmed(&rt, rt.alloc(), None)?;
+    expect_unconfirmed(&rt, rt.alloc(), Some(1))
 }
 
 #[test]
@@ -115,7 +129,7 @@ fn empty_playlist_is_played_in_confirm_mode(rt: HostRuntime) -> Result<(), Fail>
         answers(rt.alloc(), &[GRANTED, &[], IDLE, IDLE, &[]], None)?,
     );
     let mut driver = AutoDriver::new(confirming(), 0, wire);
-    assert_eq!(rt; driver.run(100), Ok(Ran::Ended));
+    assert_eq!(rt; run(&mut driver, 100), Ok(Ran::Ended));
     let sent = joined(rt.alloc(), &[OPEN, SELECT, STATUS, STATUS, CLOSE])?;
     assert_eq!(rt; driver.wire().sent(), sent.as_slice());
     assert_eq!(rt; driver.wire().drops(), [0, 7, 13, 19, 25].as_slice());
@@ -130,12 +144,12 @@ fn commands_are_sent_only_while_a_listen_is_left(rt: HostRuntime) -> Result<(), 
         answers(rt.alloc(), &[GRANTED, ACK, IDLE, ACK], None)?,
     );
     let mut driver = AutoDriver::new(plain(), 0, wire);
-    assert_eq!(rt; driver.run(0), Ok(Ran::Spent));
+    assert_eq!(rt; run(&mut driver, 0), Ok(Ran::Spent));
     assert!(rt; driver.wire().sent().is_empty());
-    assert_eq!(rt; driver.run(2), Ok(Ran::Spent));
+    assert_eq!(rt; run(&mut driver, 2), Ok(Ran::Spent));
     assert_eq!(rt; driver.wire().sent(), OPEN);
-    assert_eq!(rt; driver.send(), Ok(true));
-    assert_eq!(rt; driver.send(), Ok(false));
+    assert_eq!(rt; send(&mut driver), Ok(true));
+    assert_eq!(rt; send(&mut driver), Ok(false));
     assert_eq!(rt; driver.wire().drops(), [0, 7].as_slice());
     Ok(())
 }
@@ -145,9 +159,9 @@ fn operator_stops(rt: HostRuntime) -> Result<(), Fail> {
     let wire = ScriptWire::new(rt.alloc(), answers(rt.alloc(), &[GRANTED, ACK, ACK], None)?);
     let mut driver = AutoDriver::new(plain(), 0, wire);
     driver.take();
-    assert_eq!(rt; driver.run(2), Ok(Ran::Spent));
+    assert_eq!(rt; run(&mut driver, 2), Ok(Ran::Spent));
     driver.stop();
-    assert_eq!(rt; driver.run(100), Ok(Ran::Ended));
+    assert_eq!(rt; run(&mut driver, 100), Ok(Ran::Ended));
     let sent = joined(rt.alloc(), &[OPEN, STOP, CLOSE])?;
     assert_eq!(rt; driver.wire().sent(), sent.as_slice());
     assert_eq!(rt; driver.controller().outcome(), Some(Outcome::Stopped));
@@ -164,26 +178,36 @@ fn listen(
     Ok(driver.listen())
 }
 
-#[test]
-fn failed_wire_is_a_device_for_good(rt: HostRuntime) -> Result<(), Fail> {
-    let mut wire = ScriptWire::new(rt.alloc(), answers(rt.alloc(), &[GRANTED], None)?);
-    wire.fail_at(1, 0);
-    let mut driver = AutoDriver::new(plain(), 0, wire);
-    assert_eq!(rt; driver.send(), Err(DriveFault::Device));
-    assert!(rt; !driver.controller().awaiting());
-    assert_eq!(rt; driver.send(), Err(DriveFault::Device));
-    assert_eq!(rt; driver.run(0), Err(DriveFault::Device));
-    assert!(rt; driver.wire().sent().is_empty());
+/// A new automation over a wire that brings one answer, and whose call of this number fails.
+fn failing(
+    alloc: Global,
+    call: u64,
+) -> Result<AutoDriver<Playlist, ScriptWire<Global>>, AllocError> {
+    let mut wire = ScriptWire::new(alloc, answers(alloc, &[GRANTED], None)?);
+    wire.fail_at(call, 0);
+    Ok(AutoDriver::new(plain(), 0, wire))
+}
 
-    let mut wire = ScriptWire::new(rt.alloc(), answers(rt.alloc(), &[GRANTED], None)?);
-    wire.fail_at(4, 0);
-    let mut driver = AutoDriver::new(plain(), 0, wire);
-    assert_eq!(rt; driver.send(), Ok(true));
+#[test]
+fn failed_drop_is_a_device_for_good(rt: HostRuntime) -> Result<(), Fail> {
+    let mut driver = failing(rt.alloc(), 1)?;
+    assert_eq!(rt; send(&mut driver), Err(DriveFault::Device));
+    assert!(rt; !driver.controller().awaiting());
+    assert_eq!(rt; send(&mut driver), Err(DriveFault::Device));
+    assert_eq!(rt; run(&mut driver, 0), Err(DriveFault::Device));
+    assert!(rt; driver.wire().sent().is_empty());
+    Ok(())
+}
+
+#[test]
+fn failed_listen_is_a_device_for_good(rt: HostRuntime) -> Result<(), Fail> {
+    let mut driver = failing(rt.alloc(), 4)?;
+    assert_eq!(rt; send(&mut driver), Ok(true));
     assert_eq!(rt; listen(&mut driver)?, Ok(Line::More));
     assert_eq!(rt; listen(&mut driver)?, Err(DriveFault::Device));
     assert_eq!(rt; listen(&mut driver)?, Err(DriveFault::Device));
     assert!(rt; driver.controller().awaiting());
-    assert_eq!(rt; driver.send(), Err(DriveFault::Device));
+    assert_eq!(rt; send(&mut driver), Err(DriveFault::Device));
     assert_eq!(rt; driver.wire().sent(), OPEN);
     Ok(())
 }
@@ -200,7 +224,7 @@ fn failed_at(
     let mut wire = ScriptWire::new(alloc, answers(alloc, words, None)?);
     wire.fail_at(call, part);
     let mut driver = AutoDriver::new(controller, 0, wire);
-    let works = driver.run(100).is_ok();
+    let works = run(&mut driver, 100).is_ok();
     let sent = Vec::from_slice(alloc, driver.wire().sent())?;
     Ok((works, sent, driver.controller().awaiting()))
 }
@@ -210,39 +234,60 @@ fn front(all: &Vec<u8>, len: usize) -> Result<&[u8], &'static str> {
     all.get(..len).ok_or("more was sent")
 }
 
+/// A run of a new controller over these answers, of which some call fails behind `part` bytes of a send.
+#[derive(Clone, Copy)]
+struct FailingRun<'a> {
+    alloc: Global,
+    confirms: bool,
+    words: &'a [&'a [u8]],
+    part: usize,
+}
+
+impl FailingRun<'_> {
+    /// If the call of this number fails: whether no call failed, whether an answer is awaited, and what was sent.
+    fn expect(
+        &self,
+        rt: &impl Abort,
+        call: u64,
+        works: bool,
+        awaits: bool,
+        sent: &[u8],
+    ) -> Result<(), Fail> {
+        let controller = if self.confirms { confirming() } else { plain() };
+        let came = failed_at(self.alloc, controller, self.words, call, self.part)?;
+        assert_eq!(rt;
+            (came.0, came.2, came.1.as_slice()),
+            (works, awaits, sent),
+            "call {call}"
+        );
+        Ok(())
+    }
+}
+
 // Each command is four calls: a drop, a send, and two listens, of the answer and of the silence.
 #[test]
 fn each_call_fails_in_turn(rt: HostRuntime) -> Result<(), Fail> {
     let commands = [OPEN, SELECT, STATUS, CLOSE];
     let all = joined(rt.alloc(), &commands)?;
     for part in [0, 1, 100] {
+        let run = FailingRun {
+            alloc: rt.alloc(),
+            confirms: false,
+            words: &[GRANTED, ACK, IDLE, ACK],
+            part,
+        };
         let mut before: usize = 0;
         for (k, command) in commands.iter().enumerate() {
             let first = 4 * k as u64 + 1;
-            let words = [GRANTED, ACK, IDLE, ACK];
-            let (works, sent, awaits) = failed_at(rt.alloc(), plain(), &words, first, part)?;
-            assert!(rt; !works && !awaits);
-            assert_eq!(rt; sent.as_slice(), front(&all, before)?);
-            let (works, sent, awaits) = failed_at(rt.alloc(), plain(), &words, first + 1, part)?;
-            assert!(rt; !works && awaits);
+            run.expect(&rt, first, false, false, front(&all, before)?)?;
             let begun = before.saturating_add(part.min(command.len()));
-            assert_eq!(rt; sent.as_slice(), front(&all, begun)?);
+            run.expect(&rt, first + 1, false, true, front(&all, begun)?)?;
             before = before.saturating_add(command.len());
             for listen in [first + 2, first + 3] {
-                let (works, sent, awaits) = failed_at(rt.alloc(), plain(), &words, listen, part)?;
-                assert!(rt; !works && awaits);
-                assert_eq!(rt; sent.as_slice(), front(&all, before)?);
+                run.expect(&rt, listen, false, true, front(&all, before)?)?;
             }
         }
-        let (works, sent, _) = failed_at(
-            rt.alloc(),
-            plain(),
-            &[GRANTED, ACK, IDLE, ACK],
-            17,
-            part,
-        )?;
-        assert!(rt; works);
-        assert_eq!(rt; sent.as_slice(), all.as_slice());
+        run.expect(&rt, 17, true, false, all.as_slice())?;
     }
     Ok(())
 }
@@ -253,41 +298,28 @@ fn each_call_fails_in_turn_in_confirm_mode(rt: HostRuntime) -> Result<(), Fail> 
     let commands = [OPEN, SELECT, STATUS, STATUS, CLOSE];
     let listens = [2, 1, 2, 2, 1];
     let all = joined(rt.alloc(), &commands)?;
-    let words: [&[u8]; 5] = [GRANTED, &[], IDLE, IDLE, &[]];
     for part in [0, 1, 100] {
+        let run = FailingRun {
+            alloc: rt.alloc(),
+            confirms: true,
+            words: &[GRANTED, &[], IDLE, IDLE, &[]],
+            part,
+        };
         let mut before: usize = 0;
         let mut call: u64 = 1;
         for (command, listens) in commands.iter().zip(listens) {
-            let (works, sent, awaits) = failed_at(rt.alloc(), confirming(), &words, call, part)?;
-            assert!(rt; !works && !awaits);
-            assert_eq!(rt; sent.as_slice(), front(&all, before)?);
-            let (works, sent, awaits) = failed_at(
-                rt.alloc(),
-                confirming(),
-                &words,
-                call.saturating_add(1),
-                part,
-            )?;
-            assert!(rt; !works && awaits);
+            run.expect(&rt, call, false, false, front(&all, before)?)?;
             let begun = before.saturating_add(part.min(command.len()));
-            assert_eq!(rt; sent.as_slice(), front(&all, begun)?);
+            call = call.saturating_add(1);
+            run.expect(&rt, call, false, true, front(&all, begun)?)?;
             before = before.saturating_add(command.len());
-            for listen in 0..listens {
-                let (works, sent, awaits) = failed_at(
-                    rt.alloc(),
-                    confirming(),
-                    &words,
-                    call.saturating_add(2).saturating_add(listen),
-                    part,
-                )?;
-                assert!(rt; !works && awaits);
-                assert_eq!(rt; sent.as_slice(), front(&all, before)?);
+            for _ in 0..listens {
+                call = call.saturating_add(1);
+                run.expect(&rt, call, false, true, front(&all, before)?)?;
             }
-            call = call.saturating_add(2).saturating_add(listens);
+            call = call.saturating_add(1);
         }
-        let (works, sent, _) = failed_at(rt.alloc(), confirming(), &words, call, part)?;
-        assert!(rt; works);
-        assert_eq!(rt; sent.as_slice(), all.as_slice());
+        run.expect(&rt, call, true, false, all.as_slice())?;
     }
     Ok(())
 }

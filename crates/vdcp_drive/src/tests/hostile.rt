@@ -1,9 +1,10 @@
 //! Hostile input: floods, halves, closes at each byte, and a line without memory.
+use super::calls::{run, serve, turn};
 use super::clips::{Playlist, Shelf};
 use super::messages::{ACK, CUE_1, OPEN, PLAY, SELECT, STATUS};
 use crate::{AutoDriver, DriveFault, Entry, Ran, ScriptWire, Server};
 use linked_list_allocator::LocalHeap;
-use std::alloc::Global;
+use std::alloc::{AllocError, Global};
 use std::process::Abort;
 use std::test::Fail;
 use vdcp_auto::{Controller, Outcome};
@@ -26,9 +27,9 @@ fn flood_of_junk_is_one_fault(rt: HostRuntime) -> Result<(), Fail> {
     }
     entries.push(Entry::Silence)?;
     let mut server = server(rt.alloc(), entries)?;
-    assert_eq!(rt; server.serve(1000), Ok(Ran::Spent));
+    assert_eq!(rt; serve(&mut server, 1000), Ok(Ran::Spent));
     assert!(rt; server.wire().sent().is_empty());
-    assert_eq!(rt; server.serve(1), Ok(Ran::Spent));
+    assert_eq!(rt; serve(&mut server, 1), Ok(Ran::Spent));
     assert_eq!(rt; server.wire().sent(), [0x05, 0x04].as_slice());
     Ok(())
 }
@@ -41,7 +42,7 @@ fn half_messages_are_cut_each_time(rt: HostRuntime) -> Result<(), Fail> {
         entries.push(Entry::Silence)?;
     }
     let mut server = server(rt.alloc(), entries)?;
-    assert_eq!(rt; server.serve(1000), Ok(Ran::Spent));
+    assert_eq!(rt; serve(&mut server, 1000), Ok(Ran::Spent));
     assert_eq!(rt; server.wire().sent().len(), 1000);
     assert!(rt;
         server
@@ -53,6 +54,19 @@ fn half_messages_are_cut_each_time(rt: HostRuntime) -> Result<(), Fail> {
     Ok(())
 }
 
+/// How many bytes a server answers where the close comes behind so many bytes of a burst.
+fn answered(alloc: Global, burst: &[u8], cut: usize) -> Result<usize, Fail> {
+    let mut entries = Vec::new(alloc);
+    let front = burst.get(..cut).ok_or("the burst is shorter")?;
+    entries.push(Entry::Came(Vec::from_slice(alloc, front)?))?;
+    entries.push(Entry::Closed)?;
+    let mut server = server(alloc, entries)?;
+    match serve(&mut server, 100) {
+        Ok(Ran::Closed) => Ok(server.wire().sent().len()),
+        _ => Err("no close came".into()),
+    }
+}
+
 // OPEN, SELECT and STATUS in one burst, of 7, 6 and 6 bytes, with answers of 6, 1 and 7.
 #[test]
 fn close_at_each_byte_gives_up_what_is_cut_off(rt: HostRuntime) -> Result<(), Fail> {
@@ -60,41 +74,48 @@ fn close_at_each_byte_gives_up_what_is_cut_off(rt: HostRuntime) -> Result<(), Fa
     burst.extend_from_slice(SELECT)?;
     burst.extend_from_slice(STATUS)?;
     for cut in 0..20 {
-        let mut entries = Vec::new(rt.alloc());
-        entries.push(Entry::Came(Vec::from_slice(rt.alloc(), &burst[..cut])?))?;
-        entries.push(Entry::Closed)?;
-        let mut server = server(rt.alloc(), entries)?;
-        assert_eq!(rt; server.serve(100), Ok(Ran::Closed));
-        let answered = match cut {
+        let expected = match cut {
             0..=6 => 0,
             7..=12 => 6,
             13..=18 => 7,
             _ => 14,
         };
-        assert_eq!(rt; server.wire().sent().len(), answered);
+        assert_eq!(rt;
+            answered(rt.alloc(), burst.as_slice(), cut)?,
+            expected,
+            "cut at {cut}"
+        );
     }
     Ok(())
 }
 
-// 100,000 bytes of PLAY to a selected port: the first 819 messages lie within the first 4,096 bytes.
+/// OPEN, SELECT, and then 100,000 bytes of PLAY, with a silence behind each.
+fn long_burst(alloc: Global) -> Result<Vec<Entry<Global>>, AllocError> {
+    let mut plays = Vec::new(alloc);
+    for _ in 0..20_000 {
+        plays.extend_from_slice(PLAY)?;
+    }
+    let bursts = [
+        Vec::from_slice(alloc, OPEN)?,
+        Vec::from_slice(alloc, SELECT)?,
+        plays,
+    ];
+    let mut entries = Vec::new(alloc);
+    for burst in bursts {
+        entries.push(Entry::Came(burst))?;
+        entries.push(Entry::Silence)?;
+    }
+    Ok(entries)
+}
+
+// The first 819 of the PLAYs lie within the first 4,096 bytes.
 #[test]
 fn long_burst_is_answered_as_far_as_it_is_read(rt: HostRuntime) -> Result<(), Fail> {
-    let mut entries = Vec::new(rt.alloc());
-    entries.push(Entry::Came(Vec::from_slice(rt.alloc(), OPEN)?))?;
-    entries.push(Entry::Silence)?;
-    entries.push(Entry::Came(Vec::from_slice(rt.alloc(), SELECT)?))?;
-    entries.push(Entry::Silence)?;
-    let mut burst = Vec::new(rt.alloc());
-    for _ in 0..20_000 {
-        burst.extend_from_slice(PLAY)?;
-    }
-    entries.push(Entry::Came(burst))?;
-    entries.push(Entry::Silence)?;
-    let mut server = server(rt.alloc(), entries)?;
-    assert_eq!(rt; server.serve(4), Ok(Ran::Spent));
+    let mut server = server(rt.alloc(), long_burst(rt.alloc())?)?;
+    assert_eq!(rt; serve(&mut server, 4), Ok(Ran::Spent));
     let before = server.wire().sent().len();
     // 196 pieces of at most 512 bytes, the silence, and the close behind the last entry.
-    assert_eq!(rt; server.serve(198), Ok(Ran::Closed));
+    assert_eq!(rt; serve(&mut server, 198), Ok(Ran::Closed));
     let sent = server.wire().sent().get(before..).ok_or("less was sent")?;
     let mut answers = Vec::from_slice(rt.alloc(), &[0x04; 819])?;
     answers.extend_from_slice(&[0x05, 0x04])?;
@@ -114,7 +135,7 @@ fn flood_of_acks_answers_no_open(rt: HostRuntime) -> Result<(), Fail> {
     }
     let controller = Controller::new(Playlist::of(2), 1, 3);
     let mut driver = AutoDriver::new(controller, 0, ScriptWire::new(rt.alloc(), entries));
-    assert_eq!(rt; driver.run(100_000), Ok(Ran::Ended));
+    assert_eq!(rt; run(&mut driver, 100_000), Ok(Ran::Ended));
     assert_eq!(rt; driver.controller().outcome(), Some(Outcome::Lost));
     assert_eq!(rt; driver.wire().sent().len(), 3 * OPEN.len());
     Ok(())
@@ -131,15 +152,14 @@ fn junk_answers_nothing(rt: HostRuntime) -> Result<(), Fail> {
     }
     let controller = Controller::confirming(Playlist::of(2), 1, 3);
     let mut driver = AutoDriver::new(controller, 0, ScriptWire::new(rt.alloc(), entries));
-    assert_eq!(rt; driver.run(1000), Ok(Ran::Ended));
+    assert_eq!(rt; run(&mut driver, 1000), Ok(Ran::Ended));
     assert_eq!(rt; driver.controller().outcome(), Some(Outcome::Lost));
     Ok(())
 }
 
-// In a heap that has no room, the first growth is refused: of what each listen gave, of the bytes that came,
-// of the places of drops.
+// In a heap that has no room, the first growth is refused: of what each listen gave.
 #[test]
-fn refused_growth_is_a_failure_of_the_wire(rt: HostRuntime) -> Result<(), Fail> {
+fn refused_growth_of_the_listens_is_a_failure_of_the_wire(rt: HostRuntime) -> Result<(), Fail> {
     let heap = LocalHeap::new(rt.alloc(), 256)?;
     let shelf = Shelf::of(250).ok_or("250 frames")?;
     let mut entries = Vec::new(&heap);
@@ -147,24 +167,34 @@ fn refused_growth_is_a_failure_of_the_wire(rt: HostRuntime) -> Result<(), Fail> 
     let _rest = Vec::<u8, &LocalHeap>::with_capacity(&heap, 64);
     let _more = Vec::<u8, &LocalHeap>::with_capacity(&heap, 32);
     let mut server = Server::new(Port::new(shelf, 0, 1), ScriptWire::new(&heap, entries));
-    assert_eq!(rt; server.turn(), Err(DriveFault::Device));
-    assert_eq!(rt; server.turn(), Err(DriveFault::Device));
+    assert_eq!(rt; turn(&mut server), Err(DriveFault::Device));
+    assert_eq!(rt; turn(&mut server), Err(DriveFault::Device));
     assert_eq!(rt; server.port().status_byte(), 0x01);
+    Ok(())
+}
 
-    let narrow = LocalHeap::new(rt.alloc(), 1024)?;
+// Here it is of the bytes that came.
+#[test]
+fn refused_growth_of_the_bytes_is_a_failure_of_the_wire(rt: HostRuntime) -> Result<(), Fail> {
+    let heap = LocalHeap::new(rt.alloc(), 1024)?;
     let shelf = Shelf::of(250).ok_or("250 frames")?;
-    let mut entries = Vec::new(&narrow);
-    entries.push(Entry::Came(Vec::from_slice(&narrow, &[0x03; 512])?))?;
-    let mut server = Server::new(Port::new(shelf, 0, 1), ScriptWire::new(&narrow, entries));
-    assert_eq!(rt; server.turn(), Err(DriveFault::Device));
-    assert_eq!(rt; server.turn(), Err(DriveFault::Device));
+    let mut entries = Vec::new(&heap);
+    entries.push(Entry::Came(Vec::from_slice(&heap, &[0x03; 512])?))?;
+    let mut server = Server::new(Port::new(shelf, 0, 1), ScriptWire::new(&heap, entries));
+    assert_eq!(rt; turn(&mut server), Err(DriveFault::Device));
+    assert_eq!(rt; turn(&mut server), Err(DriveFault::Device));
+    Ok(())
+}
 
-    let full = LocalHeap::new(rt.alloc(), 128)?;
-    let _rest = Vec::<u8, &LocalHeap>::with_capacity(&full, 64)?;
-    let _more = Vec::<u8, &LocalHeap>::with_capacity(&full, 32);
+// Here it is of the places of drops.
+#[test]
+fn refused_growth_of_the_drops_is_a_failure_of_the_wire(rt: HostRuntime) -> Result<(), Fail> {
+    let heap = LocalHeap::new(rt.alloc(), 128)?;
+    let _rest = Vec::<u8, &LocalHeap>::with_capacity(&heap, 64)?;
+    let _more = Vec::<u8, &LocalHeap>::with_capacity(&heap, 32);
     let controller = Controller::new(Playlist::of(0), 1, 3);
-    let mut driver = AutoDriver::new(controller, 0, ScriptWire::new(&full, Vec::new(&full)));
-    assert_eq!(rt; driver.run(100), Err(DriveFault::Device));
-    assert_eq!(rt; driver.run(100), Err(DriveFault::Device));
+    let mut driver = AutoDriver::new(controller, 0, ScriptWire::new(&heap, Vec::new(&heap)));
+    assert_eq!(rt; run(&mut driver, 100), Err(DriveFault::Device));
+    assert_eq!(rt; run(&mut driver, 100), Err(DriveFault::Device));
     Ok(())
 }

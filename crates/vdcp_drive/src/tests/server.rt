@@ -1,4 +1,5 @@
 //! A server over a wire in memory.
+use super::calls::{serve, turn};
 use super::clips::Shelf;
 use super::messages::{CUE_1, IDLE, OPEN, PLAY, SELECT, STATUS, STOP};
 use crate::{DriveFault, Entry, Line, Ran, ScriptWire, Server};
@@ -51,26 +52,38 @@ const OPENED: &'static [u8] = &[
 #[test]
 fn opening_is_served(rt: HostRuntime) -> Result<(), Fail> {
     let mut server = server(rt.alloc(), opening(rt.alloc())?)?;
-    assert_eq!(rt; server.serve(100), Ok(Ran::Closed));
+    assert_eq!(rt; serve(&mut server, 100), Ok(Ran::Closed));
     assert_eq!(rt; server.wire().sent(), OPENED);
     assert!(rt; server.wire().drops().is_empty());
     assert_eq!(rt; server.port().status_byte(), 0x01);
     Ok(())
 }
 
+/// What a server sends for PLAY and STOP in one burst, cut into two pieces behind so many bytes.
+fn play_and_stop(alloc: Global, cut: usize) -> Result<Vec<u8>, Fail> {
+    let mut burst = Vec::from_slice(alloc, PLAY)?;
+    burst.extend_from_slice(STOP)?;
+    let (first, second) = burst
+        .as_slice()
+        .split_at_checked(cut)
+        .ok_or("the burst is shorter")?;
+    let mut entries = Vec::new(alloc);
+    add_burst(alloc, &mut entries, &[OPEN])?;
+    add_burst(alloc, &mut entries, &[SELECT])?;
+    add_burst(alloc, &mut entries, &[first, second])?;
+    let mut server = server(alloc, entries)?;
+    match serve(&mut server, 7) {
+        Ok(Ran::Spent) => Ok(Vec::from_slice(alloc, server.wire().sent())?),
+        _ => Err("turns are left".into()),
+    }
+}
+
 #[test]
 fn play_and_stop_in_two_pieces_are_acknowledged_once_each(rt: HostRuntime) -> Result<(), Fail> {
-    let mut burst = Vec::from_slice(rt.alloc(), PLAY)?;
-    burst.extend_from_slice(STOP)?;
-    for cut in 1..burst.len() {
-        let mut entries = Vec::new(rt.alloc());
-        add_burst(rt.alloc(), &mut entries, &[OPEN])?;
-        add_burst(rt.alloc(), &mut entries, &[SELECT])?;
-        add_burst(rt.alloc(), &mut entries, &[&burst[..cut], &burst[cut..]])?;
-        let mut server = server(rt.alloc(), entries)?;
-        assert_eq!(rt; server.serve(7), Ok(Ran::Spent));
+    for cut in 1..PLAY.len() + STOP.len() {
+        let sent = play_and_stop(rt.alloc(), cut)?;
         let answers = [0x02, 0x03, 0x30, 0x81, 0x01, 0x4E, 0x04, 0x04, 0x04];
-        assert_eq!(rt; server.wire().sent(), answers.as_slice(), "cut at {cut}");
+        assert_eq!(rt; sent.as_slice(), answers.as_slice(), "cut at {cut}");
     }
     Ok(())
 }
@@ -78,32 +91,44 @@ fn play_and_stop_in_two_pieces_are_acknowledged_once_each(rt: HostRuntime) -> Re
 #[test]
 fn turns_are_spent(rt: HostRuntime) -> Result<(), Fail> {
     let mut server = server(rt.alloc(), opening(rt.alloc())?)?;
-    assert_eq!(rt; server.serve(2), Ok(Ran::Spent));
+    assert_eq!(rt; serve(&mut server, 2), Ok(Ran::Spent));
     assert_eq!(rt; server.wire().sent(), &OPENED[..6]);
-    assert_eq!(rt; server.turn(), Ok(Line::More));
-    assert_eq!(rt; server.turn(), Ok(Line::More));
+    let two = (turn(&mut server), turn(&mut server));
+    assert_eq!(rt; two, (Ok(Line::More), Ok(Line::More)));
     assert_eq!(rt; server.wire().sent(), &OPENED[..7]);
-    assert_eq!(rt; server.turn(), Ok(Line::Ended));
-    assert_eq!(rt; server.serve(100), Ok(Ran::Closed));
-    assert_eq!(rt; server.turn(), Ok(Line::Closed));
+    Ok(())
+}
+
+#[test]
+fn turns_end_with_the_close(rt: HostRuntime) -> Result<(), Fail> {
+    let mut server = server(rt.alloc(), opening(rt.alloc())?)?;
+    assert_eq!(rt; serve(&mut server, 4), Ok(Ran::Spent));
+    assert_eq!(rt; turn(&mut server), Ok(Line::Ended));
+    assert_eq!(rt; serve(&mut server, 100), Ok(Ran::Closed));
+    assert_eq!(rt; turn(&mut server), Ok(Line::Closed));
     assert_eq!(rt; server.wire().sent(), OPENED);
     Ok(())
+}
+
+/// OPEN, SELECT and PLAY in one burst, the beginning of another PLAY, and the close.
+fn cut_off(alloc: Global) -> Result<Vec<Entry<Global>>, AllocError> {
+    let mut entries = Vec::new(alloc);
+    add_burst(alloc, &mut entries, &[OPEN, SELECT])?;
+    let mut both = Vec::from_slice(alloc, PLAY)?;
+    both.extend_from_slice(&PLAY[..3])?;
+    entries.push(Entry::Came(both))?;
+    entries.push(Entry::Closed)?;
+    Ok(entries)
 }
 
 #[test]
 fn burst_cut_off_by_the_close_is_answered_as_far_as_it_is_whole(
     rt: HostRuntime,
 ) -> Result<(), Fail> {
-    let mut entries = Vec::new(rt.alloc());
-    add_burst(rt.alloc(), &mut entries, &[OPEN, SELECT])?;
-    let mut both = Vec::from_slice(rt.alloc(), PLAY)?;
-    both.extend_from_slice(&PLAY[..3])?;
-    entries.push(Entry::Came(both))?;
-    entries.push(Entry::Closed)?;
-    let mut server = server(rt.alloc(), entries)?;
-    assert_eq!(rt; server.serve(3), Ok(Ran::Spent));
+    let mut server = server(rt.alloc(), cut_off(rt.alloc())?)?;
+    assert_eq!(rt; serve(&mut server, 3), Ok(Ran::Spent));
     let before = server.wire().sent().len();
-    assert_eq!(rt; server.serve(100), Ok(Ran::Closed));
+    assert_eq!(rt; serve(&mut server, 100), Ok(Ran::Closed));
     let more = server.wire().sent().get(before..).ok_or("less was sent")?;
     assert_eq!(rt; more, [0x04].as_slice());
     Ok(())
@@ -116,15 +141,15 @@ fn item_of_the_last_turn_is_shown(rt: HostRuntime) -> Result<(), Fail> {
     entries.push(Entry::Came(Vec::from_slice(rt.alloc(), PLAY)?))?;
     entries.push(Entry::Silence)?;
     let mut server = server(rt.alloc(), entries)?;
-    assert_eq!(rt; server.serve(4), Ok(Ran::Spent));
+    assert_eq!(rt; serve(&mut server, 4), Ok(Ran::Spent));
     assert!(rt; server.aired().is_none());
-    assert_eq!(rt; server.turn(), Ok(Line::More));
+    assert_eq!(rt; turn(&mut server), Ok(Line::More));
     let item = Item {
         id: ClipId::new(*b"CLIP0001"),
         part: None,
     };
     assert_eq!(rt; server.aired(), Some(item));
-    assert_eq!(rt; server.turn(), Ok(Line::Ended));
+    assert_eq!(rt; turn(&mut server), Ok(Line::Ended));
     assert!(rt; server.aired().is_none());
     Ok(())
 }
@@ -135,10 +160,10 @@ fn failed_send_is_a_device_for_good(rt: HostRuntime) -> Result<(), Fail> {
     let mut wire = ScriptWire::new(rt.alloc(), opening(rt.alloc())?);
     wire.fail_at(2, 2);
     let mut server = Server::new(Port::new(shelf, 0, 1), wire);
-    assert_eq!(rt; server.serve(100), Err(DriveFault::Device));
+    assert_eq!(rt; serve(&mut server, 100), Err(DriveFault::Device));
     assert_eq!(rt; server.wire().sent(), &OPENED[..2]);
-    assert_eq!(rt; server.turn(), Err(DriveFault::Device));
-    assert_eq!(rt; server.serve(0), Err(DriveFault::Device));
+    assert_eq!(rt; turn(&mut server), Err(DriveFault::Device));
+    assert_eq!(rt; serve(&mut server, 0), Err(DriveFault::Device));
     assert_eq!(rt; server.wire().sent(), &OPENED[..2]);
     Ok(())
 }
@@ -150,7 +175,7 @@ fn failed_at(alloc: Global, call: u64, part: usize) -> Result<(bool, Vec<u8>), F
     let mut wire = ScriptWire::new(alloc, opening(alloc)?);
     wire.fail_at(call, part);
     let mut server = Server::new(Port::new(shelf, 0, 1), wire);
-    let works = server.serve(100).is_ok();
+    let works = serve(&mut server, 100).is_ok();
     let sent = Vec::from_slice(alloc, server.wire().sent())?;
     Ok((works, sent))
 }

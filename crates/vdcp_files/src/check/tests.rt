@@ -22,6 +22,12 @@ fn checked(alloc: Global, list: &[u8], clips: &[u8], rate: Rate) -> (Vec<u8>, Ve
     (out, err, status)
 }
 
+fn expect(rt: &(impl Abort + AllocGlobal), list: &[u8], clips: &[u8], text: &str, status: u8) {
+    let (out, err, got) = checked(rt.alloc(), list, clips, Rate::F25);
+    assert_eq!(rt; (out.as_slice(), got), (text.as_bytes(), status));
+    assert!(rt; err.is_empty(), "{text}");
+}
+
 #[test]
 fn lists_are_checked(rt: HostRuntime) {
     let rows: [(&[u8], &[u8], &str, u8); 8] = [
@@ -66,10 +72,7 @@ fn lists_are_checked(rt: HostRuntime) {
         (b"\n\n", b"", "events 0\nclips 0\n", 0),
     ];
     for (list, clips, text, status) in rows {
-        let (out, err, got) = checked(rt.alloc(), list, clips, Rate::F25);
-        assert_eq!(rt; out.as_slice(), text.as_bytes());
-        assert_eq!(rt; got, status, "{text}");
-        assert!(rt; err.is_empty(), "{text}");
+        expect(&rt, list, clips, text, status);
     }
 }
 

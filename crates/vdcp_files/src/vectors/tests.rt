@@ -135,84 +135,143 @@ fn changed(alloc: Global, place: usize, byte: u8) -> Result<Vec<u8>, AllocError>
     Vec::from_slice(alloc, &burst)
 }
 
+// Writes what came of a byte.
+fn write_got(text: &mut String, got: Got) -> Result<(), AllocError> {
+    match got {
+        Got::Message(message) => {
+            let message = MessageText(message);
+            write!(text, "{message}; ")?;
+        }
+        Got::More => {}
+        Got::Fault(fault, place) => {
+            let end = End::Fault(fault, place);
+            write!(text, "{end}")?;
+        }
+    }
+    Ok(())
+}
+
+// Writes how a burst ended.
+fn write_ended(text: &mut String, ended: Ended) -> Result<(), AllocError> {
+    match ended {
+        Ended::Clean => write!(text, "clean")?,
+        Ended::Cut(count) => write!(text, "cut {count}")?,
+        Ended::AfterFault => {}
+    }
+    Ok(())
+}
+
 // The reading of a burst that is fed byte by byte, its lines joined.
 fn fed(alloc: Global, burst: &[u8]) -> Result<String, AllocError> {
     let mut text = String::new(alloc);
     let mut reader = Reader::new();
     for byte in burst {
-        match reader.feed(&[*byte]).1 {
-            Got::Message(message) => {
-                let message = MessageText(message);
-                write!(text, "{message}; ")?;
-            }
-            Got::More => {}
-            Got::Fault(fault, place) => {
-                let end = End::Fault(fault, place);
-                write!(text, "{end}")?;
-            }
-        }
+        write_got(&mut text, reader.feed(&[*byte]).1)?;
     }
-    match reader.silence() {
-        Ended::Clean => write!(text, "clean")?,
-        Ended::Cut(count) => write!(text, "cut {count}")?,
-        Ended::AfterFault => {}
-    }
+    write_ended(&mut text, reader.silence())?;
     Ok(text)
 }
 
-// Damaged copies of a burst, with the readings that they have to have.
-fn hostile_rows(alloc: Global) -> Result<Vec<(Vec<u8>, String)>, AllocError> {
-    let mut rows = Vec::new(alloc);
+/// A damaged burst, and the reading that it has to have.
+type Row = (Vec<u8>, String);
+
+// The burst cut behind each byte but the last.
+fn add_cuts(alloc: Global, rows: &mut Vec<Row>) -> Result<(), AllocError> {
     for k in 1..=12 {
-        rows.push((
-            Vec::from_slice(alloc, &CUE[..k])?,
-            format!(in alloc; "cut {k}")?,
-        ))?;
+        let burst = Vec::from_slice(alloc, &CUE[..k])?;
+        rows.push((burst, format!(in alloc; "cut {k}")?))?;
     }
+    Ok(())
+}
+
+// The burst with each other byte at each place behind the count.
+fn add_bad_sums(alloc: Global, rows: &mut Vec<Row>) -> Result<(), AllocError> {
     for place in 3..=13 {
         for byte in 0..=255 {
             if CUE[place - 1] != byte {
-                let bad_sum = format!(in alloc; "fault bad-sum 13")?;
-                rows.push((changed(alloc, place, byte)?, bad_sum))?;
+                let burst = changed(alloc, place, byte)?;
+                rows.push((burst, format!(in alloc; "fault bad-sum 13")?))?;
             }
         }
     }
+    Ok(())
+}
+
+// The reading of the burst with another count.
+fn reading_of_count(alloc: Global, count: u8) -> Result<String, AllocError> {
+    match count {
+        0 | 1 => format!(in alloc; "fault bad-count 2 count {count}"),
+        2..=9 => format!(in alloc; "fault bad-sum {}", count + 3),
+        _ => format!(in alloc; "cut 13"),
+    }
+}
+
+// The burst with each other count.
+fn add_counts(alloc: Global, rows: &mut Vec<Row>) -> Result<(), AllocError> {
     for count in 0..=255 {
-        let reading = match count {
-            0 | 1 => format!(in alloc; "fault bad-count 2 count {count}")?,
-            2..=9 => format!(in alloc; "fault bad-sum {}", count + 3)?,
-            10 => continue,
-            11..=255 => format!(in alloc; "cut 13")?,
-        };
-        rows.push((changed(alloc, 2, count)?, reading))?;
+        if count != 10 {
+            let burst = changed(alloc, 2, count)?;
+            rows.push((burst, reading_of_count(alloc, count)?))?;
+        }
     }
+    Ok(())
+}
+
+// The reading of the burst with another start.
+fn reading_of_start(start: u8) -> &'static str {
+    match start {
+        4 => "ack; fault bad-start 2",
+        5 => "nak 0a; fault bad-start 3",
+        _ => "fault bad-start 1",
+    }
+}
+
+// The burst with each other start.
+fn add_starts(alloc: Global, rows: &mut Vec<Row>) -> Result<(), AllocError> {
     for start in 0..=255 {
-        let reading = match start {
-            2 => continue,
-            4 => format!(in alloc; "ack; fault bad-start 2")?,
-            5 => format!(in alloc; "nak 0a; fault bad-start 3")?,
-            _ => format!(in alloc; "fault bad-start 1")?,
-        };
-        rows.push((changed(alloc, 1, start)?, reading))?;
+        if start != 2 {
+            let burst = changed(alloc, 1, start)?;
+            rows.push((burst, copies(alloc, reading_of_start(start), 1)?))?;
+        }
     }
+    Ok(())
+}
+
+// Damaged copies of a burst, with the readings that they have to have.
+fn hostile_rows(alloc: Global) -> Result<Vec<Row>, AllocError> {
+    let mut rows = Vec::new(alloc);
+    add_cuts(alloc, &mut rows)?;
+    add_bad_sums(alloc, &mut rows)?;
+    add_counts(alloc, &mut rows)?;
+    add_starts(alloc, &mut rows)?;
     Ok(rows)
+}
+
+// The file of test vectors that these rows are.
+fn file_of(alloc: Global, rows: &[Row]) -> Result<String, AllocError> {
+    let mut file = String::new(alloc);
+    for (burst, reading) in rows {
+        let digits = HexText(burst.as_slice());
+        writeln!(file, "{digits},{reading}")?;
+    }
+    Ok(file)
 }
 
 #[test]
 fn damaged_bursts_are_read_alike_by_both_readers(rt: HostRuntime) -> Result<(), Fail> {
     let alloc = rt.alloc();
     let rows = hostile_rows(alloc)?;
-    let mut file = String::new(alloc);
     for (burst, reading) in &rows {
-        let digits = HexText(burst.as_slice());
-        writeln!(file, "{digits},{reading}")?;
+        let burst = burst.as_slice();
         assert_eq!(rt;
-            fed(alloc, burst.as_slice())?.as_str(),
+            fed(alloc, burst)?.as_str(),
             reading.as_str(),
-            "{digits}"
+            "{}",
+            HexText(burst)
         );
     }
     assert_eq!(rt; rows.len(), 3327);
+    let file = file_of(alloc, rows.as_slice())?;
     expect(&rt, file.as_bytes(), "vectors 3327 ok\n", 0);
     Ok(())
 }

@@ -9,6 +9,8 @@ use vdcp_drive::{AutoDriver, ScriptWire};
 use vdcp_list::{List, WriteFault, read_list};
 use vdcp_value::Rate;
 
+const PLAYED: &[u8] = b"0,CLIP0001\n1,\"A,B\"\n";
+
 // The automation of a list whose events are played, after so many listens.
 fn driver_after(
     rt: &HostRuntime,
@@ -21,6 +23,18 @@ fn driver_after(
     Ok(driver)
 }
 
+// Writes the events that are reported after so many listens to a file that answers so many calls.
+fn written_after(
+    rt: &HostRuntime,
+    listens: u64,
+    left: usize,
+) -> Result<(Failing, Result<(), WriteFault>), Fail> {
+    let driver = driver_after(rt, listens)?;
+    let mut file = Failing::new(rt.alloc(), left);
+    let written = write_reported(rt.alloc(), driver.controller(), Rate::F25, &mut file);
+    Ok((file, written))
+}
+
 // PLAY is the sixth and the eleventh command, and each answer and its silence are a listen.
 #[test]
 fn reported_events_are_written(rt: HostRuntime) -> Result<(), Fail> {
@@ -29,32 +43,32 @@ fn reported_events_are_written(rt: HostRuntime) -> Result<(), Fail> {
         (11, b""),
         (12, b"0,CLIP0001\n"),
         (21, b"0,CLIP0001\n"),
-        (22, b"0,CLIP0001\n1,\"A,B\"\n"),
-        (100, b"0,CLIP0001\n1,\"A,B\"\n"),
+        (22, PLAYED),
+        (100, PLAYED),
     ];
     for (listens, text) in rows {
-        let driver = driver_after(&rt, listens)?;
-        let mut file = Vec::new(rt.alloc());
-        write_reported(rt.alloc(), driver.controller(), Rate::F25, &mut file)?;
-        assert_eq!(rt; file.as_slice(), text, "{listens}");
+        let (file, written) = written_after(&rt, listens, 1000)?;
+        assert_eq!(rt;
+            (written, file.bytes.as_slice()),
+            (Ok(()), text),
+            "{listens}"
+        );
     }
     Ok(())
 }
 
 #[test]
 fn failing_call_of_the_file_is_the_last(rt: HostRuntime) -> Result<(), Fail> {
-    let text = b"0,CLIP0001\n1,\"A,B\"\n".as_slice();
-    let driver = driver_after(&rt, 100)?;
-    let mut whole = Failing::new(rt.alloc(), 1000);
-    write_reported(rt.alloc(), driver.controller(), Rate::F25, &mut whole)?;
-    assert_eq!(rt; whole.bytes.as_slice(), text);
-    assert_eq!(rt; whole.flushes, 1);
+    let (whole, _) = written_after(&rt, 100, 1000)?;
+    assert_eq!(rt; (whole.bytes.as_slice(), whole.flushes), (PLAYED, 1));
     for left in 0..whole.calls {
-        let mut file = Failing::new(rt.alloc(), left);
-        let written = write_reported(rt.alloc(), driver.controller(), Rate::F25, &mut file);
-        assert_eq!(rt; written, Err(WriteFault::Device), "after {left}");
-        assert_eq!(rt; file.calls, left + 1);
-        assert!(rt; text.starts_with(file.bytes.as_slice()), "after {left}");
+        let (file, written) = written_after(&rt, 100, left)?;
+        assert_eq!(rt;
+            (written, file.calls),
+            (Err(WriteFault::Device), left + 1),
+            "after {left}"
+        );
+        assert!(rt; PLAYED.starts_with(file.bytes.as_slice()), "after {left}");
     }
     Ok(())
 }

@@ -1,8 +1,9 @@
 use super::{AirLog, Log, Logged};
 use crate::failing::Failing;
 use std::alloc::Global;
+use std::io::Write;
 use std::test::Fail;
-use vdcp_drive::{Came, Entry, PIECE, Ran, ScriptWire, Server, WatchAir, Wire};
+use vdcp_drive::{Came, DriveFault, Entry, PIECE, Ran, ScriptWire, Server, WatchAir, Wire};
 use vdcp_list::Slots;
 use vdcp_port::Port;
 use vdcp_value::{ClipId, Item, Part, Rate};
@@ -44,16 +45,24 @@ const LINES: &str = "<- unit 0 type 3 code 01 data 0101 = open 01 01
 <- cut 1
 ";
 
+/// Serves these entries and logs the messages: how that ended, and how many bytes were sent.
+fn serve_logged<W: Write + Drop>(
+    alloc: Global,
+    writer: W,
+) -> Result<(Result<Ran, DriveFault>, usize), Fail> {
+    let log = Log::new(writer);
+    let wire = Logged::new(ScriptWire::new(alloc, entries(alloc)?), &log);
+    let mut server = Server::new(Port::new(Slots::<1>::new(), 0, 1), wire);
+    let ran = server.serve(100);
+    Ok((ran, server.wire().wire.sent().len()))
+}
+
 #[test]
 fn messages_of_both_ways_are_logged(rt: HostRuntime) -> Result<(), Fail> {
     let alloc = rt.alloc();
     let mut lines = Vec::new(alloc);
-    let log = Log::new(&mut lines);
-    let wire = Logged::new(ScriptWire::new(alloc, entries(alloc)?), &log);
-    let mut server = Server::new(Port::new(Slots::<1>::new(), 0, 1), wire);
-    assert_eq!(rt; server.serve(100), Ok(Ran::Closed));
-    drop(server);
-    drop(log);
+    let (ran, _) = serve_logged(alloc, &mut lines)?;
+    assert_eq!(rt; ran, Ok(Ran::Closed));
     assert_eq!(rt; lines.as_slice(), LINES.as_bytes());
     Ok(())
 }
@@ -63,13 +72,7 @@ fn failed_log_fails_no_wire(rt: HostRuntime) -> Result<(), Fail> {
     let alloc = rt.alloc();
     for left in 0..40 {
         let mut writer = Failing::new(alloc, left);
-        let log = Log::new(&mut writer);
-        let wire = Logged::new(ScriptWire::new(alloc, entries(alloc)?), &log);
-        let mut server = Server::new(Port::new(Slots::<1>::new(), 0, 1), wire);
-        assert_eq!(rt; server.serve(100), Ok(Ran::Closed));
-        assert_eq!(rt; server.wire().wire.sent().len(), 13);
-        drop(server);
-        drop(log);
+        assert_eq!(rt; serve_logged(alloc, &mut writer)?, (Ok(Ran::Closed), 13));
         assert!(rt; writer.calls <= left + 1);
         assert!(rt; LINES.as_bytes().starts_with(writer.bytes.as_slice()));
     }

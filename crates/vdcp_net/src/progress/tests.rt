@@ -55,15 +55,19 @@ fn driver(rt: &HostRuntime) -> Result<AutoDriver<List, ScriptWire<Global>>, Fail
     Ok(AutoDriver::new(Controller::new(list, 1, 3), 0, wire))
 }
 
-#[test]
-fn run_is_shown_as_it_goes(rt: HostRuntime) -> Result<(), Fail> {
-    let mut driver = driver(&rt)?;
-    let clock = Ticking::new(70_000, 1000);
-    let mut text = Vec::new(rt.alloc());
-    let mut progress = Progress::new(&clock, &mut text);
+// Plays the two events, and shows that on a terminal: how many are settled.
+fn show<W: io::Write + Drop>(rt: &HostRuntime, clock: Ticking, terminal: W) -> Result<usize, Fail> {
+    let mut driver = driver(rt)?;
+    let mut progress = Progress::new(&clock, terminal);
     let _ = driver.run_watched(100, &mut progress)?;
     progress.clear();
-    drop(progress);
+    Ok(driver.controller().settled())
+}
+
+#[test]
+fn run_is_shown_as_it_goes(rt: HostRuntime) -> Result<(), Fail> {
+    let mut text = Vec::new(rt.alloc());
+    let _ = show(&rt, Ticking::new(70_000, 1000), &mut text)?;
     // There are two looks for each of the 14 commands, and each is drawn.
     let text = str::from_utf8(text.as_slice())?;
     for line in [
@@ -89,13 +93,8 @@ fn run_is_shown_as_it_goes(rt: HostRuntime) -> Result<(), Fail> {
 #[test]
 fn unchanged_line_is_drawn_ten_times_a_second_at_most(rt: HostRuntime) -> Result<(), Fail> {
     for (step, drawn) in [(99, 15), (100, 29)] {
-        let mut driver = driver(&rt)?;
-        let clock = Ticking::new(step, 1000);
         let mut text = Vec::new(rt.alloc());
-        let mut progress = Progress::new(&clock, &mut text);
-        let _ = driver.run_watched(100, &mut progress)?;
-        progress.clear();
-        drop(progress);
+        let _ = show(&rt, Ticking::new(step, 1000), &mut text)?;
         let count = text.iter().filter(|byte| **byte == b'\r').count();
         assert_eq!(rt; count, drawn, "{step}");
     }
@@ -127,28 +126,17 @@ fn line_fits_a_narrow_terminal(rt: HostRuntime) -> Result<(), Fail> {
 #[test]
 fn failing_terminal_is_left_alone(rt: HostRuntime) -> Result<(), Fail> {
     for left in 0..6 {
-        let mut driver = driver(&rt)?;
-        let clock = Ticking::new(1000, 1000);
         let mut terminal = Failing::new(rt.alloc(), left);
-        let mut progress = Progress::new(&clock, &mut terminal);
-        let _ = driver.run_watched(100, &mut progress)?;
-        progress.clear();
-        drop(progress);
-        assert_eq!(rt; terminal.calls, left + 1);
-        assert_eq!(rt; driver.controller().settled(), 2);
+        let settled = show(&rt, Ticking::new(1000, 1000), &mut terminal)?;
+        assert_eq!(rt; (terminal.calls, settled), (left + 1, 2));
     }
     Ok(())
 }
 
 #[test]
 fn nothing_is_shown_without_a_clock(rt: HostRuntime) -> Result<(), Fail> {
-    let mut driver = driver(&rt)?;
-    let clock = Ticking::new(1000, 0);
     let mut text = Vec::new(rt.alloc());
-    let mut progress = Progress::new(&clock, &mut text);
-    let _ = driver.run_watched(100, &mut progress)?;
-    progress.clear();
-    drop(progress);
+    let _ = show(&rt, Ticking::new(1000, 0), &mut text)?;
     assert!(rt; text.is_empty());
     Ok(())
 }

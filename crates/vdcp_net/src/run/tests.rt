@@ -1,6 +1,6 @@
 ghost use Rattle.std.specs.Prelude.{◌≡◌, false};
 
-use super::{RunSettings, Showing, new_controller, play, play_shown};
+use super::{RunEnd, RunSettings, Showing, new_controller, play, play_shown};
 use crate::answers::{
     ABSENT, ACK, ACTIVE_2, CUED, DENIED, GRANTED, IDLE, PRESENT, REFUSED, TWO_EVENTS, two_played,
     wire_of,
@@ -28,6 +28,14 @@ const SETTINGS: RunSettings<'static> = RunSettings {
     asrun: None,
 };
 
+// Tells an end.
+fn tell(alloc: Global, end: RunEnd<'_>) -> Result<Told, Fail> {
+    let mut out = Vec::new(alloc);
+    let mut err = Vec::new(alloc);
+    let status = end.tell(&mut out, &mut err)?;
+    Ok(Told { out, err, status })
+}
+
 // Plays a list over a wire.
 fn played(
     rt: &HostRuntime,
@@ -43,17 +51,14 @@ fn played(
     };
     let list = read_list(rt.alloc(), list, settings.rate)?;
     let mut driver = AutoDriver::new(new_controller(list, settings), 0, wire);
-    let mut out = Vec::new(rt.alloc());
-    let mut err = Vec::new(rt.alloc());
-    let end = play(rt, &mut driver, &mut Unwatched, settings);
-    let status = end.tell(&mut out, &mut err)?;
-    Ok(Told { out, err, status })
+    tell(rt.alloc(), play(rt, &mut driver, &mut Unwatched, settings))
 }
 
 fn expect(rt: &impl Abort, told: &Told, out: &str, err: &str, status: u8) {
-    assert_eq!(rt; told.out.as_slice(), out.as_bytes());
-    assert_eq!(rt; told.err.as_slice(), err.as_bytes(), "{out}");
-    assert_eq!(rt; told.status, status, "{out}");
+    assert_eq!(rt;
+        (told.out.as_slice(), told.err.as_slice(), told.status),
+        (out.as_bytes(), err.as_bytes(), status)
+    );
 }
 
 // But for Stopped: nobody stops a run.
@@ -204,6 +209,13 @@ fn temporary(rt: &HostRuntime, name: &str) -> Result<String, Fail> {
     Ok(format!(in rt.alloc(); "{folder}/vdcp_run_{id}_{name}.csv")?)
 }
 
+// What stands in a file, which is removed.
+fn take_file(rt: &HostRuntime, name: &str) -> Result<String, Fail> {
+    let written = fs::read_to_string(rt, name)?;
+    fs::remove_file(rt, name)?;
+    Ok(written)
+}
+
 #[test]
 fn asrun_file_has_the_reported_events(rt: HostRuntime) -> Result<(), Fail> {
     let name = temporary(&rt, "asrun")?;
@@ -244,12 +256,10 @@ fn asrun_file_of_parts_has_their_times(rt: HostRuntime) -> Result<(), Fail> {
     let list = b"CLIP0001,00:01:00;02,00:00:03;00\n\"A,B\",,\n";
     let told = played(&rt, list, wire_of(rt.alloc(), &two_played())?, settings)?;
     expect(&rt, &told, "reported 2\noutcome done\n", "", 0);
-    let written = fs::read_to_string(&rt, name.as_str())?;
     assert_eq!(rt;
-        written.as_str(),
+        take_file(&rt, name.as_str())?.as_str(),
         "0,CLIP0001,00:01:00;02,00:00:03;00\n1,\"A,B\",,\n"
     );
-    fs::remove_file(&rt, name.as_str())?;
     Ok(())
 }
 
@@ -321,9 +331,8 @@ fn asrun_file_that_is_not_written_is_told_first(rt: HostRuntime) -> Result<(), F
     Ok(())
 }
 
-// Where standard output fails, standard error is told nothing.
-#[test]
-fn failing_call_of_a_writer_is_its_last(rt: HostRuntime) -> Result<(), Fail> {
+// The end of a run that has reported one event and spent its listens, and whose as-run file can't be made.
+fn spent_end(rt: &HostRuntime) -> Result<RunEnd<'static>, Fail> {
     let list = read_list(rt.alloc(), TWO_EVENTS, Rate::F25)?;
     let settings = RunSettings {
         asrun: Some("/"),
@@ -333,30 +342,67 @@ fn failing_call_of_a_writer_is_its_last(rt: HostRuntime) -> Result<(), Fail> {
     };
     let wire = wire_of(rt.alloc(), &two_played())?;
     let mut driver = AutoDriver::new(new_controller(list, settings), 0, wire);
-    let end = play(&rt, &mut driver, &mut Unwatched, settings);
-    let text = b"reported 1\noutcome open\n".as_slice();
-    let faults = b"vdcp: /: cannot open\nvdcp: spent\n".as_slice();
-    let mut whole = Failing::new(rt.alloc(), 1000);
-    let mut told = Failing::new(rt.alloc(), 1000);
-    assert_eq!(rt; end.tell(&mut whole, &mut told).ok(), Some(3));
-    assert_eq!(rt; whole.bytes.as_slice(), text);
-    assert_eq!(rt; whole.flushes, 1);
-    assert_eq!(rt; told.bytes.as_slice(), faults);
+    Ok(play(rt, &mut driver, &mut Unwatched, settings))
+}
+
+const SPENT_TEXT: &[u8] = b"reported 1\noutcome open\n";
+
+const SPENT_FAULTS: &[u8] = b"vdcp: /: cannot open\nvdcp: spent\n";
+
+// The two writers that this end was told to, each of which answers so many calls, and the status.
+fn told_to(
+    alloc: Global,
+    end: RunEnd<'_>,
+    out: usize,
+    err: usize,
+) -> (Failing, Failing, Option<u8>) {
+    let mut out = Failing::new(alloc, out);
+    let mut err = Failing::new(alloc, err);
+    let status = end.tell(&mut out, &mut err).ok();
+    (out, err, status)
+}
+
+#[test]
+fn end_is_told_whole(rt: HostRuntime) -> Result<(), Fail> {
+    let (out, err, status) = told_to(rt.alloc(), spent_end(&rt)?, 1000, 1000);
+    assert_eq!(rt; (status, out.flushes), (Some(3), 1));
+    assert_eq!(rt; out.bytes.as_slice(), SPENT_TEXT);
+    assert_eq!(rt; err.bytes.as_slice(), SPENT_FAULTS);
+    Ok(())
+}
+
+// Where standard output fails, standard error is told nothing.
+#[test]
+fn failing_call_of_standard_output_is_the_last(rt: HostRuntime) -> Result<(), Fail> {
+    let end = spent_end(&rt)?;
+    let (whole, _, _) = told_to(rt.alloc(), end, 1000, 1000);
     for left in 0..whole.calls {
-        let mut out = Failing::new(rt.alloc(), left);
-        let mut err = Failing::new(rt.alloc(), 1000);
-        assert!(rt; end.tell(&mut out, &mut err).is_err());
-        assert_eq!(rt; out.calls, left + 1);
-        assert!(rt; text.starts_with(out.bytes.as_slice()), "after {left}");
-        assert_eq!(rt; err.calls, 0, "after {left}");
+        let (out, err, status) = told_to(rt.alloc(), end, left, 1000);
+        assert_eq!(rt;
+            (status, out.calls, err.calls),
+            (None, left + 1, 0),
+            "after {left}"
+        );
+        assert!(rt;
+            SPENT_TEXT.starts_with(out.bytes.as_slice()),
+            "after {left}"
+        );
     }
+    Ok(())
+}
+
+#[test]
+fn failing_call_of_standard_error_is_the_last(rt: HostRuntime) -> Result<(), Fail> {
+    let end = spent_end(&rt)?;
+    let (_, told, _) = told_to(rt.alloc(), end, 1000, 1000);
     for left in 0..told.calls {
-        let mut out = Failing::new(rt.alloc(), 1000);
-        let mut err = Failing::new(rt.alloc(), left);
-        assert!(rt; end.tell(&mut out, &mut err).is_err());
-        assert_eq!(rt; err.calls, left + 1);
-        assert!(rt; faults.starts_with(err.bytes.as_slice()), "after {left}");
-        assert_eq!(rt; out.bytes.as_slice(), text, "after {left}");
+        let (out, err, status) = told_to(rt.alloc(), end, 1000, left);
+        assert_eq!(rt; (status, err.calls), (None, left + 1), "after {left}");
+        assert!(rt;
+            SPENT_FAULTS.starts_with(err.bytes.as_slice()),
+            "after {left}"
+        );
+        assert_eq!(rt; out.bytes.as_slice(), SPENT_TEXT, "after {left}");
     }
     Ok(())
 }
@@ -372,10 +418,8 @@ fn messages_are_shown(rt: HostRuntime) -> Result<(), Fail> {
     let controller = new_controller(list, settings);
     let wire = wire_of(rt.alloc(), &[DENIED])?;
     let mut log = Vec::new(rt.alloc());
-    let mut out = Vec::new(rt.alloc());
-    let mut err = Vec::new(rt.alloc());
     let end = play_shown(&rt, controller, wire, settings, Showing::Messages(&mut log));
-    assert_eq!(rt; end.tell(&mut out, &mut err)?, 1);
+    assert_eq!(rt; tell(rt.alloc(), end)?.status, 1);
     let text =
         b"-> unit 0 type 3 code 01 data 0101 = open 01 01\n<- unit 0 type 3 code 81 data 00 = denied\n";
     assert_eq!(rt; log.as_slice(), text.as_slice());

@@ -75,18 +75,54 @@ fn settings(turns: u32) -> ServeSettings
     }
 }
 
-/// Serves for so many turns.
-fn served<R: Net + AllocGlobal>(rt: &R, address: &str, catalogue: &[u8], turns: u32) -> Told {
-    let settings = settings(turns);
+/// Serves the clips of a reader for so many turns, with so many milliseconds of silence: the status.
+fn serve_to<N, C, W>(
+    net: &N,
+    address: &str,
+    clips: C,
+    (turns, silence): (u32, u32),
+    out: &mut W,
+    err: &mut Vec<u8>,
+) -> u8
+where
+    N: Net + AllocGlobal,
+    C: Read + Drop,
+    W: Write,
+{
+    let settings = ServeSettings {
+        silence,
+        ..settings(turns)
+    };
     let catalogue = Input {
         name: "clips.csv",
-        reader: catalogue,
+        reader: clips,
     };
     let log: Option<Vec<u8>> = None;
-    let mut out = Vec::new(rt.alloc());
-    let mut err = Vec::new(rt.alloc());
-    let status = do_serve(rt, address, catalogue, settings, log, &mut out, &mut err);
+    do_serve(net, address, catalogue, settings, log, out, err)
+}
+
+/// What is told where the clips of a reader are served for so many turns, with so many milliseconds of silence.
+fn served_with<N, C>(net: &N, address: &str, clips: C, turns: u32, silence: u32) -> Told
+where
+    N: Net + AllocGlobal,
+    C: Read + Drop,
+{
+    let mut out = Vec::new(net.alloc());
+    let mut err = Vec::new(net.alloc());
+    let status = serve_to(net, address, clips, (turns, silence), &mut out, &mut err);
     Told { out, err, status }
+}
+
+/// Serves for so many turns.
+fn served<R: Net + AllocGlobal>(rt: &R, address: &str, catalogue: &[u8], turns: u32) -> Told {
+    served_with(rt, address, catalogue, turns, 4)
+}
+
+/// Nothing but these texts and this status is told.
+fn expect(rt: &impl Abort, told: &Told, out: &str, err: &str, status: u8) {
+    assert_eq!(rt; told.out.as_slice(), out.as_bytes());
+    assert_eq!(rt; told.err.as_slice(), err.as_bytes(), "{out}");
+    assert_eq!(rt; told.status, status, "{out}");
 }
 
 /// Serves an automation that has connected and sent these bytes, and then closes its side if it `closes`:
@@ -106,9 +142,7 @@ where
     let mut text = format!(in rt.alloc(); "listening {address}\n")?;
     text.push_str(last)?;
     text.push_str("\n")?;
-    assert_eq!(rt; told.out.as_slice(), text.as_bytes());
-    assert!(rt; told.err.is_empty());
-    assert_eq!(rt; told.status, 0);
+    expect(rt, &told, text.as_str(), "", 0);
     let mut answers = Vec::new(rt.alloc());
     automation.read_to_end(&mut answers)?;
     Ok(answers)
@@ -185,27 +219,11 @@ fn catalogue_is_read_before_the_address_is_bound(rt: HostRuntime) -> Result<(), 
 
 #[test]
 fn catalogue_that_is_not_read_is_told(rt: HostRuntime) {
-    let settings = settings(1);
-    let catalogue = Input {
-        name: "clips.csv",
-        reader: FailingReader {
-            left: 2,
-            bytes: CLIPS,
-        },
+    let clips = FailingReader {
+        left: 2,
+        bytes: CLIPS,
     };
-    let log: Option<Vec<u8>> = None;
-    let mut out = Vec::new(rt.alloc());
-    let mut err = Vec::new(rt.alloc());
-    let status = do_serve(
-        &rt,
-        "127.0.0.1:0",
-        catalogue,
-        settings,
-        log,
-        &mut out,
-        &mut err,
-    );
-    let told = Told { out, err, status };
+    let told = served_with(&rt, "127.0.0.1:0", clips, 1, 4);
     expect_refused(&rt, &told, "vdcp: clips.csv: read\n", 3);
 }
 
@@ -215,30 +233,9 @@ fn refused_silence_is_a_failed_line(rt: HostRuntime) -> Result<(), Fail> {
     let (listener, address) = listen(&rt)?;
     let _automation = TcpStream::connect(&rt, address)?;
     let net = (Ready { listener }, rt.alloc());
-    let settings = ServeSettings {
-        silence: 0,
-        ..settings(1)
-    };
-    let catalogue = Input {
-        name: "clips.csv",
-        reader: CLIPS,
-    };
-    let log: Option<Vec<u8>> = None;
-    let mut out = Vec::new(rt.alloc());
-    let mut err = Vec::new(rt.alloc());
-    let status = do_serve(
-        &net,
-        "127.0.0.1:0",
-        catalogue,
-        settings,
-        log,
-        &mut out,
-        &mut err,
-    );
+    let told = served_with(&net, "127.0.0.1:0", CLIPS, 1, 0);
     let text = format!(in rt.alloc(); "listening {address}\n")?;
-    assert_eq!(rt; out.as_slice(), text.as_bytes());
-    assert_eq!(rt; err.as_slice(), b"vdcp: line failed\n".as_slice());
-    assert_eq!(rt; status, 3);
+    expect(&rt, &told, text.as_str(), "vdcp: line failed\n", 3);
     Ok(())
 }
 
@@ -250,46 +247,36 @@ fn refused_connection_is_told(rt: HostRuntime) -> Result<(), Fail> {
     let net = (Ready { listener }, rt.alloc());
     let told = served(&net, "127.0.0.1:0", CLIPS, 1);
     let text = format!(in rt.alloc(); "listening {address}\n")?;
-    assert_eq!(rt; told.out.as_slice(), text.as_bytes());
-    assert_eq!(rt; told.err.as_slice(), b"vdcp: cannot bind\n".as_slice());
-    assert_eq!(rt; told.status, 3);
+    expect(&rt, &told, text.as_str(), "vdcp: cannot bind\n", 3);
     Ok(())
+}
+
+/// Serves an automation that closes at once, for one turn: the status, and the whole text that `out` is to get.
+fn served_at_once<R>(rt: &R, out: &mut Failing) -> Result<(u8, String), Fail>
+where
+    R: Net<Listener = TcpListener, Stream = TcpStream> + AllocGlobal + Abort,
+{
+    let (listener, address) = listen(rt)?;
+    drop(TcpStream::connect(rt, address)?);
+    let net = (Ready { listener }, rt.alloc());
+    let mut err = Vec::new(rt.alloc());
+    let status = serve_to(&net, "127.0.0.1:0", CLIPS, (1, 4), out, &mut err);
+    assert!(rt; err.is_empty());
+    let text = format!(in rt.alloc(); "listening {address}\nclosed\n")?;
+    Ok((status, text))
 }
 
 #[test]
 fn failing_call_of_the_writer_is_the_last(rt: HostRuntime) -> Result<(), Fail> {
     for left in 0..100 {
-        let (listener, address) = listen(&rt)?;
-        let automation = TcpStream::connect(&rt, address)?;
-        drop(automation);
-        let net = (Ready { listener }, rt.alloc());
-        let settings = settings(1);
-        let catalogue = Input {
-            name: "clips.csv",
-            reader: CLIPS,
-        };
-        let log: Option<Vec<u8>> = None;
         let mut out = Failing::new(rt.alloc(), left);
-        let mut err = Vec::new(rt.alloc());
-        let status = do_serve(
-            &net,
-            "127.0.0.1:0",
-            catalogue,
-            settings,
-            log,
-            &mut out,
-            &mut err,
-        );
-        let text = format!(in rt.alloc(); "listening {address}\nclosed\n")?;
-        assert!(rt; err.is_empty());
+        let (status, text) = served_at_once(&rt, &mut out)?;
         assert!(rt; text.as_bytes().starts_with(out.bytes.as_slice()));
         if status == 0 {
-            assert_eq!(rt; out.bytes.len(), text.len());
-            assert_eq!(rt; out.flushes, 2);
+            assert_eq!(rt; (out.bytes.len(), out.flushes), (text.len(), 2));
             return Ok(());
         }
-        assert_eq!(rt; status, 3);
-        assert_eq!(rt; out.calls, left + 1);
+        assert_eq!(rt; (status, out.calls), (3, left + 1));
     }
     Err("it is never served".into())
 }

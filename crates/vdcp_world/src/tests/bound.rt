@@ -5,6 +5,7 @@ ghost use Rattle.vdcp_world.specs.BoundedEnd.{CanGoOn, rounds_to_go_on};
 ghost use Rattle.vdcp_world.specs.Rounds.{good_round, times};
 
 use super::clips::{Clips, ONE, Shelf, TWO};
+use super::seen::{confirming, plain};
 use crate::event::Event;
 use crate::script::read_script;
 use crate::world::World;
@@ -40,14 +41,14 @@ fn reported_behind(
     Ok(played(&mut world, then.as_slice())?)
 }
 
-/// A new world in plain mode.
-fn plain(alloc: Global, clips: Clips) -> Result<World<Clips, Shelf, Global>, Fail> {
-    Ok(World::new(alloc, clips, Shelf::two_clips()?, 0, 0x01, 3))
-}
-
-/// A new world in confirm mode.
-fn confirming(alloc: Global, clips: Clips) -> Result<World<Clips, Shelf, Global>, Fail> {
-    Ok(World::confirming(alloc, clips, Shelf::two_clips()?, 0, 0x01, 3, 1))
+/// As `reported_behind`, in a new world in plain mode.
+fn reported_in_plain_mode(
+    alloc: Global,
+    clips: Clips,
+    first: &str,
+    then: &str,
+) -> Result<(usize, Option<Outcome>), Fail> {
+    reported_behind(alloc, plain(alloc, clips)?, first, then)
 }
 
 /// What happens first in a world of two clips in plain mode, how many good rounds bring its playlist to air
@@ -90,10 +91,9 @@ fn one_good_round_fewer_is_not_enough(rt: HostRuntime) -> Result<(), Fail> {
     let alloc = rt.alloc();
     for (first, enough, few) in &PLACES {
         let two = Clips::two(ONE, TWO);
-        let (reported, outcome) = reported_behind(alloc, plain(alloc, two)?, first, enough)?;
-        assert_eq!(rt; reported, 2, "{first}");
-        assert_eq!(rt; outcome, Some(Outcome::Done), "{first}");
-        let (_, outcome) = reported_behind(alloc, plain(alloc, two)?, first, few)?;
+        let enough = reported_in_plain_mode(alloc, two, first, enough)?;
+        assert_eq!(rt; enough, (2, Some(Outcome::Done)), "{first}");
+        let (_, outcome) = reported_in_plain_mode(alloc, two, first, few)?;
         assert_eq!(rt; outcome, None, "{first}");
     }
     Ok(())
@@ -130,12 +130,12 @@ fn each_length_of_playlist_has_its_least_rounds(rt: HostRuntime) -> Result<(), F
     ] {
         let done = (events, Some(Outcome::Done));
         assert_eq!(rt;
-            reported_behind(alloc, plain(alloc, clips)?, "", enough)?,
+            reported_in_plain_mode(alloc, clips, "", enough)?,
             done,
             "{events}"
         );
         assert_eq!(rt;
-            reported_behind(alloc, plain(alloc, clips)?, "", few)?.1,
+            reported_in_plain_mode(alloc, clips, "", few)?.1,
             None,
             "{events}"
         );

@@ -1,5 +1,6 @@
 //! Events where they can't happen: the world goes on as if nothing had been.
 use super::clips::{Clips, ONE, Shelf, TWO};
+use super::seen::{confirming, plain, run};
 use crate::burst::Burst;
 use crate::event::Event;
 use crate::script::read_script;
@@ -7,6 +8,8 @@ use crate::world::World;
 use std::alloc::Global;
 use std::process::Abort;
 use std::test::Fail;
+use vdcp_auto::{Exchange, Outcome};
+use vdcp_value::Item;
 
 /// The modes in which an event can't happen.
 #[derive(Clone, Copy, PartialEq, Eq)]
@@ -92,14 +95,48 @@ const ENDED: Place = Place {
     after: "good\n",
 };
 
-fn world(alloc: Global, confirms: bool) -> Result<World<Clips, Shelf, Global>, &'static str> {
+/// A new world of two clips, in confirm mode or in plain mode.
+fn new_world(alloc: Global, confirms: bool) -> Result<World<Clips, Shelf, Global>, Fail> {
     let clips = Clips::two(ONE, TWO);
-    let shelf = Shelf::two_clips()?;
-    Ok(if confirms {
-        World::confirming(alloc, clips, shelf, 0, 0x01, 3, 1)
+    if confirms {
+        confirming(alloc, clips)
     } else {
-        World::new(alloc, clips, shelf, 0, 0x01, 3)
-    })
+        plain(alloc, clips)
+    }
+}
+
+/// A script happens.
+fn run_script(
+    alloc: Global,
+    world: &mut World<Clips, Shelf, Global>,
+    script: &str,
+) -> Result<(), Fail> {
+    let events = read_script(alloc, script)?;
+    Ok(run(world, events.as_slice())?)
+}
+
+/// The scripts of a place happen, and the event between them where there is one.
+fn run_place(
+    alloc: Global,
+    world: &mut World<Clips, Shelf, Global>,
+    place: &Place,
+    event: Option<&str>,
+) -> Result<(), Fail> {
+    run_script(alloc, world, place.before)?;
+    if let Some(event) = event {
+        run_script(alloc, world, event)?;
+    }
+    run_script(alloc, world, place.after)
+}
+
+/// All that is seen of a world.
+fn seen(world: &World<Clips, Shelf, Global>) -> (&[Item], usize, &[Exchange], Option<Outcome>) {
+    (
+        world.aired(),
+        world.reported(),
+        world.log(),
+        world.outcome(),
+    )
 }
 
 /// With the event and without it, the same comes of a world.
@@ -110,20 +147,11 @@ fn expect_same(
     place: &Place,
     event: &str,
 ) -> Result<(), Fail> {
-    let mut without = world(alloc, confirms)?;
-    let mut with = world(alloc, confirms)?;
-    let before = read_script(alloc, place.before)?;
-    let after = read_script(alloc, place.after)?;
-    let none = read_script(alloc, event)?;
-    without.run(before.as_slice())?;
-    without.run(after.as_slice())?;
-    with.run(before.as_slice())?;
-    with.run(none.as_slice())?;
-    with.run(after.as_slice())?;
-    assert_eq!(rt; with.aired(), without.aired(), "{event}");
-    assert_eq!(rt; with.reported(), without.reported(), "{event}");
-    assert_eq!(rt; with.log(), without.log(), "{event}");
-    assert_eq!(rt; with.outcome(), without.outcome(), "{event}");
+    let mut without = new_world(alloc, confirms)?;
+    let mut with = new_world(alloc, confirms)?;
+    run_place(alloc, &mut without, place, None)?;
+    run_place(alloc, &mut with, place, Some(event))?;
+    assert_eq!(rt; seen(&with), seen(&without), "{event}");
     Ok(())
 }
 
@@ -147,14 +175,14 @@ fn damage_has_a_limit(rt: HostRuntime) -> Result<(), Fail> {
         for _ in 0..count {
             junk.push(0xFF)?;
         }
-        let mut world = world(rt.alloc(), false)?;
+        let mut world = plain(rt.alloc(), Clips::two(ONE, TWO))?;
         let events = [
             Event::Tick,
             Event::AlterUp(Burst::new(junk)),
             Event::LoseDown,
             Event::Timeout,
         ];
-        world.run(&events)?;
+        run(&mut world, &events)?;
         assert_eq!(rt; world.log().len(), exchanges);
     }
     Ok(())

@@ -1,5 +1,6 @@
 //! What comes of a world, for some scripts.
 use super::clips::{Clips, EarlyPart, LatePart, NINE, ONE, Shelf, TWO, early_part};
+use super::seen::{Counts, confirming, counts_of, plain, run};
 use crate::script::read_script;
 use crate::world::World;
 use std::alloc::Global;
@@ -284,6 +285,34 @@ fn clips_of(row: &Row) -> Clips {
     }
 }
 
+/// What went to air begins with these clips, as whole items.
+fn airs_clips(rt: &impl Abort, aired: &[Item], clips: &[[u8; 8]], name: &str) {
+    for (item, id) in aired.iter().zip(clips) {
+        assert_eq!(rt; *item, whole(*id), "{name}");
+    }
+}
+
+/// These exchanges stand in the log at their places.
+fn has_exchanges(rt: &impl Abort, log: &[Exchange], at: &[(usize, Known)], name: &str) {
+    for (number, known) in at {
+        let there = log.get(number.saturating_sub(1)).copied();
+        assert_eq!(rt; there, Some(known.exchange()), "{name}");
+    }
+}
+
+/// The world is as the row says.
+fn is_as_in(rt: &impl Abort, world: &World<Clips, Shelf, Global>, row: &Row) {
+    let wanted = Counts {
+        aired: row.aired.len(),
+        reported: row.reported,
+        exchanges: row.exchanges,
+        outcome: row.outcome,
+    };
+    assert_eq!(rt; counts_of(world), wanted, "{}", row.name);
+    airs_clips(rt, world.aired(), row.aired, row.name);
+    has_exchanges(rt, world.log(), row.at, row.name);
+}
+
 /// The script's events happen, and the world is then as the row says.
 fn check(
     rt: &impl Abort,
@@ -292,25 +321,15 @@ fn check(
     row: &Row,
 ) -> Result<(), Fail> {
     let events = read_script(alloc, row.script)?;
-    world.run(events.as_slice())?;
-    assert_eq!(rt; world.aired().len(), row.aired.len(), "{}", row.name);
-    for (item, id) in world.aired().iter().zip(row.aired) {
-        assert_eq!(rt; *item, whole(*id), "{}", row.name);
-    }
-    assert_eq!(rt; world.reported(), row.reported, "{}", row.name);
-    assert_eq!(rt; world.log().len(), row.exchanges, "{}", row.name);
-    assert_eq!(rt; world.outcome(), row.outcome, "{}", row.name);
-    for (number, known) in row.at {
-        let there = world.log().get(number.saturating_sub(1)).copied();
-        assert_eq!(rt; there, Some(known.exchange()), "{}", row.name);
-    }
+    run(&mut world, events.as_slice())?;
+    is_as_in(rt, &world, row);
     Ok(())
 }
 
 #[test]
 fn scripts_come_to_their_rows_in_plain_mode(rt: HostRuntime) -> Result<(), Fail> {
     for row in PLAIN {
-        let world = World::new(rt.alloc(), clips_of(row), Shelf::two_clips()?, 0, 0x01, 3);
+        let world = plain(rt.alloc(), clips_of(row))?;
         check(&rt, rt.alloc(), world, row)?;
     }
     Ok(())
@@ -354,15 +373,7 @@ fn scripts_come_to_their_rows_by_the_frame(rt: HostRuntime) -> Result<(), Fail> 
 #[test]
 fn scripts_come_to_their_rows_in_confirm_mode(rt: HostRuntime) -> Result<(), Fail> {
     for row in CONFIRMING {
-        let world = World::confirming(
-            rt.alloc(),
-            clips_of(row),
-            Shelf::two_clips()?,
-            0,
-            0x01,
-            3,
-            1,
-        );
+        let world = confirming(rt.alloc(), clips_of(row))?;
         check(&rt, rt.alloc(), world, row)?;
     }
     Ok(())
@@ -371,42 +382,43 @@ fn scripts_come_to_their_rows_in_confirm_mode(rt: HostRuntime) -> Result<(), Fai
 #[test]
 fn a_part_airs_as_a_part(rt: HostRuntime) -> Result<(), Fail> {
     let events = read_script(rt.alloc(), "good 14\n")?;
-    let mut world = World::new(
-        rt.alloc(),
-        EarlyPart::new(),
-        Shelf::two_clips()?,
-        0,
-        0x01,
-        3,
-    );
-    world.run(events.as_slice())?;
+    let mut world = plain(rt.alloc(), EarlyPart::new())?;
+    run(&mut world, events.as_slice())?;
     assert_eq!(rt; world.aired(), [early_part(), whole(TWO)].as_slice());
-    assert_eq!(rt; world.reported(), 2);
-    assert_eq!(rt; world.log().len(), 14);
-    assert_eq!(rt; world.outcome(), Some(Outcome::Done));
+    let wanted = Counts {
+        aired: 2,
+        reported: 2,
+        exchanges: 14,
+        outcome: Some(Outcome::Done),
+    };
+    assert_eq!(rt; counts_of(&world), wanted);
+    Ok(())
+}
+
+/// The late part is refused after so many exchanges.
+fn refused_after(exchanges: usize) -> Counts {
+    Counts {
+        aired: 0,
+        reported: 0,
+        exchanges,
+        outcome: Some(Outcome::Refused(0)),
+    }
+}
+
+#[test]
+fn a_part_past_the_clips_end_is_refused_in_plain_mode(rt: HostRuntime) -> Result<(), Fail> {
+    let events = read_script(rt.alloc(), "good 20\n")?;
+    let mut world = plain(rt.alloc(), LatePart::new())?;
+    run(&mut world, events.as_slice())?;
+    assert_eq!(rt; counts_of(&world), refused_after(4));
     Ok(())
 }
 
 #[test]
-fn a_part_past_the_clips_end_is_refused(rt: HostRuntime) -> Result<(), Fail> {
+fn a_part_past_the_clips_end_is_refused_in_confirm_mode(rt: HostRuntime) -> Result<(), Fail> {
     let events = read_script(rt.alloc(), "good 20\n")?;
-    let mut plain = World::new(rt.alloc(), LatePart::new(), Shelf::two_clips()?, 0, 0x01, 3);
-    plain.run(events.as_slice())?;
-    let mut confirms = World::confirming(
-        rt.alloc(),
-        LatePart::new(),
-        Shelf::two_clips()?,
-        0,
-        0x01,
-        3,
-        1,
-    );
-    confirms.run(events.as_slice())?;
-    for (world, exchanges) in [(&plain, 4), (&confirms, 10)] {
-        assert!(rt; world.aired().is_empty());
-        assert_eq!(rt; world.reported(), 0);
-        assert_eq!(rt; world.log().len(), exchanges);
-        assert_eq!(rt; world.outcome(), Some(Outcome::Refused(0)));
-    }
+    let mut world = confirming(rt.alloc(), LatePart::new())?;
+    run(&mut world, events.as_slice())?;
+    assert_eq!(rt; counts_of(&world), refused_after(10));
     Ok(())
 }

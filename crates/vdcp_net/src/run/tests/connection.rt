@@ -1,7 +1,7 @@
 //! Runs over a connection within this process. The far end answers as the near end writes to it.
 ghost use Rattle.std.specs.Prelude.{◌≤◌};
 
-use super::{SETTINGS, expect, temporary};
+use super::{SETTINGS, expect, take_file, tell, temporary};
 use crate::answers::{GRANTED, TWO_EVENTS};
 use crate::run::{RunSettings, Showing, do_run, new_controller, play_connected};
 use crate::told::Told;
@@ -138,12 +138,9 @@ fn played(
     };
     let list = read_list(rt.alloc(), list, settings.rate)?;
     let controller = new_controller(list, settings);
-    let mut out = Vec::new(rt.alloc());
-    let mut err = Vec::new(rt.alloc());
     let showing: Showing<Vec<u8>> = Showing::Nothing;
     let end = play_connected(rt, controller, near, settings, showing);
-    let status = end.tell(&mut out, &mut err)?;
-    Ok(Told { out, err, status })
+    tell(rt.alloc(), end)
 }
 
 #[test]
@@ -234,31 +231,33 @@ fn connection_that_refuses_the_silence_has_failed(rt: HostRuntime) -> Result<(),
         "vdcp: line failed\n",
         3,
     );
-    assert!(rt; fs::read_to_string(&rt, name.as_str())?.is_empty());
-    fs::remove_file(&rt, name.as_str())?;
+    assert!(rt; take_file(&rt, name.as_str())?.is_empty());
     Ok(())
 }
 
-// The far end's clips last one frame, so that each has ended when its state is asked for.
+// A connection to a server of two clips. They last one frame, so that each has ended when its state is asked for.
+fn served(rt: &HostRuntime) -> Result<Near, Fail> {
+    let clips = b"CLIP0001,00:00:00:01\n\"A,B\",00:00:00:01\n".as_slice();
+    let clips = read_catalogue(rt.alloc(), clips, Rate::F25)?;
+    let (stream, far) = pair(rt)?;
+    let wire = StreamWire::new(far, Duration::from_millis(4))?;
+    let far = Far::Serves(Server::new(Port::new(clips, 0, 1), wire));
+    Ok(Near { stream, far })
+}
+
 #[test]
 fn served_list_is_played(rt: HostRuntime) -> Result<(), Fail> {
     let name = temporary(&rt, "served")?;
     for confirm in [false, true] {
-        let (stream, far) = pair(&rt)?;
-        let clips = b"CLIP0001,00:00:00:01\n\"A,B\",00:00:00:01\n".as_slice();
-        let clips = read_catalogue(rt.alloc(), clips, Rate::F25)?;
-        let wire = StreamWire::new(far, Duration::from_millis(4))?;
-        let far = Far::Serves(Server::new(Port::new(clips, 0, 1), wire));
         let settings = RunSettings {
             confirm,
             asrun: Some(name.as_str()),
             ..SETTINGS
         };
-        let told = played(&rt, TWO_EVENTS, Near { stream, far }, settings)?;
+        let told = played(&rt, TWO_EVENTS, served(&rt)?, settings)?;
         expect(&rt, &told, "reported 2\noutcome done\n", "", 0);
-        let written = fs::read_to_string(&rt, name.as_str())?;
+        let written = take_file(&rt, name.as_str())?;
         assert_eq!(rt; written.as_str(), "0,CLIP0001\n1,\"A,B\"\n");
-        fs::remove_file(&rt, name.as_str())?;
     }
     Ok(())
 }
@@ -280,6 +279,13 @@ fn run(rt: &HostRuntime, address: &str, list: &[u8], settings: RunSettings<'_>) 
     Told { out, err, status }
 }
 
+// A listener, and its address as a text.
+fn listen(rt: &HostRuntime) -> Result<(TcpListener, String), Fail> {
+    let listener = TcpListener::bind(rt, SocketAddr::from((Ipv4Addr::LOCALHOST, 0)))?;
+    let address = listener.local_addr()?;
+    Ok((listener, format!(in rt.alloc(); "{address}")?))
+}
+
 #[test]
 fn refused_run_makes_no_file(rt: HostRuntime) -> Result<(), Fail> {
     let name = temporary(&rt, "unmade")?;
@@ -290,9 +296,7 @@ fn refused_run_makes_no_file(rt: HostRuntime) -> Result<(), Fail> {
         ..SETTINGS
     };
     // Nobody listens at the address of a listener that is gone.
-    let listener = TcpListener::bind(&rt, SocketAddr::from((Ipv4Addr::LOCALHOST, 0)))?;
-    let address = listener.local_addr()?;
-    let address = format!(in rt.alloc(); "{address}")?;
+    let (listener, address) = listen(&rt)?;
     drop(listener);
     let rows: [(&str, &[u8], &str, u8); 6] = [
         (address.as_str(), b"CLIP0001\n", "vdcp: cannot connect\n", 3),
@@ -316,6 +320,14 @@ fn refused_run_makes_no_file(rt: HostRuntime) -> Result<(), Fail> {
     Ok(())
 }
 
+// What was sent to a listener over a connection that is closed.
+fn sent_to(rt: &HostRuntime, listener: &TcpListener) -> Result<Vec<u8>, Fail> {
+    let mut sent = Vec::new(rt.alloc());
+    let (mut far, _) = listener.accept()?;
+    far.read_to_end(&mut sent)?;
+    Ok(sent)
+}
+
 // A connection that nobody has accepted takes what is sent, and answers nothing.
 #[test]
 fn run_that_nobody_answers_is_lost(rt: HostRuntime) -> Result<(), Fail> {
@@ -328,20 +340,17 @@ fn run_that_nobody_answers_is_lost(rt: HostRuntime) -> Result<(), Fail> {
         asrun: Some(name.as_str()),
         ..SETTINGS
     };
-    let listener = TcpListener::bind(&rt, SocketAddr::from((Ipv4Addr::LOCALHOST, 0)))?;
-    let address = listener.local_addr()?;
-    let address = format!(in rt.alloc(); "{address}")?;
+    let (listener, address) = listen(&rt)?;
     let start = Instant::now(&rt)?;
     let told = run(&rt, address.as_str(), b"CLIP0001\n", settings);
     assert!(rt; start.elapsed(&rt)? >= Duration::from_millis(200));
     expect(&rt, &told, "reported 0\noutcome lost\n", "", 3);
-    assert!(rt; fs::read_to_string(&rt, name.as_str())?.is_empty());
-    fs::remove_file(&rt, name.as_str())?;
+    assert!(rt; take_file(&rt, name.as_str())?.is_empty());
     // OPEN of port 2 at unit 5 was sent twice.
-    let mut sent = Vec::new(rt.alloc());
-    let (mut far, _) = listener.accept()?;
-    far.read_to_end(&mut sent)?;
     let open = [0x02, 0x04, 0x35, 0x01, 0x02, 0x01, 0xC7];
-    assert_eq!(rt; sent.as_slice(), [open, open].as_flattened());
+    assert_eq!(rt;
+        sent_to(&rt, &listener)?.as_slice(),
+        [open, open].as_flattened()
+    );
     Ok(())
 }

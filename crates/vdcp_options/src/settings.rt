@@ -1,0 +1,155 @@
+ghost use Rattle.clap.specs.Matches.{first_value, found_of};
+ghost use Rattle.std.specs.Prelude.{◌≡◌, ◌≤◌, ℕ, codes, false, option_map, true};
+ghost use Rattle.vdcp_options.specs.Options.{GivesNumber, GivesRate, HasFlag};
+ghost use Rattle.vdcp_value.specs.declared.rate.Rate.{Rate};
+
+use crate::number::{
+    COPY, CUT, DAMAGE, FORGE, LISTENS, LOSE, LOSSY_SILENCE, RUN_SILENCE, SEED, SERVE_SILENCE,
+    WITHIN, cue_frames_of, limit_of, number_of, port_of, turns_of, unit_of,
+};
+use crate::rate::rate_of;
+use clap::ArgMatches;
+use vdcp_lossy::{Chances, LossySettings};
+use vdcp_net::{RunSettings, ServeSettings};
+use vdcp_sim::SimSettings;
+
+// Whether the flag of this name is there.
+fn flag_of(matches: &ArgMatches, name: &str) -> bool
+    ensures there { HasFlag (found_of matches.now) name.now true → result ≡ true }
+    ensures missing { HasFlag (found_of matches.now) name.now false → result ≡ false }
+{
+    matches.get_flag(name)
+}
+
+/// What the options say of a channel, and of what is printed of it.
+pub fn sim_settings_of(matches: &ArgMatches) -> SimSettings
+    ensures unit { result.unit ≤ 15 }
+    ensures some { 1 ≤ result.limit }
+    ensures few { result.limit ≤ 1000 }
+    ensures some_frames { 1 ≤ result.cue_frames }
+    ensures few_frames { result.cue_frames ≤ 1000 }
+    ensures units { (n : ℕ) → GivesNumber (found_of matches.now) (codes "unit") 0 15 n → result.unit ≡ n }
+    ensures ports { (n : ℕ) → GivesNumber (found_of matches.now) (codes "port") 0 255 n → result.port ≡ n }
+    ensures limits { (n : ℕ) → GivesNumber (found_of matches.now) (codes "limit") 1 1000 n → result.limit ≡ n }
+    ensures frames { (n : ℕ) → GivesNumber (found_of matches.now) (codes "cue-frames") 1 1000 n → result.cue_frames ≡ n }
+    ensures rates { (rate : Rate) → GivesRate (found_of matches.now) (codes "rate") rate → result.rate ≡ rate }
+    ensures confirms { HasFlag (found_of matches.now) (codes "confirm") true → result.confirm ≡ true }
+    ensures confirms_not { HasFlag (found_of matches.now) (codes "confirm") false → result.confirm ≡ false }
+    ensures traces { HasFlag (found_of matches.now) (codes "trace") true → result.trace ≡ true }
+    ensures traces_not { HasFlag (found_of matches.now) (codes "trace") false → result.trace ≡ false }
+{
+    SimSettings {
+        unit: unit_of(matches),
+        port: port_of(matches),
+        limit: limit_of(matches),
+        cue_frames: cue_frames_of(matches),
+        confirm: flag_of(matches, "confirm"),
+        rate: rate_of(matches),
+        trace: flag_of(matches, "trace"),
+    }
+}
+
+/// What the options say of a channel that is served.
+pub fn serve_settings_of(matches: &ArgMatches) -> ServeSettings
+    ensures unit { result.unit ≤ 15 }
+    ensures some_frames { 1 ≤ result.cue_frames }
+    ensures few_frames { result.cue_frames ≤ 1000 }
+    ensures some_silence { 1 ≤ result.silence }
+    ensures short_silence { result.silence ≤ 60000 }
+    ensures units { (n : ℕ) → GivesNumber (found_of matches.now) (codes "unit") 0 15 n → result.unit ≡ n }
+    ensures ports { (n : ℕ) → GivesNumber (found_of matches.now) (codes "port") 0 255 n → result.port ≡ n }
+    ensures frames { (n : ℕ) → GivesNumber (found_of matches.now) (codes "cue-frames") 1 1000 n → result.cue_frames ≡ n }
+    ensures silences { (n : ℕ) → GivesNumber (found_of matches.now) (codes "silence") 1 60000 n → result.silence ≡ n }
+    ensures turns { (n : ℕ) → GivesNumber (found_of matches.now) (codes "turns") 1 4294967295 n → result.turns ≡ n }
+    ensures rates { (rate : Rate) → GivesRate (found_of matches.now) (codes "rate") rate → result.rate ≡ rate }
+{
+    ServeSettings {
+        unit: unit_of(matches),
+        port: port_of(matches),
+        cue_frames: cue_frames_of(matches),
+        rate: rate_of(matches),
+        silence: number_of(matches, &SERVE_SILENCE),
+        turns: turns_of(matches),
+    }
+}
+
+/// What the options say of a list that is played.
+pub fn run_settings_of<'a>(matches: &'a ArgMatches<'_>) -> RunSettings<'a>
+    ensures unit { result.unit ≤ 15 }
+    ensures some { 1 ≤ result.limit }
+    ensures few { result.limit ≤ 1000 }
+    ensures some_silence { 1 ≤ result.silence }
+    ensures short_silence { result.silence ≤ 60000 }
+    ensures units { (n : ℕ) → GivesNumber (found_of matches.now) (codes "unit") 0 15 n → result.unit ≡ n }
+    ensures ports { (n : ℕ) → GivesNumber (found_of matches.now) (codes "port") 0 255 n → result.port ≡ n }
+    ensures limits { (n : ℕ) → GivesNumber (found_of matches.now) (codes "limit") 1 1000 n → result.limit ≡ n }
+    ensures silences { (n : ℕ) → GivesNumber (found_of matches.now) (codes "silence") 1 60000 n → result.silence ≡ n }
+    ensures listens { (n : ℕ) → GivesNumber (found_of matches.now) (codes "listens") 1 4294967295 n → result.listens ≡ n }
+    ensures rates { (rate : Rate) → GivesRate (found_of matches.now) (codes "rate") rate → result.rate ≡ rate }
+    ensures confirms { HasFlag (found_of matches.now) (codes "confirm") true → result.confirm ≡ true }
+    ensures confirms_not { HasFlag (found_of matches.now) (codes "confirm") false → result.confirm ≡ false }
+    ensures asruns { option_map (λ name. name.now) result.asrun ≡ first_value (found_of matches.now) (codes "asrun") }
+{
+    RunSettings {
+        unit: unit_of(matches),
+        port: port_of(matches),
+        limit: limit_of(matches),
+        confirm: flag_of(matches, "confirm"),
+        rate: rate_of(matches),
+        silence: number_of(matches, &RUN_SILENCE),
+        listens: number_of(matches, &LISTENS),
+        asrun: matches.get_str("asrun"),
+    }
+}
+
+// Of 100 bursts, how many are lost, copied, cut, damaged or forged.
+fn chances_of(matches: &ArgMatches) -> Chances
+    ensures lose { result.lose ≤ 100 }
+    ensures copy { result.copy ≤ 100 }
+    ensures cut { result.cut ≤ 100 }
+    ensures damage { result.damage ≤ 100 }
+    ensures forge { result.forge ≤ 100 }
+    ensures loses { (n : ℕ) → GivesNumber (found_of matches.now) (codes "lose") 0 100 n → result.lose ≡ n }
+    ensures copies { (n : ℕ) → GivesNumber (found_of matches.now) (codes "copy") 0 100 n → result.copy ≡ n }
+    ensures cuts { (n : ℕ) → GivesNumber (found_of matches.now) (codes "cut") 0 100 n → result.cut ≡ n }
+    ensures damages { (n : ℕ) → GivesNumber (found_of matches.now) (codes "damage") 0 100 n → result.damage ≡ n }
+    ensures forges { (n : ℕ) → GivesNumber (found_of matches.now) (codes "forge") 0 100 n → result.forge ≡ n }
+{
+    Chances {
+        lose: number_of(matches, &LOSE) as u8,
+        copy: number_of(matches, &COPY) as u8,
+        cut: number_of(matches, &CUT) as u8,
+        damage: number_of(matches, &DAMAGE) as u8,
+        forge: number_of(matches, &FORGE) as u8,
+    }
+}
+
+/// What the options say of a line that loses bursts.
+pub fn lossy_settings_of(matches: &ArgMatches) -> LossySettings
+    ensures lose { result.chances.lose ≤ 100 }
+    ensures copy { result.chances.copy ≤ 100 }
+    ensures cut { result.chances.cut ≤ 100 }
+    ensures damage { result.chances.damage ≤ 100 }
+    ensures forge { result.chances.forge ≤ 100 }
+    ensures some_silence { 1 ≤ result.silence }
+    ensures short_silence { result.silence ≤ 60000 }
+    ensures some_time { 1 ≤ result.within }
+    ensures short_time { result.within ≤ 60000 }
+    ensures seeds { (n : ℕ) → GivesNumber (found_of matches.now) (codes "seed") 0 4294967295 n → result.seed ≡ n }
+    ensures loses { (n : ℕ) → GivesNumber (found_of matches.now) (codes "lose") 0 100 n → result.chances.lose ≡ n }
+    ensures copies { (n : ℕ) → GivesNumber (found_of matches.now) (codes "copy") 0 100 n → result.chances.copy ≡ n }
+    ensures cuts { (n : ℕ) → GivesNumber (found_of matches.now) (codes "cut") 0 100 n → result.chances.cut ≡ n }
+    ensures damages { (n : ℕ) → GivesNumber (found_of matches.now) (codes "damage") 0 100 n → result.chances.damage ≡ n }
+    ensures forges { (n : ℕ) → GivesNumber (found_of matches.now) (codes "forge") 0 100 n → result.chances.forge ≡ n }
+    ensures silences { (n : ℕ) → GivesNumber (found_of matches.now) (codes "silence") 1 60000 n → result.silence ≡ n }
+    ensures times { (n : ℕ) → GivesNumber (found_of matches.now) (codes "within") 1 60000 n → result.within ≡ n }
+    ensures turns { (n : ℕ) → GivesNumber (found_of matches.now) (codes "turns") 1 4294967295 n → result.turns ≡ n }
+{
+    LossySettings {
+        seed: number_of(matches, &SEED),
+        chances: chances_of(matches),
+        silence: number_of(matches, &LOSSY_SILENCE),
+        within: number_of(matches, &WITHIN),
+        turns: turns_of(matches),
+    }
+}
