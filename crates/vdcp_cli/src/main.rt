@@ -2,11 +2,6 @@
 // a line that is run from a script, and over TCP, of which it can be either end, and also what damages it between them.
 #![tactic(auto)]
 
-ghost use Rattle.clap.specs.Matches.{first_value, found_of};
-ghost use Rattle.std.specs.Prelude.{◌≡◌, ◌⊎◌, ◌++◌, ℕ, List, Some, IfOk, IfErr, codes};
-ghost use Rattle.vdcp_text.specs.Failure.{failure_text};
-ghost use Rattle.vdcp_text.specs.declared.failure.Failure.TheVariants as failures;
-
 mod args;
 
 use clap::ArgMatches;
@@ -15,11 +10,12 @@ use std::fs::File;
 use std::io::{BufWriter, IsTerminal, Write};
 use std::process::ExitCode;
 use std::{env, io};
-use vdcp_files::{Input, do_check, do_vectors};
+use vdcp_files::{do_check, do_vectors};
 use vdcp_lossy::do_lossy;
 use vdcp_net::{Showing, do_run, do_serve};
 use vdcp_options::{
-    lossy_settings_of, rate_of, run_settings_of, serve_settings_of, sim_settings_of, unit_of,
+    lossy_settings_of, open_file, rate_of, run_settings_of, serve_settings_of, sim_settings_of,
+    unit_of,
 };
 use vdcp_sim::do_sim;
 use vdcp_text::{Failure, do_make, do_show};
@@ -118,8 +114,8 @@ fn run_check<'a, W: Write, E: Write>(
     out: &mut W,
     err: &mut E,
 ) -> Result<u8, Failure<'a>> {
-    let list = open(rt, matches, "LIST")?;
-    let catalogue = open(rt, matches, "CATALOGUE")?;
+    let list = open_file(rt, matches, "LIST")?;
+    let catalogue = open_file(rt, matches, "CATALOGUE")?;
     let rate = rate_of(matches);
     Ok(do_check(rt.alloc(), list, catalogue, rate, out, err))
 }
@@ -130,9 +126,9 @@ fn run_sim<'a, W: Write, E: Write>(
     out: &mut W,
     err: &mut E,
 ) -> Result<u8, Failure<'a>> {
-    let list = open(rt, matches, "LIST")?;
-    let catalogue = open(rt, matches, "CATALOGUE")?;
-    let script = open(rt, matches, "SCRIPT")?;
+    let list = open_file(rt, matches, "LIST")?;
+    let catalogue = open_file(rt, matches, "CATALOGUE")?;
+    let script = open_file(rt, matches, "SCRIPT")?;
     let settings = sim_settings_of(matches);
     Ok(do_sim(rt.alloc(), list, catalogue, script, settings, out, err))
 }
@@ -143,7 +139,7 @@ fn run_serve<'a, W: Write, E: Write>(
     out: &mut W,
     err: &mut E,
 ) -> Result<u8, Failure<'a>> {
-    let catalogue = open(rt, matches, "CATALOGUE")?;
+    let catalogue = open_file(rt, matches, "CATALOGUE")?;
     let address = matches.get_str("ADDR").unwrap_or("");
     let settings = serve_settings_of(matches);
     let log = matches.get_flag("log").then_some(rt.stderr());
@@ -156,7 +152,7 @@ fn run_run<'a, W: Write, E: Write>(
     out: &mut W,
     err: &mut E,
 ) -> Result<u8, Failure<'a>> {
-    let list = open(rt, matches, "LIST")?;
+    let list = open_file(rt, matches, "LIST")?;
     let address = matches.get_str("ADDR").unwrap_or("");
     let settings = run_settings_of(matches);
     let terminal = rt.stderr();
@@ -188,26 +184,8 @@ fn run_vectors<'a, W: Write, E: Write>(
     out: &mut W,
     err: &mut E,
 ) -> Result<u8, Failure<'a>> {
-    let file = open(rt, matches, "FILE")?;
+    let file = open_file(rt, matches, "FILE")?;
     Ok(do_vectors(rt.alloc(), file, out, err))
-}
-
-// Opens the file that the argument of this name says.
-fn open<'a>(
-    rt: &HostRuntime,
-    matches: &'a ArgMatches<'_>,
-    argument: &str,
-) -> Result<Input<'a, File>, Failure<'a>>
-    ensures named { (name : List ℕ) → first_value (found_of matches.now) argument.now ≡ Some name → IfOk result (λ input. input.name.now ≡ name) }
-    ensures faults { (name : List ℕ) → first_value (found_of matches.now) argument.now ≡ Some name
-        → IfErr result (λ failure. (failure ≡ Failure.Memory) ⊎ (failure_text failure ≡ name ++ codes ": cannot open")) }
-{
-    let name = matches.get_str(argument).unwrap_or("");
-    match File::open(rt, name) {
-        Ok(reader) => Ok(Input { name, reader }),
-        Err(error) if error.kind() == io::ErrorKind::OutOfMemory => Err(Failure::Memory),
-        Err(_) => Err(Failure::Open(name)),
-    }
 }
 
 // Prints what `clap` says of the arguments: help, the version, or why it refuses them.

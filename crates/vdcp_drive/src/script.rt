@@ -153,6 +153,17 @@ impl<A: Allocator + Copy> ScriptWire<A> {
         }
     }
 
+    // Goes on behind the stale entries that stand next.
+    fn pass_stale(&mut self)
+        ensures { self.new ≡ self.old }
+    {
+        let next = behind_stale(&self.entries, self.next);
+        if next != self.next {
+            self.next = next;
+            self.given = 0;
+        }
+    }
+
     // Keeps what came, where no close came before.
     fn keep(&mut self, came: Came, buffer: &[u8; PIECE]) -> Result<(), AllocError>
         requires fits { FitsBuffer came }
@@ -257,11 +268,7 @@ impl<A: Allocator + Copy> Wire for ScriptWire<A> {
             self.failed = true;
             return Err(WireFault);
         }
-        let next = behind_stale(&self.entries, self.next);
-        if next != self.next {
-            self.next = next;
-            self.given = 0;
-        }
+        self.pass_stale();
         Ok(())
     }
 
