@@ -14,7 +14,7 @@ use Rattle.vdcp_drive.specs.Bursts.{ended_bursts, open_burst}
 use Rattle.vdcp_drive.specs.Served.{after_bursts, items_for_bursts, items_served, IsServed, HasWatched, HasPartlyWatched}
 use Rattle.vdcp_drive.specs.Serving.{Serves, Breaks, last_aired}
 use Rattle.vdcp_drive.specs.Watching.{adds_aired}
-use Rattle.vdcp_drive.specs.Wires.{Arrival, bytes, silence, close, Told, IfTold, MayCome, adds_came, came_with}
+use Rattle.vdcp_wire.specs.Wires.{Arrival, bytes, silence, close, Told, IfTold, MayCome, adds_came, came_with}
 use Rattle.vdcp_drive.proofs.Below.{InOrder, Read, OneItem}
 use Rattle.vdcp_drive.proofs.Cutting.{counts}
 use Rattle.vdcp_drive.proofs.Standing.{cuts_bytes, cuts_silence, cuts_close, front_of, tells_served, tells_broken}

@@ -2,7 +2,7 @@
 use Rattle.std.proofs.Common.{ℕ, ◌≡◌, List, [], ◌∷◌, ◌++◌, Bool, true, false, refl, ap}
 use Rattle.std.specs.Prelude.{IsTrue, Some}
 use Rattle.vdcp_drive.specs.Bursts.{ended_behind, open_behind, finished_behind, is_within_burst}
-use Rattle.vdcp_drive.specs.Wires.{Arrival, bytes, silence, close, Told, has_closed, came_with, MayCome}
+use Rattle.vdcp_wire.specs.Wires.{Arrival, bytes, silence, close, Told, has_closed, came_with, MayCome}
 
 -- Where no close came yet.
 
@@ -86,24 +86,6 @@ within_close (a ∷ []) = refl
 within_close (a ∷ b ∷ came) = within_close (b ∷ came)
 
 -- Closes.
-
-pub closed_bytes : (came : List Arrival) (piece : List ℕ) → has_closed (came ++ bytes piece ∷ []) ≡ has_closed came
-closed_bytes [] piece = refl
-closed_bytes (bytes b ∷ came) piece = closed_bytes came piece
-closed_bytes (silence ∷ came) piece = closed_bytes came piece
-closed_bytes (close ∷ came) piece = refl
-
-pub closed_silence : (came : List Arrival) → has_closed (came ++ silence ∷ []) ≡ has_closed came
-closed_silence [] = refl
-closed_silence (bytes b ∷ came) = closed_silence came
-closed_silence (silence ∷ came) = closed_silence came
-closed_silence (close ∷ came) = refl
-
-pub closed_close : (came : List Arrival) → has_closed (came ++ close ∷ []) ≡ true
-closed_close [] = refl
-closed_close (bytes b ∷ came) = closed_close came
-closed_close (silence ∷ came) = closed_close came
-closed_close (close ∷ came) = refl
 
 -- Either no close came yet and this is one more, or it is a close that isn't the first.
 pub data Counts (came : List Arrival) (a : Arrival) : Type 0 where

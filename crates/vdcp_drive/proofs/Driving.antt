@@ -31,14 +31,15 @@ use Rattle.vdcp_drive.specs.Driven.{input_of, inputs_of, state_between, state_af
 use Rattle.vdcp_drive.specs.Driven.{IsNew, HasRun, HasRunBroken, IsPartlyRun, in_drop, in_send, in_listen, states_listening, states_watched}
 use Rattle.vdcp_drive.specs.Hearing as sending
 use Rattle.vdcp_drive.specs.Hearing.{Driving, HasSent, HasSendBroken, HasHeard, HasReceived, Hears, heard_by_then, command_bytes}
-use Rattle.vdcp_drive.specs.Wires.{Arrival, bytes, silence, close, Told, IfTold, MayCome, adds_sent, adds_came, adds_drop, came_with, has_closed, nothing_told}
+use Rattle.vdcp_wire.specs.Wires.{Arrival, bytes, silence, close, Told, IfTold, MayCome, adds_sent, adds_came, adds_drop, came_with, has_closed, nothing_told}
 use Rattle.vdcp_auto.specs.declared.outcome.Outcome.{Outcome}
 use Rattle.vdcp_drive.specs.Lines.{line_of, ran_unless_ended, RunsTo, AllListened, AtMostListened}
 use Rattle.vdcp_drive.specs.declared.line.Ran.TheVariants as ran
 use Rattle.vdcp_drive.specs.declared.line.Line.TheVariants as line
 use Rattle.vdcp_drive.proofs.Below.{Read, Fed}
 use Rattle.vdcp_drive.proofs.Cutting.{finished_bytes, finished_silence, finished_close, open_bytes, open_silence, within_bytes}
-use Rattle.vdcp_drive.proofs.Cutting.{within_silence, within_close, closed_bytes, closed_silence, closed_close, counts}
+use Rattle.vdcp_wire.specs.WireLaws.{closed_bytes, closed_silence, closed_close}
+use Rattle.vdcp_drive.proofs.Cutting.{within_silence, within_close, counts}
 use Rattle.vdcp_drive.proofs.Listening.{heard_more}
 use Rattle.vdcp_drive.proofs.Standing.{listened_so, closed_so, at_most_all, at_most_so}
 

@@ -7,7 +7,7 @@ use Rattle.vdcp_port.specs.Clock.{ClockedPort, new_port}
 use Rattle.vdcp_drive.specs.Bursts.{ended_bursts, open_burst, finished_bursts}
 use Rattle.vdcp_drive.specs.Driven.{state_after, commands_by, bytes_of, starts_of}
 use Rattle.vdcp_drive.specs.Served.{served, after_bursts}
-use Rattle.vdcp_drive.specs.Wires.{Arrival, bytes, silence, close}
+use Rattle.vdcp_wire.specs.Wires.{Arrival, bytes, silence, close}
 
 -- commands to port 1 of unit 0, and replies from it
 

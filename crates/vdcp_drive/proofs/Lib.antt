@@ -8,4 +8,3 @@ pub mod Listening
 pub mod Driving
 pub mod Reaching
 pub mod Watching
-pub mod Scripting

@@ -16,11 +16,12 @@ use Rattle.vdcp_drive.specs.Bursts.{ended_bursts, open_burst}
 use Rattle.vdcp_drive.specs.Serving.{HasBroken, HasEndBroken, Serves, Breaks}
 use Rattle.vdcp_drive.specs.Served.{after_bursts, sent_for_bursts, port_before, served, IsServed, BrokeInAnswer}
 use Rattle.vdcp_drive.specs.Served.{BrokeAtEnd, HasBrokenOff, in_listen, in_answer, at_end, IsPartlySent}
-use Rattle.vdcp_drive.specs.Wires.{Arrival, bytes, silence, close, Told, IfTold, MayCome, adds_came, came_with, has_closed, nothing_told}
+use Rattle.vdcp_wire.specs.Wires.{Arrival, bytes, silence, close, Told, IfTold, MayCome, adds_came, came_with, has_closed, nothing_told}
 use Rattle.vdcp_drive.proofs.Below.{InOrder, Alone, Read, Ends, Fed}
 use Rattle.vdcp_drive.specs.Lines.{line_of, AllListened, AtMostListened}
 use Rattle.vdcp_drive.specs.declared.line.Line.TheVariants as line
-use Rattle.vdcp_drive.proofs.Cutting.{closed_bytes, closed_silence, closed_close, Counts, counted, behind, counts}
+use Rattle.vdcp_wire.specs.WireLaws.{closed_bytes, closed_silence, closed_close}
+use Rattle.vdcp_drive.proofs.Cutting.{Counts, counted, behind, counts}
 use Rattle.vdcp_drive.proofs.Cutting.{ended_bytes, open_bytes, ended_silence, open_silence, ended_close, open_close}
 
 -- what is sent for these ended bursts and this begun one, and the port that they leave

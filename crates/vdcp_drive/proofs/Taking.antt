@@ -11,7 +11,7 @@ use Rattle.vdcp_frame.specs.declared.got.Got.{Got}
 use Rattle.vdcp_port.specs.Answers.{after_messages, aired_on_way, bytes_for, bytes_for_all, items_for}
 use Rattle.vdcp_port.specs.Clock.{ClockedPort, after_message}
 use Rattle.vdcp_drive.specs.Serving.{HasTaken, HasBroken, last_aired}
-use Rattle.vdcp_drive.specs.Wires.{Told, adds_sent, SendsFront}
+use Rattle.vdcp_wire.specs.Wires.{Told, adds_sent, SendsFront}
 use Rattle.vdcp_drive.proofs.Below.{InOrder, Alone, Fed}
 
 -- Wires.

@@ -6,7 +6,7 @@ use Rattle.vdcp_auto.specs.Turn.{ticked}
 use Rattle.vdcp_auto.specs.declared.phase.State.{State}
 use Rattle.vdcp_drive.specs.Driven.{state_between, states_behind, states_listening}
 use Rattle.vdcp_drive.specs.Watching.{adds_watched}
-use Rattle.vdcp_drive.specs.Wires.{Arrival}
+use Rattle.vdcp_wire.specs.Wires.{Arrival}
 
 states_push : (plan : Plan) (unit : ℕ) (before later : List Arrival) (a : Arrival)
     → states_behind plan unit before (later ++ a ∷ []) ≡ states_behind plan unit before later ++ ticked (state_between plan unit (before ++ later)) ∷ []

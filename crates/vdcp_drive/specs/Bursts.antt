@@ -1,6 +1,6 @@
 -- The bursts of what came: its bytes, cut at each silence.
 use Rattle.std.specs.Prelude.{ℕ, Bool, true, false, List, [], ◌∷◌, ◌++◌}
-use Rattle.vdcp_drive.specs.Wires.{Arrival, bytes, silence, close}
+use Rattle.vdcp_wire.specs.Wires.{Arrival, bytes, silence, close}
 
 -- the bursts that a silence ended, where the first one began with these bytes
 abbrev pub ended_behind : List ℕ → List Arrival → List (List ℕ)

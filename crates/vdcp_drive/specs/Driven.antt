@@ -16,7 +16,7 @@ use Rattle.vdcp_auto.specs.declared.phase.State.{State}
 use Rattle.vdcp_drive.specs.Bursts.{finished_bursts, is_within_burst}
 use Rattle.vdcp_auto.specs.Heard.{heard_in}
 use Rattle.vdcp_drive.specs.Hearing.{command_bytes}
-use Rattle.vdcp_drive.specs.Wires.{Arrival, Told, nothing_told}
+use Rattle.vdcp_wire.specs.Wires.{Arrival, Told, nothing_told}
 
 -- what a burst that ended says to the controller: its first message, or that nothing came
 abbrev pub input_of : Option Heard → Input

@@ -10,7 +10,7 @@ use Rattle.vdcp_auto.specs.Turn.{given, ticked, came_to}
 use Rattle.vdcp_auto.specs.declared.exchange.Heard.{Heard}
 use Rattle.vdcp_auto.specs.declared.phase.State.{State}
 use Rattle.vdcp_auto.specs.Heard.{heard_first}
-use Rattle.vdcp_drive.specs.Wires.{Arrival, bytes, silence, close, Told, adds_sent, adds_drop, SendsFront}
+use Rattle.vdcp_wire.specs.Wires.{Arrival, bytes, silence, close, Told, adds_sent, adds_drop, SendsFront}
 
 -- an automation: its controller, the unit address of the server, its wire, how far its reader is in the
 -- burst, and what it has heard of this burst

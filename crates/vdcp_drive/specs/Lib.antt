@@ -1,6 +1,3 @@
-pub mod Scripts
-pub mod Wires
-pub mod Streams
 pub mod Watching
 pub mod Bursts
 pub mod Lines

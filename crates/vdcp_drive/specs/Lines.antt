@@ -5,7 +5,7 @@ use Rattle.vdcp_drive.specs.declared.line.Line.{Line}
 use Rattle.vdcp_drive.specs.declared.line.Line.TheVariants as line
 use Rattle.vdcp_drive.specs.declared.line.Ran.{Ran}
 use Rattle.vdcp_drive.specs.declared.line.Ran.TheVariants as ran
-use Rattle.vdcp_drive.specs.Wires.{Arrival, bytes, silence, close, has_closed}
+use Rattle.vdcp_wire.specs.Wires.{Arrival, bytes, silence, close, has_closed}
 
 -- to one listen
 abbrev pub line_of : Arrival → Line

@@ -9,7 +9,7 @@ use Rattle.vdcp_frame.specs.Reader.{Follows}
 use Rattle.vdcp_port.specs.Answers.{after_messages, aired_on_way, aired_for, answer_bytes, bytes_for, bytes_for_all, end_answers, sent_for, after_burst}
 use Rattle.vdcp_port.specs.Clock.{ClockedPort, after_frame}
 use Rattle.vdcp_drive.specs.Bursts.{ended_bursts, open_burst}
-use Rattle.vdcp_drive.specs.Wires.{Arrival, silence, Told, nothing_told, has_closed}
+use Rattle.vdcp_wire.specs.Wires.{Arrival, silence, Told, nothing_told, has_closed}
 
 -- the port behind ended bursts: each is answered, and then a frame passes
 abbrev pub after_bursts : ClockedPort → List (List ℕ) → ClockedPort

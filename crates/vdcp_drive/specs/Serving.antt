@@ -6,7 +6,7 @@ use Rattle.vdcp_frame.specs.Progress.{Progress, reading}
 use Rattle.vdcp_frame.specs.Reader.{Follows, ended_of}
 use Rattle.vdcp_port.specs.Answers.{after_messages, aired_on_way, bytes_for, bytes_for_all, bytes_at_end}
 use Rattle.vdcp_port.specs.Clock.{ClockedPort, after_frame}
-use Rattle.vdcp_drive.specs.Wires.{Arrival, bytes, silence, close, Told, adds_sent, SendsFront}
+use Rattle.vdcp_wire.specs.Wires.{Arrival, bytes, silence, close, Told, adds_sent, SendsFront}
 
 -- a server: its port, its wire, how far its reader is in the burst, and the item that the last turn aired
 pub record Serving (W : Type 0) : Type 0 where

@@ -9,14 +9,15 @@ ghost use Rattle.vdcp_auto.specs.declared.phase.State.{State};
 ghost use Rattle.vdcp_drive.specs.Driven.{GoesOn, IsNew, HasRun, HasRunBroken, IsPartlyRun, states_listening, states_watched};
 ghost use Rattle.vdcp_drive.specs.Hearing.{HasSent, HasSendBroken, HasHeard, HasReceived, Hears, heard_by_then, command_bytes};
 ghost use Rattle.vdcp_drive.specs.Lines.{line_of, RunsTo, ran_unless_ended};
-ghost use Rattle.vdcp_drive.specs.Wires.{Arrival, Told, IfTold, MayCome, nothing_told, adds_sent, adds_came, SendsFront};
+ghost use Rattle.vdcp_wire.specs.Wires.{Arrival, Told, IfTold, MayCome, nothing_told, adds_sent, adds_came, SendsFront};
 
 use crate::line::{DriveFault, Line, Ran};
+use crate::send::send_message;
 use crate::watch::{Unwatched, Watch};
-use crate::wire::{Came, PIECE, Wire, WireFault, send_message};
 use std::marker::Model;
 use vdcp_auto::{Controller, Heard, Source, laws as courses};
 use vdcp_frame::{Got, Reader, laws as bursts};
+use vdcp_wire::{Came, PIECE, Wire, WireFault};
 use vdcp_words::Command;
 
 /// The automation's end of one playout channel, over a wire.

@@ -6,7 +6,7 @@ ghost use Rattle.vdcp_auto.specs.Law.{IsLawful};
 ghost use Rattle.vdcp_auto.specs.Plan.{Plan};
 ghost use Rattle.vdcp_auto.specs.declared.phase.State.{State};
 ghost use Rattle.vdcp_drive.specs.Driven.{HasRun, HasRunBroken, inputs_of};
-ghost use Rattle.vdcp_drive.specs.Wires.{Told};
+ghost use Rattle.vdcp_wire.specs.Wires.{Told};
 
 use vdcp_auto::laws as courses;
 

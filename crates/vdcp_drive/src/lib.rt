@@ -1,7 +1,7 @@
 //! Both ends of a playout channel over a wire: the server with its port, and the automation with its
 //! controller.
 //!
-//! The caller has a `Wire`, which carries bytes, and hands it to a driver. Both drivers decide nothing
+//! The caller has a `Wire` of `vdcp_wire`, which carries bytes, and hands it to a driver. Both drivers decide nothing
 //! themselves: what to answer the port says, what to send the controller does. They hold no burst, only
 //! what a `Reader` does, and take no memory.
 //!
@@ -19,19 +19,14 @@
 mod automation;
 pub mod laws;
 mod line;
-mod script;
+mod send;
 mod server;
-mod stream;
 mod watch;
-mod wire;
 
 pub use automation::AutoDriver;
 pub use line::{DriveFault, Line, Ran};
-pub use script::{Entry, ScriptWire};
 pub use server::Server;
-pub use stream::StreamWire;
 pub use watch::{Unwatched, Watch, WatchAir};
-pub use wire::{Came, PIECE, Wire, WireFault};
 
 #[cfg(test)]
 mod tests;

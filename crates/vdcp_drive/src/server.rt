@@ -8,15 +8,16 @@ ghost use Rattle.vdcp_drive.specs.Lines.{line_of, ServesTo};
 ghost use Rattle.vdcp_drive.specs.Served.{IsNewServer, IsServed, IsPartlySent, HasBrokenOff, HasWatched, HasPartlyWatched, served, port_after, items_served};
 ghost use Rattle.vdcp_drive.specs.Serving.{HasTaken, HasBroken, HasEnded, HasEndBroken, Serves, Breaks, last_aired};
 ghost use Rattle.vdcp_drive.specs.Watching.{adds_aired};
-ghost use Rattle.vdcp_drive.specs.Wires.{Arrival, Told, IfTold, MayCome, adds_sent, adds_came, SendsFront};
+ghost use Rattle.vdcp_wire.specs.Wires.{Arrival, Told, IfTold, MayCome, adds_sent, adds_came, SendsFront};
 
 use crate::line::{DriveFault, Line, Ran};
+use crate::send::send_message;
 use crate::watch::{Unwatched, WatchAir};
-use crate::wire::{Came, PIECE, Wire, WireFault, send_message};
 use std::marker::Model;
 use vdcp_frame::{Got, Message, Reader, laws as bursts};
 use vdcp_port::{Catalogue, Port, laws as answers, reply_at_end};
 use vdcp_value::Item;
+use vdcp_wire::{Came, PIECE, Wire, WireFault};
 use vdcp_words::Reply;
 
 /// The server's end of one playout channel, over a wire.

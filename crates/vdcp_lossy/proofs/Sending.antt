@@ -3,7 +3,7 @@ use Rattle.std.proofs.Common.{ℕ, ◌≡◌, ◌⊎◌, List, [], ◌++◌, ref
 use Rattle.std.proofs.lemmas.List.{append_assoc, append-nil}
 use Rattle.std.specs.Io.KnownBytes.{Appends, Keeps}
 use Rattle.std.specs.Prelude.{Option, None, Some, OnOk, Result, Ok, Err}
-use Rattle.vdcp_drive.specs.Wires.{Told, adds_drop, adds_sent}
+use Rattle.vdcp_wire.specs.Wires.{Told, adds_drop, adds_sent}
 use Rattle.vdcp_lossy.specs.Carried.{GoesOn, sent_by}
 use Rattle.vdcp_lossy.specs.Doings.{MayBeDone, adds_part, goes_on, joined, part_on}
 use Rattle.vdcp_lossy.specs.declared.doing.Chances.{Chances}

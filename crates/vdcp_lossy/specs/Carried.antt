@@ -1,7 +1,7 @@
 -- What is carried of a command, and of what comes for it, by what the wires tell that was sent.
 use Rattle.std.specs.Io.KnownBytes.{Appends, Keeps}
 use Rattle.std.specs.Prelude.{ℕ, ◌⊎◌, List, [], Option, None, Some}
-use Rattle.vdcp_drive.specs.Wires.{Told}
+use Rattle.vdcp_wire.specs.Wires.{Told}
 use Rattle.vdcp_lossy.specs.Doings.{HasChance, IsForged, MayBeDone, goes_on, joined}
 use Rattle.vdcp_lossy.specs.declared.session.Brought.{Brought}
 use Rattle.vdcp_lossy.specs.declared.session.Brought.TheVariants as brought

@@ -1,7 +1,7 @@
 -- What can be done with a burst, and what goes on of it then.
 use Rattle.std.specs.Option.{option_to_list}
 use Rattle.std.specs.Prelude.{ℕ, ◌≡◌, ◌<◌, ◌+◌, true, List, [], ◌∷◌, ◌++◌, length, take, Option, None, Some}
-use Rattle.vdcp_drive.specs.Wires.{Told, adds_sent}
+use Rattle.vdcp_wire.specs.Wires.{Told, adds_sent}
 use Rattle.vdcp_frame.specs.Burst.{messages_of}
 use Rattle.vdcp_frame.specs.Message.{Content, ack, nak, spelling}
 use Rattle.vdcp_lossy.specs.declared.doing.Chances.{Chances}

@@ -1,6 +1,6 @@
 ghost use Rattle.std.specs.Io.KnownBytes.{Appends, Keeps};
 ghost use Rattle.std.specs.Prelude.{◌≡◌, ◌⊎◌, ◌<◌, ◌≤◌, IfOk, OnOk, length};
-ghost use Rattle.vdcp_drive.specs.Wires.{adds_drop, adds_sent};
+ghost use Rattle.vdcp_wire.specs.Wires.{adds_drop, adds_sent};
 ghost use Rattle.vdcp_lossy.specs.Bursts.{HasSome};
 ghost use Rattle.vdcp_lossy.specs.Carried.{GoesOn, GoesUp, sent_by};
 ghost use Rattle.vdcp_lossy.specs.Doings.{adds_part, goes_on, joined, part_on};
@@ -12,7 +12,7 @@ use crate::session::{Brought, CarryEnd, CarryFault, Session};
 use std::io;
 use std::rt::Clock;
 use std::time::Instant;
-use vdcp_drive::{Wire, WireFault};
+use vdcp_wire::{Wire, WireFault};
 
 /// Carries bursts between an automation and a server until either closes, or the turns are used up.
 pub fn carry<R: Clock, A: Wire, S: Wire, W: io::Write>(

@@ -13,9 +13,9 @@ use std::io;
 use std::net::{Net, SocketAddr, SocketAddrV4};
 use std::rt::Clock;
 use std::time::Duration;
-use vdcp_drive::StreamWire;
 use vdcp_net::{accept_one, address_of};
 use vdcp_text::Failure;
+use vdcp_wire::StreamWire;
 
 /// What a line is run with.
 #[derive(Clone, Copy, Debug, PartialEq, Eq)]

@@ -1,6 +1,6 @@
 ghost use Rattle.std.specs.Io.KnownBytes.{Keeps};
 ghost use Rattle.std.specs.Prelude.{◌≡◌, ◌<◌, ◌≤◌, OnOk, IfOk, IfSome, length};
-ghost use Rattle.vdcp_drive.specs.Wires.{FitsBuffer, adds_came, arrival_of};
+ghost use Rattle.vdcp_wire.specs.Wires.{FitsBuffer, adds_came, arrival_of};
 ghost use Rattle.vdcp_lossy.specs.Bursts.{HasSome};
 ghost use Rattle.vdcp_lossy.specs.Carried.{sent_by};
 ghost use Rattle.vdcp_lossy.specs.Doings.{HasChance, IsForged, MayBeDone};
@@ -14,7 +14,7 @@ use crate::text::write_told;
 use std::io;
 use std::rt::Clock;
 use std::time::Instant;
-use vdcp_drive::{Came, PIECE, Wire, WireFault};
+use vdcp_wire::{Came, PIECE, Wire, WireFault};
 
 /// Why nothing more is carried.
 #[derive(Clone, Copy, Debug, PartialEq, Eq)]

@@ -13,7 +13,7 @@ use std::io::{self, Write};
 use std::rt::Clock;
 use std::test::Fail;
 use std::time::Duration;
-use vdcp_drive::{Entry, ScriptWire};
+use vdcp_wire::{Entry, ScriptWire};
 
 const OPEN: &[u8] = &[0x02, 0x04, 0x30, 0x01, 0x01, 0x01, 0xCD];
 

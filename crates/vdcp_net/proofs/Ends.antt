@@ -3,7 +3,7 @@ use Rattle.std.proofs.Common.{◌≡◌, ◌≢◌, ℕ, List, refl, ◌∙◌}
 use Rattle.std.specs.Prelude.{IfOk, Option, Result, Ok, Err}
 use Rattle.vdcp_auto.specs.declared.outcome.Outcome.{Outcome}
 use Rattle.vdcp_drive.specs.Lines.{RunsTo}
-use Rattle.vdcp_drive.specs.Wires.{Arrival, IfTold, Told}
+use Rattle.vdcp_wire.specs.Wires.{Arrival, IfTold, Told}
 use Rattle.vdcp_drive.specs.declared.line.DriveFault.{DriveFault}
 use Rattle.vdcp_drive.specs.declared.line.Ran.{Ran}
 use Rattle.vdcp_drive.specs.declared.line.Ran.TheVariants as ran

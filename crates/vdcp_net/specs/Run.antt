@@ -21,7 +21,7 @@ use Rattle.vdcp_files.specs.Mode.{mode_of}
 use Rattle.vdcp_list.specs.Playlists.{IsListOf}
 use Rattle.vdcp_files.specs.Outcome.{outcome_text}
 use Rattle.vdcp_drive.specs.Lines.{AllListened, AtMostListened}
-use Rattle.vdcp_drive.specs.Wires.{Arrival, has_closed}
+use Rattle.vdcp_wire.specs.Wires.{Arrival, has_closed}
 use Rattle.vdcp_drive.specs.declared.line.DriveFault.{DriveFault}
 use Rattle.vdcp_drive.specs.declared.line.Ran.{Ran}
 use Rattle.vdcp_drive.specs.declared.line.Ran.TheVariants as ran

@@ -4,7 +4,7 @@ use Rattle.std.specs.Net.Text.{socket_text}
 use Rattle.std.specs.Prelude.{ℕ, ◌≡◌, ◌⊎◌, ◌++◌, List, codes, Option, Some}
 use Rattle.std.specs.declared.net.SocketAddr.{SocketAddr}
 use Rattle.vdcp_drive.specs.Lines.{ServesTo}
-use Rattle.vdcp_drive.specs.Wires.{IfTold, Told}
+use Rattle.vdcp_wire.specs.Wires.{IfTold, Told}
 use Rattle.vdcp_drive.specs.declared.line.Ran.{Ran}
 use Rattle.vdcp_drive.specs.declared.line.Ran.TheVariants as ran
 use Rattle.vdcp_files.specs.Check.{RefusesCatalogue}

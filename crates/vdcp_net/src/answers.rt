@@ -2,7 +2,7 @@
 ghost use Rattle.std.specs.Prelude.{◌≡◌, IfOk, false};
 
 use std::alloc::{AllocError, Global};
-use vdcp_drive::{Entry, ScriptWire};
+use vdcp_wire::{Entry, ScriptWire};
 
 pub const GRANTED: &'static [u8] = &[0x02, 0x03, 0x30, 0x81, 0x01, 0x4E];
 

@@ -2,11 +2,12 @@ ghost use Rattle.std.specs.Prelude.{◌≡◌, ◌<◌, ◌≤◌, length};
 
 use std::cell::Cell;
 use std::{fmt, io};
-use vdcp_drive::{Came, PIECE, WatchAir, Wire, WireFault};
+use vdcp_drive::WatchAir;
 use vdcp_files::ItemText;
 use vdcp_frame::{Ended, Got, Reader};
 use vdcp_text::{End, MeaningText, MessageText};
 use vdcp_value::{Item, Rate};
+use vdcp_wire::{Came, PIECE, Wire, WireFault};
 
 /// The lines of a log. They go to its writer, until that fails: from then on no line goes there, and
 /// nothing else comes of the failure, since what is logged goes on without its log.

@@ -5,7 +5,7 @@ ghost use Rattle.vdcp_auto.specs.Plan.{plan_of};
 ghost use Rattle.vdcp_auto.specs.Turn as turns;
 ghost use Rattle.vdcp_auto.specs.declared.exchange.Exchange.{Exchange};
 ghost use Rattle.vdcp_drive.specs.Driven.{GoesOn, HasRun, HasRunBroken, IsNew, IsPartlyRun};
-ghost use Rattle.vdcp_drive.specs.Wires.{IfTold, Told};
+ghost use Rattle.vdcp_wire.specs.Wires.{IfTold, Told};
 ghost use Rattle.vdcp_files.specs.Files.{file};
 ghost use Rattle.vdcp_files.specs.Mode.{mode_of};
 ghost use Rattle.vdcp_net.specs.Address.{IsAddress};
@@ -22,10 +22,11 @@ use std::net::{Net, OpenStream, SocketAddr};
 use std::rt::{Clock, Files};
 use std::time::Duration;
 use vdcp_auto::{Controller, Outcome, Source};
-use vdcp_drive::{AutoDriver, DriveFault, Ran, StreamWire, Unwatched, Watch, Wire};
+use vdcp_drive::{AutoDriver, DriveFault, Ran, Unwatched, Watch};
 use vdcp_files::{Input, OutcomeText};
 use vdcp_text::Failure;
 use vdcp_value::Rate;
+use vdcp_wire::{StreamWire, Wire};
 
 /// What a list is played with.
 #[derive(Clone, Copy, Debug, PartialEq, Eq)]

@@ -1,7 +1,7 @@
 ghost use Rattle.std.specs.Io.KnownBytes.{Appends, Keeps};
 ghost use Rattle.std.specs.Prelude.{◌≡◌, ◌≢◌, ◌⊎◌, ◌≤◌, IfErr, OnOk, Some};
 ghost use Rattle.vdcp_drive.specs.Served.{HasBrokenOff, IsPartlySent, IsServed};
-ghost use Rattle.vdcp_drive.specs.Wires.{IfTold, Told};
+ghost use Rattle.vdcp_wire.specs.Wires.{IfTold, Told};
 ghost use Rattle.vdcp_files.specs.Files.{file};
 ghost use Rattle.vdcp_net.specs.Address.{IsAddress};
 ghost use Rattle.vdcp_net.specs.Serve.{EndsAs, IsCatalogueRefused, IsServedThere, IsUnserved, IsWholeCatalogue, PrintsEnd};
@@ -14,11 +14,12 @@ use crate::log::{AirLog, Log, Logged};
 use std::io;
 use std::net::Net;
 use std::time::Duration;
-use vdcp_drive::{DriveFault, Ran, Server, StreamWire, Unwatched, WatchAir, Wire};
+use vdcp_drive::{DriveFault, Ran, Server, Unwatched, WatchAir};
 use vdcp_files::Input;
 use vdcp_port::{Catalogue, Port};
 use vdcp_text::Failure;
 use vdcp_value::Rate;
+use vdcp_wire::{StreamWire, Wire};
 
 /// What a channel is served with.
 #[derive(Clone, Copy, Debug, PartialEq, Eq)]

@@ -2,11 +2,12 @@
 use super::calls::{run, send};
 use super::clips::Playlist;
 use super::messages::{ACK, CLOSE, GRANTED, IDLE, OPEN, SELECT, STATUS, STOP};
-use crate::{AutoDriver, DriveFault, Entry, Line, Ran, ScriptWire};
+use crate::{AutoDriver, DriveFault, Line, Ran};
 use std::alloc::{AllocError, Allocator, Global};
 use std::process::Abort;
 use std::test::Fail;
 use vdcp_auto::{Controller, Outcome};
+use vdcp_wire::{Entry, ScriptWire};
 
 /// Each answer, and a silence behind it; and stale bytes before the answer of this number.
 fn answers<A: Allocator + Copy>(

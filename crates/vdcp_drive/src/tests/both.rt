@@ -2,12 +2,13 @@
 //! what the other one sent.
 use super::calls::{run, send, serve};
 use super::clips::{Playlist, Shelf};
-use crate::{AutoDriver, Entry, Ran, ScriptWire, Server};
+use crate::{AutoDriver, Ran, Server};
 use std::alloc::Global;
 use std::process::Abort;
 use std::test::Fail;
 use vdcp_auto::{Controller, Outcome};
 use vdcp_port::Port;
+use vdcp_wire::{Entry, ScriptWire};
 
 /// Bytes and then a silence, for each; a silence alone where there are none.
 fn entries(alloc: Global, bursts: &Vec<Vec<u8>>) -> Result<Vec<Entry<Global>>, Fail> {

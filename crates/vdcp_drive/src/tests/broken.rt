@@ -3,11 +3,12 @@
 ghost use Rattle.std.specs.Prelude.{◌≡◌, false, IfOk, IsErr};
 
 use super::clips::{Playlist, Shelf};
-use crate::{AutoDriver, DriveFault, Entry, Line, Ran, ScriptWire, Server, Wire};
+use crate::{AutoDriver, DriveFault, Line, Ran, Server};
 use std::alloc::{AllocError, Global};
 use std::test::Fail;
 use vdcp_auto::{Controller, Source};
 use vdcp_port::{Catalogue, Port};
+use vdcp_wire::{Entry, ScriptWire, Wire};
 
 /// Two turns, whatever the first one answers.
 fn turned_twice<C: Catalogue, W: Wire>(

@@ -1,8 +1,9 @@
 //! Calls of the drivers for tests that only look at what these answer. They promise nothing, so the proof of a
 //! test needn't go through the clauses of each call.
-use crate::{AutoDriver, DriveFault, Line, Ran, Server, Wire};
+use crate::{AutoDriver, DriveFault, Line, Ran, Server};
 use vdcp_auto::Source;
 use vdcp_port::Catalogue;
+use vdcp_wire::Wire;
 
 pub fn serve<C: Catalogue, W: Wire>(
     server: &mut Server<C, W>,

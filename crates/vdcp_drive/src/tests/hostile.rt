@@ -2,13 +2,14 @@
 use super::calls::{run, serve, turn};
 use super::clips::{Playlist, Shelf};
 use super::messages::{ACK, CUE_1, OPEN, PLAY, SELECT, STATUS};
-use crate::{AutoDriver, DriveFault, Entry, Ran, ScriptWire, Server};
+use crate::{AutoDriver, DriveFault, Ran, Server};
 use linked_list_allocator::LocalHeap;
 use std::alloc::{AllocError, Global};
 use std::process::Abort;
 use std::test::Fail;
 use vdcp_auto::{Controller, Outcome};
 use vdcp_port::Port;
+use vdcp_wire::{Entry, ScriptWire};
 
 /// A server with a new port over these entries.
 fn server(

@@ -5,14 +5,15 @@ ghost use Rattle.vdcp_auto.specs.Course.{course};
 ghost use Rattle.vdcp_auto.specs.Plan.{plan_of};
 ghost use Rattle.vdcp_auto.specs.Settled.{settled};
 ghost use Rattle.vdcp_drive.specs.Driven.{IsNew, inputs_of};
-ghost use Rattle.vdcp_drive.specs.Wires.{IfTold, nothing_told};
+ghost use Rattle.vdcp_wire.specs.Wires.{IfTold, nothing_told};
 
 use super::clips::Playlist;
 use super::messages::{ACK, CUED, GRANTED, PRESENT};
-use crate::{AutoDriver, Entry, ScriptWire, Wire, laws};
+use crate::{AutoDriver, laws};
 use std::alloc::{AllocError, Global};
 use std::test::Fail;
 use vdcp_auto::{Controller, Source};
+use vdcp_wire::{Entry, ScriptWire, Wire};
 
 /// How many events a new automation reports as aired once it has run; None where its wire failed. It is
 /// what the exchanges over the wire show to be settled.

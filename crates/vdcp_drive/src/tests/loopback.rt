@@ -1,12 +1,13 @@
 //! The two drivers over a connection within this process. Each is called only when it has something to do.
 use super::clips::{Playlist, Shelf};
-use crate::{AutoDriver, Line, Server, StreamWire};
+use crate::{AutoDriver, Line, Server};
 use std::io::Write;
 use std::net::{Ipv4Addr, SocketAddr, TcpListener, TcpStream};
 use std::test::Fail;
 use std::time::Duration;
 use vdcp_auto::{Controller, Outcome};
 use vdcp_port::Port;
+use vdcp_wire::StreamWire;
 
 /// An automation and a server at the two ends of a connection. The server's end has sent a NAK before
 /// its wire is made.

@@ -2,13 +2,14 @@
 use super::calls::{serve, turn};
 use super::clips::Shelf;
 use super::messages::{CUE_1, IDLE, OPEN, PLAY, SELECT, STATUS, STOP};
-use crate::{DriveFault, Entry, Line, Ran, ScriptWire, Server};
+use crate::{DriveFault, Line, Ran, Server};
 use linked_list_allocator::LocalHeap;
 use std::alloc::{AllocError, Allocator, Global};
 use std::process::Abort;
 use std::test::Fail;
 use vdcp_port::Port;
 use vdcp_value::{ClipId, Item};
+use vdcp_wire::{Entry, ScriptWire};
 
 type Serving<A> = Server<Shelf, ScriptWire<A>>;
 

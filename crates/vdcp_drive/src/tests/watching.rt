@@ -1,13 +1,14 @@
 //! Who watches a driver: the controller in each listen, and each item that goes to air.
 use super::clips::{Playlist, Shelf};
 use super::messages::{ACK, CUE_1, CUE_2, GRANTED, IDLE, OPEN, PLAY, SELECT};
-use crate::{AutoDriver, DriveFault, Entry, Ran, ScriptWire, Server, Watch, WatchAir};
+use crate::{AutoDriver, DriveFault, Ran, Server, Watch, WatchAir};
 use std::alloc::{AllocError, Global};
 use std::process::Abort;
 use std::test::Fail;
 use vdcp_auto::{Controller, Source};
 use vdcp_port::Port;
 use vdcp_value::{ClipId, Item};
+use vdcp_wire::{Entry, ScriptWire};
 use vdcp_words::Command;
 
 /// Keeps the items that it is lent.

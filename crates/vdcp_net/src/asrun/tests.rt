@@ -5,9 +5,10 @@ use std::alloc::Global;
 use std::process::Abort;
 use std::test::Fail;
 use vdcp_auto::Controller;
-use vdcp_drive::{AutoDriver, ScriptWire};
+use vdcp_drive::AutoDriver;
 use vdcp_list::{List, WriteFault, read_list};
 use vdcp_value::Rate;
+use vdcp_wire::ScriptWire;
 
 const PLAYED: &[u8] = b"0,CLIP0001\n1,\"A,B\"\n";
 

@@ -3,10 +3,11 @@ use crate::failing::Failing;
 use std::alloc::Global;
 use std::io::Write;
 use std::test::Fail;
-use vdcp_drive::{Came, DriveFault, Entry, PIECE, Ran, ScriptWire, Server, WatchAir, Wire};
+use vdcp_drive::{DriveFault, Ran, Server, WatchAir};
 use vdcp_list::Slots;
 use vdcp_port::Port;
 use vdcp_value::{ClipId, Item, Part, Rate};
+use vdcp_wire::{Came, Entry, PIECE, ScriptWire, Wire};
 
 /// OPEN, SELECT cut in two and an ACK behind it, junk, a cut SELECT, a bad sum in a burst that goes on, and a cut close.
 fn entries(alloc: Global) -> Result<Vec<Entry<Global>>, Fail> {

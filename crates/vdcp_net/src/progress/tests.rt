@@ -9,9 +9,10 @@ use std::test::Fail;
 use std::time::Duration;
 use std::{io, str};
 use vdcp_auto::{Controller, Heard};
-use vdcp_drive::{AutoDriver, ScriptWire, Watch};
+use vdcp_drive::{AutoDriver, Watch};
 use vdcp_list::{List, read_list};
 use vdcp_value::Rate;
+use vdcp_wire::ScriptWire;
 use vdcp_words::Reply;
 
 /// A clock that goes on by so many milliseconds each time it is read, and fails once it has been read so

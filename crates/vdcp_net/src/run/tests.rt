@@ -11,9 +11,10 @@ use std::alloc::Global;
 use std::process::Abort;
 use std::test::Fail;
 use std::{env, fs, process};
-use vdcp_drive::{AutoDriver, Entry, ScriptWire, Unwatched};
+use vdcp_drive::{AutoDriver, Unwatched};
 use vdcp_list::read_list;
 use vdcp_value::Rate;
+use vdcp_wire::{Entry, ScriptWire};
 
 mod connection;
 

@@ -10,12 +10,12 @@ use std::net::{Ipv4Addr, Net, Shutdown, SocketAddr, TcpListener, TcpStream};
 use std::process::Abort;
 use std::test::Fail;
 use std::time::Duration;
-use vdcp_drive::{Entry, ScriptWire, StreamWire};
 use vdcp_files::Input;
 use vdcp_list::Slots;
 use vdcp_port::Port;
 use vdcp_text::Failure;
 use vdcp_value::Rate;
+use vdcp_wire::{Entry, ScriptWire, StreamWire};
 
 const CLIPS: &[u8] = b"CLIP0001,00:00:10:00\nCLIP0002,00:00:10:00\n";
 

@@ -1,8 +1,8 @@
 use Rattle.std.proofs.Common.{◌≡◌, List, ℕ, take, refl, ap, subst, ◌∙◌, inr}
 use Rattle.std.specs.Prelude.{Option, None}
-use Rattle.vdcp_drive.specs.declared.wire.Came.{Came}
-use Rattle.vdcp_drive.specs.declared.wire.Came.TheVariants as came
-use Rattle.vdcp_drive.specs.Wires.{Told, bytes, arrival_of, adds_came, MayCome}
+use Rattle.vdcp_wire.specs.declared.wire.Came.{Came}
+use Rattle.vdcp_wire.specs.declared.wire.Came.TheVariants as came
+use Rattle.vdcp_wire.specs.Wires.{Told, bytes, arrival_of, adds_came, MayCome}
 use Rattle.vdcp_drive.specs.Serving.{HasTaken, HasBroken}
 use Rattle.vdcp_drive.proofs.Taking.{on_err_of}
 use Rattle.vdcp_drive.proofs.server.hear.Goals as goal

@@ -4,7 +4,7 @@ use Rattle.vdcp_value.specs.declared.part.Item.{Item}
 use Rattle.vdcp_frame.specs.Message.{Content, content_of}
 use Rattle.vdcp_frame.specs.Reader.{answer_of, message, more, wrong}
 use Rattle.vdcp_drive.specs.Serving.{last_aired}
-use Rattle.vdcp_drive.specs.Wires.{adds_sent}
+use Rattle.vdcp_wire.specs.Wires.{adds_sent}
 use Rattle.vdcp_drive.proofs.Below.{Alone, Fed}
 use Rattle.vdcp_drive.proofs.Taking.{taken_by, broken_by, adds_nothing, on_err_of}
 use Rattle.vdcp_drive.proofs.server.take_some.Goals as goal

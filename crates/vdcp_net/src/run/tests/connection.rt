@@ -11,11 +11,12 @@ use std::process::Abort;
 use std::test::Fail;
 use std::time::{Duration, Instant};
 use std::{fs, mem};
-use vdcp_drive::{Line, Server, StreamWire};
+use vdcp_drive::{Line, Server};
 use vdcp_files::Input;
 use vdcp_list::{Table, read_catalogue, read_list};
 use vdcp_port::Port;
 use vdcp_value::Rate;
+use vdcp_wire::StreamWire;
 
 // Both ends of a connection.
 fn pair(rt: &HostRuntime) -> io::Result<(TcpStream, TcpStream)> {

@@ -7,7 +7,7 @@ use Rattle.vdcp_drive.specs.Driven.{states_listening}
 use Rattle.vdcp_drive.specs.Hearing.{Driving}
 use Rattle.vdcp_drive.specs.Lines.{AllListened}
 use Rattle.vdcp_drive.specs.Watching.{adds_watched}
-use Rattle.vdcp_drive.specs.Wires.{Arrival}
+use Rattle.vdcp_wire.specs.Wires.{Arrival}
 use Rattle.vdcp_drive.proofs.Below.{Read, Fed}
 use Rattle.vdcp_drive.proofs.Driving.{OneMore, sent_so, unsent_so, on_so, out_so, unheard_so, closes_to, closed_on, listened_on, with_front}
 use Rattle.vdcp_drive.proofs.Reaching.{goes_further}

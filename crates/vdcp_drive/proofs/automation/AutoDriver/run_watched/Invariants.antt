@@ -4,7 +4,7 @@ use Rattle.vdcp_auto.specs.Plan.{plan_of}
 use Rattle.vdcp_auto.specs.declared.phase.State.{State}
 use Rattle.vdcp_drive.specs.Driven.{GoesOn, IsNew}
 use Rattle.vdcp_drive.specs.Lines.{AllListened}
-use Rattle.vdcp_drive.specs.Wires.{Told, IfTold}
+use Rattle.vdcp_wire.specs.Wires.{Told, IfTold}
 use Rattle.vdcp_drive.proofs.Driving.{RunsAt}
 use Rattle.vdcp_drive.proofs.Watching.{WatchesAt}
 use Rattle.vdcp_drive.proofs.automation.AutoDriver.run_watched.Given as goal

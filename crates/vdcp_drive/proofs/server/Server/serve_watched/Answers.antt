@@ -4,7 +4,7 @@ use Rattle.vdcp_port.specs.Clock.{ClockedPort}
 use Rattle.vdcp_drive.specs.Served.{IsServed}
 use Rattle.vdcp_drive.specs.Serving.{Serving}
 use Rattle.vdcp_drive.specs.Watching.{adds_aired}
-use Rattle.vdcp_drive.specs.Wires.{nothing_told}
+use Rattle.vdcp_wire.specs.Wires.{nothing_told}
 use Rattle.vdcp_drive.proofs.Airing.{watched_more, watched_first, watched_all}
 use Rattle.vdcp_drive.proofs.Below.{Fed}
 use Rattle.vdcp_drive.proofs.Standing.{at_start, listened_more, has_closed_then}

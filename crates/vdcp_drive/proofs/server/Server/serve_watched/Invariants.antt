@@ -4,7 +4,7 @@ use Rattle.vdcp_value.specs.declared.part.Item.{Item}
 use Rattle.vdcp_port.specs.Clock.{ClockedPort}
 use Rattle.vdcp_drive.specs.Lines.{AllListened}
 use Rattle.vdcp_drive.specs.Served.{IsServed, HasWatched}
-use Rattle.vdcp_drive.specs.Wires.{Told, IfTold}
+use Rattle.vdcp_wire.specs.Wires.{Told, IfTold}
 use Rattle.vdcp_drive.proofs.server.Server.serve_watched.Given as goal
 
 abbrev pub invariant-turns : goal.invariant-turns

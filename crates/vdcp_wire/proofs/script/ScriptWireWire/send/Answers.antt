@@ -1,10 +1,10 @@
 use Rattle.std.proofs.Common.{◌≡◌, ℕ, List, take, drop, sym, ap, subst, ◌∙◌}
 use Rattle.std.specs.Prelude.{Some, is_ok}
 use Rattle.std.proofs.lemmas.List.{take-append-drop}
-use Rattle.vdcp_drive.specs.Scripts.{Script, arrivals}
-use Rattle.vdcp_drive.specs.Wires.{Told, SendsFront}
-use Rattle.vdcp_drive.proofs.Scripting.{sends_some}
-use Rattle.vdcp_drive.proofs.script.ScriptWireWire.send.Goals as goal
+use Rattle.vdcp_wire.specs.Scripts.{Script, arrivals}
+use Rattle.vdcp_wire.specs.Wires.{Told, SendsFront}
+use Rattle.vdcp_wire.proofs.Scripting.{sends_some}
+use Rattle.vdcp_wire.proofs.script.ScriptWireWire.send.Goals as goal
 
 pub returns-clause-front : goal.returns-clause-front
 returns-clause-front g c =

@@ -1,9 +1,9 @@
 -- What a wire in memory tells.
 use Rattle.std.specs.Prelude.{ℕ, ◌≤◌, ◌+◌, Bool, true, false, List, [], ◌∷◌, drop, if◌then◌else◌}
 use Rattle.std.proofs.Common.{rules}
-use Rattle.vdcp_drive.specs.declared.wire.Came.{Came}
-use Rattle.vdcp_drive.specs.declared.wire.Came.TheVariants as came
-use Rattle.vdcp_drive.specs.Wires.{Arrival, arrival_of, Told}
+use Rattle.vdcp_wire.specs.declared.wire.Came.{Came}
+use Rattle.vdcp_wire.specs.declared.wire.Came.TheVariants as came
+use Rattle.vdcp_wire.specs.Wires.{Arrival, arrival_of, Told}
 
 -- a wire that tells its bytes, and whether it failed
 pub record Script : Type 0 where

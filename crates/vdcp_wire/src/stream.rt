@@ -1,6 +1,6 @@
 ghost use Rattle.std.specs.Prelude.{◌≡◌, IfOk, IsOk};
-ghost use Rattle.vdcp_drive.specs.Streams.{came_of, connection_behind, failures_of};
-ghost use Rattle.vdcp_drive.specs.Wires.{FitsBuffer};
+ghost use Rattle.vdcp_wire.specs.Streams.{came_of, connection_behind, failures_of};
+ghost use Rattle.vdcp_wire.specs.Wires.{FitsBuffer};
 
 use crate::wire::{Came, PIECE, Wire, WireFault};
 use std::io::{self, ErrorKind, Read, Write};
@@ -33,7 +33,7 @@ pub struct StreamWire<S: Read + Write + OpenStream + Drop = TcpStream> {
 }
 
 impl<S: Read + Write + OpenStream + Drop> Model for StreamWire<S> {
-    ghost use Rattle.vdcp_drive.specs.declared.stream.Connection.{Connection};
+    ghost use Rattle.vdcp_wire.specs.declared.stream.Connection.{Connection};
 
     ghost Value = { Connection };
 
@@ -99,7 +99,7 @@ impl<S: Read + Write + OpenStream + Drop> StreamWire<S> {
 
 impl<S: Read + Write + OpenStream + Drop> Wire for StreamWire<S> {
     ghost use Rattle.std.specs.Prelude.{None};
-    ghost use Rattle.vdcp_drive.specs.Streams.{counted_once};
+    ghost use Rattle.vdcp_wire.specs.Streams.{counted_once};
 
     ghost told = { λ _. None };
 

@@ -1,10 +1,10 @@
 use Rattle.std.proofs.Common.{◌≡◌, ◌++◌, ℕ, List, [], ◌∷◌, false, refl, sym, ap, ◌∙◌, length, take}
 use Rattle.std.specs.Prelude.{Some}
-use Rattle.vdcp_drive.specs.declared.wire.Came.{Came}
-use Rattle.vdcp_drive.specs.Scripts.{Script, arrivals, brought}
-use Rattle.vdcp_drive.specs.Wires.{Told, adds_came, arrival_of, has_closed}
-use Rattle.vdcp_drive.proofs.Scripting.{arrivals_push, comes_behind, counts_push, closed_by}
-use Rattle.vdcp_drive.proofs.script.ScriptWire.keep.Goals as goal
+use Rattle.vdcp_wire.specs.declared.wire.Came.{Came}
+use Rattle.vdcp_wire.specs.Scripts.{Script, arrivals, brought}
+use Rattle.vdcp_wire.specs.Wires.{Told, adds_came, arrival_of, has_closed}
+use Rattle.vdcp_wire.proofs.Scripting.{arrivals_push, comes_behind, counts_push, closed_by}
+use Rattle.vdcp_wire.proofs.script.ScriptWire.keep.Goals as goal
 
 pub invariant_of-self-2 : goal.invariant_of-self-2
 invariant_of-self-2 g c =

@@ -2,11 +2,11 @@
 use Rattle.std.proofs.Common.{ℕ, ◌+◌, ◌≤◌, ◌≡◌, List, [], ◌∷◌, ◌++◌, Bool, true, false, refl, sym, ap, ◌∙◌, take, drop, length, append-nil, arith, rules}
 use Rattle.std.proofs.lemmas.List.{length-append, length-drop, take-append-le, drop-append-le, take-take}
 use Rattle.std.specs.Prelude.{Some, if◌then◌else◌}
-use Rattle.vdcp_drive.specs.declared.wire.Came.{Came}
-use Rattle.vdcp_drive.specs.declared.wire.Came.TheVariants.{Bytes, Silence, Closed}
-use Rattle.vdcp_drive.specs.Scripts.{arrivals, brought, brought_in_all, closes}
-use Rattle.vdcp_drive.specs.Wires.{Arrival, bytes, Told, SendsFront, adds_came, arrival_of, has_closed}
-use Rattle.vdcp_drive.proofs.Cutting.{closed_bytes, closed_silence, closed_close}
+use Rattle.vdcp_wire.specs.declared.wire.Came.{Came}
+use Rattle.vdcp_wire.specs.declared.wire.Came.TheVariants.{Bytes, Silence, Closed}
+use Rattle.vdcp_wire.specs.Scripts.{arrivals, brought, brought_in_all, closes}
+use Rattle.vdcp_wire.specs.Wires.{Arrival, bytes, Told, SendsFront, adds_came, arrival_of, has_closed}
+use Rattle.vdcp_wire.specs.WireLaws.{closed_bytes, closed_silence, closed_close}
 
 -- what a listen gave, where more bytes stand behind
 front_stays : (c : Came) (all more : List ℕ) → brought c ≤ length all → arrival_of c (all ++ more) ≡ arrival_of c all

@@ -1,6 +1,6 @@
 ghost use Rattle.std.specs.Prelude.{◌≡◌, false, length, take, OnOk, OnErr, IfOk, Some};
-ghost use Rattle.vdcp_drive.specs.Scripts.{brought, closes};
-ghost use Rattle.vdcp_drive.specs.Wires.{arrival_of, adds_came, has_closed, MayCome, FitsBuffer};
+ghost use Rattle.vdcp_wire.specs.Scripts.{brought, closes};
+ghost use Rattle.vdcp_wire.specs.Wires.{arrival_of, adds_came, has_closed, MayCome, FitsBuffer};
 
 use crate::wire::{Came, PIECE, Wire, WireFault};
 use std::alloc::{AllocError, Allocator};
@@ -51,8 +51,8 @@ pub struct ScriptWire<A: Allocator + Copy> {
 
 impl<A: Allocator + Copy> Model for ScriptWire<A> {
     ghost use Rattle.std.specs.Prelude.{◌≡◌, length};
-    ghost use Rattle.vdcp_drive.specs.Wires.{has_closed};
-    ghost use Rattle.vdcp_drive.specs.Scripts.{Script, arrivals, brought_in_all};
+    ghost use Rattle.vdcp_wire.specs.Wires.{has_closed};
+    ghost use Rattle.vdcp_wire.specs.Scripts.{Script, arrivals, brought_in_all};
 
     ghost Value = { Script };
 
@@ -66,7 +66,7 @@ impl<A: Allocator + Copy> Model for ScriptWire<A> {
 }
 
 impl<A: Allocator + Copy> ScriptWire<A> {
-    ghost use Rattle.vdcp_drive.specs.Wires.{nothing_told};
+    ghost use Rattle.vdcp_wire.specs.Wires.{nothing_told};
 
     /// A fresh wire of this script. It takes memory by `alloc`, and none now.
     pub fn new(alloc: A, entries: Vec<Entry<A>, A>) -> Self
@@ -236,7 +236,7 @@ fn put(bytes: &[u8], given: usize, buffer: &mut [u8; PIECE]) -> Came
 
 impl<A: Allocator + Copy> Wire for ScriptWire<A> {
     ghost use Rattle.std.specs.Prelude.{Some, if◌then◌else◌};
-    ghost use Rattle.vdcp_drive.specs.Scripts.{fails_at_most_once};
+    ghost use Rattle.vdcp_wire.specs.Scripts.{fails_at_most_once};
 
     ghost told = { λ w. Some w.told };
 

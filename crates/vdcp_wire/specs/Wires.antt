@@ -1,7 +1,7 @@
 -- What a wire tells: the bytes that went out, what came, and where waiting bytes were dropped.
 use Rattle.std.specs.Prelude.{ℕ, ◌≡◌, ◌≤◌, Bool, true, false, IsTrue, List, [], ◌∷◌, ◌++◌, length, take, Option, Some, None, if◌then◌else◌}
-use Rattle.vdcp_drive.specs.declared.wire.Came.{Came}
-use Rattle.vdcp_drive.specs.declared.wire.Came.TheVariants as came
+use Rattle.vdcp_wire.specs.declared.wire.Came.{Came}
+use Rattle.vdcp_wire.specs.declared.wire.Came.TheVariants as came
 
 -- what one listen answered
 pub data Arrival : Type 0 where

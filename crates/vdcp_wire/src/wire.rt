@@ -1,10 +1,4 @@
-ghost use Rattle.std.specs.Prelude.{◌≡◌, OnOk, OnErr};
-ghost use Rattle.vdcp_frame.specs.Message.{content_of, spelling, IsWritable};
-ghost use Rattle.vdcp_drive.specs.Wires.{adds_sent, SendsFront};
-
-use arrayvec::ArrayVec;
 use thiserror::Error;
-use vdcp_frame::{Message, write};
 
 /// So many bytes one `listen` brings at most.
 pub const PIECE: usize = 512;
@@ -30,7 +24,7 @@ pub enum Came {
 /// A wire that fails once isn't called again: each call requires that it never failed.
 pub trait Wire {
     ghost use Rattle.std.specs.Prelude.{◌≡◌, ◌≤◌, ℕ, OnOk, OnErr, IfOk, Option};
-    ghost use Rattle.vdcp_drive.specs.Wires.{Told, arrival_of, adds_sent, adds_came, adds_drop, MayCome, SendsFront, FitsBuffer};
+    ghost use Rattle.vdcp_wire.specs.Wires.{Told, arrival_of, adds_sent, adds_came, adds_drop, MayCome, SendsFront, FitsBuffer};
 
     /// What went out, what came, and where waiting bytes were dropped, if the wire tells it.
     ghost told: { Self → Option Told };
@@ -68,18 +62,4 @@ pub trait Wire {
 
     /// A failure is counted once.
     ghost fails_once: { (wire : Self) → failures wire ≤ 1 };
-}
-
-/// Sends the bytes of a message.
-pub(crate) fn send_message<W: Wire>(message: &Message, wire: &mut W) -> Result<(), WireFault>
-    requires writable { IsWritable (content_of message.now) }
-    requires works { W.failures wire.old ≡ 0 }
-    ensures sent { OnOk result (W.told wire.new ≡ adds_sent (spelling (content_of message.now)) (W.told wire.old)) }
-    ensures front { OnErr result (SendsFront (spelling (content_of message.now)) (W.told wire.old) (W.told wire.new)) }
-    ensures works { OnOk result (W.failures wire.new ≡ 0) }
-    ensures failed { OnErr result (W.failures wire.new ≡ 1) }
-{
-    let mut bytes = ArrayVec::<u8, 512>::new();
-    write(message, &mut bytes).unwrap();
-    wire.send(bytes.as_slice())
 }

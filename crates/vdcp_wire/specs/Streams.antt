@@ -5,10 +5,10 @@ use Rattle.std.specs.Prelude.{ℕ, zero, suc, ◌≤◌, Result, Ok, Err}
 use Rattle.std.specs.declared.io.Error.{Error}
 use Rattle.std.specs.declared.io.ErrorKind.{ErrorKind}
 use Rattle.std.specs.declared.io.ErrorKind.TheVariants.{WouldBlock, TimedOut, Interrupted}
-use Rattle.vdcp_drive.specs.declared.stream.Connection.{Connection}
-use Rattle.vdcp_drive.specs.declared.stream.Connection.TheVariants as connection
-use Rattle.vdcp_drive.specs.declared.wire.Came.{Came}
-use Rattle.vdcp_drive.specs.declared.wire.Came.TheVariants as came
+use Rattle.vdcp_wire.specs.declared.stream.Connection.{Connection}
+use Rattle.vdcp_wire.specs.declared.stream.Connection.TheVariants as connection
+use Rattle.vdcp_wire.specs.declared.wire.Came.{Came}
+use Rattle.vdcp_wire.specs.declared.wire.Came.TheVariants as came
 
 -- what a read that failed so brought, or else the failure: it waited long enough, or it was interrupted
 abbrev pub came_of_kind : ErrorKind → Error → Result Came Error

@@ -1,0 +1,22 @@
+//! A wire carries bytes to the other end of a line and back, and tells bursts from silences.
+//!
+//! `StreamWire` is one over a connection. `ScriptWire` is one in memory, which gives what a script of `Entry`s
+//! says and tells its bytes. Whoever drives a wire calls `send`, `listen` and `drop_waiting` of `Wire`, and none
+//! of them again once one has failed.
+//!
+//! ```text
+//! let mut wire = StreamWire::new(stream, silence)?;
+//! wire.drop_waiting()?;
+//! wire.send(bytes)?;
+//! let mut buffer = [0; PIECE];
+//! match wire.listen(&mut buffer)? { Came::Bytes(n) => .., Came::Silence => .., Came::Closed => .. }
+//! ```
+#![tactic(auto)]
+
+mod script;
+mod stream;
+mod wire;
+
+pub use script::{Entry, ScriptWire};
+pub use stream::StreamWire;
+pub use wire::{Came, PIECE, Wire, WireFault};
