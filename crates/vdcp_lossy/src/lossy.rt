@@ -2,7 +2,7 @@ ghost use Rattle.std.specs.Io.KnownBytes.{Appends, Keeps};
 ghost use Rattle.std.specs.Prelude.{◌≡◌, ◌⊎◌, ◌++◌, IfErr, OnOk};
 ghost use Rattle.vdcp_lossy.specs.Lossy.{IsUncarried};
 ghost use Rattle.vdcp_lossy.specs.Printed.{IsPrinted, counts_text, end_line};
-ghost use Rattle.vdcp_net.specs.Address.{IsAddress};
+ghost use Rattle.vdcp_tcp.specs.Address.{IsAddress};
 ghost use Rattle.vdcp_text.specs.Failure.{failure_line, status_of};
 
 use crate::carry::carry;
@@ -13,7 +13,7 @@ use std::io;
 use std::net::{Net, SocketAddr, SocketAddrV4};
 use std::rt::Clock;
 use std::time::Duration;
-use vdcp_net::{accept_one, address_of};
+use vdcp_tcp::{accept_one, address_of};
 use vdcp_text::Failure;
 use vdcp_wire::StreamWire;
 

@@ -1,8 +1,6 @@
 -- What serve prints, and what it is refused for.
 use Rattle.std.specs.Io.KnownBytes.{Appends, Keeps}
-use Rattle.std.specs.Net.Text.{socket_text}
 use Rattle.std.specs.Prelude.{ℕ, ◌≡◌, ◌⊎◌, ◌++◌, List, codes, Option, Some}
-use Rattle.std.specs.declared.net.SocketAddr.{SocketAddr}
 use Rattle.vdcp_drive.specs.Lines.{ServesTo}
 use Rattle.vdcp_wire.specs.Wires.{IfTold, Told}
 use Rattle.vdcp_drive.specs.declared.line.Ran.{Ran}
@@ -10,7 +8,8 @@ use Rattle.vdcp_drive.specs.declared.line.Ran.TheVariants as ran
 use Rattle.vdcp_files.specs.Check.{RefusesCatalogue}
 use Rattle.vdcp_files.specs.Files.{File, bytes_of}
 use Rattle.vdcp_list.specs.Catalogues.{IsCatalogueOf}
-use Rattle.vdcp_net.specs.Address.{IsAddress}
+use Rattle.vdcp_tcp.specs.Address.{IsAddress}
+use Rattle.vdcp_tcp.specs.Listening.{PrintsListening}
 use Rattle.vdcp_text.specs.Failure.{failure_line, status_of}
 use Rattle.vdcp_text.specs.Text.{line}
 use Rattle.vdcp_text.specs.declared.failure.Failure.{Failure}
@@ -18,10 +17,6 @@ use Rattle.vdcp_text.specs.declared.failure.Failure.TheVariants as failures
 use Rattle.vdcp_value.specs.declared.clip_id.ClipId.{ClipId}
 use Rattle.vdcp_value.specs.declared.rate.Rate.{Rate}
 use Rattle.vdcp_value.specs.declared.timecode.Timecode.{Timecode}
-
--- the line of the address that is listened at
-abbrev pub listening_line : SocketAddr → List ℕ
-listening_line address = line (codes "listening " ++ socket_text address)
 
 -- a writer gained the line of how a server's turns ended
 abbrev pub PrintsEnd : Ran → Option (List ℕ) → Option (List ℕ) → Type 0
@@ -39,10 +34,6 @@ pub record EndsAs (turns : ℕ) (told told' : Option Told) (out out' : Option (L
 -- the file is a catalogue
 abbrev pub IsWholeCatalogue : Rate → File → Type 0
 IsWholeCatalogue rate catalogue = (clips : List (ClipId × Timecode)) × IsCatalogueOf rate (bytes_of catalogue) clips
-
--- a writer gained the line of an address that was listened at
-abbrev pub PrintsListening : Option (List ℕ) → Option (List ℕ) → Type 0
-PrintsListening out out' = (address : SocketAddr) × Appends out out' (listening_line address)
 
 -- the file is a catalogue, and a writer gained the line of an address that was listened at, and then that of how the turns ended
 pub record IsServedThere (rate : Rate) (catalogue : File) (out out' : Option (List ℕ)) : Type 0 where

@@ -3,13 +3,8 @@
 //! `do_serve` waits for one automation at an address, and serves it with a new port. `do_run` connects to
 //! an address and plays a list through the port of the server there. Each tells standard error of a failure
 //! in one line, and gives the exit status.
-//!
-//! `address_of` reads an address, and `accept_one` takes one connection there: who stands between the two ends
-//! begins with these too.
 #![tactic(auto)]
 
-mod accept;
-mod address;
 #[cfg(test)]
 mod answers;
 mod asrun;
@@ -22,7 +17,5 @@ mod serve;
 #[cfg(test)]
 mod told;
 
-pub use accept::accept_one;
-pub use address::address_of;
 pub use run::{RunSettings, Showing, do_run};
 pub use serve::{ServeSettings, do_serve};

@@ -8,12 +8,11 @@ ghost use Rattle.vdcp_drive.specs.Driven.{GoesOn, HasRun, HasRunBroken, IsNew, I
 ghost use Rattle.vdcp_wire.specs.Wires.{IfTold, Told};
 ghost use Rattle.vdcp_files.specs.Files.{file};
 ghost use Rattle.vdcp_files.specs.Mode.{mode_of};
-ghost use Rattle.vdcp_net.specs.Address.{IsAddress};
+ghost use Rattle.vdcp_tcp.specs.Address.{IsAddress};
 ghost use Rattle.vdcp_net.specs.Run.{EndsTo, IsEndOf, IsListRefused, IsPlayed, IsRun, IsUnplayed, IsWholeList, MayBeUnwritten};
 ghost use Rattle.vdcp_net.specs.Run.{end_text, fault_text, faults_text, line_end_of, line_failure, run_status};
 ghost use Rattle.vdcp_text.specs.Failure.{failure_line};
 
-use crate::address::address_of;
 use crate::asrun::save_asrun;
 use crate::log::{Log, Logged};
 use crate::progress::Progress;
@@ -24,6 +23,7 @@ use std::time::Duration;
 use vdcp_auto::{Controller, Outcome, Source};
 use vdcp_drive::{AutoDriver, DriveFault, Ran, Unwatched, Watch};
 use vdcp_files::{Input, OutcomeText};
+use vdcp_tcp::address_of;
 use vdcp_text::Failure;
 use vdcp_value::Rate;
 use vdcp_wire::{StreamWire, Wire};

@@ -3,13 +3,11 @@ ghost use Rattle.std.specs.Prelude.{◌≡◌, ◌≢◌, ◌⊎◌, ◌≤◌, 
 ghost use Rattle.vdcp_drive.specs.Served.{HasBrokenOff, IsPartlySent, IsServed};
 ghost use Rattle.vdcp_wire.specs.Wires.{IfTold, Told};
 ghost use Rattle.vdcp_files.specs.Files.{file};
-ghost use Rattle.vdcp_net.specs.Address.{IsAddress};
+ghost use Rattle.vdcp_tcp.specs.Address.{IsAddress};
 ghost use Rattle.vdcp_net.specs.Serve.{EndsAs, IsCatalogueRefused, IsServedThere, IsUnserved, IsWholeCatalogue, PrintsEnd};
 ghost use Rattle.vdcp_port.specs.Clock.{ClockedPort, new_port};
 ghost use Rattle.vdcp_text.specs.Failure.{failure_line};
 
-use crate::accept::accept_one;
-use crate::address::address_of;
 use crate::log::{AirLog, Log, Logged};
 use std::io;
 use std::net::Net;
@@ -17,6 +15,7 @@ use std::time::Duration;
 use vdcp_drive::{DriveFault, Ran, Server, Unwatched, WatchAir};
 use vdcp_files::Input;
 use vdcp_port::{Catalogue, Port};
+use vdcp_tcp::{accept_one, address_of};
 use vdcp_text::Failure;
 use vdcp_value::Rate;
 use vdcp_wire::{StreamWire, Wire};

@@ -1,6 +1,6 @@
 ghost use Rattle.std.specs.Net.Grammar.{IsSocketV4Text};
 ghost use Rattle.std.specs.Prelude.{◌≡◌, IfErr, IfOk, OnErr};
-ghost use Rattle.vdcp_net.specs.Address.{IsAddress};
+ghost use Rattle.vdcp_tcp.specs.Address.{IsAddress};
 
 use std::net::SocketAddrV4;
 use vdcp_text::Failure;

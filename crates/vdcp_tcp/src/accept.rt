@@ -1,6 +1,6 @@
 ghost use Rattle.std.specs.Io.KnownBytes.{Appends, Keeps};
 ghost use Rattle.std.specs.Prelude.{◌≡◌, ◌⊎◌, IfErr, OnOk};
-ghost use Rattle.vdcp_net.specs.Serve.{PrintsListening, listening_line};
+ghost use Rattle.vdcp_tcp.specs.Listening.{PrintsListening, listening_line};
 
 use std::io;
 use std::net::{Net, OpenListener, SocketAddr, SocketAddrV4};
