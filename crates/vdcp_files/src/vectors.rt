@@ -10,7 +10,7 @@ ghost use Rattle.vdcp_frame.specs.Message.{Content, content_of};
 ghost use Rattle.vdcp_frame.specs.Reading.{Reads};
 ghost use Rattle.vdcp_list.specs.Rows.{most_rows, rows_of};
 
-use crate::input::{Input, file_failure};
+use crate::named_file::{NamedFile, file_failure};
 use csv::ByteRecord;
 use hex::FromHexError;
 use std::alloc::{AllocError, Global};
@@ -28,13 +28,13 @@ use vdcp_text::{End, Failure, MessageText, RowFault};
 /// two fields, or whose first field isn't an even number of hexadecimal digits; and then one with
 /// the number of rows.
 ///
-/// The status is 0 where all rows are right, and 1 where one isn't. It is 1 too where there are
-/// more than 10,000 rows, and 3 where the file can't be read or memory was refused: `err` is told
-/// of these, and `out` gets nothing. The status is 3 where a writer failed, to which nothing more
-/// is written; `out` is flushed behind the last line.
+/// The status is 0 where all rows are right, and 1 where one isn't. It is also 1 where there are more
+/// than 10,000 rows, and 3 where the file can't be read or memory was refused: `err` gets a line of
+/// either, and `out` nothing. The status is 3 where a writer failed: nothing more is written to that
+/// one. `out` is flushed after the last line.
 pub fn do_vectors<R: io::Read + Drop, W: io::Write, E: io::Write>(
     alloc: Global,
-    file: Input<'_, R>,
+    file: NamedFile<'_, R>,
     out: &mut W,
     err: &mut E,
 ) -> u8
@@ -60,7 +60,7 @@ pub fn do_vectors<R: io::Read + Drop, W: io::Write, E: io::Write>(
 // Tests the rows, writes what was found, and says how many are bad.
 fn vectors<'a, R: io::Read + Drop, W: io::Write>(
     alloc: Global,
-    file: Input<'a, R>,
+    file: NamedFile<'a, R>,
     out: &mut W,
 ) -> Result<usize, Failure<'a>>
     ensures tested { IfOk result (AreTested (R.remaining file.entry.reader) (W.contents out.old) (W.contents out.new)) }
@@ -76,7 +76,7 @@ fn vectors<'a, R: io::Read + Drop, W: io::Write>(
 // Tests the rows of a file.
 fn test_rows<'a, R: io::Read + Drop>(
     alloc: Global,
-    file: Input<'a, R>,
+    file: NamedFile<'a, R>,
 ) -> Result<Tally, Failure<'a>>
     ensures tally { IfOk result (IsTallyOf (R.remaining file.entry.reader)) }
     ensures refused { IfErr result (IsUntested file.entry.name (R.remaining file.entry.reader)) }

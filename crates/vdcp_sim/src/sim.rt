@@ -6,13 +6,12 @@ ghost use Rattle.vdcp_sim.specs.Sim.{IsScriptRefused, IsSimulated, IsUnsimulated
 ghost use Rattle.vdcp_text.specs.Failure.{status_of};
 
 use crate::script::read_events;
-use crate::text::ExchangeText;
 use std::alloc::{Allocator, Global};
 use std::io;
 use vdcp_auto::{Exchange, Outcome, Source};
-use vdcp_files::{Input, ItemText, OutcomeText};
+use vdcp_files::NamedFile;
 use vdcp_port::Catalogue;
-use vdcp_text::Failure;
+use vdcp_text::{ExchangeText, Failure, ItemText, OutcomeText};
 use vdcp_value::{Item, Rate};
 use vdcp_world::World;
 
@@ -23,9 +22,9 @@ pub struct SimSettings {
     pub unit: u8,
     /// The port's number.
     pub port: u8,
-    /// The controller gives up after so many unanswered exchanges in a row, 1 to 1,000.
+    /// Unanswered exchanges in a row after which the controller gives up, 1 to 1,000.
     pub limit: u32,
-    /// A cue takes so many frames, 1 to 1,000.
+    /// The length of a cue in frames, 1 to 1,000.
     pub cue_frames: u32,
     /// The controller is in confirm mode, and receipts may come from nowhere.
     pub confirm: bool,
@@ -41,9 +40,9 @@ pub struct SimSettings {
 /// controller ended.
 ///
 /// The status is 0 whatever came of the events. It is 1 where a row or a line is refused, and 3 where a
-/// file can't be read or memory was refused: `err` is told of these, and `out` gets nothing. The list is
-/// read first, and then the catalogue. The status is 3 where a writer failed, to which nothing more is
-/// written; `out` is flushed behind the last line.
+/// file can't be read or memory was refused: `err` gets a line of either, and `out` nothing. The list is
+/// read first, and then the catalogue. The status is 3 where a writer failed: nothing more is written to
+/// that one. `out` is flushed after the last line.
 pub fn do_sim<
     L: io::Read + Drop,
     C: io::Read + Drop,
@@ -52,9 +51,9 @@ pub fn do_sim<
     E: io::Write,
 >(
     alloc: Global,
-    list: Input<'_, L>,
-    catalogue: Input<'_, C>,
-    script: Input<'_, R>,
+    list: NamedFile<'_, L>,
+    catalogue: NamedFile<'_, C>,
+    script: NamedFile<'_, R>,
     settings: SimSettings,
     out: &mut W,
     err: &mut E,
@@ -86,9 +85,9 @@ pub fn do_sim<
 // Reads the files, runs the script, and writes what came of it.
 fn simulate<'a, L: io::Read + Drop, C: io::Read + Drop, R: io::Read + Drop, W: io::Write>(
     alloc: Global,
-    list: Input<'a, L>,
-    catalogue: Input<'a, C>,
-    script: Input<'a, R>,
+    list: NamedFile<'a, L>,
+    catalogue: NamedFile<'a, C>,
+    script: NamedFile<'a, R>,
     settings: SimSettings,
     out: &mut W,
 ) -> Result<(), Failure<'a>>

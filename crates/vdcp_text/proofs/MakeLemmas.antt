@@ -9,7 +9,7 @@ use Rattle.vdcp_text.specs.Make.{IsIdText, IsTimeText, NamesNone}
 use Rattle.vdcp_value.specs.declared.clip_id.ClipId.{ClipId}
 use Rattle.vdcp_words.specs.declared.command.Command.TheVariants.{Open, Close, Select, PlayCue, CueData, Play, Stop, Status, ActiveId, IdRequest, IdSize}
 
--- what isn't decoded to so many bytes isn't decoded to any list of so many
+-- text that doesn't decode to n bytes decodes to no list of n bytes
 pub no_bytes : (text : List ℕ) (n : ℕ) (e : FromHexError) → decode_sized text n ≡ Err e → (bytes : List ℕ) → length bytes ≡ n
     → decode_of text ≡ Ok bytes → ⊥
 no_bytes text n e refused bytes size decoded =

@@ -18,10 +18,10 @@ use vdcp_frame::{Step, read_at};
 /// Shows the burst that hexadecimal digits spell: a line for each of its messages, with `meanings`
 /// also the command or reply that it carries, and then one for its end.
 ///
-/// The status is 0 where the end is clean, and 1 where it isn't. It is 1 too where `hex` isn't an
-/// even number of hexadecimal digits, and 3 where memory was refused; `err` is told of both. It
-/// is 3 where a writer failed, to which nothing more is written; `out` is flushed behind the last
-/// line.
+/// The status is 0 where the end is clean, and 1 where it isn't. It is also 1 where `hex` isn't an
+/// even number of hexadecimal digits, and 3 where memory was refused; `err` gets a line of either.
+/// It is 3 where a writer failed: nothing more is written to that one. `out` is flushed after the
+/// last line.
 pub fn do_show<A: Allocator, W: io::Write, E: io::Write>(
     alloc: A,
     hex: &str,
