@@ -75,7 +75,8 @@ Refuses rate list catalogue failure =
     RefusesList rate list failure ⊎ (IsWholeList rate list × RefusesCatalogue rate catalogue failure)
 
 -- why nothing is checked, and what was printed by then: a file isn't read, or else the writer failed
-pub data IsUnchecked (rate : Rate) (list catalogue : File) (out out' : Option (List ℕ)) (failure : Failure) : Type 0 where
+pub data IsUnchecked (rate : Rate) (list catalogue : File) (out out' : Option (List ℕ)) (failure : Failure)
+    : Type 0 where
   no_files : Refuses rate list catalogue failure → Keeps out out' → IsUnchecked rate list catalogue out out' failure
   writer_failed : failure ≡ failures.Writer → IsUnchecked rate list catalogue out out' failure
 

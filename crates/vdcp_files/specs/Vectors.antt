@@ -120,4 +120,5 @@ too_many name = RefusedRow name (most_rows + 1) TooMany
 
 -- why the rows of a file of this name aren't tested
 abbrev pub IsUntested : Bor (List ℕ) → Option (List ℕ) → Failure → Type 0
-IsUntested name file failure = (failure ≡ Memory) ⊎ (failure ≡ Read name) ⊎ ((failure ≡ too_many name) × HasTooMany file)
+IsUntested name file failure =
+    (failure ≡ Memory) ⊎ (failure ≡ Read name) ⊎ ((failure ≡ too_many name) × HasTooMany file)

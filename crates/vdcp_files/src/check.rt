@@ -29,17 +29,22 @@ pub fn do_check<L: io::Read + Drop, C: io::Read + Drop, W: io::Write, E: io::Wri
     out: &mut W,
     err: &mut E,
 ) -> u8
-    ensures playable { result ≡ 0 → IsChecked rate (file list.entry.name (L.remaining list.entry.reader)) (file catalogue.entry.name (C.remaining catalogue.entry.reader))
+    ensures playable { result ≡ 0 →
+        IsChecked rate (file list.entry.name (L.remaining list.entry.reader))
+        (file catalogue.entry.name (C.remaining catalogue.entry.reader))
         (W.contents out.old) (W.contents out.new) true }
     ensures untold { result ≡ 0 → Keeps (E.contents err.old) (E.contents err.new) }
     // The status is 1 for what isn't playable, and for a row that is refused.
     ensures others { result ≡ 1 →
-        (IsChecked rate (file list.entry.name (L.remaining list.entry.reader)) (file catalogue.entry.name (C.remaining catalogue.entry.reader))
+        (IsChecked rate (file list.entry.name (L.remaining list.entry.reader))
+        (file catalogue.entry.name (C.remaining catalogue.entry.reader))
         (W.contents out.old) (W.contents out.new) false × Keeps (E.contents err.old) (E.contents err.new))
-        ⊎ IsRefused rate (file list.entry.name (L.remaining list.entry.reader)) (file catalogue.entry.name (C.remaining catalogue.entry.reader))
+        ⊎ IsRefused rate (file list.entry.name (L.remaining list.entry.reader))
+        (file catalogue.entry.name (C.remaining catalogue.entry.reader))
         (W.contents out.old) (W.contents out.new) (E.contents err.old) (E.contents err.new) }
     ensures silent { Keeps (W.contents out.old) (W.contents out.new)
-        ⊎ AreWhole rate (file list.entry.name (L.remaining list.entry.reader)) (file catalogue.entry.name (C.remaining catalogue.entry.reader)) }
+        ⊎ AreWhole rate (file list.entry.name (L.remaining list.entry.reader))
+        (file catalogue.entry.name (C.remaining catalogue.entry.reader)) }
     ensures statuses { (result < 2) ⊎ (result ≡ 3) }
 {
     match check(alloc, list, catalogue, rate, out) {
@@ -63,12 +68,16 @@ fn check<'a, L: io::Read + Drop, C: io::Read + Drop, W: io::Write>(
     rate: Rate,
     out: &mut W,
 ) -> Result<bool, Failure<'a>>
-    ensures checked { IfOk result (IsChecked rate (file list.entry.name (L.remaining list.entry.reader)) (file catalogue.entry.name (C.remaining catalogue.entry.reader))
+    ensures checked { IfOk result (IsChecked rate (file list.entry.name (L.remaining list.entry.reader))
+        (file catalogue.entry.name (C.remaining catalogue.entry.reader))
         (W.contents out.old) (W.contents out.new)) }
-    ensures unchecked { IfErr result (IsUnchecked rate (file list.entry.name (L.remaining list.entry.reader)) (file catalogue.entry.name (C.remaining catalogue.entry.reader))
+    ensures unchecked { IfErr result
+        (IsUnchecked rate (file list.entry.name (L.remaining list.entry.reader))
+        (file catalogue.entry.name (C.remaining catalogue.entry.reader))
         (W.contents out.old) (W.contents out.new)) }
     ensures silent { Keeps (W.contents out.old) (W.contents out.new)
-        ⊎ AreWhole rate (file list.entry.name (L.remaining list.entry.reader)) (file catalogue.entry.name (C.remaining catalogue.entry.reader)) }
+        ⊎ AreWhole rate (file list.entry.name (L.remaining list.entry.reader))
+        (file catalogue.entry.name (C.remaining catalogue.entry.reader)) }
     ensures statuses { IfErr result (λ e. status_of e ≢ 2) }
 {
     let events = list.read_list(alloc, rate)?;

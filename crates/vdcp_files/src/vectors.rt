@@ -43,7 +43,8 @@ pub fn do_vectors<R: io::Read + Drop, W: io::Write, E: io::Write>(
     // The status is 1 where a row is bad, and for a file of too many rows.
     ensures bad { result ≡ 1 →
         (Keeps (E.contents err.old) (E.contents err.new)
-        × (bad : ℕ) × (0 < bad) × AreTested (R.remaining file.entry.reader) (W.contents out.old) (W.contents out.new) bad)
+        × (bad : ℕ) × (0 < bad)
+        × AreTested (R.remaining file.entry.reader) (W.contents out.old) (W.contents out.new) bad)
         ⊎ (HasTooMany (R.remaining file.entry.reader) × Keeps (W.contents out.old) (W.contents out.new)
         × Appends (E.contents err.old) (E.contents err.new) (failure_line (too_many file.entry.name))) }
     ensures silent { Keeps (W.contents out.old) (W.contents out.new)
@@ -65,7 +66,8 @@ fn vectors<'a, R: io::Read + Drop, W: io::Write>(
 ) -> Result<usize, Failure<'a>>
     ensures tested { IfOk result (AreTested (R.remaining file.entry.reader) (W.contents out.old) (W.contents out.new)) }
     ensures refused { IfErr result (λ e. (e ≡ Failure.Writer)
-        ⊎ (IsUntested file.entry.name (R.remaining file.entry.reader) e × Keeps (W.contents out.old) (W.contents out.new))) }
+        ⊎ (IsUntested file.entry.name (R.remaining file.entry.reader) e
+        × Keeps (W.contents out.old) (W.contents out.new))) }
     ensures silent { Keeps (W.contents out.old) (W.contents out.new)
         ⊎ IfSome (R.remaining file.entry.reader) (λ bytes. length (rows_of bytes) ≤ most_rows) }
 {
@@ -208,7 +210,8 @@ fn show_messages(burst: &[u8], text: &mut String) -> Result<End, AllocError>
 
 // Adds the line of a message.
 fn write_message(message: Message<'_>, text: &mut String) -> Result<(), AllocError>
-    ensures { OnOk result (string_bytes text.new ≡ string_bytes text.old ++ (message_text (content_of message.entry) ++ codes "; ")) }
+    ensures { OnOk result (string_bytes text.new
+        ≡ string_bytes text.old ++ (message_text (content_of message.entry) ++ codes "; ")) }
 {
     let message = MessageText(message);
     write!(text, "{message}; ")
@@ -216,7 +219,8 @@ fn write_message(message: Message<'_>, text: &mut String) -> Result<(), AllocErr
 
 // Adds the line of row `k`, if it is bad.
 fn write_line(lines: &mut String, k: usize, verdict: Verdict<'_>) -> Result<(), AllocError>
-    ensures { OnOk result (string_bytes lines.new ≡ string_bytes lines.old ++ finding_text k (finding_of verdict.entry)) }
+    ensures { OnOk result (string_bytes lines.new
+        ≡ string_bytes lines.old ++ finding_text k (finding_of verdict.entry)) }
 {
     match verdict {
         Verdict::Right => Ok(()),

@@ -16,9 +16,11 @@ pub fn open_file<'a>(
     matches: &'a ArgMatches<'_>,
     argument: &str,
 ) -> Result<NamedFile<'a, File>, Failure<'a>>
-    ensures named { (name : List ℕ) → first_value (found_of matches.now) argument.now ≡ Some name → IfOk result (λ input. input.name.now ≡ name) }
+    ensures named { (name : List ℕ) → first_value (found_of matches.now) argument.now ≡ Some name
+        → IfOk result (λ input. input.name.now ≡ name) }
     ensures faults { (name : List ℕ) → first_value (found_of matches.now) argument.now ≡ Some name
-        → IfErr result (λ failure. (failure ≡ Failure.Memory) ⊎ (failure_text failure ≡ name ++ codes ": cannot open")) }
+        → IfErr result (λ failure. (failure ≡ Failure.Memory)
+        ⊎ (failure_text failure ≡ name ++ codes ": cannot open")) }
 {
     let name = matches.get_str(argument).unwrap_or("");
     match File::open(rt, name) {

@@ -6,6 +6,7 @@ use Rattle.vdcp_value.specs.declared.clip_id.ClipId.{ClipId}
 use Rattle.vdcp_value.specs.declared.part.Item.{Item}
 use Rattle.vdcp_value.specs.declared.rate.Rate.{Rate}
 use Rattle.vdcp_value.specs.declared.timecode.Timecode.{Timecode}
+use Rattle.vdcp_auto.specs.Plan.{Plan}
 use Rattle.vdcp_auto.specs.Turn.{outcome_of}
 use Rattle.vdcp_auto.specs.declared.exchange.Exchange.{Exchange}
 use Rattle.vdcp_auto.specs.declared.outcome.Outcome.{Outcome}
@@ -65,11 +66,14 @@ channel_text trace rate c =
 
 -- ---- the channel
 
+-- what the controller is made with for these items
+abbrev pub plan_for : SimSettings → List Item → Plan
+plan_for settings items =
+    record { mode = mode_of settings.confirm; list = items; port = settings.port; limit = settings.limit }
+
 -- the new channel of a playlist and a catalogue
 abbrev pub channel_of : SimSettings → List Item → List (ClipId × Timecode) → Channel
-channel_of settings items clips =
-    let plan = record { mode = mode_of settings.confirm; list = items; port = settings.port; limit = settings.limit } in
-    new_channel plan clips settings.unit settings.cue_frames
+channel_of settings items clips = new_channel (plan_for settings items) clips settings.unit settings.cue_frames
 
 -- the files are a playlist and a catalogue, and a writer gained what is printed of the channel that some
 -- events led to from their new one; and this channel keeps the headline
@@ -81,7 +85,8 @@ pub record IsSimulated (settings : SimSettings) (list catalogue : File) (old new
   pub is_playlist : IsListOf settings.rate (bytes_of list) items
   pub is_catalogue : IsCatalogueOf settings.rate (bytes_of catalogue) clips
   pub gained :
-      Appends old new (channel_text settings.trace settings.rate (after_events (channel_of settings items clips) events))
+      Appends old new
+          (channel_text settings.trace settings.rate (after_events (channel_of settings items clips) events))
   pub headline : Headline (after_events (channel_of settings items clips) events)
 
 -- ---- scripts that are refused
@@ -90,18 +95,22 @@ pub record IsSimulated (settings : SimSettings) (list catalogue : File) (old new
 abbrev pub IsScriptFailure : Bor (List ℕ) → Failure → Type 0
 IsScriptFailure name failure =
     ((number : ℕ) × (fault : ScriptLineFault) × (failure ≡ failures.ScriptLine name number fault))
-    ⊎ ((failure ≡ failures.TooManyEvents name) ⊎ ((failure ≡ failures.NotText name) ⊎ ((failure ≡ failures.Read name) ⊎ (failure ≡ failures.Memory))))
+    ⊎ ((failure ≡ failures.TooManyEvents name) ⊎ ((failure ≡ failures.NotText name)
+    ⊎ ((failure ≡ failures.Read name) ⊎ (failure ≡ failures.Memory))))
 
--- why nothing is simulated, and what was printed by then: the list or the catalogue isn't read, or else the script isn't,
--- or else the writer failed
-pub data IsUnsimulated (rate : Rate) (list catalogue : File) (script : Bor (List ℕ)) (out out' : Option (List ℕ)) (failure : Failure) : Type 0 where
-  no_files : Refuses rate list catalogue failure → Keeps out out' → IsUnsimulated rate list catalogue script out out' failure
+-- why nothing is simulated, and what was printed by then: the list or the catalogue isn't read; or else the
+-- script isn't; or else the writer failed
+pub data IsUnsimulated (rate : Rate) (list catalogue : File) (script : Bor (List ℕ)) (out out' : Option (List ℕ))
+    (failure : Failure) : Type 0 where
+  no_files : Refuses rate list catalogue failure → Keeps out out'
+      → IsUnsimulated rate list catalogue script out out' failure
   no_script : AreWhole rate list catalogue → IsScriptFailure script failure → Keeps out out'
       → IsUnsimulated rate list catalogue script out out' failure
   writer_failed : failure ≡ failures.Writer → IsUnsimulated rate list catalogue script out out' failure
 
 -- the files are whole, and the script is refused: one writer gained the line that reports it, and the other nothing
-pub record IsScriptRefused (rate : Rate) (list catalogue : File) (name : Bor (List ℕ)) (out out' err err' : Option (List ℕ)) : Type 0 where
+pub record IsScriptRefused (rate : Rate) (list catalogue : File) (name : Bor (List ℕ))
+    (out out' err err' : Option (List ℕ)) : Type 0 where
   pub whole : AreWhole rate list catalogue
   pub failure : Failure
   pub refused : IsScriptFailure name failure

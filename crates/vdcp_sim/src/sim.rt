@@ -63,17 +63,22 @@ pub fn do_sim<
     requires few { settings.limit ≤ 1000 }
     requires some_frames { 1 ≤ settings.cue_frames }
     requires few_frames { settings.cue_frames ≤ 1000 }
-    ensures simulated { result ≡ 0 → IsSimulated settings (file list.entry.name (L.remaining list.entry.reader)) (file catalogue.entry.name (C.remaining catalogue.entry.reader))
+    ensures simulated { result ≡ 0 →
+        IsSimulated settings (file list.entry.name (L.remaining list.entry.reader))
+        (file catalogue.entry.name (C.remaining catalogue.entry.reader))
         (W.contents out.old) (W.contents out.new) }
     ensures untold { result ≡ 0 → Keeps (E.contents err.old) (E.contents err.new) }
     // The status is 1 for a row that is refused, and for a line or the whole of the script.
     ensures others { result ≡ 1 →
-        IsRefused settings.rate (file list.entry.name (L.remaining list.entry.reader)) (file catalogue.entry.name (C.remaining catalogue.entry.reader))
+        IsRefused settings.rate (file list.entry.name (L.remaining list.entry.reader))
+        (file catalogue.entry.name (C.remaining catalogue.entry.reader))
         (W.contents out.old) (W.contents out.new) (E.contents err.old) (E.contents err.new)
-        ⊎ IsScriptRefused settings.rate (file list.entry.name (L.remaining list.entry.reader)) (file catalogue.entry.name (C.remaining catalogue.entry.reader))
+        ⊎ IsScriptRefused settings.rate (file list.entry.name (L.remaining list.entry.reader))
+        (file catalogue.entry.name (C.remaining catalogue.entry.reader))
         script.entry.name (W.contents out.old) (W.contents out.new) (E.contents err.old) (E.contents err.new) }
     ensures silent { Keeps (W.contents out.old) (W.contents out.new)
-        ⊎ AreWhole settings.rate (file list.entry.name (L.remaining list.entry.reader)) (file catalogue.entry.name (C.remaining catalogue.entry.reader)) }
+        ⊎ AreWhole settings.rate (file list.entry.name (L.remaining list.entry.reader))
+        (file catalogue.entry.name (C.remaining catalogue.entry.reader)) }
     ensures statuses { (result < 2) ⊎ (result ≡ 3) }
 {
     match simulate(alloc, list, catalogue, script, settings, out) {
@@ -96,12 +101,17 @@ fn simulate<'a, L: io::Read + Drop, C: io::Read + Drop, R: io::Read + Drop, W: i
     requires few { settings.limit ≤ 1000 }
     requires some_frames { 1 ≤ settings.cue_frames }
     requires few_frames { settings.cue_frames ≤ 1000 }
-    ensures simulated { OnOk result (IsSimulated settings (file list.entry.name (L.remaining list.entry.reader)) (file catalogue.entry.name (C.remaining catalogue.entry.reader))
+    ensures simulated { OnOk result
+        (IsSimulated settings (file list.entry.name (L.remaining list.entry.reader))
+        (file catalogue.entry.name (C.remaining catalogue.entry.reader))
         (W.contents out.old) (W.contents out.new)) }
-    ensures unsimulated { IfErr result (IsUnsimulated settings.rate (file list.entry.name (L.remaining list.entry.reader)) (file catalogue.entry.name (C.remaining catalogue.entry.reader))
+    ensures unsimulated { IfErr result
+        (IsUnsimulated settings.rate (file list.entry.name (L.remaining list.entry.reader))
+        (file catalogue.entry.name (C.remaining catalogue.entry.reader))
         script.entry.name (W.contents out.old) (W.contents out.new)) }
     ensures silent { Keeps (W.contents out.old) (W.contents out.new)
-        ⊎ AreWhole settings.rate (file list.entry.name (L.remaining list.entry.reader)) (file catalogue.entry.name (C.remaining catalogue.entry.reader)) }
+        ⊎ AreWhole settings.rate (file list.entry.name (L.remaining list.entry.reader))
+        (file catalogue.entry.name (C.remaining catalogue.entry.reader)) }
     ensures statuses { IfErr result (λ e. status_of e ≢ 2) }
 {
     let events = list.read_list(alloc, settings.rate)?;
@@ -146,7 +156,8 @@ fn write_world<S: Source, C: Catalogue, A: Allocator + Copy, W: io::Write>(
     settings: SimSettings,
     out: &mut W,
 ) -> io::Result<()>
-    ensures { OnOk result (Appends (W.contents out.old) (W.contents out.new) (channel_text settings.trace settings.rate world.now)) }
+    ensures { OnOk result (Appends (W.contents out.old) (W.contents out.new)
+        (channel_text settings.trace settings.rate world.now)) }
 {
     let log = world.log();
     if settings.trace {

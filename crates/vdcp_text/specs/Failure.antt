@@ -52,7 +52,8 @@ failure_text Text = codes "text"
 failure_text (Open name) = name.now ++ codes ": cannot open"
 failure_text (Read name) = name.now ++ codes ": read"
 failure_text (Row name row fault) = name.now ++ codes ": row " ++ decimal row ++ codes ": " ++ row_fault_text fault
-failure_text (ScriptLine name number fault) = name.now ++ codes ": line " ++ decimal number ++ codes ": " ++ script_line_fault_text fault
+failure_text (ScriptLine name number fault) =
+    name.now ++ codes ": line " ++ decimal number ++ codes ": " ++ script_line_fault_text fault
 failure_text (TooManyEvents name) = name.now ++ codes ": too many"
 failure_text (NotText name) = name.now ++ codes ": text"
 failure_text (Write name) = name.now ++ codes ": write"

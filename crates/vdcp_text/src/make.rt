@@ -54,7 +54,8 @@ fn make<W: io::Write>(
     requires { unit ≤ 15 }
     ensures made { OnOk result (IsMade (words_of word.now arguments.now) unit
         (W.contents out.old) (W.contents out.new)) }
-    ensures refused { IfErr result (λ e. ((e ≡ Failure.Writer) × (command : Command) × Names (words_of word.now arguments.now) command)
+    ensures refused { IfErr result
+        (λ e. ((e ≡ Failure.Writer) × (command : Command) × Names (words_of word.now arguments.now) command)
         ⊎ (NamesNone (words_of word.now arguments.now) × IsMakeFault word.now e
         × Keeps (W.contents out.old) (W.contents out.new))) }
 {

@@ -33,7 +33,8 @@ pub fn do_show<A: Allocator, W: io::Write, E: io::Write>(
         IsShown meanings burst (W.contents out.old) (W.contents out.new) result) }
     ensures silent { OnErr (decode_of hex.now) (Keeps (W.contents out.old) (W.contents out.new)) }
     ensures refused { OnErr (decode_of hex.now) ((result ≡ 1) ⊎ (result ≡ 3)) }
-    ensures told { OnErr (decode_of hex.now) (result ≡ 1 → Appends (E.contents err.old) (E.contents err.new) (failure_line Failure.Hex)) }
+    ensures told { OnErr (decode_of hex.now)
+        (result ≡ 1 → Appends (E.contents err.old) (E.contents err.new) (failure_line Failure.Hex)) }
     ensures untold { OnOk (decode_of hex.now) (result < 2 → Keeps (E.contents err.old) (E.contents err.new)) }
     ensures statuses { (result < 2) ⊎ (result ≡ 3) }
 {
@@ -67,7 +68,8 @@ fn show<A: Allocator, W: io::Write>(
 
 // Writes a burst's reading, and gives its end.
 fn write_reading<W: io::Write>(out: &mut W, meanings: bool, burst: &[u8]) -> io::Result<End>
-    ensures { IfOk result (λ end. GainsReading meanings burst.now (W.contents out.old) (W.contents out.new) (end_of end)) }
+    ensures { IfOk result (λ end. GainsReading meanings burst.now (W.contents out.old) (W.contents out.new)
+        (end_of end)) }
 {
     let end = write_messages(out, meanings, burst)?;
     writeln!(out, "{end}")?;
