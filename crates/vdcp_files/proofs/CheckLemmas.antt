@@ -86,8 +86,12 @@ playable_more : (clips : List (ClipId × Timecode)) (items : List Item) (k : ℕ
     → before ≡ are_playable clips (take k items)
     → (before && is_none (fault_of clips item)) ≡ are_playable clips (take (k + 1) items)
 playable_more clips items k item before at e =
-    rw (e, take_more items k item at, list_all-append (is_playable clips) (take k items) (item ∷ []),
-        no_fault (length_of clips item.id) item.part)
+    rw (
+      e,
+      take_more items k item at,
+      list_all-append (is_playable clips) (take k items) (item ∷ []),
+      no_fault (length_of clips item.id) item.part,
+    )
     (ap (λ b. are_playable clips (take k items) && b) (and_true (is_playable clips item)))
 
 double : (b : Bool) → not (not b) ≡ b
@@ -105,7 +109,7 @@ pub playable_after : (clips : List (ClipId × Timecode)) (items : List Item) (k 
     → (before && none) ≡ are_playable clips (take (k + 1) items)
 playable_after clips items k item before fault none at e is same =
     ap (λ n. before && n) (none_is fault (fault_of clips item) none is same)
-        ∙ playable_more clips items k item before at e
+    ∙ playable_more clips items k item before at e
 
 pub kept : (bytes : Option (List ℕ)) → Keeps bytes bytes
 kept None = tt

@@ -107,8 +107,12 @@ pub counts_one : (file : Option (List ℕ)) (left : Option (List FileRow)) (tall
     → ((findings : List Finding) → IsTally findings tally → IsTally (findings ++ finding ∷ []) tally')
     → tally'.rows ≡ tally.rows + 1
 counts_one file left tally tally' finding h add =
-    omega (arith, h.tallied.rows_are, (add (findings_of h.front) h.tallied).rows_are,
-        length-append (findings_of h.front) (finding ∷ []))
+    omega (
+      arith,
+      h.tallied.rows_are,
+      (add (findings_of h.front) h.tallied).rows_are,
+      length-append (findings_of h.front) (finding ∷ []),
+    )
 
 pub tested_next : RowLaws
     → (file : Option (List ℕ)) (left left' : Option (List FileRow)) (tally tally' : Tally) (row : FileRow)
@@ -122,7 +126,7 @@ tested_next v file left left' tally tally' row finding h t room found add = reco
   few = omega (arith, length-append h.front (row ∷ []), h.tallied.rows_are, length-map h.front finding_of_row, room);
   tallied =
       subst (λ findings. IsTally findings tally')
-          (ap (λ f. findings_of h.front ++ f ∷ []) found ∙ sym (map-append finding_of_row h.front (row ∷ [])))
+      (ap (λ f. findings_of h.front ++ f ∷ []) found ∙ sym (map-append finding_of_row h.front (row ∷ [])))
       (add (findings_of h.front) h.tallied);
 }
 
@@ -144,10 +148,17 @@ pub tested_too_many : RowLaws
 tested_too_many v file left left' tally row h t full =
     let front = h.front ++ row ∷ [] in
     let (rows, are, (rest, e)) =
-        v.begins file left' front (v.more (option_map rows_of file) left left' h.front row h.is_front t) in
+    v.begins file left' front (v.more (option_map rows_of file) left left' h.front row h.is_front t) in
     let many : most_rows < length rows =
-    omega (arith, ap length e, length-append front rest, length-append h.front (row ∷ []), h.tallied.rows_are,
-        length-map h.front finding_of_row, full)
+    omega (
+      arith,
+      ap length e,
+      length-append front rest,
+      length-append h.front (row ∷ []),
+      h.tallied.rows_are,
+      length-map h.front finding_of_row,
+      full,
+    )
     in (rows, are, many)
 
 -- one more row and its line
@@ -162,7 +173,7 @@ tally_push findings finding tally tally' h rows bad lines =
       bad_are = bad ∙ ap (λ n. n + bad_count (finding ∷ [])) h.bad_are ∙ sym (bad_count-push findings finding);
       lines_are =
           lines ∙ ap₂ (λ before n. before ++ finding_text n finding) h.lines_are place
-              ∙ sym (findings_text-push 1 findings finding);
+          ∙ sym (findings_text-push 1 findings finding);
     }
 
 pub if_ok : {T E : Type 0} (P : T → Type 0) (r : Result T E) (x : T) → IfOk r P → r ≡ Ok x → P x

@@ -3,6 +3,9 @@
 //! `do_check` checks a playlist against a catalogue. `do_vectors` tests each row of a file of bursts and
 //! their readings. A file that they read is a `NamedFile`, which gives its list or its catalogue, or else the
 //! failure. Each subcommand reports a failure to standard error in one line, and gives the exit status.
+//!
+//! Files: `named_file` (a file's name with its reader, and the failure of a refused list), `check` and `vectors` (a
+//! subcommand each).
 #![tactic(auto)]
 
 mod check;

@@ -23,7 +23,7 @@ numbered-push text n [] x = rw add-zero (append-nil (text n x))
 numbered-push text n (first ∷ xs) x =
     let size : suc n + length xs ≡ n + suc (length xs) = omega arith in
     ap (λ rest. text n first ++ rest)
-        (numbered-push text (suc n) xs x ∙ ap (λ m. numbered text (suc n) xs ++ text m x) size)
+    (numbered-push text (suc n) xs x ∙ ap (λ m. numbered text (suc n) xs ++ text m x) size)
     ∙ sym (append_assoc (text n first) (numbered text (suc n) xs) (text (n + suc (length xs)) x))
 
 -- the texts of the things before k, and that of thing k
@@ -33,7 +33,7 @@ numbered-take : {A : Type 0} (text : ℕ → A → List ℕ) (n : ℕ) (xs : Lis
 numbered-take text n xs k x number at e =
     let size : number ≡ n + length (take k xs) = omega (arith, e, taken xs k x at) in
     ap (λ m. numbered text n (take k xs) ++ text m x) size ∙ sym (numbered-push text n (take k xs) x)
-        ∙ ap (numbered text n) (sym (take_more xs k x at))
+    ∙ ap (numbered text n) (sym (take_more xs k x at))
 
 pub appends_next : {A : Type 0} (text : ℕ → A → List ℕ) (n : ℕ) (xs : List A) (k : ℕ) (x : A) (number : ℕ)
     (old middle new : Option (List ℕ))

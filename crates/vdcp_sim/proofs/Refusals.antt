@@ -23,8 +23,14 @@ refused_with_1 rate list catalogue name out out' err err' failure status (writer
     let three : status_of failure ≡ 3 = ap status_of writer in
     absurd (omega (arith, three, status_1 failure status is one))
 refused_with_1 rate list catalogue name out out' err err' failure status (no_files refuses silent) is told one =
-    inl (record { failure = failure; refused = refuses; of_row = status_1 failure status is one; told = told
-        (omega (arith, one)); silent = silent })
+    inl (record {
+      failure = failure;
+      refused = refuses;
+      of_row = status_1 failure status is one;
+      told = told
+          (omega (arith, one));
+      silent = silent;
+    })
 refused_with_1 rate list catalogue name out out' err err' failure status (no_script whole refused silent) is told one =
     inr (record {
       whole = whole;

@@ -86,7 +86,7 @@ pub record IsSimulated (settings : SimSettings) (list catalogue : File) (old new
   pub is_catalogue : IsCatalogueOf settings.rate (bytes_of catalogue) clips
   pub gained :
       Appends old new
-          (channel_text settings.trace settings.rate (after_events (channel_of settings items clips) events))
+      (channel_text settings.trace settings.rate (after_events (channel_of settings items clips) events))
   pub headline : Headline (after_events (channel_of settings items clips) events)
 
 -- ---- scripts that are refused

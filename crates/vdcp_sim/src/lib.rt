@@ -4,6 +4,8 @@
 //! `do_sim` reads a playlist, a catalogue and a script, each a `NamedFile`, runs the script in a new world, and
 //! prints what went to air and what was reported of it. It reports a failure to standard error in one line,
 //! and gives the exit status.
+//!
+//! Files: `sim` (the subcommand), `script` (how its script is read).
 #![tactic(auto)]
 
 mod script;

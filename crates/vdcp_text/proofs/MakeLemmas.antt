@@ -83,7 +83,7 @@ texts arguments = map (λ a. a.now) arguments
 abbrev pub IsPart : List (List ℕ) → Type 0
 IsPart arguments =
     (id : ClipId) × (x y i s d : List ℕ) × IsIdText i id × IsTimeText s x × IsTimeText d y
-        × (arguments ≡ i ∷ s ∷ d ∷ [])
+    × (arguments ≡ i ∷ s ∷ d ∷ [])
 
 -- what isn't such doesn't cue a part
 pub no_part : (arguments : List (List ℕ)) → ¬ IsPart arguments → NamesNone (codes "cue-data" ∷ arguments)

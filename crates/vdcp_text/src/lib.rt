@@ -5,6 +5,9 @@
 //! `ExchangeText` are shown by `Display`, each with its exact text. A `Failure` is why a subcommand gives up:
 //! its `Display` is what standard error gets, and `Failure::report` gives the exit status. `do_show` shows a
 //! burst's reading, and `do_make` makes the bytes of a command.
+//!
+//! Files: `text` (bytes, messages and ends), `item`, `outcome`, `exchange` (what their names say, as text), `failure`
+//! (why a subcommand gives up, as a line and a status), `show` and `make` (a subcommand each).
 #![tactic(auto)]
 
 mod exchange;

@@ -10,7 +10,7 @@ loop-k-preserved g c =
     record {
       text =
           appends_event clips items c.loop-k.k item fault (g.W.Write.contents c.args.out.now)
-              (g.W.Write.contents c.loop-k.out)
+          (g.W.Write.contents c.loop-k.out)
           (g.W.Write.contents c.write_event.new.out) c.at-item.ensures c.fault_of-fault.ensures c.loop-k.invariant.text
           c.in_ok-write_event.ensures;
       playable =

@@ -7,4 +7,4 @@ use Rattle.vdcp_sim.proofs.sim.write_aired.Given as goal
 abbrev pub invariant-loop-k : goal.invariant-loop-k
 invariant-loop-k g l =
     Appends (g.W.Write.contents l.initial.out) (g.W.Write.contents l.out)
-        (numbered (aired_line l.rate) 0 (take l.k l.aired))
+    (numbered (aired_line l.rate) 0 (take l.k l.aired))
