@@ -25,7 +25,7 @@ use Rattle.vdcp_wire.specs.Wires.{Arrival, has_closed}
 use Rattle.vdcp_drive.specs.declared.line.DriveFault.{DriveFault}
 use Rattle.vdcp_drive.specs.declared.line.Ran.{Ran}
 use Rattle.vdcp_drive.specs.declared.line.Ran.TheVariants as ran
-use Rattle.vdcp_tcp.specs.Address.{IsAddress}
+use Rattle.vdcp_wire.specs.Address.{IsAddress}
 use Rattle.vdcp_net.specs.declared.run.LineEnd.{LineEnd}
 use Rattle.vdcp_net.specs.declared.run.LineEnd.TheVariants as line_end
 use Rattle.vdcp_net.specs.declared.run.RunEnd.{RunEnd}

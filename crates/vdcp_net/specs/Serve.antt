@@ -8,8 +8,8 @@ use Rattle.vdcp_drive.specs.declared.line.Ran.TheVariants as ran
 use Rattle.vdcp_files.specs.Check.{RefusesCatalogue}
 use Rattle.vdcp_files.specs.Files.{File, bytes_of}
 use Rattle.vdcp_list.specs.Catalogues.{IsCatalogueOf}
-use Rattle.vdcp_tcp.specs.Address.{IsAddress}
-use Rattle.vdcp_tcp.specs.Listening.{PrintsListening}
+use Rattle.vdcp_wire.specs.Address.{IsAddress}
+use Rattle.vdcp_wire.specs.Listening.{PrintsListening}
 use Rattle.vdcp_text.specs.Failure.{failure_line, status_of}
 use Rattle.vdcp_text.specs.Text.{line}
 use Rattle.vdcp_text.specs.declared.failure.Failure.{Failure}

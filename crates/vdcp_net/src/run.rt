@@ -8,7 +8,7 @@ ghost use Rattle.vdcp_drive.specs.Driven.{GoesOn, HasRun, HasRunBroken, IsNew, I
 ghost use Rattle.vdcp_wire.specs.Wires.{IfTold, Told};
 ghost use Rattle.vdcp_files.specs.Files.{file};
 ghost use Rattle.vdcp_files.specs.Mode.{mode_of};
-ghost use Rattle.vdcp_tcp.specs.Address.{IsAddress};
+ghost use Rattle.vdcp_wire.specs.Address.{IsAddress};
 ghost use Rattle.vdcp_net.specs.Run.{EndsTo, IsEndOf, IsListRefused, IsPlayed, IsRun, IsUnplayed, IsWholeList, MayBeUnwritten};
 ghost use Rattle.vdcp_net.specs.Run.{end_text, fault_text, faults_text, line_end_of, line_failure, run_status};
 ghost use Rattle.vdcp_text.specs.Failure.{failure_line};
@@ -23,10 +23,9 @@ use std::time::Duration;
 use vdcp_auto::{Controller, Outcome, Source};
 use vdcp_drive::{AutoDriver, DriveFault, Ran, Unwatched, Watch};
 use vdcp_files::{Input, OutcomeText};
-use vdcp_tcp::address_of;
 use vdcp_text::Failure;
 use vdcp_value::Rate;
-use vdcp_wire::{StreamWire, Wire};
+use vdcp_wire::{StreamWire, Wire, address_of};
 
 /// What a list is played with.
 #[derive(Clone, Copy, Debug, PartialEq, Eq)]
@@ -242,7 +241,9 @@ fn run_list<'a, R: Net + Files + Clock + AllocGlobal, L: io::Read + Drop, V: io:
     ensures played { IfOk result (IsPlayed settings.entry (file list.entry.name (L.remaining list.entry.reader))) }
     ensures unplayed { IfErr result (IsUnplayed settings.entry.rate address.now (file list.entry.name (L.remaining list.entry.reader))) }
 {
-    let address = address_of(address)?;
+    let Ok(address) = address_of(address) else {
+        return Err(Failure::Address);
+    };
     let events = list.read_list(rt.alloc(), settings.rate)?;
     let Ok(stream) = rt.connect(SocketAddr::V4(address)) else {
         return Err(Failure::Connect);

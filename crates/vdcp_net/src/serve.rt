@@ -3,7 +3,7 @@ ghost use Rattle.std.specs.Prelude.{◌≡◌, ◌≢◌, ◌⊎◌, ◌≤◌, 
 ghost use Rattle.vdcp_drive.specs.Served.{HasBrokenOff, IsPartlySent, IsServed};
 ghost use Rattle.vdcp_wire.specs.Wires.{IfTold, Told};
 ghost use Rattle.vdcp_files.specs.Files.{file};
-ghost use Rattle.vdcp_tcp.specs.Address.{IsAddress};
+ghost use Rattle.vdcp_wire.specs.Address.{IsAddress};
 ghost use Rattle.vdcp_net.specs.Serve.{EndsAs, IsCatalogueRefused, IsServedThere, IsUnserved, IsWholeCatalogue, PrintsEnd};
 ghost use Rattle.vdcp_port.specs.Clock.{ClockedPort, new_port};
 ghost use Rattle.vdcp_text.specs.Failure.{failure_line};
@@ -15,10 +15,9 @@ use std::time::Duration;
 use vdcp_drive::{DriveFault, Ran, Server, Unwatched, WatchAir};
 use vdcp_files::Input;
 use vdcp_port::{Catalogue, Port};
-use vdcp_tcp::{accept_one, address_of};
 use vdcp_text::Failure;
 use vdcp_value::Rate;
-use vdcp_wire::{StreamWire, Wire};
+use vdcp_wire::{AcceptFault, StreamWire, Wire, accept_one, address_of};
 
 /// What a channel is served with.
 #[derive(Clone, Copy, Debug, PartialEq, Eq)]
@@ -109,9 +108,15 @@ fn serve<'a, R: Net + AllocGlobal, C: io::Read + Drop, L: io::Write + Drop, W: i
     ensures unserved { IfErr result (IsUnserved settings.rate address.now (file catalogue.entry.name (C.remaining catalogue.entry.reader))
         (W.contents out.old) (W.contents out.new)) }
 {
-    let address = address_of(address)?;
+    let Ok(address) = address_of(address) else {
+        return Err(Failure::Address);
+    };
     let clips = catalogue.read_catalogue(rt.alloc(), settings.rate)?;
-    let stream = accept_one(rt, address, out)?;
+    let stream = match accept_one(rt, address, out) {
+        Ok(stream) => stream,
+        Err(AcceptFault::Bind) => return Err(Failure::Bind),
+        Err(AcceptFault::Writer) => return Err(Failure::Writer),
+    };
     let silence = Duration::from_millis(u64::from(settings.silence));
     let Ok(wire) = StreamWire::new(stream, silence) else {
         return Err(Failure::LineFailed);
