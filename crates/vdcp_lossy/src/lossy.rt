@@ -77,7 +77,10 @@ fn lossy<R: Net + Clock, W: io::Write>(
     ensures whole { OnOk result (IsAddress address.now × IsAddress server.now) }
     ensures uncarried { IfErr result (IsUncarried address.now server.now (W.contents out.old) (W.contents out.new)) }
 {
-    let (Ok(address), Ok(server)) = (address_of(address), address_of(server)) else {
+    let Ok(address) = address_of(address) else {
+        return Err(Failure::Address);
+    };
+    let Ok(server) = address_of(server) else {
         return Err(Failure::Address);
     };
     carry_between(rt, address, server, settings, out)
