@@ -1,10 +1,10 @@
 -- Words on the line: their messages fit, and their bytes read as them first.
-use Rattle.std.proofs.Common.{◌≡◌, ℕ, ◌<◌, ◌≤◌, Bool, true, false, List, [], ◌∷◌, ◌++◌, length, refl, sym, ap, subst, arith, length-append, Ok}
-use Rattle.std.specs.Prelude.{All, Some, None}
+use Rattle.std.proofs.Common.{◌≡◌, ℕ, ◌+◌, ◌*◌, ◌<◌, ◌≤◌, Bool, true, false, List, [], ◌∷◌, ◌++◌, length, refl, sym, ap, subst, arith, length-append, Ok}
+use Rattle.std.specs.Prelude.{All, Some, None, sum}
 use Rattle.std.proofs.lemmas.List.{append-nil}
 use Rattle.std.proofs.lemmas.List.Elements.{All-nil, All-cons, All-append}
 use Rattle.vdcp_value.specs.Ids.{id_bytes}
-use Rattle.vdcp_frame.specs.Message.{Content, ack, nak, framed, FitsFrame, Fits, Spells, spelling}
+use Rattle.vdcp_frame.specs.Message.{Content, ack, nak, framed, FitsFrame, Fits, Spells, spelling, check_byte}
 use Rattle.vdcp_frame.specs.Reading.{Reads, SpellsAll, End, clean}
 use Rattle.vdcp_words.specs.declared.command.Command.{Command}
 use Rattle.vdcp_words.specs.declared.command.Command.TheVariants as commands
@@ -89,6 +89,13 @@ reply_fits v unit (replies.Size time) u w =
     frame 3 unit 0x94 time (omega arith) u (omega arith) (bytes_below v 4 time w) (omega (arith, length_of_bytes v 4 time w))
 reply_fits v unit (replies.Present there) u w =
     frame 3 unit 0x96 (flag there ∷ []) (omega arith) u (omega arith) (one (flag there) (flag_fits there)) (omega arith)
+
+-- what has at most 16 bytes of data is spelt in at most 21
+pub short_spelling : (m : Content) → length (rest_of m) ≤ 16 → length (spelling m) ≤ 21
+short_spelling ack short = omega arith
+short_spelling (nak byte) short = omega arith
+short_spelling (framed kind unit code rest) short =
+    omega (arith, short, length-append rest (check_byte (16 * kind + unit + code + sum rest) ∷ []))
 
 -- ---- what was written is computed
 
