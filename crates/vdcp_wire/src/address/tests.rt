@@ -1,6 +1,5 @@
-use super::address_of;
+use super::{AddressFault, address_of};
 use std::net::{Ipv4Addr, SocketAddrV4};
-use vdcp_text::Failure;
 
 #[test]
 fn addresses_are_read(rt: HostRuntime) {
@@ -44,6 +43,6 @@ fn other_texts_are_refused(rt: HostRuntime) {
         "127.0.0.1;80",
     ];
     for text in texts {
-        assert_eq!(rt; address_of(text), Err(Failure::Address), "{text}");
+        assert_eq!(rt; address_of(text), Err(AddressFault), "{text}");
     }
 }

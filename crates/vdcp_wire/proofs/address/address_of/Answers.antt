@@ -1,6 +1,6 @@
 use Rattle.std.proofs.Common.{ℕ, List, subst, sym}
 use Rattle.std.specs.Net.Grammar.{IsSocketV4Text}
-use Rattle.vdcp_tcp.proofs.address.address_of.Goals as goal
+use Rattle.vdcp_wire.proofs.address.address_of.Goals as goal
 
 pub returns-in-Err-clause-no_address : goal.returns-in-Err-clause-no_address
 returns-in-Err-clause-no_address c =

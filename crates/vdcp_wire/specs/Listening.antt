@@ -1,13 +1,12 @@
 -- What is printed of the address that is listened at.
 use Rattle.std.specs.Io.KnownBytes.{Appends}
 use Rattle.std.specs.Net.Text.{socket_text}
-use Rattle.std.specs.Prelude.{ℕ, ◌++◌, List, codes, Option}
+use Rattle.std.specs.Prelude.{ℕ, List, [], ◌∷◌, ◌++◌, codes, Option}
 use Rattle.std.specs.declared.net.SocketAddr.{SocketAddr}
-use Rattle.vdcp_text.specs.Text.{line}
 
--- the line of the address that is listened at
+-- the line of the address that is listened at, with its line feed
 abbrev pub listening_line : SocketAddr → List ℕ
-listening_line address = line (codes "listening " ++ socket_text address)
+listening_line address = (codes "listening " ++ socket_text address) ++ 10 ∷ []
 
 -- a writer gained the line of an address that was listened at
 abbrev pub PrintsListening : Option (List ℕ) → Option (List ℕ) → Type 0
