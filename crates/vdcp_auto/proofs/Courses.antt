@@ -8,9 +8,9 @@ use Rattle.vdcp_auto.specs.declared.exchange.Exchange.{Exchange}
 use Rattle.vdcp_auto.specs.declared.exchange.Heard.{Heard}
 use Rattle.vdcp_auto.specs.declared.exchange.Input.{Input}
 use Rattle.vdcp_auto.specs.declared.exchange.Input.TheVariants as input
-use Rattle.vdcp_auto.specs.declared.phase.Stage.{Stage}
-use Rattle.vdcp_auto.specs.declared.phase.Stage.TheVariants.{Ready, Awaiting, Ended}
-use Rattle.vdcp_auto.specs.declared.phase.State.{State}
+use Rattle.vdcp_auto.specs.State.{Stage}
+use Rattle.vdcp_auto.specs.State.{Ready, Awaiting, Ended}
+use Rattle.vdcp_auto.specs.State.{State}
 use Rattle.vdcp_auto.specs.Course.{course_from, after_input, ended_by_input, after_inputs_from, Tick, Receive, Take, Stop, logged, Reached, called}
 use Rattle.vdcp_auto.specs.Plan.{Plan}
 use Rattle.vdcp_auto.specs.Turn.{is_ready, tick_in, ticked, awaited_in, awaited, ended_in, exchange_of, ended_by, came_to, taken, stopped}

@@ -7,7 +7,7 @@ ghost use Rattle.vdcp_auto.specs.declared.exchange.Heard.{Heard};
 ghost use Rattle.vdcp_auto.specs.declared.exchange.Input.{Input};
 ghost use Rattle.vdcp_auto.specs.declared.phase.Mode.TheVariants.{Confirming};
 ghost use Rattle.vdcp_auto.specs.declared.exchange.Exchange.{Exchange};
-ghost use Rattle.vdcp_auto.specs.declared.phase.State.{State};
+ghost use Rattle.vdcp_auto.specs.State.{State};
 ghost use Rattle.vdcp_auto.specs.Plan.{Plan};
 ghost use Rattle.vdcp_auto.specs.Heard.{hears_receipt};
 ghost use Rattle.vdcp_auto.specs.Turn.{awaited, given, ended_by, came_to};

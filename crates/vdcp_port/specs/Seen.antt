@@ -4,8 +4,8 @@ use Rattle.vdcp_value.specs.declared.clip_id.ClipId.{ClipId}
 use Rattle.vdcp_value.specs.declared.part.Item.{Item}
 use Rattle.vdcp_value.specs.declared.timecode.Timecode.{Timecode}
 use Rattle.vdcp_port.specs.declared.access.Access.{Access}
-use Rattle.vdcp_port.specs.declared.slots.Cue.{Cue}
-use Rattle.vdcp_port.specs.declared.slots.Clip.{Clip}
+use Rattle.vdcp_port.specs.declared.airing.Cue.{Cue}
+use Rattle.vdcp_port.specs.declared.airing.Clip.{Clip}
 use Rattle.vdcp_port.specs.Clips.{is_playable, frames_on_air}
 use Rattle.vdcp_port.specs.Clock.{Counts}
 use Rattle.vdcp_port.specs.Port.{Cued, empty, cueing, done, PortState}

@@ -14,7 +14,7 @@ use crate::port::Port;
 use crate::sink::Sink;
 use arrayvec::ArrayVec;
 use std::alloc::{AllocError, Allocator};
-use vdcp_frame::{Ended, LIMIT, Message, Step, read_at, write};
+use vdcp_frame::{Ended, LIMIT, Message, Step, read_at};
 use vdcp_value::Item;
 use vdcp_words::Reply;
 
@@ -186,9 +186,5 @@ fn append_reply<S: Sink>(reply: &Reply, unit: u8, out: &mut S)
     ensures written { S.written out.new ≡ S.written out.old ++ reply_bytes unit reply.now }
     ensures room { S.room out.old ≤ S.room out.new + length (reply_bytes unit reply.now) }
 {
-    let mut room = [0; 16];
-    let message = reply.to_message(unit, &mut room);
-    let mut bytes = ArrayVec::<u8, 512>::new();
-    write(&message, &mut bytes).unwrap();
-    out.append(bytes.as_slice());
+    out.append(reply.encode(unit).as_slice());
 }

@@ -17,13 +17,13 @@
 #![tactic(auto)]
 
 mod access;
+mod airing;
 mod asked;
 mod burst;
 mod catalogue;
 pub mod laws;
 mod port;
 mod sink;
-mod slots;
 
 pub use burst::reply_at_end;
 pub use catalogue::Catalogue;

@@ -1,8 +1,8 @@
 use crate::access::Access;
+use crate::airing::{Clip, Cue, count_clip, count_cue, finish_cue};
 use crate::asked::Asked;
 use crate::catalogue::{Catalogue, frames_if_playable};
 use crate::laws;
-use crate::slots::{Clip, Cue, count_clip, count_cue, finish_cue};
 use std::marker::Model;
 use vdcp_frame::Message;
 use vdcp_value::{ClipId, Item, Part};

@@ -141,6 +141,10 @@ unfaulted rate bytes e =
     (NotBcd 1) (NotBcd 2) (NotBcd 3) (NotBcd 4) (label_fault rate (label_of_bcd bytes)) e in
     record { frames = h.0; seconds = h.1; minutes = h.2; hours = h.3; label = h.4 }
 
+-- bytes that are lawful say a lawful label
+pub lawful_is_time : (rate : Rate) (bytes : List ℕ) → is_time rate bytes ≡ true → is_lawful rate (label_of_bcd bytes) ≡ true
+lawful_is_time rate bytes e = lawful_without rate (label_of_bcd bytes) (unfaulted rate bytes e).label
+
 byte_of_value : (byte : ℕ) → is_bcd byte ≡ true → bcd_byte (bcd_value byte) ≡ byte
 byte_of_value byte e =
     let tens : byte / 16 < 10 = grind (arith, e) in
@@ -158,7 +162,7 @@ pub time_code_of : (rate : Rate) (bytes : List ℕ) → AreBytes 4 bytes → is_
     → (timecode : Timecode) × (rate_of timecode ≡ rate) × (bcd_of timecode ≡ bytes)
 time_code_of rate bytes four e =
     let u = unfaulted rate bytes e in (
-      record { rate = rate; label = label_of_bcd bytes; lawful = lawful_without rate (label_of_bcd bytes) u.label },
+      record { rate = rate; label = label_of_bcd bytes; lawful = lawful_is_time rate bytes e },
       refl,
       bytes_read_back rate bytes (length_of_bytes 4 bytes four) u,
     )
