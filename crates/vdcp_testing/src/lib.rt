@@ -2,6 +2,8 @@
 //!
 //! No library of the program calls it outside its tests. `FailingReader` and `FailingWriter` work over memory
 //! and count their calls; `Fails` chooses the calls that fail. `two_clips` is a small catalogue's rows.
+//!
+//! Files: `fails` (which calls fail), `reader` and `writer` (that fail then), `clips`.
 #![tactic(auto)]
 
 mod clips;

@@ -2,13 +2,13 @@ use arrayvec::ArrayString;
 use std::fmt;
 use vdcp_auto::{Exchange, Heard};
 
-/// What was heard: the text of a reply, `other`, or `silence`.
+// What was heard: the text of a reply, `other`, or `silence`.
 #[derive(Clone, Copy)]
-pub struct HeardText(pub Option<Heard>);
+struct HeardText(Option<Heard>);
 
 impl fmt::Display for HeardText {
     ghost use Rattle.std.specs.Prelude.{Some};
-    ghost use Rattle.vdcp_sim.specs.Sim.{heard_text};
+    ghost use Rattle.vdcp_text.specs.Exchange.{heard_text};
 
     ghost output = { λ h. Some (heard_text h.0) };
 
@@ -32,7 +32,7 @@ pub struct ExchangeText(pub Exchange);
 
 impl fmt::Display for ExchangeText {
     ghost use Rattle.std.specs.Prelude.{Some};
-    ghost use Rattle.vdcp_sim.specs.Sim.{exchange_text};
+    ghost use Rattle.vdcp_text.specs.Exchange.{exchange_text};
 
     ghost output = { λ e. Some (exchange_text e.0) };
 

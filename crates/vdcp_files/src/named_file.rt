@@ -1,6 +1,5 @@
 ghost use Rattle.std.specs.Prelude.{◌≡◌, ◌≢◌, IfErr, IfOk};
-ghost use Rattle.vdcp_files.specs.Check.{RefusesCatalogue, RefusesList};
-ghost use Rattle.vdcp_files.specs.Files.{file, file_failure};
+ghost use Rattle.vdcp_files.specs.Files.{RefusesCatalogue, RefusesList, file, file_failure};
 ghost use Rattle.vdcp_list.specs.Catalogues.{IsCatalogueOf};
 ghost use Rattle.vdcp_list.specs.List.{items_of};
 ghost use Rattle.vdcp_list.specs.Playlists.{IsListOf};
@@ -12,15 +11,15 @@ use vdcp_list::{List, ListFault, Table, read_catalogue, read_list};
 use vdcp_text::{Failure, RowFault};
 use vdcp_value::Rate;
 
-/// A file to read.
+/// A file to read, with its name.
 #[derive(Drop)]
-pub struct Input<'a, R> {
+pub struct NamedFile<'a, R> {
     /// Its name, as it was given.
     pub name: &'a str,
     pub reader: R,
 }
 
-impl<'a, R: io::Read + Drop> Input<'a, R> {
+impl<'a, R: io::Read + Drop> NamedFile<'a, R> {
     /// Reads the playlist in the file, with time codes at this rate. `Row` where a row is refused, `Read` where
     /// the file can't be read, and `Memory`.
     pub fn read_list(self, alloc: Global, rate: Rate) -> Result<List, Failure<'a>>

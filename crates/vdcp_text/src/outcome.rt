@@ -7,7 +7,7 @@ pub struct OutcomeText(pub Option<Outcome>);
 
 impl fmt::Display for OutcomeText {
     ghost use Rattle.std.specs.Prelude.{Some};
-    ghost use Rattle.vdcp_files.specs.Outcome.{outcome_text};
+    ghost use Rattle.vdcp_text.specs.Outcome.{outcome_text};
 
     ghost output = { λ o. Some (outcome_text o.0) };
 

@@ -1,15 +1,15 @@
 ghost use Rattle.hex.specs.Hex.{encode_lower};
 ghost use Rattle.std.specs.Prelude.{◌≡◌, IfNone, IfSome};
-ghost use Rattle.vdcp_files.specs.Items.{shown_time};
+ghost use Rattle.vdcp_text.specs.Items.{shown_time};
 ghost use Rattle.vdcp_value.specs.Timecodes.{text_of};
 
+use crate::text::HexText;
 use arrayvec::ArrayString;
 use std::fmt;
-use vdcp_text::HexText;
 use vdcp_value::laws::a_time_code_has_lawful_bytes;
 use vdcp_value::{Item, Rate, Timecode};
 
-/// A time code of a part at a rate; where its bytes are none there, the bytes in hexadecimal digits.
+// A time code of a part at a rate, or hexadecimal digits where its bytes write none.
 #[derive(Clone, Copy)]
 struct TimeText {
     rate: Rate,
@@ -18,7 +18,7 @@ struct TimeText {
 
 impl fmt::Display for TimeText {
     ghost use Rattle.std.specs.Prelude.{Some};
-    ghost use Rattle.vdcp_files.specs.Items.{shown_time};
+    ghost use Rattle.vdcp_text.specs.Items.{shown_time};
 
     ghost output = { λ t. Some (shown_time t.rate t.bytes) };
 
@@ -59,7 +59,7 @@ pub struct ItemText {
 
 impl fmt::Display for ItemText {
     ghost use Rattle.std.specs.Prelude.{Some};
-    ghost use Rattle.vdcp_files.specs.Items.{item_text};
+    ghost use Rattle.vdcp_text.specs.Items.{item_text};
 
     ghost output = { λ i. Some (item_text i.rate i.item) };
 
