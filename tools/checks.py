@@ -10,7 +10,6 @@ import sys
 import threading
 import time
 
-sys.dont_write_bytecode = True
 # The most memory that a check was measured to take, in bytes.
 LARGEST = 3_800_000_000
 

@@ -1,4 +1,4 @@
--- Courses: what a course leaves is reached, with the course as its log; and courses one behind another.
+-- Courses: what a course leaves is reached, with the course as its log; and courses one after another.
 use Rattle.std.proofs.Common.{◌≡◌, Bool, true, false, Option, None, Some, List, [], ◌∷◌, ◌++◌, refl, sym, ap, subst, ◌∙◌, append_assoc}
 use Rattle.std.specs.Prelude.{if◌then◌else◌, is_some}
 use Rattle.std.specs.Option.{option_map_or, option_to_list}
@@ -78,7 +78,7 @@ course_input plan input.Stop inputs s = refl
 course_input plan (input.Heard h) inputs s = course_came plan (Some h) inputs s
 course_input plan input.Silence inputs s = course_came plan None inputs s
 
--- Courses one behind another.
+-- Courses one after another.
 
 pub after_joined : (plan : Plan) (xs ys : List Input) (s : State)
     → after_inputs_from plan s (xs ++ ys) ≡ after_inputs_from plan (after_inputs_from plan s xs) ys

@@ -63,7 +63,7 @@ close_of_one (inr all) = absurd (omega (arith, all.0))
 no_close_before_all_is_settled : May Plain once (cue ∷ done ∷ []) (command.Close 1) → ⊥
 no_close_before_all_is_settled m = close_of_one m.rule
 
--- a PLAY looks back to a cue, and to a done status that no PLAY stands behind
+-- a PLAY looks back to a cue, and to a done status with no PLAY after it
 any-behind : (p : Exchange → Bool) (xs ys : List Exchange) → list_any p ys ≡ true → list_any p (xs ++ ys) ≡ true
 any-behind p [] ys h = h
 any-behind p (x ∷ xs) ys h = or_right (p x) (list_any p (xs ++ ys)) (any-behind p xs ys h)

@@ -19,7 +19,7 @@ abbrev pub CueIs : Mode → List Item → ℕ → Memo → Type 0
 CueIs Plain list k m = CuesItemAt list k m.cue × (m.acked ≡ true)
 CueIs Confirming list k m = CuesItemAt list k m.cue
 
--- item k was cued, and so many empty statuses came since
+-- item k was cued, and at least this number of empty statuses came since
 abbrev pub TrialIs : List Item → ℕ → ℕ → Memo → Type 0
 TrialIs list k tries m = (m.cued ≡ true) × CuesItemAt list k m.first × (tries ≤ m.empties)
 

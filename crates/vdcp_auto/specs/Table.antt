@@ -109,7 +109,7 @@ on_no_answer Confirming phase.Close = Ends Done
 on_no_answer Confirming phase.Halt = Goes phase.HaltClose
 on_no_answer Confirming phase.HaltClose = Ends Stopped
 
--- the phases behind the operator's stop
+-- the phases after the operator's stop
 abbrev pub is_halting : Phase → Bool
 is_halting phase.Halt = true
 is_halting phase.HaltClose = true

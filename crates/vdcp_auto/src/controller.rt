@@ -149,7 +149,7 @@ impl<S: Source> Controller<S> {
         }
     }
 
-    /// How many events are known to have been aired: of the list's events the first so many.
+    /// How many events are known to have been aired. They are the first of the list.
     pub fn settled(&self) -> usize
         ensures count { result ≡ self.now.state.settled }
         ensures within { result ≤ length (S.items self.now.source) }
@@ -223,8 +223,8 @@ impl<S: Source> Controller<S> {
         self.take = true;
     }
 
-    /// The operator wants to stop: an exchange that is under way ends first, and then STOP and CLOSE
-    /// are sent. While the port is being closed or stopped, and after an end, nothing changes.
+    /// The operator wants to stop. The awaited exchange is still ended, then STOP and CLOSE go out. Once
+    /// the port is being closed or stopped, the call changes nothing.
     pub fn stop(&mut self)
         ensures { self.new ≡ record self.old { state = turns.stopped self.old.state } }
     {
@@ -238,8 +238,8 @@ impl<S: Source> Controller<S> {
         }
     }
 
-    /// The next command, whose answer is then awaited; None while an answer is awaited and after an
-    /// end.
+    /// Gives the next command, and awaits its answer. None where there is nothing to send: an answer is
+    /// still awaited, or the controller has ended.
     pub fn tick(&mut self) -> Option<Command>
         ensures command { result ≡ turns.given (plan_of S.items self.old) self.old.state }
         ensures ready { is_some result ≡ turns.is_ready self.old.state.stage }

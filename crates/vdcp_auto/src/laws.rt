@@ -41,8 +41,8 @@ pub fn commands_can_be_written()
         IfSome (given plan state) IsWritableCommand }
 {}
 
-/// From whatever state, so from a new controller's: the course of inputs behind others is that of the
-/// controller which the others leave; and one more input adds the exchange that it ends, if it ends
+/// From any state, and so from a new controller's: where more inputs follow, their course is that of the
+/// controller which the first ones leave; and one more input adds the exchange that it ends, if it ends
 /// one, at the end.
 pub fn courses_follow_one_another()
     ensures course { (plan : Plan) (state : State) (xs ys : List Input) →

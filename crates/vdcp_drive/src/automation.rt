@@ -13,7 +13,6 @@ ghost use Rattle.vdcp_drive.specs.RunLeaves.{RunLeaves};
 ghost use Rattle.vdcp_wire.specs.Wires.{Arrival, Told, IfTold, MayCome, nothing_told, adds_sent, adds_came, SendsFront};
 
 use crate::line::{DriveFault, Line, Ran};
-use crate::send::send_message;
 use crate::watch::{Unwatched, Watch};
 use std::marker::Model;
 use vdcp_auto::{Controller, Heard, Source, laws as courses};
@@ -262,8 +261,7 @@ fn send_command<W: Wire>(command: &Command, unit: u8, wire: &mut W) -> Result<()
     ensures works { OnOk result (W.failures wire.new ≡ 0) }
     ensures failed { OnErr result (W.failures wire.new ≡ 1) }
 {
-    let mut room = [0; 16];
-    send_message(&command.to_message(unit, &mut room), wire)
+    wire.send(command.encode(unit).as_slice())
 }
 
 // Listens once, and takes in what came.

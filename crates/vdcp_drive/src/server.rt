@@ -12,7 +12,6 @@ ghost use Rattle.vdcp_drive.specs.Watching.{adds_aired};
 ghost use Rattle.vdcp_wire.specs.Wires.{Arrival, Told, IfTold, MayCome, adds_sent, adds_came, SendsFront};
 
 use crate::line::{DriveFault, Line, Ran};
-use crate::send::send_message;
 use crate::watch::{Unwatched, WatchAir};
 use std::marker::Model;
 use vdcp_frame::{Got, Message, Reader, laws as bursts};
@@ -321,9 +320,6 @@ fn send_reply<W: Wire>(reply: Option<Reply>, unit: u8, wire: &mut W) -> Result<(
 {
     match reply {
         None => Ok(()),
-        Some(reply) => {
-            let mut room = [0; 16];
-            send_message(&reply.to_message(unit, &mut room), wire)
-        }
+        Some(reply) => wire.send(reply.encode(unit).as_slice()),
     }
 }

@@ -61,7 +61,7 @@ MayBeUnwritten name None = Unit {0}
 MayBeUnwritten None (Some failure) = ⊥
 MayBeUnwritten (Some name) (Some failure) = IsUnwritten name failure
 
--- ---- what is told
+-- ---- what is printed and reported
 
 -- the lines of how many events are reported, and how the controller ended
 abbrev pub end_text : RunEnd → List ℕ

@@ -149,7 +149,7 @@ fn tell_piece<L: io::Write + Drop>(
     }
 }
 
-// Takes bytes up to the end of one message or one fault, or all of them. Answers how many.
+// Feeds the reader once, logs what that gives, and answers how many bytes it used up.
 fn tell_some<L: io::Write + Drop>(
     log: &Log<L>,
     direction: Direction,

@@ -33,16 +33,16 @@ pub struct RunSettings<'a> {
     pub unit: u8,
     /// The port's number.
     pub port: u8,
-    /// The controller gives up after so many unanswered exchanges in a row, 1 to 1,000.
+    /// How many unanswered exchanges in a row make the controller give up, 1 to 1,000.
     pub limit: u32,
     /// The controller is in confirm mode.
     pub confirm: bool,
     /// The frame rate of time codes.
     pub rate: Rate,
-    /// Nothing comes in time where nothing came for so many milliseconds, 1 to 60,000. It has to be
+    /// How long the line has to be silent for an answer to be missing, in milliseconds, 1 to 60,000. It has to be
     /// longer than the server waits for the end of a command.
     pub silence: u32,
-    /// At most so many listens are made.
+    /// The most listens that are made.
     pub listens: u32,
     /// The file that is made for the as-run list, if one is wanted.
     pub asrun: Option<&'a str>,
@@ -85,7 +85,7 @@ impl LineEnd {
         }
     }
 
-    // As what it is told, where the controller hasn't ended.
+    // The failure to report if the controller hasn't ended.
     fn failure(self) -> Option<Failure<'static>>
         ensures { result ≡ line_failure self }
     {

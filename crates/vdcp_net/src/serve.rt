@@ -25,13 +25,13 @@ pub struct ServeSettings {
     pub unit: u8,
     /// The port's number.
     pub port: u8,
-    /// A cue takes so many frames, 1 to 1,000.
+    /// How many frames a cue takes, 1 to 1,000.
     pub cue_frames: u32,
     /// The frame rate of time codes.
     pub rate: Rate,
-    /// A burst has ended when nothing has come for so many milliseconds, 1 to 60,000.
+    /// How long a silence ends a burst, in milliseconds, 1 to 60,000.
     pub silence: u32,
-    /// So many turns are made at most, each a wait for bytes or for a silence.
+    /// The most turns that are made, each a wait for bytes or for a silence.
     pub turns: u32,
 }
 
@@ -47,7 +47,7 @@ pub struct ServeSettings {
 ///
 /// The status is 0 where the connection was served to its end. It is 2 where `address` isn't one, 1 where a
 /// row of the catalogue is refused, and 3 where the catalogue can't be read, memory was refused, the address
-/// can't be listened at, no connection is taken, or the line failed; `err` is told of these. The address is
+/// can't be listened at, no connection is taken, or the line failed; `err` gets a line of these. The address is
 /// tested first, and then the catalogue is read. The status is 3 where `out` failed, to which nothing more is
 /// written.
 pub fn do_serve<
@@ -156,7 +156,7 @@ fn serve_line<C: Catalogue + Drop, S: Wire + Drop, L: io::Write + Drop, W: io::W
     }
 }
 
-// Makes so many turns of a server, and tells how they ended.
+// Makes at most this many turns of a server, and prints how they ended.
 fn serve_turns<'f, C: Catalogue, S: Wire, V: WatchAir, W: io::Write>(
     server: &mut Server<C, S>,
     turns: u32,

@@ -150,7 +150,7 @@ kept =
     (cueing_1, play_bytes, 0x04 ∷ []) ∷
     (playing_1, play_bytes, 0x04 ∷ []) ∷
     (selected two_clips, play_bytes ++ stop_bytes, 0x04 ∷ 0x04 ∷ []) ∷
-    -- the state, which is idle, and none behind a bitmap without bit 0
+    -- the state, which is idle, and none after a bitmap without bit 0
     (selected two_clips, status_bytes, 0x02 ∷ 0x04 ∷ 0x30 ∷ 0x85 ∷ 0x01 ∷ 0x01 ∷ 0x49 ∷ []) ∷
     (selected two_clips, 0x02 ∷ 0x03 ∷ 0x30 ∷ 0x05 ∷ 0x02 ∷ 0xC9 ∷ [], 0x02 ∷ 0x03 ∷ 0x30 ∷ 0x85 ∷ 0x00 ∷ 0x4B ∷ []) ∷
     -- the clip that plays, and none
@@ -165,7 +165,11 @@ kept =
     (selected [], cue_1_bytes, 0x05 ∷ 0x01 ∷ []) ∷
     (cueing_2, cue_9_bytes, 0x05 ∷ 0x01 ∷ []) ∷
     -- another port's number isn't opened, selected or closed
-    (fresh two_clips, 0x02 ∷ 0x04 ∷ 0x30 ∷ 0x01 ∷ 0x02 ∷ 0x01 ∷ 0xCC ∷ [], 0x02 ∷ 0x03 ∷ 0x30 ∷ 0x81 ∷ 0x00 ∷ 0x4F ∷ []) ∷
+    (
+      fresh two_clips,
+      0x02 ∷ 0x04 ∷ 0x30 ∷ 0x01 ∷ 0x02 ∷ 0x01 ∷ 0xCC ∷ [],
+      0x02 ∷ 0x03 ∷ 0x30 ∷ 0x81 ∷ 0x00 ∷ 0x4F ∷ [],
+    ) ∷
     (opened, select_2_bytes, 0x05 ∷ 0x01 ∷ []) ∷
     (selected two_clips, select_2_bytes, 0x05 ∷ 0x01 ∷ []) ∷
     (selected two_clips, close_2_bytes, 0x05 ∷ 0x01 ∷ []) ∷
@@ -255,7 +259,8 @@ third_frame_completes_the_cue = refl
 
 -- ---- the largest burst
 
-plays_past_the_limit : ◌≡◌ {A = List ℕ} (sent_for (selected two_clips) (flat_map (λ (k : ℕ). play_bytes) (range_with_len 0 820)))
+plays_past_the_limit : ◌≡◌ {A = List ℕ}
+    (sent_for (selected two_clips) (flat_map (λ (k : ℕ). play_bytes) (range_with_len 0 820)))
     (replicate 819 0x04 ++ 0x05 ∷ 0x04 ∷ [])
 plays_past_the_limit = refl
 
@@ -379,9 +384,11 @@ part_with_an_unlawful_start_changes_nothing : after_burst (selected two_clips) u
 part_with_an_unlawful_start_changes_nothing = rw unlawful_start refl
 
 part_with_an_unlawful_duration : sent_for (selected two_clips) unlawful_duration_bytes ≡ 0x05 ∷ 0x01 ∷ []
-part_with_an_unlawful_duration = ap (sent_if (0x00 ∷ 0x02 ∷ 0x00 ∷ 0x00 ∷ []) (0x00 ∷ 0x60 ∷ 0x00 ∷ 0x00 ∷ [])) unlawful_duration
+part_with_an_unlawful_duration =
+    ap (sent_if (0x00 ∷ 0x02 ∷ 0x00 ∷ 0x00 ∷ []) (0x00 ∷ 0x60 ∷ 0x00 ∷ 0x00 ∷ [])) unlawful_duration
 
-part_with_an_unlawful_duration_changes_nothing : after_burst (selected two_clips) unlawful_duration_bytes ≡ selected two_clips
+part_with_an_unlawful_duration_changes_nothing : after_burst (selected two_clips) unlawful_duration_bytes
+    ≡ selected two_clips
 part_with_an_unlawful_duration_changes_nothing = rw unlawful_duration refl
 
 -- of a clip that isn't known, and while the port isn't selected
@@ -411,7 +418,8 @@ whole_clip_plays_its_length = ap (max 1) frames_10
 abbrev part_done : ClockedPort
 part_done = after_ready (after_burst (selected two_clips) part_2_bytes)
 
-part_airs_as_a_part : aired_for part_done play_bytes ≡ part_of clip_1 (0x00 ∷ 0x02 ∷ 0x00 ∷ 0x00 ∷ []) (0x00 ∷ 0x03 ∷ 0x00 ∷ 0x00 ∷ []) ∷ []
+part_airs_as_a_part : aired_for part_done play_bytes
+    ≡ part_of clip_1 (0x00 ∷ 0x02 ∷ 0x00 ∷ 0x00 ∷ []) (0x00 ∷ 0x03 ∷ 0x00 ∷ 0x00 ∷ []) ∷ []
 part_airs_as_a_part = rw within refl
 
 part_plays_its_duration : (after_burst part_done play_bytes).counts.playing ≡ 75

@@ -43,7 +43,8 @@ abbrev pub IsSoundClip : List (ClipId × Timecode) → Option Clip → Type 0
 IsSoundClip clips None = Unit {0}
 IsSoundClip clips (Some clip) = IsTrue (is_playable clips clip.item) × (0 < clip.left)
 
-pub record IsSound (clips : List (ClipId × Timecode)) (cue_frames unit : ℕ) (cue : Option Cue) (clip : Option Clip) : Type 0 where
+pub record IsSound (clips : List (ClipId × Timecode)) (cue_frames unit : ℕ) (cue : Option Cue)
+    (clip : Option Clip) : Type 0 where
   pub unit_fits : unit ≤ 15
   pub cue_takes : 0 < cue_frames
   pub at_most : cue_frames ≤ 1000

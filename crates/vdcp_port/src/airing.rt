@@ -41,7 +41,8 @@ pub(crate) fn finish_cue(cued: Option<Cue>) -> Option<Cue>
 /// The cue a frame later, and whether this was its last one.
 pub(crate) fn count_cue(cued: Option<Cue>) -> (Option<Cue>, bool)
     ensures last { result.1 ≡ nat_eq (cue_left cued) 1 }
-    ensures seen { seen_cue result.0 ≡ (if nat_eq (cue_left cued) 1 then made_ready (seen_cue cued) else seen_cue cued) }
+    ensures seen { seen_cue result.0
+        ≡ (if nat_eq (cue_left cued) 1 then made_ready (seen_cue cued) else seen_cue cued) }
     ensures left { cue_left result.0 ≡ cue_left cued - 1 }
     ensures kept { (clips : List (ClipId × Timecode)) → IsSoundCue clips cued → IsSoundCue clips result.0 }
 {

@@ -1,5 +1,5 @@
 -- Worked time codes, IDs and parts, a row each, computed from the definitions.
-use Rattle.std.proofs.Common.{ℕ, ◌+◌, ◌≡◌, ◌≢◌, List, [], ◌∷◌, length, get_or, map, Option, Some, refl, sym, ap, ap₂, ◌∙◌, codes, lit<, lit≤, ◌&&◌, Bool, true, false, nat_le, arith}
+use Rattle.std.proofs.Common.{ℕ, ◌+◌, ◌≡◌, List, [], ◌∷◌, length, get_or, map, Some, refl, ap, ap₂, ◌∙◌, codes, lit<, lit≤, ◌&&◌, Bool, true, false, nat_le, arith}
 use Rattle.std.specs.Prelude.{nat_eq}
 use Rattle.std.specs.List.{list_all}
 use Rattle.vdcp_value.proofs.Bcd.{lawful_is_time}
@@ -175,7 +175,8 @@ abbrev fits_by_formula : Part → Timecode → Bool
 fits_by_formula part clip =
     is_time clip.rate part.start && is_time clip.rate part.duration
     && nat_le 1 (number clip.rate (label_of_bcd part.duration))
-    && nat_le (number clip.rate (label_of_bcd part.start) + number clip.rate (label_of_bcd part.duration)) (number clip.rate clip.label)
+    && nat_le (number clip.rate (label_of_bcd part.start) + number clip.rate (label_of_bcd part.duration))
+    (number clip.rate clip.label)
 
 same_where_both : (a b some some' within within' : Bool) → (a ≡ true → b ≡ true → (some ≡ some') × (within ≡ within')) →
     (a && b && some && within) ≡ (a && b && some' && within')

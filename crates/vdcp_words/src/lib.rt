@@ -16,6 +16,9 @@
 //!
 //! Reading doesn't look at the unit that a message names: who reads it compares it. Nothing here
 //! allocates.
+//!
+//! Files: `command` and `reply` (read, written, shown), `data` and `room` (a message's data, read and written),
+//! `encoding` (a word's bytes), `text`, `fault`, `laws`.
 #![tactic(auto)]
 
 mod command;

@@ -36,8 +36,8 @@ pub enum Reply {
 
 impl Reply {
     /// The reply that the message carries, from whatever unit (VDCP, and this profile for what each
-    /// byte means). Data behind the bytes that a reply names is ignored. A state is read with a
-    /// state byte exactly where bit 0 of its bitmap is set.
+    /// byte means). Data after the bytes that a reply names is ignored. Bit 0 of a state's bitmap says
+    /// whether a state byte follows.
     ///
     /// `Unknown` where no reply has the message's type and code; `Length` where one has, but the
     /// data ends too early. `NotCommand` never comes.
