@@ -64,7 +64,7 @@ SpellsAll-append (m ∷ ms) ns a b p q =
 
 -- ---- one reading
 
-same_whole : (ms ns : List Content) (a b x y : List ℕ) → SpellsAll ms a → SpellsAll ns b → HasNoFront x → HasNoFront y → a ++ x ≡ b ++ y
+pub same_whole : (ms ns : List Content) (a b x y : List ℕ) → SpellsAll ms a → SpellsAll ns b → HasNoFront x → HasNoFront y → a ++ x ≡ b ++ y
     → (ms ≡ ns) × (a ≡ b) × (x ≡ y)
 same_whole [] [] a b x y p q no_x no_y e =
     (refl, p ∙ sym q, sym (ap (λ (f : List ℕ). f ++ x) p) ∙ e ∙ ap (λ (f : List ℕ). f ++ y) q)

@@ -32,12 +32,18 @@ further-requires c = further_part (is_reading c.self.inside.place c.self.inside.
     c.self.view_is c.self.invariant c.in-Reading.is) c.fill-count.ensures
 
 pub overflow_sub-count : goal.overflow_sub-count
-overflow_sub-count c = omega (arith, found_after (is_reading c.self.inside.place c.self.inside.buffer c.args.self.now c.in-Reading.taken c.in-Reading.held c.in-Reading.needs
-    c.self.view_is c.self.invariant c.in-Reading.is) c.fill-count.ensures (content_of c.in-Found.message) c.in-Found.size c.in-Found.ensures)
+overflow_sub-count c = omega (
+  arith,
+  found_after (is_reading c.self.inside.place c.self.inside.buffer c.args.self.now c.in-Reading.taken c.in-Reading.held c.in-Reading.needs
+      c.self.view_is c.self.invariant c.in-Reading.is) c.fill-count.ensures (content_of c.in-Found.message) c.in-Found.size c.in-Found.ensures,
+)
 
 pub overflow_sub-count-in-Wrong : goal.overflow_sub-count-in-Wrong
-overflow_sub-count-in-Wrong c = omega (arith, wrong_after (is_reading c.self.inside.place c.self.inside.buffer c.args.self.now c.in-Reading.taken c.in-Reading.held c.in-Reading.needs
-    c.self.view_is c.self.invariant c.in-Reading.is) c.fill-count.ensures c.in-Wrong.fault c.in-Wrong.size c.in-Wrong.ensures)
+overflow_sub-count-in-Wrong c = omega (
+  arith,
+  wrong_after (is_reading c.self.inside.place c.self.inside.buffer c.args.self.now c.in-Reading.taken c.in-Reading.held c.in-Reading.needs
+      c.self.view_is c.self.invariant c.in-Reading.is) c.fill-count.ensures c.in-Wrong.fault c.in-Wrong.size c.in-Wrong.ensures,
+)
 
 pub invariant_of-self-in-Found : goal.invariant_of-self-in-Found
 invariant_of-self-in-Found c =
