@@ -1,6 +1,6 @@
 use Rattle.std.proofs.Common.{sym, ◌∙◌}
 use Rattle.vdcp_list.proofs.Events.{no_part_more, part_at}
-use Rattle.vdcp_list.proofs.asrun.has_part.Goals as goal
+use Rattle.vdcp_list.proofs.asrun.has_part_from.Goals as goal
 
 pub returns-then-is_some : goal.returns-then-is_some
 returns-then-is_some g c =
