@@ -38,7 +38,8 @@ pub fn write_asrun<S: Source, W: Write, A: Allocator>(
     ensures beginning { IfErr result (λ fault. fault ≡ Device → AppendsBeginning (W.contents writer.old) (W.contents writer.new)
         (asrun_text rate (S.items source.now) reported)) }
 {
-    let with_parts = check_parts(source, rate, reported)? || has_part_from(source, reported);
+    let among = check_parts(source, rate, reported)?;
+    let with_parts = has_part(source, reported, among);
     let text = asrun_text(&alloc, source, rate, with_parts, reported)?;
     write_out(writer, text.as_slice())
 }
@@ -91,17 +92,20 @@ fn check_parts<S: Source>(source: &S, rate: Rate, reported: usize) -> Result<boo
         if !is_lawful_event(rate, &item) {
             return Err(WriteFault::Time(k));
         }
-        with_parts = with_parts || item.part.is_some();
+        with_parts |= item.part.is_some();
     }
     Ok(with_parts)
 }
 
-/// Whether an event has a part, where none before this one has.
-fn has_part_from<S: Source>(source: &S, from: usize) -> bool
+/// Whether an event has a part, where `among` says so of those before this one.
+fn has_part<S: Source>(source: &S, from: usize, among: bool) -> bool
     requires within { from ≤ length (S.items source.now) }
-    requires none_before { has_part (take from (S.items source.now)) ≡ false }
+    requires among { among ≡ has_part (take from (S.items source.now)) }
     ensures { result ≡ has_part (S.items source.now) }
 {
+    if among {
+        return true;
+    }
     for k in from..source.len() {
         if source.at(k).part.is_some() {
             return true;

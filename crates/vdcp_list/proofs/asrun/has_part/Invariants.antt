@@ -1,5 +1,5 @@
 use Rattle.std.proofs.Common.{◌≡◌, false, take}
-use Rattle.vdcp_list.proofs.asrun.has_part_from.Given as goal
+use Rattle.vdcp_list.proofs.asrun.has_part.Given as goal
 use Rattle.vdcp_list.specs.Asrun.{has_part}
 
 abbrev pub invariant-loop-k : goal.invariant-loop-k
