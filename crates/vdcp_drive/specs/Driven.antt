@@ -12,7 +12,7 @@ use Rattle.vdcp_auto.specs.declared.exchange.Exchange.{Exchange}
 use Rattle.vdcp_auto.specs.declared.exchange.Heard.{Heard}
 use Rattle.vdcp_auto.specs.declared.exchange.Input.{Input}
 use Rattle.vdcp_auto.specs.declared.exchange.Input.TheVariants as input
-use Rattle.vdcp_auto.specs.declared.phase.State.{State}
+use Rattle.vdcp_auto.specs.State.{State}
 use Rattle.vdcp_drive.specs.Bursts.{finished_bursts, is_within_burst}
 use Rattle.vdcp_auto.specs.Heard.{heard_in}
 use Rattle.vdcp_drive.specs.Hearing.{Driving, command_bytes}
@@ -55,7 +55,7 @@ commands_by plan unit came state = commands_of plan unit came ++ option_to_list 
 abbrev pub bytes_of : ℕ → List Command → List ℕ
 bytes_of unit commands = flat_map (command_bytes unit) commands
 
--- how many bytes stand before each of them, where so many stand before the first
+-- how many bytes stand before each of them, where n stand before the first
 abbrev pub starts_behind : ℕ → ℕ → List Command → List ℕ
 starts_behind unit n [] = []
 starts_behind unit n (c ∷ commands) = n ∷ starts_behind unit (n + length (command_bytes unit c)) commands
@@ -63,8 +63,8 @@ starts_behind unit n (c ∷ commands) = n ∷ starts_behind unit (n + length (co
 abbrev pub starts_of : ℕ → List Command → List ℕ
 starts_of unit commands = starts_behind unit 0 commands
 
--- whatever log a controller's state was reached with, the later state is reached too, and its log has what
--- was ended since behind it
+-- whatever log a controller's state was reached with, the later state is reached too, with a log that goes on by
+-- the exchanges that ended since
 abbrev pub GoesOn : Plan → State → State → Type 0
 GoesOn plan before after = (log : List Exchange) → Reached plan before log → (since : List Exchange) × Reached plan after (log ++ since)
 

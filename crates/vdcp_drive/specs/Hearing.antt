@@ -8,7 +8,7 @@ use Rattle.vdcp_words.specs.declared.command.Command.{Command}
 use Rattle.vdcp_auto.specs.Plan.{Plan, View}
 use Rattle.vdcp_auto.specs.Turn.{given, ticked, came_to}
 use Rattle.vdcp_auto.specs.declared.exchange.Heard.{Heard}
-use Rattle.vdcp_auto.specs.declared.phase.State.{State}
+use Rattle.vdcp_auto.specs.State.{State}
 use Rattle.vdcp_auto.specs.Heard.{heard_first}
 use Rattle.vdcp_wire.specs.Wires.{Arrival, bytes, silence, close, Told, adds_sent, adds_drop, SendsFront}
 

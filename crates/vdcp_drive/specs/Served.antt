@@ -12,7 +12,7 @@ use Rattle.vdcp_drive.specs.Bursts.{ended_bursts, open_burst}
 use Rattle.vdcp_drive.specs.Serving.{Serving}
 use Rattle.vdcp_wire.specs.Wires.{Arrival, silence, Told, nothing_told, has_closed}
 
--- the port behind ended bursts: each is answered, and then a frame passes
+-- the port after ended bursts: each is answered, and then a frame passes
 abbrev pub after_bursts : ClockedPort → List (List ℕ) → ClockedPort
 after_bursts p [] = p
 after_bursts p (burst ∷ bursts) = after_bursts (after_frame (after_burst p burst)) bursts

@@ -5,7 +5,7 @@ ghost use Rattle.vdcp_frame.specs.Progress.{reading};
 ghost use Rattle.vdcp_frame.specs.Reader.{answer_of};
 ghost use Rattle.vdcp_auto.specs.Plan.{plan_of};
 ghost use Rattle.vdcp_auto.specs.Turn as turns;
-ghost use Rattle.vdcp_auto.specs.declared.phase.State.{State};
+ghost use Rattle.vdcp_auto.specs.State.{State};
 ghost use Rattle.vdcp_drive.specs.Driven.{GoesOn, IsNew, HasRunBroken, states_listening, states_watched};
 ghost use Rattle.vdcp_drive.specs.Hearing.{HasSent, HasSendBroken, HasHeard, HasReceived, Hears, heard_by_then, command_bytes};
 ghost use Rattle.vdcp_drive.specs.Lines.{line_of, ran_unless_ended};
@@ -311,7 +311,7 @@ fn take_piece(unit: u8, reader: &mut Reader, heard: &mut Option<Heard>, piece: &
     }
 }
 
-// Takes bytes up to the end of one message or one fault, or all of them. Answers how many.
+// Feeds the reader once, keeps what is heard first, and gives how many bytes it used up.
 fn take_some(unit: u8, reader: &mut Reader, heard: &mut Option<Heard>, piece: &[u8]) -> usize
     ensures within { result ≤ length piece.now }
     ensures some { 0 < length piece.now → 0 < result }

@@ -92,7 +92,7 @@ impl<C: Catalogue, W: Wire> Server<C, W> {
         self.serve_watched(turns, &mut Unwatched)
     }
 
-    /// As `serve`, and lends `watcher` each item put to air, behind its turn.
+    /// As `serve`, and lends `watcher` each item put to air, after its turn.
     pub fn serve_watched<V: WatchAir>(
         &mut self,
         turns: u64,
@@ -241,7 +241,7 @@ fn take_piece<C: Catalogue, W: Wire>(
     Ok(())
 }
 
-// Takes bytes up to the end of one message or one fault, or all of them. Answers how many.
+// Feeds the reader once, answers the message that this completes, and gives how many bytes it used up.
 fn take_some<C: Catalogue, W: Wire>(
     reader: &mut Reader,
     port: &mut Port<C>,

@@ -10,16 +10,15 @@ use Rattle.vdcp_auto.specs.Turn.{outcome_of}
 use Rattle.vdcp_auto.specs.declared.exchange.Exchange.{Exchange}
 use Rattle.vdcp_auto.specs.declared.outcome.Outcome.{Outcome}
 use Rattle.vdcp_auto.specs.declared.outcome.Outcome.TheVariants.{Done, Stopped, Lost, Denied, Missing, Refused, Foreign, Strange}
-use Rattle.vdcp_auto.specs.declared.phase.State.{State}
+use Rattle.vdcp_auto.specs.State.{State}
 use Rattle.vdcp_text.specs.Failure.{failure_line, status_of}
 use Rattle.vdcp_text.specs.Text.{line}
 use Rattle.vdcp_text.specs.declared.failure.Failure.{Failure}
 use Rattle.vdcp_text.specs.declared.failure.Failure.TheVariants as failures
-use Rattle.vdcp_files.specs.Check.{RefusesList}
-use Rattle.vdcp_files.specs.Files.{File, bytes_of}
+use Rattle.vdcp_files.specs.Files.{File, IsWholeList, RefusesList, bytes_of}
 use Rattle.vdcp_files.specs.Mode.{mode_of}
 use Rattle.vdcp_list.specs.Playlists.{IsListOf}
-use Rattle.vdcp_files.specs.Outcome.{outcome_text}
+use Rattle.vdcp_text.specs.Outcome.{outcome_text}
 use Rattle.vdcp_drive.specs.declared.line.DriveFault.{DriveFault}
 use Rattle.vdcp_drive.specs.declared.line.Ran.{Ran}
 use Rattle.vdcp_drive.specs.declared.line.Ran.TheVariants as ran
@@ -97,10 +96,6 @@ abbrev pub run_status : RunEnd → ℕ
 run_status end = status_unless end.unwritten (status_unless (line_failure end.line) (outcome_status end.outcome))
 
 -- ---- the whole
-
--- the file is a playlist
-abbrev pub IsWholeList : Rate → File → Type 0
-IsWholeList rate list = (items : List Item) × IsListOf rate (bytes_of list) items
 
 -- this is the end of a controller that was made with this plan: some calls led it to this state, and its log has the exchanges that
 -- they ended. The outcome and the count of reported events are the state's. The line was unneeded only where the controller has

@@ -4,18 +4,14 @@ use Rattle.std.specs.Prelude.{ℕ, ◌≡◌, ◌⊎◌, List, codes, Option, Re
 use Rattle.vdcp_drive.specs.declared.line.DriveFault.{DriveFault}
 use Rattle.vdcp_drive.specs.declared.line.Ran.{Ran}
 use Rattle.vdcp_drive.specs.declared.line.Ran.TheVariants as ran
-use Rattle.vdcp_files.specs.Check.{RefusesCatalogue}
-use Rattle.vdcp_files.specs.Files.{File, bytes_of}
-use Rattle.vdcp_list.specs.Catalogues.{IsCatalogueOf}
+use Rattle.vdcp_files.specs.Files.{File, IsWholeCatalogue, RefusesCatalogue}
 use Rattle.vdcp_wire.specs.Address.{IsAddress}
 use Rattle.vdcp_wire.specs.Listening.{PrintsListening}
 use Rattle.vdcp_text.specs.Failure.{failure_line, status_of}
 use Rattle.vdcp_text.specs.Text.{line}
 use Rattle.vdcp_text.specs.declared.failure.Failure.{Failure}
 use Rattle.vdcp_text.specs.declared.failure.Failure.TheVariants as failures
-use Rattle.vdcp_value.specs.declared.clip_id.ClipId.{ClipId}
 use Rattle.vdcp_value.specs.declared.rate.Rate.{Rate}
-use Rattle.vdcp_value.specs.declared.timecode.Timecode.{Timecode}
 
 -- a writer gained the line of how a server's turns ended
 abbrev pub PrintsEnd : Ran → Option (List ℕ) → Option (List ℕ) → Type 0
@@ -30,10 +26,6 @@ EndsAs (Ok ran) (Ok done) out out' = PrintsEnd ran out out'
 EndsAs (Ok ran) (Err failure) out out' = failure ≡ failures.Writer
 EndsAs (Err fault) (Ok done) out out' = ⊥
 EndsAs (Err fault) (Err failure) out out' = (failure ≡ failures.LineFailed) × Keeps out out'
-
--- the file is a catalogue
-abbrev pub IsWholeCatalogue : Rate → File → Type 0
-IsWholeCatalogue rate catalogue = (clips : List (ClipId × Timecode)) × IsCatalogueOf rate (bytes_of catalogue) clips
 
 -- the file is a catalogue, and a writer gained the line of an address that was listened at, and then that of how the turns ended
 pub record IsServedThere (rate : Rate) (catalogue : File) (out out' : Option (List ℕ)) : Type 0 where

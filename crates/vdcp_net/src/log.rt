@@ -3,9 +3,8 @@ ghost use Rattle.std.specs.Prelude.{◌≡◌, ◌<◌, ◌≤◌, length};
 use std::cell::Cell;
 use std::{fmt, io};
 use vdcp_drive::WatchAir;
-use vdcp_files::ItemText;
 use vdcp_frame::{Ended, Got, Reader};
-use vdcp_text::{End, MeaningText, MessageText};
+use vdcp_text::{End, ItemText, MeaningText, MessageText};
 use vdcp_value::{Item, Rate};
 use vdcp_wire::{Came, PIECE, Wire, WireFault};
 

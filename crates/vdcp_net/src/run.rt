@@ -5,10 +5,10 @@ ghost use Rattle.vdcp_auto.specs.Plan.{plan_of};
 ghost use Rattle.vdcp_auto.specs.Turn as turns;
 ghost use Rattle.vdcp_auto.specs.declared.exchange.Exchange.{Exchange};
 ghost use Rattle.vdcp_drive.specs.RunLeaves.{RunLeaves};
-ghost use Rattle.vdcp_files.specs.Files.{file};
+ghost use Rattle.vdcp_files.specs.Files.{IsWholeList, file};
 ghost use Rattle.vdcp_files.specs.Mode.{mode_of};
 ghost use Rattle.vdcp_wire.specs.Address.{IsAddress};
-ghost use Rattle.vdcp_net.specs.Run.{IsEndOf, IsListRefused, IsPlayed, IsRun, IsUnplayed, IsWholeList, MayBeUnwritten};
+ghost use Rattle.vdcp_net.specs.Run.{IsEndOf, IsListRefused, IsPlayed, IsRun, IsUnplayed, MayBeUnwritten};
 ghost use Rattle.vdcp_net.specs.Run.{end_text, fault_text, faults_text, line_end_of, line_failure, run_status};
 ghost use Rattle.vdcp_text.specs.Failure.{failure_line};
 
@@ -21,8 +21,8 @@ use std::rt::{Clock, Files};
 use std::time::Duration;
 use vdcp_auto::{Controller, Outcome, Source};
 use vdcp_drive::{AutoDriver, DriveFault, Ran, Unwatched, Watch};
-use vdcp_files::{Input, OutcomeText};
-use vdcp_text::Failure;
+use vdcp_files::NamedFile;
+use vdcp_text::{Failure, OutcomeText};
 use vdcp_value::Rate;
 use vdcp_wire::{StreamWire, Wire, address_of};
 
@@ -194,7 +194,7 @@ pub fn do_run<
 >(
     rt: &R,
     address: &str,
-    list: Input<'_, L>,
+    list: NamedFile<'_, L>,
     settings: RunSettings<'_>,
     showing: Showing<V>,
     out: &mut W,
@@ -228,7 +228,7 @@ pub fn do_run<
 fn run_list<'a, R: Net + Files + Clock + AllocGlobal, L: io::Read + Drop, V: io::Write + Drop>(
     rt: &R,
     address: &str,
-    list: Input<'a, L>,
+    list: NamedFile<'a, L>,
     settings: RunSettings<'a>,
     showing: Showing<V>,
 ) -> Result<RunEnd<'a>, Failure<'a>>

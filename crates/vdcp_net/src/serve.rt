@@ -1,9 +1,9 @@
 ghost use Rattle.std.specs.Io.KnownBytes.{Appends, Keeps};
 ghost use Rattle.std.specs.Prelude.{◌≡◌, ◌≢◌, ◌⊎◌, ◌≤◌, IfErr, OnOk, Result};
 ghost use Rattle.vdcp_drive.specs.ServeLeaves.{ServeLeaves};
-ghost use Rattle.vdcp_files.specs.Files.{file};
+ghost use Rattle.vdcp_files.specs.Files.{IsWholeCatalogue, file};
 ghost use Rattle.vdcp_wire.specs.Address.{IsAddress};
-ghost use Rattle.vdcp_net.specs.Serve.{EndsAs, IsCatalogueRefused, IsServedThere, IsUnserved, IsWholeCatalogue, PrintsEnd};
+ghost use Rattle.vdcp_net.specs.Serve.{EndsAs, IsCatalogueRefused, IsServedThere, IsUnserved, PrintsEnd};
 ghost use Rattle.vdcp_port.specs.Clock.{new_port};
 ghost use Rattle.vdcp_text.specs.Failure.{failure_line};
 
@@ -12,7 +12,7 @@ use std::io;
 use std::net::Net;
 use std::time::Duration;
 use vdcp_drive::{DriveFault, Ran, Server, Unwatched, WatchAir};
-use vdcp_files::Input;
+use vdcp_files::NamedFile;
 use vdcp_port::{Catalogue, Port};
 use vdcp_text::Failure;
 use vdcp_value::Rate;
@@ -59,7 +59,7 @@ pub fn do_serve<
 >(
     rt: &R,
     address: &str,
-    catalogue: Input<'_, C>,
+    catalogue: NamedFile<'_, C>,
     settings: ServeSettings,
     log: Option<L>,
     out: &mut W,
@@ -92,7 +92,7 @@ pub fn do_serve<
 fn serve<'a, R: Net + AllocGlobal, C: io::Read + Drop, L: io::Write + Drop, W: io::Write>(
     rt: &R,
     address: &str,
-    catalogue: Input<'a, C>,
+    catalogue: NamedFile<'a, C>,
     settings: ServeSettings,
     log: Option<L>,
     out: &mut W,

@@ -9,7 +9,7 @@ use std::net::{Ipv4Addr, Net, Shutdown, SocketAddr, TcpListener, TcpStream};
 use std::process::Abort;
 use std::test::Fail;
 use std::time::Duration;
-use vdcp_files::Input;
+use vdcp_files::NamedFile;
 use vdcp_list::Slots;
 use vdcp_port::Port;
 use vdcp_testing::{FailingReader, FailingWriter, Fails};
@@ -93,7 +93,7 @@ where
         silence,
         ..settings(turns)
     };
-    let catalogue = Input {
+    let catalogue = NamedFile {
         name: "clips.csv",
         reader: clips,
     };

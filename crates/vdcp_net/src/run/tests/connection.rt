@@ -12,7 +12,7 @@ use std::test::Fail;
 use std::time::{Duration, Instant};
 use std::{fs, mem};
 use vdcp_drive::{Line, Server};
-use vdcp_files::Input;
+use vdcp_files::NamedFile;
 use vdcp_list::{Table, read_catalogue, read_list};
 use vdcp_port::Port;
 use vdcp_value::Rate;
@@ -277,7 +277,7 @@ fn run(rt: &HostRuntime, address: &str, list: &[u8], settings: RunSettings<'_>) 
 {
     let mut out = Vec::new(rt.alloc());
     let mut err = Vec::new(rt.alloc());
-    let list = Input {
+    let list = NamedFile {
         name: "list.csv",
         reader: list,
     };
