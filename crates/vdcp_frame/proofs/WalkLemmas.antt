@@ -5,7 +5,7 @@ use Rattle.std.proofs.lemmas.List.{append-nil, append_cancel_left}
 use Rattle.std.proofs.lemmas.List.Elements.{All-take, All-drop}
 use Rattle.vdcp_frame.specs.Message.{Content, AreOctets}
 use Rattle.vdcp_frame.specs.Reading.{SpellsAll, End, Reads}
-use Rattle.vdcp_frame.specs.Burst.{messages_of, end_of, messages_within}
+use Rattle.vdcp_frame.specs.Burst.{messages_of, messages_within}
 use Rattle.vdcp_frame.specs.Walk.{Walk, IsWalk, coming}
 use Rattle.vdcp_frame.proofs.BurstLemmas.{reads_computed, reads_short_computed}
 use Rattle.vdcp_frame.proofs.ReadingLemmas.{SpellsAll-append, same_whole, left_parts}

@@ -1,5 +1,5 @@
 -- The end that a step finds is the computed one.
-use Rattle.std.proofs.Common.{ℕ, ◌<◌, List, sym, arith}
+use Rattle.std.proofs.Common.{◌<◌, arith}
 use Rattle.std.proofs.lemmas.List.Elements.{All-from_get_or}
 use Rattle.vdcp_frame.specs.Message.{AreOctets}
 use Rattle.vdcp_frame.specs.Reading.{clean, cut, fault}

@@ -1,11 +1,10 @@
 -- What a call gives, from what stands at the front of the bytes held and those that come.
-use Rattle.std.proofs.Common.{◌≡◌, ◌≤◌, ◌<◌, ℕ, ◌+◌, ◌-◌, List, [], length, take, refl, subst, sym, ap, ◌∙◌, arith}
-use Rattle.std.proofs.lemmas.List.{length-take}
+use Rattle.std.proofs.Common.{ℕ, ◌+◌, ◌-◌, List, length, refl, subst, sym, ap, ◌∙◌, arith}
 use Rattle.vdcp_frame.specs.declared.message.Fault.TheVariants.{Long}
 use Rattle.vdcp_frame.specs.declared.reader.Place.{Place}
-use Rattle.vdcp_frame.specs.Message.{Content, content_of}
+use Rattle.vdcp_frame.specs.Message.{content_of}
 use Rattle.vdcp_frame.specs.Place.{progress_at, IsPlace}
-use Rattle.vdcp_frame.specs.Progress.{Progress, reading, failed}
+use Rattle.vdcp_frame.specs.Progress.{Progress}
 use Rattle.vdcp_frame.specs.Reader.{Answer, message, more, wrong}
 use Rattle.vdcp_frame.proofs.ReaderLemmas.{gives_follows}
 use Rattle.vdcp_frame.proofs.FeedLemmas.{failed_fed, is_reading, further_part, found_after, message_fed, message_limit}

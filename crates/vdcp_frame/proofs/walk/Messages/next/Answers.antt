@@ -1,8 +1,8 @@
 -- The message that a step finds is the next one to come.
-use Rattle.std.proofs.Common.{◌≡◌, ◌∷◌, [], refl, sym, ap, subst, ◌∙◌}
+use Rattle.std.proofs.Common.{sym, ap, ◌∙◌}
 use Rattle.vdcp_frame.specs.Message.{content_of}
 use Rattle.vdcp_frame.specs.Reading.{clean, cut, fault}
-use Rattle.vdcp_frame.specs.Walk.{Walk, coming}
+use Rattle.vdcp_frame.specs.Walk.{coming}
 use Rattle.vdcp_frame.proofs.WalkLemmas.{next_coming, none_coming}
 use Rattle.vdcp_frame.proofs.walk.Messages.next.Goals as goal
 
