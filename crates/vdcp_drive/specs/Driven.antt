@@ -38,7 +38,8 @@ state_after plan unit came =
 -- the controller in each listen, where some arrivals came before: its command is awaited
 abbrev pub states_behind : Plan → ℕ → List Arrival → List Arrival → List State
 states_behind plan unit before [] = []
-states_behind plan unit before (a ∷ later) = ticked (state_between plan unit before) ∷ states_behind plan unit (before ++ a ∷ []) later
+states_behind plan unit before (a ∷ later) =
+    ticked (state_between plan unit before) ∷ states_behind plan unit (before ++ a ∷ []) later
 
 abbrev pub states_listening : Plan → ℕ → List Arrival → List State
 states_listening plan unit came = states_behind plan unit [] came
@@ -66,7 +67,8 @@ starts_of unit commands = starts_behind unit 0 commands
 -- whatever log a controller's state was reached with, the later state is reached too, with a log that goes on by
 -- the exchanges that ended since
 abbrev pub GoesOn : Plan → State → State → Type 0
-GoesOn plan before after = (log : List Exchange) → Reached plan before log → (since : List Exchange) × Reached plan after (log ++ since)
+GoesOn plan before after = (log : List Exchange) → Reached plan before log → (since : List Exchange)
+    × Reached plan after (log ++ since)
 
 -- a new automation: its controller is new, nothing was heard, and its fresh wire tells its bytes
 pub record IsNew {S W : Type 0} (told : W → Option Told) (d : Driving S W) : Type 0 where
@@ -113,10 +115,12 @@ pub data HasRunBroken (plan : Plan) (unit : ℕ) (told : Told) (state : State) :
 
 -- the bytes sent are a beginning of those of the course's commands and the one awaited
 abbrev pub IsPartlyRun : Plan → ℕ → Told → State → Type 0
-IsPartlyRun plan unit told state = (rest : List ℕ) × (bytes_of unit (commands_by plan unit told.came state) ≡ told.sent ++ rest)
+IsPartlyRun plan unit told state = (rest : List ℕ)
+    × (bytes_of unit (commands_by plan unit told.came state) ≡ told.sent ++ rest)
 
 -- the controller in each listen, also in the one that failed
-abbrev pub states_watched : {plan : Plan} {unit : ℕ} {told : Told} {state : State} → HasRunBroken plan unit told state → List State
+abbrev pub states_watched : {plan : Plan} {unit : ℕ} {told : Told} {state : State} → HasRunBroken plan unit told state
+    → List State
 states_watched {plan} {unit} {told} {state} (in_drop b) = states_listening plan unit told.came
 states_watched {plan} {unit} {told} {state} (in_send b) = states_listening plan unit told.came
 states_watched {plan} {unit} {told} {state} (in_listen b) = states_listening plan unit told.came ++ state ∷ []

@@ -30,7 +30,12 @@ use Rattle.vdcp_net.specs.declared.run.RunSettings.{RunSettings}
 
 -- what the controller is made with for these items
 abbrev pub plan_for : RunSettings → List Item → Plan
-plan_for settings items = record { mode = mode_of settings.confirm; list = items; port = settings.port; limit = settings.limit }
+plan_for settings items = record {
+  mode = mode_of settings.confirm;
+  list = items;
+  port = settings.port;
+  limit = settings.limit;
+}
 
 -- ---- how the line ended
 
@@ -52,7 +57,8 @@ line_failure line_end.Failed = Some failures.LineFailed
 
 -- why a file of this name hasn't got the as-run list, if it hasn't: it can't be made or written, or memory was refused
 abbrev pub IsUnwritten : Bor (List ℕ) → Failure → Type 0
-IsUnwritten name failure = (failure ≡ failures.Open name) ⊎ ((failure ≡ failures.Write name) ⊎ (failure ≡ failures.Memory))
+IsUnwritten name failure = (failure ≡ failures.Open name)
+    ⊎ ((failure ≡ failures.Write name) ⊎ (failure ≡ failures.Memory))
 
 -- where no file is named nothing is written, and that is no failure
 abbrev pub MayBeUnwritten : Option (Bor (List ℕ)) → Option Failure → Type 0
@@ -127,7 +133,8 @@ pub record IsRun (settings : RunSettings) (list : File) (out out' : Option (List
 pub data IsUnplayed (rate : Rate) (text : List ℕ) (list : File) (failure : Failure) : Type 0 where
   no_address : ¬ IsAddress text → failure ≡ failures.Address → IsUnplayed rate text list failure
   no_list : IsAddress text → RefusesList rate list failure → IsUnplayed rate text list failure
-  not_connected : IsAddress text → IsWholeList rate list → failure ≡ failures.Connect → IsUnplayed rate text list failure
+  not_connected : IsAddress text → IsWholeList rate list → failure ≡ failures.Connect →
+      IsUnplayed rate text list failure
 
 -- a row of the list is refused: one writer gained the line that tells it, and the other nothing
 pub record IsListRefused (rate : Rate) (list : File) (out out' err err' : Option (List ℕ)) : Type 0 where

@@ -37,14 +37,20 @@ pub record IsServedThere (rate : Rate) (catalogue : File) (out out' : Option (Li
 
 -- why a channel isn't served to its end, and what was printed by then: the text is no address, or else the catalogue
 -- isn't read, or else nobody can be listened to, or the line failed, or the writer did
-pub data IsUnserved (rate : Rate) (text : List ℕ) (catalogue : File) (out out' : Option (List ℕ)) (failure : Failure) : Type 0 where
-  no_address : ¬ IsAddress text → failure ≡ failures.Address → Keeps out out' → IsUnserved rate text catalogue out out' failure
-  no_catalogue : IsAddress text → RefusesCatalogue rate catalogue failure → Keeps out out' → IsUnserved rate text catalogue out out' failure
-  not_bound : IsAddress text → IsWholeCatalogue rate catalogue → failure ≡ failures.Bind → Keeps out out' ⊎ PrintsListening out out'
+pub data IsUnserved (rate : Rate) (text : List ℕ) (catalogue : File) (out out' : Option (List ℕ))
+    (failure : Failure) : Type 0 where
+  no_address : ¬ IsAddress text → failure ≡ failures.Address → Keeps out out' →
+      IsUnserved rate text catalogue out out' failure
+  no_catalogue : IsAddress text → RefusesCatalogue rate catalogue failure → Keeps out out' →
+      IsUnserved rate text catalogue out out' failure
+  not_bound : IsAddress text → IsWholeCatalogue rate catalogue → failure ≡ failures.Bind → Keeps out out'
+      ⊎ PrintsListening out out'
       → IsUnserved rate text catalogue out out' failure
-  line_failed : IsAddress text → IsWholeCatalogue rate catalogue → failure ≡ failures.LineFailed → PrintsListening out out'
+  line_failed : IsAddress text → IsWholeCatalogue rate catalogue → failure ≡ failures.LineFailed →
+      PrintsListening out out'
       → IsUnserved rate text catalogue out out' failure
-  writer_failed : IsAddress text → IsWholeCatalogue rate catalogue → failure ≡ failures.Writer → IsUnserved rate text catalogue out out' failure
+  writer_failed : IsAddress text → IsWholeCatalogue rate catalogue → failure ≡ failures.Writer →
+      IsUnserved rate text catalogue out out' failure
 
 -- a row of the catalogue is refused: one writer gained the line that tells it, and the other nothing
 pub record IsCatalogueRefused (rate : Rate) (catalogue : File) (out out' err err' : Option (List ℕ)) : Type 0 where

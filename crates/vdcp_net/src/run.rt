@@ -203,17 +203,21 @@ pub fn do_run<
     requires unit { settings.unit ≤ 15 }
     requires some { 1 ≤ settings.limit }
     requires few { settings.limit ≤ 1000 }
-    ensures run { result ≡ 0 → IsRun settings.entry (file list.entry.name (L.remaining list.entry.reader)) (W.contents out.old) (W.contents out.new) 0 }
+    ensures run { result ≡ 0 → IsRun settings.entry (file list.entry.name (L.remaining list.entry.reader))
+        (W.contents out.old) (W.contents out.new) 0 }
     ensures untold { result ≡ 0 → Keeps (E.contents err.old) (E.contents err.new) }
     // The status is 1 for how the controller ended, and for a row that is refused.
     ensures others { result ≡ 1 →
-        (IsRun settings.entry (file list.entry.name (L.remaining list.entry.reader)) (W.contents out.old) (W.contents out.new) 1
+        (IsRun settings.entry (file list.entry.name (L.remaining list.entry.reader)) (W.contents out.old)
+        (W.contents out.new) 1
         × Keeps (E.contents err.old) (E.contents err.new))
         ⊎ IsListRefused settings.entry.rate (file list.entry.name (L.remaining list.entry.reader))
         (W.contents out.old) (W.contents out.new) (E.contents err.old) (E.contents err.new) }
     // The status is 2 for an address that is none, unless this can't be told.
-    ensures no_address { result ≡ 2 → ¬ IsAddress address.now × Appends (E.contents err.old) (E.contents err.new) (failure_line Failure.Address) }
-    ensures address { ¬ IsAddress address.now → ((result ≡ 2) ⊎ (result ≡ 3)) × Keeps (W.contents out.old) (W.contents out.new) }
+    ensures no_address { result ≡ 2 → ¬ IsAddress address.now
+        × Appends (E.contents err.old) (E.contents err.new) (failure_line Failure.Address) }
+    ensures address { ¬ IsAddress address.now → ((result ≡ 2) ⊎ (result ≡ 3))
+        × Keeps (W.contents out.old) (W.contents out.new) }
     ensures silent { Keeps (W.contents out.old) (W.contents out.new)
         ⊎ IsWholeList settings.entry.rate (file list.entry.name (L.remaining list.entry.reader)) }
     ensures statuses { result ≤ 3 }
@@ -236,9 +240,11 @@ fn run_list<'a, R: Net + Files + Clock + AllocGlobal, L: io::Read + Drop, V: io:
     requires some { 1 ≤ settings.limit }
     requires few { settings.limit ≤ 1000 }
     ensures address { OnOk result (IsAddress address.now) }
-    ensures whole { OnOk result (IsWholeList settings.entry.rate (file list.entry.name (L.remaining list.entry.reader))) }
+    ensures whole { OnOk result (IsWholeList settings.entry.rate
+        (file list.entry.name (L.remaining list.entry.reader))) }
     ensures played { IfOk result (IsPlayed settings.entry (file list.entry.name (L.remaining list.entry.reader))) }
-    ensures unplayed { IfErr result (IsUnplayed settings.entry.rate address.now (file list.entry.name (L.remaining list.entry.reader))) }
+    ensures unplayed { IfErr result (IsUnplayed settings.entry.rate address.now
+        (file list.entry.name (L.remaining list.entry.reader))) }
 {
     let Ok(address) = address_of(address) else {
         return Err(Failure::Address);
@@ -268,7 +274,8 @@ fn play_connected<
     requires { settings.unit ≤ 15 }
     ensures unwritten { MayBeUnwritten settings.entry.asrun result.unwritten }
     // Whatever the controller's log is: from there it came to this end.
-    ensures end { (log : List Exchange) → Reached (plan_of S.items controller) controller.state log → IsEndOf (plan_of S.items controller) result }
+    ensures end { (log : List Exchange) → Reached (plan_of S.items controller) controller.state log →
+        IsEndOf (plan_of S.items controller) result }
 {
     let silence = Duration::from_millis(u64::from(settings.silence));
     let wire = StreamWire::new(stream, silence);
@@ -294,7 +301,8 @@ fn play_over<
     ensures failed { OnErr wire (result.line ≡ LineEnd.Failed) }
     ensures unwritten { MayBeUnwritten settings.entry.asrun result.unwritten }
     // Whatever the controller's log is: from there it came to this end.
-    ensures end { (log : List Exchange) → Reached (plan_of S.items controller) controller.state log → IsEndOf (plan_of S.items controller) result }
+    ensures end { (log : List Exchange) → Reached (plan_of S.items controller) controller.state log →
+        IsEndOf (plan_of S.items controller) result }
 {
     match wire {
         Ok(wire) => play_shown(rt, controller, wire, settings, showing),
@@ -320,7 +328,8 @@ fn play_shown<
     requires works { W.failures wire ≡ 0 }
     ensures unwritten { MayBeUnwritten settings.entry.asrun result.unwritten }
     // Whatever the controller's log is: from there it came to this end.
-    ensures end { (log : List Exchange) → Reached (plan_of S.items controller) controller.state log → IsEndOf (plan_of S.items controller) result }
+    ensures end { (log : List Exchange) → Reached (plan_of S.items controller) controller.state log →
+        IsEndOf (plan_of S.items controller) result }
 {
     let unit = settings.unit;
     match showing {
@@ -347,7 +356,8 @@ fn play_shown<
 fn new_controller<S: Source>(source: S, settings: RunSettings<'_>) -> Controller<S>
     requires some { 1 ≤ settings.limit }
     requires few { settings.limit ≤ 1000 }
-    ensures { result ≡ turns.new_controller source (mode_of settings.entry.confirm) settings.entry.port settings.entry.limit }
+    ensures { result ≡ turns.new_controller source (mode_of settings.entry.confirm) settings.entry.port
+        settings.entry.limit }
 {
     if settings.confirm {
         Controller::confirming(source, settings.port, settings.limit)

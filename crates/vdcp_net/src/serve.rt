@@ -68,16 +68,21 @@ pub fn do_serve<
     requires unit { settings.unit ≤ 15 }
     requires some_frames { 1 ≤ settings.cue_frames }
     requires few_frames { settings.cue_frames ≤ 1000 }
-    ensures served { result ≡ 0 → IsServedThere settings.rate (file catalogue.entry.name (C.remaining catalogue.entry.reader))
+    ensures served { result ≡ 0 →
+        IsServedThere settings.rate (file catalogue.entry.name (C.remaining catalogue.entry.reader))
         (W.contents out.old) (W.contents out.new) }
-    ensures whole { result ≡ 0 → IsAddress address.now × IsWholeCatalogue settings.rate (file catalogue.entry.name (C.remaining catalogue.entry.reader)) }
+    ensures whole { result ≡ 0 → IsAddress address.now
+        × IsWholeCatalogue settings.rate (file catalogue.entry.name (C.remaining catalogue.entry.reader)) }
     ensures untold { result ≡ 0 → Keeps (E.contents err.old) (E.contents err.new) }
     // The status is 1 for a row that is refused.
-    ensures others { result ≡ 1 → IsCatalogueRefused settings.rate (file catalogue.entry.name (C.remaining catalogue.entry.reader))
+    ensures others { result ≡ 1 →
+        IsCatalogueRefused settings.rate (file catalogue.entry.name (C.remaining catalogue.entry.reader))
         (W.contents out.old) (W.contents out.new) (E.contents err.old) (E.contents err.new) }
     // The status is 2 for an address that is none, unless this can't be told.
-    ensures no_address { result ≡ 2 → ¬ IsAddress address.now × Appends (E.contents err.old) (E.contents err.new) (failure_line Failure.Address) }
-    ensures address { ¬ IsAddress address.now → ((result ≡ 2) ⊎ (result ≡ 3)) × Keeps (W.contents out.old) (W.contents out.new) }
+    ensures no_address { result ≡ 2 → ¬ IsAddress address.now
+        × Appends (E.contents err.old) (E.contents err.new) (failure_line Failure.Address) }
+    ensures address { ¬ IsAddress address.now → ((result ≡ 2) ⊎ (result ≡ 3))
+        × Keeps (W.contents out.old) (W.contents out.new) }
     ensures silent { Keeps (W.contents out.old) (W.contents out.new)
         ⊎ IsWholeCatalogue settings.rate (file catalogue.entry.name (C.remaining catalogue.entry.reader)) }
     ensures statuses { result ≤ 3 }
@@ -100,11 +105,14 @@ fn serve<'a, R: Net + AllocGlobal, C: io::Read + Drop, L: io::Write + Drop, W: i
     requires unit { settings.unit ≤ 15 }
     requires some_frames { 1 ≤ settings.cue_frames }
     requires few_frames { settings.cue_frames ≤ 1000 }
-    ensures served { OnOk result (IsServedThere settings.rate (file catalogue.entry.name (C.remaining catalogue.entry.reader))
+    ensures served { OnOk result (IsServedThere settings.rate
+        (file catalogue.entry.name (C.remaining catalogue.entry.reader))
         (W.contents out.old) (W.contents out.new)) }
     ensures address { OnOk result (IsAddress address.now) }
-    ensures whole { OnOk result (IsWholeCatalogue settings.rate (file catalogue.entry.name (C.remaining catalogue.entry.reader))) }
-    ensures unserved { IfErr result (IsUnserved settings.rate address.now (file catalogue.entry.name (C.remaining catalogue.entry.reader))
+    ensures whole { OnOk result (IsWholeCatalogue settings.rate
+        (file catalogue.entry.name (C.remaining catalogue.entry.reader))) }
+    ensures unserved { IfErr result (IsUnserved settings.rate address.now
+        (file catalogue.entry.name (C.remaining catalogue.entry.reader))
         (W.contents out.old) (W.contents out.new)) }
 {
     let Ok(address) = address_of(address) else {
@@ -143,7 +151,8 @@ fn serve_line<C: Catalogue + Drop, S: Wire + Drop, L: io::Write + Drop, W: io::W
 ) -> Result<(), Failure<'static>>
     requires { S.failures wire ≡ 0 }
     ensures ended { OnOk result ((ran : Ran) × PrintsEnd ran (W.contents out.old) (W.contents out.new)) }
-    ensures failed { IfErr result (λ e. (e ≡ Failure.Writer) ⊎ ((e ≡ Failure.LineFailed) × Keeps (W.contents out.old) (W.contents out.new))) }
+    ensures failed { IfErr result (λ e. (e ≡ Failure.Writer)
+        ⊎ ((e ≡ Failure.LineFailed) × Keeps (W.contents out.old) (W.contents out.new))) }
 {
     let ServeSettings { rate, turns, .. } = settings;
     match log {

@@ -182,7 +182,8 @@ impl<A: Allocator + Copy> ScriptWire<A> {
     // Gives what comes next.
     fn give(&mut self, buffer: &mut [u8; PIECE]) -> Result<Came, AllocError>
         ensures fits { IfOk result FitsBuffer }
-        ensures came { IfOk result (λ c. Some self.new.told ≡ adds_came (arrival_of c buffer.new) (Some self.old.told)) }
+        ensures came { IfOk result (λ c. Some self.new.told ≡ adds_came (arrival_of c buffer.new)
+            (Some self.old.told)) }
         ensures may_come { IfOk result (λ c. MayCome (arrival_of c buffer.new) (Some self.old.told)) }
         ensures kept { OnErr result (self.new ≡ self.old) }
         ensures failed { self.new.failed ≡ self.old.failed }
