@@ -1,13 +1,15 @@
 -- A burst's reading in one line, part by part.
-use Rattle.std.proofs.Common.{ℕ, ◌≡◌, List, [], ◌∷◌, ◌++◌, map, codes, decimal, refl, sym, ap, subst, subst₂, ◌∙◌, append_assoc, append-nil, flat_map, true, Option}
+use Rattle.std.proofs.Common.{ℕ, ◌≡◌, List, [], ◌∷◌, ◌++◌, map, codes, decimal, refl, sym, ap, subst, subst₂, ◌∙◌, append_assoc, append-nil, flat_map, rules, true, Option}
 use Rattle.std.proofs.KnownBytes.{Appends-trans, Appends-kept}
 use Rattle.std.proofs.lemmas.Grind.{flat_map-append}
+use Rattle.std.proofs.lemmas.Str.{IsUtf8-from_ascii, IsUtf8-nil}
+use Rattle.std.specs.Str.{IsUtf8}
 use Rattle.std.specs.Io.KnownBytes.{Appends, Keeps}
 use Rattle.std.specs.Prelude.{OnOk, Result, Ok, Err}
 use Rattle.vdcp_frame.specs.Burst.{messages_of, end_of}
 use Rattle.vdcp_frame.specs.Message.{Content}
-use Rattle.vdcp_frame.specs.Reading.{End, Reads}
-use Rattle.vdcp_lossy.specs.Texts.{GainsParts, doing_text, joined_parts, parts_of, reading_line, burst_line, way_text}
+use Rattle.vdcp_frame.specs.Reading.{End, clean, cut, fault}
+use Rattle.vdcp_lossy.specs.Texts.{burst_line, doing_text, joined_parts, last_text, parts_of, reading_line, way_text}
 use Rattle.vdcp_lossy.specs.declared.doing.Doing.{Doing}
 use Rattle.vdcp_lossy.specs.declared.doing.Way.{Way}
 use Rattle.vdcp_text.specs.Text.{end_text, shown_text}
@@ -64,27 +66,32 @@ ending : (ms : List Content) (part between : List ℕ) (a b c : Option (List ℕ
 ending ms part between a b c is so_far more =
     subst (Appends a c) (joined_some (shown ms) part) (added (shown ms) part between a b c is so_far more)
 
--- the ways that a reading ends
-pub ends_otherwise : {A E : Type 0} (result : Result A E) (burst : List ℕ) (ms : List Content) (end : End) (between : List ℕ) (a b c : Option (List ℕ))
-    → parts_of ms end ≡ shown ms ++ end_text end ∷ [] → Reads burst ms end → between ≡ before_part (shown ms) → Appends a b (parts_text (shown ms))
-    → OnOk result (Appends b c (between ++ end_text end)) → OnOk result (GainsParts burst a c)
-ends_otherwise (Ok x) burst ms end between a b c parts reads is so_far more = record {
-  messages = ms;
-  end = end;
-  reads = reads;
-  gained = subst (λ (l : List (List ℕ)). Appends a c (joined_parts l)) (sym parts) (ending ms (end_text end) between a b c is so_far more);
-}
-ends_otherwise (Err e) burst ms end between a b c parts reads is so_far more = tt
+-- what stands between parts is text
+pub text_before : (parts : List (List ℕ)) (between : List ℕ) → between ≡ before_part parts → IsUtf8 between
+text_before [] between is = subst IsUtf8 (sym is) IsUtf8-nil
+text_before (part ∷ parts) between is = subst IsUtf8 (sym is) (IsUtf8-from_ascii (codes "; ") (search rules))
 
--- each burst has one reading
-pub reading_is : {A E : Type 0} (result : Result A E) (burst : List ℕ) (a b : Option (List ℕ))
-    → ((ms : List Content) (end : End) → Reads burst ms end → (ms ≡ messages_of burst) × (end ≡ end_of burst))
-    → OnOk result (GainsParts burst a b) → OnOk result (Appends a b (reading_line burst))
+-- a reading ends
+ends : (ms : List Content) (end : End) (between : List ℕ) (a b c : Option (List ℕ)) → between ≡ before_part (shown ms)
+    → Appends a b (parts_text (shown ms)) → Appends b c (last_text end between) → Appends a c (joined_parts (parts_of ms end))
+ends [] clean between a b c is so_far more =
+    Appends-trans a b c [] (codes "nothing") so_far (subst (λ (l : List ℕ). Appends b c (last_text clean l)) is more)
+ends (first ∷ ms) clean between a b c is so_far more =
+    let text : List ℕ = parts_text (shown (first ∷ ms)) in
+    let none : Appends b c [] = subst (λ (l : List ℕ). Appends b c (last_text clean l)) is more in
+    subst (Appends a c) (append-nil text) (Appends-trans a b c text [] so_far none)
+ends ms (cut count) between a b c is so_far more = ending ms (end_text (cut count)) between a b c is so_far more
+ends ms (fault which place) between a b c is so_far more = ending ms (end_text (fault which place)) between a b c is so_far more
+
+pub reading_ends : {A E : Type 0} (result : Result A E) (burst : List ℕ) (ms : List Content) (end : End) (between : List ℕ)
+    (a b c : Option (List ℕ)) → messages_of burst ≡ ms → end ≡ end_of burst → between ≡ before_part (shown ms)
+    → Appends a b (parts_text (shown ms)) → OnOk result (Appends b c (last_text end between))
+    → OnOk result (Appends a c (reading_line burst))
 unfolding reading_line
-reading_is (Ok x) burst a b computed gains =
-    let (is_messages, is_end) = computed gains.messages gains.end gains.reads in
-    subst₂ (λ (ms : List Content) (e : End). Appends a b (joined_parts (parts_of ms e))) is_messages is_end gains.gained
-reading_is (Err e) burst a b computed gains = tt
+reading_ends (Ok x) burst ms end between a b c is_messages is_end is so_far more =
+    subst₂ (λ (read : List Content) (e : End). Appends a c (joined_parts (parts_of read e))) (sym is_messages) is_end
+    (ends ms end between a b c is so_far more)
+reading_ends (Err e) burst ms end between a b c is_messages is_end is so_far more = tt
 
 -- a line, in three writes
 pub told_written : {A E : Type 0} (result : Result A E) (number : ℕ) (w : Way) (d : Doing) (came : List ℕ) (a b c e f : Option (List ℕ))

@@ -69,12 +69,15 @@ CanBe w came (doing.Forged r) = CanBeForged w r
 
 -- what dice with these chances can throw: nothing that has no chance, and nothing else where the chance is 100
 abbrev pub CanBeThrown : Chances → Throw → Type 0
-CanBeThrown chances throw.Through = (chances.lose < 100) × (chances.copy < 100) × (chances.cut < 100) × (chances.damage < 100)
+CanBeThrown chances throw.Through = (chances.lose < 100) × (chances.copy < 100) × (chances.cut < 100)
+    × (chances.damage < 100)
 CanBeThrown chances throw.Lost = 0 < chances.lose
 CanBeThrown chances throw.Copied = (0 < chances.copy) × (chances.lose < 100)
 CanBeThrown chances throw.Cut = (0 < chances.cut) × (chances.lose < 100) × (chances.copy < 100)
-CanBeThrown chances throw.Damaged = (0 < chances.damage) × (chances.lose < 100) × (chances.copy < 100) × (chances.cut < 100)
-CanBeThrown chances throw.Forged = (0 < chances.forge) × (chances.lose < 100) × (chances.copy < 100) × (chances.cut < 100) × (chances.damage < 100)
+CanBeThrown chances throw.Damaged = (0 < chances.damage) × (chances.lose < 100) × (chances.copy < 100)
+    × (chances.cut < 100)
+CanBeThrown chances throw.Forged = (0 < chances.forge) × (chances.lose < 100) × (chances.copy < 100)
+    × (chances.cut < 100) × (chances.damage < 100)
 
 -- what is done by them. What can't be cut or seen to be damaged is lost, and an answer that can't be copied goes through
 abbrev pub HasChance : Chances → Doing → Type 0

@@ -17,7 +17,17 @@ use Rattle.vdcp_text.specs.Text.{line}
 -- ---- the counts
 
 abbrev pub no_counts : Tally
-no_counts = record { commands = 0; answers = 0; through = 0; lost = 0; late = 0; copied = 0; cut = 0; damaged = 0; forged = 0 }
+no_counts = record {
+  commands = 0;
+  answers = 0;
+  through = 0;
+  lost = 0;
+  late = 0;
+  copied = 0;
+  cut = 0;
+  damaged = 0;
+  forged = 0;
+}
 
 -- one more, of a count of this many bits, which stops at its largest number
 abbrev pub one_more : ℕ → ℕ → ℕ
@@ -44,8 +54,10 @@ with_doing (doing.Forged r) t = record t { forged = one_more 64 t.forged }
 unfoldable pub counts_text : Tally → List ℕ
 counts_text t =
     line (codes "commands " ++ decimal t.commands) ++ line (codes "answers " ++ decimal t.answers)
-    ++ line (codes "through " ++ decimal t.through) ++ line (codes "lost " ++ decimal t.lost) ++ line (codes "late " ++ decimal t.late)
-    ++ line (codes "copied " ++ decimal t.copied) ++ line (codes "cut " ++ decimal t.cut) ++ line (codes "damaged " ++ decimal t.damaged)
+    ++ line (codes "through " ++ decimal t.through) ++ line (codes "lost " ++ decimal t.lost) ++ line
+    (codes "late " ++ decimal t.late)
+    ++ line (codes "copied " ++ decimal t.copied) ++ line (codes "cut " ++ decimal t.cut) ++ line
+    (codes "damaged " ++ decimal t.damaged)
     ++ line (codes "forged " ++ decimal t.forged)
 
 -- ---- what befell bursts
@@ -99,4 +111,5 @@ pub record IsPrinted (out out' : Option (List ℕ)) : Type 0 where
   pub address : SocketAddr
   pub fates : List Fate
   pub end : CarryEnd
-  pub gained : Appends out out' (listening_line address ++ fate_lines no_counts fates ++ end_line end ++ counts_text (with_fates no_counts fates))
+  pub gained : Appends out out' (listening_line address ++ fate_lines no_counts fates ++ end_line end ++ counts_text
+      (with_fates no_counts fates))

@@ -1,10 +1,9 @@
 -- What is done with a burst, as text.
-use Rattle.std.specs.Io.KnownBytes.{Appends}
 use Rattle.std.specs.List.{flat_map}
-use Rattle.std.specs.Prelude.{ℕ, true, List, [], ◌∷◌, ◌++◌, codes, decimal, map, Option}
+use Rattle.std.specs.Prelude.{ℕ, true, List, [], ◌∷◌, ◌++◌, codes, decimal, map}
 use Rattle.vdcp_frame.specs.Burst.{messages_of, end_of}
 use Rattle.vdcp_frame.specs.Message.{Content}
-use Rattle.vdcp_frame.specs.Reading.{End, clean, cut, fault, Reads}
+use Rattle.vdcp_frame.specs.Reading.{End, clean, cut, fault}
 use Rattle.vdcp_lossy.specs.Doings.{receipt_message}
 use Rattle.vdcp_lossy.specs.declared.doing.Doing.{Doing}
 use Rattle.vdcp_lossy.specs.declared.doing.Doing.TheVariants as doing
@@ -36,12 +35,13 @@ abbrev pub joined_parts : List (List ℕ) → List ℕ
 joined_parts [] = codes "nothing"
 joined_parts (part ∷ parts) = part ++ flat_map (λ p. codes "; " ++ p) parts
 
--- a burst has these messages and this end, and a writer gained the parts of that
-pub record GainsParts (burst : List ℕ) (old new : Option (List ℕ)) : Type 0 where
-  pub messages : List Content
-  pub end : End
-  pub reads : Reads burst messages end
-  pub gained : Appends old new (joined_parts (parts_of messages end))
+-- what an end adds to the messages' parts, after what stands between: a clean one adds nothing, but where there is no
+-- part at all it is `nothing`
+abbrev pub last_text : End → List ℕ → List ℕ
+last_text clean [] = codes "nothing"
+last_text clean (byte ∷ between) = []
+last_text (cut count) between = between ++ end_text (cut count)
+last_text (fault which place) between = between ++ end_text (fault which place)
 
 -- a burst's reading in one line
 unfoldable pub reading_line : List ℕ → List ℕ

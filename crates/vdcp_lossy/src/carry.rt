@@ -49,7 +49,8 @@ fn take<R: Clock, A: Wire, S: Wire, W: io::Write>(
     requires some { HasSome brought command.now.items }
     ensures settings { session.new.settings ≡ session.old.settings }
     ensures no_more { session.new.left ≤ session.old.left }
-    ensures told { OnOk result (PrintsFates session.old.tally session.new.tally (W.contents out.old) (W.contents out.new)) }
+    ensures told { OnOk result (PrintsFates session.old.tally session.new.tally (W.contents out.old)
+        (W.contents out.new)) }
     ensures automation { OnOk result (A.failures automation.new ≡ 0) }
     ensures server { OnOk result (S.failures server.new ≡ 0) }
 {
@@ -81,8 +82,10 @@ fn ask<R: Clock, S: Wire, W: io::Write>(
 ) -> Result<Brought, CarryFault>
     requires server { S.failures server.old ≡ 0 }
     requires some { 0 < length command.now.items }
-    ensures sent { OnOk result (GoesOn session.old.settings.chances Way.Down command.now.items (S.told server.old) (S.told server.new)) }
-    ensures told { OnOk result ((d : Doing) × PrintsFate Way.Down d command.now.items session.old.tally session.new.tally
+    ensures sent { OnOk result (GoesOn session.old.settings.chances Way.Down command.now.items (S.told server.old)
+        (S.told server.new)) }
+    ensures told { OnOk result ((d : Doing)
+        × PrintsFate Way.Down d command.now.items session.old.tally session.new.tally
         (W.contents out.old) (W.contents out.new)) }
     ensures settings { session.new.settings ≡ session.old.settings }
     ensures no_more { session.new.left ≤ session.old.left }
@@ -142,8 +145,10 @@ fn answer_with<R: Clock, A: Wire, W: io::Write>(
 ) -> Result<Option<CarryEnd>, CarryFault>
     requires automation { A.failures automation.old ≡ 0 }
     requires some { HasSome brought answer.now.items }
-    ensures sent { OnOk result (GoesUp session.old.settings.chances brought answer.now.items (A.told automation.old) (A.told automation.new)) }
-    ensures told { OnOk result (PrintsFates session.old.tally session.new.tally (W.contents out.old) (W.contents out.new)) }
+    ensures sent { OnOk result (GoesUp session.old.settings.chances brought answer.now.items (A.told automation.old)
+        (A.told automation.new)) }
+    ensures told { OnOk result (PrintsFates session.old.tally session.new.tally (W.contents out.old)
+        (W.contents out.new)) }
     ensures settings { session.new.settings ≡ session.old.settings }
     ensures left { session.new.left ≡ session.old.left }
     ensures automation { OnOk result (A.failures automation.new ≡ 0) }
@@ -175,8 +180,10 @@ fn go_up<R: Clock, A: Wire, W: io::Write>(
     out: &mut W,
 ) -> Result<Option<CarryEnd>, CarryFault>
     requires automation { A.failures automation.old ≡ 0 }
-    ensures sent { OnOk result (Appends (sent_by (A.told automation.old)) (sent_by (A.told automation.new)) (joined (goes_on doing.now came.now))) }
-    ensures told { OnOk result (PrintsFate Way.Up doing.now came.now session.old.tally session.new.tally (W.contents out.old) (W.contents out.new)) }
+    ensures sent { OnOk result (Appends (sent_by (A.told automation.old)) (sent_by (A.told automation.new))
+        (joined (goes_on doing.now came.now))) }
+    ensures told { OnOk result (PrintsFate Way.Up doing.now came.now session.old.tally session.new.tally
+        (W.contents out.old) (W.contents out.new)) }
     ensures settings { session.new.settings ≡ session.old.settings }
     ensures left { session.new.left ≡ session.old.left }
     ensures automation { OnOk result (A.failures automation.new ≡ 0) }

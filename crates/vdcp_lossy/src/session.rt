@@ -193,7 +193,8 @@ impl<'a, R: Clock> Session<'a, R> {
     ) -> Result<(), CarryFault>
         ensures left { self.new.left ≡ self.old.left }
         ensures settings { self.new.settings ≡ self.old.settings }
-        ensures told { OnOk result (PrintsFate way doing.now came.now self.old.tally self.new.tally (W.contents out.old) (W.contents out.new)) }
+        ensures told { OnOk result (PrintsFate way doing.now came.now self.old.tally self.new.tally
+            (W.contents out.old) (W.contents out.new)) }
     {
         let number = self.tally.commands;
         self.tally.count(doing);

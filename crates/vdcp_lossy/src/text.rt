@@ -1,13 +1,12 @@
 ghost use Rattle.std.specs.Io.KnownBytes.{Appends};
-ghost use Rattle.std.specs.Prelude.{◌++◌, OnOk};
-ghost use Rattle.vdcp_lossy.specs.Texts.{GainsParts, reading_line, burst_line};
-ghost use Rattle.vdcp_text.specs.End.{end_of};
-ghost use Rattle.vdcp_text.specs.Text.{end_text};
+ghost use Rattle.std.specs.Prelude.{OnOk};
+ghost use Rattle.vdcp_frame.specs.Walk.{end_seen};
+ghost use Rattle.vdcp_lossy.specs.Texts.{burst_line, last_text, reading_line};
 
 use crate::doing::{Doing, Way};
 use std::{fmt, io};
-use vdcp_frame::{Step, laws as bursts, read_at};
-use vdcp_text::{End, MeaningText, MessageText};
+use vdcp_frame::{End, Messages};
+use vdcp_text::{End as EndText, MeaningText, MessageText};
 
 /// Writes the line of what was done with a burst that came this way, in the exchange with this number, and flushes it.
 pub fn write_burst_line<W: io::Write>(
@@ -17,7 +16,8 @@ pub fn write_burst_line<W: io::Write>(
     came: &[u8],
     out: &mut W,
 ) -> io::Result<()>
-    ensures { OnOk result (Appends (W.contents out.old) (W.contents out.new) (burst_line number way doing.now came.now)) }
+    ensures { OnOk result (Appends (W.contents out.old) (W.contents out.new)
+        (burst_line number way doing.now came.now)) }
 {
     write!(out, "{number} {way} {doing} ")?;
     write_reading(came, out)?;
@@ -30,37 +30,27 @@ pub fn write_burst_line<W: io::Write>(
 pub fn write_reading<W: io::Write>(burst: &[u8], out: &mut W) -> io::Result<()>
     ensures { OnOk result (Appends (W.contents out.old) (W.contents out.new) (reading_line burst.now)) }
 {
-    bursts::one_reading();
-    write_parts(burst, out)
-}
-
-// Writes the parts of a burst's reading.
-fn write_parts<W: io::Write>(burst: &[u8], out: &mut W) -> io::Result<()>
-    ensures { OnOk result (GainsParts burst.now (W.contents out.old) (W.contents out.new)) }
-{
     let mut between = "";
-    let mut from = 0;
-    loop {
-        match read_at(burst, from) {
-            Step::Message(message, next) => {
-                let text = MessageText(message);
-                let meaning = MeaningText(message);
-                write!(out, "{between}{text}{meaning}")?;
-                between = "; ";
-                from = next;
-            }
-            Step::Clean if between.is_empty() => return write!(out, "nothing"),
-            Step::Clean => return Ok(()),
-            Step::Cut(count) => return write_end(between, End::Cut(count), out),
-            Step::Fault(fault, place) => return write_end(between, End::Fault(fault, place), out),
-        }
+    let mut messages = Messages::of(burst);
+    'messages: while let Some(message) = messages.next() {
+        let text = MessageText(message);
+        let meaning = MeaningText(message);
+        write!(out, "{between}{text}{meaning}")?;
+        between = "; ";
     }
+    write_end(messages.end(), between, out)
 }
 
-// Writes the end of a reading, after what stands between.
-fn write_end<W: io::Write>(between: &str, end: End, out: &mut W) -> io::Result<()>
-    ensures { OnOk result (Appends (W.contents out.old) (W.contents out.new) (between.now ++ end_text (end_of end))) }
+// Writes the end of a reading, after what stands between it and its messages.
+fn write_end<W: io::Write>(end: End, between: &str, out: &mut W) -> io::Result<()>
+    ensures { OnOk result (Appends (W.contents out.old) (W.contents out.new) (last_text (end_seen end) between.now)) }
 {
+    let end = match end {
+        End::Clean if between.is_empty() => return write!(out, "nothing"),
+        End::Clean => return Ok(()),
+        End::Cut(count) => EndText::Cut(count),
+        End::Fault(fault, place) => EndText::Fault(fault, place),
+    };
     write!(out, "{between}{end}")
 }
 
