@@ -144,7 +144,7 @@ fn write_got(text: &mut String, got: Got) -> Result<(), AllocError> {
         }
         Got::More => {}
         Got::Fault(fault, place) => {
-            let end = End::Fault(fault, place);
+            let end = EndText(End::Fault(fault, place));
             write!(text, "{end}")?;
         }
     }
