@@ -6,7 +6,7 @@ ghost use Rattle.vdcp_lossy.specs.Texts.{burst_line, last_text, reading_line};
 use crate::doing::{Doing, Way};
 use std::{fmt, io};
 use vdcp_frame::{End, Messages};
-use vdcp_text::{End as EndText, MeaningText, MessageText};
+use vdcp_text::{EndText, MeaningText, MessageText};
 
 /// Writes the line of what was done with a burst that came this way, in the exchange with this number, and flushes it.
 pub fn write_burst_line<W: io::Write>(
@@ -45,13 +45,14 @@ pub fn write_reading<W: io::Write>(burst: &[u8], out: &mut W) -> io::Result<()>
 fn write_end<W: io::Write>(end: End, between: &str, out: &mut W) -> io::Result<()>
     ensures { OnOk result (Appends (W.contents out.old) (W.contents out.new) (last_text (end_seen end) between.now)) }
 {
-    let end = match end {
-        End::Clean if between.is_empty() => return write!(out, "nothing"),
-        End::Clean => return Ok(()),
-        End::Cut(count) => EndText::Cut(count),
-        End::Fault(fault, place) => EndText::Fault(fault, place),
-    };
-    write!(out, "{between}{end}")
+    match end {
+        End::Clean if between.is_empty() => write!(out, "nothing"),
+        End::Clean => Ok(()),
+        End::Cut(_) | End::Fault(_, _) => {
+            let end = EndText(end);
+            write!(out, "{between}{end}")
+        }
+    }
 }
 
 impl fmt::Display for Way {

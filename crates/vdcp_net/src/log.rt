@@ -3,8 +3,8 @@ ghost use Rattle.std.specs.Prelude.{◌≡◌, ◌<◌, ◌≤◌, length};
 use std::cell::Cell;
 use std::{fmt, io};
 use vdcp_drive::WatchAir;
-use vdcp_frame::{Ended, Got, Reader};
-use vdcp_text::{End, ItemText, MeaningText, MessageText};
+use vdcp_frame::{End, Ended, Got, Reader};
+use vdcp_text::{EndText, ItemText, MeaningText, MessageText};
 use vdcp_value::{Item, Rate};
 use vdcp_wire::{Came, PIECE, Wire, WireFault};
 
@@ -180,6 +180,7 @@ fn tell_end<L: io::Write + Drop>(log: &Log<L>, direction: Direction, reader: &mu
 }
 
 fn tell_fault<L: io::Write + Drop>(log: &Log<L>, direction: Direction, end: End) {
+    let end = EndText(end);
     log.tell(&format_args!("{direction} {end}"));
 }
 
