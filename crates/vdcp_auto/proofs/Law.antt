@@ -13,9 +13,9 @@ use Rattle.vdcp_auto.specs.declared.outcome.Outcome.TheVariants.{Done, Stopped, 
 use Rattle.vdcp_auto.specs.declared.phase.Mode.{Mode}
 use Rattle.vdcp_auto.specs.declared.phase.Mode.TheVariants.{Plain, Confirming}
 use Rattle.vdcp_auto.specs.declared.phase.Phase.{Phase}
-use Rattle.vdcp_auto.specs.declared.phase.Stage.{Stage}
-use Rattle.vdcp_auto.specs.declared.phase.Stage.TheVariants.{Ready, Awaiting, Ended}
-use Rattle.vdcp_auto.specs.declared.phase.State.{State}
+use Rattle.vdcp_auto.specs.State.{Stage}
+use Rattle.vdcp_auto.specs.State.{Ready, Awaiting, Ended}
+use Rattle.vdcp_auto.specs.State.{State}
 use Rattle.vdcp_auto.specs.Log.{is_cue, is_stop, is_close, is_grant, is_acked}
 use Rattle.vdcp_auto.specs.Settled.{has_open_play, settled}
 use Rattle.vdcp_auto.specs.RuleBook.{CuesItemAt, IsTaken, MayPlay, Rule, May, KeepsRules}

@@ -674,16 +674,16 @@ out_so law items told s n m t a same united is h closed e more =
     is h closed (hears_so items s n m a same united e) more
 
 -- a new automation runs from its beginning
-pub begins : (fed : Fed) (plan : Plan) (unit : ℕ) (state : State) (reader : Progress) (heard : Option Heard) (told : Option Told)
-    → IsNew state reader heard told
-    → IfTold told (λ u. RunsAt plan unit u state reader heard × AllListened 0 [] u.came)
-begins fed plan unit state reader heard told n = (
-  nothing_told,
-  n.fresh,
-  (
-    subst (λ (s : State). RunsAt plan unit nothing_told s reader heard) (sym n.controller)
-        (subst (λ (r : Progress). RunsAt plan unit nothing_told start r heard) (sym n.at_start)
-        (subst (λ (h : Option Heard). RunsAt plan unit nothing_told start (reading 0 []) h) (sym n.silent) (runs_new fed plan unit))),
-    record { more = []; adds = refl; listened = refl; no_close = refl },
-  ),
-)
+pub begins : {S W : Type 0} (fed : Fed) (items : S → List Item) (told : W → Option Told) (d : Driving S W) → IsNew told d
+    → IfTold (told d.wire) (λ u. RunsAt (plan_of items d.controller) d.unit u d.controller.state d.reader d.heard × AllListened 0 [] u.came)
+begins fed items told d n =
+    let plan : Plan = plan_of items d.controller in (
+      nothing_told,
+      n.fresh,
+      (
+        subst (λ (s : State). RunsAt plan d.unit nothing_told s d.reader d.heard) (sym n.controller)
+            (subst (λ (r : Progress). RunsAt plan d.unit nothing_told start r d.heard) (sym n.at_start)
+            (subst (λ (h : Option Heard). RunsAt plan d.unit nothing_told start (reading 0 []) h) (sym n.silent) (runs_new fed plan d.unit))),
+        record { more = []; adds = refl; listened = refl; no_close = refl },
+      ),
+    )

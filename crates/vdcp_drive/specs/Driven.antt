@@ -3,7 +3,7 @@
 use Rattle.std.specs.List.{flat_map}
 use Rattle.std.specs.Option.{option_to_list}
 use Rattle.std.specs.Prelude.{ℕ, ◌≡◌, ◌+◌, List, [], ◌∷◌, ◌++◌, length, map, Option, None, Some, if◌then◌else◌}
-use Rattle.vdcp_frame.specs.Progress.{Progress, reading}
+use Rattle.vdcp_frame.specs.Progress.{reading}
 use Rattle.vdcp_words.specs.declared.command.Command.{Command}
 use Rattle.vdcp_auto.specs.Course.{Reached, course, after_inputs}
 use Rattle.vdcp_auto.specs.Plan.{Plan}
@@ -15,7 +15,7 @@ use Rattle.vdcp_auto.specs.declared.exchange.Input.TheVariants as input
 use Rattle.vdcp_auto.specs.declared.phase.State.{State}
 use Rattle.vdcp_drive.specs.Bursts.{finished_bursts, is_within_burst}
 use Rattle.vdcp_auto.specs.Heard.{heard_in}
-use Rattle.vdcp_drive.specs.Hearing.{command_bytes}
+use Rattle.vdcp_drive.specs.Hearing.{Driving, command_bytes}
 use Rattle.vdcp_wire.specs.Wires.{Arrival, Told, nothing_told}
 
 -- what a burst that ended says to the controller: its first message, or that nothing came
@@ -69,11 +69,11 @@ abbrev pub GoesOn : Plan → State → State → Type 0
 GoesOn plan before after = (log : List Exchange) → Reached plan before log → (since : List Exchange) × Reached plan after (log ++ since)
 
 -- a new automation: its controller is new, nothing was heard, and its fresh wire tells its bytes
-pub record IsNew (state : State) (reader : Progress) (heard : Option Heard) (told : Option Told) : Type 0 where
-  pub controller : state ≡ start
-  pub at_start : reader ≡ reading 0 []
-  pub silent : heard ≡ None
-  pub fresh : told ≡ Some nothing_told
+pub record IsNew {S W : Type 0} (told : W → Option Told) (d : Driving S W) : Type 0 where
+  pub controller : d.controller.state ≡ start
+  pub at_start : d.reader ≡ reading 0 []
+  pub silent : d.heard ≡ None
+  pub fresh : told d.wire ≡ Some nothing_told
 
 -- an automation that began with a new controller has heard what came, and its controller is in this state
 pub record HasRun (plan : Plan) (unit : ℕ) (told : Told) (state : State) : Type 0 where

@@ -9,6 +9,7 @@ use Rattle.vdcp_frame.specs.Reader.{Follows}
 use Rattle.vdcp_port.specs.Answers.{after_messages, aired_on_way, aired_for, answer_bytes, bytes_for, bytes_for_all, end_answers, sent_for, after_burst}
 use Rattle.vdcp_port.specs.Clock.{ClockedPort, after_frame}
 use Rattle.vdcp_drive.specs.Bursts.{ended_bursts, open_burst}
+use Rattle.vdcp_drive.specs.Serving.{Serving}
 use Rattle.vdcp_wire.specs.Wires.{Arrival, silence, Told, nothing_told, has_closed}
 
 -- the port behind ended bursts: each is answered, and then a frame passes
@@ -45,9 +46,9 @@ abbrev pub items_served : ClockedPort → List Arrival → List Item
 items_served p came = items_for_bursts p (ended_bursts came) ++ aired_on_way (port_before p came) (messages_of (open_burst came))
 
 -- a new server: no burst has begun, and its fresh wire tells its bytes
-pub record IsNewServer (reader : Progress) (told : Option Told) : Type 0 where
-  pub at_start : reader ≡ reading 0 []
-  pub fresh : told ≡ Some nothing_told
+pub record IsNewServer {W : Type 0} (told : W → Option Told) (s : Serving W) : Type 0 where
+  pub at_start : s.reader ≡ reading 0 []
+  pub fresh : told s.wire ≡ Some nothing_told
 
 -- a server that began with this port has served what came, and its reader is in the open burst
 pub record IsServed (start : ClockedPort) (told : Told) (port : ClockedPort) (reader : Progress) : Type 0 where

@@ -6,9 +6,10 @@ ghost use Rattle.vdcp_frame.specs.Reader.{answer_of};
 ghost use Rattle.vdcp_auto.specs.Plan.{plan_of};
 ghost use Rattle.vdcp_auto.specs.Turn as turns;
 ghost use Rattle.vdcp_auto.specs.declared.phase.State.{State};
-ghost use Rattle.vdcp_drive.specs.Driven.{GoesOn, IsNew, HasRun, HasRunBroken, IsPartlyRun, states_listening, states_watched};
+ghost use Rattle.vdcp_drive.specs.Driven.{GoesOn, IsNew, HasRunBroken, states_listening, states_watched};
 ghost use Rattle.vdcp_drive.specs.Hearing.{HasSent, HasSendBroken, HasHeard, HasReceived, Hears, heard_by_then, command_bytes};
-ghost use Rattle.vdcp_drive.specs.Lines.{line_of, RunsTo, ran_unless_ended};
+ghost use Rattle.vdcp_drive.specs.Lines.{line_of, ran_unless_ended};
+ghost use Rattle.vdcp_drive.specs.RunLeaves.{RunLeaves};
 ghost use Rattle.vdcp_wire.specs.Wires.{Arrival, Told, IfTold, MayCome, nothing_told, adds_sent, adds_came, SendsFront};
 
 use crate::line::{DriveFault, Line, Ran};
@@ -133,22 +134,7 @@ impl<S: Source, W: Wire> AutoDriver<S, W> {
     /// closed or this many listens were made. It sends a command only if a listen for its answer is left.
     /// `Device` if the wire fails or has failed before.
     pub fn run(&mut self, listens: u64) -> Result<Ran, DriveFault>
-        // Of a new automation: a new controller, and a fresh wire that tells its bytes.
-        ensures run { IsNew self.old.controller.state self.old.reader self.old.heard (W.told self.old.wire) →
-            OnOk result (IfTold (W.told self.new.wire) (λ u. HasRun (plan_of S.items self.old.controller) self.old.unit u self.new.controller.state)) }
-        ensures broken { IsNew self.old.controller.state self.old.reader self.old.heard (W.told self.old.wire) → W.failures self.old.wire ≡ 0 →
-            OnErr result (IfTold (W.told self.new.wire) (λ u. HasRunBroken (plan_of S.items self.old.controller) self.old.unit u self.new.controller.state
-            × IsPartlyRun (plan_of S.items self.old.controller) self.old.unit u self.new.controller.state)) }
-        // Of any automation: over any wire, and over one that tells its bytes.
-        ensures ended { IfOk result (λ ran. (ran ≡ Ran.Ended) ↔ IsSome (turns.outcome_of self.new.controller.state.stage)) }
-        ensures answer { (t : Told) → W.told self.old.wire ≡ Some t →
-            IfOk result (λ ran. IfTold (W.told self.new.wire) (λ u. RunsTo ran (turns.outcome_of self.new.controller.state.stage) listens t.came u.came)) }
-        ensures reached { GoesOn (plan_of S.items self.old.controller) self.old.controller.state self.new.controller.state }
-        ensures controller { self.new.controller ≡ record self.old.controller { state = self.new.controller.state } }
-        ensures unit { self.new.unit ≡ self.old.unit }
-        ensures works { OnOk result (W.failures self.new.wire ≡ 0) }
-        ensures device { OnErr result (W.failures self.new.wire ≡ 1) }
-        ensures stays { W.failures self.old.wire ≡ 1 → IsErr result × (self.new ≡ self.old) }
+        ensures leaves { RunLeaves S.items W.told W.failures listens self.old self.new result }
     {
         self.run_watched(listens, &mut Unwatched)
     }
@@ -159,30 +145,16 @@ impl<S: Source, W: Wire> AutoDriver<S, W> {
         listens: u64,
         watcher: &mut V,
     ) -> Result<Ran, DriveFault>
-        // Of a new automation: a new controller, and a fresh wire that tells its bytes.
-        ensures run { IsNew self.old.controller.state self.old.reader self.old.heard (W.told self.old.wire) →
-            OnOk result (IfTold (W.told self.new.wire) (λ u. HasRun (plan_of S.items self.old.controller) self.old.unit u self.new.controller.state)) }
-        ensures broken { IsNew self.old.controller.state self.old.reader self.old.heard (W.told self.old.wire) → W.failures self.old.wire ≡ 0 →
-            OnErr result (IfTold (W.told self.new.wire) (λ u. HasRunBroken (plan_of S.items self.old.controller) self.old.unit u self.new.controller.state
-            × IsPartlyRun (plan_of S.items self.old.controller) self.old.unit u self.new.controller.state)) }
-        // And a watcher that tells what it watched: it was lent the controller in each listen.
-        ensures watched { IsNew self.old.controller.state self.old.reader self.old.heard (W.told self.old.wire) →
-            (states : List State) → V.watched watcher.old ≡ Some states → OnOk result (IfTold (W.told self.new.wire) (λ u.
-            V.watched watcher.new ≡ Some (states ++ states_listening (plan_of S.items self.old.controller) self.old.unit u.came))) }
-        ensures watched_broken { IsNew self.old.controller.state self.old.reader self.old.heard (W.told self.old.wire) → W.failures self.old.wire ≡ 0 →
+        ensures leaves { RunLeaves S.items W.told W.failures listens self.old self.new result }
+        // A watcher that tells what it watched was lent the controller of a new automation in each listen.
+        ensures watched { IsNew W.told self.old → (states : List State) → V.watched watcher.old ≡ Some states →
+            OnOk result (IfTold (W.told self.new.wire) (λ u. V.watched watcher.new
+            ≡ Some (states ++ states_listening (plan_of S.items self.old.controller) self.old.unit u.came))) }
+        ensures watched_broken { IsNew W.told self.old → W.failures self.old.wire ≡ 0 →
             (states : List State) → V.watched watcher.old ≡ Some states → OnErr result (IfTold (W.told self.new.wire) (λ u.
             (b : HasRunBroken (plan_of S.items self.old.controller) self.old.unit u self.new.controller.state)
             × (V.watched watcher.new ≡ Some (states ++ states_watched b)))) }
-        // Of any automation: over any wire, and over one that tells its bytes.
-        ensures ended { IfOk result (λ ran. (ran ≡ Ran.Ended) ↔ IsSome (turns.outcome_of self.new.controller.state.stage)) }
-        ensures answer { (t : Told) → W.told self.old.wire ≡ Some t →
-            IfOk result (λ ran. IfTold (W.told self.new.wire) (λ u. RunsTo ran (turns.outcome_of self.new.controller.state.stage) listens t.came u.came)) }
-        ensures reached { GoesOn (plan_of S.items self.old.controller) self.old.controller.state self.new.controller.state }
-        ensures controller { self.new.controller ≡ record self.old.controller { state = self.new.controller.state } }
-        ensures unit { self.new.unit ≡ self.old.unit }
-        ensures works { OnOk result (W.failures self.new.wire ≡ 0) }
-        ensures device { OnErr result (W.failures self.new.wire ≡ 1) }
-        ensures stays { W.failures self.old.wire ≡ 1 → IsErr result × (self.new ≡ self.old) × (watcher.new ≡ watcher.old) }
+        ensures unwatched { W.failures self.old.wire ≡ 1 → watcher.new ≡ watcher.old }
     {
         courses::courses_follow_one_another();
         bursts::one_reading();

@@ -1,9 +1,9 @@
 //! Both ends of a playout channel over a wire: the server with its port, and the automation with its
 //! controller.
 //!
-//! The caller has a `Wire` of `vdcp_wire`, which carries bytes, and hands it to a driver. Both drivers decide nothing
-//! themselves: what to answer the port says, what to send the controller does. They hold no burst, only
-//! what a `Reader` does, and take no memory.
+//! The caller hands a driver a `Wire`, which carries bytes: a `StreamWire` over a connection, a `ScriptWire` in
+//! memory, or one of its own. The drivers decide nothing themselves: the port says what to answer, the controller
+//! what to send. They take no memory. Of a burst they keep what a `Reader` keeps, and `AutoDriver` its first message.
 //!
 //! ```text
 //! let mut server = Server::new(port, wire);
@@ -26,6 +26,7 @@ mod watch;
 pub use automation::AutoDriver;
 pub use line::{DriveFault, Line, Ran};
 pub use server::Server;
+pub use vdcp_wire::{Came, Entry, PIECE, ScriptWire, StreamWire, Wire, WireFault};
 pub use watch::{Unwatched, Watch, WatchAir};
 
 #[cfg(test)]

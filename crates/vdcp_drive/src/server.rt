@@ -4,8 +4,9 @@ ghost use Rattle.vdcp_frame.specs.Message.{content_of, AreOctets};
 ghost use Rattle.vdcp_frame.specs.Progress.{reading};
 ghost use Rattle.vdcp_port.specs.Answers.{answer_bytes, bytes_for, items_for};
 ghost use Rattle.vdcp_port.specs.Clock.{ClockedPort, after_message};
-ghost use Rattle.vdcp_drive.specs.Lines.{line_of, ServesTo};
-ghost use Rattle.vdcp_drive.specs.Served.{IsNewServer, IsServed, IsPartlySent, HasBrokenOff, HasWatched, HasPartlyWatched, served, port_after, items_served};
+ghost use Rattle.vdcp_drive.specs.Lines.{line_of};
+ghost use Rattle.vdcp_drive.specs.ServeLeaves.{ServeLeaves};
+ghost use Rattle.vdcp_drive.specs.Served.{IsNewServer, IsServed, IsPartlySent, HasBrokenOff, HasWatched, HasPartlyWatched, items_served};
 ghost use Rattle.vdcp_drive.specs.Serving.{HasTaken, HasBroken, HasEnded, HasEndBroken, Serves, Breaks, last_aired};
 ghost use Rattle.vdcp_drive.specs.Watching.{adds_aired};
 ghost use Rattle.vdcp_wire.specs.Wires.{Arrival, Told, IfTold, MayCome, adds_sent, adds_came, SendsFront};
@@ -87,27 +88,7 @@ impl<C: Catalogue, W: Wire> Server<C, W> {
     /// Takes this many turns, or fewer if the other end closes. `Device` if the wire fails or has failed
     /// before.
     pub fn serve(&mut self, turns: u64) -> Result<Ran, DriveFault>
-        // Of a new server, whose fresh wire tells its bytes: what is sent, and the port that this leaves.
-        ensures sent { IsNewServer self.old.reader (W.told self.old.wire) →
-            OnOk result (IfTold (W.told self.new.wire) (λ u. u.sent ≡ served self.old.port u.came)) }
-        ensures port { IsNewServer self.old.reader (W.told self.old.wire) →
-            OnOk result (IfTold (W.told self.new.wire) (λ u. self.new.port ≡ port_after self.old.port u.came)) }
-        ensures broken { IsNewServer self.old.reader (W.told self.old.wire) → W.failures self.old.wire ≡ 0 →
-            OnErr result (IfTold (W.told self.new.wire) (λ u. HasBrokenOff self.old.port u self.new.port × IsPartlySent self.old.port u)) }
-        // Of a server that began with some port, and has served what its wire tells that came.
-        ensures served { (start : ClockedPort) (t : Told) → W.told self.old.wire ≡ Some t → IsServed start t self.old.port self.old.reader →
-            OnOk result (IfTold (W.told self.new.wire) (λ u. IsServed start u self.new.port self.new.reader)) }
-        ensures broken_off { (start : ClockedPort) (t : Told) → W.told self.old.wire ≡ Some t → IsServed start t self.old.port self.old.reader →
-            W.failures self.old.wire ≡ 0 → OnErr result (IfTold (W.told self.new.wire) (λ u. HasBrokenOff start u self.new.port × IsPartlySent start u)) }
-        // Which answer it gives: Spent where all turns were made and no close came.
-        ensures answer { (t : Told) → W.told self.old.wire ≡ Some t →
-            IfOk result (λ ran. IfTold (W.told self.new.wire) (λ u. ServesTo ran turns t.came u.came)) }
-        ensures never_ended { IfOk result (λ ran. ran ≢ Ran.Ended) }
-        // A server drops nothing that waits.
-        ensures drops { (t : Told) → W.told self.old.wire ≡ Some t → IfTold (W.told self.new.wire) (λ u. u.drops ≡ t.drops) }
-        ensures works { OnOk result (W.failures self.new.wire ≡ 0) }
-        ensures device { OnErr result (W.failures self.new.wire ≡ 1) }
-        ensures stays { W.failures self.old.wire ≡ 1 → IsErr result × (self.new ≡ self.old) }
+        ensures leaves { ServeLeaves W.told W.failures turns self.old self.new result }
     {
         self.serve_watched(turns, &mut Unwatched)
     }
@@ -118,36 +99,17 @@ impl<C: Catalogue, W: Wire> Server<C, W> {
         turns: u64,
         watcher: &mut V,
     ) -> Result<Ran, DriveFault>
-        // Of a new server, whose fresh wire tells its bytes: what is sent, and the port that this leaves.
-        ensures sent { IsNewServer self.old.reader (W.told self.old.wire) →
-            OnOk result (IfTold (W.told self.new.wire) (λ u. u.sent ≡ served self.old.port u.came)) }
-        ensures port { IsNewServer self.old.reader (W.told self.old.wire) →
-            OnOk result (IfTold (W.told self.new.wire) (λ u. self.new.port ≡ port_after self.old.port u.came)) }
-        ensures broken { IsNewServer self.old.reader (W.told self.old.wire) → W.failures self.old.wire ≡ 0 →
-            OnErr result (IfTold (W.told self.new.wire) (λ u. HasBrokenOff self.old.port u self.new.port × IsPartlySent self.old.port u)) }
-        // Of a server that began with some port, and has served what its wire tells that came.
-        ensures served { (start : ClockedPort) (t : Told) → W.told self.old.wire ≡ Some t → IsServed start t self.old.port self.old.reader →
-            OnOk result (IfTold (W.told self.new.wire) (λ u. IsServed start u self.new.port self.new.reader)) }
-        ensures broken_off { (start : ClockedPort) (t : Told) → W.told self.old.wire ≡ Some t → IsServed start t self.old.port self.old.reader →
-            W.failures self.old.wire ≡ 0 → OnErr result (IfTold (W.told self.new.wire) (λ u. HasBrokenOff start u self.new.port × IsPartlySent start u)) }
-        // A watcher that tells what it watched: it was lent what went to air, each item once and in order.
-        ensures watched { IsNewServer self.old.reader (W.told self.old.wire) → (items : List Item) → V.watched watcher.old ≡ Some items →
-            OnOk result (IfTold (W.told self.new.wire) (λ u. V.watched watcher.new ≡ Some (items ++ items_served self.old.port u.came))) }
+        ensures leaves { ServeLeaves W.told W.failures turns self.old self.new result }
+        // A watcher that tells what it watched was lent what went to air, each item once and in order.
+        ensures watched { IsNewServer W.told self.old → (items : List Item) → V.watched watcher.old ≡ Some items → OnOk result
+            (IfTold (W.told self.new.wire) (λ u. V.watched watcher.new ≡ Some (items ++ items_served self.old.port u.came))) }
         ensures watched_since { (start : ClockedPort) (t : Told) (items : List Item) → W.told self.old.wire ≡ Some t →
             IsServed start t self.old.port self.old.reader → V.watched watcher.old ≡ Some items →
             OnOk result (IfTold (W.told self.new.wire) (λ u. HasWatched start t u items (V.watched watcher.new))) }
         ensures watched_first { (start : ClockedPort) (t : Told) (items : List Item) → W.told self.old.wire ≡ Some t →
             IsServed start t self.old.port self.old.reader → W.failures self.old.wire ≡ 0 → V.watched watcher.old ≡ Some items →
             OnErr result (IfTold (W.told self.new.wire) (λ u. HasPartlyWatched start t u items self.new.aired (V.watched watcher.new))) }
-        // Which answer it gives: Spent where all turns were made and no close came.
-        ensures answer { (t : Told) → W.told self.old.wire ≡ Some t →
-            IfOk result (λ ran. IfTold (W.told self.new.wire) (λ u. ServesTo ran turns t.came u.came)) }
-        ensures never_ended { IfOk result (λ ran. ran ≢ Ran.Ended) }
-        // A server drops nothing that waits.
-        ensures drops { (t : Told) → W.told self.old.wire ≡ Some t → IfTold (W.told self.new.wire) (λ u. u.drops ≡ t.drops) }
-        ensures works { OnOk result (W.failures self.new.wire ≡ 0) }
-        ensures device { OnErr result (W.failures self.new.wire ≡ 1) }
-        ensures stays { W.failures self.old.wire ≡ 1 → IsErr result × (self.new ≡ self.old) × (watcher.new ≡ watcher.old) }
+        ensures unwatched { W.failures self.old.wire ≡ 1 → watcher.new ≡ watcher.old }
     {
         bursts::what_is_fed_is_followed();
         if self.failed {

@@ -35,7 +35,7 @@
 mod burst;
 mod got;
 mod head;
-mod held;
+
 pub mod laws;
 mod message;
 mod reader;

@@ -10,7 +10,7 @@ use Rattle.vdcp_lossy.specs.declared.doing.Doing.TheVariants as doing
 use Rattle.vdcp_lossy.specs.declared.doing.Way.TheVariants as way
 use Rattle.vdcp_lossy.specs.declared.session.CarryEnd.{CarryEnd}
 use Rattle.vdcp_lossy.specs.declared.tally.Tally.{Tally}
-use Rattle.vdcp_tcp.specs.Listening.{PrintsListening, listening_line}
+use Rattle.vdcp_wire.specs.Listening.{PrintsListening, listening_line}
 use Rattle.vdcp_text.specs.Text.{line}
 
 counted_all : (t : Tally) (fates later : List Fate) → with_fates t (fates ++ later) ≡ with_fates (with_fates t fates) later

@@ -11,7 +11,7 @@ use Rattle.vdcp_lossy.specs.declared.doing.Way.TheVariants as way
 use Rattle.vdcp_lossy.specs.declared.session.CarryEnd.{CarryEnd}
 use Rattle.vdcp_lossy.specs.declared.session.CarryEnd.TheVariants as ends
 use Rattle.vdcp_lossy.specs.declared.tally.Tally.{Tally}
-use Rattle.vdcp_tcp.specs.Listening.{listening_line}
+use Rattle.vdcp_wire.specs.Listening.{listening_line}
 use Rattle.vdcp_text.specs.Text.{line}
 
 -- ---- the counts

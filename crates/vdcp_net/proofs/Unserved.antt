@@ -6,9 +6,9 @@ use Rattle.vdcp_drive.specs.declared.line.Ran.{Ran}
 use Rattle.vdcp_files.specs.Files.{File, file, file_failure}
 use Rattle.vdcp_list.specs.declared.faults.ListFault.{ListFault}
 use Rattle.vdcp_list.specs.declared.faults.ListFault.TheVariants as lists
-use Rattle.vdcp_tcp.specs.Address.{IsAddress}
+use Rattle.vdcp_wire.specs.Address.{IsAddress}
 use Rattle.vdcp_net.specs.Serve.{IsServedThere, IsUnserved, IsWholeCatalogue, PrintsEnd}
-use Rattle.vdcp_tcp.specs.Listening.{PrintsListening}
+use Rattle.vdcp_wire.specs.Listening.{PrintsListening}
 use Rattle.vdcp_net.specs.Serve.{no_address, no_catalogue, not_bound, line_failed, writer_failed}
 use Rattle.vdcp_text.specs.Failure.{failure_line, status_of}
 use Rattle.vdcp_text.specs.declared.failure.Failure.{Failure}

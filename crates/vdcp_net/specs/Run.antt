@@ -1,7 +1,7 @@
 -- How a run ends: what it tells then, and its exit status.
 use Rattle.std.specs.Borrow.{Bor}
 use Rattle.std.specs.Io.KnownBytes.{Appends, Keeps}
-use Rattle.std.specs.Prelude.{ℕ, ◌≡◌, ◌⊎◌, List, [], ◌++◌, codes, decimal, Option, None, Some, IsSome, Result, Ok, Err, IsTrue}
+use Rattle.std.specs.Prelude.{ℕ, ◌≡◌, ◌⊎◌, List, [], ◌++◌, codes, decimal, Option, None, Some, IsSome, Result, Ok, Err}
 use Rattle.vdcp_value.specs.declared.part.Item.{Item}
 use Rattle.vdcp_value.specs.declared.rate.Rate.{Rate}
 use Rattle.vdcp_auto.specs.Course.{Reached}
@@ -20,12 +20,10 @@ use Rattle.vdcp_files.specs.Files.{File, bytes_of}
 use Rattle.vdcp_files.specs.Mode.{mode_of}
 use Rattle.vdcp_list.specs.Playlists.{IsListOf}
 use Rattle.vdcp_files.specs.Outcome.{outcome_text}
-use Rattle.vdcp_drive.specs.Lines.{AllListened, AtMostListened}
-use Rattle.vdcp_wire.specs.Wires.{Arrival, has_closed}
 use Rattle.vdcp_drive.specs.declared.line.DriveFault.{DriveFault}
 use Rattle.vdcp_drive.specs.declared.line.Ran.{Ran}
 use Rattle.vdcp_drive.specs.declared.line.Ran.TheVariants as ran
-use Rattle.vdcp_tcp.specs.Address.{IsAddress}
+use Rattle.vdcp_wire.specs.Address.{IsAddress}
 use Rattle.vdcp_net.specs.declared.run.LineEnd.{LineEnd}
 use Rattle.vdcp_net.specs.declared.run.LineEnd.TheVariants as line_end
 use Rattle.vdcp_net.specs.declared.run.RunEnd.{RunEnd}
@@ -44,14 +42,7 @@ line_end_of (Ok ran.Closed) = line_end.Closed
 line_end_of (Ok ran.Spent) = line_end.Spent
 line_end_of (Err fault) = line_end.Failed
 
--- what came while it ended so, of so many listens at most
-abbrev pub EndsTo : LineEnd → ℕ → List Arrival → List Arrival → Type 0
-EndsTo line_end.Unneeded listens old new = AtMostListened listens old new
-EndsTo line_end.Closed listens old new = IsTrue (has_closed new) × AtMostListened listens old new
-EndsTo line_end.Spent listens old new = AllListened listens old new
-EndsTo line_end.Failed listens old new = Unit {0}
-
--- as what it is told
+-- the failure to report, if the line failed it
 abbrev pub line_failure : LineEnd → Option Failure
 line_failure line_end.Unneeded = None
 line_failure line_end.Closed = Some failures.LineClosed

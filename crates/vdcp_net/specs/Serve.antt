@@ -1,15 +1,14 @@
 -- What serve prints, and what it is refused for.
 use Rattle.std.specs.Io.KnownBytes.{Appends, Keeps}
-use Rattle.std.specs.Prelude.{ℕ, ◌≡◌, ◌⊎◌, ◌++◌, List, codes, Option, Some}
-use Rattle.vdcp_drive.specs.Lines.{ServesTo}
-use Rattle.vdcp_wire.specs.Wires.{IfTold, Told}
+use Rattle.std.specs.Prelude.{ℕ, ◌≡◌, ◌⊎◌, List, codes, Option, Result, Ok, Err}
+use Rattle.vdcp_drive.specs.declared.line.DriveFault.{DriveFault}
 use Rattle.vdcp_drive.specs.declared.line.Ran.{Ran}
 use Rattle.vdcp_drive.specs.declared.line.Ran.TheVariants as ran
 use Rattle.vdcp_files.specs.Check.{RefusesCatalogue}
 use Rattle.vdcp_files.specs.Files.{File, bytes_of}
 use Rattle.vdcp_list.specs.Catalogues.{IsCatalogueOf}
-use Rattle.vdcp_tcp.specs.Address.{IsAddress}
-use Rattle.vdcp_tcp.specs.Listening.{PrintsListening}
+use Rattle.vdcp_wire.specs.Address.{IsAddress}
+use Rattle.vdcp_wire.specs.Listening.{PrintsListening}
 use Rattle.vdcp_text.specs.Failure.{failure_line, status_of}
 use Rattle.vdcp_text.specs.Text.{line}
 use Rattle.vdcp_text.specs.declared.failure.Failure.{Failure}
@@ -24,12 +23,13 @@ PrintsEnd ran.Closed out out' = Appends out out' (line (codes "closed"))
 PrintsEnd ran.Spent out out' = Appends out out' (line (codes "spent"))
 PrintsEnd ran.Ended out out' = ⊥
 
--- so many turns of a server ended so, by what its wire told before and tells since, if it tells its bytes; and a
--- writer gained the line of it
-pub record EndsAs (turns : ℕ) (told told' : Option Told) (out out' : Option (List ℕ)) : Type 0 where
-  pub ran : Ran
-  pub serves : (t : Told) → told ≡ Some t → IfTold told' (λ u. ServesTo ran turns t.came u.came)
-  pub prints : PrintsEnd ran out out'
+-- the turns of a server answered so, and what a writer gained of it: where the wire works the line of how they ended,
+-- unless the writer failed, and else nothing
+abbrev pub EndsAs : {A : Type 0} → Result Ran DriveFault → Result A Failure → Option (List ℕ) → Option (List ℕ) → Type 0
+EndsAs (Ok ran) (Ok done) out out' = PrintsEnd ran out out'
+EndsAs (Ok ran) (Err failure) out out' = failure ≡ failures.Writer
+EndsAs (Err fault) (Ok done) out out' = ⊥
+EndsAs (Err fault) (Err failure) out out' = (failure ≡ failures.LineFailed) × Keeps out out'
 
 -- the file is a catalogue
 abbrev pub IsWholeCatalogue : Rate → File → Type 0

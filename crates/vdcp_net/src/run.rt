@@ -1,15 +1,14 @@
 ghost use Rattle.std.specs.Io.KnownBytes.{Appends, Keeps};
-ghost use Rattle.std.specs.Prelude.{◌≡◌, ◌≢◌, ◌⊎◌, ◌<◌, ◌≤◌, List, IfErr, IfOk, IsSome, OnErr, OnOk, Some};
+ghost use Rattle.std.specs.Prelude.{◌≡◌, ◌⊎◌, ◌≤◌, List, IfErr, IfOk, OnErr, OnOk, Result};
 ghost use Rattle.vdcp_auto.specs.Course.{Reached};
 ghost use Rattle.vdcp_auto.specs.Plan.{plan_of};
 ghost use Rattle.vdcp_auto.specs.Turn as turns;
 ghost use Rattle.vdcp_auto.specs.declared.exchange.Exchange.{Exchange};
-ghost use Rattle.vdcp_drive.specs.Driven.{GoesOn, HasRun, HasRunBroken, IsNew, IsPartlyRun};
-ghost use Rattle.vdcp_wire.specs.Wires.{IfTold, Told};
+ghost use Rattle.vdcp_drive.specs.RunLeaves.{RunLeaves};
 ghost use Rattle.vdcp_files.specs.Files.{file};
 ghost use Rattle.vdcp_files.specs.Mode.{mode_of};
-ghost use Rattle.vdcp_tcp.specs.Address.{IsAddress};
-ghost use Rattle.vdcp_net.specs.Run.{EndsTo, IsEndOf, IsListRefused, IsPlayed, IsRun, IsUnplayed, IsWholeList, MayBeUnwritten};
+ghost use Rattle.vdcp_wire.specs.Address.{IsAddress};
+ghost use Rattle.vdcp_net.specs.Run.{IsEndOf, IsListRefused, IsPlayed, IsRun, IsUnplayed, IsWholeList, MayBeUnwritten};
 ghost use Rattle.vdcp_net.specs.Run.{end_text, fault_text, faults_text, line_end_of, line_failure, run_status};
 ghost use Rattle.vdcp_text.specs.Failure.{failure_line};
 
@@ -23,10 +22,9 @@ use std::time::Duration;
 use vdcp_auto::{Controller, Outcome, Source};
 use vdcp_drive::{AutoDriver, DriveFault, Ran, Unwatched, Watch};
 use vdcp_files::{Input, OutcomeText};
-use vdcp_tcp::address_of;
 use vdcp_text::Failure;
 use vdcp_value::Rate;
-use vdcp_wire::{StreamWire, Wire};
+use vdcp_wire::{StreamWire, Wire, address_of};
 
 /// What a list is played with.
 #[derive(Clone, Copy, Debug, PartialEq, Eq)]
@@ -242,7 +240,9 @@ fn run_list<'a, R: Net + Files + Clock + AllocGlobal, L: io::Read + Drop, V: io:
     ensures played { IfOk result (IsPlayed settings.entry (file list.entry.name (L.remaining list.entry.reader))) }
     ensures unplayed { IfErr result (IsUnplayed settings.entry.rate address.now (file list.entry.name (L.remaining list.entry.reader))) }
 {
-    let address = address_of(address)?;
+    let Ok(address) = address_of(address) else {
+        return Err(Failure::Address);
+    };
     let events = list.read_list(rt.alloc(), settings.rate)?;
     let Ok(stream) = rt.connect(SocketAddr::V4(address)) else {
         return Err(Failure::Connect);
@@ -356,33 +356,19 @@ fn new_controller<S: Source>(source: S, settings: RunSettings<'_>) -> Controller
     }
 }
 
-// Runs an automation, and writes what is reported of it. Of a new controller over a fresh wire that tells
-// its bytes this says what the automation sent, and how its controller ended, whether the wire failed or
-// not.
+// Runs an automation, and writes what is reported of it.
 fn play<'a, R: Files + AllocGlobal, S: Source, W: Wire, V: Watch<S>>(
     rt: &R,
     driver: &mut AutoDriver<S, W>,
     watcher: &mut V,
     settings: RunSettings<'a>,
 ) -> RunEnd<'a>
+    // What the driver's run left and answered, which is how the line ended.
+    ensures leaves { (ran : Result Ran DriveFault) × (result.line ≡ line_end_of ran)
+        × RunLeaves S.items W.told W.failures settings.entry.listens driver.old driver.new ran }
     ensures outcome { result.outcome ≡ turns.outcome_of driver.new.controller.state.stage }
     ensures reported { result.reported ≡ driver.new.controller.state.settled }
     ensures unwritten { MayBeUnwritten settings.entry.asrun result.unwritten }
-    ensures unneeded { result.line ≡ LineEnd.Unneeded → IsSome result.outcome }
-    ensures ended { IsSome result.outcome → (result.line ≡ LineEnd.Unneeded) ⊎ (result.line ≡ LineEnd.Failed) }
-    ensures reached { GoesOn (plan_of S.items driver.old.controller) driver.old.controller.state driver.new.controller.state }
-    ensures line { (t : Told) → W.told driver.old.wire ≡ Some t → result.line ≢ LineEnd.Failed →
-        IfTold (W.told driver.new.wire) (λ u. EndsTo result.line settings.entry.listens t.came u.came) }
-    // Of a new automation: a new controller, and a fresh wire that tells its bytes.
-    ensures run { IsNew driver.old.controller.state driver.old.reader driver.old.heard (W.told driver.old.wire) → result.line ≢ LineEnd.Failed →
-        IfTold (W.told driver.new.wire) (λ u. HasRun (plan_of S.items driver.old.controller) driver.old.unit u driver.new.controller.state) }
-    ensures broken { IsNew driver.old.controller.state driver.old.reader driver.old.heard (W.told driver.old.wire) → W.failures driver.old.wire ≡ 0 →
-        result.line ≡ LineEnd.Failed →
-        IfTold (W.told driver.new.wire) (λ u. HasRunBroken (plan_of S.items driver.old.controller) driver.old.unit u driver.new.controller.state
-        × IsPartlyRun (plan_of S.items driver.old.controller) driver.old.unit u driver.new.controller.state) }
-    ensures controller { driver.new.controller ≡ record driver.old.controller { state = driver.new.controller.state } }
-    ensures works { result.line ≢ LineEnd.Failed → W.failures driver.new.wire ≡ 0 }
-    ensures device { result.line ≡ LineEnd.Failed → W.failures driver.new.wire ≡ 1 }
 {
     let line = LineEnd::of_run(driver.run_watched(u64::from(settings.listens), watcher));
     ended(rt, driver.controller(), line, settings)

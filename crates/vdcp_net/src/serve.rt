@@ -1,11 +1,10 @@
 ghost use Rattle.std.specs.Io.KnownBytes.{Appends, Keeps};
-ghost use Rattle.std.specs.Prelude.{◌≡◌, ◌≢◌, ◌⊎◌, ◌≤◌, IfErr, OnOk, Some};
-ghost use Rattle.vdcp_drive.specs.Served.{HasBrokenOff, IsPartlySent, IsServed};
-ghost use Rattle.vdcp_wire.specs.Wires.{IfTold, Told};
+ghost use Rattle.std.specs.Prelude.{◌≡◌, ◌≢◌, ◌⊎◌, ◌≤◌, IfErr, OnOk, Result};
+ghost use Rattle.vdcp_drive.specs.ServeLeaves.{ServeLeaves};
 ghost use Rattle.vdcp_files.specs.Files.{file};
-ghost use Rattle.vdcp_tcp.specs.Address.{IsAddress};
+ghost use Rattle.vdcp_wire.specs.Address.{IsAddress};
 ghost use Rattle.vdcp_net.specs.Serve.{EndsAs, IsCatalogueRefused, IsServedThere, IsUnserved, IsWholeCatalogue, PrintsEnd};
-ghost use Rattle.vdcp_port.specs.Clock.{ClockedPort, new_port};
+ghost use Rattle.vdcp_port.specs.Clock.{new_port};
 ghost use Rattle.vdcp_text.specs.Failure.{failure_line};
 
 use crate::log::{AirLog, Log, Logged};
@@ -15,10 +14,9 @@ use std::time::Duration;
 use vdcp_drive::{DriveFault, Ran, Server, Unwatched, WatchAir};
 use vdcp_files::Input;
 use vdcp_port::{Catalogue, Port};
-use vdcp_tcp::{accept_one, address_of};
 use vdcp_text::Failure;
 use vdcp_value::Rate;
-use vdcp_wire::{StreamWire, Wire};
+use vdcp_wire::{AcceptFault, StreamWire, Wire, accept_one, address_of};
 
 /// What a channel is served with.
 #[derive(Clone, Copy, Debug, PartialEq, Eq)]
@@ -109,9 +107,15 @@ fn serve<'a, R: Net + AllocGlobal, C: io::Read + Drop, L: io::Write + Drop, W: i
     ensures unserved { IfErr result (IsUnserved settings.rate address.now (file catalogue.entry.name (C.remaining catalogue.entry.reader))
         (W.contents out.old) (W.contents out.new)) }
 {
-    let address = address_of(address)?;
+    let Ok(address) = address_of(address) else {
+        return Err(Failure::Address);
+    };
     let clips = catalogue.read_catalogue(rt.alloc(), settings.rate)?;
-    let stream = accept_one(rt, address, out)?;
+    let stream = match accept_one(rt, address, out) {
+        Ok(stream) => stream,
+        Err(AcceptFault::Bind) => return Err(Failure::Bind),
+        Err(AcceptFault::Writer) => return Err(Failure::Writer),
+    };
     let silence = Duration::from_millis(u64::from(settings.silence));
     let Ok(wire) = StreamWire::new(stream, silence) else {
         return Err(Failure::LineFailed);
@@ -159,17 +163,9 @@ fn serve_turns<'f, C: Catalogue, S: Wire, V: WatchAir, W: io::Write>(
     watcher: &mut V,
     out: &mut W,
 ) -> Result<(), Failure<'f>>
-    // What is printed is how the turns ended.
-    ensures ended { OnOk result (EndsAs turns (S.told server.old.wire) (S.told server.new.wire) (W.contents out.old) (W.contents out.new)) }
-    ensures works { OnOk result (S.failures server.new.wire ≡ 0) }
-    ensures failed { IfErr result (λ e. ((e ≡ Failure.Writer) × (S.failures server.new.wire ≡ 0))
-        ⊎ ((e ≡ Failure.LineFailed) × (S.failures server.new.wire ≡ 1) × Keeps (W.contents out.old) (W.contents out.new))) }
-    // Of a server that began with some port, and has served what its wire tells that came.
-    ensures served { (start : ClockedPort) (t : Told) → S.told server.old.wire ≡ Some t → IsServed start t server.old.port server.old.reader →
-        S.failures server.new.wire ≡ 0 → IfTold (S.told server.new.wire) (λ u. IsServed start u server.new.port server.new.reader) }
-    ensures broken_off { (start : ClockedPort) (t : Told) → S.told server.old.wire ≡ Some t → IsServed start t server.old.port server.old.reader →
-        S.failures server.old.wire ≡ 0 → S.failures server.new.wire ≡ 1 →
-        IfTold (S.told server.new.wire) (λ u. HasBrokenOff start u server.new.port × IsPartlySent start u) }
+    // What the server's turns left and answered, and what is printed of that.
+    ensures leaves { (ran : Result Ran DriveFault) × ServeLeaves S.told S.failures turns server.old server.new ran
+        × EndsAs ran result (W.contents out.old) (W.contents out.new) }
 {
     match server.serve_watched(u64::from(turns), watcher) {
         Ok(ran) => write_end(ran, out).map_err(|_| Failure::Writer),

@@ -37,7 +37,11 @@ short_reply law unit (State bitmap None) w = lit≤ tt
 short_reply law unit (State bitmap (Some state)) w = lit≤ tt
 short_reply law unit (Active None) w = lit≤ tt
 short_reply law unit (Active (Some id)) w =
-    omega (arith, law.counted 8 (id_bytes id) (law.eight id), frame_size (id_bytes id) (check_byte (16 * 3 + unit + 0x87 + sum (1 ∷ id_bytes id))))
+    omega (
+      arith,
+      law.counted 8 (id_bytes id) (law.eight id),
+      frame_size (id_bytes id) (check_byte (16 * 3 + unit + 0x87 + sum (1 ∷ id_bytes id))),
+    )
 short_reply law unit (Size time) w = omega (arith, law.counted 4 time w, frame_size)
 short_reply law unit (Present there) w = lit≤ tt
 
@@ -45,11 +49,14 @@ short_reply law unit (Present there) w = lit≤ tt
 abbrev IsShort : ℕ → Row → Type 0
 IsShort unit r = length (answer_bytes unit (option_to_list r.answer)) ≤ 14
 
-short_answer : ValueBytes → (unit : ℕ) (answer : Option Reply) → IfSome answer IsWritableReply → length (answer_bytes unit (option_to_list answer)) ≤ 14
+short_answer : ValueBytes → (unit : ℕ) (answer : Option Reply) → IfSome answer IsWritableReply
+    → length (answer_bytes unit (option_to_list answer)) ≤ 14
 short_answer law unit None w = lit≤ tt
-short_answer law unit (Some reply) w = omega (arith, short_reply law unit reply w, length-append (reply_bytes unit reply) [])
+short_answer law unit (Some reply) w =
+    omega (arith, short_reply law unit reply w, length-append (reply_bytes unit reply) [])
 
-short_row : ValueBytes → (clips : List (ClipId × Timecode)) (p : PortState) (a : Asked) → IsShort p.unit (asked_row clips p a)
+short_row : ValueBytes → (clips : List (ClipId × Timecode)) (p : PortState) (a : Asked)
+    → IsShort p.unit (asked_row clips p a)
 short_row law clips p asked.Nothing = lit≤ tt
 short_row law clips p asked.NoCommand = lit≤ tt
 short_row law clips p (asked.Command command) = short_answer law p.unit _ (readable_row law.four clips p command)
@@ -84,9 +91,11 @@ one_item_for_five p (framed kind unit code rest) bytes h =
 -- ---- of messages one after another, and of a burst
 
 abbrev pub ShortAnswers : Type 0
-ShortAnswers = (p : ClockedPort) (m : Content) (bytes : List ℕ) → Spells m bytes → length (bytes_for p m) ≤ 3 * length bytes
+ShortAnswers =
+    (p : ClockedPort) (m : Content) (bytes : List ℕ) → Spells m bytes → length (bytes_for p m) ≤ 3 * length bytes
 
-pub short_for_all : ShortAnswers → (p : ClockedPort) (ms : List Content) (bytes : List ℕ) → SpellsAll ms bytes → length (bytes_for_all p ms) ≤ 3 * length bytes
+pub short_for_all : ShortAnswers → (p : ClockedPort) (ms : List Content) (bytes : List ℕ) → SpellsAll ms bytes
+    → length (bytes_for_all p ms) ≤ 3 * length bytes
 short_for_all law p [] bytes spelt = omega arith
 short_for_all law p (m ∷ ms) bytes (first, others, spells, spelt, parts) =
     let now = after_message p m in
@@ -97,23 +106,34 @@ short_for_all law p (m ∷ ms) bytes (first, others, spells, spelt, parts) =
     ∙ ap (λ (bytes : List ℕ). length bytes + length (bytes_for_all now ms)) (bytes_for_alone p m) in
     omega (arith, one, more, both, ap length parts, length-append first others)
 
-items_for_five : (p : ClockedPort) (ms : List Content) (bytes : List ℕ) → SpellsAll ms bytes → 5 * length (aired_on_way p ms) ≤ length bytes
+items_for_five : (p : ClockedPort) (ms : List Content) (bytes : List ℕ) → SpellsAll ms bytes
+    → 5 * length (aired_on_way p ms) ≤ length bytes
 items_for_five p [] bytes spelt = omega arith
 items_for_five p (m ∷ ms) bytes (first, others, spells, spelt, parts) =
     let now = after_message p m in
     let one = one_item_for_five p m first spells in
     let more = items_for_five now ms others spelt in
-    omega (arith, one, more, length-append (option_to_list (aired_by p m)) (aired_on_way now ms), ap length parts, length-append first others)
+    omega (
+      arith,
+      one,
+      more,
+      length-append (option_to_list (aired_by p m)) (aired_on_way now ms),
+      ap length parts,
+      length-append first others,
+    )
 
 short_end : (unit : ℕ) (end : End) → length (answer_bytes unit (end_answers end)) ≤ 2
 short_end unit clean = lit≤ tt
 short_end unit (cut count) = lit≤ tt
 short_end unit (fault which place) = lit≤ tt
 
-size_of_front : (limit : ℕ) (burst whole others : List ℕ) → take limit burst ≡ whole ++ others → length whole ≤ min (length burst) limit
-size_of_front limit burst whole others parts = omega (arith, ap length parts, length-append whole others, length-take limit burst)
+size_of_front : (limit : ℕ) (burst whole others : List ℕ) → take limit burst ≡ whole ++ others
+    → length whole ≤ min (length burst) limit
+size_of_front limit burst whole others parts =
+    omega (arith, ap length parts, length-append whole others, length-take limit burst)
 
-pub fits_most : ShortAnswers → SomeReading → (p : ClockedPort) (burst : List ℕ) → AreOctets burst → length (sent_for p burst) ≤ most_sent burst
+pub fits_most : ShortAnswers → SomeReading → (p : ClockedPort) (burst : List ℕ) → AreOctets burst
+    → length (sent_for p burst) ≤ most_sent burst
 fits_most law reading p burst fits =
     let front = (reading burst fits).front in
     let ms = messages_of burst in
@@ -129,7 +149,8 @@ fits_most law reading p burst fits =
       length-append (bytes_for_all p ms) (answer_bytes p.state.unit (end_answers (end_of burst))),
     )
 
-pub airs_most : SomeReading → (p : ClockedPort) (burst : List ℕ) → AreOctets burst → length (aired_for p burst) ≤ most_aired burst
+pub airs_most : SomeReading → (p : ClockedPort) (burst : List ℕ) → AreOctets burst
+    → length (aired_for p burst) ≤ most_aired burst
 airs_most reading p burst fits =
     let front = (reading burst fits).front in
     let ms = messages_of burst in

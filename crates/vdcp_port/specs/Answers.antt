@@ -29,7 +29,7 @@ abbrev pub after_messages : ClockedPort → List Content → ClockedPort
 after_messages p [] = p
 after_messages p (m ∷ ms) = after_messages (after_message p m) ms
 
--- what is answered, behind the other answers, to how a burst ends
+-- what is answered, after the other answers, to how a burst ends
 abbrev pub end_answers : End → List Reply
 end_answers clean = []
 end_answers (cut count) = Nak 0x80 ∷ []
@@ -55,7 +55,7 @@ bytes_for p m = answer_bytes p.state.unit (option_to_list (answer_to p m))
 abbrev pub items_for : ClockedPort → Content → List Item
 items_for p m = option_to_list (aired_by p m)
 
--- the bytes that go out for messages one after another, and at the burst's end behind them
+-- the bytes that go out for messages one after another, and then at the burst's end
 abbrev pub bytes_for_all : ClockedPort → List Content → List ℕ
 bytes_for_all p ms = answer_bytes p.state.unit (answers_to p ms)
 
@@ -85,7 +85,8 @@ most_aired burst = min (length burst / 5) 1
 
 -- a port has answered a burst's messages, and appended the answers; this item went to air, if one did, and
 -- so the burst ended
-pub record HasAnsweredAll (old now : ClockedPort) (burst out_old out_new : List ℕ) (aired : Option Item) (ended : Ended) : Type 0 where
+pub record HasAnsweredAll (old now : ClockedPort) (burst out_old out_new : List ℕ) (aired : Option Item)
+    (ended : Ended) : Type 0 where
   pub messages : List Content
   pub reads : ReadsAs burst messages ended
   pub sent : out_new ≡ out_old ++ bytes_for_all old messages

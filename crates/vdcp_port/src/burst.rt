@@ -14,12 +14,12 @@ use crate::port::Port;
 use crate::sink::Sink;
 use arrayvec::ArrayVec;
 use std::alloc::{AllocError, Allocator};
-use vdcp_frame::{Ended, LIMIT, Message, Step, read_at, write};
+use vdcp_frame::{Ended, LIMIT, Message, Step, read_at};
 use vdcp_value::Item;
 use vdcp_words::Reply;
 
-/// What a port answers to a burst's end, behind its answers to the burst's messages: nothing where the
-/// burst ends behind a whole message, NAK 80h where it ends inside one, and NAK 04h behind a fault (this
+/// What a port answers to a burst's end, after its answers to the burst's messages: nothing where the
+/// burst ends after a whole message, NAK 80h where it ends inside one, and NAK 04h after a fault (this
 /// profile).
 pub fn reply_at_end(ended: Ended) -> Option<Reply>
     ensures exact { result ≡ reply_at_end ended }
@@ -55,7 +55,8 @@ impl<C: Catalogue> Port<C> {
         ensures aired { OnOk result (aired.new.items ≡ aired.old.items ++ aired_for self.old burst.now) }
         ensures next { OnOk result (self.new ≡ after_burst self.old burst.now) }
 
-        ensures refused { OnErr result ((self.new ≡ self.old) × (out.new.items ≡ out.old.items) × (aired.new.items ≡ aired.old.items)) }
+        ensures refused { OnErr result
+            ((self.new ≡ self.old) × (out.new.items ≡ out.old.items) × (aired.new.items ≡ aired.old.items)) }
         ensures succeeds { vec_len out.old + most_sent burst.now ≤ vec_capacity out.old →
             vec_len aired.old + most_aired burst.now ≤ vec_capacity aired.old → IsOk result }
     {
@@ -104,7 +105,8 @@ impl<C: Catalogue> Port<C> {
     // Answers the messages of a burst.
     fn answer_messages<S: Sink>(&mut self, burst: &[u8], out: &mut S) -> (Option<Item>, Ended)
         requires { most_sent burst.now ≤ S.room out.old }
-        ensures answered { HasAnsweredAll self.old self.new burst.now (S.written out.old) (S.written out.new) result.0 result.1 }
+        ensures answered { HasAnsweredAll self.old self.new burst.now (S.written out.old)
+            (S.written out.new) result.0 result.1 }
         ensures room { 2 ≤ S.room out.new }
     {
         laws::an_answer_is_short();
@@ -186,9 +188,5 @@ fn append_reply<S: Sink>(reply: &Reply, unit: u8, out: &mut S)
     ensures written { S.written out.new ≡ S.written out.old ++ reply_bytes unit reply.now }
     ensures room { S.room out.old ≤ S.room out.new + length (reply_bytes unit reply.now) }
 {
-    let mut room = [0; 16];
-    let message = reply.to_message(unit, &mut room);
-    let mut bytes = ArrayVec::<u8, 512>::new();
-    write(&message, &mut bytes).unwrap();
-    out.append(bytes.as_slice());
+    out.append(reply.encode(unit).as_slice());
 }

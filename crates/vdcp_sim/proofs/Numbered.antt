@@ -22,18 +22,23 @@ numbered-push : {A : Type 0} (text : ℕ → A → List ℕ) (n : ℕ) (xs : Lis
 numbered-push text n [] x = rw add-zero (append-nil (text n x))
 numbered-push text n (first ∷ xs) x =
     let size : suc n + length xs ≡ n + suc (length xs) = omega arith in
-    ap (λ rest. text n first ++ rest) (numbered-push text (suc n) xs x ∙ ap (λ m. numbered text (suc n) xs ++ text m x) size)
+    ap (λ rest. text n first ++ rest)
+    (numbered-push text (suc n) xs x ∙ ap (λ m. numbered text (suc n) xs ++ text m x) size)
     ∙ sym (append_assoc (text n first) (numbered text (suc n) xs) (text (n + suc (length xs)) x))
 
 -- the texts of the things before k, and that of thing k
-numbered-take : {A : Type 0} (text : ℕ → A → List ℕ) (n : ℕ) (xs : List A) (k : ℕ) (x : A) (number : ℕ) → slice_get xs k ≡ Some x
+numbered-take : {A : Type 0} (text : ℕ → A → List ℕ) (n : ℕ) (xs : List A) (k : ℕ) (x : A) (number : ℕ)
+    → slice_get xs k ≡ Some x
     → number ≡ n + k → numbered text n (take k xs) ++ text number x ≡ numbered text n (take (k + 1) xs)
 numbered-take text n xs k x number at e =
     let size : number ≡ n + length (take k xs) = omega (arith, e, taken xs k x at) in
-    ap (λ m. numbered text n (take k xs) ++ text m x) size ∙ sym (numbered-push text n (take k xs) x) ∙ ap (numbered text n) (sym (take_more xs k x at))
+    ap (λ m. numbered text n (take k xs) ++ text m x) size ∙ sym (numbered-push text n (take k xs) x)
+    ∙ ap (numbered text n) (sym (take_more xs k x at))
 
-pub appends_next : {A : Type 0} (text : ℕ → A → List ℕ) (n : ℕ) (xs : List A) (k : ℕ) (x : A) (number : ℕ) (old middle new : Option (List ℕ))
-    → slice_get xs k ≡ Some x → number ≡ n + k → Appends old middle (numbered text n (take k xs)) → Appends middle new (text number x)
+pub appends_next : {A : Type 0} (text : ℕ → A → List ℕ) (n : ℕ) (xs : List A) (k : ℕ) (x : A) (number : ℕ)
+    (old middle new : Option (List ℕ))
+    → slice_get xs k ≡ Some x → number ≡ n + k → Appends old middle (numbered text n (take k xs))
+    → Appends middle new (text number x)
     → Appends old new (numbered text n (take (k + 1) xs))
 appends_next text n xs k x number None middle new at e before now = tt
 appends_next text n xs k x number (Some old) None new at e before now = absurd before

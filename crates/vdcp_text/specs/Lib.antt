@@ -2,6 +2,9 @@
 pub mod Meaning
 pub mod Text
 pub mod End
+pub mod Items
+pub mod Outcome
+pub mod Exchange
 pub mod Failure
 pub mod Show
 pub mod Make

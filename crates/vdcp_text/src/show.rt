@@ -18,10 +18,10 @@ use vdcp_frame::{Step, read_at};
 /// Shows the burst that hexadecimal digits spell: a line for each of its messages, with `meanings`
 /// also the command or reply that it carries, and then one for its end.
 ///
-/// The status is 0 where the end is clean, and 1 where it isn't. It is 1 too where `hex` isn't an
-/// even number of hexadecimal digits, and 3 where memory was refused; `err` is told of both. It
-/// is 3 where a writer failed, to which nothing more is written; `out` is flushed behind the last
-/// line.
+/// The status is 0 where the end is clean, and 1 where it isn't. It is also 1 where `hex` isn't an
+/// even number of hexadecimal digits, and 3 where memory was refused; `err` gets a line of either.
+/// It is 3 where a writer failed: nothing more is written to that one. `out` is flushed after the
+/// last line.
 pub fn do_show<A: Allocator, W: io::Write, E: io::Write>(
     alloc: A,
     hex: &str,
@@ -33,7 +33,8 @@ pub fn do_show<A: Allocator, W: io::Write, E: io::Write>(
         IsShown meanings burst (W.contents out.old) (W.contents out.new) result) }
     ensures silent { OnErr (decode_of hex.now) (Keeps (W.contents out.old) (W.contents out.new)) }
     ensures refused { OnErr (decode_of hex.now) ((result ≡ 1) ⊎ (result ≡ 3)) }
-    ensures told { OnErr (decode_of hex.now) (result ≡ 1 → Appends (E.contents err.old) (E.contents err.new) (failure_line Failure.Hex)) }
+    ensures told { OnErr (decode_of hex.now)
+        (result ≡ 1 → Appends (E.contents err.old) (E.contents err.new) (failure_line Failure.Hex)) }
     ensures untold { OnOk (decode_of hex.now) (result < 2 → Keeps (E.contents err.old) (E.contents err.new)) }
     ensures statuses { (result < 2) ⊎ (result ≡ 3) }
 {
@@ -67,7 +68,8 @@ fn show<A: Allocator, W: io::Write>(
 
 // Writes a burst's reading, and gives its end.
 fn write_reading<W: io::Write>(out: &mut W, meanings: bool, burst: &[u8]) -> io::Result<End>
-    ensures { IfOk result (λ end. GainsReading meanings burst.now (W.contents out.old) (W.contents out.new) (end_of end)) }
+    ensures { IfOk result (λ end. GainsReading meanings burst.now (W.contents out.old) (W.contents out.new)
+        (end_of end)) }
 {
     let end = write_messages(out, meanings, burst)?;
     writeln!(out, "{end}")?;

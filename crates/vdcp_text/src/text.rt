@@ -127,9 +127,9 @@ impl fmt::Display for MeaningText<'_> {
 /// How the reading of a burst ends.
 #[derive(Clone, Copy)]
 pub enum End {
-    /// Behind a whole message, or with no byte.
+    /// After a whole message, or with no byte.
     Clean,
-    /// Inside a message, of which there are so many bytes.
+    /// Inside a message, of which this many bytes are there.
     Cut(usize),
     /// At a fault, whose place is counted from 1 at the burst's first byte.
     Fault(Fault, usize),

@@ -7,7 +7,8 @@ use Rattle.vdcp_port.proofs.port.Port.answer_messages.Goals as goal
 
 pub answer_message-requires : goal.answer_message-requires
 answer_message-requires g c =
-    let short = c.an_answer_is_short.ensures c.messages.self (content_of c.in-Message.message) _ c.in-Message.ensures.message in
+    let short = c.an_answer_is_short.ensures c.messages.self
+    (content_of c.in-Message.message) _ c.in-Message.ensures.message in
     let size = size_of_range c.args.burst.now c.messages.from c.in-Message.next c.in-Message.ensures.further.0 c.in-Message.ensures.further.2 in
     omega (arith, short, size, c.in-Message.ensures.further, c.messages.invariant.room)
 
@@ -26,5 +27,12 @@ messages-preserved g c =
             (c.in-Message.ensures.next walked.messages walked.answered.spelt)
             c.answer_message.ensures.sent c.answer_message.ensures.aired c.answer_message.ensures.next c.or-aired.ensures;
       };
-      room = omega (arith, short, size, c.answer_message.ensures.room, c.messages.invariant.room, c.in-Message.ensures.further);
+      room = omega (
+        arith,
+        short,
+        size,
+        c.answer_message.ensures.room,
+        c.messages.invariant.room,
+        c.in-Message.ensures.further,
+      );
     }
