@@ -2,6 +2,9 @@
 //! queue each way, and may come after the time-out that it should have beaten.
 #![tactic(auto)]
 
+mod damage;
 mod event;
+mod link;
+mod queue;
 
 pub use event::LateEvent;
