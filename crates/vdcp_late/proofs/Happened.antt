@@ -35,7 +35,7 @@ step_reached c e r = record {
   of_bytes = r.of_bytes;
   can_start = r.can_start;
   led =
-    ap (λ x. after_late_event x e) r.led ∙ sym (after_all (new_late_channel r.plan r.port) r.events (e ∷ []));
+      ap (λ x. after_late_event x e) r.led ∙ sym (after_all (new_late_channel r.plan r.port) r.events (e ∷ []));
 }
 
 -- a step that was taken or refused leaves such a channel

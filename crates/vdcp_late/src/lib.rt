@@ -23,3 +23,6 @@ mod world;
 
 pub use event::LateEvent;
 pub use world::LateWorld;
+
+#[cfg(test)]
+mod tests;

@@ -99,11 +99,23 @@ impl<S: Source, C: Catalogue, A: Allocator + Copy> LateLink<S, C, A> {
         match event {
             LateEvent::Tick => tick(self.alloc, &mut self.controller, unit, &mut self.down)?,
             LateEvent::Down => {
-                deliver(self.alloc, &mut self.port, &self.down, &mut self.up, &mut self.aired)?;
+                deliver(
+                    self.alloc,
+                    &mut self.port,
+                    &self.down,
+                    &mut self.up,
+                    &mut self.aired,
+                )?;
                 drop_oldest(&mut self.down);
             }
             LateEvent::DownCopy => {
-                deliver(self.alloc, &mut self.port, &self.down, &mut self.up, &mut self.aired)?;
+                deliver(
+                    self.alloc,
+                    &mut self.port,
+                    &self.down,
+                    &mut self.up,
+                    &mut self.aired,
+                )?;
             }
             LateEvent::Up => {
                 hear(&mut self.controller, unit, &self.up, &mut self.log)?;
@@ -158,7 +170,9 @@ fn tick<S: Source, A: Allocator + Copy>(
     let mut bytes = Vec::with_capacity(alloc, LONGEST)?;
     down.reserve(1)?;
     if let Some(command) = controller.tick() {
-        bytes.extend_from_slice(command.encode(unit).as_slice()).unwrap();
+        bytes
+            .extend_from_slice(command.encode(unit).as_slice())
+            .unwrap();
         down.push_back_reserved(Waiting::new(bytes));
     }
     Ok(())
