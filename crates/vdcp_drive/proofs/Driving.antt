@@ -16,16 +16,17 @@ use Rattle.vdcp_auto.specs.Course.{course, course_from, after_input, after_input
 use Rattle.vdcp_auto.specs.Heard.{heard_first, heard_in}
 use Rattle.vdcp_auto.specs.Plan.{Plan, View, plan_of}
 use Rattle.vdcp_auto.specs.Turn.{start, is_awaiting, outcome_of, awaited, given, given_in, ticked, tick_in, awaited_in}
-use Rattle.vdcp_auto.specs.Turn.{came_to, ended_by, ended_in, exchange_of, is_end, turn_of, unanswered_after, turned}
+use Rattle.vdcp_auto.specs.Turn as turns
+use Rattle.vdcp_auto.specs.Turn.{came_to, ended_by, ended_in, exchange_of, is_end, transition_of, unanswered_after}
 use Rattle.vdcp_auto.specs.declared.exchange.Exchange.{Exchange}
 use Rattle.vdcp_auto.specs.declared.exchange.Heard.{Heard}
 use Rattle.vdcp_auto.specs.declared.exchange.Input.{Input}
 use Rattle.vdcp_auto.specs.declared.phase.Mode.{Mode}
-use Rattle.vdcp_auto.specs.declared.phase.Stage.{Stage}
-use Rattle.vdcp_auto.specs.declared.phase.Stage.TheVariants.{Ready, Awaiting, Ended}
-use Rattle.vdcp_auto.specs.declared.phase.State.{State}
-use Rattle.vdcp_auto.specs.declared.phase.Turn.{Turn}
-use Rattle.vdcp_auto.specs.declared.phase.Turn.TheVariants.{Goes, Settles, Retries, Ends}
+use Rattle.vdcp_auto.specs.State.{Stage}
+use Rattle.vdcp_auto.specs.State.{Ready, Awaiting, Ended}
+use Rattle.vdcp_auto.specs.State.{State}
+use Rattle.vdcp_auto.specs.declared.phase.Transition.{Transition}
+use Rattle.vdcp_auto.specs.declared.phase.Transition.TheVariants.{Goes, Settles, Retries, Ends}
 use Rattle.vdcp_drive.specs.Bursts.{finished_bursts, open_burst, is_within_burst}
 use Rattle.vdcp_drive.specs.Driven.{input_of, inputs_of, state_between, state_after, commands_of, commands_by, bytes_of, starts_behind, starts_of}
 use Rattle.vdcp_drive.specs.Driven.{IsNew, HasRun, HasRunBroken, IsPartlyRun, in_drop, in_send, in_listen, states_listening, states_watched}
@@ -80,7 +81,7 @@ abbrev command_of : Exchange → Command
 command_of e = e.command
 
 -- the exchange that ends takes its command from what is awaited to the log
-awaits_none : (plan : Plan) (turn : Turn) (n : ℕ) (s : State) → awaited plan (turned turn n s) ≡ None
+awaits_none : (plan : Plan) (transition : Transition) (n : ℕ) (s : State) → awaited plan (turns.state_after transition n s) ≡ None
 awaits_none plan (Goes p) n s = refl
 awaits_none plan (Settles k) n s = refl
 awaits_none plan (Retries k) n s = refl
@@ -101,7 +102,7 @@ none_ends plan h s is = ap (λ (e : Option Exchange). option_to_list (option_map
 awaits_none_in : (plan : Plan) (stage : Stage) (e : Exchange) (s : State) → awaited_in plan stage ≡ Some e.command
     → awaited plan (ended_in plan stage e s) ≡ None
 awaits_none_in plan (Ready p) e s h = cc
-awaits_none_in plan (Awaiting p) e s h = awaits_none plan (turn_of plan s p e) (unanswered_after plan.mode e s.unanswered) s
+awaits_none_in plan (Awaiting p) e s h = awaits_none plan (transition_of plan s p e) (unanswered_after plan.mode e s.unanswered) s
 awaits_none_in plan (Ended outcome) e s h = cc
 
 one_ends : (plan : Plan) (h : Option Heard) (s : State) (e : Exchange) → ended_by plan h s ≡ Some e → awaited plan s ≡ Some e.command → KeepsAwaited plan h s

@@ -13,7 +13,8 @@ use Rattle.vdcp_wire.specs.Wires.{IfTold, Told}
 
 -- a run of at most this many listens gave this answer, and left the new automation of the old one. Of a wire its
 -- failures are known, and what it tells, if it tells its bytes
-pub record RunLeaves {S W : Type 0} (items : S → List Item) (told : W → Option Told) (failures : W → ℕ) (listens : ℕ) (old new : Driving S W)
+pub record RunLeaves {S W : Type 0} (items : S → List Item) (told : W → Option Told) (failures : W → ℕ) (listens : ℕ)
+    (old new : Driving S W)
     (answer : Result Ran DriveFault) : Type 0 where
   -- of a new automation: what is sent and dropped, and the controller
   pub run : IsNew told old → OnOk answer (IfTold (told new.wire) (λ u.

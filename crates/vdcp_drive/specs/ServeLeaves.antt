@@ -11,8 +11,8 @@ use Rattle.vdcp_wire.specs.Wires.{IfTold, Told}
 
 -- at most this many turns gave this answer, and left the new server of the old one. Of a wire its failures are known,
 -- and what it tells, if it tells its bytes
-pub record ServeLeaves {W : Type 0} (told : W → Option Told) (failures : W → ℕ) (turns : ℕ) (old new : Serving W) (answer : Result Ran DriveFault) : Type
-    0 where
+pub record ServeLeaves {W : Type 0} (told : W → Option Told) (failures : W → ℕ) (turns : ℕ) (old new : Serving W)
+    (answer : Result Ran DriveFault) : Type 0 where
   -- of a new server: what is sent, and the port
   pub sent : IsNewServer told old → OnOk answer (IfTold (told new.wire) (λ u. u.sent ≡ served old.port u.came))
   pub port : IsNewServer told old → OnOk answer (IfTold (told new.wire) (λ u. new.port ≡ port_after old.port u.came))

@@ -1,7 +1,9 @@
 -- The lines of one more event.
 use Rattle.std.proofs.Common.{◌≡◌, ℕ, ◌+◌, Bool, true, false, List, [], ◌∷◌, ◌++◌, length, take, refl, sym, ap, ◌∙◌, arith, zero, suc, add-one}
 use Rattle.std.proofs.Common.{add-zero, zero-add, append_assoc, append-nil}
+use Rattle.std.proofs.Math.Seq.{take-suc}
 use Rattle.std.proofs.lemmas.List.Folds.{list_all-append}
+use Rattle.std.proofs.lemmas.Option.{get_or_from_slice_get, slice_get_within}
 use Rattle.std.specs.Io.KnownBytes.{Appends, Keeps}
 use Rattle.std.specs.Prelude.{Option, None, Some, is_none, is_some, not, slice_get, ◌&&◌, if◌then◌else◌}
 use Rattle.vdcp_files.specs.declared.check.EventFault.TheVariants.{Outside}
@@ -14,15 +16,11 @@ use Rattle.vdcp_value.specs.declared.part.Item.{Item}
 use Rattle.vdcp_value.specs.declared.part.Part.{Part}
 use Rattle.vdcp_value.specs.declared.timecode.Timecode.{Timecode}
 
-take_next : (items : List Item) (k : ℕ) (item : Item) → slice_get items k ≡ Some item
-    → take (suc k) items ≡ take k items ++ item ∷ []
-take_next [] k item e = cc e
-take_next (first ∷ items) zero item e = let same : first ≡ item = cc e in ap (λ i. i ∷ []) same
-take_next (first ∷ items) (suc k) item e = ap (λ is. first ∷ is) (take_next items k item e)
-
 take_more : (items : List Item) (k : ℕ) (item : Item) → slice_get items k ≡ Some item
     → take (k + 1) items ≡ take k items ++ item ∷ []
-take_more items k item e = rw (add-one k) (take_next items k item e)
+take_more items k item e =
+    let last = take-suc items k item (slice_get_within items k item e) in
+    rw (add-one k, last, get_or_from_slice_get items k item item e) refl
 
 and_true : (b : Bool) → b ≡ (b && true)
 and_true true = refl

@@ -2,15 +2,14 @@
 use Rattle.csv.specs.Records.{field_at}
 use Rattle.std.proofs.Common.{◌≡◌, ℕ, ◌+◌, ◌≤◌, ◌<◌, suc, true, false, List, [], ◌∷◌}
 use Rattle.std.proofs.Common.{◌++◌, length, sym, ap, ap₂, subst, ◌∙◌, arith, append_assoc, append-nil}
+use Rattle.std.proofs.lemmas.Grind.{flat_map-append}
 use Rattle.std.proofs.lemmas.List.{length-append, length-map, map-append}
-use Rattle.std.specs.Prelude.{IfNone, IfOk, Result, Ok, Err, Option, None, Some, option_map, string_bytes}
+use Rattle.std.specs.Prelude.{IfNone, IfOk, Result, Ok, Err, Option, None, Some, codes, option_map, string_bytes}
 use Rattle.vdcp_files.specs.Vectors.{Finding, HasTooMany, IsTally, IsTallyOf, bad_count, columns, finding_of_row}
-use Rattle.vdcp_files.specs.Vectors.{finding_text, findings_of, findings_text, got, joined_reading, joined_text, hex, right}
-use Rattle.vdcp_text.specs.Text.{end_text}
+use Rattle.vdcp_files.specs.Vectors.{finding_text, findings_of, findings_text, got, joined_text, hex, right}
+use Rattle.vdcp_text.specs.Text.{message_text}
 use Rattle.vdcp_files.specs.declared.vectors.Tally.{Tally}
-use Rattle.vdcp_frame.specs.Burst.{messages_of, end_of}
 use Rattle.vdcp_frame.specs.Message.{Content}
-use Rattle.vdcp_frame.specs.Reading.{End}
 use Rattle.vdcp_list.specs.Reading.{IsFront, TakesRow}
 use Rattle.vdcp_list.specs.Rows.{AreRowsOf, FileRow, HasRows, most_rows, rows_of}
 
@@ -180,7 +179,9 @@ pub if_ok : {T E : Type 0} (P : T → Type 0) (r : Result T E) (x : T) → IfOk 
 if_ok P (Ok y) x h e = let same : y ≡ x = cc e in subst P same h
 if_ok P (Err f) x h e = cc e
 
--- the one reading of a burst, joined
-pub joined_is : (burst : List ℕ) (ms : List Content) (end : End) → (ms ≡ messages_of burst) × (end ≡ end_of burst)
-    → joined_text ms ++ end_text end ≡ joined_reading burst
-joined_is burst ms end one = ap₂ (λ m e. joined_text m ++ end_text e) one.0 one.1
+-- the line of the next message
+pub joined_text-push : (ms : List Content) (m : Content)
+    → joined_text (ms ++ m ∷ []) ≡ joined_text ms ++ (message_text m ++ codes "; ")
+joined_text-push ms m =
+    flat_map-append (λ m. message_text m ++ codes "; ") ms (m ∷ [])
+    ∙ ap (λ text. joined_text ms ++ text) (append-nil (message_text m ++ codes "; "))

@@ -2,12 +2,12 @@ ghost use Rattle.csv.specs.Records.{fields_of};
 ghost use Rattle.hex.specs.Hex.{decode_of};
 ghost use Rattle.std.specs.Io.KnownBytes.{Appends, Keeps};
 ghost use Rattle.std.specs.Prelude.{◌≡◌, ◌⊎◌, ◌<◌, ◌≤◌, ℕ, ◌≢◌, ◌++◌, ◌∷◌, [], IfErr, IfNone, IfOk, IfSome, List, OnOk, codes, length, string_bytes};
-ghost use Rattle.vdcp_text.specs.End.{end_of};
 ghost use Rattle.vdcp_text.specs.Failure.{failure_line};
 ghost use Rattle.vdcp_text.specs.Text.{message_text};
 ghost use Rattle.vdcp_files.specs.Vectors.{AreTested, Finding, HasTooMany, IsTally, IsTallyOf, IsUntested, bad_count, finding_of, finding_of_burst, finding_of_row, finding_text, joined_reading, joined_text, too_many, vectors_text};
-ghost use Rattle.vdcp_frame.specs.Message.{Content, content_of};
-ghost use Rattle.vdcp_frame.specs.Reading.{Reads};
+ghost use Rattle.vdcp_frame.specs.Burst.{end_of, messages_of};
+ghost use Rattle.vdcp_frame.specs.Message.{content_of};
+ghost use Rattle.vdcp_frame.specs.Walk.{end_seen};
 ghost use Rattle.vdcp_list.specs.Rows.{most_rows, rows_of};
 
 use crate::named_file::{NamedFile, file_failure};
@@ -16,11 +16,10 @@ use hex::FromHexError;
 use std::alloc::{AllocError, Global};
 use std::fmt::Write;
 use std::{fmt, io};
-use vdcp_frame::laws::one_reading;
-use vdcp_frame::{Message, Step, read_at};
+use vdcp_frame::{End, Message, Messages};
 use vdcp_list::laws::rows_are_read_in_order;
 use vdcp_list::{MAX_ROWS, next_row, rows_in};
-use vdcp_text::{End, Failure, MessageText, RowFault};
+use vdcp_text::{EndText, Failure, MessageText, RowFault};
 
 /// Tests each row of a vector file: a burst in hexadecimal digits, and its reading, the lines of
 /// which are joined by `; `. It is CSV with commas and double quotes, without a header row, and
@@ -183,29 +182,22 @@ fn test_burst<'a>(
 fn show_reading(burst: &[u8], text: &mut String) -> Result<(), AllocError>
     ensures { OnOk result (string_bytes text.new ≡ joined_reading burst.now) }
 {
-    one_reading();
     let end = show_messages(burst, text)?;
+    let end = EndText(end);
     write!(text, "{end}")
 }
 
 // Writes the lines of a burst's messages in place of the text, and gives the burst's end.
 fn show_messages(burst: &[u8], text: &mut String) -> Result<End, AllocError>
-    ensures { IfOk result (λ end. (ms : List Content) × Reads burst.now ms (end_of end)
-        × (string_bytes text.new ≡ joined_text ms)) }
+    ensures end { IfOk result (λ end. end_seen end ≡ end_of burst.now) }
+    ensures text { OnOk result (string_bytes text.new ≡ joined_text (messages_of burst.now)) }
 {
     text.clear();
-    let mut from = 0;
-    loop {
-        match read_at(burst, from) {
-            Step::Message(message, next) => {
-                write_message(message, text)?;
-                from = next;
-            }
-            Step::Clean => return Ok(End::Clean),
-            Step::Cut(count) => return Ok(End::Cut(count)),
-            Step::Fault(fault, place) => return Ok(End::Fault(fault, place)),
-        }
+    let mut messages = Messages::of(burst);
+    'messages: while let Some(message) = messages.next() {
+        write_message(message, text)?;
     }
+    Ok(messages.end())
 }
 
 // Adds the line of a message.

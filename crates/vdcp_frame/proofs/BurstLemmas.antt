@@ -47,8 +47,8 @@ ends_at before remainder (part needs) is none = ends_unfinished before remainder
 ends_at before remainder (wrong which size) is none = (size, is.first, refl, is.fault_is)
 ends_at before remainder (found m size) is none = absurd (none m (take size remainder) (drop size remainder) is.spelt (sym (take-append-drop size remainder)))
 
-reads_short : (bytes : List ℕ) → AreOctets bytes → ReadsShort bytes (messages_within (length bytes) bytes) (short_end bytes)
-reads_short bytes fits =
+pub reads_short_computed : (bytes : List ℕ) → AreOctets bytes → ReadsShort bytes (messages_within (length bytes) bytes) (short_end bytes)
+reads_short_computed bytes fits =
     let s = split_within (length bytes) bytes (omega arith) fits in
     let remainder : List ℕ = left_within (length bytes) bytes in
     let before : length s.whole ≡ length bytes - length remainder = omega (arith, ap (length {A = ℕ}) s.parts, length-append s.whole remainder) in
@@ -67,6 +67,6 @@ pub reads_computed : (limit : ℕ) (burst : List ℕ) → AreOctets burst
     (cond (ltb limit (length burst)) (long_end limit (short_end (take limit burst))) (short_end (take limit burst)))
 reads_computed limit burst fits = record {
   short = short_end (take limit burst);
-  front = reads_short (take limit burst) (All-take (λ b. b < 256) limit burst fits);
+  front = reads_short_computed (take limit burst) (All-take (λ b. b < 256) limit burst fits);
   long = refl;
 }

@@ -13,7 +13,7 @@ use Rattle.vdcp_frame.specs.Head.{IsPart, IsWrong, IsFound}
 use Rattle.vdcp_frame.specs.Place.{progress_at, Holds, IsPlace, Fills}
 use Rattle.vdcp_frame.specs.Progress.{Progress, reading, failed}
 use Rattle.vdcp_frame.specs.Reader.{Answer, message, more, wrong, TakesMessage, TakesAll, TakesWrong, TakesLong, TakesFault, Gives, fed}
-use Rattle.vdcp_frame.proofs.HeadLemmas.{Begins-take, Unfinished-nil, part_unfinished, part_first}
+use Rattle.vdcp_frame.proofs.HeadLemmas.{Begins-take, part_unfinished, part_first}
 
 not_long : (front : List ℕ) → Long ≡ fault_of front → ⊥
 not_long [] e = cc

@@ -9,3 +9,4 @@ pub mod ReaderLemmas
 pub mod FeedLemmas
 pub mod PieceLemmas
 pub mod FollowLemmas
+pub mod WalkLemmas

@@ -1,5 +1,5 @@
 -- Each burst has exactly one reading, and a step along it is a step of the reading.
-use Rattle.std.proofs.Common.{◌≡◌, ◌⊎◌, ℕ, ◌+◌, ◌-◌, ◌*◌, ◌%◌, ◌<◌, ◌≤◌, Bool, true, false, cond, ltb, List, [], ◌∷◌, ◌++◌, length, take, drop, sum}
+use Rattle.std.proofs.Common.{◌≡◌, ℕ, ◌+◌, ◌-◌, ◌*◌, ◌%◌, ◌<◌, ◌≤◌, Bool, true, false, cond, ltb, List, [], ◌∷◌, ◌++◌, length, take, drop, sum}
 use Rattle.std.proofs.Common.{refl, sym, ap, subst, ◌∙◌, append_assoc, arith, inl, inr, length-append}
 use Rattle.std.proofs.lemmas.Bool.{cases_lt, lt-ltb, le-ltb}
 use Rattle.std.proofs.lemmas.List.{take_at, take-append-drop, length-take, length-drop, append-nil, append_cancel_left, take_all, take-take}
@@ -64,7 +64,7 @@ SpellsAll-append (m ∷ ms) ns a b p q =
 
 -- ---- one reading
 
-same_whole : (ms ns : List Content) (a b x y : List ℕ) → SpellsAll ms a → SpellsAll ns b → HasNoFront x → HasNoFront y → a ++ x ≡ b ++ y
+pub same_whole : (ms ns : List Content) (a b x y : List ℕ) → SpellsAll ms a → SpellsAll ns b → HasNoFront x → HasNoFront y → a ++ x ≡ b ++ y
     → (ms ≡ ns) × (a ≡ b) × (x ≡ y)
 same_whole [] [] a b x y p q no_x no_y e =
     (refl, p ∙ sym q, sym (ap (λ (f : List ℕ). f ++ x) p) ∙ e ∙ ap (λ (f : List ℕ). f ++ y) q)

@@ -9,3 +9,4 @@ pub mod Progress
 pub mod Reader
 pub mod Place
 pub mod Pieces
+pub mod Walk

@@ -22,7 +22,7 @@ pub struct Reader {
 }
 
 /// Where a reader is in a burst.
-#[derive(Clone, Copy, Debug, PartialEq, Eq)]
+#[derive(Clone, Copy)]
 pub(crate) enum Place {
     /// After `taken` bytes. The last `held` of them are the first ones of the buffer, and part of a
     /// message that has `needs` bytes at least.

@@ -23,13 +23,12 @@ pub struct LossySettings {
     pub seed: u32,
     /// What is done with how many bursts.
     pub chances: Chances,
-    /// A burst has ended when nothing has come for so many milliseconds, 1 to 60,000. It has to be longer than
-    /// the server's.
+    /// How long a silence ends a burst, in milliseconds, 1 to 60,000. It has to be longer than the server's.
     pub silence: u32,
-    /// Nothing goes on so many milliseconds after its command has come, or later, 1 to 60,000. It has to be
-    /// shorter than the automation's silence.
+    /// How long after its command anything may still go on, in milliseconds, 1 to 60,000. It has to be shorter than the
+    /// automation's silence.
     pub within: u32,
-    /// So many waits are made at most, each for bytes or for a silence.
+    /// The most waits that are made, each for bytes or for a silence.
     pub turns: u32,
 }
 
@@ -39,8 +38,8 @@ pub struct LossySettings {
 /// whether either end has `closed` or the turns are `spent`, and nine counts. Each line is flushed at once.
 ///
 /// The status is 0 where it came to that end. It is 2 where `address` or `server` isn't an address, and 3 where
-/// `address` can't be listened at, nobody takes the connection to the server, or the line failed; `err` is told of
-/// these. The status is 3 where `out` failed, to which nothing more is written.
+/// `address` can't be listened at, nobody takes the connection to the server, or the line failed; `err` gets a line
+/// of these. The status is 3 where `out` failed, to which nothing more is written.
 pub fn do_lossy<R: Net + Clock, W: io::Write, E: io::Write>(
     rt: &R,
     address: &str,

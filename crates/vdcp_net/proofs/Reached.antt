@@ -5,7 +5,7 @@ use Rattle.vdcp_auto.specs.Course.{Reached, begun}
 use Rattle.vdcp_auto.specs.Plan.{View, plan_of}
 use Rattle.vdcp_auto.specs.Turn.{new_controller, outcome_of}
 use Rattle.vdcp_auto.specs.declared.exchange.Exchange.{Exchange}
-use Rattle.vdcp_auto.specs.declared.phase.State.{State}
+use Rattle.vdcp_auto.specs.State.{State}
 use Rattle.vdcp_auto.specs.declared.outcome.Outcome.{Outcome}
 use Rattle.vdcp_drive.specs.Driven.{GoesOn}
 use Rattle.vdcp_drive.specs.Hearing.{Driving}

@@ -1,6 +1,6 @@
 -- How long the answers to a message and to a burst are at most.
-use Rattle.std.proofs.Common.{ℕ, sum, min, take, ◌∙◌, ◌≡◌, ◌+◌, ◌*◌, ◌-◌, ◌<◌, ◌≤◌, drop, slice_range, List, [], ◌∷◌, ◌++◌, length, arith, lit≤, length-append, ap}
-use Rattle.std.proofs.lemmas.List.{length-take, length-take-le, length-drop}
+use Rattle.std.proofs.Common.{ℕ, sum, min, take, ◌∙◌, ◌≡◌, ◌+◌, ◌*◌, ◌≤◌, List, [], ◌∷◌, ◌++◌, length, arith, lit≤, length-append, ap}
+use Rattle.std.proofs.lemmas.List.{length-take}
 use Rattle.std.specs.Option.{option_to_list}
 use Rattle.std.specs.Prelude.{Option, None, Some, IfSome}
 use Rattle.vdcp_value.specs.Ids.{id_bytes}
@@ -19,7 +19,7 @@ use Rattle.vdcp_port.specs.Port.{PortState}
 use Rattle.vdcp_port.specs.Row.{Row, Change, keeps, opens, closes, selects, cues, airs, stops, asked_row, message_row, on_air}
 use Rattle.vdcp_port.specs.declared.asked.Asked.{Asked}
 use Rattle.vdcp_port.specs.declared.asked.Asked.TheVariants as asked
-use Rattle.vdcp_port.proofs.Answering.{bytes_for_alone, bytes_for_both, sent_in_parts}
+use Rattle.vdcp_port.proofs.Answering.{bytes_for_first, sent_in_parts}
 use Rattle.vdcp_port.proofs.Bursts.{one_at_most}
 use Rattle.vdcp_port.proofs.LawsBelow.{ValueBytes, SomeReading}
 use Rattle.vdcp_port.proofs.Readable.{readable_row}
@@ -94,6 +94,11 @@ abbrev pub ShortAnswers : Type 0
 ShortAnswers =
     (p : ClockedPort) (m : Content) (bytes : List ℕ) → Spells m bytes → length (bytes_for p m) ≤ 3 * length bytes
 
+pub size_of_first : (p : ClockedPort) (m : Content) (ms : List Content)
+    → length (bytes_for_all p (m ∷ ms)) ≡ length (bytes_for p m) + length (bytes_for_all (after_message p m) ms)
+size_of_first p m ms =
+    ap length (bytes_for_first p m ms) ∙ length-append (bytes_for p m) (bytes_for_all (after_message p m) ms)
+
 pub short_for_all : ShortAnswers → (p : ClockedPort) (ms : List Content) (bytes : List ℕ) → SpellsAll ms bytes
     → length (bytes_for_all p ms) ≤ 3 * length bytes
 short_for_all law p [] bytes spelt = omega arith
@@ -101,10 +106,7 @@ short_for_all law p (m ∷ ms) bytes (first, others, spells, spelt, parts) =
     let now = after_message p m in
     let one = law p m first spells in
     let more = short_for_all law now ms others spelt in
-    let both : length (bytes_for_all p (m ∷ ms)) ≡ length (bytes_for p m) + length (bytes_for_all now ms) =
-    ap length (bytes_for_both p (m ∷ []) ms) ∙ length-append (bytes_for_all p (m ∷ [])) (bytes_for_all now ms)
-    ∙ ap (λ (bytes : List ℕ). length bytes + length (bytes_for_all now ms)) (bytes_for_alone p m) in
-    omega (arith, one, more, both, ap length parts, length-append first others)
+    omega (arith, one, more, size_of_first p m ms, ap length parts, length-append first others)
 
 items_for_five : (p : ClockedPort) (ms : List Content) (bytes : List ℕ) → SpellsAll ms bytes
     → 5 * length (aired_on_way p ms) ≤ length bytes
@@ -156,8 +158,3 @@ airs_most reading p burst fits =
     let ms = messages_of burst in
     let size = size_of_front burst_limit burst front.whole front.remainder front.parts in
     omega (arith, size, items_for_five p ms front.whole front.spelt, one_at_most p ms)
-
--- the bytes of a message that stands in a burst
-pub size_of_range : (bytes : List ℕ) (i j : ℕ) → i < j → j ≤ length bytes → length (slice_range bytes i j) ≡ j - i
-size_of_range bytes i j below within =
-    length-take-le (j - i) (drop i bytes) (omega (arith, length-drop i bytes))

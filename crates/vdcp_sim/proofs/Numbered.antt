@@ -1,21 +1,20 @@
 -- A text for each thing with its number: one more.
 use Rattle.std.proofs.Common.{◌≡◌, ℕ, ◌+◌, List, [], ◌∷◌, ◌++◌, length, take, refl, sym, ap, ◌∙◌, arith, zero, suc, add-one, add-zero, append_assoc, append-nil}
+use Rattle.std.proofs.Math.Seq.{take-suc}
+use Rattle.std.proofs.lemmas.List.{length-take-le}
+use Rattle.std.proofs.lemmas.Option.{get_or_from_slice_get, slice_get_within}
 use Rattle.std.specs.Io.KnownBytes.{Appends, Keeps}
 use Rattle.std.specs.Prelude.{Option, None, Some, slice_get}
 use Rattle.vdcp_sim.specs.Sim.{numbered}
 
-take_next : {A : Type 0} (xs : List A) (k : ℕ) (x : A) → slice_get xs k ≡ Some x → take (suc k) xs ≡ take k xs ++ x ∷ []
-take_next [] k x e = cc e
-take_next (first ∷ xs) zero x e = let same : first ≡ x = cc e in ap (λ i. i ∷ []) same
-take_next (first ∷ xs) (suc k) x e = ap (λ is. first ∷ is) (take_next xs k x e)
-
-take_more : {A : Type 0} (xs : List A) (k : ℕ) (x : A) → slice_get xs k ≡ Some x → take (k + 1) xs ≡ take k xs ++ x ∷ []
-take_more xs k x e = rw (add-one k) (take_next xs k x e)
+take_more : {A : Type 0} (xs : List A) (k : ℕ) (x : A) → slice_get xs k ≡ Some x
+    → take (k + 1) xs ≡ take k xs ++ x ∷ []
+take_more xs k x e =
+    let last = take-suc xs k x (slice_get_within xs k x e) in
+    rw (add-one k, last, get_or_from_slice_get xs k x x e) refl
 
 taken : {A : Type 0} (xs : List A) (k : ℕ) (x : A) → slice_get xs k ≡ Some x → length (take k xs) ≡ k
-taken [] k x e = cc e
-taken (first ∷ xs) zero x e = refl
-taken (first ∷ xs) (suc k) x e = ap suc (taken xs k x e)
+taken xs k x e = length-take-le k xs (omega (arith, slice_get_within xs k x e))
 
 numbered-push : {A : Type 0} (text : ℕ → A → List ℕ) (n : ℕ) (xs : List A) (x : A)
     → numbered text n (xs ++ x ∷ []) ≡ numbered text n xs ++ text (n + length xs) x

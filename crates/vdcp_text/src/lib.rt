@@ -1,7 +1,7 @@
 //! Messages, items, outcomes, exchanges and failures as text, and the subcommands `show` and `make`, which
 //! need no more than that.
 //!
-//! `HexText`, `ByteText`, `DataText`, `MessageText`, `MeaningText`, `End`, `ItemText`, `OutcomeText` and
+//! `HexText`, `ByteText`, `DataText`, `MessageText`, `MeaningText`, `EndText`, `ItemText`, `OutcomeText` and
 //! `ExchangeText` are shown by `Display`, each with its exact text. A `Failure` is why a subcommand gives up:
 //! its `Display` is what standard error gets, and `Failure::report` gives the exit status. `do_show` shows a
 //! burst's reading, and `do_make` makes the bytes of a command.
@@ -24,4 +24,4 @@ pub use item::ItemText;
 pub use make::do_make;
 pub use outcome::OutcomeText;
 pub use show::do_show;
-pub use text::{ByteText, DataText, End, HexText, MeaningText, MessageText};
+pub use text::{ByteText, DataText, EndText, HexText, MeaningText, MessageText};

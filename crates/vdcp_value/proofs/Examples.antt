@@ -1,5 +1,5 @@
 -- Worked time codes, IDs and parts, a row each, computed from the definitions.
-use Rattle.std.proofs.Common.{ℕ, ◌+◌, ◌≡◌, ◌≢◌, List, [], ◌∷◌, length, get_or, map, Option, Some, refl, sym, ap, ap₂, ◌∙◌, codes, lit<, lit≤, ◌&&◌, Bool, true, false, nat_le, arith}
+use Rattle.std.proofs.Common.{ℕ, ◌+◌, ◌≡◌, List, [], ◌∷◌, length, get_or, map, Some, refl, ap, ap₂, ◌∙◌, codes, lit<, lit≤, ◌&&◌, Bool, true, false, nat_le, arith}
 use Rattle.std.specs.Prelude.{nat_eq}
 use Rattle.std.specs.List.{list_all}
 use Rattle.vdcp_value.proofs.Bcd.{lawful_is_time}

@@ -1,9 +1,9 @@
 -- An ID is its eight bytes, and the ID of eight bytes has them.
-use Rattle.std.proofs.Common.{ℕ, List, length, ◌<◌, ◌≡◌, Bool, true, false, true≢false, All, get_or, refl, sym, ap, ◌∙◌, subst}
+use Rattle.std.proofs.Common.{ℕ, List, length, ◌≡◌, Bool, true, false, true≢false, refl, sym, ap, ◌∙◌, subst}
 use Rattle.std.specs.Prelude.{IsTrue, ◌↔◌}
 use Rattle.std.specs.Cmp.{IsEquivalence}
 use Rattle.std.specs.Cmp.Lexicographic.{on_texts_equal, same_text}
-use Rattle.vdcp_value.proofs.Bytes.{length_of_bytes, bytes_below, byte_below}
+use Rattle.vdcp_value.proofs.Bytes.{length_of_bytes}
 use Rattle.vdcp_value.specs.Bytes.{AreBytes, are_bytes}
 use Rattle.vdcp_value.specs.Ids.{id_bytes, id_if, id_of, is_same_id}
 use Rattle.vdcp_value.specs.declared.clip_id.ClipId.{ClipId}

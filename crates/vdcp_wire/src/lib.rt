@@ -13,6 +13,9 @@
 //! let mut buffer = [0; PIECE];
 //! match wire.listen(&mut buffer)? { Came::Bytes(n) => .., Came::Silence => .., Came::Closed => .. }
 //! ```
+//!
+//! Files: `wire` (the trait), `script` (a wire in memory), `stream` (a wire over a connection), `address` and `accept`
+//! (the text of an address; the one connection that is taken there).
 #![tactic(auto)]
 
 mod accept;

@@ -22,7 +22,8 @@ fn reported<S: Source, W: Wire>(auto: &mut AutoDriver<S, W>, listens: u64) -> Op
     requires some { 1 ≤ auto.old.controller.limit }
     requires few { auto.old.controller.limit ≤ 1000 }
     ensures shown { IfSome result (λ n. IfTold (W.told auto.new.wire) (λ u.
-        n ≡ settled auto.old.controller.mode (course (plan_of S.items auto.old.controller) (inputs_of auto.old.unit u.came)))) }
+        n ≡ settled auto.old.controller.mode (course (plan_of S.items auto.old.controller)
+        (inputs_of auto.old.unit u.came)))) }
 {
     laws::a_run_is_lawful();
     match auto.run(listens) {

@@ -6,9 +6,9 @@ use std::alloc::{AllocError, Global};
 use std::fmt::Write;
 use std::process::Abort;
 use std::test::Fail;
-use vdcp_frame::{Ended, Got, Reader};
+use vdcp_frame::{End, Ended, Got, Reader};
 use vdcp_testing::{FailingReader, FailingWriter, Fails};
-use vdcp_text::{End, HexText, MessageText};
+use vdcp_text::{EndText, HexText, MessageText};
 
 fn file<R>(reader: R) -> NamedFile<'static, R> {
     NamedFile {

@@ -1,7 +1,7 @@
 use Rattle.std.proofs.Common.{List, ◌-◌, ◌≡◌, ◌≤◌, []}
 use Rattle.std.specs.Prelude.{Some}
 use Rattle.vdcp_auto.specs.Plan.{plan_of}
-use Rattle.vdcp_auto.specs.declared.phase.State.{State}
+use Rattle.vdcp_auto.specs.State.{State}
 use Rattle.vdcp_drive.specs.Driven.{GoesOn, IsNew}
 use Rattle.vdcp_drive.specs.Lines.{AllListened}
 use Rattle.vdcp_wire.specs.Wires.{Told, IfTold}

@@ -1,11 +1,10 @@
 -- What a call gives, from what stands at the front of the bytes held and those that come.
-use Rattle.std.proofs.Common.{◌≡◌, ◌≤◌, ◌<◌, ℕ, ◌+◌, ◌-◌, List, [], length, take, refl, subst, sym, ap, ◌∙◌, arith}
-use Rattle.std.proofs.lemmas.List.{length-take}
+use Rattle.std.proofs.Common.{ℕ, ◌+◌, ◌-◌, List, length, refl, subst, sym, ap, ◌∙◌, arith}
 use Rattle.vdcp_frame.specs.declared.message.Fault.TheVariants.{Long}
 use Rattle.vdcp_frame.specs.declared.reader.Place.{Place}
-use Rattle.vdcp_frame.specs.Message.{Content, content_of}
+use Rattle.vdcp_frame.specs.Message.{content_of}
 use Rattle.vdcp_frame.specs.Place.{progress_at, IsPlace}
-use Rattle.vdcp_frame.specs.Progress.{Progress, reading, failed}
+use Rattle.vdcp_frame.specs.Progress.{Progress}
 use Rattle.vdcp_frame.specs.Reader.{Answer, message, more, wrong}
 use Rattle.vdcp_frame.proofs.ReaderLemmas.{gives_follows}
 use Rattle.vdcp_frame.proofs.FeedLemmas.{failed_fed, is_reading, further_part, found_after, message_fed, message_limit}
@@ -32,12 +31,18 @@ further-requires c = further_part (is_reading c.self.inside.place c.self.inside.
     c.self.view_is c.self.invariant c.in-Reading.is) c.fill-count.ensures
 
 pub overflow_sub-count : goal.overflow_sub-count
-overflow_sub-count c = omega (arith, found_after (is_reading c.self.inside.place c.self.inside.buffer c.args.self.now c.in-Reading.taken c.in-Reading.held c.in-Reading.needs
-    c.self.view_is c.self.invariant c.in-Reading.is) c.fill-count.ensures (content_of c.in-Found.message) c.in-Found.size c.in-Found.ensures)
+overflow_sub-count c = omega (
+  arith,
+  found_after (is_reading c.self.inside.place c.self.inside.buffer c.args.self.now c.in-Reading.taken c.in-Reading.held c.in-Reading.needs
+      c.self.view_is c.self.invariant c.in-Reading.is) c.fill-count.ensures (content_of c.in-Found.message) c.in-Found.size c.in-Found.ensures,
+)
 
 pub overflow_sub-count-in-Wrong : goal.overflow_sub-count-in-Wrong
-overflow_sub-count-in-Wrong c = omega (arith, wrong_after (is_reading c.self.inside.place c.self.inside.buffer c.args.self.now c.in-Reading.taken c.in-Reading.held c.in-Reading.needs
-    c.self.view_is c.self.invariant c.in-Reading.is) c.fill-count.ensures c.in-Wrong.fault c.in-Wrong.size c.in-Wrong.ensures)
+overflow_sub-count-in-Wrong c = omega (
+  arith,
+  wrong_after (is_reading c.self.inside.place c.self.inside.buffer c.args.self.now c.in-Reading.taken c.in-Reading.held c.in-Reading.needs
+      c.self.view_is c.self.invariant c.in-Reading.is) c.fill-count.ensures c.in-Wrong.fault c.in-Wrong.size c.in-Wrong.ensures,
+)
 
 pub invariant_of-self-in-Found : goal.invariant_of-self-in-Found
 invariant_of-self-in-Found c =

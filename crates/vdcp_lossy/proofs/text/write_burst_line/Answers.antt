@@ -1,5 +1,5 @@
 use Rattle.vdcp_lossy.proofs.Reading.{told_written}
-use Rattle.vdcp_lossy.proofs.text.write_told.Goals as goal
+use Rattle.vdcp_lossy.proofs.text.write_burst_line.Goals as goal
 
 pub returns : goal.returns
 returns g c =
