@@ -1,0 +1,9 @@
+pub mod Thinning
+pub mod Pipes
+pub mod Places
+pub mod Executed
+pub mod Stretches
+pub mod Delivering
+pub mod DeliveringPlay
+pub mod Safety
+pub mod Closing
