@@ -88,7 +88,7 @@ airs_none list phase.HaltClose s a r t b airs p h = h.1
 
 -- ---- Cue
 
-presence_fits : (r : Reply) → (is_refusal r || is_presence r) ≡ true → is_ack r ≡ false
+pub presence_fits : (r : Reply) → (is_refusal r || is_presence r) ≡ true → is_ack r ≡ false
 presence_fits r e = grind arith
 
 cueing_pushed : (list : List Item) (settled : ℕ) (s : Bool) (a : Cued) (aired : List Item) (ups : List Answer) (k : ℕ) (d : Phase) (r : Reply) (t : Bool)
@@ -187,7 +187,7 @@ none_done : (list : List Item) (k : ℕ) (ups : List Answer) (downs : List Phase
     → Climbs (5 * k + 3) (5 * k + 4) (stretches Plain (length list) (pipe_of ups (phase.Cue k ∷ downs)))
     → list_any says_done ups ≡ false
 none_done list k ups downs below fit c =
-    none_answers Plain (length list) (5 * k + 3) (5 * k + 3) says_done ups one
+    none_answers Plain (length list) (5 * k + 3) (5 * k + 3) misfits says_done ups one
     (climbs_before Plain (length list) (5 * k + 3) (5 * k + 4) ups (phase.Cue k) downs c) fit
   where
     is_cue : (d : Phase) → Lies Plain (length list) (5 * k + 3) (5 * k + 3) d → d ≡ phase.Cue k

@@ -55,7 +55,7 @@ airs_nothing (done x) e = cc
 
 -- ---- Play and Probe
 
-state_fits : (r : Reply) → (is_refusal r || is_state r) ≡ true → is_ack r ≡ false
+pub state_fits : (r : Reply) → (is_refusal r || is_state r) ≡ true → is_ack r ≡ false
 state_fits r e = grind arith
 
 -- a status leaves all as it is

@@ -7,3 +7,6 @@ pub mod Delivering
 pub mod DeliveringPlay
 pub mod Safety
 pub mod Closing
+pub mod Standing
+pub mod Passing
+pub mod Hearing

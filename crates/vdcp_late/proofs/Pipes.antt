@@ -17,11 +17,6 @@ climbs_thins low high (x ∷ xs) ys (inl t) c =
 climbs_thins low high (x ∷ xs) ys (inr (rest, is, t)) c =
     subst (Climbs low high) (sym is) (c.0, c.1, climbs_thins x high xs rest t c.2)
 
--- one is copied in its place
-pub climbs_copied : (low high : ℕ) (xs : List ℕ) (x : ℕ) (ys : List ℕ) → Climbs low high (xs ++ x ∷ ys) → Climbs low high (xs ++ x ∷ x ∷ ys)
-climbs_copied low high [] x ys c = (c.0, c.1, (omega arith, c.1, c.2))
-climbs_copied low high (z ∷ xs) x ys c = (c.0, c.1, climbs_copied z high xs x ys c.2)
-
 -- the greatest joins at the end
 pub climbs_pushed : (low high : ℕ) (xs : List ℕ) → low ≤ high → Climbs low high xs → Climbs low high (xs ++ high ∷ [])
 climbs_pushed low high [] l c = (l, omega arith, tt)
@@ -30,8 +25,3 @@ climbs_pushed low high (x ∷ xs) l c = (c.0, c.1, climbs_pushed x high xs c.1 c
 -- behind the first one, and at it
 pub climbs_from : (low high x : ℕ) (xs : List ℕ) → Climbs low high (x ∷ xs) → Climbs x high (x ∷ xs)
 climbs_from low high x xs c = (omega arith, c.1, c.2)
-
--- each lies between the bounds
-pub climbs_at : (low high : ℕ) (xs : List ℕ) (x : ℕ) (ys : List ℕ) → Climbs low high (xs ++ x ∷ ys) → (low ≤ x) × (x ≤ high)
-climbs_at low high [] x ys c = (c.0, c.1)
-climbs_at low high (z ∷ xs) x ys c = let r = climbs_at z high xs x ys c.2 in (omega (arith, c.0, r.0), r.1)

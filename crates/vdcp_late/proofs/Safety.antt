@@ -205,7 +205,7 @@ calm_in list settled s a aired ups downs phase.Drain h c =
     safe_calm list settled s a aired downs (length list) h (no_plays Plain (length list) (5 * length list + 1) (5 * length list + 2) ups downs
     (quiet Plain (length list) (length list) (5 * length list + 1) (5 * length list + 2) (omega arith) (omega arith)) c)
 calm_in list settled s a aired ups downs phase.Close h c =
-    safe_calm list settled s a aired downs (length list) h (no_plays Plain (length list) (5 * length list + 2) (5 * length list + 3) ups downs
-    (quiet Plain (length list) (length list) (5 * length list + 2) (5 * length list + 3) (omega arith) (omega arith)) c)
+    safe_calm list settled s a aired downs (length list) h (no_plays Plain (length list) (5 * length list + 1) (5 * length list + 3) ups downs
+    (quiet Plain (length list) (length list) (5 * length list + 1) (5 * length list + 3) (omega arith) (omega arith)) c)
 calm_in list settled s a aired ups downs phase.Halt h c = h
 calm_in list settled s a aired ups downs phase.HaltClose h c = h

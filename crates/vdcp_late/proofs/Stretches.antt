@@ -7,8 +7,7 @@ use Rattle.vdcp_auto.specs.declared.phase.Phase.{Phase}
 use Rattle.vdcp_auto.specs.declared.phase.Phase.TheVariants as phase
 use Rattle.vdcp_late.specs.Pipe.{stretch, oldest_stretch, Climbs, stretches, IsPipe}
 use Rattle.vdcp_late.proofs.Places.{Answer, pipe_of, plays, waits, arms, misfits}
-use Rattle.vdcp_late.proofs.Pipes.{climbs_within, climbs_at}
-use Rattle.vdcp_late.proofs.Thinning.{Thins}
+use Rattle.vdcp_late.proofs.Pipes.{climbs_within}
 
 -- a phase's stretch lies between these
 abbrev pub Lies : Mode → ℕ → ℕ → ℕ → Phase → Type 0
@@ -92,14 +91,43 @@ false_right true b e = absurd (impossible e)
     impossible e = cc
 false_right false b e = e
 
--- no answer passes a test that none passes which fits and lies between the bounds
-pub none_answers : (mode : Mode) (n low high : ℕ) (test : Answer → Bool) (ups : List Answer)
-    → ((a : Answer) → Lies mode n low high a.to → misfits a ≡ false → test a ≡ false)
-    → Climbs low high (stretches mode n (pipe_of ups [])) → list_any misfits ups ≡ false → list_any test ups ≡ false
-none_answers mode n low high test [] f c m = refl
-none_answers mode n low high test (a ∷ ups) f c m =
-    let here = f a (c.0, c.1) (false_left (misfits a) (list_any misfits ups) m) in
-    let rest = none_answers mode n low high test ups f
+-- the answers climb as the pipe does
+pub ups_climb : (mode : Mode) (n low high : ℕ) (ups : List Answer) (downs : List Phase) → Climbs low high (stretches mode n (pipe_of ups downs))
+    → Climbs low high (stretches mode n (pipe_of ups []))
+ups_climb mode n low high [] downs c = tt
+ups_climb mode n low high (a ∷ ups) downs c = (c.0, c.1, ups_climb mode n (stretch mode n a.to) high ups downs c.2)
+
+-- of answers between bounds, of which none passes one test, none passes another
+pub none_answers : (mode : Mode) (n low high : ℕ) (given test : Answer → Bool) (ups : List Answer)
+    → ((a : Answer) → Lies mode n low high a.to → given a ≡ false → test a ≡ false)
+    → Climbs low high (stretches mode n (pipe_of ups [])) → list_any given ups ≡ false → list_any test ups ≡ false
+none_answers mode n low high given test [] f c m = refl
+none_answers mode n low high given test (a ∷ ups) f c m =
+    let here = f a (c.0, c.1) (false_left (given a) (list_any given ups) m) in
+    let rest = none_answers mode n low high given test ups f
     (climbs_within (stretch mode n a.to) high low high (stretches mode n (pipe_of ups [])) c.0 (omega arith) c.2)
-    (false_right (misfits a) (list_any misfits ups) m) in
+    (false_right (given a) (list_any given ups) m) in
     rw here rest
+
+-- one on the way down lies between the bounds
+pub lies_at : (mode : Mode) (n low high : ℕ) (ups : List Answer) (d : Phase) (downs : List Phase)
+    → Climbs low high (stretches mode n (pipe_of ups (d ∷ downs))) → Lies mode n low high d
+lies_at mode n low high ups d downs c = let h = downs_climb mode n low high ups (d ∷ downs) c in (h.0, h.1)
+
+-- one that is delivered moves within the pipe
+pub pipe_delivered : (ups : List Answer) (a : Answer) (downs : List Phase) → pipe_of (ups ++ a ∷ []) downs ≡ pipe_of ups (a.to ∷ downs)
+pipe_delivered [] a downs = refl
+pipe_delivered (x ∷ ups) a downs = ap (λ (p : List Phase). x.to ∷ p) (pipe_delivered ups a downs)
+
+-- one that is sent joins it at the end
+pub pipe_pushed : (mode : Mode) (n : ℕ) (ups : List Answer) (downs : List Phase) (q : Phase)
+    → stretches mode n (pipe_of ups (downs ++ q ∷ [])) ≡ stretches mode n (pipe_of ups downs) ++ stretch mode n q ∷ []
+pipe_pushed mode n [] [] q = refl
+pipe_pushed mode n [] (d ∷ downs) q = ap (λ (p : List ℕ). stretch mode n d ∷ p) (pipe_pushed mode n [] downs q)
+pipe_pushed mode n (a ∷ ups) downs q = ap (λ (p : List ℕ). stretch mode n a.to ∷ p) (pipe_pushed mode n ups downs q)
+
+-- one is copied in its place
+pub pipe_copied : (mode : Mode) (n low high : ℕ) (ups : List Answer) (d : Phase) (downs : List Phase)
+    → Climbs low high (stretches mode n (pipe_of ups (d ∷ downs))) → Climbs low high (stretches mode n (pipe_of ups (d ∷ d ∷ downs)))
+pipe_copied mode n low high [] d downs c = (c.0, c.1, (omega arith, c.1, c.2))
+pipe_copied mode n low high (a ∷ ups) d downs c = (c.0, c.1, pipe_copied mode n (stretch mode n a.to) high ups d downs c.2)

@@ -25,8 +25,8 @@ stretch mode n phase.Close = 5 * n + 3
 stretch mode n phase.Halt = 5 * n + 4
 stretch mode n phase.HaltClose = 5 * n + 4
 
--- The oldest stretch of which something can be in the pipe: the one before the phase's own. What was sent in the
--- halt stands behind anything.
+-- The oldest stretch of which something can be in the pipe: the one before the phase's own, and in Close, where nothing
+-- can air any more, the one before that.
 abbrev pub oldest_stretch : Mode → ℕ → Phase → ℕ
 oldest_stretch mode n phase.Open = 0
 oldest_stretch mode n phase.Select = 0
@@ -39,7 +39,7 @@ oldest_stretch mode n (phase.Play k) = 5 * k + 4
 oldest_stretch mode n (phase.Probe k) = 5 * k + 4
 oldest_stretch mode n (phase.Check k) = 5 * k + 5
 oldest_stretch mode n phase.Drain = 5 * n + 1
-oldest_stretch mode n phase.Close = 5 * n + 2
+oldest_stretch mode n phase.Close = 5 * n + 1
 oldest_stretch mode n phase.Halt = 0
 oldest_stretch mode n phase.HaltClose = 0
 
@@ -52,6 +52,9 @@ abbrev pub stretches : Mode → ℕ → List Phase → List ℕ
 stretches mode n [] = []
 stretches mode n (q ∷ qs) = stretch mode n q ∷ stretches mode n qs
 
--- the pipe of a phase: runs of commands of its own stretch behind those of the one before it
+-- The pipe of a phase: runs of commands of its own stretch behind those of the one before it. In the halt it may hold
+-- anything.
 abbrev pub IsPipe : Mode → ℕ → Phase → List Phase → Type 0
+IsPipe mode n phase.Halt pipe = Unit {0}
+IsPipe mode n phase.HaltClose pipe = Unit {0}
 IsPipe mode n q pipe = Climbs (oldest_stretch mode n q) (stretch mode n q) (stretches mode n pipe)
