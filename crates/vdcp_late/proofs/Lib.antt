@@ -10,3 +10,11 @@ pub mod Closing
 pub mod Standing
 pub mod Passing
 pub mod Hearing
+pub mod Executing
+pub mod Carrying
+pub mod Below
+pub mod Reading
+pub mod Beginnings
+pub mod Coming
+pub mod Kept
+pub mod KeptEvents
