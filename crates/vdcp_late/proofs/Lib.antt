@@ -18,3 +18,5 @@ pub mod Beginnings
 pub mod Coming
 pub mod Kept
 pub mod KeptEvents
+pub mod HeadlineProof
+pub mod PlainReached
