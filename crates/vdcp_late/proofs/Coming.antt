@@ -29,6 +29,7 @@ use Rattle.vdcp_auto.specs.declared.phase.Stage.TheVariants.{Ready, Awaiting, En
 use Rattle.vdcp_auto.specs.declared.phase.State.{State}
 use Rattle.vdcp_auto.specs.declared.phase.Turn.{Turn}
 use Rattle.vdcp_late.specs.Damage.{is_no_answer, is_stray}
+use Rattle.vdcp_late.proofs.Claims.{Comes}
 use Rattle.vdcp_late.proofs.Hearing.{Leads, Here, Asked, silent, refused, replied}
 use Rattle.vdcp_late.proofs.Places.{Answer, misfits, is_asked}
 use Rattle.vdcp_late.proofs.Standing.{misleads, PlaceAt, Stands}
@@ -106,10 +107,6 @@ no_answer c (Some (heard.Reply (reply.Size length))) e = cc
 
 -- ---- where it leads
 
--- what comes is no answer, or the oldest one that is on the way
-abbrev pub Comes : List Answer → Option Heard → Type 0
-Comes ups came = (is_no_answer Plain came ≡ true) ⊎ ((x : Answer) × (rest : List Answer) × (ups ≡ x ∷ rest) × (came ≡ Some (heard.Reply x.reply)))
-
 abbrev pub LeadsBy : List Item → List (ClipId × Timecode) → ℕ → Bool → Cued → List Item → List Answer → List Phase → ℕ → State → ℕ → Bool → Phase
     → Option Reply → Type 0
 LeadsBy list clips settled s a aired ups downs limit state port counts q o =
@@ -119,7 +116,7 @@ either : (a b : Bool) → (a || b) ≡ true → a ≡ false → b ≡ true
 either a b e f = grind arith
 
 came_led : (list : List Item) (clips : List (ClipId × Timecode)) (port limit : ℕ) (s : Bool) (a : Cued) (aired : List Item) (ups : List Answer)
-    (downs : List Phase) (state : State) (came : Option Heard) (q : Phase) (c : Command) (counts : Bool) → command_in list port q ≡ Some c → Comes ups came
+    (downs : List Phase) (state : State) (came : Option Heard) (q : Phase) (c : Command) (counts : Bool) → command_in list port q ≡ Some c → Comes Plain ups came
     → Stands list clips state.settled s a aired ups downs (Awaiting q)
     → LeadsBy list clips state.settled s a aired ups downs limit state port counts q (answer_to c came)
 came_led list clips port limit s a aired ups downs state came q c counts is (inl none) h =
@@ -151,7 +148,7 @@ came_led list clips port limit s a aired ups downs state came q c counts is (inr
     by r true e g = refusal (is_refusal x.reply) refl g
 
 pub came_stands : (list : List Item) (clips : List (ClipId × Timecode)) (port limit : ℕ) (s : Bool) (a : Cued) (aired : List Item) (ups : List Answer)
-    (downs : List Phase) (state : State) (came : Option Heard) → Comes ups came
+    (downs : List Phase) (state : State) (came : Option Heard) → Comes Plain ups came
     → Stands list clips state.settled s a aired ups downs state.stage
     → Stands list clips (came_to (plain_plan list port limit) came state).settled s a aired ups downs (came_to (plain_plan list port limit) came state).stage
 came_stands list clips port limit s a aired ups downs state came comes h = by state.stage h

@@ -15,6 +15,7 @@ pub mod Carrying
 pub mod Below
 pub mod Reading
 pub mod Beginnings
+pub mod Claims
 pub mod Coming
 pub mod Kept
 pub mod KeptEvents
