@@ -92,6 +92,9 @@ pub record Ages (s : Bool) (a : Cued) (t : Bool) (b : Cued) : Type 0 where
   pub item : t ≡ true → cued_item b ≡ cued_item a
   pub done : t ≡ true → is_done_cue a ≡ true → is_done_cue b ≡ true
   pub none : t ≡ true → a ≡ empty → b ≡ empty
+  -- and whatever the port, nothing else is cued than was
+  pub still_empty : a ≡ empty → b ≡ empty
+  pub nothing_else : (b ≡ empty) ⊎ (cued_item b ≡ cued_item a)
 
 pub item_ages : (list : List Item) (s : Bool) (a : Cued) (t : Bool) (b : Cued) (k : ℕ) → Ages s a t b → HasItem list s a k → HasItem list t b k
 item_ages list s a t b k g h = λ e. g.item e ∙ h (g.no_more e)
@@ -103,15 +106,20 @@ pub none_ages : (s : Bool) (a : Cued) (t : Bool) (b : Cued) → Ages s a t b →
 none_ages s a t b g h = λ e. g.none e (h (g.no_more e))
 
 pub ready_ages : (s : Bool) (a : Cued) → Ages s a s (made_ready a)
-ready_ages s empty = record { no_more = λ e. e; item = λ _. refl; done = λ _ e. e; none = λ _ e. e }
-ready_ages s (cueing x) = record { no_more = λ e. e; item = λ _. refl; done = λ _ _. refl; none = λ _ e. cc }
-ready_ages s (done x) = record { no_more = λ e. e; item = λ _. refl; done = λ _ e. e; none = λ _ e. e }
+ready_ages s empty =
+    record { no_more = λ e. e; item = λ _. refl; done = λ _ e. e; none = λ _ e. e; still_empty = λ e. e; nothing_else = inr refl }
+ready_ages s (cueing x) =
+    record { no_more = λ e. e; item = λ _. refl; done = λ _ _. refl; none = λ _ e. cc; still_empty = λ e. cc; nothing_else = inr refl }
+ready_ages s (done x) =
+    record { no_more = λ e. e; item = λ _. refl; done = λ _ e. e; none = λ _ e. e; still_empty = λ e. e; nothing_else = inr refl }
 
 pub same_ages : (s : Bool) (a : Cued) → Ages s a s a
-same_ages s a = record { no_more = λ e. e; item = λ _. refl; done = λ _ e. e; none = λ _ e. e }
+same_ages s a =
+    record { no_more = λ e. e; item = λ _. refl; done = λ _ e. e; none = λ _ e. e; still_empty = λ e. e; nothing_else = inr refl }
 
-pub anew_ages : (s : Bool) (a b : Cued) → Ages s a false b
-anew_ages s a b = record { no_more = λ e. cc; item = λ e. cc; done = λ e. cc; none = λ e. cc }
+pub anew_ages : (s : Bool) (a : Cued) → Ages s a false empty
+anew_ages s a =
+    record { no_more = λ e. cc; item = λ e. cc; done = λ e. cc; none = λ e. cc; still_empty = λ _. refl; nothing_else = inl refl }
 
 stand_ages : (list : List Item) (s : Bool) (a : Cued) (t : Bool) (b : Cued) (aired : List Item) (ups : List Answer) (downs : List Phase) (k : ℕ) → Ages s a t b
     → ToAir list s a aired ups k ⊎ OnAir list s a aired downs k → ToAir list t b aired ups k ⊎ OnAir list t b aired downs k

@@ -380,5 +380,5 @@ kept_event mode S closed below c event.End k = with_port mode S closed c k (afte
 kept_event mode S closed below c event.Frame k = with_port mode S closed c k (after_frame c.port) (below.unit_frame c.port) (frame_clips c.port) (frame_ages c.port)
 kept_event mode S closed below c event.Take k = with_state mode S closed c k (taken c.state) c.log k.stands
 kept_event mode S closed below c event.Stop k = with_state mode S closed c k (stopped c.state) c.log k.stands
-kept_event mode S closed below c event.ServerAnew k = with_port mode S closed c k (made_anew c.port) refl refl (anew_ages (is_selected c.port.state) c.port.state.cued (made_anew c.port).state.cued)
+kept_event mode S closed below c event.ServerAnew k = with_port mode S closed c k (made_anew c.port) refl refl (anew_ages (is_selected c.port.state) c.port.state.cued)
 kept_event mode S closed below c event.AutomationAnew k = with_state mode S closed c k _ _ (came_kept mode S closed c k None (inl refl))

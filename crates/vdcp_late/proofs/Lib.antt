@@ -21,3 +21,4 @@ pub mod Kept
 pub mod KeptEvents
 pub mod HeadlineProof
 pub mod PlainReached
+pub mod ConfirmedPlaces
