@@ -106,7 +106,7 @@ cueing_pushed list settled s a aired ups k d r t b airs h none still now = recor
     by (inl e) = still (h.taken e)
     by (inr e) = now e
 
-cueing_cue : (list : List Item) (s : Bool) (a : Cued) (k : ℕ) (r : Reply) (t : Bool) (b : Cued) → t ≡ s
+pub cueing_cue : (list : List Item) (s : Bool) (a : Cued) (k : ℕ) (r : Reply) (t : Bool) (b : Cued) → t ≡ s
     → ((b ≡ a) × (is_ack r ≡ false)) ⊎ (cued_item b ≡ slice_get list k)
     → (HasItem list s a k → HasItem list t b k) × (is_ack r ≡ true → HasItem list t b k)
 cueing_cue list s a k r t b st (inl (same, no_ack)) = (λ h. item_same list s t a b k (no_more s t st) same h, λ e. clash (is_ack r) e no_ack)

@@ -22,3 +22,4 @@ pub mod KeptEvents
 pub mod HeadlineProof
 pub mod PlainReached
 pub mod ConfirmedPlaces
+pub mod ConfirmedReads
