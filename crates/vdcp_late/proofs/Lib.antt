@@ -23,3 +23,4 @@ pub mod HeadlineProof
 pub mod PlainReached
 pub mod ConfirmedPlaces
 pub mod ConfirmedReads
+pub mod ConfirmedStanding
