@@ -41,7 +41,7 @@ plain_plan list port limit = record { mode = Plain; list = list; port = port; li
 -- ---- which command a reply answers
 
 -- the reply is of the kind that the phase's command asks for
-fits_asked : (list : List Item) (port : ℕ) (q : Phase) (c : Command) (r : Reply) → command_in list port q ≡ Some c → fits c r ≡ true → is_asked q r ≡ true
+pub fits_asked : (list : List Item) (port : ℕ) (q : Phase) (c : Command) (r : Reply) → command_in list port q ≡ Some c → fits c r ≡ true → is_asked q r ≡ true
 fits_asked list port phase.Open c r e f = cc
 fits_asked list port phase.Select c r e f = cc
 fits_asked list port phase.Seen c r e f = cc

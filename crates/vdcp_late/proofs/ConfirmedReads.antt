@@ -96,7 +96,7 @@ done_has list s a k (inr is) e = λ _. is
 
 -- ---- Cue and Wait
 
-presence_no_state : (r : Reply) → (is_refusal r || is_presence r) ≡ true → (is_done r ≡ false) × (is_empty r ≡ false)
+pub presence_no_state : (r : Reply) → (is_refusal r || is_presence r) ≡ true → (is_done r ≡ false) × (is_empty r ≡ false)
 presence_no_state r e = grind arith
 
 trying_pushed : (list : List Item) (settled : ℕ) (s : Bool) (a : Cued) (aired : List Item) (ups : List Answer) (k : ℕ) (d : Phase) (r : Reply) (t : Bool)

@@ -137,7 +137,7 @@ from_select : (list : List Item) (clips : List (ClipId × Timecode)) (settled : 
     → PlaceAt list clips settled s a aired (x ∷ ups) downs (Ready (next list 0))
 from_select list clips settled s a aired x ups downs h other c =
     next_place list clips settled s a aired (x ∷ ups) downs 0 h
-    (all_own (length list) 0 1 x ups downs (first_passed (length list) x.to (c.0, c.1) other) c)
+    (all_own Plain (length list) 0 1 x ups downs (first_passed (length list) x.to (c.0, c.1) other) c)
 
 from_exists : (list : List Item) (clips : List (ClipId × Timecode)) (settled : ℕ) (s : Bool) (a : Cued) (aired : List Item) (x : Answer) (ups : List Answer)
     (downs : List Phase) (k : ℕ) → Asked list clips x ups (phase.Exists k) → Here list settled s a aired (x ∷ ups) downs (phase.Exists k)
@@ -149,7 +149,7 @@ from_exists list clips settled s a aired x ups downs k g h b e = by b e
     is = exists_passed (length list) k x.to h.0.1 (h.1.0, h.1.1) (wants list clips x ups (phase.Exists k) g)
 
     own : Climbs (5 * k + 2) (5 * k + 2) (stretches Plain (length list) (pipe_of (x ∷ ups) downs))
-    own = all_own (length list) (5 * k + 1) (5 * k + 2) x ups downs (ap (stretch Plain (length list)) is) h.1
+    own = all_own Plain (length list) (5 * k + 1) (5 * k + 2) x ups downs (ap (stretch Plain (length list)) is) h.1
 
     unknown : (p k : Bool) → (is_presence x.reply && differs p k) ≡ false → is_presence x.reply ≡ true → p ≡ false → k ≡ false
     unknown true k m f e = cc
@@ -192,7 +192,7 @@ from_cue list clips settled s a aired x ups downs k g h = (
 )
   where
     own : Climbs (5 * k + 3) (5 * k + 3) (stretches Plain (length list) (pipe_of (x ∷ ups) downs))
-    own = all_own (length list) (5 * k + 2) (5 * k + 3) x ups downs
+    own = all_own Plain (length list) (5 * k + 2) (5 * k + 3) x ups downs
         (ap (stretch Plain (length list)) (cue_passed (length list) k x.to h.0.within (h.1.0, h.1.1) (wants list clips x ups (phase.Cue k) g))) h.1
 
 from_wait : (list : List Item) (clips : List (ClipId × Timecode)) (settled : ℕ) (s : Bool) (a : Cued) (aired : List Item) (x : Answer) (ups : List Answer)
@@ -201,7 +201,7 @@ from_wait : (list : List Item) (clips : List (ClipId × Timecode)) (settled : �
 from_wait list clips settled s a aired x ups downs k limit tries take g h = by (is_done x.reply) (not (is_playing x.reply) || take) (is_empty x.reply) refl
   where
     own : Climbs (5 * k + 4) (5 * k + 4) (stretches Plain (length list) (pipe_of (x ∷ ups) downs))
-    own = all_own (length list) (5 * k + 3) (5 * k + 4) x ups downs
+    own = all_own Plain (length list) (5 * k + 3) (5 * k + 4) x ups downs
         (ap (stretch Plain (length list)) (wait_passed (length list) k x.to h.0.within (h.1.0, h.1.1) (wants list clips x ups (phase.Wait k) g))) h.1
 
     playing : is_done x.reply ≡ true → Leads list clips settled s a aired (x ∷ ups) downs (Goes (phase.Play k))
@@ -251,7 +251,7 @@ from_play list clips settled s a aired x ups downs k g h = by h.0.stands
   where
     by : ToAir list s a aired (x ∷ ups) k ⊎ OnAir list s a aired downs k → Leads list clips settled s a aired (x ∷ ups) downs (Settles k)
     by (inl q) = clash (is_ack x.reply) g.asked (first_of (is_ack x.reply) (list_any says_ack ups) q.no_ack)
-    by (inr q) = settles list clips settled s a aired (x ∷ ups) downs k h.0.within q (all_own (length list) (5 * k + 4) (5 * k + 5) x ups downs
+    by (inr q) = settles list clips settled s a aired (x ∷ ups) downs k h.0.within q (all_own Plain (length list) (5 * k + 4) (5 * k + 5) x ups downs
         (ap (stretch Plain (length list)) (play_passed (length list) k x.to h.0.within (h.1.0, h.1.1) (wants list clips x ups (phase.Play k) g))) h.1)
 
 from_probe : (list : List Item) (clips : List (ClipId × Timecode)) (settled : ℕ) (s : Bool) (a : Cued) (aired : List Item) (x : Answer) (ups : List Answer)
@@ -273,7 +273,7 @@ from_probe list clips settled s a aired x ups downs k g h false true e = by h.0.
     by (inl q) w = clash (is_empty x.reply) e (first_of (is_empty x.reply) (list_any says_empty ups) q.no_empty)
     by (inr q) (inl is) = clash (shows_no_cue x) (shows x.to is) (first_of (shows_no_cue x) (list_any shows_no_cue ups) h.0.never_none)
     by (inr q) (inr is) = settles list clips settled s a aired (x ∷ ups) downs k h.0.within q
-        (all_own (length list) (5 * k + 4) (5 * k + 5) x ups downs (ap (stretch Plain (length list)) is) h.1)
+        (all_own Plain (length list) (5 * k + 4) (5 * k + 5) x ups downs (ap (stretch Plain (length list)) is) h.1)
 
 from_check : (list : List Item) (clips : List (ClipId × Timecode)) (settled : ℕ) (s : Bool) (a : Cued) (aired : List Item) (x : Answer) (ups : List Answer)
     (downs : List Phase) (k : ℕ) (other : Bool) → Asked list clips x ups (phase.Check k) → Here list settled s a aired (x ∷ ups) downs (phase.Check k)
@@ -282,7 +282,7 @@ from_check list clips settled s a aired x ups downs k true g h = calm_in list se
 from_check list clips settled s a aired x ups downs k false g h =
     next_place list clips settled s a aired (x ∷ ups) downs (k + 1) h.0.at
     (climbs_within (5 * k + 6) (5 * k + 6) (5 * (k + 1) + 1) (5 * (k + 1) + 1) (stretches Plain (length list) (pipe_of (x ∷ ups) downs)) (omega arith) (omega arith)
-    (all_own (length list) (5 * k + 5) (5 * k + 6) x ups downs
+    (all_own Plain (length list) (5 * k + 5) (5 * k + 6) x ups downs
     (ap (stretch Plain (length list)) (check_passed (length list) k x.to h.0.within (h.1.0, h.1.1) (wants list clips x ups (phase.Check k) g))) h.1))
 
 from_drain : (list : List Item) (clips : List (ClipId × Timecode)) (settled : ℕ) (s : Bool) (a : Cued) (aired : List Item) (ups : List Answer) (downs : List Phase)

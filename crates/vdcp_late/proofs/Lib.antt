@@ -24,3 +24,5 @@ pub mod PlainReached
 pub mod ConfirmedPlaces
 pub mod ConfirmedReads
 pub mod ConfirmedStanding
+pub mod ConfirmedHearing
+pub mod ConfirmedComing

@@ -6,6 +6,7 @@ use Rattle.vdcp_words.specs.declared.reply.Reply.{Reply}
 use Rattle.vdcp_words.specs.declared.reply.Reply.TheVariants as reply
 use Rattle.vdcp_auto.specs.Commands.{is_opened, is_state, is_active, is_presence}
 use Rattle.vdcp_auto.specs.Replies.{is_ack, is_refusal, is_done, is_empty}
+use Rattle.vdcp_auto.specs.declared.phase.Mode.{Mode}
 use Rattle.vdcp_auto.specs.declared.phase.Mode.TheVariants.{Plain, Confirming}
 use Rattle.vdcp_auto.specs.declared.phase.Phase.{Phase}
 use Rattle.vdcp_auto.specs.declared.phase.Phase.TheVariants as phase
@@ -113,11 +114,11 @@ check_passed n k (phase.Check j) below l w = let e : j ≡ k = omega arith in ap
 check_passed n k d below l w = absurd (omega arith)
 
 -- all that is in the pipe is of that stretch then
-pub all_own : (n low high : ℕ) (x : Answer) (ups : List Answer) (downs : List Phase) → stretch Plain n x.to ≡ high
-    → Climbs low high (stretches Plain n (pipe_of (x ∷ ups) downs)) → Climbs high high (stretches Plain n (pipe_of (x ∷ ups) downs))
-all_own n low high x ups downs e c =
-    subst (λ (m : ℕ). Climbs m high (stretches Plain n (pipe_of (x ∷ ups) downs))) e
-    (climbs_from low high (stretch Plain n x.to) (stretches Plain n (pipe_of ups downs)) c)
+pub all_own : (mode : Mode) (n low high : ℕ) (x : Answer) (ups : List Answer) (downs : List Phase) → stretch mode n x.to ≡ high
+    → Climbs low high (stretches mode n (pipe_of (x ∷ ups) downs)) → Climbs high high (stretches mode n (pipe_of (x ∷ ups) downs))
+all_own mode n low high x ups downs e c =
+    subst (λ (m : ℕ). Climbs m high (stretches mode n (pipe_of (x ∷ ups) downs))) e
+    (climbs_from low high (stretch mode n x.to) (stretches mode n (pipe_of ups downs)) c)
 
 -- ---- what such a pipe's answers don't say
 
@@ -133,11 +134,11 @@ own_wait : (n k : ℕ) (d : Phase) → k < n → Lies Plain n (5 * k + 4) (5 * k
 own_wait n k (phase.Wait j) below l = let e : j ≡ k = omega arith in ap phase.Wait e
 own_wait n k d below l = absurd (omega arith)
 
-fitting : (b : Bool) → not b ≡ false → b ≡ true
+pub fitting : (b : Bool) → not b ≡ false → b ≡ true
 fitting true e = refl
 fitting false e = cc
 
-fits_as : (a : Answer) (q : Phase) → a.to ≡ q → misfits a ≡ false → fits_phase q a.reply ≡ true
+pub fits_as : (a : Answer) (q : Phase) → a.to ≡ q → misfits a ≡ false → fits_phase q a.reply ≡ true
 fits_as a q is m = subst (λ (p : Phase). fits_phase p a.reply ≡ true) is (fitting (fits_phase a.to a.reply) m)
 
 pub exists_no_ack : (n k : ℕ) (ups : List Answer) (downs : List Phase) → k < n → list_any misfits ups ≡ false
