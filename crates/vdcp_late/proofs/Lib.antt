@@ -26,3 +26,5 @@ pub mod ConfirmedReads
 pub mod ConfirmedStanding
 pub mod ConfirmedHearing
 pub mod ConfirmedComing
+pub mod ConfirmedReached
+pub mod LateReached
