@@ -1,5 +1,5 @@
 // Preloaded into a program, refuses growths of its memory, counted from 1: with REFUSED_GROWTHS=N the one of this number,
-// with REFUSED_GROWTHS=N- it and all behind it. Each refusal is marked by a byte on descriptor 9.
+// with REFUSED_GROWTHS=N- it and all after it. Each refusal is marked by a byte on descriptor 9.
 #define _GNU_SOURCE
 #include <dlfcn.h>
 #include <errno.h>
@@ -9,11 +9,11 @@
 static int is_refused(void) {
     static long growths;
     const char *refused = getenv("REFUSED_GROWTHS");
-    char *behind;
+    char *rest;
     if (!refused) return 0;
-    long first = strtol(refused, &behind, 10);
+    long first = strtol(refused, &rest, 10);
     growths++;
-    if (growths < first || (growths > first && *behind != '-')) return 0;
+    if (growths < first || (growths > first && *rest != '-')) return 0;
     errno = ENOMEM;
     return write(9, "!", 1) == 1;
 }

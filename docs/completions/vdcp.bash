@@ -1,4 +1,4 @@
-# What bash offers behind vdcp; tools/completions makes this file from the program's help. It is read by: . vdcp.bash
+# What bash offers after vdcp; tools/completions makes this file from the program's help. It is read by: . vdcp.bash
 
 _vdcp() {
     local words=() piece before='' word head='' subcommand='' wish='' place=0 rest='' offers='' i

@@ -1,4 +1,4 @@
--- Courses: what a course leaves is reached, with the course as its log; and courses one behind another.
+-- Courses: what a course leaves is reached, with the course as its log; and courses one after another.
 use Rattle.std.proofs.Common.{◌≡◌, Bool, true, false, Option, None, Some, List, [], ◌∷◌, ◌++◌, refl, sym, ap, subst, ◌∙◌, append_assoc}
 use Rattle.std.specs.Prelude.{if◌then◌else◌, is_some}
 use Rattle.std.specs.Option.{option_map_or, option_to_list}
@@ -8,9 +8,9 @@ use Rattle.vdcp_auto.specs.declared.exchange.Exchange.{Exchange}
 use Rattle.vdcp_auto.specs.declared.exchange.Heard.{Heard}
 use Rattle.vdcp_auto.specs.declared.exchange.Input.{Input}
 use Rattle.vdcp_auto.specs.declared.exchange.Input.TheVariants as input
-use Rattle.vdcp_auto.specs.declared.phase.Stage.{Stage}
-use Rattle.vdcp_auto.specs.declared.phase.Stage.TheVariants.{Ready, Awaiting, Ended}
-use Rattle.vdcp_auto.specs.declared.phase.State.{State}
+use Rattle.vdcp_auto.specs.State.{Stage}
+use Rattle.vdcp_auto.specs.State.{Ready, Awaiting, Ended}
+use Rattle.vdcp_auto.specs.State.{State}
 use Rattle.vdcp_auto.specs.Course.{course_from, after_input, ended_by_input, after_inputs_from, Tick, Receive, Take, Stop, logged, Reached, called}
 use Rattle.vdcp_auto.specs.Plan.{Plan}
 use Rattle.vdcp_auto.specs.Turn.{is_ready, tick_in, ticked, awaited_in, awaited, ended_in, exchange_of, ended_by, came_to, taken, stopped}
@@ -78,7 +78,7 @@ course_input plan input.Stop inputs s = refl
 course_input plan (input.Heard h) inputs s = course_came plan (Some h) inputs s
 course_input plan input.Silence inputs s = course_came plan None inputs s
 
--- Courses one behind another.
+-- Courses one after another.
 
 pub after_joined : (plan : Plan) (xs ys : List Input) (s : State)
     → after_inputs_from plan s (xs ++ ys) ≡ after_inputs_from plan (after_inputs_from plan s xs) ys

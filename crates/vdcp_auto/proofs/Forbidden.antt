@@ -1,4 +1,4 @@
--- What the rule book forbids, and what settles nothing, on small logs.
+-- What the rule book forbids, on small logs.
 use Rattle.std.specs.Prelude.{◌≡◌, Bool, true, false, not, ◌||◌, ◌&&◌, None, Some, List, [], ◌∷◌, ◌++◌, refl}
 use Rattle.std.specs.List.{list_any}
 use Rattle.std.proofs.Common.{inl, inr, sym, ap, ◌∙◌, arith}
@@ -10,7 +10,7 @@ use Rattle.vdcp_words.specs.declared.reply.Reply.{Reply}
 use Rattle.vdcp_words.specs.declared.reply.Reply.TheVariants as reply
 use Rattle.vdcp_auto.specs.declared.exchange.Exchange.{Exchange}
 use Rattle.vdcp_auto.specs.declared.exchange.Heard.TheVariants as heard
-use Rattle.vdcp_auto.specs.declared.phase.Mode.TheVariants.{Plain, Confirming}
+use Rattle.vdcp_auto.specs.declared.phase.Mode.TheVariants.{Plain}
 use Rattle.vdcp_auto.specs.Settled.{settled}
 use Rattle.vdcp_auto.specs.Commands.{is_cue_command}
 use Rattle.vdcp_auto.specs.Log.{is_cue, is_play, is_done_status}
@@ -29,9 +29,6 @@ cue = answered (command.PlayCue clip) reply.Ack
 abbrev done : Exchange
 done = answered (command.Status 1) (reply.State 1 (Some 0x80))
 
-abbrev empty : Exchange
-empty = answered (command.Status 1) (reply.State 1 (Some 0x01))
-
 abbrev played : Exchange
 played = answered command.Play reply.Ack
 
@@ -40,19 +37,6 @@ unread = answered command.Play (reply.Nak 0x04)
 
 abbrev stop : Exchange
 stop = answered command.Stop reply.Ack
-
--- ---- what settles nothing
-
-empty_status_after_stop_settles_nothing : settled Plain (cue ∷ done ∷ silent command.Play ∷ stop ∷ empty ∷ []) ≡ 0
-empty_status_after_stop_settles_nothing = refl
-
-empty_status_after_an_unanswered_play_settles : settled Plain (cue ∷ done ∷ silent command.Play ∷ empty ∷ []) ≡ 1
-empty_status_after_an_unanswered_play_settles = refl
-
-acked_play_settles_in_plain_mode_alone : (settled Plain (cue ∷ done ∷ played ∷ []) ≡ 1) × (settled Confirming (cue ∷ done ∷ played ∷ []) ≡ 0)
-acked_play_settles_in_plain_mode_alone = (refl, refl)
-
--- ---- what is forbidden
 
 true_not_false : true ≡ false → ⊥
 true_not_false e = cc
@@ -79,7 +63,7 @@ close_of_one (inr all) = absurd (omega (arith, all.0))
 no_close_before_all_is_settled : May Plain once (cue ∷ done ∷ []) (command.Close 1) → ⊥
 no_close_before_all_is_settled m = close_of_one m.rule
 
--- a PLAY looks back to a cue, and to a done status that no PLAY stands behind
+-- a PLAY looks back to a cue, and to a done status with no PLAY after it
 any-behind : (p : Exchange → Bool) (xs ys : List Exchange) → list_any p ys ≡ true → list_any p (xs ++ ys) ≡ true
 any-behind p [] ys h = h
 any-behind p (x ∷ xs) ys h = or_right (p x) (list_any p (xs ++ ys)) (any-behind p xs ys h)

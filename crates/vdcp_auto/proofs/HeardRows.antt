@@ -1,5 +1,6 @@
 -- What is heard of some bursts, computed from the definitions.
-use Rattle.std.specs.Prelude.{◌≡◌, ℕ, true, false, None, Some, List, [], ◌∷◌, ◌++◌, refl}
+use Rattle.std.specs.Prelude.{◌≡◌, ℕ, Bool, true, false, Option, None, Some, List, [], ◌∷◌, ◌++◌, map, refl}
+use Rattle.vdcp_auto.specs.declared.exchange.Heard.{Heard}
 use Rattle.vdcp_auto.specs.declared.exchange.Heard.TheVariants as heard
 use Rattle.vdcp_words.specs.declared.reply.Reply.TheVariants as reply
 use Rattle.vdcp_auto.specs.Heard.{heard_in, hears_receipt}
@@ -8,59 +9,60 @@ use Rattle.vdcp_auto.specs.Heard.{heard_in, hears_receipt}
 abbrev granted : List ℕ
 granted = 0x02 ∷ 0x03 ∷ 0x30 ∷ 0x81 ∷ 0x01 ∷ 0x4e ∷ []
 
-granted_is_heard_from_its_unit : heard_in 0 granted ≡ Some (heard.Reply (reply.Opened true))
-granted_is_heard_from_its_unit = refl
+abbrev granted_with_a_bad_sum : List ℕ
+granted_with_a_bad_sum = 0x02 ∷ 0x03 ∷ 0x30 ∷ 0x81 ∷ 0x01 ∷ 0x4f ∷ []
 
-granted_of_another_unit_is_no_reply : heard_in 1 granted ≡ Some heard.Other
-granted_of_another_unit_is_no_reply = refl
+abbrev granted_cut : List ℕ
+granted_cut = 0x02 ∷ 0x03 ∷ 0x30 ∷ 0x81 ∷ []
 
-ack_is_heard_from_each_unit : heard_in 0 (0x04 ∷ []) ≡ heard_in 7 (0x04 ∷ [])
-ack_is_heard_from_each_unit = refl
+abbrev ack : List ℕ
+ack = 0x04 ∷ []
 
-ack_is_a_reply : heard_in 7 (0x04 ∷ []) ≡ Some (heard.Reply reply.Ack)
-ack_is_a_reply = refl
-
-nak_is_heard_from_each_unit : heard_in 7 (0x05 ∷ 0x80 ∷ []) ≡ Some (heard.Reply (reply.Nak 0x80))
-nak_is_heard_from_each_unit = refl
+abbrev nak : ℕ → List ℕ
+nak byte = 0x05 ∷ byte ∷ []
 
 -- STATUS as a command of unit 0
-a_command_is_no_reply : heard_in 0 (0x02 ∷ 0x03 ∷ 0x30 ∷ 0x05 ∷ 0x01 ∷ 0xca ∷ []) ≡ Some heard.Other
-a_command_is_no_reply = refl
+abbrev a_command : List ℕ
+a_command = 0x02 ∷ 0x03 ∷ 0x30 ∷ 0x05 ∷ 0x01 ∷ 0xca ∷ []
 
 -- a state reply without its bitmap
-a_short_reply_is_no_reply : heard_in 0 (0x02 ∷ 0x02 ∷ 0x30 ∷ 0x85 ∷ 0x4b ∷ []) ≡ Some heard.Other
-a_short_reply_is_no_reply = refl
+abbrev a_short_reply : List ℕ
+a_short_reply = 0x02 ∷ 0x02 ∷ 0x30 ∷ 0x85 ∷ 0x4b ∷ []
 
-the_first_message_is_heard : heard_in 0 (0x04 ∷ 0x05 ∷ 0x01 ∷ []) ≡ Some (heard.Reply reply.Ack)
-the_first_message_is_heard = refl
+-- who asked this unit hears this in the burst, and it is a receipt or not
+record Row : Type 0 where
+  unit : ℕ
+  burst : List ℕ
+  heard : Option Heard
+  is_receipt : Bool
 
-junk_behind_a_message_is_not_heard : heard_in 0 (granted ++ 0xff ∷ []) ≡ Some (heard.Reply (reply.Opened true))
-junk_behind_a_message_is_not_heard = refl
+abbrev row : ℕ → List ℕ → Option Heard → Bool → Row
+row unit burst heard is_receipt = record { unit = unit; burst = burst; heard = heard; is_receipt = is_receipt }
 
-no_bytes_are_heard_as_nothing : heard_in 0 [] ≡ None
-no_bytes_are_heard_as_nothing = refl
+abbrev rows : List Row
+rows =
+    row 0 granted (Some (heard.Reply (reply.Opened true))) false
+    -- a framed message is heard from its unit alone, ACK and NAK from each
+    ∷ row 1 granted (Some heard.Other) false
+    ∷ row 0 ack (Some (heard.Reply reply.Ack)) true
+    ∷ row 7 ack (Some (heard.Reply reply.Ack)) true
+    ∷ row 7 (nak 0x80) (Some (heard.Reply (reply.Nak 0x80))) true
+    ∷ row 0 (nak 0x04) (Some (heard.Reply (reply.Nak 0x04))) true
+    -- what is no reply
+    ∷ row 0 a_command (Some heard.Other) false
+    ∷ row 0 a_short_reply (Some heard.Other) false
+    -- the first message is heard, and nothing after it
+    ∷ row 0 (ack ++ nak 0x01) (Some (heard.Reply reply.Ack)) true
+    ∷ row 0 (granted ++ 0xff ∷ []) (Some (heard.Reply (reply.Opened true))) false
+    -- without a whole message first, nothing is heard
+    ∷ row 0 [] None false
+    ∷ row 0 (0xff ∷ ack) None false
+    ∷ row 0 granted_with_a_bad_sum None false
+    ∷ row 0 granted_cut None false
+    ∷ []
 
-junk_is_heard_as_nothing : heard_in 0 (0xff ∷ 0x04 ∷ []) ≡ None
-junk_is_heard_as_nothing = refl
+rows_are_heard : map (λ r. heard_in r.unit r.burst) rows ≡ map (λ r. r.heard) rows
+rows_are_heard = refl
 
--- a reply whose checksum is one too high
-a_bad_sum_is_heard_as_nothing : heard_in 0 (0x02 ∷ 0x03 ∷ 0x30 ∷ 0x81 ∷ 0x01 ∷ 0x4f ∷ []) ≡ None
-a_bad_sum_is_heard_as_nothing = refl
-
-a_cut_message_is_heard_as_nothing : heard_in 0 (0x02 ∷ 0x03 ∷ 0x30 ∷ 0x81 ∷ []) ≡ None
-a_cut_message_is_heard_as_nothing = refl
-
-receipts_are_heard : hears_receipt (heard_in 0 (0x04 ∷ [])) ≡ true
-receipts_are_heard = refl
-
-a_stray_nak_is_a_receipt : hears_receipt (heard_in 0 (0x05 ∷ 0x04 ∷ [])) ≡ true
-a_stray_nak_is_a_receipt = refl
-
-a_grant_is_no_receipt : hears_receipt (heard_in 0 granted) ≡ false
-a_grant_is_no_receipt = refl
-
-nothing_is_no_receipt : hears_receipt (heard_in 0 []) ≡ false
-nothing_is_no_receipt = refl
-
-a_message_of_another_unit_is_no_receipt : hears_receipt (heard_in 1 granted) ≡ false
-a_message_of_another_unit_is_no_receipt = refl
+rows_are_receipts : map (λ r. hears_receipt (heard_in r.unit r.burst)) rows ≡ map (λ r. r.is_receipt) rows
+rows_are_receipts = refl

@@ -7,9 +7,9 @@ use Rattle.vdcp_auto.specs.declared.phase.Mode.{Mode}
 use Rattle.vdcp_auto.specs.declared.phase.Mode.TheVariants.{Plain, Confirming}
 use Rattle.vdcp_auto.specs.declared.phase.Phase.{Phase}
 use Rattle.vdcp_auto.specs.declared.phase.Phase.TheVariants as phase
-use Rattle.vdcp_auto.specs.declared.phase.Stage.{Stage}
-use Rattle.vdcp_auto.specs.declared.phase.Stage.TheVariants.{Ready, Awaiting, Ended}
-use Rattle.vdcp_auto.specs.declared.phase.State.{State}
+use Rattle.vdcp_auto.specs.State.{Stage}
+use Rattle.vdcp_auto.specs.State.{Ready, Awaiting, Ended}
+use Rattle.vdcp_auto.specs.State.{State}
 use Rattle.vdcp_auto.specs.RuleBook.{CuesItemAt}
 use Rattle.vdcp_auto.specs.Plan.{Plan}
 use Rattle.vdcp_auto.proofs.Memo.{Memo}
@@ -19,7 +19,7 @@ abbrev pub CueIs : Mode → List Item → ℕ → Memo → Type 0
 CueIs Plain list k m = CuesItemAt list k m.cue × (m.acked ≡ true)
 CueIs Confirming list k m = CuesItemAt list k m.cue
 
--- item k was cued, and so many empty statuses came since
+-- item k was cued, and at least this number of empty statuses came since
 abbrev pub TrialIs : List Item → ℕ → ℕ → Memo → Type 0
 TrialIs list k tries m = (m.cued ≡ true) × CuesItemAt list k m.first × (tries ≤ m.empties)
 

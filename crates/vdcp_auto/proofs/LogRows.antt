@@ -1,5 +1,5 @@
 -- More small logs: what they settle, which cue may follow them, and where silences count.
-use Rattle.std.specs.Prelude.{◌≡◌, ℕ, true, None, Some, slice_index, [], ◌∷◌, refl}
+use Rattle.std.specs.Prelude.{◌≡◌, ℕ, true, None, Some, List, slice_index, [], ◌∷◌, map, refl}
 use Rattle.std.proofs.Common.{arith, ap, lit≤}
 use Rattle.vdcp_value.specs.Ids.{id_bytes}
 use Rattle.vdcp_words.specs.declared.command.Command.{Command}
@@ -8,6 +8,7 @@ use Rattle.vdcp_words.specs.declared.reply.Reply.{Reply}
 use Rattle.vdcp_words.specs.declared.reply.Reply.TheVariants as reply
 use Rattle.vdcp_auto.specs.declared.exchange.Exchange.{Exchange}
 use Rattle.vdcp_auto.specs.declared.exchange.Heard.TheVariants as heard
+use Rattle.vdcp_auto.specs.declared.phase.Mode.{Mode}
 use Rattle.vdcp_auto.specs.declared.phase.Mode.TheVariants.{Plain, Confirming}
 use Rattle.vdcp_auto.specs.Settled.{has_open_play, settled}
 use Rattle.vdcp_auto.specs.RuleBook.{May}
@@ -34,26 +35,35 @@ lost_play = silent command.Play
 
 -- Settled.
 
-refused_play_settles_nothing : settled Plain (cued ∷ status 0x80 ∷ came command.Play (reply.Nak 0x01) ∷ status 0x01 ∷ []) ≡ 0
-refused_play_settles_nothing = refl
+-- the number of events that the log settles in this mode
+record Row : Type 0 where
+  mode : Mode
+  log : List Exchange
+  count : ℕ
 
-lost_play_settles_by_an_empty_status : settled Plain (cued ∷ status 0x80 ∷ lost_play ∷ status 0x04 ∷ []) ≡ 1
-lost_play_settles_by_an_empty_status = refl
+abbrev row : Mode → List Exchange → ℕ → Row
+row mode log count = record { mode = mode; log = log; count = count }
 
-lost_play_settles_by_an_empty_status_in_confirm_mode : settled Confirming (cued ∷ status 0x80 ∷ lost_play ∷ status 0x01 ∷ []) ≡ 1
-lost_play_settles_by_an_empty_status_in_confirm_mode = refl
+abbrev rows : List Row
+rows =
+    -- a PLAY that heard ACK settles in plain mode alone
+    row Plain (cued ∷ status 0x80 ∷ came command.Play reply.Ack ∷ []) 1
+    ∷ row Confirming (cued ∷ status 0x80 ∷ came command.Play reply.Ack ∷ []) 0
+    ∷ row Plain (cued ∷ status 0x80 ∷ came command.Play (reply.Nak 0x01) ∷ status 0x01 ∷ []) 0
+    -- a lost PLAY settles by an empty status, once, and by nothing else
+    ∷ row Plain (cued ∷ status 0x80 ∷ lost_play ∷ status 0x01 ∷ []) 1
+    ∷ row Plain (cued ∷ status 0x80 ∷ lost_play ∷ status 0x04 ∷ []) 1
+    ∷ row Confirming (cued ∷ status 0x80 ∷ lost_play ∷ status 0x01 ∷ []) 1
+    ∷ row Plain (lost_play ∷ status 0x01 ∷ status 0x01 ∷ []) 1
+    ∷ row Plain (lost_play ∷ status 0x80 ∷ lost_play ∷ status 0x01 ∷ []) 1
+    ∷ row Plain (lost_play ∷ came (command.Status 2) (reply.State 0 None) ∷ []) 0
+    ∷ row Plain (lost_play ∷ came command.ActiveId (reply.Active (Some clip_one)) ∷ []) 0
+    -- after a STOP an empty status settles nothing
+    ∷ row Plain (cued ∷ status 0x80 ∷ lost_play ∷ came command.Stop reply.Ack ∷ status 0x01 ∷ []) 0
+    ∷ []
 
-second_empty_status_settles_nothing : settled Plain (lost_play ∷ status 0x01 ∷ status 0x01 ∷ []) ≡ 1
-second_empty_status_settles_nothing = refl
-
-two_lost_plays_settle_once : settled Plain (lost_play ∷ status 0x80 ∷ lost_play ∷ status 0x01 ∷ []) ≡ 1
-two_lost_plays_settle_once = refl
-
-state_without_byte_settles_nothing : settled Plain (lost_play ∷ came (command.Status 2) (reply.State 0 None) ∷ []) ≡ 0
-state_without_byte_settles_nothing = refl
-
-active_id_settles_nothing : settled Plain (lost_play ∷ came command.ActiveId (reply.Active (Some clip_one)) ∷ []) ≡ 0
-active_id_settles_nothing = refl
+rows_settle : map (λ r. settled r.mode r.log) rows ≡ map (λ r. r.count) rows
+rows_settle = refl
 
 fault_leaves_a_play_open : has_open_play (came command.Play (reply.Nak 0x04) ∷ status 0x02 ∷ []) ≡ true
 fault_leaves_a_play_open = refl

@@ -80,7 +80,7 @@ settled_stays mode log opened e is none =
 
 -- The last cue, and the first one.
 
--- a done status with no PLAY behind it
+-- a done status with no PLAY after it
 pub record HasDone (after : List Exchange) : Type 0 where
   pub between : List Exchange
   pub status : Exchange
@@ -101,7 +101,7 @@ pub record LastCue (mode : Mode) (log : List Exchange) (command : Command) (acke
   pub none_settles : settled mode before ≡ settled mode log
   pub is_done : done ≡ true → HasDone after
 
--- a cue from which on nothing settles, and so many empty statuses after it
+-- a cue from which on nothing settles, and the number of empty statuses after it
 pub record FirstCue (mode : Mode) (log : List Exchange) (command : Command) (empties : ℕ) : Type 0 where
   pub before : List Exchange
   pub cue : Exchange

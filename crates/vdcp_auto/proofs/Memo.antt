@@ -17,7 +17,7 @@ pub record Memo : Type 0 where
   pub cued : Bool
   pub cue : Command
   pub acked : Bool
-  -- a done status stands after the last cue, with no PLAY behind it
+  -- a done status stands after the last cue, with no PLAY after it
   pub done : Bool
   -- the command of the first cue after the last exchange that settles, and how many empty statuses stand after it
   pub first : Command

@@ -5,7 +5,7 @@ use Rattle.vdcp_words.specs.declared.command.Command.{Command}
 use Rattle.vdcp_auto.specs.declared.exchange.Heard.{Heard}
 use Rattle.vdcp_auto.specs.declared.exchange.Heard.TheVariants as heard
 use Rattle.vdcp_auto.specs.declared.phase.Mode.TheVariants.{Confirming}
-use Rattle.vdcp_auto.specs.declared.phase.State.{State}
+use Rattle.vdcp_auto.specs.State.{State}
 use Rattle.vdcp_auto.specs.Heard.{hears_receipt}
 use Rattle.vdcp_auto.specs.Plan.{Plan}
 use Rattle.vdcp_auto.specs.Turn.{is_end, awaited, ended_in, exchange_of, ended_by, came_to}

@@ -7,22 +7,22 @@ use Rattle.vdcp_auto.specs.declared.exchange.Exchange.{Exchange}
 use Rattle.vdcp_auto.specs.declared.outcome.Outcome.TheVariants.{Done, Stopped, Lost, Denied, Missing, Refused, Foreign, Strange}
 use Rattle.vdcp_auto.specs.declared.phase.Mode.{Mode}
 use Rattle.vdcp_auto.specs.declared.phase.Phase.{Phase}
-use Rattle.vdcp_auto.specs.declared.phase.Turn.{Turn}
-use Rattle.vdcp_auto.specs.declared.phase.Turn.TheVariants.{Goes, Settles, Retries, Ends}
+use Rattle.vdcp_auto.specs.declared.phase.Transition.{Transition}
+use Rattle.vdcp_auto.specs.declared.phase.Transition.TheVariants.{Goes, Settles, Retries, Ends}
 use Rattle.vdcp_auto.specs.Replies.{is_refusal}
 use Rattle.vdcp_auto.specs.Log.{answer_in, is_counted}
 use Rattle.vdcp_auto.specs.Plan.{Plan}
 use Rattle.vdcp_auto.specs.Table.{on_lost_cue, on_reply, on_refusal, on_no_answer}
-use Rattle.vdcp_auto.specs.Turn.{turn_on, stage_after, unanswered_after}
+use Rattle.vdcp_auto.specs.Turn.{transition_on, stage_after, unanswered_after}
 use Rattle.vdcp_auto.proofs.Memo.{row_after}
 use Rattle.vdcp_auto.proofs.Keeps.{RowIs}
 
--- the turn gives the port up
-abbrev is_loss : Turn → Bool
+-- the transition gives the port up
+abbrev is_loss : Transition → Bool
 is_loss (Ends Lost) = true
 is_loss _ = false
 
-either : (b : Bool) (s t : Turn) → is_loss s ≡ false → is_loss t ≡ false → is_loss (cond b s t) ≡ false
+either : (b : Bool) (s t : Transition) → is_loss s ≡ false → is_loss t ≡ false → is_loss (cond b s t) ≡ false
 either true s t here there = here
 either false s t here there = there
 
@@ -39,7 +39,7 @@ no_loss_refusal n p = grind arith
 no_loss_no_answer : (mode : Mode) (p : Phase) → is_loss (on_no_answer mode p) ≡ false
 no_loss_no_answer mode p = grind arith
 
-row_at : (limit row : ℕ) (t : Turn) → is_loss t ≡ false → row < limit → RowIs limit row row (stage_after t)
+row_at : (limit row : ℕ) (t : Transition) → is_loss t ≡ false → row < limit → RowIs limit row row (stage_after t)
 row_at limit row (Goes p) known below = (refl, below)
 row_at limit row (Settles k) known below = (refl, below)
 row_at limit row (Retries k) known below = (refl, below)
@@ -56,20 +56,20 @@ row_at limit row (Ends (Strange k)) known below = below
 abbrev counted_row : ℕ → Bool → Bool → ℕ
 counted_row row counts answered = if counts then (if answered then 0 else row + 1) else row
 
-row_unanswered : (limit row : ℕ) (counts : Bool) (t : Turn) → is_loss t ≡ false → row < limit → (enough : Bool) → nat_le limit (row + 1) ≡ enough
+row_unanswered : (limit row : ℕ) (counts : Bool) (t : Transition) → is_loss t ≡ false → row < limit → (enough : Bool) → nat_le limit (row + 1) ≡ enough
     → RowIs limit (counted_row row counts false) (counted_row row counts false) (stage_after (cond (counts && enough) (Ends Lost) t))
 row_unanswered limit row true t known below true is = grind arith
 row_unanswered limit row true t known below false is = row_at limit (row + 1) t known (grind arith)
 row_unanswered limit row false t known below enough is = row_at limit row t known below
 
-row_answered : (limit row : ℕ) (counts : Bool) (t : Turn) → is_loss t ≡ false → row < limit
+row_answered : (limit row : ℕ) (counts : Bool) (t : Transition) → is_loss t ≡ false → row < limit
     → RowIs limit (counted_row row counts true) (counted_row row counts true) (stage_after t)
 row_answered limit row true t known below = row_at limit 0 t known (omega arith)
 row_answered limit row false t known below = row_at limit row t known below
 
 row_on : (plan : Plan) (take : Bool) (tries row : ℕ) (counts : Bool) (p : Phase) (answer : Option Reply) → row < plan.limit
     → RowIs plan.limit (counted_row row counts (is_some answer)) (counted_row row counts (is_some answer))
-    (stage_after (turn_on plan take tries row counts p answer))
+    (stage_after (transition_on plan take tries row counts p answer))
 row_on plan take tries row counts p None below =
     row_unanswered plan.limit row counts (on_no_answer plan.mode p) (no_loss_no_answer plan.mode p) below (nat_le plan.limit (row + 1)) refl
 row_on plan take tries row counts p (Some r) below =
@@ -78,5 +78,5 @@ row_on plan take tries row counts p (Some r) below =
 
 pub row_kept : (plan : Plan) (take : Bool) (tries row : ℕ) (p : Phase) (e : Exchange) → row < plan.limit
     → RowIs plan.limit (row_after plan.mode row e) (unanswered_after plan.mode e row)
-    (stage_after (turn_on plan take tries row (is_counted plan.mode e) p (answer_in e)))
+    (stage_after (transition_on plan take tries row (is_counted plan.mode e) p (answer_in e)))
 row_kept plan take tries row p e below = row_on plan take tries row (is_counted plan.mode e) p (answer_in e) below

@@ -17,7 +17,7 @@ pub data IsAnsweredLast : List Exchange → Type 0 where
   none : IsAnsweredLast []
   ends : (front : List Exchange) (e : Exchange) → is_answered e ≡ true → IsAnsweredLast (front ++ e ∷ [])
 
--- the list ends with exactly so many unanswered exchanges
+-- the number of unanswered exchanges at the list's end
 pub record Run (log : List Exchange) (row : ℕ) : Type 0 where
   pub front : List Exchange
   pub rest : List Exchange

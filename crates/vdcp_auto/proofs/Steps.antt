@@ -14,25 +14,25 @@ use Rattle.vdcp_auto.specs.declared.phase.Mode.{Mode}
 use Rattle.vdcp_auto.specs.declared.phase.Mode.TheVariants.{Plain, Confirming}
 use Rattle.vdcp_auto.specs.declared.phase.Phase.{Phase}
 use Rattle.vdcp_auto.specs.declared.phase.Phase.TheVariants as phase
-use Rattle.vdcp_auto.specs.declared.phase.Turn.{Turn}
-use Rattle.vdcp_auto.specs.declared.phase.Turn.TheVariants.{Ends}
+use Rattle.vdcp_auto.specs.declared.phase.Transition.{Transition}
+use Rattle.vdcp_auto.specs.declared.phase.Transition.TheVariants.{Ends}
 use Rattle.vdcp_auto.specs.Replies.{is_refusal, is_done, is_empty}
 use Rattle.vdcp_auto.specs.Commands.{fits, is_state, is_sense}
 use Rattle.vdcp_auto.specs.Log.{answer_in, is_answered, is_counted, is_grant, is_done_status, is_empty_status, is_play, is_acked}
 use Rattle.vdcp_auto.specs.RuleBook.{CuesItemAt}
 use Rattle.vdcp_auto.specs.Table.{on_reply, on_refusal, on_no_answer}
-use Rattle.vdcp_auto.specs.Turn.{is_end, turn_on, stage_after, settled_after, tries_after}
+use Rattle.vdcp_auto.specs.Turn.{is_end, transition_on, stage_after, settled_after, tries_after}
 use Rattle.vdcp_auto.proofs.Memo.{Memo, remember}
 use Rattle.vdcp_auto.proofs.Keeps.{InPhase, AtStage}
 
 abbrev pub exchange : Command → Option Heard → Exchange
 exchange c h = record { command = c; heard = h }
 
--- the turn on an exchange keeps what holds of the phase
-abbrev pub Kept : Mode → List Item → ℕ → Memo → Bool → ℕ → Exchange → Turn → Type 0
-Kept mode list limit m stop tries e turn =
-    AtStage mode list limit (remember mode limit m e) stop (tries_after turn tries) (stage_after turn)
-    × (settled_after turn m.count ≡ (remember mode limit m e).count)
+-- the transition on an exchange keeps what holds of the phase
+abbrev pub Kept : Mode → List Item → ℕ → Memo → Bool → ℕ → Exchange → Transition → Type 0
+Kept mode list limit m stop tries e transition =
+    AtStage mode list limit (remember mode limit m e) stop (tries_after transition tries) (stage_after transition)
+    × (settled_after transition m.count ≡ (remember mode limit m e).count)
 
 -- nothing is to be learned from the exchange
 record IsMute (e : Exchange) : Type 0 where
@@ -198,10 +198,10 @@ unanswered : (mode : Mode) (list : List Item) (limit port : ℕ) (m : Memo) (sto
 unanswered mode list limit port m stop tries h {p} {c} s mute no_answer holds true = (tt, nothing_settles mode limit m (exchange c h) mute)
 unanswered mode list limit port m stop tries h s mute no_answer holds false = silent mode list limit port m stop tries h s mute no_answer holds
 
--- where the turn on an exchange leads
-abbrev pub turn_at : Mode → List Item → ℕ → ℕ → Memo → Bool → ℕ → Phase → Exchange → Turn
-turn_at mode list limit port m take tries p e =
-    turn_on (record { mode = mode; list = list; port = port; limit = limit }) take tries m.row (is_counted mode e) p (answer_in e)
+-- where an exchange leads
+abbrev pub transition_at : Mode → List Item → ℕ → ℕ → Memo → Bool → ℕ → Phase → Exchange → Transition
+transition_at mode list limit port m take tries p e =
+    transition_on (record { mode = mode; list = list; port = port; limit = limit }) take tries m.row (is_counted mode e) p (answer_in e)
 
 no_refusal_ends : (c : Command) (r : Reply) → is_refusal r ≡ true → is_end Confirming c (Some (heard.Reply r)) ≡ true → ⊥
 no_refusal_ends c r refusal ends = grind arith
@@ -219,30 +219,30 @@ kept_answer : (mode : Mode) (list : List Item) (limit port : ℕ) (m : Memo) (ta
     → Sends list port p c → (r : Reply) → is_end mode c (Some (heard.Reply r)) ≡ true
     → InPhase mode list m true stop tries p
     → (refusal fit : Bool) → is_refusal r ≡ refusal → fits c r ≡ fit
-    → Kept mode list limit m stop tries (exchange c (Some (heard.Reply r))) (turn_at mode list limit port m take tries p (exchange c (Some (heard.Reply r))))
+    → Kept mode list limit m stop tries (exchange c (Some (heard.Reply r))) (transition_at mode list limit port m take tries p (exchange c (Some (heard.Reply r))))
 kept_answer Plain list limit port m take stop tries {p} {c} s r ends holds true fit is kind =
     let e = exchange c (Some (heard.Reply r)) in
-    let turn : turn_at Plain list limit port m take tries p e ≡ on_refusal (length list) p = rw (is, is) refl in
-    subst (λ t. Kept Plain list limit m stop tries e t) (sym turn)
+    let same : transition_at Plain list limit port m take tries p e ≡ on_refusal (length list) p = rw (is, is) refl in
+    subst (λ t. Kept Plain list limit m stop tries e t) (sym same)
     (refused_plain list limit port m stop tries (Some (heard.Reply r)) s (mute_refusal c r is) (rw is refl) holds)
 kept_answer Confirming list limit port m take stop tries {p} {c} s r ends holds true fit is kind =
     absurd (no_refusal_ends c r is ends)
 kept_answer mode list limit port m take stop tries {p} {c} s r ends holds false true is kind =
     let e = exchange c (Some (heard.Reply r)) in
-    let turn : turn_at mode list limit port m take tries p e ≡ on_reply mode list limit take tries p r = rw (is, kind, is) refl in
-    subst (λ t. Kept mode list limit m stop tries e t) (sym turn)
+    let same : transition_at mode list limit port m take tries p e ≡ on_reply mode list limit take tries p r = rw (is, kind, is) refl in
+    subst (λ t. Kept mode list limit m stop tries e t) (sym same)
     (kept_reply mode list limit port m take stop tries s r ends is kind holds (is_sense c) refl)
 kept_answer mode list limit port m take stop tries {p} {c} s r ends holds false false is kind =
     let e = exchange c (Some (heard.Reply r)) in
     let lost = is_counted mode e && nat_le limit (m.row + 1) in
-    let turn : turn_at mode list limit port m take tries p e ≡ cond lost (Ends Lost) (on_no_answer mode p) = rw (is, kind) refl in
-    subst (λ t. Kept mode list limit m stop tries e t) (sym turn)
+    let same : transition_at mode list limit port m take tries p e ≡ cond lost (Ends Lost) (on_no_answer mode p) = rw (is, kind) refl in
+    subst (λ t. Kept mode list limit m stop tries e t) (sym same)
     (unanswered mode list limit port m stop tries (Some (heard.Reply r)) s (mute_unfit c r kind) (rw (is, kind) refl) holds lost)
 
 pub kept : (mode : Mode) (list : List Item) (limit port : ℕ) (m : Memo) (take stop : Bool) (tries : ℕ) {p : Phase} {c : Command}
     → Sends list port p c → (h : Option Heard) → is_end mode c h ≡ true
     → InPhase mode list m true stop tries p
-    → Kept mode list limit m stop tries (exchange c h) (turn_at mode list limit port m take tries p (exchange c h))
+    → Kept mode list limit m stop tries (exchange c h) (transition_at mode list limit port m take tries p (exchange c h))
 kept mode list limit port m take stop tries {p} {c} s None ends holds =
     unanswered mode list limit port m stop tries None s (mute_unheard c) refl holds (is_counted mode (exchange c None) && nat_le limit (m.row + 1))
 kept mode list limit port m take stop tries {p} {c} s (Some heard.Other) ends holds =

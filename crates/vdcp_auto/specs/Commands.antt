@@ -13,7 +13,7 @@ abbrev pub cue_for : ClipId → Option Part → Command
 cue_for id None = command.PlayCue id
 cue_for id (Some part) = command.CueData id part.start part.duration
 
--- what cues an item: PLAY CUE for a whole clip, CUE WITH DATA for a part
+-- the command that cues an item
 abbrev pub cue_of : Item → Command
 cue_of item = cue_for item.id item.part
 

@@ -14,8 +14,8 @@ abbrev pub heard_by : Result Reply WordFault → Heard
 heard_by (Ok reply) = heard.Reply reply
 heard_by (Err fault) = heard.Other
 
--- what is heard of a message by who asked this unit. ACK and NAK name no unit and are heard from
--- each; a framed message of another unit is no reply
+-- a message as an answer from this unit. ACK and NAK name no unit and count as from any; a framed message of
+-- another unit is no reply
 abbrev pub heard_as : ℕ → Content → Heard
 heard_as unit ack = heard_by (reply_of ack)
 heard_as unit (nak byte) = heard_by (reply_of (nak byte))

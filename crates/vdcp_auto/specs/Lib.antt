@@ -5,6 +5,7 @@ pub mod Log
 pub mod Settled
 pub mod RuleBook
 pub mod Endings
+pub mod State
 pub mod Plan
 pub mod Bounds
 pub mod Table

@@ -12,8 +12,8 @@ use Rattle.vdcp_auto.specs.declared.phase.Mode.{Mode}
 use Rattle.vdcp_auto.specs.declared.phase.Mode.TheVariants.{Plain, Confirming}
 use Rattle.vdcp_auto.specs.declared.phase.Phase.{Phase}
 use Rattle.vdcp_auto.specs.declared.phase.Phase.TheVariants as phase
-use Rattle.vdcp_auto.specs.declared.phase.Turn.{Turn}
-use Rattle.vdcp_auto.specs.declared.phase.Turn.TheVariants.{Goes, Settles, Retries, Ends}
+use Rattle.vdcp_auto.specs.declared.phase.Transition.{Transition}
+use Rattle.vdcp_auto.specs.declared.phase.Transition.TheVariants.{Goes, Settles, Retries, Ends}
 use Rattle.vdcp_auto.specs.Replies.{is_granted, is_present, is_cueing, is_done, is_playing, is_empty}
 use Rattle.vdcp_auto.specs.Commands.{cue_of}
 
@@ -45,13 +45,13 @@ names_other _ _ = false
 
 -- a state in Wait(k) with nothing cued: strange in plain mode; in confirm mode the cue was lost,
 -- and is tried until the limit
-abbrev pub on_lost_cue : Mode → ℕ → ℕ → ℕ → Turn
+abbrev pub on_lost_cue : Mode → ℕ → ℕ → ℕ → Transition
 on_lost_cue Plain limit tries k = Ends (Strange k)
 on_lost_cue Confirming limit tries k =
     if nat_lt (tries + 1) limit then Retries k else Ends (Refused k)
 
 -- where a reply leads that fits the phase's command. The wish to take and the tries count in Wait
-abbrev pub on_reply : Mode → List Item → ℕ → Bool → ℕ → Phase → Reply → Turn
+abbrev pub on_reply : Mode → List Item → ℕ → Bool → ℕ → Phase → Reply → Transition
 on_reply mode list limit take tries phase.Open r =
     if is_granted r then Goes phase.Select else Ends Denied
 on_reply mode list limit take tries phase.Select r = Goes (next list 0)
@@ -75,7 +75,7 @@ on_reply mode list limit take tries phase.Halt r = Goes phase.HaltClose
 on_reply mode list limit take tries phase.HaltClose r = Ends Stopped
 
 -- where NAK 01 leads, for a list of n items
-abbrev pub on_refusal : ℕ → Phase → Turn
+abbrev pub on_refusal : ℕ → Phase → Transition
 on_refusal n phase.Open = Ends Denied
 on_refusal n phase.Select = Ends Denied
 on_refusal n phase.Seen = Ends Denied
@@ -92,7 +92,7 @@ on_refusal n phase.HaltClose = Ends Stopped
 
 -- where an unanswered exchange leads, short of the limit. In confirm mode the time-out is the end
 -- of each command that only a receipt answers
-abbrev pub on_no_answer : Mode → Phase → Turn
+abbrev pub on_no_answer : Mode → Phase → Transition
 on_no_answer Plain (phase.Play k) = Goes (phase.Probe k)
 on_no_answer Plain p = Goes p
 on_no_answer Confirming phase.Open = Goes phase.Open
@@ -109,7 +109,7 @@ on_no_answer Confirming phase.Close = Ends Done
 on_no_answer Confirming phase.Halt = Goes phase.HaltClose
 on_no_answer Confirming phase.HaltClose = Ends Stopped
 
--- the phases behind the operator's stop
+-- the phases after the operator's stop
 abbrev pub is_halting : Phase → Bool
 is_halting phase.Halt = true
 is_halting phase.HaltClose = true

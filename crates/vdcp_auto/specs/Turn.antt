@@ -13,11 +13,11 @@ use Rattle.vdcp_auto.specs.declared.phase.Mode.{Mode}
 use Rattle.vdcp_auto.specs.declared.phase.Mode.TheVariants.{Plain, Confirming}
 use Rattle.vdcp_auto.specs.declared.phase.Phase.{Phase}
 use Rattle.vdcp_auto.specs.declared.phase.Phase.TheVariants as phase
-use Rattle.vdcp_auto.specs.declared.phase.Stage.{Stage}
-use Rattle.vdcp_auto.specs.declared.phase.Stage.TheVariants.{Ready, Awaiting, Ended}
-use Rattle.vdcp_auto.specs.declared.phase.State.{State}
-use Rattle.vdcp_auto.specs.declared.phase.Turn.{Turn}
-use Rattle.vdcp_auto.specs.declared.phase.Turn.TheVariants.{Goes, Settles, Retries, Ends}
+use Rattle.vdcp_auto.specs.State.{Stage}
+use Rattle.vdcp_auto.specs.State.{Ready, Awaiting, Ended}
+use Rattle.vdcp_auto.specs.State.{State}
+use Rattle.vdcp_auto.specs.declared.phase.Transition.{Transition}
+use Rattle.vdcp_auto.specs.declared.phase.Transition.TheVariants.{Goes, Settles, Retries, Ends}
 use Rattle.vdcp_auto.specs.Replies.{is_receipt, is_refusal}
 use Rattle.vdcp_auto.specs.Commands.{is_sense}
 use Rattle.vdcp_auto.specs.Log.{answer_in, is_answered, is_counted}
@@ -86,7 +86,7 @@ tick_in (Ready p) state = sent (phase_to_send state.stop p) state
 tick_in (Awaiting p) state = state
 tick_in (Ended outcome) state = state
 
--- the controller after a tick: nothing changes while an answer is awaited and after an end
+-- the controller after a tick, which changes it only where it is ready
 abbrev pub ticked : State → State
 ticked state = tick_in state.stage state
 
@@ -119,33 +119,33 @@ is_end Confirming c (Some heard.Other) = is_sense c
 is_end Confirming c (Some (heard.Reply r)) = is_sense c && not (is_receipt r)
 
 -- where the reply that answers an exchange leads
-abbrev pub on_answer : Mode → List Item → ℕ → Bool → ℕ → Phase → Reply → Turn
+abbrev pub on_answer : Mode → List Item → ℕ → Bool → ℕ → Phase → Reply → Transition
 on_answer mode list limit take tries p r =
     if is_refusal r then on_refusal (length list) p else on_reply mode list limit take tries p r
 
 -- where an unanswered exchange leads, one more in a row if it counts: the limit goes first
-abbrev pub on_unanswered : Mode → ℕ → ℕ → Bool → Phase → Turn
+abbrev pub on_unanswered : Mode → ℕ → ℕ → Bool → Phase → Transition
 on_unanswered mode limit unanswered counts p =
     if counts && nat_le limit (unanswered + 1) then Ends Lost else on_no_answer mode p
 
-abbrev pub turn_on : Plan → Bool → ℕ → ℕ → Bool → Phase → Option Reply → Turn
-turn_on plan take tries unanswered counts p (Some r) =
+abbrev pub transition_on : Plan → Bool → ℕ → ℕ → Bool → Phase → Option Reply → Transition
+transition_on plan take tries unanswered counts p (Some r) =
     on_answer plan.mode plan.list plan.limit take tries p r
-turn_on plan take tries unanswered counts p None =
+transition_on plan take tries unanswered counts p None =
     on_unanswered plan.mode plan.limit unanswered counts p
 
 -- where an exchange leads
-abbrev pub turn_of : Plan → State → Phase → Exchange → Turn
-turn_of plan state p e =
-    turn_on plan state.take state.tries state.unanswered (is_counted plan.mode e) p (answer_in e)
+abbrev pub transition_of : Plan → State → Phase → Exchange → Transition
+transition_of plan state p e =
+    transition_on plan state.take state.tries state.unanswered (is_counted plan.mode e) p (answer_in e)
 
-abbrev pub stage_after : Turn → Stage
+abbrev pub stage_after : Transition → Stage
 stage_after (Goes p) = Ready p
 stage_after (Settles k) = Ready (phase.Check k)
 stage_after (Retries k) = Ready (phase.Cue k)
 stage_after (Ends outcome) = Ended outcome
 
-abbrev pub settled_after : Turn → ℕ → ℕ
+abbrev pub settled_after : Transition → ℕ → ℕ
 settled_after (Settles k) n = k + 1
 settled_after _ n = n
 
@@ -154,7 +154,7 @@ abbrev pub tries_in : Phase → ℕ → ℕ
 tries_in (phase.Exists k) n = 0
 tries_in _ n = n
 
-abbrev pub tries_after : Turn → ℕ → ℕ
+abbrev pub tries_after : Transition → ℕ → ℕ
 tries_after (Goes p) n = tries_in p n
 tries_after (Retries k) n = n + 1
 tries_after _ n = n
@@ -163,21 +163,21 @@ tries_after _ n = n
 abbrev pub unanswered_after : Mode → Exchange → ℕ → ℕ
 unanswered_after mode e n = if is_counted mode e then (if is_answered e then 0 else n + 1) else n
 
-abbrev pub turned : Turn → ℕ → State → State
-turned turn unanswered state =
+abbrev pub state_after : Transition → ℕ → State → State
+state_after transition unanswered state =
     record {
-      stage = stage_after turn;
+      stage = stage_after transition;
       take = state.take;
       stop = state.stop;
       unanswered = unanswered;
-      settled = settled_after turn state.settled;
-      tries = tries_after turn state.tries;
+      settled = settled_after transition state.settled;
+      tries = tries_after transition state.tries;
     }
 
 abbrev pub ended_in : Plan → Stage → Exchange → State → State
 ended_in plan (Ready p) e state = state
 ended_in plan (Awaiting p) e state =
-    turned (turn_of plan state p e) (unanswered_after plan.mode e state.unanswered) state
+    state_after (transition_of plan state p e) (unanswered_after plan.mode e state.unanswered) state
 ended_in plan (Ended outcome) e state = state
 
 abbrev pub exchange_of : Mode → Option Heard → Option Command → Option Exchange
@@ -204,6 +204,10 @@ stop_in (Ready p) stop = if can_stop p then true else stop
 stop_in (Awaiting p) stop = if can_stop p then true else stop
 stop_in (Ended outcome) stop = stop
 
--- the wish to stop; in Close, Halt, HaltClose and after an end nothing changes
+-- the controller after the operator's stop, which counts only where can_stop says so
 abbrev pub stopped : State → State
 stopped state = record state { stop = stop_in state.stage state.stop }
+
+-- the wishes that it hasn't acted on are forgotten
+abbrev pub forgotten : State → State
+forgotten state = record state { take = false; stop = false }

@@ -6,7 +6,7 @@ ghost use Rattle.vdcp_words.specs.Commands.{IsWritableCommand};
 use crate::exchange::{Exchange, Heard};
 use crate::meaning;
 use crate::outcome::Outcome;
-use crate::phase::{Mode, Phase, Stage, State, Turn};
+use crate::phase::{Mode, Phase, Position};
 use crate::source::Source;
 use std::marker::Model;
 use vdcp_words::Command;
@@ -19,12 +19,12 @@ mod tests;
 ///
 /// The calling loop: `tick` gives the next command, which the caller sends; then, until `awaiting` is
 /// false, `hear` takes what came, or `timeout` says that nothing did; and so on until `outcome`
-/// answers. `take` and `stop` are the operator's and may come at any time.
+/// answers. `take`, `stop` and `forget` are the operator's and may come at any time.
 ///
 /// - `settled`, `outcome`, `is_ready`, `awaiting`, `awaited`, `is_confirming` and `source` only look.
 /// - `hear` and `timeout` bring in what happens on the line; `receive` does both, and gives the
 ///   exchange that ended.
-/// - `take` and `stop` are commands of the operator.
+/// - `take` and `stop` are commands of the operator, and `forget` withdraws them.
 /// - `tick` gives out the next command.
 #[derive(Drop)]
 pub struct Controller<S: Source> {
@@ -32,7 +32,17 @@ pub struct Controller<S: Source> {
     mode: Mode,
     port: u8,
     limit: u32,
-    state: State,
+    position: Position,
+    // the wish to take: the next event is to be played though the last one still plays
+    take: bool,
+    // the wish to stop: the next command is to be STOP
+    stop: bool,
+    // how many exchanges in a row were unanswered (in confirm mode, of those that ask for a reply)
+    unanswered: u32,
+    // how many events are known to have been aired
+    settled: usize,
+    // how often the event's cue was lost (confirm mode)
+    tries: u32,
 }
 
 impl<S: Source> Model for Controller<S> {
@@ -41,14 +51,28 @@ impl<S: Source> Model for Controller<S> {
 
     ghost Value = { View S };
 
-    ghost use Rattle.vdcp_auto.specs.Bounds.{IsStageOf};
+    ghost use Rattle.vdcp_auto.specs.Bounds.{IsStageOf, KeepsCommand};
+    ghost use Rattle.vdcp_auto.specs.State.{stage_of};
 
-    ghost view = { λ c.
-        record { source = c.source; mode = c.mode; port = c.port; limit = c.limit; state = c.state } };
+    ghost view = { λ c. record {
+      source = c.source;
+      mode = c.mode;
+      port = c.port;
+      limit = c.limit;
+      state = record {
+        stage = stage_of c.position;
+        take = c.take;
+        stop = c.stop;
+        unanswered = c.unanswered;
+        settled = c.settled;
+        tries = c.tries;
+      };
+    } };
 
-    ghost invariant = { λ c. (1 ≤ c.limit) × (c.limit ≤ 1000) × (c.state.tries < c.limit)
-        × IsStageOf (length (S.items c.source)) c.limit c.state.unanswered c.state.stage
-        × (c.state.settled ≤ length (S.items c.source)) };
+    ghost invariant = { λ c. (1 ≤ c.limit) × (c.limit ≤ 1000) × (c.tries < c.limit)
+        × IsStageOf (length (S.items c.source)) c.limit c.unanswered (stage_of c.position)
+        × KeepsCommand (S.items c.source) c.port c.position
+        × (c.settled ≤ length (S.items c.source)) };
 }
 
 impl<S: Source> Controller<S> {
@@ -82,7 +106,12 @@ impl<S: Source> Controller<S> {
             mode,
             port,
             limit,
-            state: State::start(),
+            position: Position::Ready(Phase::Open),
+            take: false,
+            stop: false,
+            unanswered: 0,
+            settled: 0,
+            tries: 0,
         }
     }
 
@@ -98,7 +127,7 @@ impl<S: Source> Controller<S> {
         ensures ready { result ≡ turns.is_ready self.now.state.stage }
         ensures given { result ≡ is_some (turns.given (plan_of S.items self.now) self.now.state) }
     {
-        matches!(self.state.stage, Stage::Ready(_))
+        matches!(self.position, Position::Ready(_))
     }
 
     /// A command was given, and its exchange hasn't ended.
@@ -106,7 +135,7 @@ impl<S: Source> Controller<S> {
         ensures awaiting { result ≡ turns.is_awaiting self.now.state.stage }
         ensures awaited { result ≡ is_some (turns.awaited (plan_of S.items self.now) self.now.state) }
     {
-        matches!(self.state.stage, Stage::Awaiting(_))
+        matches!(self.position, Position::Awaiting(_, _))
     }
 
     /// The command whose answer is awaited.
@@ -114,27 +143,27 @@ impl<S: Source> Controller<S> {
         ensures awaited { result ≡ turns.awaited (plan_of S.items self.now) self.now.state }
         ensures writable { IfSome result IsWritableCommand }
     {
-        match self.state.stage {
-            Stage::Awaiting(phase) => Some(self.command_in(phase)),
-            Stage::Ready(_) | Stage::Ended(_) => None,
+        match self.position {
+            Position::Awaiting(_, command) => Some(command),
+            Position::Ready(_) | Position::Ended(_) => None,
         }
     }
 
-    /// How many events are known to have been aired: of the list's events the first so many.
+    /// How many events are known to have been aired. They are the first of the list.
     pub fn settled(&self) -> usize
         ensures count { result ≡ self.now.state.settled }
         ensures within { result ≤ length (S.items self.now.source) }
     {
-        self.state.settled
+        self.settled
     }
 
     /// How the controller ended; None while it goes on.
     pub fn outcome(&self) -> Option<Outcome>
         ensures { result ≡ turns.outcome_of self.now.state.stage }
     {
-        match self.state.stage {
-            Stage::Ready(_) | Stage::Awaiting(_) => None,
-            Stage::Ended(outcome) => Some(outcome),
+        match self.position {
+            Position::Ready(_) | Position::Awaiting(_, _) => None,
+            Position::Ended(outcome) => Some(outcome),
         }
     }
 
@@ -172,16 +201,16 @@ impl<S: Source> Controller<S> {
           state = turns.came_to (plan_of S.items self.old) came self.old.state;
         } }
     {
-        let Stage::Awaiting(phase) = self.state.stage else {
+        let Position::Awaiting(phase, command) = self.position else {
             return None;
         };
-        let exchange = Exchange {
-            command: self.command_in(phase),
-            heard: came,
-        };
-        if !meaning::is_end(self.mode, &exchange.command, &came) {
+        if !meaning::is_end(self.mode, &command, &came) {
             return None;
         }
+        let exchange = Exchange {
+            command,
+            heard: came,
+        };
         self.end(phase, &exchange);
         Some(exchange)
     }
@@ -191,104 +220,49 @@ impl<S: Source> Controller<S> {
     pub fn take(&mut self)
         ensures { self.new ≡ record self.old { state = turns.taken self.old.state } }
     {
-        self.state.take = true;
+        self.take = true;
     }
 
-    /// The operator wants to stop: an exchange that is under way ends first, and then STOP and CLOSE
-    /// are sent. While the port is being closed or stopped, and after an end, nothing changes.
+    /// The operator wants to stop. The awaited exchange is still ended, then STOP and CLOSE go out. Once
+    /// the port is being closed or stopped, the call changes nothing.
     pub fn stop(&mut self)
         ensures { self.new ≡ record self.old { state = turns.stopped self.old.state } }
     {
-        match self.state.stage {
-            Stage::Ready(phase) | Stage::Awaiting(phase) => {
+        match self.position {
+            Position::Ready(phase) | Position::Awaiting(phase, _) => {
                 if phase.can_stop() {
-                    self.state.stop = true;
+                    self.stop = true;
                 }
             }
-            Stage::Ended(_) => {}
+            Position::Ended(_) => {}
         }
     }
 
-    /// The next command, whose answer is then awaited; None while an answer is awaited and after an
-    /// end.
+    /// The wishes of `take` and `stop` that the controller hasn't acted on are forgotten: so is an
+    /// automation that is started anew.
+    pub fn forget(&mut self)
+        ensures { self.new ≡ record self.old { state = turns.forgotten self.old.state } }
+    {
+        self.take = false;
+        self.stop = false;
+    }
+
+    /// Gives the next command, and awaits its answer. None where there is nothing to send: an answer is
+    /// still awaited, or the controller has ended.
     pub fn tick(&mut self) -> Option<Command>
         ensures command { result ≡ turns.given (plan_of S.items self.old) self.old.state }
         ensures ready { is_some result ≡ turns.is_ready self.old.state.stage }
         ensures writable { IfSome result IsWritableCommand }
         ensures after { self.new ≡ record self.old { state = turns.ticked self.old.state } }
     {
-        let Stage::Ready(current) = self.state.stage else {
+        let Position::Ready(current) = self.position else {
             return None;
         };
-        let phase = if self.state.stop {
-            Phase::Halt
-        } else {
-            current
-        };
+        let phase = if self.stop { Phase::Halt } else { current };
         let command = self.command_in(phase);
-        self.state = State {
-            stage: Stage::Awaiting(phase),
-            take: self.state.take && !matches!(phase, Phase::Play(_)),
-            stop: false,
-            ..self.state
-        };
+        self.position = Position::Awaiting(phase, command);
+        self.take = self.take && !matches!(phase, Phase::Play(_));
+        self.stop = false;
         Some(command)
-    }
-
-    /// Ends the awaited exchange.
-    fn end(&mut self, phase: Phase, exchange: &Exchange)
-        requires { self.old.state.stage ≡ Stage.Awaiting phase }
-        ensures { self.new ≡ record self.old {
-          state = turns.ended_in (plan_of S.items self.old) (Stage.Awaiting phase) exchange.now self.old.state;
-        } }
-    {
-        let turn = self.turn_of(phase, exchange);
-        let counts = meaning::is_counted(self.mode, exchange);
-        let unanswered = match meaning::answer_in(exchange) {
-            Some(_) if counts => 0,
-            None if counts => self.state.unanswered + 1,
-            Some(_) | None => self.state.unanswered,
-        };
-        self.state = State {
-            unanswered,
-            ..state_after(turn, self.state)
-        };
-    }
-}
-
-/// The state as the turn leaves it.
-fn state_after(turn: Turn, state: State) -> State
-    requires counted { turns.settled_after turn state.settled < 2 ^ 64 }
-    requires tried { turns.tries_after turn state.tries < 2 ^ 32 }
-    ensures { result ≡ record state {
-      stage = turns.stage_after turn;
-      settled = turns.settled_after turn state.settled;
-      tries = turns.tries_after turn state.tries;
-    } }
-{
-    match turn {
-        Turn::Goes(Phase::Exists(k)) => State {
-            stage: Stage::Ready(Phase::Exists(k)),
-            tries: 0,
-            ..state
-        },
-        Turn::Goes(phase) => State {
-            stage: Stage::Ready(phase),
-            ..state
-        },
-        Turn::Settles(k) => State {
-            stage: Stage::Ready(Phase::Check(k)),
-            settled: k + 1,
-            ..state
-        },
-        Turn::Retries(k) => State {
-            stage: Stage::Ready(Phase::Cue(k)),
-            tries: state.tries + 1,
-            ..state
-        },
-        Turn::Ends(outcome) => State {
-            stage: Stage::Ended(outcome),
-            ..state
-        },
     }
 }

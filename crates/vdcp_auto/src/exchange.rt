@@ -15,8 +15,8 @@ pub enum Heard {
 }
 
 impl Heard {
-    /// What who asked this unit hears in a message: the reply that it carries, or Other where it
-    /// carries none or is framed by another unit. ACK and NAK name no unit, and are heard from each.
+    /// Interprets a message as an answer from `unit`: the reply that it carries, or Other where it
+    /// carries none or is framed by another unit. ACK and NAK name no unit, and count as from any.
     pub fn of_message(message: &Message, unit: u8) -> Heard
         ensures { result ≡ heard_as unit (content_of message.now) }
     {

@@ -7,16 +7,16 @@ ghost use Rattle.vdcp_auto.specs.declared.exchange.Heard.{Heard};
 ghost use Rattle.vdcp_auto.specs.declared.exchange.Input.{Input};
 ghost use Rattle.vdcp_auto.specs.declared.phase.Mode.TheVariants.{Confirming};
 ghost use Rattle.vdcp_auto.specs.declared.exchange.Exchange.{Exchange};
-ghost use Rattle.vdcp_auto.specs.declared.phase.State.{State};
+ghost use Rattle.vdcp_auto.specs.State.{State};
 ghost use Rattle.vdcp_auto.specs.Plan.{Plan};
 ghost use Rattle.vdcp_auto.specs.Heard.{hears_receipt};
 ghost use Rattle.vdcp_auto.specs.Turn.{awaited, given, ended_by, came_to};
 ghost use Rattle.vdcp_auto.specs.Course.{course, course_from, after_input, ended_by_input, after_inputs, after_inputs_from, logged, Reached};
 ghost use Rattle.vdcp_auto.specs.Law.{IsLawful};
 
-/// Whatever calls a new controller had, in whatever order (ticks, replies of any kind, time-outs, takes
-/// and stops, also while an answer is awaited), in either mode, of the controller and of the log of the
-/// exchanges that these calls ended holds:
+/// Whatever calls a new controller had, in whatever order (ticks, replies of any kind, time-outs, takes,
+/// stops, and wishes forgotten, also while an answer is awaited), in either mode, of the controller and of
+/// the log of the exchanges that these calls ended holds:
 ///
 /// - the rule book allows each command of the log where it stands, and the one that is awaited now;
 /// - the next tick gives a command exactly where nothing is awaited and the controller hasn't ended,
@@ -41,8 +41,8 @@ pub fn commands_can_be_written()
         IfSome (given plan state) IsWritableCommand }
 {}
 
-/// From whatever state, so from a new controller's: the course of inputs behind others is that of the
-/// controller which the others leave; and one more input adds the exchange that it ends, if it ends
+/// From any state, and so from a new controller's: where more inputs follow, their course is that of the
+/// controller which the first ones leave; and one more input adds the exchange that it ends, if it ends
 /// one, at the end.
 pub fn courses_follow_one_another()
     ensures course { (plan : Plan) (state : State) (xs ys : List Input) →

@@ -1,5 +1,6 @@
 //! The automation's controller: it plays a list of items through one port of a server, one command
-//! at a time, and reports an item as aired only once it knows that it was.
+//! at a time, and reports an item as aired only once the answers show it: in plain mode an ACK to its PLAY,
+//! or a status after an unanswered PLAY; in confirm mode such a status alone.
 //!
 //! The controller does no input or output. The caller asks it for the next command by `tick`, sends
 //! that, and then hands in what came for it, by `hear`, or that nothing came, by `timeout`; and so on

@@ -11,12 +11,11 @@ pub enum Outcome {
     Denied,
     /// The server doesn't have the clip of this event.
     Missing(usize),
-    /// NAK 01h came for a command of this event, or of the drain behind the last one, which counts as the
-    /// event past the end. In confirm mode: `limit` statuses showed nothing cued, though this event was.
+    /// NAK 01h came for a command of this event, or of Drain, numbered as one past the last event. In confirm mode: `limit` statuses showed nothing cued, though this event was.
     Refused(usize),
     /// The active clip isn't this event's.
     Foreign(usize),
-    /// A status doesn't fit: nothing is cued though the cue was answered; or, behind the last event, which
-    /// counts as the event past the end, something is.
+    /// A status doesn't fit: nothing is cued though the cue was answered; or in Drain, numbered as one past
+    /// the last event, something is.
     Strange(usize),
 }

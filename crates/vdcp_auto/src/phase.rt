@@ -1,6 +1,7 @@
 ghost use Rattle.std.specs.Prelude.{◌≡◌};
 
 use crate::outcome::Outcome;
+use vdcp_words::Command;
 
 /// What a controller takes for proof that a command was executed.
 #[derive(Clone, Copy, Debug, PartialEq, Eq)]
@@ -88,19 +89,19 @@ impl Phase {
     }
 }
 
-/// A controller is ready to send in a phase, awaits the answer to what it sent there, or has ended.
-#[derive(Clone, Copy, Debug, PartialEq, Eq)]
-pub enum Stage {
+/// Where a controller stands: ready to send in a phase, awaiting the answer to what it sent there, or ended.
+#[derive(Clone, Copy)]
+pub enum Position {
     /// The next tick gives this phase's command, or STOP where the operator wants to stop.
     Ready(Phase),
-    /// This phase's command was given, and its exchange hasn't ended.
-    Awaiting(Phase),
+    /// This command of the phase was given, and its exchange hasn't ended.
+    Awaiting(Phase, Command),
     Ended(Outcome),
 }
 
 /// What the end of an exchange leads to.
-#[derive(Clone, Copy, Debug, PartialEq, Eq)]
-pub enum Turn {
+#[derive(Clone, Copy)]
+pub enum Transition {
     /// This phase comes next.
     Goes(Phase),
     /// This event was aired: it is settled, and checked next.
@@ -109,38 +110,4 @@ pub enum Turn {
     Retries(usize),
     /// The controller ends.
     Ends(Outcome),
-}
-
-/// What changes in a controller.
-#[derive(Clone, Copy, Debug, PartialEq, Eq)]
-pub struct State {
-    pub stage: Stage,
-    /// The wish to take: the next event is to be played though the last one still plays.
-    pub take: bool,
-    /// The wish to stop: the next command is to be STOP.
-    pub stop: bool,
-    /// How many exchanges in a row were unanswered (in confirm mode, of those that ask for a reply).
-    pub unanswered: u32,
-    /// How many events are known to have been aired.
-    pub settled: usize,
-    /// How often the event's cue was lost (confirm mode).
-    pub tries: u32,
-}
-
-impl State {
-    ghost use Rattle.vdcp_auto.specs.Turn.{start};
-
-    /// Where each controller begins.
-    pub fn start() -> State
-        ensures { result ≡ start }
-    {
-        State {
-            stage: Stage::Ready(Phase::Open),
-            take: false,
-            stop: false,
-            unanswered: 0,
-            settled: 0,
-            tries: 0,
-        }
-    }
 }

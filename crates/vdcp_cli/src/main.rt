@@ -1,5 +1,10 @@
-// vdcp: shows, makes and tests messages of the Video Disk Communications Protocol, checks playlists, and plays them: over
-// a line that is run from a script, and over TCP, of which it can be either end, and also what damages it between them.
+//! The program `vdcp`: it shows, makes and tests messages of the Video Disk Communications Protocol, checks
+//! playlists, and plays them: over a line that is run from a script, and over TCP, of which it can be either end,
+//! and also what damages it between them.
+//!
+//! Files: `main` (which subcommand, and the exit status), `args` (what the command line may be). A subcommand has a
+//! function in `args`, one in `main` and a line in `run_named`; a number among its options is a `NumberOption` of
+//! `vdcp_options`. `args` and `stdout`, beside `src/`, are the words of one run and what it prints.
 #![tactic(auto)]
 
 mod args;
@@ -30,8 +35,8 @@ fn main(rt: HostRuntime) -> ExitCode {
 
 // Reads the arguments of the command line and runs what they ask for.
 fn run(rt: &HostRuntime) -> Result<u8, Failure<'static>> {
-    // Where a standard stream is closed, the next file or connection would get its descriptor, and then what is
-    // printed or told. So these three take the descriptors first.
+    // Where a standard stream is closed, the next file or connection would get its descriptor, and with it what
+    // is printed. So these three take the descriptors first.
     let _input = open_nothing(rt)?;
     let _output = open_nothing(rt)?;
     let _error = open_nothing(rt)?;
@@ -57,7 +62,7 @@ fn run(rt: &HostRuntime) -> Result<u8, Failure<'static>> {
     Ok(status)
 }
 
-// Opens a device that has nothing to read, and can't be written to so.
+// Opens /dev/null to occupy a descriptor.
 fn open_nothing(rt: &HostRuntime) -> Result<File, Failure<'static>> {
     match File::open(rt, "/dev/null") {
         Ok(file) => Ok(file),

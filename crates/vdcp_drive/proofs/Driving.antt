@@ -16,16 +16,17 @@ use Rattle.vdcp_auto.specs.Course.{course, course_from, after_input, after_input
 use Rattle.vdcp_auto.specs.Heard.{heard_first, heard_in}
 use Rattle.vdcp_auto.specs.Plan.{Plan, View, plan_of}
 use Rattle.vdcp_auto.specs.Turn.{start, is_awaiting, outcome_of, awaited, given, given_in, ticked, tick_in, awaited_in}
-use Rattle.vdcp_auto.specs.Turn.{came_to, ended_by, ended_in, exchange_of, is_end, turn_of, unanswered_after, turned}
+use Rattle.vdcp_auto.specs.Turn as turns
+use Rattle.vdcp_auto.specs.Turn.{came_to, ended_by, ended_in, exchange_of, is_end, transition_of, unanswered_after}
 use Rattle.vdcp_auto.specs.declared.exchange.Exchange.{Exchange}
 use Rattle.vdcp_auto.specs.declared.exchange.Heard.{Heard}
 use Rattle.vdcp_auto.specs.declared.exchange.Input.{Input}
 use Rattle.vdcp_auto.specs.declared.phase.Mode.{Mode}
-use Rattle.vdcp_auto.specs.declared.phase.Stage.{Stage}
-use Rattle.vdcp_auto.specs.declared.phase.Stage.TheVariants.{Ready, Awaiting, Ended}
-use Rattle.vdcp_auto.specs.declared.phase.State.{State}
-use Rattle.vdcp_auto.specs.declared.phase.Turn.{Turn}
-use Rattle.vdcp_auto.specs.declared.phase.Turn.TheVariants.{Goes, Settles, Retries, Ends}
+use Rattle.vdcp_auto.specs.State.{Stage}
+use Rattle.vdcp_auto.specs.State.{Ready, Awaiting, Ended}
+use Rattle.vdcp_auto.specs.State.{State}
+use Rattle.vdcp_auto.specs.declared.phase.Transition.{Transition}
+use Rattle.vdcp_auto.specs.declared.phase.Transition.TheVariants.{Goes, Settles, Retries, Ends}
 use Rattle.vdcp_drive.specs.Bursts.{finished_bursts, open_burst, is_within_burst}
 use Rattle.vdcp_drive.specs.Driven.{input_of, inputs_of, state_between, state_after, commands_of, commands_by, bytes_of, starts_behind, starts_of}
 use Rattle.vdcp_drive.specs.Driven.{IsNew, HasRun, HasRunBroken, IsPartlyRun, in_drop, in_send, in_listen, states_listening, states_watched}
@@ -80,7 +81,7 @@ abbrev command_of : Exchange → Command
 command_of e = e.command
 
 -- the exchange that ends takes its command from what is awaited to the log
-awaits_none : (plan : Plan) (turn : Turn) (n : ℕ) (s : State) → awaited plan (turned turn n s) ≡ None
+awaits_none : (plan : Plan) (transition : Transition) (n : ℕ) (s : State) → awaited plan (turns.state_after transition n s) ≡ None
 awaits_none plan (Goes p) n s = refl
 awaits_none plan (Settles k) n s = refl
 awaits_none plan (Retries k) n s = refl
@@ -101,7 +102,7 @@ none_ends plan h s is = ap (λ (e : Option Exchange). option_to_list (option_map
 awaits_none_in : (plan : Plan) (stage : Stage) (e : Exchange) (s : State) → awaited_in plan stage ≡ Some e.command
     → awaited plan (ended_in plan stage e s) ≡ None
 awaits_none_in plan (Ready p) e s h = cc
-awaits_none_in plan (Awaiting p) e s h = awaits_none plan (turn_of plan s p e) (unanswered_after plan.mode e s.unanswered) s
+awaits_none_in plan (Awaiting p) e s h = awaits_none plan (transition_of plan s p e) (unanswered_after plan.mode e s.unanswered) s
 awaits_none_in plan (Ended outcome) e s h = cc
 
 one_ends : (plan : Plan) (h : Option Heard) (s : State) (e : Exchange) → ended_by plan h s ≡ Some e → awaited plan s ≡ Some e.command → KeepsAwaited plan h s
@@ -674,16 +675,16 @@ out_so law items told s n m t a same united is h closed e more =
     is h closed (hears_so items s n m a same united e) more
 
 -- a new automation runs from its beginning
-pub begins : (fed : Fed) (plan : Plan) (unit : ℕ) (state : State) (reader : Progress) (heard : Option Heard) (told : Option Told)
-    → IsNew state reader heard told
-    → IfTold told (λ u. RunsAt plan unit u state reader heard × AllListened 0 [] u.came)
-begins fed plan unit state reader heard told n = (
-  nothing_told,
-  n.fresh,
-  (
-    subst (λ (s : State). RunsAt plan unit nothing_told s reader heard) (sym n.controller)
-        (subst (λ (r : Progress). RunsAt plan unit nothing_told start r heard) (sym n.at_start)
-        (subst (λ (h : Option Heard). RunsAt plan unit nothing_told start (reading 0 []) h) (sym n.silent) (runs_new fed plan unit))),
-    record { more = []; adds = refl; listened = refl; no_close = refl },
-  ),
-)
+pub begins : {S W : Type 0} (fed : Fed) (items : S → List Item) (told : W → Option Told) (d : Driving S W) → IsNew told d
+    → IfTold (told d.wire) (λ u. RunsAt (plan_of items d.controller) d.unit u d.controller.state d.reader d.heard × AllListened 0 [] u.came)
+begins fed items told d n =
+    let plan : Plan = plan_of items d.controller in (
+      nothing_told,
+      n.fresh,
+      (
+        subst (λ (s : State). RunsAt plan d.unit nothing_told s d.reader d.heard) (sym n.controller)
+            (subst (λ (r : Progress). RunsAt plan d.unit nothing_told start r d.heard) (sym n.at_start)
+            (subst (λ (h : Option Heard). RunsAt plan d.unit nothing_told start (reading 0 []) h) (sym n.silent) (runs_new fed plan d.unit))),
+        record { more = []; adds = refl; listened = refl; no_close = refl },
+      ),
+    )

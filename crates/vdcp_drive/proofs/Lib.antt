@@ -8,3 +8,4 @@ pub mod Listening
 pub mod Driving
 pub mod Reaching
 pub mod Watching
+pub mod Leaving

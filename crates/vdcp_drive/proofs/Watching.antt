@@ -3,7 +3,7 @@ use Rattle.std.proofs.Common.{ℕ, ◌≡◌, List, [], ◌∷◌, ◌++◌, sym
 use Rattle.std.specs.Prelude.{Option, Some}
 use Rattle.vdcp_auto.specs.Plan.{Plan}
 use Rattle.vdcp_auto.specs.Turn.{ticked}
-use Rattle.vdcp_auto.specs.declared.phase.State.{State}
+use Rattle.vdcp_auto.specs.State.{State}
 use Rattle.vdcp_drive.specs.Driven.{state_between, states_behind, states_listening}
 use Rattle.vdcp_drive.specs.Watching.{adds_watched}
 use Rattle.vdcp_wire.specs.Wires.{Arrival}

@@ -3,7 +3,7 @@
 use Rattle.std.specs.List.{flat_map}
 use Rattle.std.specs.Option.{option_to_list}
 use Rattle.std.specs.Prelude.{ℕ, ◌≡◌, ◌+◌, List, [], ◌∷◌, ◌++◌, length, map, Option, None, Some, if◌then◌else◌}
-use Rattle.vdcp_frame.specs.Progress.{Progress, reading}
+use Rattle.vdcp_frame.specs.Progress.{reading}
 use Rattle.vdcp_words.specs.declared.command.Command.{Command}
 use Rattle.vdcp_auto.specs.Course.{Reached, course, after_inputs}
 use Rattle.vdcp_auto.specs.Plan.{Plan}
@@ -12,10 +12,10 @@ use Rattle.vdcp_auto.specs.declared.exchange.Exchange.{Exchange}
 use Rattle.vdcp_auto.specs.declared.exchange.Heard.{Heard}
 use Rattle.vdcp_auto.specs.declared.exchange.Input.{Input}
 use Rattle.vdcp_auto.specs.declared.exchange.Input.TheVariants as input
-use Rattle.vdcp_auto.specs.declared.phase.State.{State}
+use Rattle.vdcp_auto.specs.State.{State}
 use Rattle.vdcp_drive.specs.Bursts.{finished_bursts, is_within_burst}
 use Rattle.vdcp_auto.specs.Heard.{heard_in}
-use Rattle.vdcp_drive.specs.Hearing.{command_bytes}
+use Rattle.vdcp_drive.specs.Hearing.{Driving, command_bytes}
 use Rattle.vdcp_wire.specs.Wires.{Arrival, Told, nothing_told}
 
 -- what a burst that ended says to the controller: its first message, or that nothing came
@@ -38,7 +38,8 @@ state_after plan unit came =
 -- the controller in each listen, where some arrivals came before: its command is awaited
 abbrev pub states_behind : Plan → ℕ → List Arrival → List Arrival → List State
 states_behind plan unit before [] = []
-states_behind plan unit before (a ∷ later) = ticked (state_between plan unit before) ∷ states_behind plan unit (before ++ a ∷ []) later
+states_behind plan unit before (a ∷ later) =
+    ticked (state_between plan unit before) ∷ states_behind plan unit (before ++ a ∷ []) later
 
 abbrev pub states_listening : Plan → ℕ → List Arrival → List State
 states_listening plan unit came = states_behind plan unit [] came
@@ -55,7 +56,7 @@ commands_by plan unit came state = commands_of plan unit came ++ option_to_list 
 abbrev pub bytes_of : ℕ → List Command → List ℕ
 bytes_of unit commands = flat_map (command_bytes unit) commands
 
--- how many bytes stand before each of them, where so many stand before the first
+-- how many bytes stand before each of them, where n stand before the first
 abbrev pub starts_behind : ℕ → ℕ → List Command → List ℕ
 starts_behind unit n [] = []
 starts_behind unit n (c ∷ commands) = n ∷ starts_behind unit (n + length (command_bytes unit c)) commands
@@ -63,17 +64,18 @@ starts_behind unit n (c ∷ commands) = n ∷ starts_behind unit (n + length (co
 abbrev pub starts_of : ℕ → List Command → List ℕ
 starts_of unit commands = starts_behind unit 0 commands
 
--- whatever log a controller's state was reached with, the later state is reached too, and its log has what
--- was ended since behind it
+-- whatever log a controller's state was reached with, the later state is reached too, with a log that goes on by
+-- the exchanges that ended since
 abbrev pub GoesOn : Plan → State → State → Type 0
-GoesOn plan before after = (log : List Exchange) → Reached plan before log → (since : List Exchange) × Reached plan after (log ++ since)
+GoesOn plan before after = (log : List Exchange) → Reached plan before log → (since : List Exchange)
+    × Reached plan after (log ++ since)
 
 -- a new automation: its controller is new, nothing was heard, and its fresh wire tells its bytes
-pub record IsNew (state : State) (reader : Progress) (heard : Option Heard) (told : Option Told) : Type 0 where
-  pub controller : state ≡ start
-  pub at_start : reader ≡ reading 0 []
-  pub silent : heard ≡ None
-  pub fresh : told ≡ Some nothing_told
+pub record IsNew {S W : Type 0} (told : W → Option Told) (d : Driving S W) : Type 0 where
+  pub controller : d.controller.state ≡ start
+  pub at_start : d.reader ≡ reading 0 []
+  pub silent : d.heard ≡ None
+  pub fresh : told d.wire ≡ Some nothing_told
 
 -- an automation that began with a new controller has heard what came, and its controller is in this state
 pub record HasRun (plan : Plan) (unit : ℕ) (told : Told) (state : State) : Type 0 where
@@ -113,10 +115,12 @@ pub data HasRunBroken (plan : Plan) (unit : ℕ) (told : Told) (state : State) :
 
 -- the bytes sent are a beginning of those of the course's commands and the one awaited
 abbrev pub IsPartlyRun : Plan → ℕ → Told → State → Type 0
-IsPartlyRun plan unit told state = (rest : List ℕ) × (bytes_of unit (commands_by plan unit told.came state) ≡ told.sent ++ rest)
+IsPartlyRun plan unit told state = (rest : List ℕ)
+    × (bytes_of unit (commands_by plan unit told.came state) ≡ told.sent ++ rest)
 
 -- the controller in each listen, also in the one that failed
-abbrev pub states_watched : {plan : Plan} {unit : ℕ} {told : Told} {state : State} → HasRunBroken plan unit told state → List State
+abbrev pub states_watched : {plan : Plan} {unit : ℕ} {told : Told} {state : State} → HasRunBroken plan unit told state
+    → List State
 states_watched {plan} {unit} {told} {state} (in_drop b) = states_listening plan unit told.came
 states_watched {plan} {unit} {told} {state} (in_send b) = states_listening plan unit told.came
 states_watched {plan} {unit} {told} {state} (in_listen b) = states_listening plan unit told.came ++ state ∷ []

@@ -8,7 +8,7 @@ use Rattle.vdcp_words.specs.declared.command.Command.{Command}
 use Rattle.vdcp_auto.specs.Plan.{Plan, View}
 use Rattle.vdcp_auto.specs.Turn.{given, ticked, came_to}
 use Rattle.vdcp_auto.specs.declared.exchange.Heard.{Heard}
-use Rattle.vdcp_auto.specs.declared.phase.State.{State}
+use Rattle.vdcp_auto.specs.State.{State}
 use Rattle.vdcp_auto.specs.Heard.{heard_first}
 use Rattle.vdcp_wire.specs.Wires.{Arrival, bytes, silence, close, Told, adds_sent, adds_drop, SendsFront}
 
@@ -28,7 +28,8 @@ command_bytes unit command = spelling (command_message unit command)
 -- where a command is given, what waits is dropped and the command is sent; else nothing is done
 abbrev pub HasSent : ℕ → Option Command → Bool → Option Told → Option Told → Type 0
 HasSent unit None is_sent told told' = (is_sent ≡ false) × (told' ≡ told)
-HasSent unit (Some command) is_sent told told' = (is_sent ≡ true) × (told' ≡ adds_sent (command_bytes unit command) (adds_drop told))
+HasSent unit (Some command) is_sent told told' = (is_sent ≡ true)
+    × (told' ≡ adds_sent (command_bytes unit command) (adds_drop told))
 
 -- The wire failed at one of two places.
 
@@ -56,20 +57,24 @@ heard_by_then unit (Some h) ms = Some h
 heard_by_then unit None ms = heard_first unit ms
 
 -- the reader took these bytes of a burst, and the first message is heard
-pub record HasHeard (unit : ℕ) (reader : Progress) (heard : Option Heard) (piece : List ℕ) (reader' : Progress) (heard' : Option Heard) : Type 0 where
+pub record HasHeard (unit : ℕ) (reader : Progress) (heard : Option Heard) (piece : List ℕ) (reader' : Progress)
+    (heard' : Option Heard) : Type 0 where
   pub messages : List Content
   -- whatever the burst so far and its messages are, the reader has then followed these too
-  pub follows : (burst : List ℕ) (ms : List Content) → Follows burst ms reader → Follows (burst ++ piece) (ms ++ messages) reader'
+  pub follows : (burst : List ℕ) (ms : List Content) → Follows burst ms reader →
+      Follows (burst ++ piece) (ms ++ messages) reader'
   pub hears : heard' ≡ heard_by_then unit heard messages
 
 -- the burst ended: the controller hears what was heard of it, or else that nothing came
-pub record HasReceived (plan : Plan) (state : State) (heard : Option Heard) (state' : State) (reader' : Progress) (heard' : Option Heard) : Type 0 where
+pub record HasReceived (plan : Plan) (state : State) (heard : Option Heard) (state' : State) (reader' : Progress)
+    (heard' : Option Heard) : Type 0 where
   pub receives : state' ≡ came_to plan heard state
   pub restarts : reader' ≡ reading 0 []
   pub forgets : heard' ≡ None
 
 -- what a listen does with what came: at a silence and at a close the burst has ended
 abbrev pub Hears : Plan → ℕ → Arrival → State → Progress → Option Heard → State → Progress → Option Heard → Type 0
-Hears plan unit (bytes piece) state reader heard state' reader' heard' = (state' ≡ state) × AreOctets piece × HasHeard unit reader heard piece reader' heard'
+Hears plan unit (bytes piece) state reader heard state' reader' heard' = (state' ≡ state) × AreOctets piece
+    × HasHeard unit reader heard piece reader' heard'
 Hears plan unit silence state reader heard state' reader' heard' = HasReceived plan state heard state' reader' heard'
 Hears plan unit close state reader heard state' reader' heard' = HasReceived plan state heard state' reader' heard'

@@ -1,7 +1,10 @@
+-- What the clauses of this crate cite, lowest first.
 pub mod Watching
 pub mod Bursts
 pub mod Lines
 pub mod Serving
 pub mod Served
+pub mod ServeLeaves
 pub mod Hearing
 pub mod Driven
+pub mod RunLeaves

@@ -18,26 +18,26 @@ abbrev pub ran_unless_ended : Option Outcome → Ran → Ran
 ran_unless_ended (Some outcome) other = ran.Ended
 ran_unless_ended None other = other
 
--- so many listens were made, and no close came
+-- this many listens were made, and no close came
 pub record AllListened (listens : ℕ) (old new : List Arrival) : Type 0 where
   pub more : List Arrival
   pub adds : new ≡ old ++ more
   pub listened : length more ≡ listens
   pub no_close : has_closed more ≡ false
 
--- at most so many listens were made
+-- at most this many listens were made
 pub record AtMostListened (listens : ℕ) (old new : List Arrival) : Type 0 where
   pub more : List Arrival
   pub adds : new ≡ old ++ more
   pub at_most : length more ≤ listens
 
--- what so many turns of a server answer, by what came before and since
+-- what this many turns of a server answer, by what came before and since
 abbrev pub ServesTo : Ran → ℕ → List Arrival → List Arrival → Type 0
 ServesTo ran.Ended turns old new = ⊥
 ServesTo ran.Closed turns old new = IsTrue (has_closed new) × AtMostListened turns old new
 ServesTo ran.Spent turns old new = AllListened turns old new
 
--- what a run of so many listens answers, by how the controller has ended, if it has
+-- what a run of this many listens answers, by how the controller has ended, if it has
 abbrev pub RunsTo : Ran → Option Outcome → ℕ → List Arrival → List Arrival → Type 0
 RunsTo ran.Ended outcome listens old new = IsSome outcome × AtMostListened listens old new
 RunsTo ran.Closed outcome listens old new = IsNone outcome × IsTrue (has_closed new) × AtMostListened listens old new

@@ -5,14 +5,14 @@ ghost use Rattle.vdcp_frame.specs.Progress.{reading};
 ghost use Rattle.vdcp_frame.specs.Reader.{answer_of};
 ghost use Rattle.vdcp_auto.specs.Plan.{plan_of};
 ghost use Rattle.vdcp_auto.specs.Turn as turns;
-ghost use Rattle.vdcp_auto.specs.declared.phase.State.{State};
-ghost use Rattle.vdcp_drive.specs.Driven.{GoesOn, IsNew, HasRun, HasRunBroken, IsPartlyRun, states_listening, states_watched};
+ghost use Rattle.vdcp_auto.specs.State.{State};
+ghost use Rattle.vdcp_drive.specs.Driven.{GoesOn, IsNew, HasRunBroken, states_listening, states_watched};
 ghost use Rattle.vdcp_drive.specs.Hearing.{HasSent, HasSendBroken, HasHeard, HasReceived, Hears, heard_by_then, command_bytes};
-ghost use Rattle.vdcp_drive.specs.Lines.{line_of, RunsTo, ran_unless_ended};
+ghost use Rattle.vdcp_drive.specs.Lines.{line_of, ran_unless_ended};
+ghost use Rattle.vdcp_drive.specs.RunLeaves.{RunLeaves};
 ghost use Rattle.vdcp_wire.specs.Wires.{Arrival, Told, IfTold, MayCome, nothing_told, adds_sent, adds_came, SendsFront};
 
 use crate::line::{DriveFault, Line, Ran};
-use crate::send::send_message;
 use crate::watch::{Unwatched, Watch};
 use std::marker::Model;
 use vdcp_auto::{Controller, Heard, Source, laws as courses};
@@ -86,7 +86,8 @@ impl<S: Source, W: Wire> AutoDriver<S, W> {
 
     /// The operator wants the next event though the last one still plays.
     pub fn take(&mut self)
-        ensures controller { self.new.controller ≡ record self.old.controller { state = turns.taken self.old.controller.state } }
+        ensures controller { self.new.controller ≡ record
+            self.old.controller { state = turns.taken self.old.controller.state } }
         ensures keeps { self.new ≡ record self.old { controller = self.new.controller } }
     {
         self.controller.take();
@@ -94,7 +95,8 @@ impl<S: Source, W: Wire> AutoDriver<S, W> {
 
     /// The operator wants to stop.
     pub fn stop(&mut self)
-        ensures controller { self.new.controller ≡ record self.old.controller { state = turns.stopped self.old.controller.state } }
+        ensures controller { self.new.controller ≡ record
+            self.old.controller { state = turns.stopped self.old.controller.state } }
         ensures keeps { self.new ≡ record self.old { controller = self.new.controller } }
     {
         self.controller.stop();
@@ -104,13 +106,17 @@ impl<S: Source, W: Wire> AutoDriver<S, W> {
     /// while an answer is awaited, and once the controller has ended, there is none, and nothing changes.
     /// `Device` if the wire fails or has failed before.
     pub fn send(&mut self) -> Result<bool, DriveFault>
-        ensures sends { IfOk result (λ is_sent. HasSent self.old.unit (turns.given (plan_of S.items self.old.controller) self.old.controller.state)
+        ensures sends { IfOk result (λ is_sent. HasSent self.old.unit
+            (turns.given (plan_of S.items self.old.controller) self.old.controller.state)
             is_sent (W.told self.old.wire) (W.told self.new.wire)) }
         ensures nothing { IfOk result (λ is_sent. is_sent ≡ false → self.new ≡ self.old) }
-        ensures ticks { OnOk result (self.new.controller ≡ record self.old.controller { state = turns.ticked self.old.controller.state }) }
-        ensures breaks { W.failures self.old.wire ≡ 0 → OnErr result (HasSendBroken (plan_of S.items self.old.controller) self.old.unit
+        ensures ticks { OnOk result (self.new.controller ≡ record
+            self.old.controller { state = turns.ticked self.old.controller.state }) }
+        ensures breaks { W.failures self.old.wire ≡ 0 →
+            OnErr result (HasSendBroken (plan_of S.items self.old.controller) self.old.unit
             self.old.controller.state self.new.controller.state (W.told self.old.wire) (W.told self.new.wire)) }
-        ensures reached { GoesOn (plan_of S.items self.old.controller) self.old.controller.state self.new.controller.state }
+        ensures reached { GoesOn (plan_of S.items self.old.controller) self.old.controller.state
+            self.new.controller.state }
         ensures controller { self.new.controller ≡ record self.old.controller { state = self.new.controller.state } }
         ensures keeps { self.new ≡ record self.old { controller = self.new.controller; wire = self.new.wire } }
         ensures works { OnOk result (W.failures self.new.wire ≡ 0) }
@@ -133,22 +139,7 @@ impl<S: Source, W: Wire> AutoDriver<S, W> {
     /// closed or this many listens were made. It sends a command only if a listen for its answer is left.
     /// `Device` if the wire fails or has failed before.
     pub fn run(&mut self, listens: u64) -> Result<Ran, DriveFault>
-        // Of a new automation: a new controller, and a fresh wire that tells its bytes.
-        ensures run { IsNew self.old.controller.state self.old.reader self.old.heard (W.told self.old.wire) →
-            OnOk result (IfTold (W.told self.new.wire) (λ u. HasRun (plan_of S.items self.old.controller) self.old.unit u self.new.controller.state)) }
-        ensures broken { IsNew self.old.controller.state self.old.reader self.old.heard (W.told self.old.wire) → W.failures self.old.wire ≡ 0 →
-            OnErr result (IfTold (W.told self.new.wire) (λ u. HasRunBroken (plan_of S.items self.old.controller) self.old.unit u self.new.controller.state
-            × IsPartlyRun (plan_of S.items self.old.controller) self.old.unit u self.new.controller.state)) }
-        // Of any automation: over any wire, and over one that tells its bytes.
-        ensures ended { IfOk result (λ ran. (ran ≡ Ran.Ended) ↔ IsSome (turns.outcome_of self.new.controller.state.stage)) }
-        ensures answer { (t : Told) → W.told self.old.wire ≡ Some t →
-            IfOk result (λ ran. IfTold (W.told self.new.wire) (λ u. RunsTo ran (turns.outcome_of self.new.controller.state.stage) listens t.came u.came)) }
-        ensures reached { GoesOn (plan_of S.items self.old.controller) self.old.controller.state self.new.controller.state }
-        ensures controller { self.new.controller ≡ record self.old.controller { state = self.new.controller.state } }
-        ensures unit { self.new.unit ≡ self.old.unit }
-        ensures works { OnOk result (W.failures self.new.wire ≡ 0) }
-        ensures device { OnErr result (W.failures self.new.wire ≡ 1) }
-        ensures stays { W.failures self.old.wire ≡ 1 → IsErr result × (self.new ≡ self.old) }
+        ensures leaves { RunLeaves S.items W.told W.failures listens self.old self.new result }
     {
         self.run_watched(listens, &mut Unwatched)
     }
@@ -159,30 +150,17 @@ impl<S: Source, W: Wire> AutoDriver<S, W> {
         listens: u64,
         watcher: &mut V,
     ) -> Result<Ran, DriveFault>
-        // Of a new automation: a new controller, and a fresh wire that tells its bytes.
-        ensures run { IsNew self.old.controller.state self.old.reader self.old.heard (W.told self.old.wire) →
-            OnOk result (IfTold (W.told self.new.wire) (λ u. HasRun (plan_of S.items self.old.controller) self.old.unit u self.new.controller.state)) }
-        ensures broken { IsNew self.old.controller.state self.old.reader self.old.heard (W.told self.old.wire) → W.failures self.old.wire ≡ 0 →
-            OnErr result (IfTold (W.told self.new.wire) (λ u. HasRunBroken (plan_of S.items self.old.controller) self.old.unit u self.new.controller.state
-            × IsPartlyRun (plan_of S.items self.old.controller) self.old.unit u self.new.controller.state)) }
-        // And a watcher that tells what it watched: it was lent the controller in each listen.
-        ensures watched { IsNew self.old.controller.state self.old.reader self.old.heard (W.told self.old.wire) →
-            (states : List State) → V.watched watcher.old ≡ Some states → OnOk result (IfTold (W.told self.new.wire) (λ u.
-            V.watched watcher.new ≡ Some (states ++ states_listening (plan_of S.items self.old.controller) self.old.unit u.came))) }
-        ensures watched_broken { IsNew self.old.controller.state self.old.reader self.old.heard (W.told self.old.wire) → W.failures self.old.wire ≡ 0 →
-            (states : List State) → V.watched watcher.old ≡ Some states → OnErr result (IfTold (W.told self.new.wire) (λ u.
+        ensures leaves { RunLeaves S.items W.told W.failures listens self.old self.new result }
+        // A watcher that tells what it watched was lent the controller of a new automation in each listen.
+        ensures watched { IsNew W.told self.old → (states : List State) → V.watched watcher.old ≡ Some states →
+            OnOk result (IfTold (W.told self.new.wire) (λ u. V.watched watcher.new
+            ≡ Some (states ++ states_listening (plan_of S.items self.old.controller) self.old.unit u.came))) }
+        ensures watched_broken { IsNew W.told self.old → W.failures self.old.wire ≡ 0 →
+            (states : List State) → V.watched watcher.old ≡ Some states →
+            OnErr result (IfTold (W.told self.new.wire) (λ u.
             (b : HasRunBroken (plan_of S.items self.old.controller) self.old.unit u self.new.controller.state)
             × (V.watched watcher.new ≡ Some (states ++ states_watched b)))) }
-        // Of any automation: over any wire, and over one that tells its bytes.
-        ensures ended { IfOk result (λ ran. (ran ≡ Ran.Ended) ↔ IsSome (turns.outcome_of self.new.controller.state.stage)) }
-        ensures answer { (t : Told) → W.told self.old.wire ≡ Some t →
-            IfOk result (λ ran. IfTold (W.told self.new.wire) (λ u. RunsTo ran (turns.outcome_of self.new.controller.state.stage) listens t.came u.came)) }
-        ensures reached { GoesOn (plan_of S.items self.old.controller) self.old.controller.state self.new.controller.state }
-        ensures controller { self.new.controller ≡ record self.old.controller { state = self.new.controller.state } }
-        ensures unit { self.new.unit ≡ self.old.unit }
-        ensures works { OnOk result (W.failures self.new.wire ≡ 0) }
-        ensures device { OnErr result (W.failures self.new.wire ≡ 1) }
-        ensures stays { W.failures self.old.wire ≡ 1 → IsErr result × (self.new ≡ self.old) × (watcher.new ≡ watcher.old) }
+        ensures unwatched { W.failures self.old.wire ≡ 1 → watcher.new ≡ watcher.old }
     {
         courses::courses_follow_one_another();
         bursts::one_reading();
@@ -221,12 +199,14 @@ impl<S: Source, W: Wire> AutoDriver<S, W> {
     pub fn listen(&mut self) -> Result<Line, DriveFault>
         requires { IsSome (turns.awaited (plan_of S.items self.old.controller) self.old.controller.state) }
         ensures hears { IfOk result (λ line. (a : Arrival) × (line ≡ line_of a) × MayCome a (W.told self.old.wire)
-            × Hears (plan_of S.items self.old.controller) self.old.unit a self.old.controller.state self.old.reader self.old.heard
+            × Hears (plan_of S.items self.old.controller) self.old.unit a self.old.controller.state self.old.reader
+            self.old.heard
             self.new.controller.state self.new.reader self.new.heard
             × (W.told self.new.wire ≡ adds_came a (W.told self.old.wire))) }
         ensures breaks { W.failures self.old.wire ≡ 0 → OnErr result (W.told self.new.wire ≡ W.told self.old.wire) }
         ensures unchanged { OnErr result (self.new ≡ record self.old { wire = self.new.wire }) }
-        ensures reached { GoesOn (plan_of S.items self.old.controller) self.old.controller.state self.new.controller.state }
+        ensures reached { GoesOn (plan_of S.items self.old.controller) self.old.controller.state
+            self.new.controller.state }
         ensures controller { self.new.controller ≡ record self.old.controller { state = self.new.controller.state } }
         ensures unit { self.new.unit ≡ self.old.unit }
         ensures works { OnOk result (W.failures self.new.wire ≡ 0) }
@@ -260,9 +240,11 @@ fn send_next<S: Source, W: Wire>(
 ) -> Result<bool, WireFault>
     requires unit { unit ≤ 15 }
     requires works { W.failures wire.old ≡ 0 }
-    ensures sends { IfOk result (λ is_sent. HasSent unit (turns.given (plan_of S.items controller.old) controller.old.state)
+    ensures sends { IfOk result (λ is_sent. HasSent unit
+        (turns.given (plan_of S.items controller.old) controller.old.state)
         is_sent (W.told wire.old) (W.told wire.new)) }
-    ensures nothing { IfOk result (λ is_sent. is_sent ≡ false → (controller.new ≡ controller.old) × (wire.new ≡ wire.old)) }
+    ensures nothing { IfOk result (λ is_sent. is_sent ≡ false → (controller.new ≡ controller.old)
+        × (wire.new ≡ wire.old)) }
     ensures ticks { OnOk result (controller.new ≡ record controller.old { state = turns.ticked controller.old.state }) }
     ensures breaks { OnErr result (HasSendBroken (plan_of S.items controller.old) unit
         controller.old.state controller.new.state (W.told wire.old) (W.told wire.new)) }
@@ -290,8 +272,7 @@ fn send_command<W: Wire>(command: &Command, unit: u8, wire: &mut W) -> Result<()
     ensures works { OnOk result (W.failures wire.new ≡ 0) }
     ensures failed { OnErr result (W.failures wire.new ≡ 1) }
 {
-    let mut room = [0; 16];
-    send_message(&command.to_message(unit, &mut room), wire)
+    wire.send(command.encode(unit).as_slice())
 }
 
 // Listens once, and takes in what came.
@@ -304,10 +285,12 @@ fn hear<S: Source, W: Wire>(
 ) -> Result<Line, WireFault>
     requires { W.failures wire.old ≡ 0 }
     ensures hears { IfOk result (λ line. (a : Arrival) × (line ≡ line_of a) × MayCome a (W.told wire.old)
-        × Hears (plan_of S.items controller.old) unit a controller.old.state reader.old heard.old controller.new.state reader.new heard.new
+        × Hears (plan_of S.items controller.old) unit a controller.old.state reader.old heard.old controller.new.state
+        reader.new heard.new
         × (W.told wire.new ≡ adds_came a (W.told wire.old))) }
     ensures broken { OnErr result (W.told wire.new ≡ W.told wire.old) }
-    ensures unchanged { OnErr result ((controller.new ≡ controller.old) × (reader.new ≡ reader.old) × (heard.new ≡ heard.old)) }
+    ensures unchanged { OnErr result ((controller.new ≡ controller.old) × (reader.new ≡ reader.old)
+        × (heard.new ≡ heard.old)) }
     ensures reached { GoesOn (plan_of S.items controller.old) controller.old.state controller.new.state }
     ensures controller { controller.new ≡ record controller.old { state = controller.new.state } }
     ensures works { OnOk result (W.failures wire.new ≡ 0) }
@@ -341,7 +324,7 @@ fn take_piece(unit: u8, reader: &mut Reader, heard: &mut Option<Heard>, piece: &
     }
 }
 
-// Takes bytes up to the end of one message or one fault, or all of them. Answers how many.
+// Feeds the reader once, keeps what is heard first, and gives how many bytes it used up.
 fn take_some(unit: u8, reader: &mut Reader, heard: &mut Option<Heard>, piece: &[u8]) -> usize
     ensures within { result ≤ length piece.now }
     ensures some { 0 < length piece.now → 0 < result }
@@ -370,7 +353,8 @@ fn end_burst<S: Source>(
     reader: &mut Reader,
     heard: &mut Option<Heard>,
 )
-    ensures received { HasReceived (plan_of S.items controller.old) controller.old.state heard.old controller.new.state reader.new heard.new }
+    ensures received { HasReceived (plan_of S.items controller.old) controller.old.state heard.old
+        controller.new.state reader.new heard.new }
     ensures reached { GoesOn (plan_of S.items controller.old) controller.old.state controller.new.state }
     ensures controller { controller.new ≡ record controller.old { state = controller.new.state } }
 {

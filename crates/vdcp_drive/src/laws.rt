@@ -4,7 +4,7 @@ ghost use Rattle.std.specs.Prelude.{◌≤◌, ℕ};
 ghost use Rattle.vdcp_auto.specs.Course.{course};
 ghost use Rattle.vdcp_auto.specs.Law.{IsLawful};
 ghost use Rattle.vdcp_auto.specs.Plan.{Plan};
-ghost use Rattle.vdcp_auto.specs.declared.phase.State.{State};
+ghost use Rattle.vdcp_auto.specs.State.{State};
 ghost use Rattle.vdcp_drive.specs.Driven.{HasRun, HasRunBroken, inputs_of};
 ghost use Rattle.vdcp_wire.specs.Wires.{Told};
 

@@ -1,31 +1,49 @@
 //! Both ends of a playout channel over a wire: the server with its port, and the automation with its
 //! controller.
 //!
-//! The caller has a `Wire` of `vdcp_wire`, which carries bytes, and hands it to a driver. Both drivers decide nothing
-//! themselves: what to answer the port says, what to send the controller does. They hold no burst, only
-//! what a `Reader` does, and take no memory.
+//! The caller hands a driver a `Wire`, which carries bytes: a `StreamWire` over a connection, a `ScriptWire` in
+//! memory, or one of its own. The drivers decide nothing themselves: the port says what to answer, the controller
+//! what to send. They take no memory. Of a burst they keep what a `Reader` keeps, and `AutoDriver` its first message.
+//!
+//! A server, turn by turn (`serve` does the same in one call):
 //!
 //! ```text
-//! let mut server = Server::new(port, wire);
-//! server.serve(turns)?            or turn by turn: server.turn()?, server.aired()
-//!                                 or server.serve_watched(turns, watcher)?, which is lent each item
-//!
-//! let mut auto = AutoDriver::new(controller, unit, wire);
-//! auto.run(listens)?              or step by step: while auto.send()? { auto.listen()?, until nothing is awaited }
-//!                                 or auto.run_watched(listens, watcher)?, which is lent the controller
+//! let mut server = Server::new(Port::new(catalogue, 0, 1), wire); // unit 0, port number 1
+//! for _ in 0..turns {
+//!     let line = server.turn()?;
+//!     if let Some(item) = server.aired() { .. }
+//!     if let Line::Closed = line { break; }
+//! }
 //! ```
+//!
+//! An automation, command by command (`run` does the same in one call):
+//!
+//! ```text
+//! let mut auto = AutoDriver::new(Controller::new(source, 1, 3), 0, wire); // port number 1, limit 3; unit 0
+//! for _ in 0..listens {
+//!     auto.send()?;
+//!     if !auto.controller().awaiting() { break; } // it has ended
+//!     if let Line::Closed = auto.listen()? { break; }
+//! }
+//! auto.controller().outcome(), auto.controller().settled()
+//! ```
+//!
+//! `serve_watched` and `run_watched` lend each item that airs, and the controller, to who looks on.
+//!
+//! Files: `server` and `automation` (the two drivers), `line` (results of a turn or listen), `watch` (observers),
+//! `laws`.
 #![tactic(auto)]
 
 mod automation;
 pub mod laws;
 mod line;
-mod send;
 mod server;
 mod watch;
 
 pub use automation::AutoDriver;
 pub use line::{DriveFault, Line, Ran};
 pub use server::Server;
+pub use vdcp_wire::{Came, Entry, PIECE, ScriptWire, StreamWire, Wire, WireFault};
 pub use watch::{Unwatched, Watch, WatchAir};
 
 #[cfg(test)]

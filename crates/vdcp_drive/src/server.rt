@@ -4,14 +4,14 @@ ghost use Rattle.vdcp_frame.specs.Message.{content_of, AreOctets};
 ghost use Rattle.vdcp_frame.specs.Progress.{reading};
 ghost use Rattle.vdcp_port.specs.Answers.{answer_bytes, bytes_for, items_for};
 ghost use Rattle.vdcp_port.specs.Clock.{ClockedPort, after_message};
-ghost use Rattle.vdcp_drive.specs.Lines.{line_of, ServesTo};
-ghost use Rattle.vdcp_drive.specs.Served.{IsNewServer, IsServed, IsPartlySent, HasBrokenOff, HasWatched, HasPartlyWatched, served, port_after, items_served};
+ghost use Rattle.vdcp_drive.specs.Lines.{line_of};
+ghost use Rattle.vdcp_drive.specs.ServeLeaves.{ServeLeaves};
+ghost use Rattle.vdcp_drive.specs.Served.{IsNewServer, IsServed, IsPartlySent, HasBrokenOff, HasWatched, HasPartlyWatched, items_served};
 ghost use Rattle.vdcp_drive.specs.Serving.{HasTaken, HasBroken, HasEnded, HasEndBroken, Serves, Breaks, last_aired};
 ghost use Rattle.vdcp_drive.specs.Watching.{adds_aired};
 ghost use Rattle.vdcp_wire.specs.Wires.{Arrival, Told, IfTold, MayCome, adds_sent, adds_came, SendsFront};
 
 use crate::line::{DriveFault, Line, Ran};
-use crate::send::send_message;
 use crate::watch::{Unwatched, WatchAir};
 use std::marker::Model;
 use vdcp_frame::{Got, Message, Reader, laws as bursts};
@@ -87,67 +87,32 @@ impl<C: Catalogue, W: Wire> Server<C, W> {
     /// Takes this many turns, or fewer if the other end closes. `Device` if the wire fails or has failed
     /// before.
     pub fn serve(&mut self, turns: u64) -> Result<Ran, DriveFault>
-        // Of a new server, whose fresh wire tells its bytes: what is sent, and the port that this leaves.
-        ensures sent { IsNewServer self.old.reader (W.told self.old.wire) →
-            OnOk result (IfTold (W.told self.new.wire) (λ u. u.sent ≡ served self.old.port u.came)) }
-        ensures port { IsNewServer self.old.reader (W.told self.old.wire) →
-            OnOk result (IfTold (W.told self.new.wire) (λ u. self.new.port ≡ port_after self.old.port u.came)) }
-        ensures broken { IsNewServer self.old.reader (W.told self.old.wire) → W.failures self.old.wire ≡ 0 →
-            OnErr result (IfTold (W.told self.new.wire) (λ u. HasBrokenOff self.old.port u self.new.port × IsPartlySent self.old.port u)) }
-        // Of a server that began with some port, and has served what its wire tells that came.
-        ensures served { (start : ClockedPort) (t : Told) → W.told self.old.wire ≡ Some t → IsServed start t self.old.port self.old.reader →
-            OnOk result (IfTold (W.told self.new.wire) (λ u. IsServed start u self.new.port self.new.reader)) }
-        ensures broken_off { (start : ClockedPort) (t : Told) → W.told self.old.wire ≡ Some t → IsServed start t self.old.port self.old.reader →
-            W.failures self.old.wire ≡ 0 → OnErr result (IfTold (W.told self.new.wire) (λ u. HasBrokenOff start u self.new.port × IsPartlySent start u)) }
-        // Which answer it gives: Spent where all turns were made and no close came.
-        ensures answer { (t : Told) → W.told self.old.wire ≡ Some t →
-            IfOk result (λ ran. IfTold (W.told self.new.wire) (λ u. ServesTo ran turns t.came u.came)) }
-        ensures never_ended { IfOk result (λ ran. ran ≢ Ran.Ended) }
-        // A server drops nothing that waits.
-        ensures drops { (t : Told) → W.told self.old.wire ≡ Some t → IfTold (W.told self.new.wire) (λ u. u.drops ≡ t.drops) }
-        ensures works { OnOk result (W.failures self.new.wire ≡ 0) }
-        ensures device { OnErr result (W.failures self.new.wire ≡ 1) }
-        ensures stays { W.failures self.old.wire ≡ 1 → IsErr result × (self.new ≡ self.old) }
+        ensures leaves { ServeLeaves W.told W.failures turns self.old self.new result }
     {
         self.serve_watched(turns, &mut Unwatched)
     }
 
-    /// As `serve`, and lends `watcher` each item put to air, behind its turn.
+    /// As `serve`, and lends `watcher` each item put to air, after its turn.
     pub fn serve_watched<V: WatchAir>(
         &mut self,
         turns: u64,
         watcher: &mut V,
     ) -> Result<Ran, DriveFault>
-        // Of a new server, whose fresh wire tells its bytes: what is sent, and the port that this leaves.
-        ensures sent { IsNewServer self.old.reader (W.told self.old.wire) →
-            OnOk result (IfTold (W.told self.new.wire) (λ u. u.sent ≡ served self.old.port u.came)) }
-        ensures port { IsNewServer self.old.reader (W.told self.old.wire) →
-            OnOk result (IfTold (W.told self.new.wire) (λ u. self.new.port ≡ port_after self.old.port u.came)) }
-        ensures broken { IsNewServer self.old.reader (W.told self.old.wire) → W.failures self.old.wire ≡ 0 →
-            OnErr result (IfTold (W.told self.new.wire) (λ u. HasBrokenOff self.old.port u self.new.port × IsPartlySent self.old.port u)) }
-        // Of a server that began with some port, and has served what its wire tells that came.
-        ensures served { (start : ClockedPort) (t : Told) → W.told self.old.wire ≡ Some t → IsServed start t self.old.port self.old.reader →
-            OnOk result (IfTold (W.told self.new.wire) (λ u. IsServed start u self.new.port self.new.reader)) }
-        ensures broken_off { (start : ClockedPort) (t : Told) → W.told self.old.wire ≡ Some t → IsServed start t self.old.port self.old.reader →
-            W.failures self.old.wire ≡ 0 → OnErr result (IfTold (W.told self.new.wire) (λ u. HasBrokenOff start u self.new.port × IsPartlySent start u)) }
-        // A watcher that tells what it watched: it was lent what went to air, each item once and in order.
-        ensures watched { IsNewServer self.old.reader (W.told self.old.wire) → (items : List Item) → V.watched watcher.old ≡ Some items →
-            OnOk result (IfTold (W.told self.new.wire) (λ u. V.watched watcher.new ≡ Some (items ++ items_served self.old.port u.came))) }
+        ensures leaves { ServeLeaves W.told W.failures turns self.old self.new result }
+        // A watcher that tells what it watched was lent what went to air, each item once and in order.
+        ensures watched { IsNewServer W.told self.old → (items : List Item) → V.watched watcher.old ≡ Some items →
+            OnOk result
+            (IfTold (W.told self.new.wire) (λ u. V.watched watcher.new ≡ Some
+            (items ++ items_served self.old.port u.came))) }
         ensures watched_since { (start : ClockedPort) (t : Told) (items : List Item) → W.told self.old.wire ≡ Some t →
             IsServed start t self.old.port self.old.reader → V.watched watcher.old ≡ Some items →
             OnOk result (IfTold (W.told self.new.wire) (λ u. HasWatched start t u items (V.watched watcher.new))) }
         ensures watched_first { (start : ClockedPort) (t : Told) (items : List Item) → W.told self.old.wire ≡ Some t →
-            IsServed start t self.old.port self.old.reader → W.failures self.old.wire ≡ 0 → V.watched watcher.old ≡ Some items →
-            OnErr result (IfTold (W.told self.new.wire) (λ u. HasPartlyWatched start t u items self.new.aired (V.watched watcher.new))) }
-        // Which answer it gives: Spent where all turns were made and no close came.
-        ensures answer { (t : Told) → W.told self.old.wire ≡ Some t →
-            IfOk result (λ ran. IfTold (W.told self.new.wire) (λ u. ServesTo ran turns t.came u.came)) }
-        ensures never_ended { IfOk result (λ ran. ran ≢ Ran.Ended) }
-        // A server drops nothing that waits.
-        ensures drops { (t : Told) → W.told self.old.wire ≡ Some t → IfTold (W.told self.new.wire) (λ u. u.drops ≡ t.drops) }
-        ensures works { OnOk result (W.failures self.new.wire ≡ 0) }
-        ensures device { OnErr result (W.failures self.new.wire ≡ 1) }
-        ensures stays { W.failures self.old.wire ≡ 1 → IsErr result × (self.new ≡ self.old) × (watcher.new ≡ watcher.old) }
+            IsServed start t self.old.port self.old.reader → W.failures self.old.wire ≡ 0 →
+            V.watched watcher.old ≡ Some items →
+            OnErr result (IfTold (W.told self.new.wire) (λ u. HasPartlyWatched start t u items self.new.aired
+            (V.watched watcher.new))) }
+        ensures unwatched { W.failures self.old.wire ≡ 1 → watcher.new ≡ watcher.old }
     {
         bursts::what_is_fed_is_followed();
         if self.failed {
@@ -169,24 +134,34 @@ impl<C: Catalogue, W: Wire> Server<C, W> {
     pub fn turn(&mut self) -> Result<Line, DriveFault>
         // Of any server.
         ensures serves { IfOk result (λ line. (a : Arrival) × (line ≡ line_of a) × MayCome a (W.told self.old.wire)
-            × Serves a self.old.port self.old.reader (adds_came a (W.told self.old.wire)) self.new.port self.new.reader self.new.aired (W.told self.new.wire)) }
+            × Serves a self.old.port self.old.reader (adds_came a (W.told self.old.wire)) self.new.port
+            self.new.reader self.new.aired (W.told self.new.wire)) }
         ensures breaks { W.failures self.old.wire ≡ 0 → OnErr result (
             ((W.told self.new.wire ≡ W.told self.old.wire) × (self.new.port ≡ self.old.port) × (self.new.aired ≡ None))
             ⊎ ((a : Arrival) × MayCome a (W.told self.old.wire)
-            × Breaks a self.old.port self.old.reader (adds_came a (W.told self.old.wire)) self.new.port self.new.aired (W.told self.new.wire))) }
+            × Breaks a self.old.port self.old.reader (adds_came a (W.told self.old.wire)) self.new.port self.new.aired
+            (W.told self.new.wire))) }
         // Of a server that began with this port, and has served what its wire tells that came.
-        ensures served { (start : ClockedPort) (t : Told) → W.told self.old.wire ≡ Some t → IsServed start t self.old.port self.old.reader →
+        ensures served { (start : ClockedPort) (t : Told) → W.told self.old.wire ≡ Some t →
+            IsServed start t self.old.port self.old.reader →
             OnOk result (IfTold (W.told self.new.wire) (λ u. IsServed start u self.new.port self.new.reader)) }
-        ensures broken_off { (start : ClockedPort) (t : Told) → W.told self.old.wire ≡ Some t → IsServed start t self.old.port self.old.reader →
-            W.failures self.old.wire ≡ 0 → OnErr result (IfTold (W.told self.new.wire) (λ u. HasBrokenOff start u self.new.port × IsPartlySent start u)) }
+        ensures broken_off { (start : ClockedPort) (t : Told) → W.told self.old.wire ≡ Some t →
+            IsServed start t self.old.port self.old.reader →
+            W.failures self.old.wire ≡ 0 →
+            OnErr result (IfTold (W.told self.new.wire) (λ u. HasBrokenOff start u self.new.port
+            × IsPartlySent start u)) }
         // What goes to air: what went to air before, and then the item of this turn, if it put one there.
-        ensures airs { (start : ClockedPort) (t : Told) → W.told self.old.wire ≡ Some t → IsServed start t self.old.port self.old.reader →
-            OnOk result (IfTold (W.told self.new.wire) (λ u. items_served start u.came ≡ items_served start t.came ++ option_to_list self.new.aired)) }
-        ensures airs_first { (start : ClockedPort) (t : Told) → W.told self.old.wire ≡ Some t → IsServed start t self.old.port self.old.reader →
+        ensures airs { (start : ClockedPort) (t : Told) → W.told self.old.wire ≡ Some t →
+            IsServed start t self.old.port self.old.reader →
+            OnOk result (IfTold (W.told self.new.wire) (λ u. items_served start u.came ≡ items_served start t.came
+            ++ option_to_list self.new.aired)) }
+        ensures airs_first { (start : ClockedPort) (t : Told) → W.told self.old.wire ≡ Some t →
+            IsServed start t self.old.port self.old.reader →
             W.failures self.old.wire ≡ 0 → OnErr result (IfTold (W.told self.new.wire) (λ u. (others : List Item) ×
             (items_served start u.came ≡ (items_served start t.came ++ option_to_list self.new.aired) ++ others))) }
         // A server drops nothing that waits.
-        ensures drops { (t : Told) → W.told self.old.wire ≡ Some t → IfTold (W.told self.new.wire) (λ u. u.drops ≡ t.drops) }
+        ensures drops { (t : Told) → W.told self.old.wire ≡ Some t →
+            IfTold (W.told self.new.wire) (λ u. u.drops ≡ t.drops) }
         ensures works { OnOk result (W.failures self.new.wire ≡ 0) }
         ensures device { OnErr result (W.failures self.new.wire ≡ 1) }
         ensures stays { W.failures self.old.wire ≡ 1 → IsErr result × (self.new ≡ self.old) }
@@ -236,9 +211,11 @@ fn hear<C: Catalogue, W: Wire>(
 ) -> Result<Line, WireFault>
     requires { W.failures wire.old ≡ 0 }
     ensures serves { IfOk result (λ line. (a : Arrival) × (line ≡ line_of a) × MayCome a (W.told wire.old)
-        × Serves a port.old reader.old (adds_came a (W.told wire.old)) port.new reader.new aired.new (W.told wire.new)) }
+        × Serves a port.old reader.old (adds_came a (W.told wire.old)) port.new reader.new aired.new
+        (W.told wire.new)) }
     ensures breaks { OnErr result (((W.told wire.new ≡ W.told wire.old) × (port.new ≡ port.old) × (aired.new ≡ None))
-        ⊎ ((a : Arrival) × MayCome a (W.told wire.old) × Breaks a port.old reader.old (adds_came a (W.told wire.old)) port.new aired.new (W.told wire.new))) }
+        ⊎ ((a : Arrival) × MayCome a (W.told wire.old)
+        × Breaks a port.old reader.old (adds_came a (W.told wire.old)) port.new aired.new (W.told wire.new))) }
     ensures works { OnOk result (W.failures wire.new ≡ 0) }
     ensures failed { OnErr result (W.failures wire.new ≡ 1) }
 {
@@ -266,8 +243,10 @@ fn take_piece<C: Catalogue, W: Wire>(
     piece: &[u8],
 ) -> Result<(), WireFault>
     requires { W.failures wire.old ≡ 0 }
-    ensures taken { OnOk result (HasTaken port.old reader.old aired.old (W.told wire.old) piece.now port.new reader.new aired.new (W.told wire.new)) }
-    ensures broken { OnErr result (HasBroken port.old reader.old aired.old (W.told wire.old) piece.now port.new aired.new (W.told wire.new)) }
+    ensures taken { OnOk result (HasTaken port.old reader.old aired.old (W.told wire.old) piece.now port.new
+        reader.new aired.new (W.told wire.new)) }
+    ensures broken { OnErr result (HasBroken port.old reader.old aired.old (W.told wire.old) piece.now port.new
+        aired.new (W.told wire.new)) }
     ensures fits { AreOctets piece.now }
     ensures works { OnOk result (W.failures wire.new ≡ 0) }
     ensures failed { OnErr result (W.failures wire.new ≡ 1) }
@@ -280,7 +259,7 @@ fn take_piece<C: Catalogue, W: Wire>(
     Ok(())
 }
 
-// Takes bytes up to the end of one message or one fault, or all of them. Answers how many.
+// Feeds the reader once, answers the message that this completes, and gives how many bytes it used up.
 fn take_some<C: Catalogue, W: Wire>(
     reader: &mut Reader,
     port: &mut Port<C>,
@@ -293,7 +272,8 @@ fn take_some<C: Catalogue, W: Wire>(
     ensures some { IfOk result (λ n. 0 < length piece.now → 0 < n) }
     ensures taken { IfOk result (λ n. HasTaken port.old reader.old aired.old (W.told wire.old) (take n piece.now)
         port.new reader.new aired.new (W.told wire.new)) }
-    ensures broken { OnErr result (HasBroken port.old reader.old aired.old (W.told wire.old) piece.now port.new aired.new (W.told wire.new)) }
+    ensures broken { OnErr result (HasBroken port.old reader.old aired.old (W.told wire.old) piece.now port.new
+        aired.new (W.told wire.new)) }
     ensures works { OnOk result (W.failures wire.new ≡ 0) }
     ensures failed { OnErr result (W.failures wire.new ≡ 1) }
 {
@@ -316,8 +296,10 @@ fn answer<C: Catalogue, W: Wire>(
     message: &Message,
 ) -> Result<(), WireFault>
     requires { W.failures wire.old ≡ 0 }
-    ensures sent { OnOk result (W.told wire.new ≡ adds_sent (bytes_for port.old (content_of message.now)) (W.told wire.old)) }
-    ensures front { OnErr result (SendsFront (bytes_for port.old (content_of message.now)) (W.told wire.old) (W.told wire.new)) }
+    ensures sent { OnOk result (W.told wire.new ≡ adds_sent (bytes_for port.old (content_of message.now))
+        (W.told wire.old)) }
+    ensures front { OnErr result (SendsFront (bytes_for port.old (content_of message.now)) (W.told wire.old)
+        (W.told wire.new)) }
     ensures next { port.new ≡ after_message port.old (content_of message.now) }
     ensures airs { aired.new ≡ last_aired aired.old (items_for port.old (content_of message.now)) }
     ensures works { OnOk result (W.failures wire.new ≡ 0) }
@@ -352,16 +334,15 @@ fn end_burst<C: Catalogue, W: Wire>(
 fn send_reply<W: Wire>(reply: Option<Reply>, unit: u8, wire: &mut W) -> Result<(), WireFault>
     requires unit { unit ≤ 15 }
     requires works { W.failures wire.old ≡ 0 }
-    ensures sent { OnOk result (W.told wire.new ≡ adds_sent (answer_bytes unit (option_to_list reply)) (W.told wire.old)) }
-    ensures front { OnErr result (SendsFront (answer_bytes unit (option_to_list reply)) (W.told wire.old) (W.told wire.new)) }
+    ensures sent { OnOk result (W.told wire.new ≡ adds_sent (answer_bytes unit (option_to_list reply))
+        (W.told wire.old)) }
+    ensures front { OnErr result (SendsFront (answer_bytes unit (option_to_list reply)) (W.told wire.old)
+        (W.told wire.new)) }
     ensures works { OnOk result (W.failures wire.new ≡ 0) }
     ensures failed { OnErr result (W.failures wire.new ≡ 1) }
 {
     match reply {
         None => Ok(()),
-        Some(reply) => {
-            let mut room = [0; 16];
-            send_message(&reply.to_message(unit, &mut room), wire)
-        }
+        Some(reply) => wire.send(reply.encode(unit).as_slice()),
     }
 }

@@ -2,6 +2,7 @@
 mod automation;
 mod both;
 mod broken;
+mod calling;
 mod calls;
 mod clips;
 mod hostile;

@@ -1,10 +1,10 @@
 use vdcp_auto::{Controller, Source};
 use vdcp_value::Item;
 
-/// Who watches an automation run.
+/// Watches an automation run.
 pub trait Watch<S: Source> {
     ghost use Rattle.std.specs.Prelude.{◌≡◌, List, Option, None};
-    ghost use Rattle.vdcp_auto.specs.declared.phase.State.{State};
+    ghost use Rattle.vdcp_auto.specs.State.{State};
     ghost use Rattle.vdcp_drive.specs.Watching.{adds_watched};
 
     /// The states of the controllers that it was lent, in order, if it tells them.
@@ -15,7 +15,7 @@ pub trait Watch<S: Source> {
         ensures { watched self.new ≡ adds_watched controller.now.state (watched self.old) };
 }
 
-/// Who watches what a server puts to air.
+/// Watches what a server puts to air.
 pub trait WatchAir {
     ghost use Rattle.std.specs.Prelude.{◌≡◌, List, Option, None};
     ghost use Rattle.vdcp_value.specs.declared.part.Item.{Item};
@@ -24,7 +24,7 @@ pub trait WatchAir {
     /// The items that it was lent, in order, if it tells them.
     ghost watched: { Self → Option (List Item) } = { λ _. None };
 
-    /// It is lent the item behind each turn that put one to air.
+    /// It is lent the item after each turn that put one to air.
     fn aired(&mut self, item: &Item)
         ensures { watched self.new ≡ adds_watched item.now (watched self.old) };
 }

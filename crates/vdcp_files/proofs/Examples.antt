@@ -28,7 +28,8 @@ odd_digits = refl
 three_fields : finding_of_row (codes "0" ∷ codes "clean" ∷ [] ∷ []) ≡ columns
 three_fields = refl
 
-stop_then_ack : vectors_text (findings_of ((codes "02021001ef" ∷ codes "unit 0 type 1 code 01 data -; clean" ∷ []) ∷ (codes "04" ∷ codes "clean" ∷ []) ∷ []))
+stop_then_ack : vectors_text (findings_of
+    ((codes "02021001ef" ∷ codes "unit 0 type 1 code 01 data -; clean" ∷ []) ∷ (codes "04" ∷ codes "clean" ∷ []) ∷ []))
     ≡ codes "row 2: got ack; clean\nvectors 2 bad 1\n"
 unfolding decode_pairs encode_with digits
 stop_then_ack = refl

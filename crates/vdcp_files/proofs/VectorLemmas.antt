@@ -2,24 +2,25 @@
 use Rattle.csv.specs.Records.{field_at}
 use Rattle.std.proofs.Common.{◌≡◌, ℕ, ◌+◌, ◌≤◌, ◌<◌, suc, true, false, List, [], ◌∷◌}
 use Rattle.std.proofs.Common.{◌++◌, length, sym, ap, ap₂, subst, ◌∙◌, arith, append_assoc, append-nil}
+use Rattle.std.proofs.lemmas.Grind.{flat_map-append}
 use Rattle.std.proofs.lemmas.List.{length-append, length-map, map-append}
-use Rattle.std.specs.Prelude.{IfNone, IfOk, Result, Ok, Err, Option, None, Some, option_map, string_bytes}
+use Rattle.std.specs.Prelude.{IfNone, IfOk, Result, Ok, Err, Option, None, Some, codes, option_map, string_bytes}
 use Rattle.vdcp_files.specs.Vectors.{Finding, HasTooMany, IsTally, IsTallyOf, bad_count, columns, finding_of_row}
-use Rattle.vdcp_files.specs.Vectors.{finding_text, findings_of, findings_text, got, joined_reading, joined_text, hex, right}
-use Rattle.vdcp_text.specs.Text.{end_text}
+use Rattle.vdcp_files.specs.Vectors.{finding_text, findings_of, findings_text, got, joined_text, hex, right}
+use Rattle.vdcp_text.specs.Text.{message_text}
 use Rattle.vdcp_files.specs.declared.vectors.Tally.{Tally}
-use Rattle.vdcp_frame.specs.Burst.{messages_of, end_of}
 use Rattle.vdcp_frame.specs.Message.{Content}
-use Rattle.vdcp_frame.specs.Reading.{End}
 use Rattle.vdcp_list.specs.Reading.{IsFront, TakesRow}
 use Rattle.vdcp_list.specs.Rows.{AreRowsOf, FileRow, HasRows, most_rows, rows_of}
 
-pub two_fields : (fields : List (List ℕ)) (first second : List ℕ) → length fields ≡ 2 → Some first ≡ field_at fields 0 → Some second ≡ field_at fields 1
+pub two_fields : (fields : List (List ℕ)) (first second : List ℕ) → length fields ≡ 2 → Some first ≡ field_at fields 0
+    → Some second ≡ field_at fields 1
     → fields ≡ first ∷ second ∷ []
 unfolding field_at
 two_fields [] first second two a b = absurd (omega (arith, two))
 two_fields (x ∷ []) first second two a b = absurd (omega (arith, two))
-two_fields (x ∷ y ∷ []) first second two a b = let p : x ≡ first = cc a in let q : y ≡ second = cc b in ap₂ (λ i j. i ∷ j ∷ []) p q
+two_fields (x ∷ y ∷ []) first second two a b = let p : x ≡ first = cc a in let q : y ≡ second = cc b in
+    ap₂ (λ i j. i ∷ j ∷ []) p q
 two_fields (x ∷ y ∷ z ∷ rest) first second two a b = absurd (omega (arith, two))
 
 pub has_first : (fields : List (List ℕ)) → length fields ≡ 2 → ◌≡◌ {A = Option (List ℕ)} None (field_at fields 0) → ⊥
@@ -39,7 +40,8 @@ if_none (Some x) p = tt
 
 -- the line of one more row
 findings_text-push : (k : ℕ) (findings : List Finding) (finding : Finding)
-    → findings_text k (findings ++ finding ∷ []) ≡ findings_text k findings ++ finding_text (k + length findings) finding
+    → findings_text k (findings ++ finding ∷ [])
+    ≡ findings_text k findings ++ finding_text (k + length findings) finding
 findings_text-push k [] finding =
     let same : k + 0 ≡ k = omega arith in
     append-nil (finding_text k finding) ∙ ap (λ n. finding_text n finding) (sym same)
@@ -47,9 +49,11 @@ findings_text-push k (first ∷ findings) finding =
     let size : suc k + length findings ≡ k + suc (length findings) = omega arith in
     ap (λ text. finding_text k first ++ text) (findings_text-push (suc k) findings finding
     ∙ ap (λ n. findings_text (suc k) findings ++ finding_text n finding) size)
-    ∙ sym (append_assoc (finding_text k first) (findings_text (suc k) findings) (finding_text (k + suc (length findings)) finding))
+    ∙ sym (append_assoc (finding_text k first) (findings_text (suc k) findings)
+    (finding_text (k + suc (length findings)) finding))
 
-bad_count-push : (findings : List Finding) (finding : Finding) → bad_count (findings ++ finding ∷ []) ≡ bad_count findings + bad_count (finding ∷ [])
+bad_count-push : (findings : List Finding) (finding : Finding)
+    → bad_count (findings ++ finding ∷ []) ≡ bad_count findings + bad_count (finding ∷ [])
 bad_count-push [] finding = omega arith
 bad_count-push (right ∷ findings) finding = bad_count-push findings finding
 bad_count-push (columns ∷ findings) finding = omega (arith, bad_count-push findings finding)
@@ -66,11 +70,14 @@ bad_within (got reading ∷ findings) = omega (arith, bad_within findings)
 -- what the law of vdcp_list says of the rows that were read: the lemmas below take it from a body that calls it
 pub record RowLaws : Type 0 where
   pub none : (all : Option (List FileRow)) → IsFront all all []
-  pub more : (all left left' : Option (List FileRow)) (front : List FileRow) (row : FileRow) → IsFront all left front → TakesRow left left' true row
+  pub more : (all left left' : Option (List FileRow)) (front : List FileRow) (row : FileRow) → IsFront all left front
+      → TakesRow left left' true row
       → IsFront all left' (front ++ row ∷ [])
-  pub all : (file : Option (List ℕ)) (left left' : Option (List FileRow)) (front : List FileRow) (row : FileRow) → IsFront (option_map rows_of file) left front
+  pub all : (file : Option (List ℕ)) (left left' : Option (List FileRow)) (front : List FileRow) (row : FileRow)
+      → IsFront (option_map rows_of file) left front
       → TakesRow left left' false row → AreRowsOf file front
-  pub begins : (file : Option (List ℕ)) (left : Option (List FileRow)) (front : List FileRow) → IsFront (option_map rows_of file) left front
+  pub begins : (file : Option (List ℕ)) (left : Option (List FileRow)) (front : List FileRow)
+      → IsFront (option_map rows_of file) left front
       → HasRows file (λ rows. (rest : List FileRow) × (rows ≡ front ++ rest))
 
 -- the rows read so far, and what they were found to be
@@ -80,7 +87,8 @@ pub record Tested (file : Option (List ℕ)) (left : Option (List FileRow)) (tal
   pub few : length front ≤ most_rows
   pub tallied : IsTally (findings_of front) tally
 
-pub tested_first : RowLaws → (file : Option (List ℕ)) (left : Option (List FileRow)) (tally : Tally) → left ≡ option_map rows_of file → IsTally [] tally
+pub tested_first : RowLaws → (file : Option (List ℕ)) (left : Option (List FileRow)) (tally : Tally)
+    → left ≡ option_map rows_of file → IsTally [] tally
     → Tested file left tally
 tested_first v file left tally e t =
     record { front = []; is_front = rw e (v.none (option_map rows_of file)); few = omega arith; tallied = t }
@@ -93,13 +101,21 @@ counted file left tally h = (
   omega (arith, h.tallied.rows_are, length-map h.front finding_of_row, h.few),
 )
 
-pub counts_one : (file : Option (List ℕ)) (left : Option (List FileRow)) (tally tally' : Tally) (finding : Finding) → Tested file left tally
+pub counts_one : (file : Option (List ℕ)) (left : Option (List FileRow)) (tally tally' : Tally) (finding : Finding)
+    → Tested file left tally
     → ((findings : List Finding) → IsTally findings tally → IsTally (findings ++ finding ∷ []) tally')
     → tally'.rows ≡ tally.rows + 1
 counts_one file left tally tally' finding h add =
-    omega (arith, h.tallied.rows_are, (add (findings_of h.front) h.tallied).rows_are, length-append (findings_of h.front) (finding ∷ []))
+    omega (
+      arith,
+      h.tallied.rows_are,
+      (add (findings_of h.front) h.tallied).rows_are,
+      length-append (findings_of h.front) (finding ∷ []),
+    )
 
-pub tested_next : RowLaws → (file : Option (List ℕ)) (left left' : Option (List FileRow)) (tally tally' : Tally) (row : FileRow) (finding : Finding)
+pub tested_next : RowLaws
+    → (file : Option (List ℕ)) (left left' : Option (List FileRow)) (tally tally' : Tally) (row : FileRow)
+    (finding : Finding)
     → Tested file left tally → TakesRow left left' true row → tally.rows < most_rows → finding ≡ finding_of_row row
     → ((findings : List Finding) → IsTally findings tally → IsTally (findings ++ finding ∷ []) tally')
     → Tested file left' tally'
@@ -108,11 +124,14 @@ tested_next v file left left' tally tally' row finding h t room found add = reco
   is_front = v.more (option_map rows_of file) left left' h.front row h.is_front t;
   few = omega (arith, length-append h.front (row ∷ []), h.tallied.rows_are, length-map h.front finding_of_row, room);
   tallied =
-      subst (λ findings. IsTally findings tally') (ap (λ f. findings_of h.front ++ f ∷ []) found ∙ sym (map-append finding_of_row h.front (row ∷ [])))
+      subst (λ findings. IsTally findings tally')
+      (ap (λ f. findings_of h.front ++ f ∷ []) found ∙ sym (map-append finding_of_row h.front (row ∷ [])))
       (add (findings_of h.front) h.tallied);
 }
 
-pub tested_all : RowLaws → (file : Option (List ℕ)) (left left' : Option (List FileRow)) (tally : Tally) (row : FileRow) → Tested file left tally
+pub tested_all : RowLaws
+    → (file : Option (List ℕ)) (left left' : Option (List FileRow)) (tally : Tally) (row : FileRow)
+    → Tested file left tally
     → TakesRow left left' false row → IsTallyOf file tally
 tested_all v file left left' tally row h t = record {
   rows = h.front;
@@ -121,13 +140,24 @@ tested_all v file left left' tally row h t = record {
   tallied = h.tallied;
 }
 
-pub tested_too_many : RowLaws → (file : Option (List ℕ)) (left left' : Option (List FileRow)) (tally : Tally) (row : FileRow) → Tested file left tally
+pub tested_too_many : RowLaws
+    → (file : Option (List ℕ)) (left left' : Option (List FileRow)) (tally : Tally) (row : FileRow)
+    → Tested file left tally
     → TakesRow left left' true row → tally.rows ≡ most_rows → HasTooMany file
 tested_too_many v file left left' tally row h t full =
     let front = h.front ++ row ∷ [] in
-    let (rows, are, (rest, e)) = v.begins file left' front (v.more (option_map rows_of file) left left' h.front row h.is_front t) in
+    let (rows, are, (rest, e)) =
+    v.begins file left' front (v.more (option_map rows_of file) left left' h.front row h.is_front t) in
     let many : most_rows < length rows =
-    omega (arith, ap length e, length-append front rest, length-append h.front (row ∷ []), h.tallied.rows_are, length-map h.front finding_of_row, full)
+    omega (
+      arith,
+      ap length e,
+      length-append front rest,
+      length-append h.front (row ∷ []),
+      h.tallied.rows_are,
+      length-map h.front finding_of_row,
+      full,
+    )
     in (rows, are, many)
 
 -- one more row and its line
@@ -141,14 +171,17 @@ tally_push findings finding tally tally' h rows bad lines =
       rows_are = omega (arith, rows, h.rows_are, length-append findings (finding ∷ []));
       bad_are = bad ∙ ap (λ n. n + bad_count (finding ∷ [])) h.bad_are ∙ sym (bad_count-push findings finding);
       lines_are =
-          lines ∙ ap₂ (λ before n. before ++ finding_text n finding) h.lines_are place ∙ sym (findings_text-push 1 findings finding);
+          lines ∙ ap₂ (λ before n. before ++ finding_text n finding) h.lines_are place
+          ∙ sym (findings_text-push 1 findings finding);
     }
 
 pub if_ok : {T E : Type 0} (P : T → Type 0) (r : Result T E) (x : T) → IfOk r P → r ≡ Ok x → P x
 if_ok P (Ok y) x h e = let same : y ≡ x = cc e in subst P same h
 if_ok P (Err f) x h e = cc e
 
--- the one reading of a burst, joined
-pub joined_is : (burst : List ℕ) (ms : List Content) (end : End) → (ms ≡ messages_of burst) × (end ≡ end_of burst)
-    → joined_text ms ++ end_text end ≡ joined_reading burst
-joined_is burst ms end one = ap₂ (λ m e. joined_text m ++ end_text e) one.0 one.1
+-- the line of the next message
+pub joined_text-push : (ms : List Content) (m : Content)
+    → joined_text (ms ++ m ∷ []) ≡ joined_text ms ++ (message_text m ++ codes "; ")
+joined_text-push ms m =
+    flat_map-append (λ m. message_text m ++ codes "; ") ms (m ∷ [])
+    ∙ ap (λ text. joined_text ms ++ text) (append-nil (message_text m ++ codes "; "))

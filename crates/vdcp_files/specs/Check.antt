@@ -2,16 +2,15 @@
 use Rattle.std.specs.List.{list_all}
 use Rattle.std.specs.Prelude.{ℕ, suc, ◌≡◌, ◌⊎◌, Bool, List, [], ◌∷◌, ◌++◌, codes, decimal, length, Option, None, Some, if◌then◌else◌}
 use Rattle.std.specs.Io.KnownBytes.{Appends, Keeps}
-use Rattle.vdcp_files.specs.Files.{File, bytes_of, file, file_failure}
+use Rattle.vdcp_files.specs.Files.{File, IsWholeCatalogue, IsWholeList, RefusesCatalogue, RefusesList, bytes_of}
 use Rattle.vdcp_text.specs.Failure.{failure_line, status_of}
 use Rattle.vdcp_text.specs.Text.{line}
 use Rattle.vdcp_files.specs.declared.check.EventFault.{EventFault}
 use Rattle.vdcp_files.specs.declared.check.EventFault.TheVariants.{Missing, Outside}
 use Rattle.vdcp_text.specs.declared.failure.Failure.{Failure}
 use Rattle.vdcp_text.specs.declared.failure.Failure.TheVariants as failures
-use Rattle.vdcp_list.specs.Catalogues.{IsCatalogueFaultOf, IsCatalogueOf}
-use Rattle.vdcp_list.specs.Playlists.{IsListFaultOf, IsListOf}
-use Rattle.vdcp_list.specs.declared.faults.ListFault.{ListFault}
+use Rattle.vdcp_list.specs.Catalogues.{IsCatalogueOf}
+use Rattle.vdcp_list.specs.Playlists.{IsListOf}
 use Rattle.vdcp_port.specs.Clips.{is_playable, length_of}
 use Rattle.vdcp_value.specs.Ids.{text_of_id}
 use Rattle.vdcp_value.specs.Parts.{part_fits}
@@ -21,7 +20,7 @@ use Rattle.vdcp_value.specs.declared.part.Part.{Part}
 use Rattle.vdcp_value.specs.declared.rate.Rate.{Rate}
 use Rattle.vdcp_value.specs.declared.timecode.Timecode.{Timecode}
 
--- why a part, or the whole, of a clip of this length, or of one that isn't known, can't be played, if it can't
+-- why a part of a clip of this length, or the whole, can't be played, if it can't; no length: the clip is unknown
 abbrev pub fault_in : Option Timecode → Option Part → Option EventFault
 fault_in None part = Some Missing
 fault_in (Some clip) None = None
@@ -48,13 +47,16 @@ events_text clips k (item ∷ items) = event_text k item.id (fault_of clips item
 -- what a check of these events against these clips prints
 abbrev pub check_text : List (ClipId × Timecode) → List Item → List ℕ
 check_text clips items =
-    line (codes "events " ++ decimal (length items)) ++ line (codes "clips " ++ decimal (length clips)) ++ events_text clips 0 items
+    line (codes "events " ++ decimal (length items))
+    ++ line (codes "clips " ++ decimal (length clips))
+    ++ events_text clips 0 items
 
 -- every event can be played: the port can cue its item
 abbrev pub are_playable : List (ClipId × Timecode) → List Item → Bool
 are_playable clips items = list_all (is_playable clips) items
 
--- the files are a playlist and a catalogue, a writer gained what their check prints, and this is whether every event can be played
+-- the files are a playlist and a catalogue, a writer gained what their check prints, and this is whether
+-- every event can be played
 pub record IsChecked (rate : Rate) (list catalogue : File) (old new : Option (List ℕ)) (playable : Bool) : Type 0 where
   pub items : List Item
   pub clips : List (ClipId × Timecode)
@@ -65,30 +67,20 @@ pub record IsChecked (rate : Rate) (list catalogue : File) (old new : Option (Li
 
 -- the files are a playlist and a catalogue
 abbrev pub AreWhole : Rate → File → File → Type 0
-AreWhole rate list catalogue =
-    ((items : List Item) × IsListOf rate (bytes_of list) items) × ((clips : List (ClipId × Timecode)) × IsCatalogueOf rate (bytes_of catalogue) clips)
-
--- the list isn't read, with this failure
-abbrev pub RefusesList : Rate → File → Failure → Type 0
-RefusesList rate (file name bytes) failure =
-    (fault : ListFault) × (failure ≡ file_failure name fault) × IsListFaultOf rate bytes fault
-
--- the catalogue isn't read, with this failure
-abbrev pub RefusesCatalogue : Rate → File → Failure → Type 0
-RefusesCatalogue rate (file name bytes) failure =
-    (fault : ListFault) × (failure ≡ file_failure name fault) × IsCatalogueFaultOf rate bytes fault
+AreWhole rate list catalogue = IsWholeList rate list × IsWholeCatalogue rate catalogue
 
 -- the list, which comes first, isn't read, or else the catalogue
 abbrev pub Refuses : Rate → File → File → Failure → Type 0
 Refuses rate list catalogue failure =
-    RefusesList rate list failure ⊎ (((items : List Item) × IsListOf rate (bytes_of list) items) × RefusesCatalogue rate catalogue failure)
+    RefusesList rate list failure ⊎ (IsWholeList rate list × RefusesCatalogue rate catalogue failure)
 
 -- why nothing is checked, and what was printed by then: a file isn't read, or else the writer failed
-pub data IsUnchecked (rate : Rate) (list catalogue : File) (out out' : Option (List ℕ)) (failure : Failure) : Type 0 where
+pub data IsUnchecked (rate : Rate) (list catalogue : File) (out out' : Option (List ℕ)) (failure : Failure)
+    : Type 0 where
   no_files : Refuses rate list catalogue failure → Keeps out out' → IsUnchecked rate list catalogue out out' failure
   writer_failed : failure ≡ failures.Writer → IsUnchecked rate list catalogue out out' failure
 
--- a row of one of the files is refused: one writer gained the line that tells it, and the other nothing
+-- a row of one of the files is refused: one writer gained the line that reports it, and the other nothing
 pub record IsRefused (rate : Rate) (list catalogue : File) (out out' err err' : Option (List ℕ)) : Type 0 where
   pub failure : Failure
   pub refused : Refuses rate list catalogue failure

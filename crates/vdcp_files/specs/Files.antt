@@ -1,11 +1,17 @@
--- Files to read, and as what a refused list or catalogue is told.
+-- Files to read: when one is a playlist or a catalogue, and the failure where it is refused.
 use Rattle.std.specs.Borrow.{Bor}
-use Rattle.std.specs.Prelude.{ℕ, List, Option}
+use Rattle.std.specs.Prelude.{ℕ, ◌≡◌, List, Option}
+use Rattle.vdcp_list.specs.Catalogues.{IsCatalogueFaultOf, IsCatalogueOf}
+use Rattle.vdcp_list.specs.Playlists.{IsListFaultOf, IsListOf}
 use Rattle.vdcp_list.specs.declared.faults.ListFault.TheVariants as lists
 use Rattle.vdcp_list.specs.declared.faults.ListFault.{ListFault}
 use Rattle.vdcp_text.specs.declared.failure.Failure.{Failure}
 use Rattle.vdcp_text.specs.declared.failure.Failure.TheVariants.{Memory, Read, Row as RefusedRow}
 use Rattle.vdcp_text.specs.declared.failure.RowFault.TheVariants as rows
+use Rattle.vdcp_value.specs.declared.clip_id.ClipId.{ClipId}
+use Rattle.vdcp_value.specs.declared.part.Item.{Item}
+use Rattle.vdcp_value.specs.declared.rate.Rate.{Rate}
+use Rattle.vdcp_value.specs.declared.timecode.Timecode.{Timecode}
 
 -- a file to read: its name, and its bytes where they are known
 pub data File : Type 0 where
@@ -24,3 +30,21 @@ file_failure name (lists.Twice row) = RefusedRow name row rows.Twice
 file_failure name (lists.TooMany row) = RefusedRow name row rows.TooMany
 file_failure name lists.Memory = Memory
 file_failure name lists.Read = Read name
+
+-- the file is a playlist
+abbrev pub IsWholeList : Rate → File → Type 0
+IsWholeList rate list = (items : List Item) × IsListOf rate (bytes_of list) items
+
+-- the file is a catalogue
+abbrev pub IsWholeCatalogue : Rate → File → Type 0
+IsWholeCatalogue rate catalogue = (clips : List (ClipId × Timecode)) × IsCatalogueOf rate (bytes_of catalogue) clips
+
+-- the list isn't read, with this failure
+abbrev pub RefusesList : Rate → File → Failure → Type 0
+RefusesList rate (file name bytes) failure =
+    (fault : ListFault) × (failure ≡ file_failure name fault) × IsListFaultOf rate bytes fault
+
+-- the catalogue isn't read, with this failure
+abbrev pub RefusesCatalogue : Rate → File → Failure → Type 0
+RefusesCatalogue rate (file name bytes) failure =
+    (fault : ListFault) × (failure ≡ file_failure name fault) × IsCatalogueFaultOf rate bytes fault

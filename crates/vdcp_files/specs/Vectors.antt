@@ -17,7 +17,7 @@ use Rattle.vdcp_frame.specs.Burst.{messages_of, end_of}
 use Rattle.vdcp_frame.specs.Message.{Content}
 use Rattle.vdcp_list.specs.Rows.{AreRowsOf, FileRow, HasRows, most_rows}
 
--- the lines of messages, each with `; ` behind it
+-- the lines of messages, each followed by `; `
 abbrev pub joined_text : List Content → List ℕ
 joined_text ms = flat_map (λ m. message_text m ++ codes "; ") ms
 
@@ -78,7 +78,7 @@ bad_count (columns ∷ findings) = suc (bad_count findings)
 bad_count (hex ∷ findings) = suc (bad_count findings)
 bad_count (got reading ∷ findings) = suc (bad_count findings)
 
--- the last line: so many rows, of which so many are bad
+-- the last line, with the number of rows and of bad ones
 abbrev pub count_text : ℕ → ℕ → List ℕ
 count_text rows bad =
     if bad == 0
@@ -89,7 +89,7 @@ count_text rows bad =
 abbrev pub vectors_text : List Finding → List ℕ
 vectors_text findings = findings_text 1 findings ++ line (count_text (length findings) (bad_count findings))
 
--- a file's rows were tested: a writer gained what is printed of them, and so many are bad
+-- a file's rows were tested: a writer gained what is printed of them, and this is the number of bad ones
 pub record AreTested (file old new : Option (List ℕ)) (bad : ℕ) : Type 0 where
   pub rows : List FileRow
   pub are_rows : AreRowsOf file rows
@@ -120,4 +120,5 @@ too_many name = RefusedRow name (most_rows + 1) TooMany
 
 -- why the rows of a file of this name aren't tested
 abbrev pub IsUntested : Bor (List ℕ) → Option (List ℕ) → Failure → Type 0
-IsUntested name file failure = (failure ≡ Memory) ⊎ (failure ≡ Read name) ⊎ ((failure ≡ too_many name) × HasTooMany file)
+IsUntested name file failure =
+    (failure ≡ Memory) ⊎ (failure ≡ Read name) ⊎ ((failure ≡ too_many name) × HasTooMany file)

@@ -4,7 +4,7 @@ ghost use Rattle.vdcp_files.specs.Check.{AreWhole, IsChecked, IsRefused, IsUnche
 ghost use Rattle.vdcp_text.specs.Failure.{status_of};
 ghost use Rattle.vdcp_files.specs.Files.{file};
 
-use crate::input::Input;
+use crate::named_file::NamedFile;
 use arrayvec::ArrayString;
 use std::alloc::Global;
 use std::{fmt, io};
@@ -17,29 +17,34 @@ use vdcp_value::{ClipId, Item, Rate};
 /// events and how many clips there are, and then a line for each event whose clip the catalogue
 /// hasn't got, and for each whose part doesn't fit its clip.
 ///
-/// The status is 0 where there is no such event, and 1 where there is one. It is 1 too where a row
-/// is refused, and 3 where a file can't be read or memory was refused: `err` is told of these, and
-/// `out` gets nothing. The list is read first. The status is 3 where a writer failed, to which
-/// nothing more is written; `out` is flushed behind the last line.
+/// The status is 0 where there is no such event, and 1 where there is one. It is also 1 where a row
+/// is refused, and 3 where a file can't be read or memory was refused: `err` gets a line of either,
+/// and `out` nothing. The list is read first. The status is 3 where a writer failed: nothing more is
+/// written to that one. `out` is flushed after the last line.
 pub fn do_check<L: io::Read + Drop, C: io::Read + Drop, W: io::Write, E: io::Write>(
     alloc: Global,
-    list: Input<'_, L>,
-    catalogue: Input<'_, C>,
+    list: NamedFile<'_, L>,
+    catalogue: NamedFile<'_, C>,
     rate: Rate,
     out: &mut W,
     err: &mut E,
 ) -> u8
-    ensures playable { result ≡ 0 → IsChecked rate (file list.entry.name (L.remaining list.entry.reader)) (file catalogue.entry.name (C.remaining catalogue.entry.reader))
+    ensures playable { result ≡ 0 →
+        IsChecked rate (file list.entry.name (L.remaining list.entry.reader))
+        (file catalogue.entry.name (C.remaining catalogue.entry.reader))
         (W.contents out.old) (W.contents out.new) true }
     ensures untold { result ≡ 0 → Keeps (E.contents err.old) (E.contents err.new) }
     // The status is 1 for what isn't playable, and for a row that is refused.
     ensures others { result ≡ 1 →
-        (IsChecked rate (file list.entry.name (L.remaining list.entry.reader)) (file catalogue.entry.name (C.remaining catalogue.entry.reader))
+        (IsChecked rate (file list.entry.name (L.remaining list.entry.reader))
+        (file catalogue.entry.name (C.remaining catalogue.entry.reader))
         (W.contents out.old) (W.contents out.new) false × Keeps (E.contents err.old) (E.contents err.new))
-        ⊎ IsRefused rate (file list.entry.name (L.remaining list.entry.reader)) (file catalogue.entry.name (C.remaining catalogue.entry.reader))
+        ⊎ IsRefused rate (file list.entry.name (L.remaining list.entry.reader))
+        (file catalogue.entry.name (C.remaining catalogue.entry.reader))
         (W.contents out.old) (W.contents out.new) (E.contents err.old) (E.contents err.new) }
     ensures silent { Keeps (W.contents out.old) (W.contents out.new)
-        ⊎ AreWhole rate (file list.entry.name (L.remaining list.entry.reader)) (file catalogue.entry.name (C.remaining catalogue.entry.reader)) }
+        ⊎ AreWhole rate (file list.entry.name (L.remaining list.entry.reader))
+        (file catalogue.entry.name (C.remaining catalogue.entry.reader)) }
     ensures statuses { (result < 2) ⊎ (result ≡ 3) }
 {
     match check(alloc, list, catalogue, rate, out) {
@@ -58,17 +63,21 @@ fn status_for(playable: bool) -> u8
 // Reads both files, writes what was found, and says whether each event can be played.
 fn check<'a, L: io::Read + Drop, C: io::Read + Drop, W: io::Write>(
     alloc: Global,
-    list: Input<'a, L>,
-    catalogue: Input<'a, C>,
+    list: NamedFile<'a, L>,
+    catalogue: NamedFile<'a, C>,
     rate: Rate,
     out: &mut W,
 ) -> Result<bool, Failure<'a>>
-    ensures checked { IfOk result (IsChecked rate (file list.entry.name (L.remaining list.entry.reader)) (file catalogue.entry.name (C.remaining catalogue.entry.reader))
+    ensures checked { IfOk result (IsChecked rate (file list.entry.name (L.remaining list.entry.reader))
+        (file catalogue.entry.name (C.remaining catalogue.entry.reader))
         (W.contents out.old) (W.contents out.new)) }
-    ensures unchecked { IfErr result (IsUnchecked rate (file list.entry.name (L.remaining list.entry.reader)) (file catalogue.entry.name (C.remaining catalogue.entry.reader))
+    ensures unchecked { IfErr result
+        (IsUnchecked rate (file list.entry.name (L.remaining list.entry.reader))
+        (file catalogue.entry.name (C.remaining catalogue.entry.reader))
         (W.contents out.old) (W.contents out.new)) }
     ensures silent { Keeps (W.contents out.old) (W.contents out.new)
-        ⊎ AreWhole rate (file list.entry.name (L.remaining list.entry.reader)) (file catalogue.entry.name (C.remaining catalogue.entry.reader)) }
+        ⊎ AreWhole rate (file list.entry.name (L.remaining list.entry.reader))
+        (file catalogue.entry.name (C.remaining catalogue.entry.reader)) }
     ensures statuses { IfErr result (λ e. status_of e ≢ 2) }
 {
     let events = list.read_list(alloc, rate)?;

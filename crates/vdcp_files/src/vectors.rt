@@ -2,25 +2,24 @@ ghost use Rattle.csv.specs.Records.{fields_of};
 ghost use Rattle.hex.specs.Hex.{decode_of};
 ghost use Rattle.std.specs.Io.KnownBytes.{Appends, Keeps};
 ghost use Rattle.std.specs.Prelude.{◌≡◌, ◌⊎◌, ◌<◌, ◌≤◌, ℕ, ◌≢◌, ◌++◌, ◌∷◌, [], IfErr, IfNone, IfOk, IfSome, List, OnOk, codes, length, string_bytes};
-ghost use Rattle.vdcp_text.specs.End.{end_of};
 ghost use Rattle.vdcp_text.specs.Failure.{failure_line};
 ghost use Rattle.vdcp_text.specs.Text.{message_text};
 ghost use Rattle.vdcp_files.specs.Vectors.{AreTested, Finding, HasTooMany, IsTally, IsTallyOf, IsUntested, bad_count, finding_of, finding_of_burst, finding_of_row, finding_text, joined_reading, joined_text, too_many, vectors_text};
-ghost use Rattle.vdcp_frame.specs.Message.{Content, content_of};
-ghost use Rattle.vdcp_frame.specs.Reading.{Reads};
+ghost use Rattle.vdcp_frame.specs.Burst.{end_of, messages_of};
+ghost use Rattle.vdcp_frame.specs.Message.{content_of};
+ghost use Rattle.vdcp_frame.specs.Walk.{end_seen};
 ghost use Rattle.vdcp_list.specs.Rows.{most_rows, rows_of};
 
-use crate::input::{Input, file_failure};
+use crate::named_file::{NamedFile, file_failure};
 use csv::ByteRecord;
 use hex::FromHexError;
 use std::alloc::{AllocError, Global};
 use std::fmt::Write;
 use std::{fmt, io};
-use vdcp_frame::laws::one_reading;
-use vdcp_frame::{Message, Step, read_at};
+use vdcp_frame::{End, Message, Messages};
 use vdcp_list::laws::rows_are_read_in_order;
 use vdcp_list::{MAX_ROWS, next_row, rows_in};
-use vdcp_text::{End, Failure, MessageText, RowFault};
+use vdcp_text::{EndText, Failure, MessageText, RowFault};
 
 /// Tests each row of a vector file: a burst in hexadecimal digits, and its reading, the lines of
 /// which are joined by `; `. It is CSV with commas and double quotes, without a header row, and
@@ -28,13 +27,13 @@ use vdcp_text::{End, Failure, MessageText, RowFault};
 /// two fields, or whose first field isn't an even number of hexadecimal digits; and then one with
 /// the number of rows.
 ///
-/// The status is 0 where all rows are right, and 1 where one isn't. It is 1 too where there are
-/// more than 10,000 rows, and 3 where the file can't be read or memory was refused: `err` is told
-/// of these, and `out` gets nothing. The status is 3 where a writer failed, to which nothing more
-/// is written; `out` is flushed behind the last line.
+/// The status is 0 where all rows are right, and 1 where one isn't. It is also 1 where there are more
+/// than 10,000 rows, and 3 where the file can't be read or memory was refused: `err` gets a line of
+/// either, and `out` nothing. The status is 3 where a writer failed: nothing more is written to that
+/// one. `out` is flushed after the last line.
 pub fn do_vectors<R: io::Read + Drop, W: io::Write, E: io::Write>(
     alloc: Global,
-    file: Input<'_, R>,
+    file: NamedFile<'_, R>,
     out: &mut W,
     err: &mut E,
 ) -> u8
@@ -43,7 +42,8 @@ pub fn do_vectors<R: io::Read + Drop, W: io::Write, E: io::Write>(
     // The status is 1 where a row is bad, and for a file of too many rows.
     ensures bad { result ≡ 1 →
         (Keeps (E.contents err.old) (E.contents err.new)
-        × (bad : ℕ) × (0 < bad) × AreTested (R.remaining file.entry.reader) (W.contents out.old) (W.contents out.new) bad)
+        × (bad : ℕ) × (0 < bad)
+        × AreTested (R.remaining file.entry.reader) (W.contents out.old) (W.contents out.new) bad)
         ⊎ (HasTooMany (R.remaining file.entry.reader) × Keeps (W.contents out.old) (W.contents out.new)
         × Appends (E.contents err.old) (E.contents err.new) (failure_line (too_many file.entry.name))) }
     ensures silent { Keeps (W.contents out.old) (W.contents out.new)
@@ -60,12 +60,13 @@ pub fn do_vectors<R: io::Read + Drop, W: io::Write, E: io::Write>(
 // Tests the rows, writes what was found, and says how many are bad.
 fn vectors<'a, R: io::Read + Drop, W: io::Write>(
     alloc: Global,
-    file: Input<'a, R>,
+    file: NamedFile<'a, R>,
     out: &mut W,
 ) -> Result<usize, Failure<'a>>
     ensures tested { IfOk result (AreTested (R.remaining file.entry.reader) (W.contents out.old) (W.contents out.new)) }
     ensures refused { IfErr result (λ e. (e ≡ Failure.Writer)
-        ⊎ (IsUntested file.entry.name (R.remaining file.entry.reader) e × Keeps (W.contents out.old) (W.contents out.new))) }
+        ⊎ (IsUntested file.entry.name (R.remaining file.entry.reader) e
+        × Keeps (W.contents out.old) (W.contents out.new))) }
     ensures silent { Keeps (W.contents out.old) (W.contents out.new)
         ⊎ IfSome (R.remaining file.entry.reader) (λ bytes. length (rows_of bytes) ≤ most_rows) }
 {
@@ -76,7 +77,7 @@ fn vectors<'a, R: io::Read + Drop, W: io::Write>(
 // Tests the rows of a file.
 fn test_rows<'a, R: io::Read + Drop>(
     alloc: Global,
-    file: Input<'a, R>,
+    file: NamedFile<'a, R>,
 ) -> Result<Tally, Failure<'a>>
     ensures tally { IfOk result (IsTallyOf (R.remaining file.entry.reader)) }
     ensures refused { IfErr result (IsUntested file.entry.name (R.remaining file.entry.reader)) }
@@ -181,34 +182,28 @@ fn test_burst<'a>(
 fn show_reading(burst: &[u8], text: &mut String) -> Result<(), AllocError>
     ensures { OnOk result (string_bytes text.new ≡ joined_reading burst.now) }
 {
-    one_reading();
     let end = show_messages(burst, text)?;
+    let end = EndText(end);
     write!(text, "{end}")
 }
 
 // Writes the lines of a burst's messages in place of the text, and gives the burst's end.
 fn show_messages(burst: &[u8], text: &mut String) -> Result<End, AllocError>
-    ensures { IfOk result (λ end. (ms : List Content) × Reads burst.now ms (end_of end)
-        × (string_bytes text.new ≡ joined_text ms)) }
+    ensures end { IfOk result (λ end. end_seen end ≡ end_of burst.now) }
+    ensures text { OnOk result (string_bytes text.new ≡ joined_text (messages_of burst.now)) }
 {
     text.clear();
-    let mut from = 0;
-    loop {
-        match read_at(burst, from) {
-            Step::Message(message, next) => {
-                write_message(message, text)?;
-                from = next;
-            }
-            Step::Clean => return Ok(End::Clean),
-            Step::Cut(count) => return Ok(End::Cut(count)),
-            Step::Fault(fault, place) => return Ok(End::Fault(fault, place)),
-        }
+    let mut messages = Messages::of(burst);
+    'messages: while let Some(message) = messages.next() {
+        write_message(message, text)?;
     }
+    Ok(messages.end())
 }
 
 // Adds the line of a message.
 fn write_message(message: Message<'_>, text: &mut String) -> Result<(), AllocError>
-    ensures { OnOk result (string_bytes text.new ≡ string_bytes text.old ++ (message_text (content_of message.entry) ++ codes "; ")) }
+    ensures { OnOk result (string_bytes text.new
+        ≡ string_bytes text.old ++ (message_text (content_of message.entry) ++ codes "; ")) }
 {
     let message = MessageText(message);
     write!(text, "{message}; ")
@@ -216,7 +211,8 @@ fn write_message(message: Message<'_>, text: &mut String) -> Result<(), AllocErr
 
 // Adds the line of row `k`, if it is bad.
 fn write_line(lines: &mut String, k: usize, verdict: Verdict<'_>) -> Result<(), AllocError>
-    ensures { OnOk result (string_bytes lines.new ≡ string_bytes lines.old ++ finding_text k (finding_of verdict.entry)) }
+    ensures { OnOk result (string_bytes lines.new
+        ≡ string_bytes lines.old ++ finding_text k (finding_of verdict.entry)) }
 {
     match verdict {
         Verdict::Right => Ok(()),

@@ -3,13 +3,13 @@ use Rattle.std.proofs.Common.{◌≡◌, ℕ, zero, suc, ◌+◌, ◌-◌, ◌*�
 use Rattle.std.proofs.Common.{drop, sum, refl, sym, ap, subst, ◌∙◌, append_assoc, arith, inl, inr, length-append, replicate}
 use Rattle.std.specs.Prelude.{All}
 use Rattle.std.proofs.lemmas.Bool.{cases_lt, cases_eq, lt-ltb, le-ltb, eq-eqb, ne_eqb}
-use Rattle.std.proofs.lemmas.List.{take-append-drop, length-take, append-nil, take-take, take_more, length-replicate}
-use Rattle.std.proofs.lemmas.List.Elements.{All-nil, All-replicate, All-append, All-take, All-head, All-tail, All-get_or}
+use Rattle.std.proofs.lemmas.List.{take-append-drop, length-take, append-nil, take-take, take_more, length-replicate, nil_from_length}
+use Rattle.std.proofs.lemmas.List.Elements.{All-nil, All-cons, All-replicate, All-append, All-take, All-head, All-tail, All-get_or}
 use Rattle.vdcp_frame.specs.declared.message.Fault.{Fault}
 use Rattle.vdcp_frame.specs.declared.message.Fault.TheVariants.{BadStart, BadCount, BadSum}
 use Rattle.vdcp_frame.specs.Message.{Content, ack, nak, framed, AreOctets, SpellsFrame, Spells, check_byte}
-use Rattle.vdcp_frame.specs.Reading.{Begins, HasNoFront}
-use Rattle.vdcp_frame.specs.Head.{Head, nothing, part, wrong, found, data_head, body_head, frame_head, nak_head, head_of, IsPart, IsWrong, IsFound, HeadIs}
+use Rattle.vdcp_frame.specs.Reading.{Begins, HasNoFront, IsUnfinished}
+use Rattle.vdcp_frame.specs.Head.{Head, part, wrong, found, data_head, body_head, frame_head, nak_head, head_of, IsPart, IsWrong, IsFound, HeadIs}
 
 -- ---- what is spelt is found, whatever follows
 
@@ -63,8 +63,7 @@ head_of-spelt (framed kind unit code rest) front more s =
 -- ---- so where the head is no message, no front is a spelling
 
 abbrev IsNoMessage : Head → Type 0
-IsNoMessage nothing = Unit {0}
-IsNoMessage part = Unit {0}
+IsNoMessage (part needs) = Unit {0}
 IsNoMessage (wrong which size) = Unit {0}
 IsNoMessage (found message size) = ⊥
 
@@ -148,8 +147,44 @@ Begins-start = Begins-front (2 ∷ []) (2 ∷ []) (Begins-count 0 (omega arith))
 
 -- ---- what each answer means
 
-part_is : (b : ℕ) (bs : List ℕ) → head_of (b ∷ bs) ≡ part → Begins (b ∷ bs) → IsPart (b ∷ bs)
-part_is b bs e h = record { some = λ nil. absurd cc; begins = h; no_front = no_front_of (b ∷ bs) part e tt }
+pub Unfinished-nil : IsUnfinished []
+Unfinished-nil = record { begins = Begins-nil; no_front = no_front_of [] (part 1) refl tt }
+
+-- bytes to which each further one matters
+part_next : (bytes : List ℕ) → IsUnfinished bytes → length bytes < 258 → IsPart bytes (length bytes + 1)
+part_next bytes h lt = record {
+  short = omega arith;
+  most = omega arith;
+  open_yet = λ more fits few.
+      let none : more ≡ [] = nil_from_length more (omega (arith, length-append bytes more)) in
+      subst (λ (l : List ℕ). IsUnfinished (bytes ++ l)) (sym none) (subst IsUnfinished (sym (append-nil bytes)) h);
+}
+
+pub part_first : IsPart [] 1
+part_first = part_next [] Unfinished-nil (omega arith)
+
+body_unfinished : (n : ℕ) (body : List ℕ) → n ≤ 253 → AreOctets body → length body < n + 3 → IsUnfinished (2 ∷ suc (suc n) ∷ body)
+body_unfinished n [] n_fits fits few = record { begins = Begins-count n n_fits; no_front = no_front_of (2 ∷ suc (suc n) ∷ []) (part (n + 5)) refl tt }
+body_unfinished n (x ∷ []) n_fits fits few = record {
+  begins = Begins-counted n x n_fits (All-head (λ b. b < 256) x [] fits);
+  no_front = no_front_of (2 ∷ suc (suc n) ∷ x ∷ []) (part (n + 5)) refl tt;
+}
+body_unfinished n (x ∷ code ∷ tail) n_fits fits few =
+    let rest_fits = All-tail (λ b. b < 256) x (code ∷ tail) fits in
+    let short : length tail ≤ n = omega arith in
+    record {
+      begins = Begins-short n x code tail n_fits (All-head (λ b. b < 256) x (code ∷ tail) fits) (All-head (λ b. b < 256) code tail rest_fits)
+          (All-tail (λ b. b < 256) code tail rest_fits) short;
+      no_front = no_front_of (2 ∷ suc (suc n) ∷ x ∷ code ∷ tail) (part (n + 5)) (rw (le-ltb n (length tail) short) refl) tt;
+    }
+
+-- a frame that lacks some of the bytes that its count announces
+body_part : (n : ℕ) (body : List ℕ) → n ≤ 253 → AreOctets body → length body < n + 3 → IsPart (2 ∷ suc (suc n) ∷ body) (n + 5)
+body_part n body n_fits fits few = record {
+  short = omega arith;
+  most = omega arith;
+  open_yet = λ more more_fits less. body_unfinished n (body ++ more) n_fits (All-append (λ b. b < 256) body more fits more_fits) (omega (arith, less));
+}
 
 shorter_than : (bytes : List ℕ) (j : ℕ) → Begins (take j bytes) → (k : ℕ) → k < suc j → Begins (take k bytes)
 shorter_than bytes j h k lt =
@@ -184,7 +219,8 @@ module _ (n x code : ℕ) (tail : List ℕ) (n_fits : n ≤ 253) (x_fits : x < 2
   data_part : length tail ≤ n → HeadIs (2 ∷ suc (suc n) ∷ x ∷ code ∷ tail) (data_head n x code tail)
   data_part short =
       let is : ltb n (length tail) ≡ false = le-ltb _ _ short in
-      rw is (part_is 2 (suc (suc n) ∷ x ∷ code ∷ tail) (rw is refl) (Begins-short n x code tail n_fits x_fits code_fits fits short))
+      let all_fits = All-cons (λ b. b < 256) x (code ∷ tail) x_fits (All-cons (λ b. b < 256) code tail code_fits fits) in
+      rw is (body_part n (x ∷ code ∷ tail) n_fits all_fits (omega arith))
 
   data_whole : n < length tail → take (n + 5) (2 ∷ suc (suc n) ∷ x ∷ code ∷ tail) ≡ 2 ∷ suc (suc n) ∷ x ∷ code ∷ (take n tail ++ get_or tail n 0 ∷ [])
   data_whole long =
@@ -237,15 +273,15 @@ module _ (n x code : ℕ) (tail : List ℕ) (n_fits : n ≤ 253) (x_fits : x < 2
       ]
 
 body_is : (n : ℕ) (body : List ℕ) → n ≤ 253 → AreOctets body → HeadIs (2 ∷ suc (suc n) ∷ body) (body_head n body)
-body_is n [] n_fits fits = part_is 2 (suc (suc n) ∷ []) refl (Begins-count n n_fits)
-body_is n (x ∷ []) n_fits fits = part_is 2 (suc (suc n) ∷ x ∷ []) refl (Begins-counted n x n_fits (All-head (λ b. b < 256) x [] fits))
+body_is n [] n_fits fits = body_part n [] n_fits fits (omega arith)
+body_is n (x ∷ []) n_fits fits = body_part n (x ∷ []) n_fits fits (omega arith)
 body_is n (x ∷ code ∷ tail) n_fits fits =
     let rest_fits = All-tail (λ b. b < 256) x (code ∷ tail) fits in
     data_is n x code tail n_fits (All-head (λ b. b < 256) x (code ∷ tail) fits) (All-head (λ b. b < 256) code tail rest_fits)
     (All-tail (λ b. b < 256) code tail rest_fits)
 
 frame_is : (bytes : List ℕ) → AreOctets bytes → HeadIs (2 ∷ bytes) (frame_head bytes)
-frame_is [] fits = part_is 2 [] refl Begins-start
+frame_is [] fits = part_next (2 ∷ []) (record { begins = Begins-start; no_front = no_front_of (2 ∷ []) (part 2) refl tt }) (omega arith)
 frame_is (zero ∷ body) fits = wrong_count 0 body (λ more. refl)
 frame_is (suc zero ∷ body) fits = wrong_count 1 body (λ more. refl)
 frame_is (suc (suc n) ∷ body) fits =
@@ -253,12 +289,12 @@ frame_is (suc (suc n) ∷ body) fits =
     body_is n body (omega arith) (All-tail (λ b. b < 256) (suc (suc n)) body fits)
 
 nak_is : (bytes : List ℕ) → AreOctets bytes → HeadIs (5 ∷ bytes) (nak_head bytes)
-nak_is [] fits = part_is 5 [] refl Begins-nak
+nak_is [] fits = part_next (5 ∷ []) (record { begins = Begins-nak; no_front = no_front_of (5 ∷ []) (part 2) refl tt }) (omega arith)
 nak_is (byte ∷ bytes) fits = record { some = omega arith; within = omega arith; spelt = (All-head (λ b. b < 256) byte bytes fits, refl) }
 
 -- the answer of head_of means what it says
 pub head_is : (bytes : List ℕ) → AreOctets bytes → HeadIs bytes (head_of bytes)
-head_is [] fits = refl
+head_is [] fits = part_first
 head_is (b ∷ bytes) fits =
     let rest_fits = All-tail (λ b. b < 256) b bytes fits in
     elim (cases_eq b 4) [
@@ -272,3 +308,21 @@ head_is (b ∷ bytes) fits =
         ]
       ]
     ]
+
+-- ---- part of a message
+
+pub part_unfinished : (bytes : List ℕ) (needs : ℕ) → IsPart bytes needs → IsUnfinished bytes
+part_unfinished bytes needs p =
+    let same : bytes ++ [] ≡ bytes = append-nil bytes in
+    subst IsUnfinished same (p.open_yet [] (All-nil (λ b. b < 256)) (subst (λ (l : List ℕ). length l < needs) (sym same) p.short))
+
+-- which stays one with too few bytes more
+pub part_further : (bytes more : List ℕ) (needs : ℕ) → IsPart bytes needs → AreOctets more → length (bytes ++ more) < needs → IsPart (bytes ++ more) needs
+part_further bytes more needs p fits few = record {
+  short = few;
+  most = p.most;
+  open_yet = λ others others_fit less.
+      let joined : (bytes ++ more) ++ others ≡ bytes ++ (more ++ others) = append_assoc bytes more others in
+      subst IsUnfinished (sym joined)
+      (p.open_yet (more ++ others) (All-append (λ b. b < 256) more others fits others_fit) (subst (λ (l : List ℕ). length l < needs) joined less));
+}

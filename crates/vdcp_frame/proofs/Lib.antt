@@ -6,7 +6,7 @@ pub mod SpellingLemmas
 pub mod FrameLemmas
 pub mod ChangedByteLemmas
 pub mod ReaderLemmas
-pub mod PieceLemmas
-pub mod HeldLemmas
 pub mod FeedLemmas
+pub mod PieceLemmas
 pub mod FollowLemmas
+pub mod WalkLemmas

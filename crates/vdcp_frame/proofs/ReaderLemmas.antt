@@ -1,58 +1,17 @@
 -- A call of feed goes on the reading of the burst, and a silence ends it.
-use Rattle.std.proofs.Common.{◌≡◌, ℕ, ◌+◌, ◌-◌, ◌<◌, ◌≤◌, Bool, cond, ltb, List, [], ◌∷◌, ◌++◌, length, take, drop, refl, sym, ap, subst, ◌∙◌}
+use Rattle.std.proofs.Common.{◌≡◌, ℕ, ◌+◌, ◌-◌, ◌<◌, ◌≤◌, List, [], ◌∷◌, ◌++◌, length, take, drop, refl, sym, ap, subst, ◌∙◌}
 use Rattle.std.proofs.Common.{append_assoc, arith, length-append}
-use Rattle.std.proofs.lemmas.Bool.{lt-ltb, le-ltb}
 use Rattle.std.proofs.lemmas.List.{take-append-drop, take_at, take_all, take-take, length-take, length-drop, append-nil}
 use Rattle.vdcp_frame.specs.declared.message.Fault.{Fault}
 use Rattle.vdcp_frame.specs.declared.message.Fault.TheVariants.{BadStart, BadCount, BadSum, Long}
 use Rattle.vdcp_frame.specs.Message.{Content}
-use Rattle.vdcp_frame.specs.Reading.{SpellsAll, End, clean, cut, fault, Ends, long_end, ReadsUpTo, Reads}
+use Rattle.vdcp_frame.specs.Reading.{fault, Reads}
+use Rattle.vdcp_frame.specs.Burst.{unfinished_end}
 use Rattle.vdcp_frame.specs.Progress.{Progress, reading, failed}
-use Rattle.vdcp_frame.specs.Reader.{Answer, message, more, wrong, IsUnfinished, TakesMessage, TakesAll, TakesWrong, TakesLong, TakesFault, Gives, fed}
+use Rattle.vdcp_frame.specs.Reader.{Answer, message, more, wrong, TakesMessage, TakesAll, TakesWrong, TakesLong, TakesFault, Gives, fed}
 use Rattle.vdcp_frame.specs.Reader.{ended_of, FollowsReading, FollowsFault, Follows, FollowsNext, ReadsAs}
-use Rattle.vdcp_frame.proofs.HeadLemmas.{Begins-nil}
-use Rattle.vdcp_frame.proofs.ReadingLemmas.{nil_no_front, SpellsAll-push, wrong_reads}
-
--- ---- an unfinished remainder
-
-abbrev pub unfinished_end : List ℕ → End
-unfinished_end [] = clean
-unfinished_end (byte ∷ bytes) = cut (length (byte ∷ bytes))
-
-ends_unfinished : (before : ℕ) (held : List ℕ) → IsUnfinished held → Ends before held (unfinished_end held)
-ends_unfinished before [] h = refl
-ends_unfinished before (byte ∷ bytes) h = ((λ e. absurd cc), h.begins, refl)
-
-long_unfinished : (limit : ℕ) (held : List ℕ) → long_end limit (unfinished_end held) ≡ fault Long (limit + 1)
-long_unfinished limit [] = refl
-long_unfinished limit (byte ∷ bytes) = refl
-
-unfinished_reads : (limit : ℕ) (burst : List ℕ) (ms : List Content) (whole held : List ℕ) → take limit burst ≡ whole ++ held → SpellsAll ms whole
-    → IsUnfinished held →
-    ReadsUpTo limit burst ms (cond (ltb limit (length burst)) (long_end limit (unfinished_end held)) (unfinished_end held))
-unfinished_reads limit burst ms whole held parts all h = record {
-  short = unfinished_end held;
-  front = record { whole = whole; remainder = held; parts = parts; spelt = all; no_front = h.no_front; ends = ends_unfinished (length whole) held h };
-  long = refl;
-}
-
--- a burst within the limit
-pub short_reads : (limit : ℕ) (ms : List Content) (whole held : List ℕ) → SpellsAll ms whole → IsUnfinished held → length (whole ++ held) ≤ limit
-    → ReadsUpTo limit (whole ++ held) ms (unfinished_end held)
-short_reads limit ms whole held all h room =
-    subst (λ (b : Bool). ReadsUpTo limit (whole ++ held) ms (cond b (long_end limit (unfinished_end held)) (unfinished_end held)))
-    (le-ltb limit (length (whole ++ held)) room)
-    (unfinished_reads limit (whole ++ held) ms whole held (take_all limit (whole ++ held) room) all h)
-
--- a burst past it
-pub long_reads : (limit : ℕ) (ms : List Content) (whole held remainder : List ℕ) → SpellsAll ms whole → IsUnfinished held
-    → length (whole ++ held) ≡ limit → 0 < length remainder → ReadsUpTo limit ((whole ++ held) ++ remainder) ms (fault Long (limit + 1))
-long_reads limit ms whole held remainder all h size some =
-    let burst : List ℕ = (whole ++ held) ++ remainder in
-    let past : limit < length burst = omega (arith, length-append (whole ++ held) remainder) in
-    subst (ReadsUpTo limit burst ms) (long_unfinished limit held)
-    (subst (λ (b : Bool). ReadsUpTo limit burst ms (cond b (long_end limit (unfinished_end held)) (unfinished_end held))) (lt-ltb limit (length burst) past)
-    (unfinished_reads limit burst ms whole held (take_at (whole ++ held) remainder limit size) all h))
+use Rattle.vdcp_frame.proofs.HeadLemmas.{Unfinished-nil}
+use Rattle.vdcp_frame.proofs.ReadingLemmas.{SpellsAll-push, reads_short, reads_long, wrong_reads}
 
 -- ---- one call of feed
 
@@ -61,9 +20,6 @@ joined whole held piece = append_assoc whole held piece
 
 grown : (burst piece : List ℕ) (taken n : ℕ) → length burst ≡ taken → n ≤ length piece → length (burst ++ take n piece) ≡ taken + n
 grown burst piece taken n size within = omega (arith, length-append burst (take n piece), length-take n piece)
-
-pub unfinished_nil : IsUnfinished []
-unfinished_nil = record { begins = Begins-nil; no_front = nil_no_front }
 
 pub follows_message : (burst : List ℕ) (ms : List Content) (taken : ℕ) (held piece : List ℕ) (n : ℕ) (m : Content)
     → FollowsReading burst ms taken held → TakesMessage taken held piece n m → FollowsReading (burst ++ take n piece) (ms ++ m ∷ []) (taken + n) []
@@ -74,7 +30,7 @@ follows_message burst ms taken held piece n m f t =
       whole = f.whole ++ (held ++ take n piece);
       parts = front ∙ sym (append-nil (f.whole ++ (held ++ take n piece)));
       spelt = SpellsAll-push ms m f.whole (held ++ take n piece) f.spelt t.spelt;
-      unfinished = unfinished_nil;
+      unfinished = Unfinished-nil;
       count = grown burst piece taken n f.count t.within;
       limit = t.limit;
     }
@@ -136,8 +92,9 @@ follows_long burst ms taken held piece n f t remainder =
       length-drop (n - 1) (take n piece),
       length-take n piece,
     ) in
+    let past : 4096 < length ((f.whole ++ w) ++ (last ++ remainder)) = omega (arith, length-append (f.whole ++ w) (last ++ remainder)) in
     let long : Reads ((f.whole ++ w) ++ (last ++ remainder)) ms (fault Long 4097) =
-    long_reads 4096 ms f.whole w (last ++ remainder) f.spelt t.unfinished size some in
+    reads_long 4096 ((f.whole ++ w) ++ (last ++ remainder)) ms f.whole w (take_at (f.whole ++ w) (last ++ remainder) 4096 size) f.spelt t.unfinished past in
     subst (λ (p : ℕ). Reads ((burst ++ take n piece) ++ remainder) ms (fault Long p)) (sym t.past)
     (subst (λ (b : List ℕ). Reads b ms (fault Long 4097)) (sym (ap (λ (b : List ℕ). b ++ remainder) front ∙ append_assoc (f.whole ++ w) last remainder)) long)
 
@@ -169,7 +126,7 @@ gives_follows burst ms failed piece n (wrong which place) g f = absurd g
 pub ends_follows : (burst : List ℕ) (ms : List Content) (taken : ℕ) (held : List ℕ) → FollowsReading burst ms taken held → Reads burst ms (unfinished_end held)
 ends_follows burst ms taken held f =
     let size : length (f.whole ++ held) ≤ 4096 = omega (arith, f.count, f.limit, ap (length {A = ℕ}) f.parts) in
-    subst (λ (b : List ℕ). Reads b ms (unfinished_end held)) (sym f.parts) (short_reads 4096 ms f.whole held f.spelt f.unfinished size)
+    subst (λ (b : List ℕ). Reads b ms (unfinished_end held)) (sym f.parts) (reads_short 4096 (f.whole ++ held) ms f.whole held (take_all 4096 (f.whole ++ held) size) f.spelt f.unfinished size)
 
 pub silence_reads : (burst : List ℕ) (ms : List Content) (old : Progress) → Follows burst ms old → ReadsAs burst ms (ended_of old)
 silence_reads burst ms (reading taken []) f = ends_follows burst ms taken [] f
@@ -178,4 +135,4 @@ silence_reads burst ms failed f = (f.0, f.1, subst (λ (b : List ℕ). Reads b m
 
 -- nothing has come yet
 pub follows_none : Follows [] [] (reading 0 [])
-follows_none = record { whole = []; parts = refl; spelt = refl; unfinished = unfinished_nil; count = refl; limit = omega arith }
+follows_none = record { whole = []; parts = refl; spelt = refl; unfinished = Unfinished-nil; count = refl; limit = omega arith }

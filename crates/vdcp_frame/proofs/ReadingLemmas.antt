@@ -1,5 +1,5 @@
 -- Each burst has exactly one reading, and a step along it is a step of the reading.
-use Rattle.std.proofs.Common.{◌≡◌, ◌⊎◌, ℕ, ◌+◌, ◌-◌, ◌*◌, ◌%◌, ◌<◌, ◌≤◌, Bool, true, false, cond, ltb, List, [], ◌∷◌, ◌++◌, length, take, drop, sum}
+use Rattle.std.proofs.Common.{◌≡◌, ℕ, ◌+◌, ◌-◌, ◌*◌, ◌%◌, ◌<◌, ◌≤◌, Bool, true, false, cond, ltb, List, [], ◌∷◌, ◌++◌, length, take, drop, sum}
 use Rattle.std.proofs.Common.{refl, sym, ap, subst, ◌∙◌, append_assoc, arith, inl, inr, length-append}
 use Rattle.std.proofs.lemmas.Bool.{cases_lt, lt-ltb, le-ltb}
 use Rattle.std.proofs.lemmas.List.{take_at, take-append-drop, length-take, length-drop, append-nil, append_cancel_left, take_all, take-take}
@@ -7,9 +7,10 @@ use Rattle.std.proofs.lemmas.List.{take-append-le, drop-take}
 use Rattle.vdcp_frame.specs.declared.message.Fault.{Fault}
 use Rattle.vdcp_frame.specs.declared.message.Fault.TheVariants.{Long}
 use Rattle.vdcp_frame.specs.Message.{Content, ack, nak, framed, Fits, Spells, check_byte, spelling}
-use Rattle.vdcp_frame.specs.Reading.{SpellsAll, Begins, HasNoFront, IsFirstWrong, End, clean, cut, fault, fault_of, Ends, ReadsShort, long_end, ReadsUpTo}
-use Rattle.vdcp_frame.specs.Head.{found, head_of, IsPart, IsWrong, IsFound}
-use Rattle.vdcp_frame.proofs.HeadLemmas.{head_of-spelt, Begins-take, Begins-nil, check_byte-fits, check_byte-adds_up}
+use Rattle.vdcp_frame.specs.Reading.{SpellsAll, Begins, HasNoFront, IsUnfinished, IsFirstWrong, End, clean, cut, fault, fault_of, Ends, ReadsShort, long_end, ReadsUpTo}
+use Rattle.vdcp_frame.specs.Head.{found, head_of, IsWrong, IsFound}
+use Rattle.vdcp_frame.specs.Burst.{unfinished_end}
+use Rattle.vdcp_frame.proofs.HeadLemmas.{head_of-spelt, Begins-take, Unfinished-nil, Begins-nil, check_byte-fits, check_byte-adds_up}
 use Rattle.std.proofs.Math.Seq.{take-add, take-append-add}
 
 -- ---- one message
@@ -63,10 +64,7 @@ SpellsAll-append (m ∷ ms) ns a b p q =
 
 -- ---- one reading
 
-pub nil_no_front : HasNoFront []
-nil_no_front m front more s e = absurd (omega (arith, spelt_some m front s, ap (length {A = ℕ}) e, length-append front more))
-
-same_whole : (ms ns : List Content) (a b x y : List ℕ) → SpellsAll ms a → SpellsAll ns b → HasNoFront x → HasNoFront y → a ++ x ≡ b ++ y
+pub same_whole : (ms ns : List Content) (a b x y : List ℕ) → SpellsAll ms a → SpellsAll ns b → HasNoFront x → HasNoFront y → a ++ x ≡ b ++ y
     → (ms ≡ ns) × (a ≡ b) × (x ≡ y)
 same_whole [] [] a b x y p q no_x no_y e =
     (refl, p ∙ sym q, sym (ap (λ (f : List ℕ). f ++ x) p) ∙ e ∙ ap (λ (f : List ℕ). f ++ y) q)
@@ -129,6 +127,44 @@ one_reading limit burst ms ns e f p q =
     let same = one_short (take limit burst) ms ns p.short q.short p.front q.front in
     (same.0, p.long ∙ ap (λ (s : End). cond (ltb limit (length burst)) (long_end limit s) s) same.1 ∙ sym q.long)
 
+-- ---- an unfinished remainder
+
+pub ends_unfinished : (before : ℕ) (held : List ℕ) → IsUnfinished held → Ends before held (unfinished_end held)
+ends_unfinished before [] h = refl
+ends_unfinished before (byte ∷ bytes) h = ((λ e. absurd cc), h.begins, refl)
+
+long_unfinished : (limit : ℕ) (held : List ℕ) → long_end limit (unfinished_end held) ≡ fault Long (limit + 1)
+long_unfinished limit [] = refl
+long_unfinished limit (byte ∷ bytes) = refl
+
+pub unfinished_clean : (held : List ℕ) → length held ≡ 0 → unfinished_end held ≡ clean
+unfinished_clean [] none = refl
+unfinished_clean (byte ∷ bytes) none = absurd (omega arith)
+
+pub unfinished_cut : (held : List ℕ) (n : ℕ) → length held ≡ n → 0 < n → unfinished_end held ≡ cut n
+unfinished_cut [] n size some = absurd (omega arith)
+unfinished_cut (byte ∷ bytes) n size some = ap cut size
+
+-- the bytes that are read are messages and an unfinished remainder
+module _ (limit : ℕ) (burst : List ℕ) (ms : List Content) (whole held : List ℕ) (parts : take limit burst ≡ whole ++ held)
+    (spelt : SpellsAll ms whole) (h : IsUnfinished held) where
+  reads_unfinished : ReadsUpTo limit burst ms (cond (ltb limit (length burst)) (long_end limit (unfinished_end held)) (unfinished_end held))
+  reads_unfinished = record {
+    short = unfinished_end held;
+    front = record { whole = whole; remainder = held; parts = parts; spelt = spelt; no_front = h.no_front; ends = ends_unfinished (length whole) held h };
+    long = refl;
+  }
+
+  pub reads_short : length burst ≤ limit → ReadsUpTo limit burst ms (unfinished_end held)
+  reads_short short = subst (λ (b : Bool). ReadsUpTo limit burst ms (cond b (long_end limit (unfinished_end held)) (unfinished_end held)))
+      (le-ltb limit (length burst) short) reads_unfinished
+
+  -- a longer burst is a fault, where there was none before
+  pub reads_long : limit < length burst → ReadsUpTo limit burst ms (fault Long (limit + 1))
+  reads_long long = subst (ReadsUpTo limit burst ms) (long_unfinished limit held)
+      (subst (λ (b : Bool). ReadsUpTo limit burst ms (cond b (long_end limit (unfinished_end held)) (unfinished_end held)))
+      (lt-ltb limit (length burst) long) reads_unfinished)
+
 -- ---- a step along a burst
 
 pub either_way : (b : Bool) (end : End) → cond b end end ≡ end
@@ -174,16 +210,6 @@ module _ (limit : ℕ) (burst : List ℕ) (from : ℕ) (within : from ≤ limit)
       ReadsUpTo limit burst ms (cond (ltb limit (length burst)) (long_end limit end) end)
   reads_end ms end all none ends = record { short = end; front = reads_left ms end all none ends; long = refl }
 
-  -- nothing is left
-  pub reads_nothing : (ms : List Content) → SpellsAll ms (take from burst) → left limit burst from ≡ []
-      → ReadsUpTo limit burst ms (cond (ltb limit (length burst)) (fault Long (limit + 1)) clean)
-  reads_nothing ms all none = reads_end ms clean all (subst HasNoFront (sym none) nil_no_front) none
-
-  -- part of a message is left
-  pub reads_part : (ms : List Content) → SpellsAll ms (take from burst) → IsPart (left limit burst from) →
-      ReadsUpTo limit burst ms (cond (ltb limit (length burst)) (fault Long (limit + 1)) (cut (length (left limit burst from))))
-  reads_part ms all p = reads_end ms (cut (length (left limit burst from))) all p.no_front (p.some, p.begins, refl)
-
   -- what is left begins with a fault
   pub reads_wrong : (ms : List Content) (which : Fault) (size : ℕ) → from ≤ length burst → SpellsAll ms (take from burst)
       → IsWrong (left limit burst from) which size → ReadsUpTo limit burst ms (fault which (from + size))
@@ -193,28 +219,6 @@ module _ (limit : ℕ) (burst : List ℕ) (from : ℕ) (within : from ≤ limit)
       (size, w.first, ap (λ (n : ℕ). n + size) (sym before), w.fault_is) in
       subst (ReadsUpTo limit burst ms) (either_way (ltb limit (length burst)) (fault which (from + size)))
       (reads_end ms (fault which (from + size)) all w.no_front ends)
-
-  -- a burst that isn't too long ends behind a whole message
-  pub reads_clean : (ms : List Content) → length burst ≤ limit → left limit burst from ≡ [] → SpellsAll ms (take from burst) → ReadsUpTo limit burst ms clean
-  reads_clean ms short none all = subst (λ (b : Bool). ReadsUpTo limit burst ms (cond b (fault Long (limit + 1)) clean))
-      (le-ltb limit (length burst) short) (reads_nothing ms all none)
-
-  -- or inside a message
-  pub reads_cut : (ms : List Content) → from ≤ length burst → length burst ≤ limit → IsPart (left limit burst from) → SpellsAll ms (take from burst)
-      → ReadsUpTo limit burst ms (cut (length burst - from))
-  reads_cut ms fits short p all =
-      let size : length (left limit burst from) ≡ length burst - from = omega (arith, length-drop from (take limit burst), length-take limit burst) in
-      subst (λ (n : ℕ). ReadsUpTo limit burst ms (cut n)) size
-      (subst (λ (b : Bool). ReadsUpTo limit burst ms (cond b (fault Long (limit + 1)) (cut (length (left limit burst from)))))
-      (le-ltb limit (length burst) short) (reads_part ms all p))
-
-  -- and a longer one is a fault, where there was none before
-  pub reads_long : (ms : List Content) → limit < length burst → (left limit burst from ≡ []) ⊎ IsPart (left limit burst from)
-      → SpellsAll ms (take from burst) → ReadsUpTo limit burst ms (fault Long (limit + 1))
-  reads_long ms long (inl none) all = subst (λ (b : Bool). ReadsUpTo limit burst ms (cond b (fault Long (limit + 1)) clean))
-      (lt-ltb limit (length burst) long) (reads_nothing ms all none)
-  reads_long ms long (inr p) all = subst (λ (b : Bool). ReadsUpTo limit burst ms
-      (cond b (fault Long (limit + 1)) (cut (length (left limit burst from))))) (lt-ltb limit (length burst) long) (reads_part ms all p)
 
   -- where the message that is found lies in the burst
   pub found_spelt : (m : Content) (size : ℕ) → IsFound (left limit burst from) m size → Spells m (take (from + size - from) (drop from burst))
@@ -285,7 +289,7 @@ read_alone limit ms bytes all fits =
     let short : take limit bytes ≡ bytes = take_all limit bytes fits in
     record {
       short = clean;
-      front = record { whole = bytes; remainder = []; parts = short ∙ sym (append-nil bytes); spelt = all; no_front = nil_no_front; ends = refl };
+      front = record { whole = bytes; remainder = []; parts = short ∙ sym (append-nil bytes); spelt = all; no_front = Unfinished-nil.no_front; ends = refl };
       long = ap (λ (b : Bool). cond b (long_end limit clean) clean) (sym (le-ltb limit (length bytes) fits));
     }
 

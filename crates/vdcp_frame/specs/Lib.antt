@@ -7,5 +7,6 @@ pub mod Step
 pub mod Burst
 pub mod Progress
 pub mod Reader
-pub mod Held
+pub mod Place
 pub mod Pieces
+pub mod Walk

@@ -7,7 +7,7 @@ use Rattle.vdcp_frame.specs.declared.got.Got.TheVariants as got
 use Rattle.vdcp_frame.specs.declared.got.Ended.{Ended}
 use Rattle.vdcp_frame.specs.declared.got.Ended.TheVariants as ended
 use Rattle.vdcp_frame.specs.Message.{Content, content_of, Spells}
-use Rattle.vdcp_frame.specs.Reading.{SpellsAll, Begins, HasNoFront, End, clean, cut, fault, burst_limit, Reads}
+use Rattle.vdcp_frame.specs.Reading.{SpellsAll, IsUnfinished, End, clean, cut, fault, burst_limit, Reads}
 use Rattle.vdcp_frame.specs.Progress.{Progress, reading, failed}
 use Rattle.vdcp_frame.specs.Head.{IsWrong}
 
@@ -21,11 +21,6 @@ abbrev pub answer_of : Got → Answer
 answer_of (got.Message m) = message (content_of m)
 answer_of got.More = more
 answer_of (got.Fault which place) = wrong which place
-
--- the bytes begin a message, or are none, and hold no whole one
-pub record IsUnfinished (bytes : List ℕ) : Type 0 where
-  pub begins : Begins bytes
-  pub no_front : HasNoFront bytes
 
 -- a message: the bytes held and the n bytes taken are one spelling
 pub record TakesMessage (taken : ℕ) (held piece : List ℕ) (n : ℕ) (m : Content) : Type 0 where

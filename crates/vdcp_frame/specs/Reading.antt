@@ -23,6 +23,11 @@ pub record Begins (bytes : List ℕ) : Type 0 where
 abbrev pub HasNoFront : List ℕ → Type 0
 HasNoFront bytes = (m : Content) (front more : List ℕ) → Spells m front → bytes ≡ front ++ more → ⊥
 
+-- the bytes begin a message, or are none, and hold no whole one
+pub record IsUnfinished (bytes : List ℕ) : Type 0 where
+  pub begins : Begins bytes
+  pub no_front : HasNoFront bytes
+
 -- the front of n bytes is the shortest that begins no spelling
 pub record IsFirstWrong (bytes : List ℕ) (n : ℕ) : Type 0 where
   pub within : n ≤ length bytes

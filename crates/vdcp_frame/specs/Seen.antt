@@ -8,8 +8,7 @@ use Rattle.vdcp_frame.specs.Head.{HeadIs}
 
 -- a head of the code, without where its data lies in memory
 abbrev pub seen : Head → spec.Head
-seen head.Nothing = spec.nothing
-seen head.Part = spec.part
+seen (head.Part needs) = spec.part needs
 seen (head.Wrong which size) = spec.wrong which size
 seen (head.Found message size) = spec.found (content_of message) size
 

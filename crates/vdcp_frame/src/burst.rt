@@ -47,10 +47,9 @@ pub fn read_at(burst: &[u8], from: usize) -> Step<'_>
     match Head::at(left(burst, from)) {
         Head::Found(message, size) => Step::Message(message, from + size),
         Head::Wrong(fault, size) => Step::Fault(fault, from + size),
-        Head::Nothing if burst.len() <= LIMIT => Step::Clean,
-        Head::Part if burst.len() <= LIMIT => Step::Cut(burst.len() - from),
-        Head::Nothing => Step::Fault(Fault::Long, LIMIT + 1),
-        Head::Part => Step::Fault(Fault::Long, LIMIT + 1),
+        Head::Part(_) if burst.len() > LIMIT => Step::Fault(Fault::Long, LIMIT + 1),
+        Head::Part(_) if burst.len() == from => Step::Clean,
+        Head::Part(_) => Step::Cut(burst.len() - from),
     }
 }
 

@@ -1,6 +1,5 @@
 //! Values that differ in one field are unequal, and the one fault of a call has its text.
-use crate::held::{Found, Held};
-use crate::{Ended, Fault, Full, Got, Message, Step};
+use crate::{End, Ended, Fault, Full, Got, Message, Step};
 use std::process::Abort;
 use std::test::Fail;
 
@@ -88,34 +87,15 @@ fn steps_and_ends_differ_by_each_part(rt: HostRuntime) {
             Ended::AfterFault,
         ],
     );
-}
-
-#[test]
-fn what_is_held_differs_by_each_part(rt: HostRuntime) {
-    let body = |count, len, total| Held::Body { count, len, total };
     are_all_different(
         &rt,
         &[
-            Held::Nothing,
-            Held::Nak,
-            Held::Frame,
-            body(2, 0, 0),
-            body(3, 0, 0),
-            body(2, 1, 0),
-            body(2, 0, 1),
-        ],
-    );
-    are_all_different(
-        &rt,
-        &[
-            Found::Nothing,
-            Found::Ack,
-            Found::Nak(0),
-            Found::Nak(1),
-            Found::Frame(3),
-            Found::Frame(4),
-            Found::Wrong(Fault::BadStart),
-            Found::Wrong(Fault::BadSum),
+            End::Clean,
+            End::Cut(1),
+            End::Cut(2),
+            End::Fault(Fault::BadStart, 1),
+            End::Fault(Fault::BadStart, 2),
+            End::Fault(Fault::BadSum, 1),
         ],
     );
 }

@@ -1,4 +1,4 @@
-ghost use Rattle.std.specs.Prelude.{◌≡◌, ◌*◌, ◌<◌, ◌≤◌, length, sum};
+ghost use Rattle.std.specs.Prelude.{◌≡◌, ◌*◌, ◌<◌, ◌≤◌, ℕ, length, sum, take};
 
 use crate::message::{Fault, Message};
 
@@ -9,35 +9,49 @@ pub(crate) const ACK: u8 = 0x04;
 /// The first byte of NAK.
 pub(crate) const NAK: u8 = 0x05;
 
+/// The bytes of the longest message.
+pub(crate) const LONGEST: usize = 258;
+
 /// What stands at the front of some bytes.
 pub(crate) enum Head<'a> {
-    Nothing,
-    /// The bytes begin a message, and no whole one.
-    Part,
-    /// The shortest front that begins no message has so many bytes.
+    /// No whole message yet: look again once there are at least this many bytes, 258 at most.
+    Part(usize),
+    /// A fault, and the length of the shortest front that shows it.
     Wrong(Fault, usize),
-    /// A message of so many bytes.
+    /// A message and its length.
     Found(Message<'a>, usize),
 }
 
 impl Head<'_> {
     ghost use Rattle.vdcp_frame.specs.Seen.{seen, Means};
-    ghost use Rattle.vdcp_frame.specs.Head.{head_of};
+    ghost use Rattle.vdcp_frame.specs.Head.{head_of, IsPart};
 
-    /// What it is, and what that means.
+    /// What stands at the front of these bytes.
     pub(crate) fn at(bytes: &[u8]) -> Head<'_>
         ensures { Means bytes.now result }
     {
         Head::of(bytes)
     }
 
+    /// The same, where a front of the bytes was a part that needs so many.
+    pub(crate) fn further(bytes: &[u8], needs: usize) -> Head<'_>
+        requires { (k : ℕ) × IsPart (take k bytes.now) needs }
+        ensures { Means bytes.now result }
+    {
+        if bytes.len() < needs {
+            Head::Part(needs)
+        } else {
+            Head::at(bytes)
+        }
+    }
+
     fn of(bytes: &[u8]) -> Head<'_>
         ensures { seen result ≡ head_of bytes.now }
     {
         match bytes {
-            [] => Head::Nothing,
+            [] => Head::Part(1),
             [ACK, ..] => Head::Found(Message::Ack, 1),
-            [NAK] => Head::Part,
+            [NAK] => Head::Part(2),
             [NAK, byte, ..] => Head::Found(Message::Nak(*byte), 2),
             [FRAME, left @ ..] => Head::of_frame(left),
             [_, ..] => Head::Wrong(Fault::BadStart, 1),
@@ -51,7 +65,7 @@ impl Head<'_> {
         ensures { seen result ≡ frame_head bytes.now }
     {
         match bytes {
-            [] => Head::Part,
+            [] => Head::Part(2),
             [count, ..] if *count < 2 => Head::Wrong(Fault::BadCount(*count), 2),
             [count, body @ ..] => Head::of_body(*count as usize - 2, body),
         }
@@ -59,7 +73,7 @@ impl Head<'_> {
 
     ghost use Rattle.vdcp_frame.specs.Head.{body_head};
 
-    // From CMD-1 on, with so many bytes of data to come.
+    // From CMD-1 on, with `size` bytes of data to come.
     fn of_body(size: usize, bytes: &[u8]) -> Head<'_>
         requires { size < 254 }
         ensures { seen result ≡ body_head size bytes.now }
@@ -80,12 +94,12 @@ impl Head<'_> {
                     Head::Wrong(Fault::BadSum, size + 5)
                 }
             }
-            _ => Head::Part,
+            _ => Head::Part(size + 5),
         }
     }
 }
 
-/// The sum of so few bytes that it can't overflow.
+/// The sum of at most 256 bytes.
 pub(crate) fn total_of(bytes: &[u8]) -> u32
     requires { length bytes.now ≤ 256 }
     ensures total { result ≡ sum bytes.now }

@@ -35,17 +35,18 @@
 mod burst;
 mod got;
 mod head;
-mod held;
 pub mod laws;
 mod message;
 mod reader;
 mod spelling;
+mod walk;
 
 pub use burst::{LIMIT, Step, read_at};
 pub use got::{Ended, Got};
 pub use message::{Fault, Message};
 pub use reader::Reader;
 pub use spelling::{Full, write};
+pub use walk::{End, Messages, whole_messages};
 
 #[cfg(test)]
 mod equality_tests;

@@ -1,36 +1,62 @@
-ghost use Rattle.std.specs.Prelude.{◌≡◌, ◌<◌, ◌≤◌, ◌++◌, [], List, ℕ, length, take};
+ghost use Rattle.std.specs.Prelude.{◌≡◌, ◌+◌, ◌<◌, ◌≤◌, ◌++◌, [], List, ℕ, length, take};
 ghost use Rattle.vdcp_frame.specs.Message.{Content};
+ghost use Rattle.vdcp_frame.specs.Place.{Fills};
 ghost use Rattle.vdcp_frame.specs.Progress.{Progress, reading};
+ghost use Rattle.vdcp_frame.specs.declared.reader.Place.TheVariants as places;
 ghost use Rattle.vdcp_frame.specs.Reader.{answer_of, Gives, fed, ended_of, Follows, FollowsNext, ReadsAs};
 
 use crate::burst::LIMIT;
 use crate::got::{Ended, Got};
-use crate::held::{BODY, Found, Held, Partial};
-use crate::message::{Fault, Message};
+use crate::head::{Head, LONGEST};
+use crate::message::Fault;
 use std::marker::Model;
 
 /// Reads a burst that comes in pieces.
 ///
-/// The caller passes each piece to `feed`, again from behind the bytes that a call took, until all
+/// The caller passes each piece to `feed`, again from after the bytes that a call took, until all
 /// are taken, and calls `silence` at each silence.
 #[derive(Drop)]
 pub struct Reader {
-    partial: Partial,
-    taken: usize,
-    failed: bool,
+    place: Place,
+    buffer: [u8; LONGEST],
+}
+
+/// Where a reader is in a burst.
+#[derive(Clone, Copy)]
+pub(crate) enum Place {
+    /// After `taken` bytes. The last `held` of them are the first ones of the buffer, and part of a
+    /// message that has `needs` bytes at least.
+    Reading {
+        taken: usize,
+        held: usize,
+        needs: usize,
+    },
+    /// After a fault.
+    Failed,
+}
+
+impl Place {
+    // Between two messages, after so many bytes.
+    const fn after(taken: usize) -> Self
+        ensures { result ≡ places.Reading taken 0 1 }
+    {
+        Place::Reading {
+            taken,
+            held: 0,
+            needs: 1,
+        }
+    }
 }
 
 impl Model for Reader {
-    ghost use Rattle.std.specs.Prelude.{◌≤◌, if◌then◌else◌};
-    ghost use Rattle.vdcp_frame.specs.Progress.{Progress, reading, failed as behind_fault};
-    ghost use Rattle.vdcp_frame.specs.Held.{held_bytes, IsPartial};
-    ghost use Rattle.vdcp_frame.specs.Reading.{burst_limit};
+    ghost use Rattle.vdcp_frame.specs.Progress.{Progress};
+    ghost use Rattle.vdcp_frame.specs.Place.{progress_at, IsPlace};
 
     ghost Value = { Progress };
 
-    ghost view = { λ r. if r.failed then behind_fault else reading r.taken (held_bytes r.partial) };
+    ghost view = { λ r. progress_at r.place r.buffer };
 
-    ghost invariant = { λ r. IsPartial r.partial × (r.taken ≤ burst_limit) };
+    ghost invariant = { λ r. IsPlace r.place r.buffer };
 }
 
 impl Reader {
@@ -40,12 +66,8 @@ impl Reader {
         ensures follows { Follows [] [] result }
     {
         Reader {
-            partial: Partial {
-                held: Held::Nothing,
-                buffer: [0; BODY],
-            },
-            taken: 0,
-            failed: false,
+            place: Place::after(0),
+            buffer: [0; LONGEST],
         }
     }
 
@@ -68,24 +90,33 @@ impl Reader {
         ensures* after { sem 𝓛 (follows_so the_row the_row self.entry.ghost_name none (λ _ _. ⊤)
             (λ new. new ≡ fed self.old piece.now result.0 (answer_of result.1))) }
     {
-        if self.failed {
-            return (piece.len(), Got::More);
-        }
-        let room = LIMIT - self.taken;
-        let (size, found) = self.partial.advance(&piece[..piece.len().min(room)]);
-        self.taken += size;
-        match found {
-            Found::Nothing if size < piece.len() => {
-                self.failed = true;
-                (size + 1, Got::Fault(Fault::Long, LIMIT + 1))
+        let (taken, held, needs) = match self.place {
+            Place::Failed => return (piece.len(), Got::More),
+            Place::Reading { taken, held, needs } => (taken, held, needs),
+        };
+        let count = fill(&mut self.buffer, held, taken, piece);
+        match Head::further(&self.buffer[..held + count], needs) {
+            Head::Found(message, size) => {
+                let count = size - held;
+                self.place = Place::after(taken + count);
+                (count, Got::Message(message))
             }
-            Found::Nothing => (size, Got::More),
-            Found::Ack => (size, Got::Message(Message::Ack)),
-            Found::Nak(byte) => (size, Got::Message(Message::Nak(byte))),
-            Found::Frame(len) => (size, Got::Message(self.partial.frame(len))),
-            Found::Wrong(fault) => {
-                self.failed = true;
-                (size, Got::Fault(fault, self.taken))
+            Head::Wrong(fault, size) => {
+                let count = size - held;
+                self.place = Place::Failed;
+                (count, Got::Fault(fault, taken + count))
+            }
+            Head::Part(needs) if count == piece.len() => {
+                self.place = Place::Reading {
+                    taken: taken + count,
+                    held: held + count,
+                    needs,
+                };
+                (count, Got::More)
+            }
+            Head::Part(_) => {
+                self.place = Place::Failed;
+                (count + 1, Got::Fault(Fault::Long, LIMIT + 1))
             }
         }
     }
@@ -97,17 +128,32 @@ impl Reader {
         ensures reads { (burst : List ℕ) (ms : List Content) → Follows burst ms self.old → ReadsAs burst ms result }
         ensures follows { Follows [] [] self.new }
     {
-        let ended = if self.failed {
-            Ended::AfterFault
-        } else {
-            match self.partial.len() {
-                0 => Ended::Clean,
-                held => Ended::Cut(held),
-            }
+        let ended = match self.place {
+            Place::Failed => Ended::AfterFault,
+            Place::Reading { held: 0, .. } => Ended::Clean,
+            Place::Reading { held, .. } => Ended::Cut(held),
         };
-        self.partial.held = Held::Nothing;
-        self.taken = 0;
-        self.failed = false;
+        self.place = Place::after(0);
         ended
     }
+}
+
+// Copies bytes of the piece to where the buffer's first `held` bytes end: as many as it has room for
+// and as a burst may have after `taken` bytes. Says how many.
+fn fill(buffer: &mut [u8; LONGEST], held: usize, taken: usize, piece: &[u8]) -> usize
+    requires held { held ≤ 258 }
+    requires taken { taken ≤ LIMIT }
+    ensures { Fills held taken piece.now result buffer.old buffer.new }
+{
+    let count = piece.len().min(LIMIT - taken).min(LONGEST - held);
+    put(buffer, held, &piece[..count]);
+    count
+}
+
+// Copies the piece to a place of the buffer.
+fn put(buffer: &mut [u8], at: usize, piece: &[u8])
+    requires { at + length piece.now ≤ length buffer.old }
+    ensures { take (at + length piece.now) buffer.new ≡ take at buffer.old ++ piece.now }
+{
+    buffer[at..at + piece.len()].copy_from_slice(piece);
 }

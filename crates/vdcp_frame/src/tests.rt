@@ -1,9 +1,11 @@
-ghost use Rattle.std.specs.Prelude.{map, IfOk};
+ghost use Rattle.std.specs.Prelude.{◌≡◌, map, IfOk};
+ghost use Rattle.vdcp_frame.specs.Burst.{messages_of, end_of};
 ghost use Rattle.vdcp_frame.specs.Message.{content_of};
 ghost use Rattle.vdcp_frame.specs.Reading.{Reads};
 ghost use Rattle.vdcp_frame.specs.Step.{IfMessage, IfEnd};
+ghost use Rattle.vdcp_frame.specs.Walk.{end_seen};
 
-use crate::{Fault, Full, Message, Step, read_at, write};
+use crate::{End, Ended, Fault, Full, Message, Messages, Step, read_at, whole_messages, write};
 use arrayvec::ArrayVec;
 use std::alloc::{AllocError, Global};
 use std::test::Fail;
@@ -27,6 +29,19 @@ pub(crate) fn reading_of(
             end => return Ok((messages, end)),
         }
     }
+}
+
+// The same by a walk along the burst.
+fn walked(alloc: Global, burst: &[u8]) -> Result<(Vec<Message<'_>>, End), AllocError>
+    ensures messages { IfOk result (λ r. map content_of r.0.items ≡ messages_of burst.now) }
+    ensures end { IfOk result (λ r. end_seen r.1 ≡ end_of burst.now) }
+{
+    let mut read = Vec::new(alloc);
+    let mut messages = Messages::of(burst);
+    'messages: while let Some(message) = messages.next() {
+        read.push(message)?;
+    }
+    Ok((read, messages.end()))
 }
 
 const fn framed(kind: u8, code: u8, rest: &'static [u8]) -> Message<'static> {
@@ -96,6 +111,43 @@ fn small_bursts_are_read(rt: HostRuntime) -> Result<(), Fail> {
         let (read, ended) = reading_of(rt.alloc(), burst)?;
         assert_eq!(rt; read.as_slice(), messages, "in {burst:?}");
         assert_eq!(rt; ended, end, "in {burst:?}");
+    }
+    Ok(())
+}
+
+#[test]
+fn a_burst_is_walked(rt: HostRuntime) -> Result<(), Fail> {
+    let rows: [(&[u8], &[Message], End, Ended, usize); 4] = [
+        (&[], &[], End::Clean, Ended::Clean, 0),
+        (
+            &[0x02, 0x02, 0x10, 0x01, 0xEF, 0x02, 0x02, 0x10, 0x00, 0xF0],
+            &[PLAY, STOP],
+            End::Clean,
+            Ended::Clean,
+            10,
+        ),
+        (
+            &[0x04, 0x05, 0x04, 0x02],
+            &[Message::Ack, Message::Nak(0x04)],
+            End::Cut(1),
+            Ended::Cut(1),
+            3,
+        ),
+        (
+            &[0x02, 0x02, 0x10, 0x01, 0xEF, 0xFF, 0x04],
+            &[PLAY],
+            End::Fault(Fault::BadStart, 6),
+            Ended::AfterFault,
+            5,
+        ),
+    ];
+    for (burst, messages, end, ended, whole) in rows {
+        let (read, there) = walked(rt.alloc(), burst)?;
+        assert_eq!(rt; read.as_slice(), messages, "in {burst:?}");
+        assert_eq!(rt; there, end, "in {burst:?}");
+        assert_eq!(rt; there.ended(), ended, "in {burst:?}");
+        assert_eq!(rt; Messages::of(burst).end(), end, "in {burst:?}");
+        assert_eq!(rt; whole_messages(burst), whole, "in {burst:?}");
     }
     Ok(())
 }

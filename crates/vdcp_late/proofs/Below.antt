@@ -17,7 +17,7 @@ use Rattle.vdcp_port.specs.Port.{PortState}
 use Rattle.vdcp_port.specs.Row.{command_row}
 use Rattle.vdcp_auto.specs.Plan.{Plan}
 use Rattle.vdcp_auto.specs.Turn.{given}
-use Rattle.vdcp_auto.specs.declared.phase.State.{State}
+use Rattle.vdcp_auto.specs.State.{State}
 
 pub record Below : Type 0 where
   -- what is spelt reads as its message, alone and with bytes behind it

@@ -17,17 +17,17 @@ use Rattle.vdcp_auto.specs.Log.{answer_to, answer_in, is_counted}
 use Rattle.vdcp_auto.specs.Plan.{Plan}
 use Rattle.vdcp_auto.specs.Replies.{is_ack, is_refusal, is_receipt}
 use Rattle.vdcp_auto.specs.Table.{command_in, on_reply, on_refusal}
-use Rattle.vdcp_auto.specs.Turn.{turn_on, turn_of, awaited_in, on_answer, on_unanswered, ended_in, exchange_of, came_to, ticked, tick_in, phase_to_send, stage_after, settled_after}
+use Rattle.vdcp_auto.specs.Turn.{transition_on, transition_of, awaited_in, on_answer, on_unanswered, ended_in, exchange_of, came_to, ticked, tick_in, phase_to_send, stage_after, settled_after}
 use Rattle.vdcp_auto.specs.declared.exchange.Exchange.{Exchange}
 use Rattle.vdcp_auto.specs.declared.exchange.Heard.{Heard}
 use Rattle.vdcp_auto.specs.declared.exchange.Heard.TheVariants as heard
 use Rattle.vdcp_auto.specs.declared.phase.Mode.TheVariants.{Plain, Confirming}
 use Rattle.vdcp_auto.specs.declared.phase.Phase.{Phase}
 use Rattle.vdcp_auto.specs.declared.phase.Phase.TheVariants as phase
-use Rattle.vdcp_auto.specs.declared.phase.Stage.{Stage}
-use Rattle.vdcp_auto.specs.declared.phase.Stage.TheVariants.{Ready, Awaiting, Ended}
-use Rattle.vdcp_auto.specs.declared.phase.State.{State}
-use Rattle.vdcp_auto.specs.declared.phase.Turn.{Turn}
+use Rattle.vdcp_auto.specs.State.{Stage}
+use Rattle.vdcp_auto.specs.State.{Ready, Awaiting, Ended}
+use Rattle.vdcp_auto.specs.State.{State}
+use Rattle.vdcp_auto.specs.declared.phase.Transition.{Transition}
 use Rattle.vdcp_late.specs.Damage.{is_no_answer, is_stray}
 use Rattle.vdcp_late.proofs.Claims.{Comes}
 use Rattle.vdcp_late.proofs.Hearing.{Leads, Here, Asked, silent, refused, replied}
@@ -110,7 +110,7 @@ no_answer c (Some (heard.Reply (reply.Size length))) e = cc
 abbrev pub LeadsBy : List Item → List (ClipId × Timecode) → ℕ → Bool → Cued → List Item → List Answer → List Phase → ℕ → State → ℕ → Bool → Phase
     → Option Reply → Type 0
 LeadsBy list clips settled s a aired ups downs limit state port counts q o =
-    Leads list clips settled s a aired ups downs (turn_on (plain_plan list port limit) state.take state.tries state.unanswered counts q o)
+    Leads list clips settled s a aired ups downs (transition_on (plain_plan list port limit) state.take state.tries state.unanswered counts q o)
 
 either : (a b : Bool) → (a || b) ≡ true → a ≡ false → b ≡ true
 either a b e f = grind arith

@@ -13,15 +13,15 @@ use Rattle.vdcp_auto.specs.Log.{answer_to, answer_in, is_counted}
 use Rattle.vdcp_auto.specs.Plan.{Plan}
 use Rattle.vdcp_auto.specs.Replies.{is_receipt, is_refusal}
 use Rattle.vdcp_auto.specs.Table.{command_in, on_reply, on_refusal}
-use Rattle.vdcp_auto.specs.Turn.{turn_on, turn_of, awaited_in, is_end, on_answer, on_unanswered, ended_in, exchange_of, came_to, stage_after, settled_after}
+use Rattle.vdcp_auto.specs.Turn.{transition_on, transition_of, awaited_in, is_end, on_answer, on_unanswered, ended_in, exchange_of, came_to, stage_after, settled_after}
 use Rattle.vdcp_auto.specs.declared.exchange.Exchange.{Exchange}
 use Rattle.vdcp_auto.specs.declared.exchange.Heard.{Heard}
 use Rattle.vdcp_auto.specs.declared.exchange.Heard.TheVariants as heard
 use Rattle.vdcp_auto.specs.declared.phase.Mode.TheVariants.{Plain, Confirming}
 use Rattle.vdcp_auto.specs.declared.phase.Phase.{Phase}
-use Rattle.vdcp_auto.specs.declared.phase.Stage.{Stage}
-use Rattle.vdcp_auto.specs.declared.phase.Stage.TheVariants.{Ready, Awaiting, Ended}
-use Rattle.vdcp_auto.specs.declared.phase.State.{State}
+use Rattle.vdcp_auto.specs.State.{Stage}
+use Rattle.vdcp_auto.specs.State.{Ready, Awaiting, Ended}
+use Rattle.vdcp_auto.specs.State.{State}
 use Rattle.vdcp_late.specs.Damage.{is_no_answer, is_stray}
 use Rattle.vdcp_late.proofs.Claims.{Comes}
 use Rattle.vdcp_late.proofs.Coming.{fits_asked}
@@ -38,7 +38,7 @@ confirming_plan list port limit = record { mode = Confirming; list = list; port 
 abbrev LeadsBy : List Item → List (ClipId × Timecode) → ℕ → Bool → Cued → List Item → List Answer → List Phase → ℕ → State → ℕ → Bool → Phase
     → Option Reply → Type 0
 LeadsBy list clips settled s a aired ups downs limit state port counts q o =
-    Leads list clips settled s a aired ups downs (turn_on (confirming_plan list port limit) state.take state.tries state.unanswered counts q o)
+    Leads list clips settled s a aired ups downs (transition_on (confirming_plan list port limit) state.take state.tries state.unanswered counts q o)
 
 -- what ends an exchange is no receipt
 no_receipt : (c : Command) (r : Reply) → is_end Confirming c (Some (heard.Reply r)) ≡ true → is_receipt r ≡ false

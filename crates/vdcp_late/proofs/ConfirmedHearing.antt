@@ -16,10 +16,10 @@ use Rattle.vdcp_auto.specs.declared.outcome.Outcome.TheVariants as outcome
 use Rattle.vdcp_auto.specs.declared.phase.Mode.TheVariants.{Plain, Confirming}
 use Rattle.vdcp_auto.specs.declared.phase.Phase.{Phase}
 use Rattle.vdcp_auto.specs.declared.phase.Phase.TheVariants as phase
-use Rattle.vdcp_auto.specs.declared.phase.Stage.{Stage}
-use Rattle.vdcp_auto.specs.declared.phase.Stage.TheVariants.{Ready, Awaiting, Ended}
-use Rattle.vdcp_auto.specs.declared.phase.Turn.{Turn}
-use Rattle.vdcp_auto.specs.declared.phase.Turn.TheVariants.{Goes, Settles, Retries, Ends}
+use Rattle.vdcp_auto.specs.State.{Stage}
+use Rattle.vdcp_auto.specs.State.{Ready, Awaiting, Ended}
+use Rattle.vdcp_auto.specs.declared.phase.Transition.{Transition}
+use Rattle.vdcp_auto.specs.declared.phase.Transition.TheVariants.{Goes, Settles, Retries, Ends}
 use Rattle.vdcp_late.specs.Pipe.{stretch, Climbs, stretches, IsPipe}
 use Rattle.vdcp_late.proofs.ConfirmedPlaces.{FullAfterDone, Owns, Trying, ToSound, Sounded, Sounding, Secure, Idle, Spot, full_none}
 use Rattle.vdcp_late.proofs.ConfirmedReads.{presence_no_state}
@@ -33,7 +33,7 @@ use Rattle.vdcp_late.proofs.Standing.{knows, differs, misleads, misleads_at}
 use Rattle.vdcp_late.proofs.Stretches.{Lies, ups_climb, none_answers}
 
 -- where a turn leads
-abbrev pub Leads : List Item → List (ClipId × Timecode) → ℕ → Bool → Cued → List Item → List Answer → List Phase → Turn → Type 0
+abbrev pub Leads : List Item → List (ClipId × Timecode) → ℕ → Bool → Cued → List Item → List Answer → List Phase → Transition → Type 0
 Leads list clips settled s a aired ups downs turn = SpotAt list clips (settled_after turn settled) s a aired ups downs (stage_after turn)
 
 -- the spot of a phase, with its pipe

@@ -28,3 +28,5 @@ pub mod ConfirmedHearing
 pub mod ConfirmedComing
 pub mod ConfirmedReached
 pub mod LateReached
+pub mod LateController
+pub mod Happened

@@ -3,3 +3,4 @@ pub mod Damage
 pub mod LateChannel
 pub mod Pipe
 pub mod LateHeadline
+pub mod Runs

@@ -105,7 +105,7 @@ given_refused rate file left left' n clips row fault h t few f =
     let (rows, are, b) = front_begins file left' (h.front ++ row ∷ []) (front_next (option_map rows_of file) left left' h.front row h.is_front t) in
     (rows, are, of_row rate rows (n + 1) row fault (next_row rate h.front rows (n + 1) clips row b (omega (arith, h.size)) (omega (arith, few)) h.given) f)
 
--- an ID that stands in an earlier row
+-- an earlier row's ID
 stands : ((a b : ClipId) → IsTrue (is_same_id a b) ↔ (a ≡ b)) → (clips : List (ClipId × Timecode)) (id : ClipId)
     → is_some (length_of clips id) ≡ true → StandsIn (map clip_row clips) id
 stands same [] id e = cc e

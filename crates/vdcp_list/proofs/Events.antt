@@ -29,12 +29,33 @@ take_next (first ∷ items) (suc k) item e = ap (λ is. first ∷ is) (take_next
 pub take_more : (items : List Item) (k : ℕ) (item : Item) → slice_get items k ≡ Some item → take (k + 1) items ≡ take k items ++ item ∷ []
 take_more items k item e = rw (add-one k) (take_next items k item e)
 
+last_or : (a b : Bool) → (a || (b || false)) ≡ (a || b)
+last_or true b = refl
+last_or false true = refl
+last_or false false = refl
+
 -- whether some event has a part
 pub part_at : (items : List Item) (k : ℕ) (item : Item) → slice_get items k ≡ Some item → is_some item.part ≡ true → has_part items ≡ true
 part_at [] k item e some = cc e
 part_at (first ∷ items) zero item e some =
     let same : first ≡ item = cc e in rw (ap (λ (i : Item). is_some i.part) same ∙ some) refl
 part_at (first ∷ items) (suc k) item e some = either_true (is_some first.part) (has_part items) (part_at items k item e some)
+
+either_more : (a b c : Bool) → (b ≡ true → c ≡ true) → (a || b) ≡ true → (a || c) ≡ true
+either_more true b c more e = refl
+either_more false b c more e = more e
+
+pub part_among : (items : List Item) (n : ℕ) → has_part (take n items) ≡ true → has_part items ≡ true
+part_among [] zero e = cc e
+part_among [] (suc n) e = cc e
+part_among (first ∷ items) zero e = cc e
+part_among (first ∷ items) (suc n) e =
+    either_more (is_some first.part) (has_part (take n items)) (has_part items) (part_among items n) e
+
+pub parts_more : (items : List Item) (k : ℕ) (item : Item) → slice_get items k ≡ Some item
+    → has_part (take (k + 1) items) ≡ (has_part (take k items) || is_some item.part)
+parts_more items k item e =
+    rw (take_more items k item e, list_any-append (λ (i : Item). is_some i.part) (take k items) (item ∷ [])) (last_or (has_part (take k items)) (is_some item.part))
 
 pub no_part_more : (items : List Item) (k : ℕ) (item : Item) → slice_get items k ≡ Some item → has_part (take k items) ≡ false → is_some item.part ≡ false
     → has_part (take (k + 1) items) ≡ false

@@ -38,8 +38,9 @@ pub fn write_asrun<S: Source, W: Write, A: Allocator>(
     ensures beginning { IfErr result (λ fault. fault ≡ Device → AppendsBeginning (W.contents writer.old) (W.contents writer.new)
         (asrun_text rate (S.items source.now) reported)) }
 {
-    check_parts(source, rate, reported)?;
-    let text = asrun_text(&alloc, source, rate, reported)?;
+    let among = check_parts(source, rate, reported)?;
+    let with_parts = has_part(source, reported, among);
+    let text = asrun_text(&alloc, source, rate, with_parts, reported)?;
     write_out(writer, text.as_slice())
 }
 
@@ -77,18 +78,40 @@ fn write_text<W: Write>(writer: &mut W, text: &[u8]) -> Result<(), WriteFault>
     Err(WriteFault::Device)
 }
 
-/// Refuses the first of these events whose part isn't lawful at the rate.
-fn check_parts<S: Source>(source: &S, rate: Rate, reported: usize) -> Result<(), WriteFault>
+/// Refuses the first of these events whose part isn't lawful at the rate, and tells whether one of them
+/// has a part.
+fn check_parts<S: Source>(source: &S, rate: Rate, reported: usize) -> Result<bool, WriteFault>
     requires { reported ≤ length (S.items source.now) }
+    ensures parts { IfOk result (λ with_parts. with_parts ≡ has_part (take reported (S.items source.now))) }
     ensures lawful { OnOk result (IsTrue (are_lawful rate (take reported (S.items source.now)))) }
     ensures unlawful { IfErr result (λ fault. (k : ℕ) × (fault ≡ Time k) × IsUnlawful rate (S.items source.now) reported k) }
 {
+    let mut with_parts = false;
     for k in 0..reported {
-        if !is_lawful_event(rate, &source.at(k)) {
+        let item = source.at(k);
+        if !is_lawful_event(rate, &item) {
             return Err(WriteFault::Time(k));
         }
+        with_parts |= item.part.is_some();
     }
-    Ok(())
+    Ok(with_parts)
+}
+
+/// Whether an event has a part, where `among` says so of those before this one.
+fn has_part<S: Source>(source: &S, from: usize, among: bool) -> bool
+    requires within { from ≤ length (S.items source.now) }
+    requires among { among ≡ has_part (take from (S.items source.now)) }
+    ensures { result ≡ has_part (S.items source.now) }
+{
+    if among {
+        return true;
+    }
+    for k in from..source.len() {
+        if source.at(k).part.is_some() {
+            return true;
+        }
+    }
+    false
 }
 
 /// Whether the part of an event, where it has one, is lawful at a rate.
@@ -113,14 +136,15 @@ fn asrun_text<'a, S: Source, A: Allocator>(
     alloc: &'a A,
     source: &S,
     rate: Rate,
+    with_parts: bool,
     reported: usize,
 ) -> Result<Vec<u8, &'a A>, WriteFault>
+    requires parts { with_parts ≡ has_part (S.items source.now) }
     requires within { reported ≤ length (S.items source.now) }
     requires lawful { IsTrue (are_lawful rate (take reported (S.items source.now))) }
     ensures text { IfOk result (λ text. text.items ≡ asrun_text rate (S.items source.now) reported) }
     ensures memory { IfErr result (λ fault. fault ≡ WriteFault.Memory) }
 {
-    let with_parts = has_part(source);
     let mut rows = WriterBuilder::new().from_writer(Vec::new(alloc));
     let mut number = String::new(alloc);
     for k in 0..reported {
@@ -144,18 +168,6 @@ fn show_number<A: Allocator>(number: usize, text: &mut String<A>) -> Result<(), 
 {
     text.clear();
     write!(text, "{number}")
-}
-
-/// Whether some event of a source has a part.
-fn has_part<S: Source>(source: &S) -> bool
-    ensures { result ≡ has_part (S.items source.now) }
-{
-    for k in 0..source.len() {
-        if source.at(k).part.is_some() {
-            return true;
-        }
-    }
-    false
 }
 
 /// Writes the row of an event.

@@ -52,10 +52,10 @@ fn last_length(row: &ByteRecord, rate: Rate) -> Option<Timecode>
     Some(length)
 }
 
-/// Reads a catalogue: two fields a row, an ID and the clip's length as a time code at this rate. It is
+/// Reads a catalogue. A row is two fields: a clip's ID, and its length, a time code at this rate. It is
 /// CSV with commas and double quotes, without a header row, and blank lines are left out.
 ///
-/// The first row that is refused is told as `TooMany` where 10,000 stand before it, else as `Columns`,
+/// The first row that is refused is reported as `TooMany` where 10,000 stand before it, else as `Columns`,
 /// `Id` (also where the field isn't UTF-8), `Time`: a text that is no lawful time code, or one of
 /// frame 0; or `Twice`, where an earlier row has its ID. `Read` is a failure of the reader.
 pub fn read_catalogue<R: Read + Drop>(

@@ -51,7 +51,7 @@ fn last_part(row: &ByteRecord, rate: Rate) -> Option<Option<Part>>
     }
 }
 
-/// The part that two fields name, both empty for a whole clip.
+/// The part that two fields name; None, of a whole clip, where both are empty.
 fn part_in(start: &[u8], duration: &[u8], rate: Rate) -> Option<Option<Part>>
     ensures some { IfSome result (λ part. (part_fields rate part ≡ start.now ∷ duration.now ∷ []) × CanName rate true part) }
     ensures none { IfNone result ((part : Option Part) → CanName rate true part → part_fields rate part ≢ start.now ∷ duration.now ∷ []) }
@@ -77,11 +77,11 @@ fn part_in(start: &[u8], duration: &[u8], rate: Rate) -> Option<Option<Part>>
     }))
 }
 
-/// Reads a playlist: one field a row, an ID; or three, with start and duration of a part at this rate,
-/// both empty for a whole clip. All rows have as many fields as the first. It is CSV with commas and
-/// double quotes, without a header row, and blank lines are left out.
+/// Reads a playlist. A row is one field, an ID, or three: the ID, and a part's start and duration at this
+/// rate, which a whole clip leaves empty. The first row sets the number of fields. It is CSV with commas
+/// and double quotes, without a header row, and blank lines are left out.
 ///
-/// The first row that is refused is told as `TooMany` where 10,000 stand before it, else as
+/// The first row that is refused is reported as `TooMany` where 10,000 stand before it, else as
 /// `Columns`, `Id` (also where the field isn't UTF-8), or `Time`: a text that is no lawful time code,
 /// one of the two fields empty, or a duration of frame 0. `Read` is a failure of the reader.
 pub fn read_list<R: Read + Drop>(alloc: Global, reader: R, rate: Rate) -> Result<List, ListFault>

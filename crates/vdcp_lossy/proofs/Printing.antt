@@ -4,13 +4,13 @@ use Rattle.std.proofs.KnownBytes.{Appends-nil, Appends-trans}
 use Rattle.std.specs.Io.KnownBytes.{Appends}
 use Rattle.std.specs.Prelude.{OnOk, Result, Ok, Err}
 use Rattle.vdcp_lossy.specs.Doings.{IsForged}
-use Rattle.vdcp_lossy.specs.Printed.{Fate, of_command, of_answer, of_nothing, IsTold, IsPrinted, TellsFates, counts_text, end_line, fate_line, fate_lines, no_counts, with_answer, with_command, with_fate, with_fates}
+use Rattle.vdcp_lossy.specs.Printed.{Fate, of_command, of_answer, of_nothing, PrintsFate, IsPrinted, PrintsFates, counts_text, end_line, fate_line, fate_lines, no_counts, with_answer, with_command, with_fate, with_fates}
 use Rattle.vdcp_lossy.specs.declared.doing.Doing.{Doing}
 use Rattle.vdcp_lossy.specs.declared.doing.Doing.TheVariants as doing
 use Rattle.vdcp_lossy.specs.declared.doing.Way.TheVariants as way
 use Rattle.vdcp_lossy.specs.declared.session.CarryEnd.{CarryEnd}
 use Rattle.vdcp_lossy.specs.declared.tally.Tally.{Tally}
-use Rattle.vdcp_tcp.specs.Listening.{PrintsListening, listening_line}
+use Rattle.vdcp_wire.specs.Listening.{PrintsListening, listening_line}
 use Rattle.vdcp_text.specs.Text.{line}
 
 counted_all : (t : Tally) (fates later : List Fate) → with_fates t (fates ++ later) ≡ with_fates (with_fates t fates) later
@@ -24,10 +24,10 @@ told_all t (fate ∷ fates) later =
     ap (λ (l : List ℕ). fate_line fate t ++ l) more
     ∙ sym (append_assoc (fate_line fate t) (fate_lines (with_fate fate t) fates) (fate_lines (with_fates (with_fate fate t) fates) later))
 
-pub tells_none : (t : Tally) (a : Option (List ℕ)) → TellsFates t t a a
+pub tells_none : (t : Tally) (a : Option (List ℕ)) → PrintsFates t t a a
 tells_none t a = record { fates = []; counted = refl; gained = Appends-nil a }
 
-pub tells_more : (t u v : Tally) (a b c : Option (List ℕ)) → TellsFates t u a b → TellsFates u v b c → TellsFates t v a c
+pub tells_more : (t u v : Tally) (a b c : Option (List ℕ)) → PrintsFates t u a b → PrintsFates u v b c → PrintsFates t v a c
 tells_more t u v a b c first later =
     let behind : Appends b c (fate_lines (with_fates t first.fates) later.fates) =
     subst (λ (w : Tally). Appends b c (fate_lines w later.fates)) first.counted later.gained in
@@ -40,28 +40,28 @@ tells_more t u v a b c first later =
     }
 
 -- where the counter has stayed between
-pub tells_then : (t u same v : Tally) (a b c : Option (List ℕ)) → TellsFates t u a b → same ≡ u → TellsFates same v b c → TellsFates t v a c
-tells_then t u same v a b c first is later = tells_more t u v a b c first (subst (λ (w : Tally). TellsFates w v b c) is later)
+pub tells_then : (t u same v : Tally) (a b c : Option (List ℕ)) → PrintsFates t u a b → same ≡ u → PrintsFates same v b c → PrintsFates t v a c
+tells_then t u same v a b c first is later = tells_more t u v a b c first (subst (λ (w : Tally). PrintsFates w v b c) is later)
 
 -- one fate
-tells_one : (fate : Fate) (t u : Tally) (a b : Option (List ℕ)) → u ≡ with_fate fate t → Appends a b (fate_line fate t) → TellsFates t u a b
+tells_one : (fate : Fate) (t u : Tally) (a b : Option (List ℕ)) → u ≡ with_fate fate t → Appends a b (fate_line fate t) → PrintsFates t u a b
 tells_one fate t u a b counted gained = record {
   fates = fate ∷ [];
   counted = counted;
   gained = subst (Appends a b) (sym (append-nil (fate_line fate t))) gained;
 }
 
-pub tells_command : (d : Doing) (came : List ℕ) (t u v : Tally) (a b : Option (List ℕ)) → u ≡ with_command t → IsTold way.Down d came u v a b → TellsFates t v a b
+pub tells_command : (d : Doing) (came : List ℕ) (t u v : Tally) (a b : Option (List ℕ)) → u ≡ with_command t → PrintsFate way.Down d came u v a b → PrintsFates t v a b
 tells_command d came t u v a b counted told =
-    let here : IsTold way.Down d came (with_command t) v a b = subst (λ (w : Tally). IsTold way.Down d came w v a b) counted told in
+    let here : PrintsFate way.Down d came (with_command t) v a b = subst (λ (w : Tally). PrintsFate way.Down d came w v a b) counted told in
     tells_one (of_command d came) t v a b here.counted here.gained
 
-pub tells_answer : (d : Doing) (came : List ℕ) (t u v : Tally) (a b : Option (List ℕ)) → u ≡ with_answer t → IsTold way.Up d came u v a b → TellsFates t v a b
+pub tells_answer : (d : Doing) (came : List ℕ) (t u v : Tally) (a b : Option (List ℕ)) → u ≡ with_answer t → PrintsFate way.Up d came u v a b → PrintsFates t v a b
 tells_answer d came t u v a b counted told =
-    let here : IsTold way.Up d came (with_answer t) v a b = subst (λ (w : Tally). IsTold way.Up d came w v a b) counted told in
+    let here : PrintsFate way.Up d came (with_answer t) v a b = subst (λ (w : Tally). PrintsFate way.Up d came w v a b) counted told in
     tells_one (of_answer d came) t v a b here.counted here.gained
 
-pub tells_nothing : (d : Doing) (t v : Tally) (a b : Option (List ℕ)) → IsForged d → IsTold way.Up d [] t v a b → TellsFates t v a b
+pub tells_nothing : (d : Doing) (t v : Tally) (a b : Option (List ℕ)) → IsForged d → PrintsFate way.Up d [] t v a b → PrintsFates t v a b
 tells_nothing doing.Through t v a b forged told = absurd forged
 tells_nothing doing.Lost t v a b forged told = absurd forged
 tells_nothing doing.Late t v a b forged told = absurd forged
@@ -71,7 +71,7 @@ tells_nothing (doing.Damaged bytes) t v a b forged told = absurd forged
 tells_nothing (doing.Forged r) t v a b forged told = tells_one (of_nothing r) t v a b told.counted told.gained
 
 -- the whole
-pub printed : (t u v : Tally) (end : CarryEnd) (a b c d : Option (List ℕ)) → t ≡ no_counts → PrintsListening a b → TellsFates t u b c
+pub printed : (t u v : Tally) (end : CarryEnd) (a b c d : Option (List ℕ)) → t ≡ no_counts → PrintsListening a b → PrintsFates t u b c
     → v ≡ u → Appends c d (end_line end ++ counts_text v) → IsPrinted a d
 printed t u v end a b c d none (address, listens) told same ended =
     let fates : List Fate = told.fates in
@@ -90,18 +90,18 @@ printed t u v end a b c d none (address, listens) told same ended =
 -- the same behind calls that may fail
 
 pub answer_told : {A E : Type 0} (result : Result A E) (d : Doing) (came : List ℕ) (t u v : Tally) (a b : Option (List ℕ)) → u ≡ with_answer t
-    → OnOk result (IsTold way.Up d came u v a b) → OnOk result (TellsFates t v a b)
+    → OnOk result (PrintsFate way.Up d came u v a b) → OnOk result (PrintsFates t v a b)
 answer_told (Ok x) d came t u v a b counted told = tells_answer d came t u v a b counted told
 answer_told (Err e) d came t u v a b counted told = tt
 
 pub nothing_told : {A E : Type 0} (result : Result A E) (d : Doing) (t v : Tally) (a b : Option (List ℕ)) → IsForged d
-    → OnOk result (IsTold way.Up d [] t v a b) → OnOk result (TellsFates t v a b)
+    → OnOk result (PrintsFate way.Up d [] t v a b) → OnOk result (PrintsFates t v a b)
 nothing_told (Ok x) d t v a b forged told = tells_nothing d t v a b forged told
 nothing_told (Err e) d t v a b forged told = tt
 
 -- a command, and then what came for it
 pub exchange_told : {A E : Type 0} (result : Result A E) (came : List ℕ) (t u v w : Tally) (a b c : Option (List ℕ)) → u ≡ with_command t
-    → (d : Doing) × IsTold way.Down d came u v a b → OnOk result (TellsFates v w b c) → OnOk result (TellsFates t w a c)
+    → (d : Doing) × PrintsFate way.Down d came u v a b → OnOk result (PrintsFates v w b c) → OnOk result (PrintsFates t w a c)
 exchange_told (Ok x) came t u v w a b c counted (d, told) later = tells_more t v w a b c (tells_command d came t u v a b counted told) later
 exchange_told (Err e) came t u v w a b c counted told later = tt
 

@@ -7,7 +7,7 @@ use Rattle.std.specs.Prelude.{OnOk, Result, Ok, Err}
 use Rattle.vdcp_frame.specs.Burst.{messages_of, end_of}
 use Rattle.vdcp_frame.specs.Message.{Content}
 use Rattle.vdcp_frame.specs.Reading.{End, Reads}
-use Rattle.vdcp_lossy.specs.Texts.{GainsParts, doing_text, joined_parts, parts_of, reading_line, told_line, way_text}
+use Rattle.vdcp_lossy.specs.Texts.{GainsParts, doing_text, joined_parts, parts_of, reading_line, burst_line, way_text}
 use Rattle.vdcp_lossy.specs.declared.doing.Doing.{Doing}
 use Rattle.vdcp_lossy.specs.declared.doing.Way.{Way}
 use Rattle.vdcp_text.specs.Text.{end_text, shown_text}
@@ -89,7 +89,7 @@ reading_is (Err e) burst a b computed gains = tt
 -- a line, in three writes
 pub told_written : {A E : Type 0} (result : Result A E) (number : ℕ) (w : Way) (d : Doing) (came : List ℕ) (a b c e f : Option (List ℕ))
     → Appends a b (decimal number ++ (codes " " ++ (way_text w ++ (codes " " ++ (doing_text d ++ codes " "))))) → Appends b c (reading_line came)
-    → Appends c e (10 ∷ []) → Keeps e f → OnOk result (Appends a f (told_line number w d came))
+    → Appends c e (10 ∷ []) → Keeps e f → OnOk result (Appends a f (burst_line number w d came))
 told_written (Ok x) number w d came a b c e f front reading feed kept =
     let begun : List ℕ = decimal number ++ (codes " " ++ (way_text w ++ (codes " " ++ (doing_text d ++ codes " ")))) in
     let grouped : begun ≡ decimal number ++ codes " " ++ way_text w ++ codes " " ++ doing_text d ++ codes " " = simp append_assoc in

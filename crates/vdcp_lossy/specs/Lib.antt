@@ -1,5 +1,5 @@
 -- What the clauses of this crate cite.
-pub mod Bursts
+pub mod Brought
 pub mod Doings
 pub mod Events
 pub mod Carried

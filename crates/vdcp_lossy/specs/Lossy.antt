@@ -1,7 +1,7 @@
 -- What lossy is refused for.
 use Rattle.std.specs.Io.KnownBytes.{Keeps}
 use Rattle.std.specs.Prelude.{ℕ, ◌≡◌, ◌⊎◌, List, Option}
-use Rattle.vdcp_tcp.specs.Address.{IsAddress}
+use Rattle.vdcp_wire.specs.Address.{IsAddress}
 use Rattle.vdcp_text.specs.Failure.{status_of}
 use Rattle.vdcp_text.specs.declared.failure.Failure.{Failure}
 use Rattle.vdcp_text.specs.declared.failure.Failure.TheVariants as failures

@@ -2,7 +2,7 @@
 use Rattle.std.specs.Io.KnownBytes.{Appends}
 use Rattle.std.specs.Prelude.{ℕ, ◌≡◌, ◌+◌, ◌-◌, ◌^◌, min, List, [], ◌∷◌, ◌++◌, codes, decimal, Option}
 use Rattle.std.specs.declared.net.SocketAddr.{SocketAddr}
-use Rattle.vdcp_lossy.specs.Texts.{told_line}
+use Rattle.vdcp_lossy.specs.Texts.{burst_line}
 use Rattle.vdcp_lossy.specs.declared.doing.Doing.{Doing}
 use Rattle.vdcp_lossy.specs.declared.doing.Doing.TheVariants as doing
 use Rattle.vdcp_lossy.specs.declared.doing.Receipt.{Receipt}
@@ -11,7 +11,7 @@ use Rattle.vdcp_lossy.specs.declared.doing.Way.TheVariants as way
 use Rattle.vdcp_lossy.specs.declared.session.CarryEnd.{CarryEnd}
 use Rattle.vdcp_lossy.specs.declared.session.CarryEnd.TheVariants as ends
 use Rattle.vdcp_lossy.specs.declared.tally.Tally.{Tally}
-use Rattle.vdcp_tcp.specs.Listening.{listening_line}
+use Rattle.vdcp_wire.specs.Listening.{listening_line}
 use Rattle.vdcp_text.specs.Text.{line}
 
 -- ---- the counts
@@ -19,7 +19,7 @@ use Rattle.vdcp_text.specs.Text.{line}
 abbrev pub no_counts : Tally
 no_counts = record { commands = 0; answers = 0; through = 0; lost = 0; late = 0; copied = 0; cut = 0; damaged = 0; forged = 0 }
 
--- one more, of a count of so many bits, which stops at its largest number
+-- one more, of a count of this many bits, which stops at its largest number
 abbrev pub one_more : ℕ → ℕ → ℕ
 one_more bits count = min (count + 1) (2 ^ bits - 1)
 
@@ -64,9 +64,9 @@ with_fate (of_nothing r) t = with_doing (doing.Forged r) t
 
 -- its line, where so much was counted before: a command has the next number, and what comes up has its command's
 abbrev pub fate_line : Fate → Tally → List ℕ
-fate_line (of_command d came) t = told_line (with_command t).commands way.Down d came
-fate_line (of_answer d came) t = told_line t.commands way.Up d came
-fate_line (of_nothing r) t = told_line t.commands way.Up (doing.Forged r) []
+fate_line (of_command d came) t = burst_line (with_command t).commands way.Down d came
+fate_line (of_answer d came) t = burst_line t.commands way.Up d came
+fate_line (of_nothing r) t = burst_line t.commands way.Up (doing.Forged r) []
 
 -- what is counted with some, and their lines
 abbrev pub with_fates : Tally → List Fate → Tally
@@ -77,15 +77,15 @@ abbrev pub fate_lines : Tally → List Fate → List ℕ
 fate_lines t [] = []
 fate_lines t (fate ∷ later) = fate_line fate t ++ fate_lines (with_fate fate t) later
 
--- ---- what is told
+-- ---- the lines of bursts
 
--- what was done with a burst that came this way is counted, and a writer gained its line
-pub record IsTold (w : Way) (d : Doing) (came : List ℕ) (t t' : Tally) (out out' : Option (List ℕ)) : Type 0 where
+-- what was done with a burst that came this way is counted, and a writer gained the line of it
+pub record PrintsFate (w : Way) (d : Doing) (came : List ℕ) (t t' : Tally) (out out' : Option (List ℕ)) : Type 0 where
   pub counted : t' ≡ with_doing d t
-  pub gained : Appends out out' (told_line t.commands w d came)
+  pub gained : Appends out out' (burst_line t.commands w d came)
 
 -- some fates are counted, and a writer gained their lines
-pub record TellsFates (t t' : Tally) (out out' : Option (List ℕ)) : Type 0 where
+pub record PrintsFates (t t' : Tally) (out out' : Option (List ℕ)) : Type 0 where
   pub fates : List Fate
   pub counted : t' ≡ with_fates t fates
   pub gained : Appends out out' (fate_lines t fates)

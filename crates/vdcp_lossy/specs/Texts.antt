@@ -48,6 +48,6 @@ unfoldable pub reading_line : List ℕ → List ℕ
 reading_line burst = joined_parts (parts_of (messages_of burst) (end_of burst))
 
 -- the line of what was done with a burst of an exchange with this number, which came this way
-abbrev pub told_line : ℕ → Way → Doing → List ℕ → List ℕ
-told_line number w d came =
+abbrev pub burst_line : ℕ → Way → Doing → List ℕ → List ℕ
+burst_line number w d came =
     line (decimal number ++ codes " " ++ way_text w ++ codes " " ++ doing_text d ++ codes " " ++ reading_line came)

@@ -1,13 +1,13 @@
 ghost use Rattle.std.specs.Io.KnownBytes.{Appends, Keeps};
 ghost use Rattle.std.specs.Prelude.{◌≡◌, ◌⊎◌, ◌<◌, ◌≤◌, IfOk, OnOk, length};
 ghost use Rattle.vdcp_wire.specs.Wires.{adds_drop, adds_sent};
-ghost use Rattle.vdcp_lossy.specs.Bursts.{HasSome};
+ghost use Rattle.vdcp_lossy.specs.Brought.{HasSome};
 ghost use Rattle.vdcp_lossy.specs.Carried.{GoesOn, GoesUp, sent_by};
 ghost use Rattle.vdcp_lossy.specs.Doings.{adds_part, goes_on, joined, part_on};
-ghost use Rattle.vdcp_lossy.specs.Printed.{IsTold, TellsFates};
+ghost use Rattle.vdcp_lossy.specs.Printed.{PrintsFate, PrintsFates};
 ghost use Rattle.vdcp_lossy.specs.declared.doing.Doing.{Doing};
 
-use crate::doing::{Burst, Doing, Receipt, Way};
+use crate::doing::{Doing, HeldBurst, Receipt, Way};
 use crate::session::{Brought, CarryEnd, CarryFault, Session};
 use std::io;
 use std::rt::Clock;
@@ -23,9 +23,9 @@ pub fn carry<R: Clock, A: Wire, S: Wire, W: io::Write>(
 ) -> Result<CarryEnd, CarryFault>
     requires automation { A.failures automation.old ≡ 0 }
     requires server { S.failures server.old ≡ 0 }
-    ensures { OnOk result (TellsFates session.old.tally session.new.tally (W.contents out.old) (W.contents out.new)) }
+    ensures { OnOk result (PrintsFates session.old.tally session.new.tally (W.contents out.old) (W.contents out.new)) }
 {
-    let mut command = Burst::new();
+    let mut command = HeldBurst::new();
     'bursts: while session.left() > 0 {
         let brought = session.receive(automation, &mut command)?;
         if let Some(end) = take(session, automation, server, brought, &command, out)? {
@@ -41,7 +41,7 @@ fn take<R: Clock, A: Wire, S: Wire, W: io::Write>(
     automation: &mut A,
     server: &mut S,
     brought: Brought,
-    command: &Burst,
+    command: &HeldBurst,
     out: &mut W,
 ) -> Result<Option<CarryEnd>, CarryFault>
     requires automation { A.failures automation.old ≡ 0 }
@@ -49,7 +49,7 @@ fn take<R: Clock, A: Wire, S: Wire, W: io::Write>(
     requires some { HasSome brought command.now.items }
     ensures settings { session.new.settings ≡ session.old.settings }
     ensures no_more { session.new.left ≤ session.old.left }
-    ensures told { OnOk result (TellsFates session.old.tally session.new.tally (W.contents out.old) (W.contents out.new)) }
+    ensures told { OnOk result (PrintsFates session.old.tally session.new.tally (W.contents out.old) (W.contents out.new)) }
     ensures automation { OnOk result (A.failures automation.new ≡ 0) }
     ensures server { OnOk result (S.failures server.new ≡ 0) }
 {
@@ -63,7 +63,7 @@ fn take<R: Clock, A: Wire, S: Wire, W: io::Write>(
         }
         Brought::Burst(began) => {
             session.count_command();
-            let mut answer = Burst::new();
+            let mut answer = HeldBurst::new();
             let brought = ask(session, server, command, began, &mut answer, out)?;
             answer_with(session, automation, brought, &answer, began, out)
         }
@@ -74,15 +74,15 @@ fn take<R: Clock, A: Wire, S: Wire, W: io::Write>(
 fn ask<R: Clock, S: Wire, W: io::Write>(
     session: &mut Session<R>,
     server: &mut S,
-    command: &Burst,
+    command: &HeldBurst,
     began: Instant,
-    answer: &mut Burst,
+    answer: &mut HeldBurst,
     out: &mut W,
 ) -> Result<Brought, CarryFault>
     requires server { S.failures server.old ≡ 0 }
     requires some { 0 < length command.now.items }
     ensures sent { OnOk result (GoesOn session.old.settings.chances Way.Down command.now.items (S.told server.old) (S.told server.new)) }
-    ensures told { OnOk result ((d : Doing) × IsTold Way.Down d command.now.items session.old.tally session.new.tally
+    ensures told { OnOk result ((d : Doing) × PrintsFate Way.Down d command.now.items session.old.tally session.new.tally
         (W.contents out.old) (W.contents out.new)) }
     ensures settings { session.new.settings ≡ session.old.settings }
     ensures no_more { session.new.left ≤ session.old.left }
@@ -107,9 +107,9 @@ fn ask<R: Clock, S: Wire, W: io::Write>(
 fn ask_twice<R: Clock, S: Wire>(
     session: &mut Session<R>,
     server: &mut S,
-    command: &Burst,
+    command: &HeldBurst,
     began: Instant,
-    answer: &mut Burst,
+    answer: &mut HeldBurst,
 ) -> Result<Brought, CarryFault>
     requires server { S.failures server.old ≡ 0 }
     ensures sent { OnOk result (Keeps (sent_by (S.told server.old)) (sent_by (S.told server.new))
@@ -136,14 +136,14 @@ fn answer_with<R: Clock, A: Wire, W: io::Write>(
     session: &mut Session<R>,
     automation: &mut A,
     brought: Brought,
-    answer: &Burst,
+    answer: &HeldBurst,
     began: Instant,
     out: &mut W,
 ) -> Result<Option<CarryEnd>, CarryFault>
     requires automation { A.failures automation.old ≡ 0 }
     requires some { HasSome brought answer.now.items }
     ensures sent { OnOk result (GoesUp session.old.settings.chances brought answer.now.items (A.told automation.old) (A.told automation.new)) }
-    ensures told { OnOk result (TellsFates session.old.tally session.new.tally (W.contents out.old) (W.contents out.new)) }
+    ensures told { OnOk result (PrintsFates session.old.tally session.new.tally (W.contents out.old) (W.contents out.new)) }
     ensures settings { session.new.settings ≡ session.old.settings }
     ensures left { session.new.left ≡ session.old.left }
     ensures automation { OnOk result (A.failures automation.new ≡ 0) }
@@ -166,7 +166,7 @@ fn answer_with<R: Clock, A: Wire, W: io::Write>(
     }
 }
 
-// Sends what goes on of an answer, and tells that.
+// Sends what goes on of an answer, and prints the line of it.
 fn go_up<R: Clock, A: Wire, W: io::Write>(
     session: &mut Session<R>,
     automation: &mut A,
@@ -176,7 +176,7 @@ fn go_up<R: Clock, A: Wire, W: io::Write>(
 ) -> Result<Option<CarryEnd>, CarryFault>
     requires automation { A.failures automation.old ≡ 0 }
     ensures sent { OnOk result (Appends (sent_by (A.told automation.old)) (sent_by (A.told automation.new)) (joined (goes_on doing.now came.now))) }
-    ensures told { OnOk result (IsTold Way.Up doing.now came.now session.old.tally session.new.tally (W.contents out.old) (W.contents out.new)) }
+    ensures told { OnOk result (PrintsFate Way.Up doing.now came.now session.old.tally session.new.tally (W.contents out.old) (W.contents out.new)) }
     ensures settings { session.new.settings ≡ session.old.settings }
     ensures left { session.new.left ≡ session.old.left }
     ensures automation { OnOk result (A.failures automation.new ≡ 0) }
@@ -205,7 +205,7 @@ fn send_once<W: Wire>(wire: &mut W, doing: &Doing, came: &[u8]) -> Result<(), Ca
     }
 }
 
-// Sends bytes; where the wire fails, the line does.
+// Sends bytes, mapping a wire failure to `CarryFault::Line`.
 fn send<W: Wire>(wire: &mut W, bytes: &[u8]) -> Result<(), CarryFault>
     requires { W.failures wire.old ≡ 0 }
     ensures sent { OnOk result (W.told wire.new ≡ adds_sent bytes.now (W.told wire.old)) }
@@ -217,7 +217,7 @@ fn send<W: Wire>(wire: &mut W, bytes: &[u8]) -> Result<(), CarryFault>
     }
 }
 
-// Drops what waits; where the wire fails, the line does.
+// Drops what waits, mapping a wire failure to `CarryFault::Line`.
 fn drop_waiting<W: Wire>(wire: &mut W) -> Result<(), CarryFault>
     requires { W.failures wire.old ≡ 0 }
     ensures dropped { OnOk result (W.told wire.new ≡ adds_drop (W.told wire.old)) }

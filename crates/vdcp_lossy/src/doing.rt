@@ -10,11 +10,11 @@ use arrayvec::ArrayVec;
 use vdcp_frame::{Message, Step, laws as bursts, read_at};
 use vdcp_world::can_become;
 
-/// So many bytes of a burst are held at most. A longer one is lost.
+/// Most bytes that are held of a burst. A longer one is lost.
 pub const MOST_BYTES: usize = 1024;
 
 /// A burst that is held.
-pub type Burst = ArrayVec<u8, 1024>;
+pub type HeldBurst = ArrayVec<u8, 1024>;
 
 /// The way that a burst goes.
 #[derive(Clone, Copy, Debug, PartialEq, Eq)]
@@ -47,10 +47,10 @@ pub enum Doing {
     Late,
     /// It goes on twice.
     Copied,
-    /// So many of its first bytes go on.
+    /// Only this many of its first bytes go on.
     Cut(usize),
     /// These bytes go on in its place.
-    Damaged(Burst),
+    Damaged(HeldBurst),
     /// This receipt goes on in its place.
     Forged(Receipt),
 }
@@ -183,7 +183,7 @@ fn damaged(dice: &mut Dice, came: &[u8]) -> Doing
     ensures chance { (chances : Chances) → 0 < chances.damage → chances.lose < 100 → HasChance chances result }
     ensures can { (way : Way) → CanBe way came.now result }
 {
-    let mut bytes = Burst::new();
+    let mut bytes = HeldBurst::new();
     bytes.try_extend_from_slice(came).unwrap();
     let changes = 1 + dice.below(3);
     for _ in 0..changes {

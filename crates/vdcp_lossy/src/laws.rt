@@ -8,7 +8,7 @@ ghost use Rattle.vdcp_lossy.specs.declared.doing.Doing.{Doing};
 ghost use Rattle.vdcp_lossy.specs.declared.doing.Way.TheVariants as way;
 ghost use Rattle.vdcp_world.specs.Channel.{Channel, after_events};
 
-/// What is done with a burst is what events of a channel do, those of which the headline speaks. On the way down
+/// Everything `lossy` does is a sequence of channel events, those of which the headline speaks. On the way down
 /// they leave the port that the bursts which go on leave, one after another, and the answer to the last of them;
 /// on the way up they leave the controller that hears what goes on as one burst. A receipt is forged in confirm
 /// mode alone.

@@ -2,7 +2,7 @@ ghost use Rattle.std.specs.Io.KnownBytes.{Appends, Keeps};
 ghost use Rattle.std.specs.Prelude.{◌≡◌, ◌⊎◌, ◌++◌, IfErr, OnOk};
 ghost use Rattle.vdcp_lossy.specs.Lossy.{IsUncarried};
 ghost use Rattle.vdcp_lossy.specs.Printed.{IsPrinted, counts_text, end_line};
-ghost use Rattle.vdcp_tcp.specs.Address.{IsAddress};
+ghost use Rattle.vdcp_wire.specs.Address.{IsAddress};
 ghost use Rattle.vdcp_text.specs.Failure.{failure_line, status_of};
 
 use crate::carry::carry;
@@ -13,9 +13,8 @@ use std::io;
 use std::net::{Net, SocketAddr, SocketAddrV4};
 use std::rt::Clock;
 use std::time::Duration;
-use vdcp_tcp::{accept_one, address_of};
 use vdcp_text::Failure;
-use vdcp_wire::StreamWire;
+use vdcp_wire::{AcceptFault, StreamWire, accept_one, address_of};
 
 /// What a line is run with.
 #[derive(Clone, Copy, Debug, PartialEq, Eq)]
@@ -24,13 +23,12 @@ pub struct LossySettings {
     pub seed: u32,
     /// What is done with how many bursts.
     pub chances: Chances,
-    /// A burst has ended when nothing has come for so many milliseconds, 1 to 60,000. It has to be longer than
-    /// the server's.
+    /// How long a silence ends a burst, in milliseconds, 1 to 60,000. It has to be longer than the server's.
     pub silence: u32,
-    /// Nothing goes on so many milliseconds after its command has come, or later, 1 to 60,000. It has to be
-    /// shorter than the automation's silence.
+    /// How long after its command anything may still go on, in milliseconds, 1 to 60,000. It has to be shorter than the
+    /// automation's silence.
     pub within: u32,
-    /// So many waits are made at most, each for bytes or for a silence.
+    /// The most waits that are made, each for bytes or for a silence.
     pub turns: u32,
 }
 
@@ -40,8 +38,8 @@ pub struct LossySettings {
 /// whether either end has `closed` or the turns are `spent`, and nine counts. Each line is flushed at once.
 ///
 /// The status is 0 where it came to that end. It is 2 where `address` or `server` isn't an address, and 3 where
-/// `address` can't be listened at, nobody takes the connection to the server, or the line failed; `err` is told of
-/// these. The status is 3 where `out` failed, to which nothing more is written.
+/// `address` can't be listened at, nobody takes the connection to the server, or the line failed; `err` gets a line
+/// of these. The status is 3 where `out` failed, to which nothing more is written.
 pub fn do_lossy<R: Net + Clock, W: io::Write, E: io::Write>(
     rt: &R,
     address: &str,
@@ -78,8 +76,12 @@ fn lossy<R: Net + Clock, W: io::Write>(
     ensures whole { OnOk result (IsAddress address.now × IsAddress server.now) }
     ensures uncarried { IfErr result (IsUncarried address.now server.now (W.contents out.old) (W.contents out.new)) }
 {
-    let address = address_of(address)?;
-    let server = address_of(server)?;
+    let Ok(address) = address_of(address) else {
+        return Err(Failure::Address);
+    };
+    let Ok(server) = address_of(server) else {
+        return Err(Failure::Address);
+    };
     carry_between(rt, address, server, settings, out)
 }
 
@@ -95,7 +97,11 @@ fn carry_between<R: Net + Clock, W: io::Write>(
     ensures printed { OnOk result (IsPrinted (W.contents out.old) (W.contents out.new)) }
     ensures failed { IfErr result (λ e. status_of e ≡ 3) }
 {
-    let near = accept_one(rt, address, out)?;
+    let near = match accept_one(rt, address, out) {
+        Ok(stream) => stream,
+        Err(AcceptFault::Bind) => return Err(Failure::Bind),
+        Err(AcceptFault::Writer) => return Err(Failure::Writer),
+    };
     let Ok(far) = rt.connect(SocketAddr::V4(server)) else {
         return Err(Failure::Connect);
     };

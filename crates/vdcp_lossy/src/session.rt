@@ -1,16 +1,16 @@
 ghost use Rattle.std.specs.Io.KnownBytes.{Keeps};
 ghost use Rattle.std.specs.Prelude.{◌≡◌, ◌<◌, ◌≤◌, OnOk, IfOk, IfSome, length};
 ghost use Rattle.vdcp_wire.specs.Wires.{FitsBuffer, adds_came, arrival_of};
-ghost use Rattle.vdcp_lossy.specs.Bursts.{HasSome};
+ghost use Rattle.vdcp_lossy.specs.Brought.{HasSome};
 ghost use Rattle.vdcp_lossy.specs.Carried.{sent_by};
 ghost use Rattle.vdcp_lossy.specs.Doings.{HasChance, IsForged, MayBeDone};
-ghost use Rattle.vdcp_lossy.specs.Printed.{IsTold, no_counts, with_answer, with_command};
+ghost use Rattle.vdcp_lossy.specs.Printed.{PrintsFate, no_counts, with_answer, with_command};
 
 use crate::dice::Dice;
-use crate::doing::{Burst, Doing, Way};
+use crate::doing::{Doing, HeldBurst, Way};
 use crate::lossy::LossySettings;
 use crate::tally::Tally;
-use crate::text::write_told;
+use crate::text::write_burst_line;
 use std::io;
 use std::rt::Clock;
 use std::time::Instant;
@@ -88,7 +88,7 @@ impl<'a, R: Clock> Session<'a, R> {
     pub fn receive<W: Wire>(
         &mut self,
         wire: &mut W,
-        burst: &mut Burst,
+        burst: &mut HeldBurst,
     ) -> Result<Brought, CarryFault>
         requires { W.failures wire.old ≡ 0 }
         ensures fewer { 0 < self.old.left → self.new.left < self.old.left }
@@ -151,7 +151,7 @@ impl<'a, R: Clock> Session<'a, R> {
     }
 
     /// What is done with a burst that came on this way.
-    pub fn doing(&self, way: Way, burst: &Burst, began: Instant) -> Result<Doing, CarryFault>
+    pub fn doing(&self, way: Way, burst: &HeldBurst, began: Instant) -> Result<Doing, CarryFault>
         requires { 0 < length burst.now.items }
         ensures { IfOk result (MayBeDone self.now.settings.chances way burst.now.items) }
     {
@@ -183,7 +183,7 @@ impl<'a, R: Clock> Session<'a, R> {
         }
     }
 
-    /// Counts what was done with a burst, and tells it in a line.
+    /// Counts what was done with a burst, and prints the line of it.
     pub fn tell<W: io::Write>(
         &mut self,
         way: Way,
@@ -193,18 +193,18 @@ impl<'a, R: Clock> Session<'a, R> {
     ) -> Result<(), CarryFault>
         ensures left { self.new.left ≡ self.old.left }
         ensures settings { self.new.settings ≡ self.old.settings }
-        ensures told { OnOk result (IsTold way doing.now came.now self.old.tally self.new.tally (W.contents out.old) (W.contents out.new)) }
+        ensures told { OnOk result (PrintsFate way doing.now came.now self.old.tally self.new.tally (W.contents out.old) (W.contents out.new)) }
     {
         let number = self.tally.commands;
         self.tally.count(doing);
-        match write_told(number, way, doing, came, out) {
+        match write_burst_line(number, way, doing, came, out) {
             Ok(()) => Ok(()),
             Err(_) => Err(CarryFault::Writer),
         }
     }
 }
 
-// One listen of a wire; where it fails, the line does.
+// Listens once, mapping a wire failure to `CarryFault::Line`.
 fn listen<W: Wire>(wire: &mut W, buffer: &mut [u8; PIECE]) -> Result<Came, CarryFault>
     requires { W.failures wire.old ≡ 0 }
     ensures fits { IfOk result FitsBuffer }

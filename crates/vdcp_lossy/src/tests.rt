@@ -9,10 +9,11 @@ use crate::tally::Tally;
 use crate::text::write_reading;
 use std::alloc::{AllocError, Global};
 use std::cell::Cell;
-use std::io::{self, Write};
+use std::io;
 use std::rt::Clock;
 use std::test::Fail;
 use std::time::Duration;
+use vdcp_testing::{FailingWriter, Fails};
 use vdcp_wire::{Entry, ScriptWire};
 
 const OPEN: &[u8] = &[0x02, 0x04, 0x30, 0x01, 0x01, 0x01, 0xCD];
@@ -50,34 +51,6 @@ impl Clock for Ticking {
 
     fn since_1970(&self) -> io::Result<Duration> {
         self.monotonic()
-    }
-}
-
-/// A writer that answers so many calls, of `write` and `flush` together, and fails each later one.
-#[derive(Drop)]
-struct Failing {
-    left: usize,
-    calls: usize,
-}
-
-impl Failing {
-    fn call(&mut self) -> io::Result<()> {
-        self.calls = self.calls.saturating_add(1);
-        if self.calls > self.left {
-            return Err(io::Error::from(io::ErrorKind::BrokenPipe));
-        }
-        Ok(())
-    }
-}
-
-impl Write for Failing {
-    fn write(&mut self, bytes: &[u8]) -> io::Result<usize> {
-        self.call()?;
-        Ok(bytes.len())
-    }
-
-    fn flush(&mut self) -> io::Result<()> {
-        self.call()
     }
 }
 
@@ -311,7 +284,7 @@ fn a_writer_that_fails_ends_the_line(rt: HostRuntime) -> Result<(), Fail> {
     for left in 0..3 {
         let mut automation = wire_of(alloc, &[PLAY, PLAY])?;
         let mut server = wire_of(alloc, &[ACK, ACK])?;
-        let mut out = Failing { left, calls: 0 };
+        let mut out = FailingWriter::new(alloc, Fails::From(left));
         let mut session = Session::new(&rt, settings(NONE));
         let end = carry(&mut session, &mut automation, &mut server, &mut out);
         assert_eq!(rt; end, Err(CarryFault::Writer));

@@ -1,6 +1,6 @@
 ghost use Rattle.std.specs.Io.KnownBytes.{Appends};
 ghost use Rattle.std.specs.Prelude.{◌++◌, OnOk};
-ghost use Rattle.vdcp_lossy.specs.Texts.{GainsParts, reading_line, told_line};
+ghost use Rattle.vdcp_lossy.specs.Texts.{GainsParts, reading_line, burst_line};
 ghost use Rattle.vdcp_text.specs.End.{end_of};
 ghost use Rattle.vdcp_text.specs.Text.{end_text};
 
@@ -10,14 +10,14 @@ use vdcp_frame::{Step, laws as bursts, read_at};
 use vdcp_text::{End, MeaningText, MessageText};
 
 /// Writes the line of what was done with a burst that came this way, in the exchange with this number, and flushes it.
-pub fn write_told<W: io::Write>(
+pub fn write_burst_line<W: io::Write>(
     number: u32,
     way: Way,
     doing: &Doing,
     came: &[u8],
     out: &mut W,
 ) -> io::Result<()>
-    ensures { OnOk result (Appends (W.contents out.old) (W.contents out.new) (told_line number way doing.now came.now)) }
+    ensures { OnOk result (Appends (W.contents out.old) (W.contents out.new) (burst_line number way doing.now came.now)) }
 {
     write!(out, "{number} {way} {doing} ")?;
     write_reading(came, out)?;
@@ -57,7 +57,7 @@ fn write_parts<W: io::Write>(burst: &[u8], out: &mut W) -> io::Result<()>
     }
 }
 
-// Writes the end of a reading behind what stands between.
+// Writes the end of a reading, after what stands between.
 fn write_end<W: io::Write>(between: &str, end: End, out: &mut W) -> io::Result<()>
     ensures { OnOk result (Appends (W.contents out.old) (W.contents out.new) (between.now ++ end_text (end_of end))) }
 {

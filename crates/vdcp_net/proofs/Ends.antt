@@ -1,25 +1,57 @@
--- What came while the line ended, by what the driver's run answered.
-use Rattle.std.proofs.Common.{◌≡◌, ◌≢◌, ℕ, List, refl, ◌∙◌}
-use Rattle.std.specs.Prelude.{IfOk, Option, Result, Ok, Err}
+-- How a line ended, by what the driver's run or turns answered.
+use Rattle.std.proofs.Common.{◌≡◌, ◌⊎◌, List, ℕ, inl, inr, refl, sym, ◌∙◌, subst}
+use Rattle.std.specs.Io.KnownBytes.{Keeps}
+use Rattle.std.specs.Prelude.{◌↔◌, IfErr, IfOk, IsSome, OnOk, Option, Result, Ok, Err}
 use Rattle.vdcp_auto.specs.declared.outcome.Outcome.{Outcome}
-use Rattle.vdcp_drive.specs.Lines.{RunsTo}
-use Rattle.vdcp_wire.specs.Wires.{Arrival, IfTold, Told}
 use Rattle.vdcp_drive.specs.declared.line.DriveFault.{DriveFault}
 use Rattle.vdcp_drive.specs.declared.line.Ran.{Ran}
 use Rattle.vdcp_drive.specs.declared.line.Ran.TheVariants as ran
-use Rattle.vdcp_net.specs.Run.{EndsTo, line_end_of}
+use Rattle.vdcp_net.specs.Run.{line_end_of}
+use Rattle.vdcp_net.specs.Serve.{EndsAs, PrintsEnd}
 use Rattle.vdcp_net.specs.declared.run.LineEnd.{LineEnd}
 use Rattle.vdcp_net.specs.declared.run.LineEnd.TheVariants as line_end
+use Rattle.vdcp_text.specs.declared.failure.Failure.{Failure}
+use Rattle.vdcp_text.specs.declared.failure.Failure.TheVariants.{LineFailed, Writer}
 
-ends : (answer : Result Ran DriveFault) (told : Option Told) (outcome : Option Outcome) (listens : ℕ) (old : List Arrival)
-    → line_end_of answer ≢ line_end.Failed → IfOk answer (λ a. IfTold told (λ u. RunsTo a outcome listens old u.came))
-    → IfTold told (λ u. EndsTo (line_end_of answer) listens old u.came)
-ends (Ok ran.Ended) told outcome listens old works (u, told_is, (ended, few)) = (u, told_is, few)
-ends (Ok ran.Closed) told outcome listens old works (u, told_is, (goes_on, closed, few)) = (u, told_is, (closed, few))
-ends (Ok ran.Spent) told outcome listens old works (u, told_is, (goes_on, all)) = (u, told_is, all)
-ends (Err fault) told outcome listens old works h = absurd (works refl)
+-- the run answered Ended exactly where the controller has ended
+abbrev EndedWith : Result Ran DriveFault → Option Outcome → Type 0
+EndedWith answer outcome = IfOk answer (λ a. (a ≡ ran.Ended) ↔ IsSome outcome)
 
-pub ends_so : (end : LineEnd) (answer : Result Ran DriveFault) (told : Option Told) (outcome : Option Outcome) (listens : ℕ) (old : List Arrival)
-    → end ≡ line_end_of answer → end ≢ line_end.Failed → IfOk answer (λ a. IfTold told (λ u. RunsTo a outcome listens old u.came))
-    → IfTold told (λ u. EndsTo end listens old u.came)
-ends_so end answer told outcome listens old is works h = rw is (ends answer told outcome listens old (λ failed. works (is ∙ failed)) h)
+ends_unneeded : (answer : Result Ran DriveFault) (outcome : Option Outcome) → EndedWith answer outcome → line_end_of answer ≡ line_end.Unneeded
+    → IsSome outcome
+ends_unneeded (Ok ran.Ended) outcome h is = h.0 refl
+ends_unneeded (Ok ran.Closed) outcome h is = cc
+ends_unneeded (Ok ran.Spent) outcome h is = cc
+ends_unneeded (Err fault) outcome h is = cc
+
+ended_needs_none : (answer : Result Ran DriveFault) (outcome : Option Outcome) → EndedWith answer outcome → IsSome outcome
+    → (line_end_of answer ≡ line_end.Unneeded) ⊎ (line_end_of answer ≡ line_end.Failed)
+ended_needs_none (Ok ran.Ended) outcome h ended = inl refl
+ended_needs_none (Ok ran.Closed) outcome h ended = let is = h.1 ended in cc
+ended_needs_none (Ok ran.Spent) outcome h ended = let is = h.1 ended in cc
+ended_needs_none (Err fault) outcome h ended = inr refl
+
+-- a line that isn't needed is one whose controller has ended
+pub unneeded_ended : (end : LineEnd) (answer : Result Ran DriveFault) (outcome : Option Outcome) → end ≡ line_end_of answer → EndedWith answer outcome
+    → end ≡ line_end.Unneeded → IsSome outcome
+unneeded_ended end answer outcome is h unneeded = ends_unneeded answer outcome h (sym is ∙ unneeded)
+
+pub ended_unneeded : (end : LineEnd) (answer : Result Ran DriveFault) (outcome : Option Outcome) → end ≡ line_end_of answer → EndedWith answer outcome
+    → IsSome outcome → (end ≡ line_end.Unneeded) ⊎ (end ≡ line_end.Failed)
+ended_unneeded end answer outcome is h ended =
+    subst (λ (e : LineEnd). (e ≡ line_end.Unneeded) ⊎ (e ≡ line_end.Failed)) (sym is) (ended_needs_none answer outcome h ended)
+
+-- what is printed of a server's turns
+pub prints_end : {A : Type 0} (answer : Result Ran DriveFault) (result : Result A Failure) (out out' : Option (List ℕ)) → EndsAs answer result out out'
+    → OnOk result ((ran : Ran) × PrintsEnd ran out out')
+prints_end (Ok ran) (Ok done) out out' h = (ran, h)
+prints_end (Ok ran) (Err failure) out out' h = tt
+prints_end (Err fault) (Ok done) out out' h = absurd h
+prints_end (Err fault) (Err failure) out out' h = tt
+
+pub fails_to_end : {A : Type 0} (answer : Result Ran DriveFault) (result : Result A Failure) (out out' : Option (List ℕ)) → EndsAs answer result out out'
+    → IfErr result (λ e. (e ≡ Writer) ⊎ ((e ≡ LineFailed) × Keeps out out'))
+fails_to_end (Ok ran) (Ok done) out out' h = tt
+fails_to_end (Ok ran) (Err failure) out out' h = inl h
+fails_to_end (Err fault) (Ok done) out out' h = absurd h
+fails_to_end (Err fault) (Err failure) out out' h = inr h

@@ -1,4 +1,4 @@
-mod Ends
+pub mod Ends
 mod Reached
 mod Unplayed
 mod Unserved

@@ -1,34 +1,44 @@
 -- The end of a run, by the state that its controller reached.
-use Rattle.std.proofs.Common.{◌≡◌, ◌⊎◌, ◌≤◌, ◌++◌, List, [], subst}
-use Rattle.std.specs.Prelude.{IsSome}
+use Rattle.std.proofs.Common.{ℕ, ◌≡◌, ◌≤◌, ◌++◌, List, [], subst, sym}
+use Rattle.std.specs.Prelude.{◌↔◌, IfOk, IsSome, Option, Result}
 use Rattle.vdcp_auto.specs.Course.{Reached, begun}
 use Rattle.vdcp_auto.specs.Plan.{View, plan_of}
 use Rattle.vdcp_auto.specs.Turn.{new_controller, outcome_of}
 use Rattle.vdcp_auto.specs.declared.exchange.Exchange.{Exchange}
-use Rattle.vdcp_auto.specs.declared.phase.State.{State}
+use Rattle.vdcp_auto.specs.State.{State}
+use Rattle.vdcp_auto.specs.declared.outcome.Outcome.{Outcome}
 use Rattle.vdcp_drive.specs.Driven.{GoesOn}
+use Rattle.vdcp_drive.specs.Hearing.{Driving}
+use Rattle.vdcp_drive.specs.RunLeaves.{RunLeaves}
+use Rattle.vdcp_drive.specs.declared.line.DriveFault.{DriveFault}
+use Rattle.vdcp_drive.specs.declared.line.Ran.{Ran}
+use Rattle.vdcp_drive.specs.declared.line.Ran.TheVariants as ran
+use Rattle.vdcp_wire.specs.Wires.{Told}
 use Rattle.vdcp_files.specs.Mode.{mode_of}
-use Rattle.vdcp_net.specs.Run.{IsEndOf, plan_for}
-use Rattle.vdcp_net.specs.declared.run.LineEnd.TheVariants as line_end
+use Rattle.vdcp_net.proofs.Ends.{ended_unneeded, unneeded_ended}
+use Rattle.vdcp_net.specs.Run.{IsEndOf, line_end_of, plan_for}
 use Rattle.vdcp_net.specs.declared.run.RunEnd.{RunEnd}
 use Rattle.vdcp_net.specs.declared.run.RunSettings.{RunSettings}
 use Rattle.vdcp_value.specs.declared.part.Item.{Item}
 
--- the driver was made with this controller
-pub is_end_so : {S : Type 0} (items : S → List Item) (controller driven : View S) (after : State) (end : RunEnd) (log : List Exchange)
-    → driven ≡ controller → GoesOn (plan_of items driven) driven.state after
-    → end.outcome ≡ outcome_of after.stage → end.reported ≡ after.settled → (end.line ≡ line_end.Unneeded → IsSome end.outcome)
-    → (IsSome end.outcome → (end.line ≡ line_end.Unneeded) ⊎ (end.line ≡ line_end.Failed))
+-- a driver that was made with this controller has run, and the end is that of its controller
+pub is_end_so : {S W : Type 0} (items : S → List Item) (told : W → Option Told) (failures : W → ℕ) (listens : ℕ) (controller : View S)
+    (old new : Driving S W) (answer : Result Ran DriveFault) (end : RunEnd) (log : List Exchange)
+    → old.controller ≡ controller → RunLeaves items told failures listens old new answer → end.line ≡ line_end_of answer
+    → end.outcome ≡ outcome_of new.controller.state.stage → end.reported ≡ new.controller.state.settled
     → Reached (plan_of items controller) controller.state log → IsEndOf (plan_of items controller) end
-is_end_so {S} items controller driven after end log same goes outcome reported unneeded ended reached =
-    let further = subst (λ (v : View S). GoesOn (plan_of items v) v.state after) same goes log reached in record {
+is_end_so {S} items told failures listens controller old new answer end log same left line outcome reported reached =
+    let after : State = new.controller.state in
+    let further = subst (λ (v : View S). GoesOn (plan_of items v) v.state after) same left.reached log reached in
+    let ends = subst (λ (o : Option Outcome). IfOk answer (λ a. (a ≡ ran.Ended) ↔ IsSome o)) (sym outcome) left.ended in
+    record {
       log = log ++ further.0;
       state = after;
       reached = further.1;
       outcome_is = outcome;
       reported_is = reported;
-      unneeded = unneeded;
-      ended = ended;
+      unneeded = unneeded_ended end.line answer end.outcome line ends;
+      ended = ended_unneeded end.line answer end.outcome line ends;
     }
 
 -- the controller is new

@@ -9,7 +9,7 @@ use Rattle.vdcp_text.specs.Failure.{failure_line, status_of}
 use Rattle.vdcp_text.specs.declared.failure.Failure.{Failure}
 use Rattle.vdcp_text.specs.declared.failure.Failure.TheVariants.{Address}
 use Rattle.vdcp_files.specs.Files.{File, file, file_failure}
-use Rattle.vdcp_tcp.specs.Address.{IsAddress}
+use Rattle.vdcp_wire.specs.Address.{IsAddress}
 use Rattle.vdcp_net.specs.Run.{IsUnplayed, no_address, no_list, not_connected}
 
 list_status : (name : Bor (List ℕ)) (fault : ListFault) → status_of (file_failure name fault) ≢ 2

@@ -3,12 +3,12 @@ use Rattle.std.proofs.Common.{◌≡◌, refl, ℕ, ◌<◌, List, sym, ap, subs
 use Rattle.std.specs.Io.KnownBytes.{Appends, Keeps}
 use Rattle.std.specs.Prelude.{IfErr, OnOk, Option, None, Some, Result, Ok, Err}
 use Rattle.vdcp_drive.specs.declared.line.Ran.{Ran}
-use Rattle.vdcp_files.specs.Files.{File, file, file_failure}
+use Rattle.vdcp_files.specs.Files.{File, IsWholeCatalogue, file, file_failure}
 use Rattle.vdcp_list.specs.declared.faults.ListFault.{ListFault}
 use Rattle.vdcp_list.specs.declared.faults.ListFault.TheVariants as lists
-use Rattle.vdcp_tcp.specs.Address.{IsAddress}
-use Rattle.vdcp_net.specs.Serve.{IsServedThere, IsUnserved, IsWholeCatalogue, PrintsEnd}
-use Rattle.vdcp_tcp.specs.Listening.{PrintsListening}
+use Rattle.vdcp_wire.specs.Address.{IsAddress}
+use Rattle.vdcp_net.specs.Serve.{IsServedThere, IsUnserved, PrintsEnd}
+use Rattle.vdcp_wire.specs.Listening.{PrintsListening}
 use Rattle.vdcp_net.specs.Serve.{no_address, no_catalogue, not_bound, line_failed, writer_failed}
 use Rattle.vdcp_text.specs.Failure.{failure_line, status_of}
 use Rattle.vdcp_text.specs.declared.failure.Failure.{Failure}

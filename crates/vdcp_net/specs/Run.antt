@@ -1,7 +1,7 @@
 -- How a run ends: what it tells then, and its exit status.
 use Rattle.std.specs.Borrow.{Bor}
 use Rattle.std.specs.Io.KnownBytes.{Appends, Keeps}
-use Rattle.std.specs.Prelude.{ℕ, ◌≡◌, ◌⊎◌, List, [], ◌++◌, codes, decimal, Option, None, Some, IsSome, Result, Ok, Err, IsTrue}
+use Rattle.std.specs.Prelude.{ℕ, ◌≡◌, ◌⊎◌, List, [], ◌++◌, codes, decimal, Option, None, Some, IsSome, Result, Ok, Err}
 use Rattle.vdcp_value.specs.declared.part.Item.{Item}
 use Rattle.vdcp_value.specs.declared.rate.Rate.{Rate}
 use Rattle.vdcp_auto.specs.Course.{Reached}
@@ -10,22 +10,19 @@ use Rattle.vdcp_auto.specs.Turn.{outcome_of}
 use Rattle.vdcp_auto.specs.declared.exchange.Exchange.{Exchange}
 use Rattle.vdcp_auto.specs.declared.outcome.Outcome.{Outcome}
 use Rattle.vdcp_auto.specs.declared.outcome.Outcome.TheVariants.{Done, Stopped, Lost, Denied, Missing, Refused, Foreign, Strange}
-use Rattle.vdcp_auto.specs.declared.phase.State.{State}
+use Rattle.vdcp_auto.specs.State.{State}
 use Rattle.vdcp_text.specs.Failure.{failure_line, status_of}
 use Rattle.vdcp_text.specs.Text.{line}
 use Rattle.vdcp_text.specs.declared.failure.Failure.{Failure}
 use Rattle.vdcp_text.specs.declared.failure.Failure.TheVariants as failures
-use Rattle.vdcp_files.specs.Check.{RefusesList}
-use Rattle.vdcp_files.specs.Files.{File, bytes_of}
+use Rattle.vdcp_files.specs.Files.{File, IsWholeList, RefusesList, bytes_of}
 use Rattle.vdcp_files.specs.Mode.{mode_of}
 use Rattle.vdcp_list.specs.Playlists.{IsListOf}
-use Rattle.vdcp_files.specs.Outcome.{outcome_text}
-use Rattle.vdcp_drive.specs.Lines.{AllListened, AtMostListened}
-use Rattle.vdcp_wire.specs.Wires.{Arrival, has_closed}
+use Rattle.vdcp_text.specs.Outcome.{outcome_text}
 use Rattle.vdcp_drive.specs.declared.line.DriveFault.{DriveFault}
 use Rattle.vdcp_drive.specs.declared.line.Ran.{Ran}
 use Rattle.vdcp_drive.specs.declared.line.Ran.TheVariants as ran
-use Rattle.vdcp_tcp.specs.Address.{IsAddress}
+use Rattle.vdcp_wire.specs.Address.{IsAddress}
 use Rattle.vdcp_net.specs.declared.run.LineEnd.{LineEnd}
 use Rattle.vdcp_net.specs.declared.run.LineEnd.TheVariants as line_end
 use Rattle.vdcp_net.specs.declared.run.RunEnd.{RunEnd}
@@ -33,7 +30,12 @@ use Rattle.vdcp_net.specs.declared.run.RunSettings.{RunSettings}
 
 -- what the controller is made with for these items
 abbrev pub plan_for : RunSettings → List Item → Plan
-plan_for settings items = record { mode = mode_of settings.confirm; list = items; port = settings.port; limit = settings.limit }
+plan_for settings items = record {
+  mode = mode_of settings.confirm;
+  list = items;
+  port = settings.port;
+  limit = settings.limit;
+}
 
 -- ---- how the line ended
 
@@ -44,14 +46,7 @@ line_end_of (Ok ran.Closed) = line_end.Closed
 line_end_of (Ok ran.Spent) = line_end.Spent
 line_end_of (Err fault) = line_end.Failed
 
--- what came while it ended so, of so many listens at most
-abbrev pub EndsTo : LineEnd → ℕ → List Arrival → List Arrival → Type 0
-EndsTo line_end.Unneeded listens old new = AtMostListened listens old new
-EndsTo line_end.Closed listens old new = IsTrue (has_closed new) × AtMostListened listens old new
-EndsTo line_end.Spent listens old new = AllListened listens old new
-EndsTo line_end.Failed listens old new = Unit {0}
-
--- as what it is told
+-- the failure to report, if the line failed it
 abbrev pub line_failure : LineEnd → Option Failure
 line_failure line_end.Unneeded = None
 line_failure line_end.Closed = Some failures.LineClosed
@@ -62,7 +57,8 @@ line_failure line_end.Failed = Some failures.LineFailed
 
 -- why a file of this name hasn't got the as-run list, if it hasn't: it can't be made or written, or memory was refused
 abbrev pub IsUnwritten : Bor (List ℕ) → Failure → Type 0
-IsUnwritten name failure = (failure ≡ failures.Open name) ⊎ ((failure ≡ failures.Write name) ⊎ (failure ≡ failures.Memory))
+IsUnwritten name failure = (failure ≡ failures.Open name)
+    ⊎ ((failure ≡ failures.Write name) ⊎ (failure ≡ failures.Memory))
 
 -- where no file is named nothing is written, and that is no failure
 abbrev pub MayBeUnwritten : Option (Bor (List ℕ)) → Option Failure → Type 0
@@ -70,7 +66,7 @@ MayBeUnwritten name None = Unit {0}
 MayBeUnwritten None (Some failure) = ⊥
 MayBeUnwritten (Some name) (Some failure) = IsUnwritten name failure
 
--- ---- what is told
+-- ---- what is printed and reported
 
 -- the lines of how many events are reported, and how the controller ended
 abbrev pub end_text : RunEnd → List ℕ
@@ -107,10 +103,6 @@ run_status end = status_unless end.unwritten (status_unless (line_failure end.li
 
 -- ---- the whole
 
--- the file is a playlist
-abbrev pub IsWholeList : Rate → File → Type 0
-IsWholeList rate list = (items : List Item) × IsListOf rate (bytes_of list) items
-
 -- this is the end of a controller that was made with this plan: some calls led it to this state, and its log has the exchanges that
 -- they ended. The outcome and the count of reported events are the state's. The line was unneeded only where the controller has
 -- ended, and where it has, the line was unneeded or it failed
@@ -141,7 +133,8 @@ pub record IsRun (settings : RunSettings) (list : File) (out out' : Option (List
 pub data IsUnplayed (rate : Rate) (text : List ℕ) (list : File) (failure : Failure) : Type 0 where
   no_address : ¬ IsAddress text → failure ≡ failures.Address → IsUnplayed rate text list failure
   no_list : IsAddress text → RefusesList rate list failure → IsUnplayed rate text list failure
-  not_connected : IsAddress text → IsWholeList rate list → failure ≡ failures.Connect → IsUnplayed rate text list failure
+  not_connected : IsAddress text → IsWholeList rate list → failure ≡ failures.Connect →
+      IsUnplayed rate text list failure
 
 -- a row of the list is refused: one writer gained the line that tells it, and the other nothing
 pub record IsListRefused (rate : Rate) (list : File) (out out' err err' : Option (List ℕ)) : Type 0 where

@@ -37,7 +37,7 @@ pub fn two_played() -> [&'static [u8]; 14] {
     ]
 }
 
-/// A wire on which each of these answers comes, and a silence behind it. No bytes are a silence alone.
+/// A wire on which each of these answers comes, with a silence after it. No bytes are a silence alone.
 pub fn wire_of(alloc: Global, answers: &[&[u8]]) -> Result<ScriptWire<Global>, AllocError>
     ensures { IfOk result (λ wire. wire.failed ≡ false) }
 {

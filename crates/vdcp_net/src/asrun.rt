@@ -42,8 +42,10 @@ fn write_reported<S: Source, W: io::Write>(
 ) -> Result<(), WriteFault>
     ensures ok { OnOk result (Appends (W.contents writer.old) (W.contents writer.new)
         (asrun_text rate (S.items controller.now.source) controller.now.state.settled)) }
-    ensures kept { IfErr result (λ fault. fault ≢ WriteFault.Device → Keeps (W.contents writer.old) (W.contents writer.new)) }
-    ensures beginning { IfErr result (λ fault. fault ≡ WriteFault.Device → AppendsBeginning (W.contents writer.old) (W.contents writer.new)
+    ensures kept { IfErr result (λ fault. fault ≢ WriteFault.Device →
+        Keeps (W.contents writer.old) (W.contents writer.new)) }
+    ensures beginning { IfErr result (λ fault. fault ≡ WriteFault.Device →
+        AppendsBeginning (W.contents writer.old) (W.contents writer.new)
         (asrun_text rate (S.items controller.now.source) controller.now.state.settled)) }
 {
     write_asrun(

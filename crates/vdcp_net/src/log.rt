@@ -3,9 +3,8 @@ ghost use Rattle.std.specs.Prelude.{◌≡◌, ◌<◌, ◌≤◌, length};
 use std::cell::Cell;
 use std::{fmt, io};
 use vdcp_drive::WatchAir;
-use vdcp_files::ItemText;
 use vdcp_frame::{Ended, Got, Reader};
-use vdcp_text::{End, MeaningText, MessageText};
+use vdcp_text::{End, ItemText, MeaningText, MessageText};
 use vdcp_value::{Item, Rate};
 use vdcp_wire::{Came, PIECE, Wire, WireFault};
 
@@ -149,7 +148,7 @@ fn tell_piece<L: io::Write + Drop>(
     }
 }
 
-// Takes bytes up to the end of one message or one fault, or all of them. Answers how many.
+// Feeds the reader once, logs what that gives, and answers how many bytes it used up.
 fn tell_some<L: io::Write + Drop>(
     log: &Log<L>,
     direction: Direction,

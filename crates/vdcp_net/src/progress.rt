@@ -8,7 +8,7 @@ use vdcp_drive::Watch;
 use vdcp_value::ClipId;
 use vdcp_words::Command;
 
-/// Where nothing changed, the line is drawn again no sooner than after so many milliseconds.
+/// Where nothing changed, the line is drawn again no sooner than after this time, in milliseconds.
 const REDRAWN_AFTER: u128 = 100;
 
 /// The columns of a line at most, so that no terminal breaks it in two.

@@ -1,15 +1,14 @@
 ghost use Rattle.std.specs.Io.KnownBytes.{Appends, Keeps};
-ghost use Rattle.std.specs.Prelude.{◌≡◌, ◌≢◌, ◌⊎◌, ◌<◌, ◌≤◌, List, IfErr, IfOk, IsSome, OnErr, OnOk, Some};
+ghost use Rattle.std.specs.Prelude.{◌≡◌, ◌⊎◌, ◌≤◌, List, IfErr, IfOk, OnErr, OnOk, Result};
 ghost use Rattle.vdcp_auto.specs.Course.{Reached};
 ghost use Rattle.vdcp_auto.specs.Plan.{plan_of};
 ghost use Rattle.vdcp_auto.specs.Turn as turns;
 ghost use Rattle.vdcp_auto.specs.declared.exchange.Exchange.{Exchange};
-ghost use Rattle.vdcp_drive.specs.Driven.{GoesOn, HasRun, HasRunBroken, IsNew, IsPartlyRun};
-ghost use Rattle.vdcp_wire.specs.Wires.{IfTold, Told};
-ghost use Rattle.vdcp_files.specs.Files.{file};
+ghost use Rattle.vdcp_drive.specs.RunLeaves.{RunLeaves};
+ghost use Rattle.vdcp_files.specs.Files.{IsWholeList, file};
 ghost use Rattle.vdcp_files.specs.Mode.{mode_of};
-ghost use Rattle.vdcp_tcp.specs.Address.{IsAddress};
-ghost use Rattle.vdcp_net.specs.Run.{EndsTo, IsEndOf, IsListRefused, IsPlayed, IsRun, IsUnplayed, IsWholeList, MayBeUnwritten};
+ghost use Rattle.vdcp_wire.specs.Address.{IsAddress};
+ghost use Rattle.vdcp_net.specs.Run.{IsEndOf, IsListRefused, IsPlayed, IsRun, IsUnplayed, MayBeUnwritten};
 ghost use Rattle.vdcp_net.specs.Run.{end_text, fault_text, faults_text, line_end_of, line_failure, run_status};
 ghost use Rattle.vdcp_text.specs.Failure.{failure_line};
 
@@ -22,11 +21,10 @@ use std::rt::{Clock, Files};
 use std::time::Duration;
 use vdcp_auto::{Controller, Outcome, Source};
 use vdcp_drive::{AutoDriver, DriveFault, Ran, Unwatched, Watch};
-use vdcp_files::{Input, OutcomeText};
-use vdcp_tcp::address_of;
-use vdcp_text::Failure;
+use vdcp_files::NamedFile;
+use vdcp_text::{Failure, OutcomeText};
 use vdcp_value::Rate;
-use vdcp_wire::{StreamWire, Wire};
+use vdcp_wire::{StreamWire, Wire, address_of};
 
 /// What a list is played with.
 #[derive(Clone, Copy, Debug, PartialEq, Eq)]
@@ -35,16 +33,16 @@ pub struct RunSettings<'a> {
     pub unit: u8,
     /// The port's number.
     pub port: u8,
-    /// The controller gives up after so many unanswered exchanges in a row, 1 to 1,000.
+    /// How many unanswered exchanges in a row make the controller give up, 1 to 1,000.
     pub limit: u32,
     /// The controller is in confirm mode.
     pub confirm: bool,
     /// The frame rate of time codes.
     pub rate: Rate,
-    /// Nothing comes in time where nothing came for so many milliseconds, 1 to 60,000. It has to be
+    /// How long the line has to be silent for an answer to be missing, in milliseconds, 1 to 60,000. It has to be
     /// longer than the server waits for the end of a command.
     pub silence: u32,
-    /// At most so many listens are made.
+    /// The most listens that are made.
     pub listens: u32,
     /// The file that is made for the as-run list, if one is wanted.
     pub asrun: Option<&'a str>,
@@ -87,7 +85,7 @@ impl LineEnd {
         }
     }
 
-    // As what it is told, where the controller hasn't ended.
+    // The failure to report if the controller hasn't ended.
     fn failure(self) -> Option<Failure<'static>>
         ensures { result ≡ line_failure self }
     {
@@ -196,7 +194,7 @@ pub fn do_run<
 >(
     rt: &R,
     address: &str,
-    list: Input<'_, L>,
+    list: NamedFile<'_, L>,
     settings: RunSettings<'_>,
     showing: Showing<V>,
     out: &mut W,
@@ -205,17 +203,21 @@ pub fn do_run<
     requires unit { settings.unit ≤ 15 }
     requires some { 1 ≤ settings.limit }
     requires few { settings.limit ≤ 1000 }
-    ensures run { result ≡ 0 → IsRun settings.entry (file list.entry.name (L.remaining list.entry.reader)) (W.contents out.old) (W.contents out.new) 0 }
+    ensures run { result ≡ 0 → IsRun settings.entry (file list.entry.name (L.remaining list.entry.reader))
+        (W.contents out.old) (W.contents out.new) 0 }
     ensures untold { result ≡ 0 → Keeps (E.contents err.old) (E.contents err.new) }
     // The status is 1 for how the controller ended, and for a row that is refused.
     ensures others { result ≡ 1 →
-        (IsRun settings.entry (file list.entry.name (L.remaining list.entry.reader)) (W.contents out.old) (W.contents out.new) 1
+        (IsRun settings.entry (file list.entry.name (L.remaining list.entry.reader)) (W.contents out.old)
+        (W.contents out.new) 1
         × Keeps (E.contents err.old) (E.contents err.new))
         ⊎ IsListRefused settings.entry.rate (file list.entry.name (L.remaining list.entry.reader))
         (W.contents out.old) (W.contents out.new) (E.contents err.old) (E.contents err.new) }
     // The status is 2 for an address that is none, unless this can't be told.
-    ensures no_address { result ≡ 2 → ¬ IsAddress address.now × Appends (E.contents err.old) (E.contents err.new) (failure_line Failure.Address) }
-    ensures address { ¬ IsAddress address.now → ((result ≡ 2) ⊎ (result ≡ 3)) × Keeps (W.contents out.old) (W.contents out.new) }
+    ensures no_address { result ≡ 2 → ¬ IsAddress address.now
+        × Appends (E.contents err.old) (E.contents err.new) (failure_line Failure.Address) }
+    ensures address { ¬ IsAddress address.now → ((result ≡ 2) ⊎ (result ≡ 3))
+        × Keeps (W.contents out.old) (W.contents out.new) }
     ensures silent { Keeps (W.contents out.old) (W.contents out.new)
         ⊎ IsWholeList settings.entry.rate (file list.entry.name (L.remaining list.entry.reader)) }
     ensures statuses { result ≤ 3 }
@@ -230,7 +232,7 @@ pub fn do_run<
 fn run_list<'a, R: Net + Files + Clock + AllocGlobal, L: io::Read + Drop, V: io::Write + Drop>(
     rt: &R,
     address: &str,
-    list: Input<'a, L>,
+    list: NamedFile<'a, L>,
     settings: RunSettings<'a>,
     showing: Showing<V>,
 ) -> Result<RunEnd<'a>, Failure<'a>>
@@ -238,11 +240,15 @@ fn run_list<'a, R: Net + Files + Clock + AllocGlobal, L: io::Read + Drop, V: io:
     requires some { 1 ≤ settings.limit }
     requires few { settings.limit ≤ 1000 }
     ensures address { OnOk result (IsAddress address.now) }
-    ensures whole { OnOk result (IsWholeList settings.entry.rate (file list.entry.name (L.remaining list.entry.reader))) }
+    ensures whole { OnOk result (IsWholeList settings.entry.rate
+        (file list.entry.name (L.remaining list.entry.reader))) }
     ensures played { IfOk result (IsPlayed settings.entry (file list.entry.name (L.remaining list.entry.reader))) }
-    ensures unplayed { IfErr result (IsUnplayed settings.entry.rate address.now (file list.entry.name (L.remaining list.entry.reader))) }
+    ensures unplayed { IfErr result (IsUnplayed settings.entry.rate address.now
+        (file list.entry.name (L.remaining list.entry.reader))) }
 {
-    let address = address_of(address)?;
+    let Ok(address) = address_of(address) else {
+        return Err(Failure::Address);
+    };
     let events = list.read_list(rt.alloc(), settings.rate)?;
     let Ok(stream) = rt.connect(SocketAddr::V4(address)) else {
         return Err(Failure::Connect);
@@ -268,7 +274,8 @@ fn play_connected<
     requires { settings.unit ≤ 15 }
     ensures unwritten { MayBeUnwritten settings.entry.asrun result.unwritten }
     // Whatever the controller's log is: from there it came to this end.
-    ensures end { (log : List Exchange) → Reached (plan_of S.items controller) controller.state log → IsEndOf (plan_of S.items controller) result }
+    ensures end { (log : List Exchange) → Reached (plan_of S.items controller) controller.state log →
+        IsEndOf (plan_of S.items controller) result }
 {
     let silence = Duration::from_millis(u64::from(settings.silence));
     let wire = StreamWire::new(stream, silence);
@@ -294,7 +301,8 @@ fn play_over<
     ensures failed { OnErr wire (result.line ≡ LineEnd.Failed) }
     ensures unwritten { MayBeUnwritten settings.entry.asrun result.unwritten }
     // Whatever the controller's log is: from there it came to this end.
-    ensures end { (log : List Exchange) → Reached (plan_of S.items controller) controller.state log → IsEndOf (plan_of S.items controller) result }
+    ensures end { (log : List Exchange) → Reached (plan_of S.items controller) controller.state log →
+        IsEndOf (plan_of S.items controller) result }
 {
     match wire {
         Ok(wire) => play_shown(rt, controller, wire, settings, showing),
@@ -320,7 +328,8 @@ fn play_shown<
     requires works { W.failures wire ≡ 0 }
     ensures unwritten { MayBeUnwritten settings.entry.asrun result.unwritten }
     // Whatever the controller's log is: from there it came to this end.
-    ensures end { (log : List Exchange) → Reached (plan_of S.items controller) controller.state log → IsEndOf (plan_of S.items controller) result }
+    ensures end { (log : List Exchange) → Reached (plan_of S.items controller) controller.state log →
+        IsEndOf (plan_of S.items controller) result }
 {
     let unit = settings.unit;
     match showing {
@@ -347,7 +356,8 @@ fn play_shown<
 fn new_controller<S: Source>(source: S, settings: RunSettings<'_>) -> Controller<S>
     requires some { 1 ≤ settings.limit }
     requires few { settings.limit ≤ 1000 }
-    ensures { result ≡ turns.new_controller source (mode_of settings.entry.confirm) settings.entry.port settings.entry.limit }
+    ensures { result ≡ turns.new_controller source (mode_of settings.entry.confirm) settings.entry.port
+        settings.entry.limit }
 {
     if settings.confirm {
         Controller::confirming(source, settings.port, settings.limit)
@@ -356,33 +366,19 @@ fn new_controller<S: Source>(source: S, settings: RunSettings<'_>) -> Controller
     }
 }
 
-// Runs an automation, and writes what is reported of it. Of a new controller over a fresh wire that tells
-// its bytes this says what the automation sent, and how its controller ended, whether the wire failed or
-// not.
+// Runs an automation, and writes what is reported of it.
 fn play<'a, R: Files + AllocGlobal, S: Source, W: Wire, V: Watch<S>>(
     rt: &R,
     driver: &mut AutoDriver<S, W>,
     watcher: &mut V,
     settings: RunSettings<'a>,
 ) -> RunEnd<'a>
+    // What the driver's run left and answered, which is how the line ended.
+    ensures leaves { (ran : Result Ran DriveFault) × (result.line ≡ line_end_of ran)
+        × RunLeaves S.items W.told W.failures settings.entry.listens driver.old driver.new ran }
     ensures outcome { result.outcome ≡ turns.outcome_of driver.new.controller.state.stage }
     ensures reported { result.reported ≡ driver.new.controller.state.settled }
     ensures unwritten { MayBeUnwritten settings.entry.asrun result.unwritten }
-    ensures unneeded { result.line ≡ LineEnd.Unneeded → IsSome result.outcome }
-    ensures ended { IsSome result.outcome → (result.line ≡ LineEnd.Unneeded) ⊎ (result.line ≡ LineEnd.Failed) }
-    ensures reached { GoesOn (plan_of S.items driver.old.controller) driver.old.controller.state driver.new.controller.state }
-    ensures line { (t : Told) → W.told driver.old.wire ≡ Some t → result.line ≢ LineEnd.Failed →
-        IfTold (W.told driver.new.wire) (λ u. EndsTo result.line settings.entry.listens t.came u.came) }
-    // Of a new automation: a new controller, and a fresh wire that tells its bytes.
-    ensures run { IsNew driver.old.controller.state driver.old.reader driver.old.heard (W.told driver.old.wire) → result.line ≢ LineEnd.Failed →
-        IfTold (W.told driver.new.wire) (λ u. HasRun (plan_of S.items driver.old.controller) driver.old.unit u driver.new.controller.state) }
-    ensures broken { IsNew driver.old.controller.state driver.old.reader driver.old.heard (W.told driver.old.wire) → W.failures driver.old.wire ≡ 0 →
-        result.line ≡ LineEnd.Failed →
-        IfTold (W.told driver.new.wire) (λ u. HasRunBroken (plan_of S.items driver.old.controller) driver.old.unit u driver.new.controller.state
-        × IsPartlyRun (plan_of S.items driver.old.controller) driver.old.unit u driver.new.controller.state) }
-    ensures controller { driver.new.controller ≡ record driver.old.controller { state = driver.new.controller.state } }
-    ensures works { result.line ≢ LineEnd.Failed → W.failures driver.new.wire ≡ 0 }
-    ensures device { result.line ≡ LineEnd.Failed → W.failures driver.new.wire ≡ 1 }
 {
     let line = LineEnd::of_run(driver.run_watched(u64::from(settings.listens), watcher));
     ended(rt, driver.controller(), line, settings)

@@ -1,11 +1,10 @@
 ghost use Rattle.std.specs.Io.KnownBytes.{Appends, Keeps};
-ghost use Rattle.std.specs.Prelude.{◌≡◌, ◌≢◌, ◌⊎◌, ◌≤◌, IfErr, OnOk, Some};
-ghost use Rattle.vdcp_drive.specs.Served.{HasBrokenOff, IsPartlySent, IsServed};
-ghost use Rattle.vdcp_wire.specs.Wires.{IfTold, Told};
-ghost use Rattle.vdcp_files.specs.Files.{file};
-ghost use Rattle.vdcp_tcp.specs.Address.{IsAddress};
-ghost use Rattle.vdcp_net.specs.Serve.{EndsAs, IsCatalogueRefused, IsServedThere, IsUnserved, IsWholeCatalogue, PrintsEnd};
-ghost use Rattle.vdcp_port.specs.Clock.{ClockedPort, new_port};
+ghost use Rattle.std.specs.Prelude.{◌≡◌, ◌≢◌, ◌⊎◌, ◌≤◌, IfErr, OnOk, Result};
+ghost use Rattle.vdcp_drive.specs.ServeLeaves.{ServeLeaves};
+ghost use Rattle.vdcp_files.specs.Files.{IsWholeCatalogue, file};
+ghost use Rattle.vdcp_wire.specs.Address.{IsAddress};
+ghost use Rattle.vdcp_net.specs.Serve.{EndsAs, IsCatalogueRefused, IsServedThere, IsUnserved, PrintsEnd};
+ghost use Rattle.vdcp_port.specs.Clock.{new_port};
 ghost use Rattle.vdcp_text.specs.Failure.{failure_line};
 
 use crate::log::{AirLog, Log, Logged};
@@ -13,12 +12,11 @@ use std::io;
 use std::net::Net;
 use std::time::Duration;
 use vdcp_drive::{DriveFault, Ran, Server, Unwatched, WatchAir};
-use vdcp_files::Input;
+use vdcp_files::NamedFile;
 use vdcp_port::{Catalogue, Port};
-use vdcp_tcp::{accept_one, address_of};
 use vdcp_text::Failure;
 use vdcp_value::Rate;
-use vdcp_wire::{StreamWire, Wire};
+use vdcp_wire::{AcceptFault, StreamWire, Wire, accept_one, address_of};
 
 /// What a channel is served with.
 #[derive(Clone, Copy, Debug, PartialEq, Eq)]
@@ -27,13 +25,13 @@ pub struct ServeSettings {
     pub unit: u8,
     /// The port's number.
     pub port: u8,
-    /// A cue takes so many frames, 1 to 1,000.
+    /// How many frames a cue takes, 1 to 1,000.
     pub cue_frames: u32,
     /// The frame rate of time codes.
     pub rate: Rate,
-    /// A burst has ended when nothing has come for so many milliseconds, 1 to 60,000.
+    /// How long a silence ends a burst, in milliseconds, 1 to 60,000.
     pub silence: u32,
-    /// So many turns are made at most, each a wait for bytes or for a silence.
+    /// The most turns that are made, each a wait for bytes or for a silence.
     pub turns: u32,
 }
 
@@ -49,7 +47,7 @@ pub struct ServeSettings {
 ///
 /// The status is 0 where the connection was served to its end. It is 2 where `address` isn't one, 1 where a
 /// row of the catalogue is refused, and 3 where the catalogue can't be read, memory was refused, the address
-/// can't be listened at, no connection is taken, or the line failed; `err` is told of these. The address is
+/// can't be listened at, no connection is taken, or the line failed; `err` gets a line of these. The address is
 /// tested first, and then the catalogue is read. The status is 3 where `out` failed, to which nothing more is
 /// written.
 pub fn do_serve<
@@ -61,7 +59,7 @@ pub fn do_serve<
 >(
     rt: &R,
     address: &str,
-    catalogue: Input<'_, C>,
+    catalogue: NamedFile<'_, C>,
     settings: ServeSettings,
     log: Option<L>,
     out: &mut W,
@@ -70,16 +68,21 @@ pub fn do_serve<
     requires unit { settings.unit ≤ 15 }
     requires some_frames { 1 ≤ settings.cue_frames }
     requires few_frames { settings.cue_frames ≤ 1000 }
-    ensures served { result ≡ 0 → IsServedThere settings.rate (file catalogue.entry.name (C.remaining catalogue.entry.reader))
+    ensures served { result ≡ 0 →
+        IsServedThere settings.rate (file catalogue.entry.name (C.remaining catalogue.entry.reader))
         (W.contents out.old) (W.contents out.new) }
-    ensures whole { result ≡ 0 → IsAddress address.now × IsWholeCatalogue settings.rate (file catalogue.entry.name (C.remaining catalogue.entry.reader)) }
+    ensures whole { result ≡ 0 → IsAddress address.now
+        × IsWholeCatalogue settings.rate (file catalogue.entry.name (C.remaining catalogue.entry.reader)) }
     ensures untold { result ≡ 0 → Keeps (E.contents err.old) (E.contents err.new) }
     // The status is 1 for a row that is refused.
-    ensures others { result ≡ 1 → IsCatalogueRefused settings.rate (file catalogue.entry.name (C.remaining catalogue.entry.reader))
+    ensures others { result ≡ 1 →
+        IsCatalogueRefused settings.rate (file catalogue.entry.name (C.remaining catalogue.entry.reader))
         (W.contents out.old) (W.contents out.new) (E.contents err.old) (E.contents err.new) }
     // The status is 2 for an address that is none, unless this can't be told.
-    ensures no_address { result ≡ 2 → ¬ IsAddress address.now × Appends (E.contents err.old) (E.contents err.new) (failure_line Failure.Address) }
-    ensures address { ¬ IsAddress address.now → ((result ≡ 2) ⊎ (result ≡ 3)) × Keeps (W.contents out.old) (W.contents out.new) }
+    ensures no_address { result ≡ 2 → ¬ IsAddress address.now
+        × Appends (E.contents err.old) (E.contents err.new) (failure_line Failure.Address) }
+    ensures address { ¬ IsAddress address.now → ((result ≡ 2) ⊎ (result ≡ 3))
+        × Keeps (W.contents out.old) (W.contents out.new) }
     ensures silent { Keeps (W.contents out.old) (W.contents out.new)
         ⊎ IsWholeCatalogue settings.rate (file catalogue.entry.name (C.remaining catalogue.entry.reader)) }
     ensures statuses { result ≤ 3 }
@@ -94,7 +97,7 @@ pub fn do_serve<
 fn serve<'a, R: Net + AllocGlobal, C: io::Read + Drop, L: io::Write + Drop, W: io::Write>(
     rt: &R,
     address: &str,
-    catalogue: Input<'a, C>,
+    catalogue: NamedFile<'a, C>,
     settings: ServeSettings,
     log: Option<L>,
     out: &mut W,
@@ -102,16 +105,25 @@ fn serve<'a, R: Net + AllocGlobal, C: io::Read + Drop, L: io::Write + Drop, W: i
     requires unit { settings.unit ≤ 15 }
     requires some_frames { 1 ≤ settings.cue_frames }
     requires few_frames { settings.cue_frames ≤ 1000 }
-    ensures served { OnOk result (IsServedThere settings.rate (file catalogue.entry.name (C.remaining catalogue.entry.reader))
+    ensures served { OnOk result (IsServedThere settings.rate
+        (file catalogue.entry.name (C.remaining catalogue.entry.reader))
         (W.contents out.old) (W.contents out.new)) }
     ensures address { OnOk result (IsAddress address.now) }
-    ensures whole { OnOk result (IsWholeCatalogue settings.rate (file catalogue.entry.name (C.remaining catalogue.entry.reader))) }
-    ensures unserved { IfErr result (IsUnserved settings.rate address.now (file catalogue.entry.name (C.remaining catalogue.entry.reader))
+    ensures whole { OnOk result (IsWholeCatalogue settings.rate
+        (file catalogue.entry.name (C.remaining catalogue.entry.reader))) }
+    ensures unserved { IfErr result (IsUnserved settings.rate address.now
+        (file catalogue.entry.name (C.remaining catalogue.entry.reader))
         (W.contents out.old) (W.contents out.new)) }
 {
-    let address = address_of(address)?;
+    let Ok(address) = address_of(address) else {
+        return Err(Failure::Address);
+    };
     let clips = catalogue.read_catalogue(rt.alloc(), settings.rate)?;
-    let stream = accept_one(rt, address, out)?;
+    let stream = match accept_one(rt, address, out) {
+        Ok(stream) => stream,
+        Err(AcceptFault::Bind) => return Err(Failure::Bind),
+        Err(AcceptFault::Writer) => return Err(Failure::Writer),
+    };
     let silence = Duration::from_millis(u64::from(settings.silence));
     let Ok(wire) = StreamWire::new(stream, silence) else {
         return Err(Failure::LineFailed);
@@ -139,7 +151,8 @@ fn serve_line<C: Catalogue + Drop, S: Wire + Drop, L: io::Write + Drop, W: io::W
 ) -> Result<(), Failure<'static>>
     requires { S.failures wire ≡ 0 }
     ensures ended { OnOk result ((ran : Ran) × PrintsEnd ran (W.contents out.old) (W.contents out.new)) }
-    ensures failed { IfErr result (λ e. (e ≡ Failure.Writer) ⊎ ((e ≡ Failure.LineFailed) × Keeps (W.contents out.old) (W.contents out.new))) }
+    ensures failed { IfErr result (λ e. (e ≡ Failure.Writer)
+        ⊎ ((e ≡ Failure.LineFailed) × Keeps (W.contents out.old) (W.contents out.new))) }
 {
     let ServeSettings { rate, turns, .. } = settings;
     match log {
@@ -152,24 +165,16 @@ fn serve_line<C: Catalogue + Drop, S: Wire + Drop, L: io::Write + Drop, W: io::W
     }
 }
 
-// Makes so many turns of a server, and tells how they ended.
+// Makes at most this many turns of a server, and prints how they ended.
 fn serve_turns<'f, C: Catalogue, S: Wire, V: WatchAir, W: io::Write>(
     server: &mut Server<C, S>,
     turns: u32,
     watcher: &mut V,
     out: &mut W,
 ) -> Result<(), Failure<'f>>
-    // What is printed is how the turns ended.
-    ensures ended { OnOk result (EndsAs turns (S.told server.old.wire) (S.told server.new.wire) (W.contents out.old) (W.contents out.new)) }
-    ensures works { OnOk result (S.failures server.new.wire ≡ 0) }
-    ensures failed { IfErr result (λ e. ((e ≡ Failure.Writer) × (S.failures server.new.wire ≡ 0))
-        ⊎ ((e ≡ Failure.LineFailed) × (S.failures server.new.wire ≡ 1) × Keeps (W.contents out.old) (W.contents out.new))) }
-    // Of a server that began with some port, and has served what its wire tells that came.
-    ensures served { (start : ClockedPort) (t : Told) → S.told server.old.wire ≡ Some t → IsServed start t server.old.port server.old.reader →
-        S.failures server.new.wire ≡ 0 → IfTold (S.told server.new.wire) (λ u. IsServed start u server.new.port server.new.reader) }
-    ensures broken_off { (start : ClockedPort) (t : Told) → S.told server.old.wire ≡ Some t → IsServed start t server.old.port server.old.reader →
-        S.failures server.old.wire ≡ 0 → S.failures server.new.wire ≡ 1 →
-        IfTold (S.told server.new.wire) (λ u. HasBrokenOff start u server.new.port × IsPartlySent start u) }
+    // What the server's turns left and answered, and what is printed of that.
+    ensures leaves { (ran : Result Ran DriveFault) × ServeLeaves S.told S.failures turns server.old server.new ran
+        × EndsAs ran result (W.contents out.old) (W.contents out.new) }
 {
     match server.serve_watched(u64::from(turns), watcher) {
         Ok(ran) => write_end(ran, out).map_err(|_| Failure::Writer),

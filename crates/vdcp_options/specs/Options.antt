@@ -8,12 +8,14 @@ use Rattle.vdcp_value.specs.declared.rate.Rate.TheVariants.{F24, F25, F30, D30}
 
 -- the text writes the number in decimal digits, with a plus before them or without
 abbrev pub WritesNumber : List ℕ → ℕ → Type 0
-WritesNumber text number = IsNumeral 10 (without_leading_plus text) × (digits_value 10 (without_leading_plus text) ≡ number)
+WritesNumber text number =
+    IsNumeral 10 (without_leading_plus text) × (digits_value 10 (without_leading_plus text) ≡ number)
 
 -- the option of this name has a text, and that writes a number from `least` to `most`
 abbrev pub GivesNumber : Found → List ℕ → ℕ → ℕ → ℕ → Type 0
 GivesNumber found name least most number =
-    (text : List ℕ) × (first_value found name ≡ Some text) × WritesNumber text number × (least ≤ number) × (number ≤ most)
+    (text : List ℕ) × (first_value found name ≡ Some text) × WritesNumber text number
+    × (least ≤ number) × (number ≤ most)
 
 -- the text that names each rate
 abbrev pub NamesRate : List ℕ → Rate → Type 0

@@ -6,7 +6,7 @@ ghost use Rattle.vdcp_text.specs.declared.failure.Failure.TheVariants as failure
 use clap::ArgMatches;
 use std::fs::File;
 use std::io;
-use vdcp_files::Input;
+use vdcp_files::NamedFile;
 use vdcp_text::Failure;
 
 /// Opens the file that the argument of this name says. `Memory` where memory is refused, else `Open` of the
@@ -15,14 +15,16 @@ pub fn open_file<'a>(
     rt: &HostRuntime,
     matches: &'a ArgMatches<'_>,
     argument: &str,
-) -> Result<Input<'a, File>, Failure<'a>>
-    ensures named { (name : List ℕ) → first_value (found_of matches.now) argument.now ≡ Some name → IfOk result (λ input. input.name.now ≡ name) }
+) -> Result<NamedFile<'a, File>, Failure<'a>>
+    ensures named { (name : List ℕ) → first_value (found_of matches.now) argument.now ≡ Some name
+        → IfOk result (λ input. input.name.now ≡ name) }
     ensures faults { (name : List ℕ) → first_value (found_of matches.now) argument.now ≡ Some name
-        → IfErr result (λ failure. (failure ≡ Failure.Memory) ⊎ (failure_text failure ≡ name ++ codes ": cannot open")) }
+        → IfErr result (λ failure. (failure ≡ Failure.Memory)
+        ⊎ (failure_text failure ≡ name ++ codes ": cannot open")) }
 {
     let name = matches.get_str(argument).unwrap_or("");
     match File::open(rt, name) {
-        Ok(reader) => Ok(Input { name, reader }),
+        Ok(reader) => Ok(NamedFile { name, reader }),
         Err(error) if error.kind() == io::ErrorKind::OutOfMemory => Err(Failure::Memory),
         Err(_) => Err(Failure::Open(name)),
     }

@@ -5,6 +5,9 @@
 //! `clap`'s arguments of them. Of what `clap` has found, `unit_of` and `rate_of` give one option's value, and
 //! `sim_settings_of`, `serve_settings_of`, `run_settings_of` and `lossy_settings_of` all that their subcommand
 //! asks for. `open_file` opens the file that an argument names.
+//!
+//! Files: `number` and `rate` (an option that is a number in a range, and `--rate`), `settings` (all options of a
+//! subcommand), `file` (a named file is opened).
 #![tactic(auto)]
 
 mod file;

@@ -31,7 +31,8 @@ pub fn sim_settings_of(matches: &ArgMatches) -> SimSettings
     ensures units { (n : ℕ) → GivesNumber (found_of matches.now) (codes "unit") 0 15 n → result.unit ≡ n }
     ensures ports { (n : ℕ) → GivesNumber (found_of matches.now) (codes "port") 0 255 n → result.port ≡ n }
     ensures limits { (n : ℕ) → GivesNumber (found_of matches.now) (codes "limit") 1 1000 n → result.limit ≡ n }
-    ensures frames { (n : ℕ) → GivesNumber (found_of matches.now) (codes "cue-frames") 1 1000 n → result.cue_frames ≡ n }
+    ensures frames { (n : ℕ) → GivesNumber (found_of matches.now) (codes "cue-frames") 1 1000 n
+        → result.cue_frames ≡ n }
     ensures rates { (rate : Rate) → GivesRate (found_of matches.now) (codes "rate") rate → result.rate ≡ rate }
     ensures confirms { HasFlag (found_of matches.now) (codes "confirm") true → result.confirm ≡ true }
     ensures confirms_not { HasFlag (found_of matches.now) (codes "confirm") false → result.confirm ≡ false }
@@ -58,7 +59,8 @@ pub fn serve_settings_of(matches: &ArgMatches) -> ServeSettings
     ensures short_silence { result.silence ≤ 60000 }
     ensures units { (n : ℕ) → GivesNumber (found_of matches.now) (codes "unit") 0 15 n → result.unit ≡ n }
     ensures ports { (n : ℕ) → GivesNumber (found_of matches.now) (codes "port") 0 255 n → result.port ≡ n }
-    ensures frames { (n : ℕ) → GivesNumber (found_of matches.now) (codes "cue-frames") 1 1000 n → result.cue_frames ≡ n }
+    ensures frames { (n : ℕ) → GivesNumber (found_of matches.now) (codes "cue-frames") 1 1000 n
+        → result.cue_frames ≡ n }
     ensures silences { (n : ℕ) → GivesNumber (found_of matches.now) (codes "silence") 1 60000 n → result.silence ≡ n }
     ensures turns { (n : ℕ) → GivesNumber (found_of matches.now) (codes "turns") 1 4294967295 n → result.turns ≡ n }
     ensures rates { (rate : Rate) → GivesRate (found_of matches.now) (codes "rate") rate → result.rate ≡ rate }
@@ -84,7 +86,8 @@ pub fn run_settings_of<'a>(matches: &'a ArgMatches<'_>) -> RunSettings<'a>
     ensures ports { (n : ℕ) → GivesNumber (found_of matches.now) (codes "port") 0 255 n → result.port ≡ n }
     ensures limits { (n : ℕ) → GivesNumber (found_of matches.now) (codes "limit") 1 1000 n → result.limit ≡ n }
     ensures silences { (n : ℕ) → GivesNumber (found_of matches.now) (codes "silence") 1 60000 n → result.silence ≡ n }
-    ensures listens { (n : ℕ) → GivesNumber (found_of matches.now) (codes "listens") 1 4294967295 n → result.listens ≡ n }
+    ensures listens { (n : ℕ) → GivesNumber (found_of matches.now) (codes "listens") 1 4294967295 n
+        → result.listens ≡ n }
     ensures rates { (rate : Rate) → GivesRate (found_of matches.now) (codes "rate") rate → result.rate ≡ rate }
     ensures confirms { HasFlag (found_of matches.now) (codes "confirm") true → result.confirm ≡ true }
     ensures confirms_not { HasFlag (found_of matches.now) (codes "confirm") false → result.confirm ≡ false }
@@ -139,7 +142,8 @@ pub fn lossy_settings_of(matches: &ArgMatches) -> LossySettings
     ensures loses { (n : ℕ) → GivesNumber (found_of matches.now) (codes "lose") 0 100 n → result.chances.lose ≡ n }
     ensures copies { (n : ℕ) → GivesNumber (found_of matches.now) (codes "copy") 0 100 n → result.chances.copy ≡ n }
     ensures cuts { (n : ℕ) → GivesNumber (found_of matches.now) (codes "cut") 0 100 n → result.chances.cut ≡ n }
-    ensures damages { (n : ℕ) → GivesNumber (found_of matches.now) (codes "damage") 0 100 n → result.chances.damage ≡ n }
+    ensures damages { (n : ℕ) → GivesNumber (found_of matches.now) (codes "damage") 0 100 n
+        → result.chances.damage ≡ n }
     ensures forges { (n : ℕ) → GivesNumber (found_of matches.now) (codes "forge") 0 100 n → result.chances.forge ≡ n }
     ensures silences { (n : ℕ) → GivesNumber (found_of matches.now) (codes "silence") 1 60000 n → result.silence ≡ n }
     ensures times { (n : ℕ) → GivesNumber (found_of matches.now) (codes "within") 1 60000 n → result.within ≡ n }

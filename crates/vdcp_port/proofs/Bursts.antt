@@ -29,7 +29,8 @@ was_done (cues other) p item e = cc
 was_done (airs other) p item e = cc
 was_done stops p item e = cc
 
-undone_airs_nothing : (p : ClockedPort) (m : Content) (aired : Option Item) → aired_by p m ≡ aired → is_done p.state.cued ≡ false → aired_by p m ≡ None
+undone_airs_nothing : (p : ClockedPort) (m : Content) (aired : Option Item) → aired_by p m ≡ aired
+    → is_done p.state.cued ≡ false → aired_by p m ≡ None
 undone_airs_nothing p m None e undone = e
 undone_airs_nothing p m (Some item) e undone =
     let cued = (message_airs p m item e).cued in
@@ -39,14 +40,16 @@ undone_airs_nothing p m (Some item) e undone =
 undone_burst : (p : ClockedPort) (ms : List Content) → is_done p.state.cued ≡ false → aired_on_way p ms ≡ []
 undone_burst p [] undone = refl
 undone_burst p (m ∷ ms) undone =
-    ap (λ (aired : Option Item). option_to_list aired ++ aired_on_way (after_message p m) ms) (undone_airs_nothing p m (aired_by p m) refl undone)
+    ap (λ (aired : Option Item). option_to_list aired ++ aired_on_way (after_message p m) ms)
+    (undone_airs_nothing p m (aired_by p m) refl undone)
     ∙ undone_burst (after_message p m) ms (stays_undone (row_at p m).change p.state undone)
 
 -- nothing, or the item that is cued
 abbrev pub AirsAtMostTheCued : ClockedPort → List Item → Type 0
 AirsAtMostTheCued p aired = (aired ≡ []) ⊎ ((item : Item) × (p.state.cued ≡ done item) × (aired ≡ item ∷ []))
 
-at_most_later : (p : ClockedPort) (m : Content) (rest : List Item) → AirsAtMostTheCued (after_message p m) rest → AirsAtMostTheCued p rest
+at_most_later : (p : ClockedPort) (m : Content) (rest : List Item) → AirsAtMostTheCued (after_message p m) rest
+    → AirsAtMostTheCued p rest
 at_most_later p m rest (inl e) = inl e
 at_most_later p m rest (inr found) = inr (found.0, was_done (row_at p m).change p.state found.0 found.1, found.2)
 
@@ -57,7 +60,11 @@ at_most_first p m ms None e later = at_most_later p m (aired_on_way (after_messa
 at_most_first p m ms (Some item) e later =
     let emptied = (message_airing p m item e).1 in
     let undone : is_done (after_message p m).state.cued ≡ false = ap is_done emptied in
-    inr (item, (message_airs p m item e).cued, ap (λ (rest : List Item). item ∷ rest) (undone_burst (after_message p m) ms undone))
+    inr (
+      item,
+      (message_airs p m item e).cued,
+      ap (λ (rest : List Item). item ∷ rest) (undone_burst (after_message p m) ms undone),
+    )
 
 pub at_most_the_cued : (p : ClockedPort) (ms : List Content) → AirsAtMostTheCued p (aired_on_way p ms)
 at_most_the_cued p [] = inl refl

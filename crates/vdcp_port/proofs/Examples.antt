@@ -1,6 +1,6 @@
 -- What the table gives for some bursts.
-use Rattle.std.proofs.Common.{◌≡◌, ℕ, Bool, true, false, List, [], ◌∷◌, ◌++◌, refl, ap, max, if◌then◌else◌}
-use Rattle.std.specs.Prelude.{replicate}
+use Rattle.std.proofs.Common.{◌≡◌, ℕ, Bool, true, false, List, [], ◌∷◌, ◌++◌, refl, ap, map, max, if◌then◌else◌}
+use Rattle.std.specs.Prelude.{codes, replicate}
 use Rattle.std.specs.List.{flat_map, range_with_len}
 use Rattle.vdcp_value.proofs.FrameNumbers.{frame_number_is}
 use Rattle.vdcp_value.specs.Day.{frame_number}
@@ -8,6 +8,7 @@ use Rattle.vdcp_value.specs.Ids.{id_of}
 use Rattle.vdcp_value.specs.Parts.{part_fits}
 use Rattle.vdcp_value.specs.declared.clip_id.ClipId.{ClipId}
 use Rattle.vdcp_value.specs.declared.label.Label.{Label}
+use Rattle.vdcp_value.specs.declared.part.Item.{Item}
 use Rattle.vdcp_value.specs.declared.rate.Rate.TheVariants.{F25}
 use Rattle.vdcp_value.specs.declared.timecode.Timecode.{Timecode}
 use Rattle.std.specs.Option.{option_to_list}
@@ -21,10 +22,10 @@ use Rattle.vdcp_port.specs.Port.{state_byte}
 -- CLIP0001 and CLIP0002, ten seconds each at 25 frames a second
 
 abbrev clip_1 : ClipId
-clip_1 = id_of (0x43 ∷ 0x4C ∷ 0x49 ∷ 0x50 ∷ 0x30 ∷ 0x30 ∷ 0x30 ∷ 0x31 ∷ [])
+clip_1 = id_of (codes "CLIP0001")
 
 abbrev clip_2 : ClipId
-clip_2 = id_of (0x43 ∷ 0x4C ∷ 0x49 ∷ 0x50 ∷ 0x30 ∷ 0x30 ∷ 0x30 ∷ 0x32 ∷ [])
+clip_2 = id_of (codes "CLIP0002")
 
 abbrev ten_seconds : Timecode
 ten_seconds = record { rate = F25; label = record { hours = 0; minutes = 0; seconds = 10; frames = 0 }; lawful = refl }
@@ -50,19 +51,37 @@ abbrev active_bytes : List ℕ
 active_bytes = 0x02 ∷ 0x02 ∷ 0x30 ∷ 0x07 ∷ 0xC9 ∷ []
 
 abbrev cue_1_bytes : List ℕ
-cue_1_bytes = 0x02 ∷ 0x0A ∷ 0x20 ∷ 0x24 ∷ 0x43 ∷ 0x4C ∷ 0x49 ∷ 0x50 ∷ 0x30 ∷ 0x30 ∷ 0x30 ∷ 0x31 ∷ 0xD3 ∷ []
+cue_1_bytes = 0x02 ∷ 0x0A ∷ 0x20 ∷ 0x24 ∷ (codes "CLIP0001" ++ 0xD3 ∷ [])
 
 abbrev cue_2_bytes : List ℕ
-cue_2_bytes = 0x02 ∷ 0x0A ∷ 0x20 ∷ 0x24 ∷ 0x43 ∷ 0x4C ∷ 0x49 ∷ 0x50 ∷ 0x30 ∷ 0x30 ∷ 0x30 ∷ 0x32 ∷ 0xD2 ∷ []
+cue_2_bytes = 0x02 ∷ 0x0A ∷ 0x20 ∷ 0x24 ∷ (codes "CLIP0002" ++ 0xD2 ∷ [])
 
 abbrev cue_9_bytes : List ℕ
-cue_9_bytes = 0x02 ∷ 0x0A ∷ 0x20 ∷ 0x24 ∷ 0x43 ∷ 0x4C ∷ 0x49 ∷ 0x50 ∷ 0x30 ∷ 0x30 ∷ 0x30 ∷ 0x39 ∷ 0xCB ∷ []
+cue_9_bytes = 0x02 ∷ 0x0A ∷ 0x20 ∷ 0x24 ∷ (codes "CLIP0009" ++ 0xCB ∷ [])
 
 abbrev play_bytes : List ℕ
 play_bytes = 0x02 ∷ 0x02 ∷ 0x10 ∷ 0x01 ∷ 0xEF ∷ []
 
 abbrev stop_bytes : List ℕ
 stop_bytes = 0x02 ∷ 0x02 ∷ 0x10 ∷ 0x00 ∷ 0xF0 ∷ []
+
+abbrev select_2_bytes : List ℕ
+select_2_bytes = 0x02 ∷ 0x03 ∷ 0x20 ∷ 0x22 ∷ 0x02 ∷ 0xBC ∷ []
+
+abbrev close_2_bytes : List ℕ
+close_2_bytes = 0x02 ∷ 0x03 ∷ 0x20 ∷ 0x21 ∷ 0x02 ∷ 0xBD ∷ []
+
+abbrev exists_1_bytes : List ℕ
+exists_1_bytes = 0x02 ∷ 0x0A ∷ 0x30 ∷ 0x16 ∷ (codes "CLIP0001" ++ 0xD1 ∷ [])
+
+abbrev exists_9_bytes : List ℕ
+exists_9_bytes = 0x02 ∷ 0x0A ∷ 0x30 ∷ 0x16 ∷ (codes "CLIP0009" ++ 0xC9 ∷ [])
+
+abbrev size_1_bytes : List ℕ
+size_1_bytes = 0x02 ∷ 0x0A ∷ 0x30 ∷ 0x14 ∷ (codes "CLIP0001" ++ 0xD3 ∷ [])
+
+abbrev size_9_bytes : List ℕ
+size_9_bytes = 0x02 ∷ 0x0A ∷ 0x30 ∷ 0x14 ∷ (codes "CLIP0009" ++ 0xCB ∷ [])
 
 -- ports
 
@@ -75,284 +94,175 @@ opened = after_burst (fresh two_clips) open_bytes
 abbrev selected : List (ClipId × Timecode) → ClockedPort
 selected clips = after_burst (after_burst (fresh clips) open_bytes) select_bytes
 
-abbrev byte_of : ClockedPort → ℕ
-byte_of p = state_byte p.state
-
--- ---- with nothing cued
-
-one_burst_opens_selects_and_asks : sent_for (fresh two_clips)
-    (0x02 ∷ 0x04 ∷ 0x30 ∷ 0x01 ∷ 0x01 ∷ 0x01 ∷ 0xCD ∷ 0x02 ∷ 0x03 ∷ 0x20 ∷ 0x22 ∷ 0x01 ∷ 0xBD ∷ 0x02 ∷ 0x03 ∷ 0x30 ∷ 0x05 ∷ 0x01 ∷ 0xCA ∷ [])
-    ≡ 0x02 ∷ 0x03 ∷ 0x30 ∷ 0x81 ∷ 0x01 ∷ 0x4E ∷ 0x04 ∷ 0x02 ∷ 0x04 ∷ 0x30 ∷ 0x85 ∷ 0x01 ∷ 0x01 ∷ 0x49 ∷ []
-one_burst_opens_selects_and_asks = refl
-
-bitmap_without_bit_0_gets_no_state_byte : sent_for (selected two_clips) (0x02 ∷ 0x03 ∷ 0x30 ∷ 0x05 ∷ 0x02 ∷ 0xC9 ∷ [])
-    ≡ 0x02 ∷ 0x03 ∷ 0x30 ∷ 0x85 ∷ 0x00 ∷ 0x4B ∷ []
-bitmap_without_bit_0_gets_no_state_byte = refl
-
-fault_is_answered_behind_the_answers : sent_for (selected two_clips) (0x02 ∷ 0x02 ∷ 0x10 ∷ 0x01 ∷ 0xEF ∷ 0xFF ∷ 0x04 ∷ []) ≡ 0x04 ∷ 0x05 ∷ 0x04 ∷ []
-fault_is_answered_behind_the_answers = refl
-
-reading_a_bad_burst_keeps_the_port : after_burst (selected two_clips) (0x02 ∷ 0x02 ∷ 0x10 ∷ 0x01 ∷ 0xEF ∷ 0xFF ∷ 0x04 ∷ []) ≡ selected two_clips
-reading_a_bad_burst_keeps_the_port = refl
-
-clip_that_is_not_known_is_not_cued : sent_for (selected []) cue_1_bytes ≡ 0x05 ∷ 0x01 ∷ []
-clip_that_is_not_known_is_not_cued = refl
-
-refused_cue_changes_nothing : after_burst (selected []) cue_1_bytes ≡ selected []
-refused_cue_changes_nothing = refl
-
-clip_that_is_known_is_cued : sent_for (selected two_clips) cue_1_bytes ≡ 0x04 ∷ []
-clip_that_is_known_is_cued = refl
-
-bad_sum : sent_for (selected two_clips) (0x02 ∷ 0x02 ∷ 0x10 ∷ 0x01 ∷ 0xEE ∷ []) ≡ 0x05 ∷ 0x04 ∷ []
-bad_sum = refl
-
-bad_start : sent_for (selected two_clips) (0x03 ∷ 0x04 ∷ []) ≡ 0x05 ∷ 0x04 ∷ []
-bad_start = refl
-
-bad_count : sent_for (selected two_clips) (0x02 ∷ 0x01 ∷ 0x10 ∷ 0xF0 ∷ []) ≡ 0x05 ∷ 0x04 ∷ []
-bad_count = refl
-
-cut : sent_for (selected two_clips) (0x02 ∷ 0x0A ∷ 0x20 ∷ 0x24 ∷ 0x43 ∷ []) ≡ 0x05 ∷ 0x80 ∷ []
-cut = refl
-
-idle : sent_for (selected two_clips) status_bytes ≡ 0x02 ∷ 0x04 ∷ 0x30 ∷ 0x85 ∷ 0x01 ∷ 0x01 ∷ 0x49 ∷ []
-idle = refl
-
-play_with_nothing_cued : sent_for (selected two_clips) play_bytes ≡ 0x04 ∷ []
-play_with_nothing_cued = refl
-
-play_with_nothing_cued_changes_nothing : after_burst (selected two_clips) play_bytes ≡ selected two_clips
-play_with_nothing_cued_changes_nothing = refl
-
-play_and_stop_in_one_burst : sent_for (selected two_clips) (0x02 ∷ 0x02 ∷ 0x10 ∷ 0x01 ∷ 0xEF ∷ 0x02 ∷ 0x02 ∷ 0x10 ∷ 0x00 ∷ 0xF0 ∷ []) ≡ 0x04 ∷ 0x04 ∷ []
-play_and_stop_in_one_burst = refl
-
-other_unit_is_not_answered : sent_for (selected two_clips) (0x02 ∷ 0x02 ∷ 0x11 ∷ 0x01 ∷ 0xEE ∷ []) ≡ []
-other_unit_is_not_answered = refl
-
-other_unit_changes_nothing : after_burst (selected two_clips) (0x02 ∷ 0x02 ∷ 0x11 ∷ 0x01 ∷ 0xEE ∷ []) ≡ selected two_clips
-other_unit_changes_nothing = refl
-
-closed_port_plays_nothing : sent_for (fresh two_clips) play_bytes ≡ 0x05 ∷ 0x01 ∷ []
-closed_port_plays_nothing = refl
-
-other_port_is_denied : sent_for (fresh two_clips) (0x02 ∷ 0x04 ∷ 0x30 ∷ 0x01 ∷ 0x02 ∷ 0x01 ∷ 0xCC ∷ []) ≡ 0x02 ∷ 0x03 ∷ 0x30 ∷ 0x81 ∷ 0x00 ∷ 0x4F ∷ []
-other_port_is_denied = refl
-
-play_with_a_data_byte : sent_for (selected two_clips) (0x02 ∷ 0x03 ∷ 0x10 ∷ 0x01 ∷ 0x00 ∷ 0xEF ∷ []) ≡ 0x05 ∷ 0x01 ∷ []
-play_with_a_data_byte = refl
-
-clip_has_a_size : sent_for (fresh two_clips) (0x02 ∷ 0x0A ∷ 0x30 ∷ 0x14 ∷ 0x43 ∷ 0x4C ∷ 0x49 ∷ 0x50 ∷ 0x30 ∷ 0x30 ∷ 0x30 ∷ 0x31 ∷ 0xD3 ∷ [])
-    ≡ 0x02 ∷ 0x06 ∷ 0x30 ∷ 0x94 ∷ 0x00 ∷ 0x10 ∷ 0x00 ∷ 0x00 ∷ 0x2C ∷ []
-clip_has_a_size = refl
-
-clip_is_present : sent_for (fresh two_clips) (0x02 ∷ 0x0A ∷ 0x30 ∷ 0x16 ∷ 0x43 ∷ 0x4C ∷ 0x49 ∷ 0x50 ∷ 0x30 ∷ 0x30 ∷ 0x30 ∷ 0x31 ∷ 0xD1 ∷ [])
-    ≡ 0x02 ∷ 0x03 ∷ 0x30 ∷ 0x96 ∷ 0x01 ∷ 0x39 ∷ []
-clip_is_present = refl
-
-clip_is_absent : sent_for (fresh two_clips) (0x02 ∷ 0x0A ∷ 0x30 ∷ 0x16 ∷ 0x43 ∷ 0x4C ∷ 0x49 ∷ 0x50 ∷ 0x30 ∷ 0x30 ∷ 0x30 ∷ 0x39 ∷ 0xC9 ∷ [])
-    ≡ 0x02 ∷ 0x03 ∷ 0x30 ∷ 0x96 ∷ 0x00 ∷ 0x3A ∷ []
-clip_is_absent = refl
-
-absent_clip_has_no_size : sent_for (fresh two_clips) (0x02 ∷ 0x0A ∷ 0x30 ∷ 0x14 ∷ 0x43 ∷ 0x4C ∷ 0x49 ∷ 0x50 ∷ 0x30 ∷ 0x30 ∷ 0x30 ∷ 0x39 ∷ 0xCB ∷ [])
-    ≡ 0x05 ∷ 0x01 ∷ []
-absent_clip_has_no_size = refl
-
--- ---- open, but not selected
-
-abbrev select_2_bytes : List ℕ
-select_2_bytes = 0x02 ∷ 0x03 ∷ 0x20 ∷ 0x22 ∷ 0x02 ∷ 0xBC ∷ []
-
-other_number_is_not_selected : sent_for opened select_2_bytes ≡ 0x05 ∷ 0x01 ∷ []
-other_number_is_not_selected = refl
-
-other_number_changes_nothing : after_burst opened select_2_bytes ≡ opened
-other_number_changes_nothing = refl
-
-other_number_unselects_nothing : after_burst (selected two_clips) select_2_bytes ≡ selected two_clips
-other_number_unselects_nothing = refl
-
-own_number_is_selected : sent_for opened select_bytes ≡ 0x04 ∷ []
-own_number_is_selected = refl
-
-open_port_plays_nothing : sent_for opened play_bytes ≡ 0x05 ∷ 0x01 ∷ []
-open_port_plays_nothing = refl
-
-open_port_cues_nothing : sent_for opened cue_1_bytes ≡ 0x05 ∷ 0x01 ∷ []
-open_port_cues_nothing = refl
-
-open_port_stops_nothing : sent_for opened stop_bytes ≡ 0x05 ∷ 0x01 ∷ []
-open_port_stops_nothing = refl
-
-open_port_has_no_state : sent_for opened status_bytes ≡ 0x05 ∷ 0x01 ∷ []
-open_port_has_no_state = refl
-
-open_port_has_no_active_clip : sent_for opened active_bytes ≡ 0x05 ∷ 0x01 ∷ []
-open_port_has_no_active_clip = refl
-
-abbrev close_2_bytes : List ℕ
-close_2_bytes = 0x02 ∷ 0x03 ∷ 0x20 ∷ 0x21 ∷ 0x02 ∷ 0xBD ∷ []
-
-other_number_is_not_closed : sent_for (selected two_clips) close_2_bytes ≡ 0x05 ∷ 0x01 ∷ []
-other_number_is_not_closed = refl
-
-other_number_closes_nothing : after_burst (selected two_clips) close_2_bytes ≡ selected two_clips
-other_number_closes_nothing = refl
-
--- ---- two clips are cued and aired
-
 abbrev cueing_1 : ClockedPort
 cueing_1 = after_burst (selected two_clips) cue_1_bytes
-
-cueing_1_state : byte_of cueing_1 ≡ 0x02
-cueing_1_state = refl
-
-play_while_cueing : sent_for cueing_1 play_bytes ≡ 0x04 ∷ []
-play_while_cueing = refl
-
-play_while_cueing_changes_nothing : after_burst cueing_1 play_bytes ≡ cueing_1
-play_while_cueing_changes_nothing = refl
-
-play_while_cueing_airs_nothing : aired_for cueing_1 play_bytes ≡ []
-play_while_cueing_airs_nothing = refl
 
 abbrev done_1 : ClockedPort
 done_1 = after_ready cueing_1
 
-done_1_state : byte_of done_1 ≡ 0x80
-done_1_state = refl
-
-play_with_a_cue_done : sent_for done_1 play_bytes ≡ 0x04 ∷ []
-play_with_a_cue_done = refl
-
-cued_item_airs : aired_for done_1 play_bytes ≡ whole clip_1 ∷ []
-cued_item_airs = refl
-
 abbrev playing_1 : ClockedPort
 playing_1 = after_burst done_1 play_bytes
-
-playing_1_state : byte_of playing_1 ≡ 0x04
-playing_1_state = refl
-
-second_play : sent_for playing_1 play_bytes ≡ 0x04 ∷ []
-second_play = refl
-
-second_play_airs_nothing : aired_for playing_1 play_bytes ≡ []
-second_play_airs_nothing = refl
-
-second_play_changes_nothing : after_burst playing_1 play_bytes ≡ playing_1
-second_play_changes_nothing = refl
-
-clip_that_plays_is_active : sent_for playing_1 active_bytes
-    ≡ 0x02 ∷ 0x0B ∷ 0x30 ∷ 0x87 ∷ 0x01 ∷ 0x43 ∷ 0x4C ∷ 0x49 ∷ 0x50 ∷ 0x30 ∷ 0x30 ∷ 0x30 ∷ 0x31 ∷ 0x5F ∷ []
-clip_that_plays_is_active = refl
 
 abbrev cueing_2 : ClockedPort
 cueing_2 = after_burst playing_1 cue_2_bytes
 
-next_clip_is_cued : sent_for playing_1 cue_2_bytes ≡ 0x04 ∷ []
-next_clip_is_cued = refl
-
-cueing_2_state : byte_of cueing_2 ≡ 0x06
-cueing_2_state = refl
-
-unknown_clip_is_refused_while_playing : sent_for cueing_2 cue_9_bytes ≡ 0x05 ∷ 0x01 ∷ []
-unknown_clip_is_refused_while_playing = refl
-
-unknown_clip_changes_nothing_while_playing : after_burst cueing_2 cue_9_bytes ≡ cueing_2
-unknown_clip_changes_nothing_while_playing = refl
-
 abbrev done_2 : ClockedPort
 done_2 = after_ready cueing_2
-
-done_2_state : byte_of done_2 ≡ 0x84
-done_2_state = refl
-
-next_item_airs : aired_for done_2 play_bytes ≡ whole clip_2 ∷ []
-next_item_airs = refl
 
 abbrev playing_2 : ClockedPort
 playing_2 = after_burst done_2 play_bytes
 
-playing_2_state : byte_of playing_2 ≡ 0x04
-playing_2_state = refl
+abbrev cueing_again : ClockedPort
+cueing_again = after_burst (after_ended playing_2) cue_1_bytes
 
-ended_state_is_idle : byte_of (after_ended playing_2) ≡ 0x01
-ended_state_is_idle = refl
-
-abbrev stopped : ClockedPort
-stopped = after_burst (after_burst (after_ended playing_2) cue_1_bytes) stop_bytes
-
-stop_is_acknowledged : sent_for (after_burst (after_ended playing_2) cue_1_bytes) stop_bytes ≡ 0x04 ∷ []
-stop_is_acknowledged = refl
-
-stopped_state : byte_of stopped ≡ 0x01
-stopped_state = refl
-
-nothing_is_active : sent_for stopped active_bytes ≡ 0x02 ∷ 0x03 ∷ 0x30 ∷ 0x87 ∷ 0x00 ∷ 0x49 ∷ []
-nothing_is_active = refl
-
-stop_empties_both_slots : sent_for done_2 stop_bytes ≡ 0x04 ∷ []
-stop_empties_both_slots = refl
-
-stop_with_the_cue_done_leaves_nothing : after_burst done_2 stop_bytes ≡ selected two_clips
-stop_with_the_cue_done_leaves_nothing = refl
-
-stop_while_cueing_leaves_nothing : after_burst cueing_2 stop_bytes ≡ selected two_clips
-stop_while_cueing_leaves_nothing = refl
-
-stop_airs_nothing : aired_for done_2 stop_bytes ≡ []
-stop_airs_nothing = refl
-
-nothing_is_made_ready : after_ready (selected two_clips) ≡ selected two_clips
-nothing_is_made_ready = refl
-
-done_cue_is_ready : after_ready done_1 ≡ done_1
-done_cue_is_ready = refl
-
-nothing_ends : after_ended (selected two_clips) ≡ selected two_clips
-nothing_ends = refl
-
-ended_leaves_a_cue : after_ended done_1 ≡ done_1
-ended_leaves_a_cue = refl
-
-closed_port_is_new : after_burst cueing_2 close_bytes ≡ fresh two_clips
-closed_port_is_new = refl
-
-open_twice_is_open_once : after_burst cueing_2 open_bytes ≡ cueing_2
-open_twice_is_open_once = refl
-
--- ---- the frame clock, with three frames a cue
-
+-- with three frames a cue, one item cueing; and two frames later
 abbrev slow : ClockedPort
 slow = after_burst (after_burst (after_burst (new_port two_clips 0 1 3) open_bytes) select_bytes) cue_1_bytes
 
 abbrev slow_2 : ClockedPort
 slow_2 = after_frame (after_frame slow)
 
-two_frames_on : byte_of slow_2 ≡ 0x02
-two_frames_on = refl
+abbrev byte_of : ClockedPort → ℕ
+byte_of p = state_byte p.state
+
+-- ---- what changes nothing
+
+-- a port, a burst at which it stays as it was, and what it answers
+abbrev kept : List (ClockedPort × List ℕ × List ℕ)
+kept =
+    -- an empty burst; ACK and NAK, which the port hears as nothing
+    (selected two_clips, [], []) ∷
+    (selected two_clips, 0x04 ∷ 0x05 ∷ 0x01 ∷ [], []) ∷
+    (done_2, 0x04 ∷ [], []) ∷
+    (done_2, 0x05 ∷ 0x01 ∷ [], []) ∷
+    -- a message to another unit
+    (selected two_clips, 0x02 ∷ 0x02 ∷ 0x11 ∷ 0x01 ∷ 0xEE ∷ [], []) ∷
+    -- a bad sum, a bad start, a bad count, a burst that is cut short, and a fault after a whole message
+    (selected two_clips, 0x02 ∷ 0x02 ∷ 0x10 ∷ 0x01 ∷ 0xEE ∷ [], 0x05 ∷ 0x04 ∷ []) ∷
+    (selected two_clips, 0x03 ∷ 0x04 ∷ [], 0x05 ∷ 0x04 ∷ []) ∷
+    (selected two_clips, 0x02 ∷ 0x01 ∷ 0x10 ∷ 0xF0 ∷ [], 0x05 ∷ 0x04 ∷ []) ∷
+    (selected two_clips, 0x02 ∷ 0x0A ∷ 0x20 ∷ 0x24 ∷ 0x43 ∷ [], 0x05 ∷ 0x80 ∷ []) ∷
+    (selected two_clips, play_bytes ++ 0xFF ∷ 0x04 ∷ [], 0x04 ∷ 0x05 ∷ 0x04 ∷ []) ∷
+    -- PLAY with a byte of data
+    (selected two_clips, 0x02 ∷ 0x03 ∷ 0x10 ∷ 0x01 ∷ 0x00 ∷ 0xEF ∷ [], 0x05 ∷ 0x01 ∷ []) ∷
+    -- PLAY with nothing cued, while cueing, and again; PLAY and STOP in one burst
+    (selected two_clips, play_bytes, 0x04 ∷ []) ∷
+    (cueing_1, play_bytes, 0x04 ∷ []) ∷
+    (playing_1, play_bytes, 0x04 ∷ []) ∷
+    (selected two_clips, play_bytes ++ stop_bytes, 0x04 ∷ 0x04 ∷ []) ∷
+    -- the state, which is idle, and none after a bitmap without bit 0
+    (selected two_clips, status_bytes, 0x02 ∷ 0x04 ∷ 0x30 ∷ 0x85 ∷ 0x01 ∷ 0x01 ∷ 0x49 ∷ []) ∷
+    (selected two_clips, 0x02 ∷ 0x03 ∷ 0x30 ∷ 0x05 ∷ 0x02 ∷ 0xC9 ∷ [], 0x02 ∷ 0x03 ∷ 0x30 ∷ 0x85 ∷ 0x00 ∷ 0x4B ∷ []) ∷
+    -- the clip that plays, and none
+    (playing_1, active_bytes, 0x02 ∷ 0x0B ∷ 0x30 ∷ 0x87 ∷ 0x01 ∷ (codes "CLIP0001" ++ 0x5F ∷ [])) ∷
+    (after_burst cueing_again stop_bytes, active_bytes, 0x02 ∷ 0x03 ∷ 0x30 ∷ 0x87 ∷ 0x00 ∷ 0x49 ∷ []) ∷
+    -- whether a clip is there, and how long it is
+    (fresh two_clips, exists_1_bytes, 0x02 ∷ 0x03 ∷ 0x30 ∷ 0x96 ∷ 0x01 ∷ 0x39 ∷ []) ∷
+    (fresh two_clips, exists_9_bytes, 0x02 ∷ 0x03 ∷ 0x30 ∷ 0x96 ∷ 0x00 ∷ 0x3A ∷ []) ∷
+    (fresh two_clips, size_1_bytes, 0x02 ∷ 0x06 ∷ 0x30 ∷ 0x94 ∷ 0x00 ∷ 0x10 ∷ 0x00 ∷ 0x00 ∷ 0x2C ∷ []) ∷
+    (fresh two_clips, size_9_bytes, 0x05 ∷ 0x01 ∷ []) ∷
+    -- a clip that isn't known isn't cued, nor while another one plays
+    (selected [], cue_1_bytes, 0x05 ∷ 0x01 ∷ []) ∷
+    (cueing_2, cue_9_bytes, 0x05 ∷ 0x01 ∷ []) ∷
+    -- another port's number isn't opened, selected or closed
+    (
+      fresh two_clips,
+      0x02 ∷ 0x04 ∷ 0x30 ∷ 0x01 ∷ 0x02 ∷ 0x01 ∷ 0xCC ∷ [],
+      0x02 ∷ 0x03 ∷ 0x30 ∷ 0x81 ∷ 0x00 ∷ 0x4F ∷ [],
+    ) ∷
+    (opened, select_2_bytes, 0x05 ∷ 0x01 ∷ []) ∷
+    (selected two_clips, select_2_bytes, 0x05 ∷ 0x01 ∷ []) ∷
+    (selected two_clips, close_2_bytes, 0x05 ∷ 0x01 ∷ []) ∷
+    -- a closed port plays nothing; one that is open and not selected plays, cues, stops and tells nothing
+    (fresh two_clips, play_bytes, 0x05 ∷ 0x01 ∷ []) ∷
+    (opened, play_bytes, 0x05 ∷ 0x01 ∷ []) ∷
+    (opened, cue_1_bytes, 0x05 ∷ 0x01 ∷ []) ∷
+    (opened, stop_bytes, 0x05 ∷ 0x01 ∷ []) ∷
+    (opened, status_bytes, 0x05 ∷ 0x01 ∷ []) ∷
+    (opened, active_bytes, 0x05 ∷ 0x01 ∷ []) ∷
+    -- a port that is open stays as it is by another OPEN
+    (cueing_2, open_bytes, 0x02 ∷ 0x03 ∷ 0x30 ∷ 0x81 ∷ 0x01 ∷ 0x4E ∷ []) ∷
+    -- the largest message
+    (selected two_clips, 0x02 ∷ 0xFF ∷ 0x70 ∷ 0x00 ∷ (replicate 253 0x00 ++ 0x90 ∷ []), 0x05 ∷ 0x01 ∷ []) ∷ []
+
+what_changes_nothing_is_answered : map (λ row. sent_for row.0 row.1) kept ≡ map (λ row. row.2) kept
+what_changes_nothing_is_answered = refl
+
+what_changes_nothing_leaves_the_port : map (λ row. after_burst row.0 row.1) kept ≡ map (λ row. row.0) kept
+what_changes_nothing_leaves_the_port = refl
+
+what_changes_nothing_airs_nothing : map (λ row. aired_for row.0 row.1) kept ≡ map (λ row. []) kept
+what_changes_nothing_airs_nothing = refl
+
+-- ---- what is executed
+
+-- a port, a burst, what it answers, and what goes to air
+abbrev executed : List (ClockedPort × List ℕ × List ℕ × List Item)
+executed =
+    -- one burst opens, selects and asks
+    (
+      fresh two_clips,
+      open_bytes ++ select_bytes ++ status_bytes,
+      0x02 ∷ 0x03 ∷ 0x30 ∷ 0x81 ∷ 0x01 ∷ 0x4E ∷ 0x04 ∷ 0x02 ∷ 0x04 ∷ 0x30 ∷ 0x85 ∷ 0x01 ∷ 0x01 ∷ 0x49 ∷ [],
+      [],
+    ) ∷
+    (opened, select_bytes, 0x04 ∷ [], []) ∷
+    -- two clips are cued and aired, and the first one is cued again and stopped
+    (selected two_clips, cue_1_bytes, 0x04 ∷ [], []) ∷
+    (done_1, play_bytes, 0x04 ∷ [], whole clip_1 ∷ []) ∷
+    (playing_1, cue_2_bytes, 0x04 ∷ [], []) ∷
+    (done_2, play_bytes, 0x04 ∷ [], whole clip_2 ∷ []) ∷
+    (cueing_again, stop_bytes, 0x04 ∷ [], []) ∷
+    (done_2, stop_bytes, 0x04 ∷ [], []) ∷ []
+
+what_is_executed_is_answered : map (λ row. sent_for row.0 row.1) executed ≡ map (λ row. row.2) executed
+what_is_executed_is_answered = refl
+
+what_is_done_airs : map (λ row. aired_for row.0 row.1) executed ≡ map (λ row. row.3) executed
+what_is_done_airs = refl
+
+-- the state byte of ports
+abbrev state_bytes : List (ClockedPort × ℕ)
+state_bytes =
+    (fresh two_clips, 0x01) ∷ (selected two_clips, 0x01) ∷
+    (cueing_1, 0x02) ∷ (done_1, 0x80) ∷ (playing_1, 0x04) ∷
+    (cueing_2, 0x06) ∷ (done_2, 0x84) ∷ (playing_2, 0x04) ∷ (after_ended playing_2, 0x01) ∷
+    (after_burst cueing_again stop_bytes, 0x01) ∷
+    -- two frames and three frames after a cue that takes three
+    (slow_2, 0x02) ∷ (after_frame slow_2, 0x80) ∷ []
+
+ports_have_their_state_bytes : map (λ row. byte_of row.0) state_bytes ≡ map (λ row. row.1) state_bytes
+ports_have_their_state_bytes = refl
+
+-- ports that are the same
+abbrev same_ports : List (ClockedPort × ClockedPort)
+same_ports =
+    -- STOP leaves nothing, with the cue done and while cueing
+    (after_burst done_2 stop_bytes, selected two_clips) ∷
+    (after_burst cueing_2 stop_bytes, selected two_clips) ∷
+    -- nothing is made ready, and what is ready stays so
+    (after_ready (selected two_clips), selected two_clips) ∷
+    (after_ready done_1, done_1) ∷
+    -- nothing ends, and a cue stays where nothing plays
+    (after_ended (selected two_clips), selected two_clips) ∷
+    (after_ended done_1, done_1) ∷
+    -- a port that is closed is a new one
+    (after_burst cueing_2 close_bytes, fresh two_clips) ∷
+    -- the third of three frames makes the cue ready
+    (after_frame slow_2, after_ready slow) ∷ []
+
+ports_are_the_same : map (λ row. row.0) same_ports ≡ map (λ row. row.1) same_ports
+ports_are_the_same = refl
 
 third_frame_completes_the_cue : completes_cue slow_2 ≡ true
 third_frame_completes_the_cue = refl
 
-three_frames_on : byte_of (after_frame slow_2) ≡ 0x80
-three_frames_on = refl
-
-three_frames_are_ready : after_frame slow_2 ≡ after_ready slow
-three_frames_are_ready = refl
-
 -- ---- the largest burst
 
-plays_past_the_limit : ◌≡◌ {A = List ℕ} (sent_for (selected two_clips) (flat_map (λ (k : ℕ). play_bytes) (range_with_len 0 820)))
+plays_past_the_limit : ◌≡◌ {A = List ℕ}
+    (sent_for (selected two_clips) (flat_map (λ (k : ℕ). play_bytes) (range_with_len 0 820)))
     (replicate 819 0x04 ++ 0x05 ∷ 0x04 ∷ [])
 plays_past_the_limit = refl
-
--- ---- the largest message
-
-largest_message : ◌≡◌ {A = List ℕ} (sent_for (selected two_clips) (0x02 ∷ 0xFF ∷ 0x70 ∷ 0x00 ∷ (replicate 253 0x00 ++ 0x90 ∷ []))) (0x05 ∷ 0x01 ∷ [])
-largest_message = refl
 
 -- ---- parts of the first clip: three seconds from 2, 7 and 8 seconds on
 
@@ -376,18 +286,18 @@ frames_10 = frame_number_is F25 (seconds 10) refl
 
 abbrev part_2_bytes : List ℕ
 part_2_bytes =
-    0x02 ∷ 0x12 ∷ 0x20 ∷ 0x25 ∷ 0x43 ∷ 0x4C ∷ 0x49 ∷ 0x50 ∷ 0x30 ∷ 0x30 ∷ 0x30 ∷ 0x31 ∷
-    0x00 ∷ 0x02 ∷ 0x00 ∷ 0x00 ∷ 0x00 ∷ 0x03 ∷ 0x00 ∷ 0x00 ∷ 0xCD ∷ []
+    0x02 ∷ 0x12 ∷ 0x20 ∷ 0x25 ∷
+    (codes "CLIP0001" ++ 0x00 ∷ 0x02 ∷ 0x00 ∷ 0x00 ∷ 0x00 ∷ 0x03 ∷ 0x00 ∷ 0x00 ∷ 0xCD ∷ [])
 
 abbrev part_7_bytes : List ℕ
 part_7_bytes =
-    0x02 ∷ 0x12 ∷ 0x20 ∷ 0x25 ∷ 0x43 ∷ 0x4C ∷ 0x49 ∷ 0x50 ∷ 0x30 ∷ 0x30 ∷ 0x30 ∷ 0x31 ∷
-    0x00 ∷ 0x07 ∷ 0x00 ∷ 0x00 ∷ 0x00 ∷ 0x03 ∷ 0x00 ∷ 0x00 ∷ 0xC8 ∷ []
+    0x02 ∷ 0x12 ∷ 0x20 ∷ 0x25 ∷
+    (codes "CLIP0001" ++ 0x00 ∷ 0x07 ∷ 0x00 ∷ 0x00 ∷ 0x00 ∷ 0x03 ∷ 0x00 ∷ 0x00 ∷ 0xC8 ∷ [])
 
 abbrev part_8_bytes : List ℕ
 part_8_bytes =
-    0x02 ∷ 0x12 ∷ 0x20 ∷ 0x25 ∷ 0x43 ∷ 0x4C ∷ 0x49 ∷ 0x50 ∷ 0x30 ∷ 0x30 ∷ 0x30 ∷ 0x31 ∷
-    0x00 ∷ 0x08 ∷ 0x00 ∷ 0x00 ∷ 0x00 ∷ 0x03 ∷ 0x00 ∷ 0x00 ∷ 0xC7 ∷ []
+    0x02 ∷ 0x12 ∷ 0x20 ∷ 0x25 ∷
+    (codes "CLIP0001" ++ 0x00 ∷ 0x08 ∷ 0x00 ∷ 0x00 ∷ 0x00 ∷ 0x03 ∷ 0x00 ∷ 0x00 ∷ 0xC7 ∷ [])
 
 abbrev three_seconds : List ℕ
 three_seconds = 0x00 ∷ 0x03 ∷ 0x00 ∷ 0x00 ∷ []
@@ -448,18 +358,18 @@ unlawful_duration = refl
 
 abbrev no_frame_bytes : List ℕ
 no_frame_bytes =
-    0x02 ∷ 0x12 ∷ 0x20 ∷ 0x25 ∷ 0x43 ∷ 0x4C ∷ 0x49 ∷ 0x50 ∷ 0x30 ∷ 0x30 ∷ 0x30 ∷ 0x31 ∷
-    0x00 ∷ 0x02 ∷ 0x00 ∷ 0x00 ∷ 0x00 ∷ 0x00 ∷ 0x00 ∷ 0x00 ∷ 0xD0 ∷ []
+    0x02 ∷ 0x12 ∷ 0x20 ∷ 0x25 ∷
+    (codes "CLIP0001" ++ 0x00 ∷ 0x02 ∷ 0x00 ∷ 0x00 ∷ 0x00 ∷ 0x00 ∷ 0x00 ∷ 0x00 ∷ 0xD0 ∷ [])
 
 abbrev unlawful_start_bytes : List ℕ
 unlawful_start_bytes =
-    0x02 ∷ 0x12 ∷ 0x20 ∷ 0x25 ∷ 0x43 ∷ 0x4C ∷ 0x49 ∷ 0x50 ∷ 0x30 ∷ 0x30 ∷ 0x30 ∷ 0x31 ∷
-    0x25 ∷ 0x02 ∷ 0x00 ∷ 0x00 ∷ 0x00 ∷ 0x03 ∷ 0x00 ∷ 0x00 ∷ 0xA8 ∷ []
+    0x02 ∷ 0x12 ∷ 0x20 ∷ 0x25 ∷
+    (codes "CLIP0001" ++ 0x25 ∷ 0x02 ∷ 0x00 ∷ 0x00 ∷ 0x00 ∷ 0x03 ∷ 0x00 ∷ 0x00 ∷ 0xA8 ∷ [])
 
 abbrev unlawful_duration_bytes : List ℕ
 unlawful_duration_bytes =
-    0x02 ∷ 0x12 ∷ 0x20 ∷ 0x25 ∷ 0x43 ∷ 0x4C ∷ 0x49 ∷ 0x50 ∷ 0x30 ∷ 0x30 ∷ 0x30 ∷ 0x31 ∷
-    0x00 ∷ 0x02 ∷ 0x00 ∷ 0x00 ∷ 0x00 ∷ 0x60 ∷ 0x00 ∷ 0x00 ∷ 0x70 ∷ []
+    0x02 ∷ 0x12 ∷ 0x20 ∷ 0x25 ∷
+    (codes "CLIP0001" ++ 0x00 ∷ 0x02 ∷ 0x00 ∷ 0x00 ∷ 0x00 ∷ 0x60 ∷ 0x00 ∷ 0x00 ∷ 0x70 ∷ [])
 
 part_of_no_frame : sent_for (selected two_clips) no_frame_bytes ≡ 0x05 ∷ 0x01 ∷ []
 part_of_no_frame = ap (sent_if (0x00 ∷ 0x02 ∷ 0x00 ∷ 0x00 ∷ []) (0x00 ∷ 0x00 ∷ 0x00 ∷ 0x00 ∷ [])) no_frame
@@ -474,17 +384,19 @@ part_with_an_unlawful_start_changes_nothing : after_burst (selected two_clips) u
 part_with_an_unlawful_start_changes_nothing = rw unlawful_start refl
 
 part_with_an_unlawful_duration : sent_for (selected two_clips) unlawful_duration_bytes ≡ 0x05 ∷ 0x01 ∷ []
-part_with_an_unlawful_duration = ap (sent_if (0x00 ∷ 0x02 ∷ 0x00 ∷ 0x00 ∷ []) (0x00 ∷ 0x60 ∷ 0x00 ∷ 0x00 ∷ [])) unlawful_duration
+part_with_an_unlawful_duration =
+    ap (sent_if (0x00 ∷ 0x02 ∷ 0x00 ∷ 0x00 ∷ []) (0x00 ∷ 0x60 ∷ 0x00 ∷ 0x00 ∷ [])) unlawful_duration
 
-part_with_an_unlawful_duration_changes_nothing : after_burst (selected two_clips) unlawful_duration_bytes ≡ selected two_clips
+part_with_an_unlawful_duration_changes_nothing : after_burst (selected two_clips) unlawful_duration_bytes
+    ≡ selected two_clips
 part_with_an_unlawful_duration_changes_nothing = rw unlawful_duration refl
 
 -- of a clip that isn't known, and while the port isn't selected
 
 abbrev part_9_bytes : List ℕ
 part_9_bytes =
-    0x02 ∷ 0x12 ∷ 0x20 ∷ 0x25 ∷ 0x43 ∷ 0x4C ∷ 0x49 ∷ 0x50 ∷ 0x30 ∷ 0x30 ∷ 0x30 ∷ 0x39 ∷
-    0x00 ∷ 0x02 ∷ 0x00 ∷ 0x00 ∷ 0x00 ∷ 0x03 ∷ 0x00 ∷ 0x00 ∷ 0xC5 ∷ []
+    0x02 ∷ 0x12 ∷ 0x20 ∷ 0x25 ∷
+    (codes "CLIP0009" ++ 0x00 ∷ 0x02 ∷ 0x00 ∷ 0x00 ∷ 0x00 ∷ 0x03 ∷ 0x00 ∷ 0x00 ∷ 0xC5 ∷ [])
 
 part_of_an_unknown_clip : sent_for (selected two_clips) part_9_bytes ≡ 0x05 ∷ 0x01 ∷ []
 part_of_an_unknown_clip = refl
@@ -506,7 +418,8 @@ whole_clip_plays_its_length = ap (max 1) frames_10
 abbrev part_done : ClockedPort
 part_done = after_ready (after_burst (selected two_clips) part_2_bytes)
 
-part_airs_as_a_part : aired_for part_done play_bytes ≡ part_of clip_1 (0x00 ∷ 0x02 ∷ 0x00 ∷ 0x00 ∷ []) (0x00 ∷ 0x03 ∷ 0x00 ∷ 0x00 ∷ []) ∷ []
+part_airs_as_a_part : aired_for part_done play_bytes
+    ≡ part_of clip_1 (0x00 ∷ 0x02 ∷ 0x00 ∷ 0x00 ∷ []) (0x00 ∷ 0x03 ∷ 0x00 ∷ 0x00 ∷ []) ∷ []
 part_airs_as_a_part = rw within refl
 
 part_plays_its_duration : (after_burst part_done play_bytes).counts.playing ≡ 75

@@ -20,7 +20,8 @@ no_answers unit (fault which place) = inr (inl refl)
 
 pub sent_for_none : (p : ClockedPort) (burst : List ℕ) → messages_of burst ≡ [] → IsNoneOrNak (sent_for p burst)
 sent_for_none p burst none =
-    subst IsNoneOrNak (sym (ap (λ (ms : List Content). sent_bytes p ms (end_of burst)) none)) (no_answers p.state.unit (end_of burst))
+    subst IsNoneOrNak (sym (ap (λ (ms : List Content). sent_bytes p ms (end_of burst)) none))
+    (no_answers p.state.unit (end_of burst))
 
 pub sent_with_one : (p : ClockedPort) (m : Content) (burst : List ℕ) → messages_of burst ≡ m ∷ []
     → sent_for p burst ≡ bytes_for p m ++ answer_bytes p.state.unit (end_answers (end_of burst))
@@ -30,15 +31,18 @@ sent_with_one p m burst one =
     ∙ sent_in_parts p (m ∷ []) (end_of burst)
     ∙ ap (λ (bytes : List ℕ). bytes ++ last) (bytes_for_alone p m)
 
-pub aired_with_one : (p : ClockedPort) (m : Content) (burst : List ℕ) → messages_of burst ≡ m ∷ [] → aired_for p burst ≡ items_for p m
+pub aired_with_one : (p : ClockedPort) (m : Content) (burst : List ℕ) → messages_of burst ≡ m ∷ []
+    → aired_for p burst ≡ items_for p m
 aired_with_one p m burst one = ap (aired_on_way p) one ∙ aired_by_alone p m
 
-pub after_with_one : (p : ClockedPort) (m : Content) (burst : List ℕ) → messages_of burst ≡ m ∷ [] → after_burst p burst ≡ after_message p m
+pub after_with_one : (p : ClockedPort) (m : Content) (burst : List ℕ) → messages_of burst ≡ m ∷ []
+    → after_burst p burst ≡ after_message p m
 after_with_one p m burst one = ap (after_messages p) one
 
 -- ---- a burst that is one message
 
-pub sent_for_one : (p : ClockedPort) (m : Content) (burst : List ℕ) → messages_of burst ≡ m ∷ [] → end_of burst ≡ clean → sent_for p burst ≡ bytes_for p m
+pub sent_for_one : (p : ClockedPort) (m : Content) (burst : List ℕ) → messages_of burst ≡ m ∷ [] → end_of burst ≡ clean
+    → sent_for p burst ≡ bytes_for p m
 sent_for_one p m burst one ends =
     sent_with_one p m burst one
     ∙ ap (λ (end : End). bytes_for p m ++ answer_bytes p.state.unit (end_answers end)) ends

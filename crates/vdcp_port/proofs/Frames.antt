@@ -1,7 +1,7 @@
 -- Frames one after another.
-use Rattle.std.proofs.Common.{ℕ, zero, suc, ◌-◌, ◌<◌, ◌≡◌, nat_eq, arith, refl, sym, ap, ◌∙◌, subst}
+use Rattle.std.proofs.Common.{ℕ, zero, suc, ◌-◌, ◌<◌, ◌≡◌, arith, refl, sym, ap, ◌∙◌, subst}
 use Rattle.std.proofs.lemmas.Grind.{common_steps}
-use Rattle.std.specs.Prelude.{None, if◌then◌else◌}
+use Rattle.std.specs.Prelude.{None}
 use Rattle.vdcp_port.specs.Clock.{ClockedPort, after_frame, after_frames}
 use Rattle.vdcp_port.specs.Port.{made_ready}
 
@@ -11,12 +11,6 @@ frame_cue_count p = grind (arith, common_steps)
 
 frame_clip_count : (p : ClockedPort) → (after_frame p).counts.playing ≡ p.counts.playing - 1
 frame_clip_count p = grind (arith, common_steps)
-
-frame_cued : (p : ClockedPort) → (after_frame p).state.cued ≡ (if nat_eq p.counts.cue 1 then made_ready p.state.cued else p.state.cued)
-frame_cued p = grind (arith, common_steps)
-
-frame_playing : (p : ClockedPort) → (after_frame p).state.playing ≡ (if nat_eq p.counts.playing 1 then None else p.state.playing)
-frame_playing p = grind (arith, common_steps)
 
 playing_on : (p : ClockedPort) → 1 < p.counts.playing → (after_frame p).state.playing ≡ p.state.playing
 playing_on p more = grind (arith, common_steps, more)
@@ -51,12 +45,15 @@ cues_on zero p more = refl
 cues_on (suc n) p more =
     cues_on n (after_frame p) (omega (arith, frame_cue_count p)) ∙ cueing_on p (omega arith)
 
-cued_out_after : (n : ℕ) (p : ClockedPort) → p.counts.cue ≡ suc n → (after_frames (suc n) p).state.cued ≡ made_ready p.state.cued
+cued_out_after : (n : ℕ) (p : ClockedPort) → p.counts.cue ≡ suc n
+    → (after_frames (suc n) p).state.cued ≡ made_ready p.state.cued
 cued_out_after zero p count = cued_out p count
 cued_out_after (suc n) p count =
-    cued_out_after n (after_frame p) (frame_cue_count p ∙ omega (arith, count)) ∙ ap made_ready (cueing_on p (omega (arith, count)))
+    cued_out_after n (after_frame p) (frame_cue_count p ∙ omega (arith, count))
+    ∙ ap made_ready (cueing_on p (omega (arith, count)))
 
 pub cues_out : (p : ClockedPort) → 0 < p.counts.cue → (after_frames p.counts.cue p).state.cued ≡ made_ready p.state.cued
 cues_out p some =
     let count : p.counts.cue ≡ suc (p.counts.cue - 1) = omega arith in
-    subst (λ n. (after_frames n p).state.cued ≡ made_ready p.state.cued) (sym count) (cued_out_after (p.counts.cue - 1) p count)
+    subst (λ n. (after_frames n p).state.cued ≡ made_ready p.state.cued) (sym count)
+    (cued_out_after (p.counts.cue - 1) p count)

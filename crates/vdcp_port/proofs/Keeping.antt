@@ -33,27 +33,33 @@ due_open : (clips : List (ClipId × Timecode)) (p : PortState) (b : Bool)
 due_open clips p true = tt
 due_open clips p false = tt
 
-due_play : (clips : List (ClipId × Timecode)) (p : PortState) (cued : Cued) → p.cued ≡ cued → IsDue clips p (play_row cued).change
+due_play : (clips : List (ClipId × Timecode)) (p : PortState) (cued : Cued) → p.cued ≡ cued
+    → IsDue clips p (play_row cued).change
 due_play clips p empty e = tt
 due_play clips p (cueing item) e = tt
 due_play clips p (done item) e = e
 
-due_size : (clips : List (ClipId × Timecode)) (p : PortState) (length : Option Timecode) → IsDue clips p (size_row length).change
+due_size : (clips : List (ClipId × Timecode)) (p : PortState) (length : Option Timecode)
+    → IsDue clips p (size_row length).change
 due_size clips p None = tt
 due_size clips p (Some length) = tt
 
 second : (a b : Bool) → (a && b) ≡ true → IsTrue b
 second a b e = grind (arith, e)
 
-command_due : (clips : List (ClipId × Timecode)) (p : PortState) (command : Command) → IsDue clips p (command_row clips p command).change
+command_due : (clips : List (ClipId × Timecode)) (p : PortState) (command : Command)
+    → IsDue clips p (command_row clips p command).change
 command_due clips p (Open number lock) = due_open clips p (nat_eq number p.number)
 command_due clips p (Close number) = due_if clips p (nat_eq number p.number) (row reply.Ack closes) (λ _. tt)
-command_due clips p (Select number) = due_if clips p (nat_eq number p.number && is_open p) (row reply.Ack selects) (λ _. tt)
+command_due clips p (Select number) =
+    due_if clips p (nat_eq number p.number && is_open p) (row reply.Ack selects) (λ _. tt)
 command_due clips p (PlayCue id) =
-    due_if clips p (is_selected p && is_playable clips (whole id)) (row reply.Ack (cues (whole id))) (second (is_selected p) (is_playable clips (whole id)))
+    due_if clips p (is_selected p && is_playable clips (whole id)) (row reply.Ack (cues (whole id)))
+    (second (is_selected p) (is_playable clips (whole id)))
 command_due clips p (CueData id start duration) =
     let item = part_of id start duration in
-    due_if clips p (is_selected p && is_playable clips item) (row reply.Ack (cues item)) (second (is_selected p) (is_playable clips item))
+    due_if clips p (is_selected p && is_playable clips item) (row reply.Ack (cues item))
+    (second (is_selected p) (is_playable clips item))
 command_due clips p Play = due_if clips p (is_selected p) (play_row p.cued) (λ _. due_play clips p p.cued refl)
 command_due clips p Stop = due_if clips p (is_selected p) (row reply.Ack stops) (λ _. tt)
 command_due clips p (Status bitmap) = due_if clips p (is_selected p) _ (λ _. tt)
@@ -69,12 +75,17 @@ asked_due clips p (asked.Command command) = command_due clips p command
 some_on_air : (clips : List (ClipId × Timecode)) (item : Item) → nat_lt 0 (frames_on_air clips item) ≡ true
 some_on_air clips item = grind arith
 
-keeps_kept : (change : Change) (p : ClockedPort) → IsDue p.clips p.state change → IsKept p → IsKept (after_change change p)
+keeps_kept : (change : Change) (p : ClockedPort) → IsDue p.clips p.state change → IsKept p
+    → IsKept (after_change change p)
 keeps_kept keeps p due k = k
-keeps_kept opens p due k = record { cue_takes = k.cue_takes; cued = k.cued; playing = k.playing; cue_count = k.cue_count; playing_count = k.playing_count }
-keeps_kept closes p due k = record { cue_takes = k.cue_takes; cued = tt; playing = tt; cue_count = refl; playing_count = refl }
-keeps_kept selects p due k = record { cue_takes = k.cue_takes; cued = k.cued; playing = k.playing; cue_count = k.cue_count; playing_count = k.playing_count }
-keeps_kept (cues item) p due k = record { cue_takes = k.cue_takes; cued = due; playing = k.playing; cue_count = k.cue_takes; playing_count = k.playing_count }
+keeps_kept opens p due k =
+    record { cue_takes = k.cue_takes; cued = k.cued; playing = k.playing; cue_count = k.cue_count; playing_count = k.playing_count }
+keeps_kept closes p due k =
+    record { cue_takes = k.cue_takes; cued = tt; playing = tt; cue_count = refl; playing_count = refl }
+keeps_kept selects p due k =
+    record { cue_takes = k.cue_takes; cued = k.cued; playing = k.playing; cue_count = k.cue_count; playing_count = k.playing_count }
+keeps_kept (cues item) p due k =
+    record { cue_takes = k.cue_takes; cued = due; playing = k.playing; cue_count = k.cue_takes; playing_count = k.playing_count }
 keeps_kept (airs item) p due k = record {
   cue_takes = k.cue_takes;
   cued = tt;
@@ -82,7 +93,8 @@ keeps_kept (airs item) p due k = record {
   cue_count = refl;
   playing_count = some_on_air p.clips item;
 }
-keeps_kept stops p due k = record { cue_takes = k.cue_takes; cued = tt; playing = tt; cue_count = refl; playing_count = refl }
+keeps_kept stops p due k =
+    record { cue_takes = k.cue_takes; cued = tt; playing = tt; cue_count = refl; playing_count = refl }
 
 pub message_kept : (p : ClockedPort) (m : Content) → IsKept p → IsKept (after_message p m)
 message_kept p m k = keeps_kept (row_at p m).change p (asked_due p.clips p.state (asked_of p.state.unit m)) k

@@ -17,7 +17,7 @@ use Rattle.vdcp_words.specs.declared.command.Command.{Command}
 abbrev pub FourBytes : Type 0
 FourBytes = (timecode : Timecode) → AreBytes 4 (bcd_of timecode)
 
--- and an ID as eight; so many bytes are as many numbers
+-- an ID as eight, and n bytes are n numbers
 pub record ValueBytes : Type 0 where
   pub four : FourBytes
   pub eight : (id : ClipId) → AreBytes 8 (id_bytes id)
@@ -29,8 +29,11 @@ SomeReading = (burst : List ℕ) → AreOctets burst → Reads burst (messages_o
 
 -- and no other
 abbrev pub OneReading : Type 0
-OneReading = (burst : List ℕ) (ms : List Content) (end : End) → AreOctets burst → Reads burst ms end → (ms ≡ messages_of burst) × (end ≡ end_of burst)
+OneReading =
+    (burst : List ℕ) (ms : List Content) (end : End) → AreOctets burst → Reads burst ms end
+    → (ms ≡ messages_of burst) × (end ≡ end_of burst)
 
 -- the message of a command reads as it
 abbrev pub ReadBack : Type 0
-ReadBack = (unit : ℕ) (command : Command) → IsWritableCommand command → command_of (command_message unit command) ≡ Ok command
+ReadBack = (unit : ℕ) (command : Command) → IsWritableCommand command
+    → command_of (command_message unit command) ≡ Ok command

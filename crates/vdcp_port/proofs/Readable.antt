@@ -49,7 +49,8 @@ readable_play empty = tt
 readable_play (cueing item) = tt
 readable_play (done item) = tt
 
-pub readable_row : FourBytes → (clips : List (ClipId × Timecode)) (p : PortState) (command : Command) → IsReadable (command_row clips p command)
+pub readable_row : FourBytes → (clips : List (ClipId × Timecode)) (p : PortState) (command : Command)
+    → IsReadable (command_row clips p command)
 readable_row four clips p (Open number lock) = readable_if (nat_eq number p.number) _ _ tt tt
 readable_row four clips p (Close number) = readable_if (nat_eq number p.number) _ _ tt refusal
 readable_row four clips p (Select number) = readable_if (nat_eq number p.number && is_open p) _ _ tt refusal
@@ -66,7 +67,8 @@ readable_row four clips p (IdSize id) = readable_size four (length_of clips id)
 
 -- each command's row has an answer
 
-has_if : (b : Bool) (r s : Row) → is_some r.answer ≡ true → is_some s.answer ≡ true → is_some (if b then r else s).answer ≡ true
+has_if : (b : Bool) (r s : Row) → is_some r.answer ≡ true → is_some s.answer ≡ true
+    → is_some (if b then r else s).answer ≡ true
 has_if true r s p q = p
 has_if false r s p q = q
 
@@ -79,12 +81,14 @@ has_size : (length : Option Timecode) → is_some (size_row length).answer ≡ t
 has_size None = refl
 has_size (Some length) = refl
 
-has_answer : (clips : List (ClipId × Timecode)) (p : PortState) (command : Command) → is_some (command_row clips p command).answer ≡ true
+has_answer : (clips : List (ClipId × Timecode)) (p : PortState) (command : Command)
+    → is_some (command_row clips p command).answer ≡ true
 has_answer clips p (Open number lock) = has_if (nat_eq number p.number) _ _ refl refl
 has_answer clips p (Close number) = has_if (nat_eq number p.number) _ _ refl refl
 has_answer clips p (Select number) = has_if (nat_eq number p.number && is_open p) _ _ refl refl
 has_answer clips p (PlayCue id) = has_if (is_selected p && is_playable clips (whole id)) _ _ refl refl
-has_answer clips p (CueData id start duration) = has_if (is_selected p && is_playable clips (part_of id start duration)) _ _ refl refl
+has_answer clips p (CueData id start duration) =
+    has_if (is_selected p && is_playable clips (part_of id start duration)) _ _ refl refl
 has_answer clips p Play = has_if (is_selected p) _ _ (has_play p.cued) refl
 has_answer clips p Stop = has_if (is_selected p) _ _ refl refl
 has_answer clips p (Status bitmap) = has_if (is_selected p) _ _ refl refl

@@ -22,7 +22,8 @@ use Rattle.vdcp_port.specs.Row.{asked_row}
 use Rattle.vdcp_port.proofs.LawsBelow.{FourBytes, ReadBack}
 use Rattle.vdcp_port.proofs.Readable.{readable_row}
 
-asked_readable : FourBytes → (clips : List (ClipId × Timecode)) (p : PortState) (a : Asked) → IfSome (asked_row clips p a).answer IsWritableReply
+asked_readable : FourBytes → (clips : List (ClipId × Timecode)) (p : PortState) (a : Asked)
+    → IfSome (asked_row clips p a).answer IsWritableReply
 asked_readable four clips p asked.Nothing = tt
 asked_readable four clips p asked.NoCommand = lit< tt
 asked_readable four clips p (asked.Command command) = readable_row four clips p command
@@ -43,8 +44,10 @@ end_readable clean = All-nil IsWritableReply
 end_readable (cut count) = All-cons IsWritableReply _ [] (lit< tt) (All-nil IsWritableReply)
 end_readable (fault which place) = All-cons IsWritableReply _ [] (lit< tt) (All-nil IsWritableReply)
 
-pub burst_readable : FourBytes → (p : ClockedPort) (ms : List Content) (end : End) → All IsWritableReply (answers_to p ms ++ end_answers end)
-burst_readable four p ms end = All-append IsWritableReply (answers_to p ms) (end_answers end) (all_readable four p ms) (end_readable end)
+pub burst_readable : FourBytes → (p : ClockedPort) (ms : List Content) (end : End)
+    → All IsWritableReply (answers_to p ms ++ end_answers end)
+burst_readable four p ms end =
+    All-append IsWritableReply (answers_to p ms) (end_answers end) (all_readable four p ms) (end_readable end)
 
 -- ---- a command's message asks for it
 
@@ -53,5 +56,6 @@ asks_if : ReadBack → (same : Bool) (unit : ℕ) (command : Command) → IsWrit
 asks_if law true unit command w e = ap asked_by (law unit command w)
 asks_if law false unit command w e = cc
 
-pub asks_own_unit : ReadBack → (unit : ℕ) (command : Command) → IsWritableCommand command → asked_of unit (command_message unit command) ≡ asked.Command command
+pub asks_own_unit : ReadBack → (unit : ℕ) (command : Command) → IsWritableCommand command
+    → asked_of unit (command_message unit command) ≡ asked.Command command
 asks_own_unit law unit command w = asks_if law (nat_eq unit unit) unit command w (grind arith)

@@ -40,11 +40,13 @@ spares_size : (length : Option Timecode) → Spares (size_row length)
 spares_size None = λ e. refl
 spares_size (Some length) = λ e. refl
 
-command_spares : (clips : List (ClipId × Timecode)) (p : PortState) (command : Command) → Spares (command_row clips p command)
+command_spares : (clips : List (ClipId × Timecode)) (p : PortState) (command : Command)
+    → Spares (command_row clips p command)
 command_spares clips p (Open number lock) = spares_if (nat_eq number p.number) _ _ (λ e. cc) (λ e. refl)
 command_spares clips p (Close number) = spares_if (nat_eq number p.number) _ _ (λ e. cc) (λ e. refl)
 command_spares clips p (Select number) = spares_if (nat_eq number p.number && is_open p) _ _ (λ e. cc) (λ e. refl)
-command_spares clips p (PlayCue id) = spares_if (is_selected p && is_playable clips (whole id)) _ _ (λ e. cc) (λ e. refl)
+command_spares clips p (PlayCue id) =
+    spares_if (is_selected p && is_playable clips (whole id)) _ _ (λ e. cc) (λ e. refl)
 command_spares clips p (CueData id start duration) =
     spares_if (is_selected p && is_playable clips (part_of id start duration)) _ _ (λ e. cc) (λ e. refl)
 command_spares clips p Play = spares_if (is_selected p) _ _ (spares_play p.cued) (λ e. refl)
@@ -59,7 +61,8 @@ asked_spares clips p asked.Nothing = λ e. refl
 asked_spares clips p asked.NoCommand = λ e. refl
 asked_spares clips p (asked.Command command) = command_spares clips p command
 
-pub refusal_keeps : (p : ClockedPort) (m : Content) (answer : Option Reply) → says_no answer ≡ true → answer_to p m ≡ answer → after_message p m ≡ p
+pub refusal_keeps : (p : ClockedPort) (m : Content) (answer : Option Reply) → says_no answer ≡ true
+    → answer_to p m ≡ answer → after_message p m ≡ p
 refusal_keeps p m answer says e =
     ap (λ (change : Change). after_change change p)
     (asked_spares p.clips p.state (asked_of p.state.unit m) (ap says_no e ∙ says))

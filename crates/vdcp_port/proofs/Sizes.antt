@@ -1,6 +1,6 @@
 -- How long the answers to a message and to a burst are at most.
-use Rattle.std.proofs.Common.{ℕ, sum, min, take, ◌∙◌, ◌≡◌, ◌+◌, ◌*◌, ◌-◌, ◌<◌, ◌≤◌, drop, slice_range, List, [], ◌∷◌, ◌++◌, length, arith, lit≤, length-append, ap}
-use Rattle.std.proofs.lemmas.List.{length-take, length-take-le, length-drop}
+use Rattle.std.proofs.Common.{ℕ, sum, min, take, ◌∙◌, ◌≡◌, ◌+◌, ◌*◌, ◌≤◌, List, [], ◌∷◌, ◌++◌, length, arith, lit≤, length-append, ap}
+use Rattle.std.proofs.lemmas.List.{length-take}
 use Rattle.std.specs.Option.{option_to_list}
 use Rattle.std.specs.Prelude.{Option, None, Some, IfSome}
 use Rattle.vdcp_value.specs.Ids.{id_bytes}
@@ -19,7 +19,7 @@ use Rattle.vdcp_port.specs.Port.{PortState}
 use Rattle.vdcp_port.specs.Row.{Row, Change, keeps, opens, closes, selects, cues, airs, stops, asked_row, message_row, on_air}
 use Rattle.vdcp_port.specs.declared.asked.Asked.{Asked}
 use Rattle.vdcp_port.specs.declared.asked.Asked.TheVariants as asked
-use Rattle.vdcp_port.proofs.Answering.{bytes_for_alone, bytes_for_both, sent_in_parts}
+use Rattle.vdcp_port.proofs.Answering.{bytes_for_first, sent_in_parts}
 use Rattle.vdcp_port.proofs.Bursts.{one_at_most}
 use Rattle.vdcp_port.proofs.LawsBelow.{ValueBytes, SomeReading}
 use Rattle.vdcp_port.proofs.Readable.{readable_row}
@@ -37,7 +37,11 @@ short_reply law unit (State bitmap None) w = lit≤ tt
 short_reply law unit (State bitmap (Some state)) w = lit≤ tt
 short_reply law unit (Active None) w = lit≤ tt
 short_reply law unit (Active (Some id)) w =
-    omega (arith, law.counted 8 (id_bytes id) (law.eight id), frame_size (id_bytes id) (check_byte (16 * 3 + unit + 0x87 + sum (1 ∷ id_bytes id))))
+    omega (
+      arith,
+      law.counted 8 (id_bytes id) (law.eight id),
+      frame_size (id_bytes id) (check_byte (16 * 3 + unit + 0x87 + sum (1 ∷ id_bytes id))),
+    )
 short_reply law unit (Size time) w = omega (arith, law.counted 4 time w, frame_size)
 short_reply law unit (Present there) w = lit≤ tt
 
@@ -45,11 +49,14 @@ short_reply law unit (Present there) w = lit≤ tt
 abbrev IsShort : ℕ → Row → Type 0
 IsShort unit r = length (answer_bytes unit (option_to_list r.answer)) ≤ 14
 
-short_answer : ValueBytes → (unit : ℕ) (answer : Option Reply) → IfSome answer IsWritableReply → length (answer_bytes unit (option_to_list answer)) ≤ 14
+short_answer : ValueBytes → (unit : ℕ) (answer : Option Reply) → IfSome answer IsWritableReply
+    → length (answer_bytes unit (option_to_list answer)) ≤ 14
 short_answer law unit None w = lit≤ tt
-short_answer law unit (Some reply) w = omega (arith, short_reply law unit reply w, length-append (reply_bytes unit reply) [])
+short_answer law unit (Some reply) w =
+    omega (arith, short_reply law unit reply w, length-append (reply_bytes unit reply) [])
 
-short_row : ValueBytes → (clips : List (ClipId × Timecode)) (p : PortState) (a : Asked) → IsShort p.unit (asked_row clips p a)
+short_row : ValueBytes → (clips : List (ClipId × Timecode)) (p : PortState) (a : Asked)
+    → IsShort p.unit (asked_row clips p a)
 short_row law clips p asked.Nothing = lit≤ tt
 short_row law clips p asked.NoCommand = lit≤ tt
 short_row law clips p (asked.Command command) = short_answer law p.unit _ (readable_row law.four clips p command)
@@ -84,36 +91,51 @@ one_item_for_five p (framed kind unit code rest) bytes h =
 -- ---- of messages one after another, and of a burst
 
 abbrev pub ShortAnswers : Type 0
-ShortAnswers = (p : ClockedPort) (m : Content) (bytes : List ℕ) → Spells m bytes → length (bytes_for p m) ≤ 3 * length bytes
+ShortAnswers =
+    (p : ClockedPort) (m : Content) (bytes : List ℕ) → Spells m bytes → length (bytes_for p m) ≤ 3 * length bytes
 
-pub short_for_all : ShortAnswers → (p : ClockedPort) (ms : List Content) (bytes : List ℕ) → SpellsAll ms bytes → length (bytes_for_all p ms) ≤ 3 * length bytes
+pub size_of_first : (p : ClockedPort) (m : Content) (ms : List Content)
+    → length (bytes_for_all p (m ∷ ms)) ≡ length (bytes_for p m) + length (bytes_for_all (after_message p m) ms)
+size_of_first p m ms =
+    ap length (bytes_for_first p m ms) ∙ length-append (bytes_for p m) (bytes_for_all (after_message p m) ms)
+
+pub short_for_all : ShortAnswers → (p : ClockedPort) (ms : List Content) (bytes : List ℕ) → SpellsAll ms bytes
+    → length (bytes_for_all p ms) ≤ 3 * length bytes
 short_for_all law p [] bytes spelt = omega arith
 short_for_all law p (m ∷ ms) bytes (first, others, spells, spelt, parts) =
     let now = after_message p m in
     let one = law p m first spells in
     let more = short_for_all law now ms others spelt in
-    let both : length (bytes_for_all p (m ∷ ms)) ≡ length (bytes_for p m) + length (bytes_for_all now ms) =
-    ap length (bytes_for_both p (m ∷ []) ms) ∙ length-append (bytes_for_all p (m ∷ [])) (bytes_for_all now ms)
-    ∙ ap (λ (bytes : List ℕ). length bytes + length (bytes_for_all now ms)) (bytes_for_alone p m) in
-    omega (arith, one, more, both, ap length parts, length-append first others)
+    omega (arith, one, more, size_of_first p m ms, ap length parts, length-append first others)
 
-items_for_five : (p : ClockedPort) (ms : List Content) (bytes : List ℕ) → SpellsAll ms bytes → 5 * length (aired_on_way p ms) ≤ length bytes
+items_for_five : (p : ClockedPort) (ms : List Content) (bytes : List ℕ) → SpellsAll ms bytes
+    → 5 * length (aired_on_way p ms) ≤ length bytes
 items_for_five p [] bytes spelt = omega arith
 items_for_five p (m ∷ ms) bytes (first, others, spells, spelt, parts) =
     let now = after_message p m in
     let one = one_item_for_five p m first spells in
     let more = items_for_five now ms others spelt in
-    omega (arith, one, more, length-append (option_to_list (aired_by p m)) (aired_on_way now ms), ap length parts, length-append first others)
+    omega (
+      arith,
+      one,
+      more,
+      length-append (option_to_list (aired_by p m)) (aired_on_way now ms),
+      ap length parts,
+      length-append first others,
+    )
 
 short_end : (unit : ℕ) (end : End) → length (answer_bytes unit (end_answers end)) ≤ 2
 short_end unit clean = lit≤ tt
 short_end unit (cut count) = lit≤ tt
 short_end unit (fault which place) = lit≤ tt
 
-size_of_front : (limit : ℕ) (burst whole others : List ℕ) → take limit burst ≡ whole ++ others → length whole ≤ min (length burst) limit
-size_of_front limit burst whole others parts = omega (arith, ap length parts, length-append whole others, length-take limit burst)
+size_of_front : (limit : ℕ) (burst whole others : List ℕ) → take limit burst ≡ whole ++ others
+    → length whole ≤ min (length burst) limit
+size_of_front limit burst whole others parts =
+    omega (arith, ap length parts, length-append whole others, length-take limit burst)
 
-pub fits_most : ShortAnswers → SomeReading → (p : ClockedPort) (burst : List ℕ) → AreOctets burst → length (sent_for p burst) ≤ most_sent burst
+pub fits_most : ShortAnswers → SomeReading → (p : ClockedPort) (burst : List ℕ) → AreOctets burst
+    → length (sent_for p burst) ≤ most_sent burst
 fits_most law reading p burst fits =
     let front = (reading burst fits).front in
     let ms = messages_of burst in
@@ -129,14 +151,10 @@ fits_most law reading p burst fits =
       length-append (bytes_for_all p ms) (answer_bytes p.state.unit (end_answers (end_of burst))),
     )
 
-pub airs_most : SomeReading → (p : ClockedPort) (burst : List ℕ) → AreOctets burst → length (aired_for p burst) ≤ most_aired burst
+pub airs_most : SomeReading → (p : ClockedPort) (burst : List ℕ) → AreOctets burst
+    → length (aired_for p burst) ≤ most_aired burst
 airs_most reading p burst fits =
     let front = (reading burst fits).front in
     let ms = messages_of burst in
     let size = size_of_front burst_limit burst front.whole front.remainder front.parts in
     omega (arith, size, items_for_five p ms front.whole front.spelt, one_at_most p ms)
-
--- the bytes of a message that stands in a burst
-pub size_of_range : (bytes : List ℕ) (i j : ℕ) → i < j → j ≤ length bytes → length (slice_range bytes i j) ≡ j - i
-size_of_range bytes i j below within =
-    length-take-le (j - i) (drop i bytes) (omega (arith, length-drop i bytes))

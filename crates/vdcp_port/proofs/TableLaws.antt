@@ -23,7 +23,8 @@ use Rattle.vdcp_port.proofs.Units.{unit_of_changed}
 abbrev again : List (ClipId × Timecode) → PortState → Command → Row
 again clips p command = command_row clips (changed (command_row clips p command).change p) command
 
-same_answer : (clips : List (ClipId × Timecode)) (p : PortState) (command : Command) → (again clips p command).answer ≡ (command_row clips p command).answer
+same_answer : (clips : List (ClipId × Timecode)) (p : PortState) (command : Command)
+    → (again clips p command).answer ≡ (command_row clips p command).answer
 same_answer clips p (Open number lock) = grind (arith, common_steps)
 same_answer clips p (Close number) = grind (arith, common_steps)
 same_answer clips p (Select number) = grind (arith, common_steps)
@@ -37,7 +38,8 @@ same_answer clips p (IdRequest id) = grind (arith, common_steps)
 same_answer clips p (IdSize id) = grind (arith, common_steps)
 
 same_state : (clips : List (ClipId × Timecode)) (p : PortState) (command : Command)
-    → changed (again clips p command).change (changed (command_row clips p command).change p) ≡ changed (command_row clips p command).change p
+    → changed (again clips p command).change (changed (command_row clips p command).change p)
+    ≡ changed (command_row clips p command).change p
 same_state clips p (Open number lock) = grind (arith, common_steps)
 same_state clips p (Close number) = grind (arith, common_steps)
 same_state clips p (Select number) = grind (arith, common_steps)
@@ -51,7 +53,8 @@ same_state clips p (IdRequest id) = grind (arith, common_steps)
 same_state clips p (IdSize id) = grind (arith, common_steps)
 
 same_counts : (clips : List (ClipId × Timecode)) (frames : ℕ) (c : Counts) (p : PortState) (command : Command)
-    → counts_after clips frames (again clips p command).change (counts_after clips frames (command_row clips p command).change c)
+    → counts_after clips frames (again clips p command).change
+    (counts_after clips frames (command_row clips p command).change c)
     ≡ counts_after clips frames (command_row clips p command).change c
 same_counts clips frames c p (Open number lock) = grind (arith, common_steps)
 same_counts clips frames c p (Close number) = grind (arith, common_steps)
@@ -65,7 +68,8 @@ same_counts clips frames c p ActiveId = grind (arith, common_steps)
 same_counts clips frames c p (IdRequest id) = grind (arith, common_steps)
 same_counts clips frames c p (IdSize id) = grind (arith, common_steps)
 
-nothing_airs : (clips : List (ClipId × Timecode)) (p : PortState) (command : Command) → on_air (again clips p command).change ≡ None
+nothing_airs : (clips : List (ClipId × Timecode)) (p : PortState) (command : Command)
+    → on_air (again clips p command).change ≡ None
 nothing_airs clips p (Open number lock) = grind (arith, common_steps)
 nothing_airs clips p (Close number) = grind (arith, common_steps)
 nothing_airs clips p (Select number) = grind (arith, common_steps)
@@ -90,28 +94,32 @@ again_by_unit clips p m =
     let change = (message_row clips p m).change in
     ap (λ unit. asked_row clips (changed change p) (asked_of unit m)) (unit_of_changed change p)
 
-asked_same_answer : (clips : List (ClipId × Timecode)) (p : PortState) (a : Asked) → (again_asked clips p a).answer ≡ (asked_row clips p a).answer
+asked_same_answer : (clips : List (ClipId × Timecode)) (p : PortState) (a : Asked)
+    → (again_asked clips p a).answer ≡ (asked_row clips p a).answer
 unfolding again_asked
 asked_same_answer clips p asked.Nothing = refl
 asked_same_answer clips p asked.NoCommand = refl
 asked_same_answer clips p (asked.Command command) = same_answer clips p command
 
 asked_same_state : (clips : List (ClipId × Timecode)) (p : PortState) (a : Asked)
-    → changed (again_asked clips p a).change (changed (asked_row clips p a).change p) ≡ changed (asked_row clips p a).change p
+    → changed (again_asked clips p a).change (changed (asked_row clips p a).change p)
+    ≡ changed (asked_row clips p a).change p
 unfolding again_asked
 asked_same_state clips p asked.Nothing = refl
 asked_same_state clips p asked.NoCommand = refl
 asked_same_state clips p (asked.Command command) = same_state clips p command
 
 asked_same_counts : (clips : List (ClipId × Timecode)) (frames : ℕ) (c : Counts) (p : PortState) (a : Asked)
-    → counts_after clips frames (again_asked clips p a).change (counts_after clips frames (asked_row clips p a).change c)
+    → counts_after clips frames (again_asked clips p a).change
+    (counts_after clips frames (asked_row clips p a).change c)
     ≡ counts_after clips frames (asked_row clips p a).change c
 unfolding again_asked
 asked_same_counts clips frames c p asked.Nothing = refl
 asked_same_counts clips frames c p asked.NoCommand = refl
 asked_same_counts clips frames c p (asked.Command command) = same_counts clips frames c p command
 
-asked_airs_nothing : (clips : List (ClipId × Timecode)) (p : PortState) (a : Asked) → on_air (again_asked clips p a).change ≡ None
+asked_airs_nothing : (clips : List (ClipId × Timecode)) (p : PortState) (a : Asked)
+    → on_air (again_asked clips p a).change ≡ None
 unfolding again_asked
 asked_airs_nothing clips p asked.Nothing = refl
 asked_airs_nothing clips p asked.NoCommand = refl
@@ -121,23 +129,28 @@ asked_airs_nothing clips p (asked.Command command) = nothing_airs clips p comman
 
 pub copy_answer : (p : ClockedPort) (m : Content) → answer_to (after_message p m) m ≡ answer_to p m
 copy_answer p m =
-    ap (λ (r : Row). r.answer) (again_by_unit p.clips p.state m) ∙ asked_same_answer p.clips p.state (asked_of p.state.unit m)
+    ap (λ (r : Row). r.answer) (again_by_unit p.clips p.state m)
+    ∙ asked_same_answer p.clips p.state (asked_of p.state.unit m)
 
 pub copy_port : (p : ClockedPort) (m : Content) → after_message (after_message p m) m ≡ after_message p m
 copy_port p m =
     let a = asked_of p.state.unit m in
     let change = (message_row p.clips p.state m).change in
     let state : changed (row_at (after_message p m) m).change (changed change p.state) ≡ changed change p.state =
-    ap (λ (r : Row). changed r.change (changed change p.state)) (again_by_unit p.clips p.state m) ∙ asked_same_state p.clips p.state a in
-    let counts : counts_after p.clips p.cue_frames (row_at (after_message p m) m).change (counts_after p.clips p.cue_frames change p.counts)
+    ap (λ (r : Row). changed r.change (changed change p.state)) (again_by_unit p.clips p.state m)
+    ∙ asked_same_state p.clips p.state a in
+    let counts : counts_after p.clips p.cue_frames (row_at (after_message p m) m).change
+    (counts_after p.clips p.cue_frames change p.counts)
     ≡ counts_after p.clips p.cue_frames change p.counts =
-    ap (λ (r : Row). counts_after p.clips p.cue_frames r.change (counts_after p.clips p.cue_frames change p.counts)) (again_by_unit p.clips p.state m)
+    ap (λ (r : Row). counts_after p.clips p.cue_frames r.change (counts_after p.clips p.cue_frames change p.counts))
+    (again_by_unit p.clips p.state m)
     ∙ asked_same_counts p.clips p.cue_frames p.counts p.state a in
     λ i. record { clips = p.clips; cue_frames = p.cue_frames; state = state i; counts = counts i }
 
 pub copy_air : (p : ClockedPort) (m : Content) → aired_by (after_message p m) m ≡ None
 copy_air p m =
-    ap (λ (r : Row). on_air r.change) (again_by_unit p.clips p.state m) ∙ asked_airs_nothing p.clips p.state (asked_of p.state.unit m)
+    ap (λ (r : Row). on_air r.change) (again_by_unit p.clips p.state m)
+    ∙ asked_airs_nothing p.clips p.state (asked_of p.state.unit m)
 
 -- ---- what airs
 
@@ -147,7 +160,8 @@ pub record IsPlayOf (p : PortState) (a : Asked) (item : Item) : Type 0 where
   pub selected : is_selected p ≡ true
   pub cued : p.cued ≡ done item
 
-airs_if : (b : Bool) (r : Row) (item : Item) → on_air (if b then r else refused).change ≡ Some item → (b ≡ true) × (on_air r.change ≡ Some item)
+airs_if : (b : Bool) (r : Row) (item : Item) → on_air (if b then r else refused).change ≡ Some item
+    → (b ≡ true) × (on_air r.change ≡ Some item)
 airs_if true r item e = (refl, e)
 airs_if false r item e = cc
 
@@ -155,7 +169,8 @@ size_airs_nothing : (length : Option Timecode) (item : Item) → on_air (size_ro
 size_airs_nothing None item e = cc
 size_airs_nothing (Some length) item e = cc
 
-open_airs_nothing : (b : Bool) (item : Item) → on_air (if b then row (reply.Opened true) opens else row (reply.Opened false) keeps).change ≡ Some item → ⊥
+open_airs_nothing : (b : Bool) (item : Item)
+    → on_air (if b then row (reply.Opened true) opens else row (reply.Opened false) keeps).change ≡ Some item → ⊥
 open_airs_nothing true item e = cc
 open_airs_nothing false item e = cc
 
@@ -167,9 +182,12 @@ play_airs (done other) item e = cc
 command_airs : (clips : List (ClipId × Timecode)) (p : PortState) (command : Command) (item : Item)
     → on_air (command_row clips p command).change ≡ Some item → IsPlayOf p (asked.Command command) item
 command_airs clips p (Open number lock) item e = absurd (open_airs_nothing (nat_eq number p.number) item e)
-command_airs clips p (Close number) item e = let none = (airs_if (nat_eq number p.number) (row reply.Ack closes) item e).1 in cc
-command_airs clips p (Select number) item e = let none = (airs_if (nat_eq number p.number && is_open p) (row reply.Ack selects) item e).1 in cc
-command_airs clips p (PlayCue id) item e = let none = (airs_if (is_selected p && is_playable clips (whole id)) (row reply.Ack (cues (whole id))) item e).1 in cc
+command_airs clips p (Close number) item e = let none =
+    (airs_if (nat_eq number p.number) (row reply.Ack closes) item e).1 in cc
+command_airs clips p (Select number) item e = let none =
+    (airs_if (nat_eq number p.number && is_open p) (row reply.Ack selects) item e).1 in cc
+command_airs clips p (PlayCue id) item e = let none =
+    (airs_if (is_selected p && is_playable clips (whole id)) (row reply.Ack (cues (whole id))) item e).1 in cc
 command_airs clips p (CueData id start duration) item e =
     let cued = part_of id start duration in
     let none = (airs_if (is_selected p && is_playable clips cued) (row reply.Ack (cues cued)) item e).1 in cc
@@ -177,7 +195,8 @@ command_airs clips p Play item e =
     let plays = airs_if (is_selected p) (play_row p.cued) item e in
     record { play = refl; selected = plays.0; cued = play_airs p.cued item plays.1 }
 command_airs clips p Stop item e = let none = (airs_if (is_selected p) (row reply.Ack stops) item e).1 in cc
-command_airs clips p (Status bitmap) item e = let none = (airs_if (is_selected p) (row (state_reply bitmap (state_byte p)) keeps) item e).1 in cc
+command_airs clips p (Status bitmap) item e = let none =
+    (airs_if (is_selected p) (row (state_reply bitmap (state_byte p)) keeps) item e).1 in cc
 command_airs clips p ActiveId item e =
     let active = row (reply.Active (option_map (λ (item : Item). item.id) p.playing)) keeps in
     let none = (airs_if (is_selected p) active item e).1 in cc
@@ -190,7 +209,8 @@ asked_airs clips p asked.Nothing item e = cc
 asked_airs clips p asked.NoCommand item e = cc
 asked_airs clips p (asked.Command command) item e = command_airs clips p command item e
 
-pub message_airs : (p : ClockedPort) (m : Content) (item : Item) → aired_by p m ≡ Some item → IsPlayOf p.state (asked_of p.state.unit m) item
+pub message_airs : (p : ClockedPort) (m : Content) (item : Item) → aired_by p m ≡ Some item
+    → IsPlayOf p.state (asked_of p.state.unit m) item
 message_airs p m item e = asked_airs p.clips p.state (asked_of p.state.unit m) item e
 
 -- the change that airs an item leaves it playing, and nothing cued

@@ -1,11 +1,10 @@
 -- What a port answers to a whole burst.
 use Rattle.std.specs.List.{flat_map}
 use Rattle.std.specs.Option.{option_to_list}
-use Rattle.std.specs.Prelude.{ℕ, ◌+◌, ◌*◌, ◌/◌, ◌≡◌, min, List, [], ◌∷◌, ◌++◌, length, Option, None, Some}
+use Rattle.std.specs.Prelude.{ℕ, ◌+◌, ◌*◌, ◌/◌, min, List, [], ◌∷◌, ◌++◌, length, Option, None, Some}
 use Rattle.vdcp_value.specs.declared.part.Item.{Item}
 use Rattle.vdcp_frame.specs.Burst.{messages_of, end_of}
 use Rattle.vdcp_frame.specs.Message.{Content, spelling}
-use Rattle.vdcp_frame.specs.Reader.{ReadsAs}
 use Rattle.vdcp_frame.specs.Reading.{End, clean, cut, fault, burst_limit}
 use Rattle.vdcp_frame.specs.declared.got.Ended.{Ended}
 use Rattle.vdcp_frame.specs.declared.got.Ended.TheVariants as silence
@@ -29,7 +28,7 @@ abbrev pub after_messages : ClockedPort → List Content → ClockedPort
 after_messages p [] = p
 after_messages p (m ∷ ms) = after_messages (after_message p m) ms
 
--- what is answered, behind the other answers, to how a burst ends
+-- what is answered, after the other answers, to how a burst ends
 abbrev pub end_answers : End → List Reply
 end_answers clean = []
 end_answers (cut count) = Nak 0x80 ∷ []
@@ -55,7 +54,7 @@ bytes_for p m = answer_bytes p.state.unit (option_to_list (answer_to p m))
 abbrev pub items_for : ClockedPort → Content → List Item
 items_for p m = option_to_list (aired_by p m)
 
--- the bytes that go out for messages one after another, and at the burst's end behind them
+-- the bytes that go out for messages one after another, and then at the burst's end
 abbrev pub bytes_for_all : ClockedPort → List Content → List ℕ
 bytes_for_all p ms = answer_bytes p.state.unit (answers_to p ms)
 
@@ -82,12 +81,3 @@ most_sent burst = 3 * min (length burst) burst_limit + 2
 
 abbrev pub most_aired : List ℕ → ℕ
 most_aired burst = min (length burst / 5) 1
-
--- a port has answered a burst's messages, and appended the answers; this item went to air, if one did, and
--- so the burst ended
-pub record HasAnsweredAll (old now : ClockedPort) (burst out_old out_new : List ℕ) (aired : Option Item) (ended : Ended) : Type 0 where
-  pub messages : List Content
-  pub reads : ReadsAs burst messages ended
-  pub sent : out_new ≡ out_old ++ bytes_for_all old messages
-  pub airs : option_to_list aired ≡ aired_on_way old messages
-  pub leaves : now ≡ after_messages old messages

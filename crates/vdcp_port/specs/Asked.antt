@@ -16,4 +16,5 @@ asked_by (Err fault) = asked.NoCommand
 abbrev pub asked_of : ℕ → Content → Asked
 asked_of unit ack = asked.Nothing
 asked_of unit (nak byte) = asked.Nothing
-asked_of unit (framed kind to code rest) = if nat_eq to unit then asked_by (command_of (framed kind to code rest)) else asked.Nothing
+asked_of unit (framed kind to code rest) =
+    if nat_eq to unit then asked_by (command_of (framed kind to code rest)) else asked.Nothing

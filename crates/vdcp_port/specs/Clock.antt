@@ -82,12 +82,13 @@ after_frame p =
     if ends_clip p then after_ended cued else cued
 
 -- a call that answers, airs and leaves what the row says
-pub record MeetsRow (row : Row) (p : ClockedPort) (reply : Reply) (item : Option Item) (next : ClockedPort) : Type 0 where
+pub record MeetsRow (row : Row) (p : ClockedPort) (reply : Reply) (item : Option Item)
+    (next : ClockedPort) : Type 0 where
   pub answers : row.answer ≡ Some reply
   pub airs : item ≡ on_air row.change
   pub leaves : next ≡ after_change row.change p
 
--- so many frames later
+-- n frames later
 abbrev pub after_frames : ℕ → ClockedPort → ClockedPort
 after_frames zero p = p
 after_frames (suc n) p = after_frames n (after_frame p)

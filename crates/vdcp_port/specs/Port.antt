@@ -58,7 +58,7 @@ opened Closed = Open
 opened Open = Open
 opened Selected = Selected
 
--- bit 0: both slots are empty; bit 1: cueing; bit 2: playing; bit 7: the cue is done
+-- two empty slots set bit 0, a cue under way bit 1, an item on the air bit 2, and a cue that is done bit 7
 abbrev pub state_byte_of : Cued → Option Item → ℕ
 state_byte_of empty None = 0x01
 state_byte_of empty (Some clip) = 0x04

@@ -60,7 +60,8 @@ cue_row clips p item = if is_selected p && is_playable clips item then row reply
 
 -- the table, a line for each command
 abbrev pub command_row : List (ClipId × Timecode) → PortState → Command → Row
-command_row clips p (Open number lock) = if nat_eq number p.number then row (reply.Opened true) opens else row (reply.Opened false) keeps
+command_row clips p (Open number lock) =
+    if nat_eq number p.number then row (reply.Opened true) opens else row (reply.Opened false) keeps
 command_row clips p (Close number) = if nat_eq number p.number then row reply.Ack closes else refused
 command_row clips p (Select number) = if nat_eq number p.number && is_open p then row reply.Ack selects else refused
 command_row clips p (PlayCue id) = cue_row clips p (whole id)
@@ -68,7 +69,8 @@ command_row clips p (CueData id start duration) = cue_row clips p (part_of id st
 command_row clips p Play = if is_selected p then play_row p.cued else refused
 command_row clips p Stop = if is_selected p then row reply.Ack stops else refused
 command_row clips p (Status bitmap) = if is_selected p then row (state_reply bitmap (state_byte p)) keeps else refused
-command_row clips p ActiveId = if is_selected p then row (reply.Active (option_map (λ item. item.id) p.playing)) keeps else refused
+command_row clips p ActiveId =
+    if is_selected p then row (reply.Active (option_map (λ item. item.id) p.playing)) keeps else refused
 command_row clips p (IdRequest id) = row (reply.Present (is_known clips id)) keeps
 command_row clips p (IdSize id) = size_row (length_of clips id)
 

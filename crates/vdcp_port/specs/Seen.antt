@@ -4,8 +4,8 @@ use Rattle.vdcp_value.specs.declared.clip_id.ClipId.{ClipId}
 use Rattle.vdcp_value.specs.declared.part.Item.{Item}
 use Rattle.vdcp_value.specs.declared.timecode.Timecode.{Timecode}
 use Rattle.vdcp_port.specs.declared.access.Access.{Access}
-use Rattle.vdcp_port.specs.declared.slots.Cue.{Cue}
-use Rattle.vdcp_port.specs.declared.slots.Clip.{Clip}
+use Rattle.vdcp_port.specs.declared.airing.Cue.{Cue}
+use Rattle.vdcp_port.specs.declared.airing.Clip.{Clip}
 use Rattle.vdcp_port.specs.Clips.{is_playable, frames_on_air}
 use Rattle.vdcp_port.specs.Clock.{Counts}
 use Rattle.vdcp_port.specs.Port.{Cued, empty, cueing, done, PortState}
@@ -43,7 +43,8 @@ abbrev pub IsSoundClip : List (ClipId × Timecode) → Option Clip → Type 0
 IsSoundClip clips None = Unit {0}
 IsSoundClip clips (Some clip) = IsTrue (is_playable clips clip.item) × (0 < clip.left)
 
-pub record IsSound (clips : List (ClipId × Timecode)) (cue_frames unit : ℕ) (cue : Option Cue) (clip : Option Clip) : Type 0 where
+pub record IsSound (clips : List (ClipId × Timecode)) (cue_frames unit : ℕ) (cue : Option Cue)
+    (clip : Option Clip) : Type 0 where
   pub unit_fits : unit ≤ 15
   pub cue_takes : 0 < cue_frames
   pub at_most : cue_frames ≤ 1000

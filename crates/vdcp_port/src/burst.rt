@@ -4,6 +4,7 @@ ghost use Rattle.std.specs.Prelude.{◌≡◌, ◌+◌, ◌≤◌, ◌++◌, IfS
 ghost use Rattle.std.specs.Vec.{vec_capacity, vec_len};
 ghost use Rattle.vdcp_frame.specs.Burst.{end_of, messages_of};
 ghost use Rattle.vdcp_frame.specs.Message.{content_of};
+ghost use Rattle.vdcp_frame.specs.Reader.{IsEnd};
 ghost use Rattle.vdcp_frame.specs.Reading.{Reads};
 ghost use Rattle.vdcp_port.specs.Answers.{bytes_at_end, most_aired, most_sent, reply_at_end, reply_bytes};
 ghost use Rattle.vdcp_words.specs.Replies.{IsWritableReply};
@@ -14,12 +15,12 @@ use crate::port::Port;
 use crate::sink::Sink;
 use arrayvec::ArrayVec;
 use std::alloc::{AllocError, Allocator};
-use vdcp_frame::{Ended, LIMIT, Message, Step, read_at, write};
+use vdcp_frame::{Ended, LIMIT, Message, Messages};
 use vdcp_value::Item;
 use vdcp_words::Reply;
 
-/// What a port answers to a burst's end, behind its answers to the burst's messages: nothing where the
-/// burst ends behind a whole message, NAK 80h where it ends inside one, and NAK 04h behind a fault (this
+/// What a port answers to a burst's end, after its answers to the burst's messages: nothing where the
+/// burst ends after a whole message, NAK 80h where it ends inside one, and NAK 04h after a fault (this
 /// profile).
 pub fn reply_at_end(ended: Ended) -> Option<Reply>
     ensures exact { result ≡ reply_at_end ended }
@@ -34,7 +35,7 @@ pub fn reply_at_end(ended: Ended) -> Option<Reply>
 
 impl<C: Catalogue> Port<C> {
     ghost use Rattle.vdcp_port.specs.Clock.{after_message, aired_by};
-    ghost use Rattle.vdcp_port.specs.Answers.{bytes_for, sent_for, aired_for, after_burst, HasAnsweredAll};
+    ghost use Rattle.vdcp_port.specs.Answers.{bytes_for, bytes_for_all, sent_for, aired_for, after_burst};
 
     /// Takes a whole burst. Appends the bytes of all answers to `out`, in order, and then a NAK where the
     /// burst has a fault or ends inside a message; and the item that goes to air on the way, if one does,
@@ -55,7 +56,8 @@ impl<C: Catalogue> Port<C> {
         ensures aired { OnOk result (aired.new.items ≡ aired.old.items ++ aired_for self.old burst.now) }
         ensures next { OnOk result (self.new ≡ after_burst self.old burst.now) }
 
-        ensures refused { OnErr result ((self.new ≡ self.old) × (out.new.items ≡ out.old.items) × (aired.new.items ≡ aired.old.items)) }
+        ensures refused { OnErr result
+            ((self.new ≡ self.old) × (out.new.items ≡ out.old.items) × (aired.new.items ≡ aired.old.items)) }
         ensures succeeds { vec_len out.old + most_sent burst.now ≤ vec_capacity out.old →
             vec_len aired.old + most_aired burst.now ≤ vec_capacity aired.old → IsOk result }
     {
@@ -93,7 +95,6 @@ impl<C: Catalogue> Port<C> {
         ensures next { self.new ≡ after_burst self.old burst.now }
     {
         vdcp_frame::laws::one_reading();
-        laws::a_burst_is_answered_as_it_ended();
         laws::what_a_burst_needs();
         let unit = self.unit();
         let (aired, ended) = self.answer_messages(burst, out);
@@ -101,26 +102,22 @@ impl<C: Catalogue> Port<C> {
         aired
     }
 
-    // Answers the messages of a burst.
+    // Answers the messages of a burst where there is room, and says how the burst ends.
     fn answer_messages<S: Sink>(&mut self, burst: &[u8], out: &mut S) -> (Option<Item>, Ended)
-        requires { most_sent burst.now ≤ S.room out.old }
-        ensures answered { HasAnsweredAll self.old self.new burst.now (S.written out.old) (S.written out.new) result.0 result.1 }
-        ensures room { 2 ≤ S.room out.new }
+        requires { length (bytes_for_all self.old (messages_of burst.now)) ≤ S.room out.old }
+        ensures sent { S.written out.new ≡ S.written out.old ++ bytes_for_all self.old (messages_of burst.now) }
+        ensures aired { option_to_list result.0 ≡ aired_for self.old burst.now }
+        ensures next { self.new ≡ after_burst self.old burst.now }
+        ensures ended { IsEnd result.1 (end_of burst.now) }
+        ensures room { S.room out.old ≤
+            S.room out.new + length (bytes_for_all self.old (messages_of burst.now)) }
     {
-        laws::an_answer_is_short();
-        let mut from = 0;
         let mut aired = None;
-        'messages: loop {
-            match read_at(burst, from) {
-                Step::Message(message, next) => {
-                    aired = aired.or(self.answer_message(&message, out));
-                    from = next;
-                }
-                Step::Clean => return (aired, Ended::Clean),
-                Step::Cut(held) => return (aired, Ended::Cut(held)),
-                Step::Fault(_, _) => return (aired, Ended::AfterFault),
-            }
+        let mut messages = Messages::of(burst);
+        'messages: while let Some(message) = messages.next() {
+            aired = aired.or(self.answer_message(&message, out));
         }
+        (aired, messages.end().ended())
     }
 
     // Answers a message where there is room.
@@ -171,7 +168,7 @@ fn tell<B: Allocator>(item: Option<Item>, aired: &mut Vec<Item, B>)
 #[tactic(auto, using(crate::proofs::Answering::bytes_of_one))]
 fn append_end<S: Sink>(ended: Ended, unit: u8, out: &mut S)
     requires unit { unit ≤ 15 }
-    requires room { 2 ≤ S.room out.old }
+    requires room { length (bytes_at_end unit ended) ≤ S.room out.old }
     ensures { S.written out.new ≡ S.written out.old ++ bytes_at_end unit ended }
 {
     if let Some(reply) = reply_at_end(ended) {
@@ -186,9 +183,5 @@ fn append_reply<S: Sink>(reply: &Reply, unit: u8, out: &mut S)
     ensures written { S.written out.new ≡ S.written out.old ++ reply_bytes unit reply.now }
     ensures room { S.room out.old ≤ S.room out.new + length (reply_bytes unit reply.now) }
 {
-    let mut room = [0; 16];
-    let message = reply.to_message(unit, &mut room);
-    let mut bytes = ArrayVec::<u8, 512>::new();
-    write(&message, &mut bytes).unwrap();
-    out.append(bytes.as_slice());
+    out.append(reply.encode(unit).as_slice());
 }

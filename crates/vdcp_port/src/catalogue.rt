@@ -22,6 +22,20 @@ pub trait Catalogue {
         ensures { result ≡ length_of (clips self.now) id.now };
 }
 
+/// Rows of clips with their lengths. Of two rows with one ID the first counts.
+impl<const N: usize> Catalogue for [(ClipId, Timecode); N] {
+    ghost clips = { λ rows. rows };
+
+    fn length(&self, id: &ClipId) -> Option<Timecode> {
+        for (known, length) in self {
+            if id == known {
+                return Some(*length);
+            }
+        }
+        None
+    }
+}
+
 /// How many frames an item plays; `None` where the clip isn't known, or the part doesn't fit it.
 pub(crate) fn frames_if_playable<C: Catalogue>(catalogue: &C, item: &Item) -> Option<u32>
     ensures playable { IsSome result ↔ IsTrue (is_playable (C.clips catalogue.now) item.now) }

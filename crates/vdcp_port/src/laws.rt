@@ -43,7 +43,8 @@ pub fn a_cue_fills_the_cued_slot()
 /// What is refused, denied or not answered changes nothing.
 pub fn a_refusal_changes_nothing()
     ensures refused { (p : ClockedPort) (m : Content) → answer_to p m ≡ Some (reply.Nak 0x01) → after_message p m ≡ p }
-    ensures denied { (p : ClockedPort) (m : Content) → answer_to p m ≡ Some (reply.Opened false) → after_message p m ≡ p }
+    ensures denied { (p : ClockedPort) (m : Content) → answer_to p m ≡ Some (reply.Opened false) →
+        after_message p m ≡ p }
     ensures unanswered { (p : ClockedPort) (m : Content) → answer_to p m ≡ None → after_message p m ≡ p }
 {}
 
@@ -52,7 +53,8 @@ pub fn a_refusal_changes_nothing()
 pub fn only_play_airs()
     ensures play { (p : ClockedPort) (m : Content) (item : Item) → aired_by p m ≡ Some item →
         asked_of p.state.unit m ≡ asked.Command command.Play }
-    ensures selected { (p : ClockedPort) (m : Content) (item : Item) → aired_by p m ≡ Some item → IsTrue (is_selected p.state) }
+    ensures selected { (p : ClockedPort) (m : Content) (item : Item) → aired_by p m ≡ Some item →
+        IsTrue (is_selected p.state) }
     ensures cued { (p : ClockedPort) (m : Content) (item : Item) → aired_by p m ≡ Some item → p.state.cued ≡ done item }
     ensures plays { (p : ClockedPort) (m : Content) (item : Item) → aired_by p m ≡ Some item →
         (after_message p m).state.playing ≡ Some item }
@@ -82,10 +84,11 @@ pub fn the_state_byte()
     ensures done { (p : PortState) → not (bit_and (state_byte p) 128 == 0) ≡ is_done p.cued }
 {}
 
-/// Each answer can be read back: its numbers are bytes, its time code four of them, and it has a
-/// state byte exactly where bit 0 of its bitmap is set.
+/// Each answer can be read back: its numbers are bytes, its time code four of them, and its bitmap says
+/// rightly whether it has a state byte.
 pub fn answers_are_read_back()
-    ensures { (p : ClockedPort) (ms : List Content) (end : End) → All IsWritableReply (answers_to p ms ++ end_answers end) }
+    ensures { (p : ClockedPort) (ms : List Content) (end : End) →
+        All IsWritableReply (answers_to p ms ++ end_answers end) }
 {
     vdcp_value::laws::a_time_code_has_lawful_bytes();
 }
@@ -110,8 +113,10 @@ pub fn what_a_port_holds()
 
 /// The message of a command asks for that command at its own unit, and for nothing at another.
 pub fn a_command_asks_its_own_unit()
-    ensures own { (unit : ℕ) (c : Command) → IsWritableCommand c → asked_of unit (command_message unit c) ≡ asked.Command c }
-    ensures other { (unit other : ℕ) (c : Command) → other ≢ unit → asked_of unit (command_message other c) ≡ asked.Nothing }
+    ensures own { (unit : ℕ) (c : Command) → IsWritableCommand c →
+        asked_of unit (command_message unit c) ≡ asked.Command c }
+    ensures other { (unit other : ℕ) (c : Command) → other ≢ unit →
+        asked_of unit (command_message other c) ≡ asked.Nothing }
 {
     vdcp_words::laws::written_command_is_read();
 }
@@ -124,7 +129,7 @@ pub fn a_command_has_its_own_row()
     a_command_asks_its_own_unit();
 }
 
-/// Messages behind messages are answered from the port that these leave.
+/// Messages that follow others are answered from the port that those leave.
 pub fn messages_after_messages()
     ensures answers { (p : ClockedPort) (ms ns : List Content) →
         answers_to p (ms ++ ns) ≡ answers_to p ms ++ answers_to (after_messages p ms) ns }
@@ -146,7 +151,7 @@ pub fn the_unit_stays()
     ensures ended { (p : ClockedPort) → (after_ended p).state.unit ≡ p.state.unit }
 {}
 
-/// What one message gives, with none before or behind it; and the bytes of one reply.
+/// What one message gives, with none before or after it; and the bytes of one reply.
 pub fn one_alone()
     ensures sent { (p : ClockedPort) (m : Content) → bytes_for_all p (m ∷ []) ≡ bytes_for p m }
     ensures aired { (p : ClockedPort) (m : Content) → aired_on_way p (m ∷ []) ≡ items_for p m }
@@ -156,40 +161,41 @@ pub fn one_alone()
 /// A burst of bytes that reads as these messages and this end is answered as the messages are, one after
 /// another, and then as the end is.
 pub fn a_burst_is_answered_as_it_is_read()
-    ensures sent { (p : ClockedPort) (burst : List ℕ) (ms : List Content) (end : End) → AreOctets burst → Reads burst ms end →
-        sent_for p burst ≡ bytes_for_all p ms ++ answer_bytes p.state.unit (end_answers end) }
-    ensures aired { (p : ClockedPort) (burst : List ℕ) (ms : List Content) (end : End) → AreOctets burst → Reads burst ms end →
-        aired_for p burst ≡ aired_on_way p ms }
-    ensures next { (p : ClockedPort) (burst : List ℕ) (ms : List Content) (end : End) → AreOctets burst → Reads burst ms end →
-        after_burst p burst ≡ after_messages p ms }
+    ensures sent { (p : ClockedPort) (burst : List ℕ) (ms : List Content) (end : End) → AreOctets burst →
+        Reads burst ms end → sent_for p burst ≡ bytes_for_all p ms ++ answer_bytes p.state.unit (end_answers end) }
+    ensures aired { (p : ClockedPort) (burst : List ℕ) (ms : List Content) (end : End) → AreOctets burst →
+        Reads burst ms end → aired_for p burst ≡ aired_on_way p ms }
+    ensures next { (p : ClockedPort) (burst : List ℕ) (ms : List Content) (end : End) → AreOctets burst →
+        Reads burst ms end → after_burst p burst ≡ after_messages p ms }
 {
     vdcp_frame::laws::one_reading();
 }
 
 /// A burst of which the streaming reader gave the messages, and said how it ended, is answered as they are:
-/// what is sent for it is what was sent for its messages, and behind that the bytes of `reply_at_end`.
+/// what is sent for it is what was sent for its messages, and after that the bytes of `reply_at_end`.
 pub fn a_burst_is_answered_as_it_ended()
-    ensures sent { (p : ClockedPort) (burst : List ℕ) (ms : List Content) (ended : Ended) → AreOctets burst → ReadsAs burst ms ended →
-        sent_for p burst ≡ bytes_for_all p ms ++ bytes_at_end p.state.unit ended }
-    ensures aired { (p : ClockedPort) (burst : List ℕ) (ms : List Content) (ended : Ended) → AreOctets burst → ReadsAs burst ms ended →
-        aired_for p burst ≡ aired_on_way p ms }
-    ensures next { (p : ClockedPort) (burst : List ℕ) (ms : List Content) (ended : Ended) → AreOctets burst → ReadsAs burst ms ended →
-        after_burst p burst ≡ after_messages p ms }
+    ensures sent { (p : ClockedPort) (burst : List ℕ) (ms : List Content) (ended : Ended) → AreOctets burst →
+        ReadsAs burst ms ended → sent_for p burst ≡ bytes_for_all p ms ++ bytes_at_end p.state.unit ended }
+    ensures aired { (p : ClockedPort) (burst : List ℕ) (ms : List Content) (ended : Ended) → AreOctets burst →
+        ReadsAs burst ms ended → aired_for p burst ≡ aired_on_way p ms }
+    ensures next { (p : ClockedPort) (burst : List ℕ) (ms : List Content) (ended : Ended) → AreOctets burst →
+        ReadsAs burst ms ended → after_burst p burst ≡ after_messages p ms }
 {
     vdcp_frame::laws::one_reading();
 }
 
-/// However a reading is told, by its end or by how the streaming reader ends it, the end is answered alike.
+/// The end of a reading is answered alike, whether a definition or the streaming reader says how it ended.
 pub fn one_answer_to_the_end()
-    ensures { (burst : List ℕ) (ms ns : List Content) (end : End) (ended : Ended) → Reads burst ms end → ReadsAs burst ns ended →
-        end_answers end ≡ option_to_list (reply_at_end ended) }
+    ensures { (burst : List ℕ) (ms ns : List Content) (end : End) (ended : Ended) → Reads burst ms end →
+        ReadsAs burst ns ended → end_answers end ≡ option_to_list (reply_at_end ended) }
 {
     vdcp_frame::laws::one_reading();
 }
 
 /// An answer has at most three bytes for each byte of its message.
 pub fn an_answer_is_short()
-    ensures { (p : ClockedPort) (m : Content) (bytes : List ℕ) → Spells m bytes → length (bytes_for p m) ≤ 3 * length bytes }
+    ensures { (p : ClockedPort) (m : Content) (bytes : List ℕ) → Spells m bytes →
+        length (bytes_for p m) ≤ 3 * length bytes }
 {
     vdcp_value::laws::bytes_are_counted();
     vdcp_value::laws::an_id_is_its_bytes();
@@ -199,7 +205,8 @@ pub fn an_answer_is_short()
 /// What is sent for a burst of bytes, and what airs in it, fits the room that is made for it.
 pub fn what_a_burst_needs()
     ensures sent { (p : ClockedPort) (burst : List ℕ) → AreOctets burst → length (sent_for p burst) ≤ most_sent burst }
-    ensures aired { (p : ClockedPort) (burst : List ℕ) → AreOctets burst → length (aired_for p burst) ≤ most_aired burst }
+    ensures aired { (p : ClockedPort) (burst : List ℕ) → AreOctets burst →
+        length (aired_for p burst) ≤ most_aired burst }
 {
     an_answer_is_short();
     vdcp_frame::laws::one_reading();
@@ -214,13 +221,15 @@ pub fn a_burst_without_a_message()
     ensures next { (p : ClockedPort) (burst : List ℕ) → messages_of burst ≡ [] → after_burst p burst ≡ p }
 {}
 
-/// A burst with one message is answered as the message is, and then as its end is, whatever stands behind
+/// A burst with one message is answered as the message is, and then as its end is, whatever follows
 /// the message.
 pub fn a_burst_with_one_message()
     ensures sent { (p : ClockedPort) (m : Content) (burst : List ℕ) → messages_of burst ≡ m ∷ [] →
         sent_for p burst ≡ bytes_for p m ++ answer_bytes p.state.unit (end_answers (end_of burst)) }
-    ensures aired { (p : ClockedPort) (m : Content) (burst : List ℕ) → messages_of burst ≡ m ∷ [] → aired_for p burst ≡ items_for p m }
-    ensures next { (p : ClockedPort) (m : Content) (burst : List ℕ) → messages_of burst ≡ m ∷ [] → after_burst p burst ≡ after_message p m }
+    ensures aired { (p : ClockedPort) (m : Content) (burst : List ℕ) → messages_of burst ≡ m ∷ [] →
+        aired_for p burst ≡ items_for p m }
+    ensures next { (p : ClockedPort) (m : Content) (burst : List ℕ) → messages_of burst ≡ m ∷ [] →
+        after_burst p burst ≡ after_message p m }
 {}
 
 /// A burst that is one message is answered as the message is.
@@ -236,7 +245,9 @@ pub fn a_burst_of_one_message()
 /// A cue is done with the last frame of its count, and not before. So it is with a clip that ends.
 pub fn counts_are_frames()
     ensures cueing { (p : ClockedPort) (n : ℕ) → n < p.counts.cue → (after_frames n p).state.cued ≡ p.state.cued }
-    ensures done { (p : ClockedPort) → 0 < p.counts.cue → (after_frames p.counts.cue p).state.cued ≡ made_ready p.state.cued }
-    ensures playing { (p : ClockedPort) (n : ℕ) → n < p.counts.playing → (after_frames n p).state.playing ≡ p.state.playing }
+    ensures done { (p : ClockedPort) → 0 < p.counts.cue →
+        (after_frames p.counts.cue p).state.cued ≡ made_ready p.state.cued }
+    ensures playing { (p : ClockedPort) (n : ℕ) → n < p.counts.playing →
+        (after_frames n p).state.playing ≡ p.state.playing }
     ensures ended { (p : ClockedPort) → 0 < p.counts.playing → (after_frames p.counts.playing p).state.playing ≡ None }
 {}

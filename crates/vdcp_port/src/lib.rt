@@ -14,16 +14,20 @@
 //! What clips there are, and how long, a `Catalogue` says. Only `burst_answer` takes memory, for the two
 //! collections that it is lent; `answer_into` answers a burst into an array. A caller that has the messages
 //! one by one passes them to `answer`, and at the silence sends what `reply_at_end` gives.
+//!
+//! Files: `port` (the port's table), `burst` (a whole burst, and the answer to its end), `access` and `airing` (closed,
+//! open or selected; what airs next and what is on the air, with their counts), `asked` (what a message asks),
+//! `catalogue` (the trait), `sink` (where a burst's answers go), `laws`.
 #![tactic(auto)]
 
 mod access;
+mod airing;
 mod asked;
 mod burst;
 mod catalogue;
 pub mod laws;
 mod port;
 mod sink;
-mod slots;
 
 pub use burst::reply_at_end;
 pub use catalogue::Catalogue;

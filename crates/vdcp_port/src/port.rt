@@ -1,8 +1,8 @@
 use crate::access::Access;
+use crate::airing::{Clip, Cue, count_clip, count_cue, finish_cue};
 use crate::asked::Asked;
 use crate::catalogue::{Catalogue, frames_if_playable};
 use crate::laws;
-use crate::slots::{Clip, Cue, count_clip, count_cue, finish_cue};
 use std::marker::Model;
 use vdcp_frame::Message;
 use vdcp_value::{ClipId, Item, Part};
@@ -11,11 +11,12 @@ use vdcp_words::{Command, Reply};
 /// NAK 01h: the command is unknown or refused, or its data has a wrong length (this profile).
 const REFUSED: Reply = Reply::Nak(0x01);
 
-/// The server's end of one playout channel: a port that is opened, selected and then told what to cue
-/// and play. It speaks only in answer.
+/// The server's end of one playout channel: a port that its controller opens, selects, and lets cue and
+/// play. It speaks only in answer.
 ///
 /// `answer` and `burst_answer` bring in what the controller sends. `ready` and `ended`, or `frame` at
-/// each frame, bring in what the clips do. `status_byte` and `unit` only look.
+/// each frame, bring in what the clips do. `start_anew` forgets all that came. `status_byte`, `unit` and
+/// `number` only look.
 ///
 /// ```text
 ///        OPEN          SELECT
@@ -70,7 +71,7 @@ impl<C: Catalogue> Port<C> {
         Port::with_clock(catalogue, unit, number, 1)
     }
 
-    /// A new port at which a cue takes so many frames, 1 to 1,000.
+    /// A port as `new` makes it, but for its cues, each of which takes 1 to 1,000 frames.
     pub fn with_clock(catalogue: C, unit: u8, number: u8, cue_frames: u32) -> Port<C>
         requires unit { unit ≤ 15 }
         requires some { 0 < cue_frames }
@@ -96,8 +97,15 @@ impl<C: Catalogue> Port<C> {
         self.address
     }
 
-    /// The state byte of VDCP's port status, of which this profile sets four bits. Bit 0: idle, both slots
-    /// are empty; bit 1: cueing; bit 2: playing; bit 7: the cue is done.
+    /// Its port number.
+    pub fn number(&self) -> u8
+        ensures { result ≡ self.now.state.number }
+    {
+        self.number
+    }
+
+    /// The state byte of VDCP's port status, of which this profile sets four bits. Bit 0 says that both slots
+    /// are empty, bit 1 that an item is cueing, bit 2 that one plays, and bit 7 that the cue is done.
     pub fn status_byte(&self) -> u8
         ensures { result ≡ state_byte self.now.state }
     {
@@ -123,6 +131,13 @@ impl<C: Catalogue> Port<C> {
         ensures { self.new ≡ after_ended self.old }
     {
         self.playing = None;
+    }
+
+    /// The port is as new, closed and with empty slots; its catalogue, unit, number and clock stay.
+    pub fn start_anew(&mut self)
+        ensures { self.new ≡ new_port self.old.clips self.old.state.unit self.old.state.number self.old.cue_frames }
+    {
+        (self.access, self.cued, self.playing) = (Access::Closed, None, None);
     }
 
     /// One frame passes at both slots. The answer is whether it was the last of the cue, which is then
@@ -185,7 +200,9 @@ impl<C: Catalogue> Port<C> {
     }
 
     fn open(&mut self, number: u8) -> Reply
-        ensures { (lock : ℕ) → MeetsRow (command_row self.old.clips self.old.state (command.Open number lock)) self.old result None self.new }
+        ensures { (lock : ℕ) →
+            MeetsRow (command_row self.old.clips self.old.state
+            (command.Open number lock)) self.old result None self.new }
     {
         if number != self.number {
             return Reply::Opened(false);
@@ -198,7 +215,8 @@ impl<C: Catalogue> Port<C> {
     }
 
     fn close(&mut self, number: u8) -> Reply
-        ensures { MeetsRow (command_row self.old.clips self.old.state (command.Close number)) self.old result None self.new }
+        ensures { MeetsRow (command_row self.old.clips self.old.state
+            (command.Close number)) self.old result None self.new }
     {
         if number != self.number {
             return REFUSED;
@@ -209,7 +227,8 @@ impl<C: Catalogue> Port<C> {
     }
 
     fn select(&mut self, number: u8) -> Reply
-        ensures { MeetsRow (command_row self.old.clips self.old.state (command.Select number)) self.old result None self.new }
+        ensures { MeetsRow (command_row self.old.clips self.old.state
+            (command.Select number)) self.old result None self.new }
     {
         if number != self.number || self.access == Access::Closed {
             return REFUSED;
@@ -247,7 +266,8 @@ impl<C: Catalogue> Port<C> {
     }
 
     fn play(&mut self) -> (Reply, Option<Item>)
-        ensures { MeetsRow (command_row self.old.clips self.old.state command.Play) self.old result.0 result.1 self.new }
+        ensures { MeetsRow
+            (command_row self.old.clips self.old.state command.Play) self.old result.0 result.1 self.new }
     {
         if !self.is_selected() {
             return (REFUSED, None);

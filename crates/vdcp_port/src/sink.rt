@@ -8,7 +8,7 @@ pub(crate) trait Sink {
     /// The bytes that it holds.
     ghost written: { Self → List ℕ };
 
-    /// For so many bytes more there is room.
+    /// How many more bytes it has room for.
     ghost room: { Self → ℕ };
 
     /// Appends bytes where there is room for them.

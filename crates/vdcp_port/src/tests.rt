@@ -7,37 +7,13 @@ use std::alloc::{AllocError, Global};
 use std::process::Abort;
 use std::test::Fail;
 use vdcp_frame::{Ended, Message};
-use vdcp_value::{ClipId, Item, Part, Rate, Timecode};
+use vdcp_testing::two_clips;
+use vdcp_value::{ClipId, Item, Part, Timecode};
 use vdcp_words::{Command, Reply};
 
-/// A small catalogue.
-#[derive(Drop)]
-struct Shelf<const N: usize> {
-    clips: [(ClipId, Timecode); N],
-}
-
-impl<const N: usize> Catalogue for Shelf<N> {
-    ghost clips = { λ shelf. shelf.clips };
-
-    fn length(&self, id: &ClipId) -> Option<Timecode> {
-        for (known, length) in &self.clips {
-            if id == known {
-                return Some(*length);
-            }
-        }
-        None
-    }
-}
-
 /// CLIP0001 and CLIP0002, ten seconds each at 25 frames a second.
-fn two_clips() -> Result<Shelf<2>, &'static str> {
-    let length = Timecode::from_frames(Rate::F25, 250).ok_or("250 frames")?;
-    Ok(Shelf {
-        clips: [
-            (ClipId::new(*b"CLIP0001"), length),
-            (ClipId::new(*b"CLIP0002"), length),
-        ],
-    })
+fn ten_seconds_each() -> Result<[(ClipId, Timecode); 2], &'static str> {
+    two_clips(250).ok_or("250 frames")
 }
 
 const OPEN: &'static [u8] = &[0x02, 0x04, 0x30, 0x01, 0x01, 0x01, 0xCD];
@@ -113,7 +89,7 @@ fn a_new_port_answers_by_its_table(rt: HostRuntime) -> Result<(), Fail> {
         (b"\x02\x0A\x30\x14CLIP0009\xCB", &[0x05, 0x01]),
     ];
     for (burst, answer) in rows {
-        let mut port = Port::new(two_clips()?, 0, 1);
+        let mut port = Port::new(ten_seconds_each()?, 0, 1);
         let (out, aired) = sent(rt.alloc(), &mut port, burst)?;
         assert_eq!(rt; out.as_slice(), answer, "to {burst:?}");
         assert!(rt; aired.is_empty(), "at {burst:?}");
@@ -171,7 +147,7 @@ fn a_selected_port_answers_by_its_table(rt: HostRuntime) -> Result<(), Fail> {
         ),
     ];
     for (burst, answer, state) in rows {
-        let mut port = selected(rt.alloc(), two_clips()?)?;
+        let mut port = selected(rt.alloc(), ten_seconds_each()?)?;
         let (out, aired) = sent(rt.alloc(), &mut port, burst)?;
         assert_eq!(rt; out.as_slice(), answer, "to {burst:?}");
         assert!(rt; aired.is_empty(), "at {burst:?}");
@@ -182,7 +158,7 @@ fn a_selected_port_answers_by_its_table(rt: HostRuntime) -> Result<(), Fail> {
 
 #[test]
 fn a_clip_is_refused_by_an_empty_catalogue(rt: HostRuntime) -> Result<(), Fail> {
-    let mut port = selected(rt.alloc(), Shelf { clips: [] })?;
+    let mut port = selected(rt.alloc(), [])?;
     let (out, _) = sent(rt.alloc(), &mut port, CUE_1)?;
     assert_eq!(rt; out.as_slice(), [0x05, 0x01].as_slice());
     assert_eq!(rt; port.status_byte(), 0x01);
@@ -210,7 +186,7 @@ fn bursts_after_one_another_are_answered(rt: HostRuntime) -> Result<(), Fail> {
             &[0x04, 0x05, 0x04],
         ),
     ];
-    let mut port = Port::new(two_clips()?, 0, 1);
+    let mut port = Port::new(ten_seconds_each()?, 0, 1);
     for (burst, answer) in rows {
         let (out, _) = sent(rt.alloc(), &mut port, burst)?;
         assert_eq!(rt; out.as_slice(), answer, "to {burst:?}");
@@ -254,7 +230,7 @@ fn clips_are_cued_and_aired(rt: HostRuntime) -> Result<(), Fail> {
         (Happening::Comes(STOP), ack, 0x01, None),
         (Happening::Comes(CLOSE), ack, 0x01, None),
     ];
-    let mut port = selected(rt.alloc(), two_clips()?)?;
+    let mut port = selected(rt.alloc(), ten_seconds_each()?)?;
     for (happening, answer, state, airs) in rows {
         match happening {
             Happening::Comes(burst) => {
@@ -279,7 +255,7 @@ fn a_part_airs_as_a_part(rt: HostRuntime) -> Result<(), Fail> {
         start: [0x00, 0x02, 0x00, 0x00],
         duration: [0x00, 0x03, 0x00, 0x00],
     };
-    let mut port = selected(rt.alloc(), two_clips()?)?;
+    let mut port = selected(rt.alloc(), ten_seconds_each()?)?;
     let cue = b"\x02\x12\x20\x25CLIP0001\x00\x02\x00\x00\x00\x03\x00\x00\xCD";
     let (out, _) = sent(rt.alloc(), &mut port, cue)?;
     assert_eq!(rt; out.as_slice(), [0x04].as_slice());
@@ -301,7 +277,7 @@ fn a_part_airs_as_a_part(rt: HostRuntime) -> Result<(), Fail> {
 
 #[test]
 fn the_frame_clock_completes_cues_and_ends_clips(rt: HostRuntime) -> Result<(), Fail> {
-    let mut port = Port::with_clock(two_clips()?, 0, 1, 3);
+    let mut port = Port::with_clock(ten_seconds_each()?, 0, 1, 3);
     for burst in [OPEN, SELECT, CUE_1] {
         let (_, aired) = sent(rt.alloc(), &mut port, burst)?;
         assert!(rt; aired.is_empty());
@@ -334,7 +310,7 @@ fn a_burst_is_answered_up_to_its_limit(rt: HostRuntime) -> Result<(), Fail> {
         answer.push(0x04)?;
     }
     answer.extend_from_slice(&[0x05, 0x04])?;
-    let mut port = selected(rt.alloc(), two_clips()?)?;
+    let mut port = selected(rt.alloc(), ten_seconds_each()?)?;
     let (out, aired) = sent(rt.alloc(), &mut port, burst.as_slice())?;
     assert_eq!(rt; out.as_slice(), answer.as_slice());
     assert!(rt; aired.is_empty());
@@ -346,7 +322,7 @@ fn the_largest_message_is_refused(rt: HostRuntime) -> Result<(), Fail> {
     let mut burst = Vec::from_slice(rt.alloc(), &[0x02, 0xFF, 0x70, 0x00])?;
     burst.extend_from_slice(&[0x00; 253])?;
     burst.push(0x90)?;
-    let mut port = selected(rt.alloc(), two_clips()?)?;
+    let mut port = selected(rt.alloc(), ten_seconds_each()?)?;
     let (out, _) = sent(rt.alloc(), &mut port, burst.as_slice())?;
     assert_eq!(rt; out.as_slice(), [0x05, 0x01].as_slice());
     Ok(())
@@ -370,7 +346,7 @@ fn is_refused<C: Catalogue>(
 #[test]
 fn hostile_bursts_change_nothing(rt: HostRuntime) -> Result<(), Fail> {
     let base = *b"\x02\x0A\x20\x24CLIP0001\xD3";
-    let mut port = selected(rt.alloc(), two_clips()?)?;
+    let mut port = selected(rt.alloc(), ten_seconds_each()?)?;
     let (_, _) = sent(rt.alloc(), &mut port, CUE_1)?;
     port.ready();
     for burst in [PLAY, CUE_2] {
@@ -410,7 +386,7 @@ fn hostile_bursts_change_nothing(rt: HostRuntime) -> Result<(), Fail> {
 
 #[test]
 fn single_messages_are_answered(rt: HostRuntime) -> Result<(), Fail> {
-    let mut port = Port::new(two_clips()?, 3, 7);
+    let mut port = Port::new(ten_seconds_each()?, 3, 7);
     assert_eq!(rt; port.unit(), 3);
     let mut room = [0; 16];
     assert_eq!(rt; port.answer(&Message::Ack), (None, None));
@@ -428,8 +404,8 @@ fn single_messages_are_answered(rt: HostRuntime) -> Result<(), Fail> {
 }
 
 /// Forty PLAYs, with a cue done.
-fn forty_plays(alloc: Global) -> Result<(Port<Shelf<2>>, Vec<u8>), Fail> {
-    let mut port = selected(alloc, two_clips()?)?;
+fn forty_plays(alloc: Global) -> Result<(Port<[(ClipId, Timecode); 2]>, Vec<u8>), Fail> {
+    let mut port = selected(alloc, ten_seconds_each()?)?;
     let (_, _) = sent(alloc, &mut port, CUE_1)?;
     port.ready();
     let mut burst = Vec::new(alloc);
@@ -490,7 +466,7 @@ fn a_burst_is_answered_into_fixed_room(rt: HostRuntime) -> Result<(), Fail> {
         id: ClipId::new(*b"CLIP0001"),
         part: None,
     };
-    let mut port = selected(rt.alloc(), two_clips()?)?;
+    let mut port = selected(rt.alloc(), ten_seconds_each()?)?;
     let (_, _) = sent(rt.alloc(), &mut port, CUE_1)?;
     port.ready();
     let mut out = ArrayVec::<u8, 36>::new();

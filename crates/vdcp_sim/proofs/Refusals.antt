@@ -9,11 +9,13 @@ use Rattle.vdcp_text.specs.Failure.{failure_line, status_of}
 use Rattle.vdcp_text.specs.declared.failure.Failure.{Failure}
 use Rattle.vdcp_value.specs.declared.rate.Rate.{Rate}
 
-status_1 : (failure : Failure) (status : ℕ) → (status ≡ status_of failure) ⊎ (status ≡ 3) → status ≡ 1 → status_of failure ≡ 1
+status_1 : (failure : Failure) (status : ℕ) → (status ≡ status_of failure) ⊎ (status ≡ 3) → status ≡ 1
+    → status_of failure ≡ 1
 status_1 failure status (inl e) one = sym e ∙ one
 status_1 failure status (inr three) one = absurd (omega (arith, three, one))
 
-pub refused_with_1 : (rate : Rate) (list catalogue : File) (name : Bor (List ℕ)) (out out' err err' : Option (List ℕ)) (failure : Failure) (status : ℕ)
+pub refused_with_1 : (rate : Rate) (list catalogue : File) (name : Bor (List ℕ)) (out out' err err' : Option (List ℕ))
+    (failure : Failure) (status : ℕ)
     → IsUnsimulated rate list catalogue name out out' failure → (status ≡ status_of failure) ⊎ (status ≡ 3)
     → (status < 3 → Appends err err' (failure_line failure)) → status ≡ 1
     → IsRefused rate list catalogue out out' err err' ⊎ IsScriptRefused rate list catalogue name out out' err err'
@@ -21,7 +23,14 @@ refused_with_1 rate list catalogue name out out' err err' failure status (writer
     let three : status_of failure ≡ 3 = ap status_of writer in
     absurd (omega (arith, three, status_1 failure status is one))
 refused_with_1 rate list catalogue name out out' err err' failure status (no_files refuses silent) is told one =
-    inl (record { failure = failure; refused = refuses; of_row = status_1 failure status is one; told = told (omega (arith, one)); silent = silent })
+    inl (record {
+      failure = failure;
+      refused = refuses;
+      of_row = status_1 failure status is one;
+      told = told
+          (omega (arith, one));
+      silent = silent;
+    })
 refused_with_1 rate list catalogue name out out' err err' failure status (no_script whole refused silent) is told one =
     inr (record {
       whole = whole;

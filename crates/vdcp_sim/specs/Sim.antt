@@ -1,43 +1,32 @@
 -- What sim prints, and of which channel.
 use Rattle.std.specs.Borrow.{Bor}
 use Rattle.std.specs.Io.KnownBytes.{Appends, Keeps}
-use Rattle.std.specs.Prelude.{ℕ, suc, ◌≡◌, ◌≤◌, ◌⊎◌, Bool, true, false, List, [], ◌∷◌, ◌++◌, codes, decimal, length, Option, None, Some}
+use Rattle.std.specs.Prelude.{ℕ, suc, ◌≡◌, ◌≤◌, ◌⊎◌, Bool, true, false, List, [], ◌∷◌, ◌++◌, codes, decimal, length, Option}
 use Rattle.vdcp_value.specs.declared.clip_id.ClipId.{ClipId}
 use Rattle.vdcp_value.specs.declared.part.Item.{Item}
 use Rattle.vdcp_value.specs.declared.rate.Rate.{Rate}
 use Rattle.vdcp_value.specs.declared.timecode.Timecode.{Timecode}
-use Rattle.vdcp_words.specs.Texts.{command_text, reply_text}
+use Rattle.vdcp_auto.specs.Plan.{Plan}
 use Rattle.vdcp_auto.specs.Turn.{outcome_of}
 use Rattle.vdcp_auto.specs.declared.exchange.Exchange.{Exchange}
-use Rattle.vdcp_auto.specs.declared.exchange.Heard.{Heard}
-use Rattle.vdcp_auto.specs.declared.exchange.Heard.TheVariants as heard
 use Rattle.vdcp_auto.specs.declared.outcome.Outcome.{Outcome}
 use Rattle.vdcp_list.specs.Catalogues.{IsCatalogueOf}
 use Rattle.vdcp_list.specs.Playlists.{IsListOf}
 use Rattle.vdcp_text.specs.Failure.{failure_line, status_of}
+use Rattle.vdcp_text.specs.Exchange.{exchange_text}
+use Rattle.vdcp_text.specs.Items.{item_text}
+use Rattle.vdcp_text.specs.Outcome.{outcome_text}
 use Rattle.vdcp_text.specs.Text.{line}
 use Rattle.vdcp_text.specs.declared.failure.Failure.{Failure}
 use Rattle.vdcp_text.specs.declared.failure.Failure.TheVariants as failures
-use Rattle.vdcp_text.specs.declared.failure.LineFault.{LineFault}
+use Rattle.vdcp_text.specs.declared.failure.ScriptLineFault.{ScriptLineFault}
 use Rattle.vdcp_files.specs.Check.{AreWhole, Refuses}
 use Rattle.vdcp_files.specs.Files.{File, bytes_of}
-use Rattle.vdcp_files.specs.Items.{item_text}
 use Rattle.vdcp_files.specs.Mode.{mode_of}
-use Rattle.vdcp_files.specs.Outcome.{outcome_text}
 use Rattle.vdcp_world.specs.Channel.{Channel, new_channel, after_events}
 use Rattle.vdcp_world.specs.Headline.{Headline}
 use Rattle.vdcp_world.specs.declared.event.Event.{Event}
 use Rattle.vdcp_sim.specs.declared.sim.SimSettings.{SimSettings}
-
--- ---- texts
-
-abbrev pub heard_text : Option Heard → List ℕ
-heard_text None = codes "silence"
-heard_text (Some heard.Other) = codes "other"
-heard_text (Some (heard.Reply reply)) = reply_text reply
-
-abbrev pub exchange_text : Exchange → List ℕ
-exchange_text e = command_text e.command ++ codes " -> " ++ heard_text e.heard
 
 -- ---- lines
 
@@ -64,18 +53,27 @@ aired_text rate aired = numbered (aired_line rate) 0 aired
 -- the lines of how many events are reported, how many exchanges ended, and how the controller ended
 abbrev pub end_text : ℕ → ℕ → Option Outcome → List ℕ
 end_text reported exchanges outcome =
-    line (codes "reported " ++ decimal reported) ++ line (codes "exchanges " ++ decimal exchanges) ++ line (codes "outcome " ++ outcome_text outcome)
+    line (codes "reported " ++ decimal reported)
+    ++ line (codes "exchanges " ++ decimal exchanges)
+    ++ line (codes "outcome " ++ outcome_text outcome)
 
 -- what is printed of a channel
 abbrev pub channel_text : Bool → Rate → Channel → List ℕ
-channel_text trace rate c = trace_text trace c.log ++ aired_text rate c.aired ++ end_text c.state.settled (length c.log) (outcome_of c.state.stage)
+channel_text trace rate c =
+    trace_text trace c.log
+    ++ aired_text rate c.aired
+    ++ end_text c.state.settled (length c.log) (outcome_of c.state.stage)
 
 -- ---- the channel
 
+-- what the controller is made with for these items
+abbrev pub plan_for : SimSettings → List Item → Plan
+plan_for settings items =
+    record { mode = mode_of settings.confirm; list = items; port = settings.port; limit = settings.limit }
+
 -- the new channel of a playlist and a catalogue
 abbrev pub channel_of : SimSettings → List Item → List (ClipId × Timecode) → Channel
-channel_of settings items clips =
-    new_channel (record { mode = mode_of settings.confirm; list = items; port = settings.port; limit = settings.limit }) clips settings.unit settings.cue_frames
+channel_of settings items clips = new_channel (plan_for settings items) clips settings.unit settings.cue_frames
 
 -- the files are a playlist and a catalogue, and a writer gained what is printed of the channel that some
 -- events led to from their new one; and this channel keeps the headline
@@ -86,7 +84,9 @@ pub record IsSimulated (settings : SimSettings) (list catalogue : File) (old new
   pub few : length events ≤ 100000
   pub is_playlist : IsListOf settings.rate (bytes_of list) items
   pub is_catalogue : IsCatalogueOf settings.rate (bytes_of catalogue) clips
-  pub gained : Appends old new (channel_text settings.trace settings.rate (after_events (channel_of settings items clips) events))
+  pub gained :
+      Appends old new
+      (channel_text settings.trace settings.rate (after_events (channel_of settings items clips) events))
   pub headline : Headline (after_events (channel_of settings items clips) events)
 
 -- ---- scripts that are refused
@@ -94,19 +94,23 @@ pub record IsSimulated (settings : SimSettings) (list catalogue : File) (old new
 -- the script of this name is refused so: a line of it, it as a whole, or it can't be read
 abbrev pub IsScriptFailure : Bor (List ℕ) → Failure → Type 0
 IsScriptFailure name failure =
-    ((number : ℕ) × (fault : LineFault) × (failure ≡ failures.Line name number fault))
-    ⊎ ((failure ≡ failures.TooManyEvents name) ⊎ ((failure ≡ failures.NotText name) ⊎ ((failure ≡ failures.Read name) ⊎ (failure ≡ failures.Memory))))
+    ((number : ℕ) × (fault : ScriptLineFault) × (failure ≡ failures.ScriptLine name number fault))
+    ⊎ ((failure ≡ failures.TooManyEvents name) ⊎ ((failure ≡ failures.NotText name)
+    ⊎ ((failure ≡ failures.Read name) ⊎ (failure ≡ failures.Memory))))
 
--- why nothing is simulated, and what was printed by then: the list or the catalogue isn't read, or else the script isn't,
--- or else the writer failed
-pub data IsUnsimulated (rate : Rate) (list catalogue : File) (script : Bor (List ℕ)) (out out' : Option (List ℕ)) (failure : Failure) : Type 0 where
-  no_files : Refuses rate list catalogue failure → Keeps out out' → IsUnsimulated rate list catalogue script out out' failure
+-- why nothing is simulated, and what was printed by then: the list or the catalogue isn't read; or else the
+-- script isn't; or else the writer failed
+pub data IsUnsimulated (rate : Rate) (list catalogue : File) (script : Bor (List ℕ)) (out out' : Option (List ℕ))
+    (failure : Failure) : Type 0 where
+  no_files : Refuses rate list catalogue failure → Keeps out out'
+      → IsUnsimulated rate list catalogue script out out' failure
   no_script : AreWhole rate list catalogue → IsScriptFailure script failure → Keeps out out'
       → IsUnsimulated rate list catalogue script out out' failure
   writer_failed : failure ≡ failures.Writer → IsUnsimulated rate list catalogue script out out' failure
 
--- the files are whole, and the script is refused: one writer gained the line that tells it, and the other nothing
-pub record IsScriptRefused (rate : Rate) (list catalogue : File) (name : Bor (List ℕ)) (out out' err err' : Option (List ℕ)) : Type 0 where
+-- the files are whole, and the script is refused: one writer gained the line that reports it, and the other nothing
+pub record IsScriptRefused (rate : Rate) (list catalogue : File) (name : Bor (List ℕ))
+    (out out' err err' : Option (List ℕ)) : Type 0 where
   pub whole : AreWhole rate list catalogue
   pub failure : Failure
   pub refused : IsScriptFailure name failure

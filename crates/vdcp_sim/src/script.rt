@@ -3,18 +3,17 @@ ghost use Rattle.vdcp_sim.specs.Sim.{IsScriptFailure};
 
 use std::alloc::Global;
 use std::{io, str};
-use vdcp_files::Input;
-use vdcp_text::{Failure, LineFault};
+use vdcp_files::NamedFile;
+use vdcp_text::{Failure, ScriptLineFault};
 use vdcp_world::{Event, ScriptFault, read_script};
 
-/// So many reads are made of a script, which is refused as one that can't be read where it goes on behind
-/// them. The limit is this profile's.
+/// A script that needs more reads can't be read. The limit is this profile's.
 const MOST_READS: u32 = 1_000_000;
 
 /// Reads a script.
 pub fn read_events<'a, R: io::Read + Drop>(
     alloc: Global,
-    script: Input<'a, R>,
+    script: NamedFile<'a, R>,
 ) -> Result<Vec<Event>, Failure<'a>>
     ensures few { IfOk result (λ events. length events.items ≤ 100000) }
     ensures refused { IfErr result (IsScriptFailure script.entry.name) }
@@ -53,9 +52,9 @@ fn script_failure<'a>(name: &'a str, fault: ScriptFault) -> Failure<'a>
     ensures { IsScriptFailure name.entry result }
 {
     match fault {
-        ScriptFault::Word(line) => Failure::Line(name, line, LineFault::Word),
-        ScriptFault::Number(line) => Failure::Line(name, line, LineFault::Number),
-        ScriptFault::Hex(line) => Failure::Line(name, line, LineFault::Hex),
+        ScriptFault::Word(line) => Failure::ScriptLine(name, line, ScriptLineFault::Word),
+        ScriptFault::Number(line) => Failure::ScriptLine(name, line, ScriptLineFault::Number),
+        ScriptFault::Hex(line) => Failure::ScriptLine(name, line, ScriptLineFault::Hex),
         ScriptFault::TooMany => Failure::TooManyEvents(name),
         ScriptFault::Memory => Failure::Memory,
     }

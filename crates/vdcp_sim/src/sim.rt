@@ -6,13 +6,12 @@ ghost use Rattle.vdcp_sim.specs.Sim.{IsScriptRefused, IsSimulated, IsUnsimulated
 ghost use Rattle.vdcp_text.specs.Failure.{status_of};
 
 use crate::script::read_events;
-use crate::text::ExchangeText;
 use std::alloc::{Allocator, Global};
 use std::io;
 use vdcp_auto::{Exchange, Outcome, Source};
-use vdcp_files::{Input, ItemText, OutcomeText};
+use vdcp_files::NamedFile;
 use vdcp_port::Catalogue;
-use vdcp_text::Failure;
+use vdcp_text::{ExchangeText, Failure, ItemText, OutcomeText};
 use vdcp_value::{Item, Rate};
 use vdcp_world::World;
 
@@ -23,9 +22,9 @@ pub struct SimSettings {
     pub unit: u8,
     /// The port's number.
     pub port: u8,
-    /// The controller gives up after so many unanswered exchanges in a row, 1 to 1,000.
+    /// Unanswered exchanges in a row after which the controller gives up, 1 to 1,000.
     pub limit: u32,
-    /// A cue takes so many frames, 1 to 1,000.
+    /// The length of a cue in frames, 1 to 1,000.
     pub cue_frames: u32,
     /// The controller is in confirm mode, and receipts may come from nowhere.
     pub confirm: bool,
@@ -41,9 +40,9 @@ pub struct SimSettings {
 /// controller ended.
 ///
 /// The status is 0 whatever came of the events. It is 1 where a row or a line is refused, and 3 where a
-/// file can't be read or memory was refused: `err` is told of these, and `out` gets nothing. The list is
-/// read first, and then the catalogue. The status is 3 where a writer failed, to which nothing more is
-/// written; `out` is flushed behind the last line.
+/// file can't be read or memory was refused: `err` gets a line of either, and `out` nothing. The list is
+/// read first, and then the catalogue. The status is 3 where a writer failed: nothing more is written to
+/// that one. `out` is flushed after the last line.
 pub fn do_sim<
     L: io::Read + Drop,
     C: io::Read + Drop,
@@ -52,9 +51,9 @@ pub fn do_sim<
     E: io::Write,
 >(
     alloc: Global,
-    list: Input<'_, L>,
-    catalogue: Input<'_, C>,
-    script: Input<'_, R>,
+    list: NamedFile<'_, L>,
+    catalogue: NamedFile<'_, C>,
+    script: NamedFile<'_, R>,
     settings: SimSettings,
     out: &mut W,
     err: &mut E,
@@ -64,17 +63,22 @@ pub fn do_sim<
     requires few { settings.limit ≤ 1000 }
     requires some_frames { 1 ≤ settings.cue_frames }
     requires few_frames { settings.cue_frames ≤ 1000 }
-    ensures simulated { result ≡ 0 → IsSimulated settings (file list.entry.name (L.remaining list.entry.reader)) (file catalogue.entry.name (C.remaining catalogue.entry.reader))
+    ensures simulated { result ≡ 0 →
+        IsSimulated settings (file list.entry.name (L.remaining list.entry.reader))
+        (file catalogue.entry.name (C.remaining catalogue.entry.reader))
         (W.contents out.old) (W.contents out.new) }
     ensures untold { result ≡ 0 → Keeps (E.contents err.old) (E.contents err.new) }
     // The status is 1 for a row that is refused, and for a line or the whole of the script.
     ensures others { result ≡ 1 →
-        IsRefused settings.rate (file list.entry.name (L.remaining list.entry.reader)) (file catalogue.entry.name (C.remaining catalogue.entry.reader))
+        IsRefused settings.rate (file list.entry.name (L.remaining list.entry.reader))
+        (file catalogue.entry.name (C.remaining catalogue.entry.reader))
         (W.contents out.old) (W.contents out.new) (E.contents err.old) (E.contents err.new)
-        ⊎ IsScriptRefused settings.rate (file list.entry.name (L.remaining list.entry.reader)) (file catalogue.entry.name (C.remaining catalogue.entry.reader))
+        ⊎ IsScriptRefused settings.rate (file list.entry.name (L.remaining list.entry.reader))
+        (file catalogue.entry.name (C.remaining catalogue.entry.reader))
         script.entry.name (W.contents out.old) (W.contents out.new) (E.contents err.old) (E.contents err.new) }
     ensures silent { Keeps (W.contents out.old) (W.contents out.new)
-        ⊎ AreWhole settings.rate (file list.entry.name (L.remaining list.entry.reader)) (file catalogue.entry.name (C.remaining catalogue.entry.reader)) }
+        ⊎ AreWhole settings.rate (file list.entry.name (L.remaining list.entry.reader))
+        (file catalogue.entry.name (C.remaining catalogue.entry.reader)) }
     ensures statuses { (result < 2) ⊎ (result ≡ 3) }
 {
     match simulate(alloc, list, catalogue, script, settings, out) {
@@ -86,9 +90,9 @@ pub fn do_sim<
 // Reads the files, runs the script, and writes what came of it.
 fn simulate<'a, L: io::Read + Drop, C: io::Read + Drop, R: io::Read + Drop, W: io::Write>(
     alloc: Global,
-    list: Input<'a, L>,
-    catalogue: Input<'a, C>,
-    script: Input<'a, R>,
+    list: NamedFile<'a, L>,
+    catalogue: NamedFile<'a, C>,
+    script: NamedFile<'a, R>,
     settings: SimSettings,
     out: &mut W,
 ) -> Result<(), Failure<'a>>
@@ -97,12 +101,17 @@ fn simulate<'a, L: io::Read + Drop, C: io::Read + Drop, R: io::Read + Drop, W: i
     requires few { settings.limit ≤ 1000 }
     requires some_frames { 1 ≤ settings.cue_frames }
     requires few_frames { settings.cue_frames ≤ 1000 }
-    ensures simulated { OnOk result (IsSimulated settings (file list.entry.name (L.remaining list.entry.reader)) (file catalogue.entry.name (C.remaining catalogue.entry.reader))
+    ensures simulated { OnOk result
+        (IsSimulated settings (file list.entry.name (L.remaining list.entry.reader))
+        (file catalogue.entry.name (C.remaining catalogue.entry.reader))
         (W.contents out.old) (W.contents out.new)) }
-    ensures unsimulated { IfErr result (IsUnsimulated settings.rate (file list.entry.name (L.remaining list.entry.reader)) (file catalogue.entry.name (C.remaining catalogue.entry.reader))
+    ensures unsimulated { IfErr result
+        (IsUnsimulated settings.rate (file list.entry.name (L.remaining list.entry.reader))
+        (file catalogue.entry.name (C.remaining catalogue.entry.reader))
         script.entry.name (W.contents out.old) (W.contents out.new)) }
     ensures silent { Keeps (W.contents out.old) (W.contents out.new)
-        ⊎ AreWhole settings.rate (file list.entry.name (L.remaining list.entry.reader)) (file catalogue.entry.name (C.remaining catalogue.entry.reader)) }
+        ⊎ AreWhole settings.rate (file list.entry.name (L.remaining list.entry.reader))
+        (file catalogue.entry.name (C.remaining catalogue.entry.reader)) }
     ensures statuses { IfErr result (λ e. status_of e ≢ 2) }
 {
     let events = list.read_list(alloc, settings.rate)?;
@@ -147,7 +156,8 @@ fn write_world<S: Source, C: Catalogue, A: Allocator + Copy, W: io::Write>(
     settings: SimSettings,
     out: &mut W,
 ) -> io::Result<()>
-    ensures { OnOk result (Appends (W.contents out.old) (W.contents out.new) (channel_text settings.trace settings.rate world.now)) }
+    ensures { OnOk result (Appends (W.contents out.old) (W.contents out.new)
+        (channel_text settings.trace settings.rate world.now)) }
 {
     let log = world.log();
     if settings.trace {

@@ -1,4 +1,5 @@
 -- The lemmas that answers take.
 mod TextLemmas
+mod ShowLemmas
 mod MakeLemmas
 mod Examples

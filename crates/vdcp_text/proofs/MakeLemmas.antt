@@ -9,8 +9,9 @@ use Rattle.vdcp_text.specs.Make.{IsIdText, IsTimeText, NamesNone}
 use Rattle.vdcp_value.specs.declared.clip_id.ClipId.{ClipId}
 use Rattle.vdcp_words.specs.declared.command.Command.TheVariants.{Open, Close, Select, PlayCue, CueData, Play, Stop, Status, ActiveId, IdRequest, IdSize}
 
--- what isn't decoded to so many bytes isn't decoded to any list of so many
-pub no_bytes : (text : List ℕ) (n : ℕ) (e : FromHexError) → decode_sized text n ≡ Err e → (bytes : List ℕ) → length bytes ≡ n
+-- text that doesn't decode to n bytes decodes to no list of n bytes
+pub no_bytes : (text : List ℕ) (n : ℕ) (e : FromHexError) → decode_sized text n ≡ Err e → (bytes : List ℕ)
+    → length bytes ≡ n
     → decode_of text ≡ Ok bytes → ⊥
 no_bytes text n e refused bytes size decoded =
     let d = decode_of-ok text bytes decoded in
@@ -54,14 +55,17 @@ no_id : (word text : List ℕ) → ((id : ClipId) → ¬ IsIdText text id) → I
 no_id word text none other (Open port lock) (p, l, _, _, e) = other.0 (cc e)
 no_id word text none other (Close port) (p, _, e) = other.1 (cc e)
 no_id word text none other (Select port) (p, _, e) = other.2 (cc e)
-no_id word text none other (PlayCue id) (i, is, e) = let same : i ≡ text = cc e in none id (subst (λ t. IsIdText t id) same is)
+no_id word text none other (PlayCue id) (i, is, e) = let same : i ≡ text = cc e in
+    none id (subst (λ t. IsIdText t id) same is)
 no_id word text none other (CueData id start duration) (i, x, y, _, _, _, e) = cc e
 no_id word text none other Play e = cc e
 no_id word text none other Stop e = cc e
 no_id word text none other (Status bitmap) (p, _, e) = other.3 (cc e)
 no_id word text none other ActiveId e = cc e
-no_id word text none other (IdRequest id) (i, is, e) = let same : i ≡ text = cc e in none id (subst (λ t. IsIdText t id) same is)
-no_id word text none other (IdSize id) (i, is, e) = let same : i ≡ text = cc e in none id (subst (λ t. IsIdText t id) same is)
+no_id word text none other (IdRequest id) (i, is, e) = let same : i ≡ text = cc e in
+    none id (subst (λ t. IsIdText t id) same is)
+no_id word text none other (IdSize id) (i, is, e) = let same : i ≡ text = cc e in
+    none id (subst (λ t. IsIdText t id) same is)
 
 pub no_cue : (text : List ℕ) → ((id : ClipId) → ¬ IsIdText text id) → NamesNone (codes "cue" ∷ text ∷ [])
 no_cue text none = no_id (codes "cue") text none cue_takes_no_bytes
@@ -78,7 +82,8 @@ texts arguments = map (λ a. a.now) arguments
 -- the arguments are an ID and two time codes
 abbrev pub IsPart : List (List ℕ) → Type 0
 IsPart arguments =
-    (id : ClipId) × (x y i s d : List ℕ) × IsIdText i id × IsTimeText s x × IsTimeText d y × (arguments ≡ i ∷ s ∷ d ∷ [])
+    (id : ClipId) × (x y i s d : List ℕ) × IsIdText i id × IsTimeText s x × IsTimeText d y
+    × (arguments ≡ i ∷ s ∷ d ∷ [])
 
 -- what isn't such doesn't cue a part
 pub no_part : (arguments : List (List ℕ)) → ¬ IsPart arguments → NamesNone (codes "cue-data" ∷ arguments)
@@ -86,7 +91,8 @@ no_part arguments none (Open port lock) (p, l, _, _, e) = cc e
 no_part arguments none (Close port) (p, _, e) = cc e
 no_part arguments none (Select port) (p, _, e) = cc e
 no_part arguments none (PlayCue id) (i, _, e) = cc e
-no_part arguments none (CueData id x y) (i, s, d, is, starts, lasts, e) = none (id, x, y, i, s, d, is, starts, lasts, cc e)
+no_part arguments none (CueData id x y) (i, s, d, is, starts, lasts, e) =
+    none (id, x, y, i, s, d, is, starts, lasts, cc e)
 no_part arguments none Play e = cc e
 no_part arguments none Stop e = cc e
 no_part arguments none (Status bitmap) (p, _, e) = cc e
@@ -99,11 +105,13 @@ if_err (Ok x) p = tt
 if_err (Err e) p = p
 
 pub not_three : (arguments : List (Bor (List ℕ))) → length arguments ≢ 3 → ¬ IsPart (texts arguments)
-not_three arguments other (id, x, y, i, s, d, is, starts, lasts, e) = other (sym (length-map arguments (λ a. a.now)) ∙ ap length e)
+not_three arguments other (id, x, y, i, s, d, is, starts, lasts, e) =
+    other (sym (length-map arguments (λ a. a.now)) ∙ ap length e)
 
 -- three arguments, of which these stand at 0, 1 and 2
 record Three (arguments : List (Bor (List ℕ))) (none : Bor (List ℕ)) : Type 0 where
-  pub are : texts arguments ≡ (get_or arguments 0 none).now ∷ (get_or arguments 1 none).now ∷ (get_or arguments 2 none).now ∷ []
+  pub are : texts arguments
+      ≡ (get_or arguments 0 none).now ∷ (get_or arguments 1 none).now ∷ (get_or arguments 2 none).now ∷ []
 
 three : (arguments : List (Bor (List ℕ))) (none : Bor (List ℕ)) → length arguments ≡ 3 → Three arguments none
 three [] none e = absurd (omega (arith, e))

@@ -1,11 +1,11 @@
--- What a failure is told as, and its exit status.
+-- The line that reports a failure, and its exit status.
 use Rattle.std.specs.Prelude.{ℕ, List, ◌++◌, codes, decimal}
 use Rattle.vdcp_text.specs.Text.{line}
 use Rattle.vdcp_text.specs.declared.failure.Failure.{Failure}
-use Rattle.vdcp_text.specs.declared.failure.Failure.TheVariants.{Hex, Word, Arguments, Text, Open, Read, Row, Line, TooManyEvents, NotText, Write, Memory, Writer}
+use Rattle.vdcp_text.specs.declared.failure.Failure.TheVariants.{Hex, Word, Arguments, Text, Open, Read, Row, ScriptLine, TooManyEvents, NotText, Write, Memory, Writer}
 use Rattle.vdcp_text.specs.declared.failure.Failure.TheVariants.{Address, Connect, Bind, LineFailed, LineClosed, Spent}
-use Rattle.vdcp_text.specs.declared.failure.LineFault.{LineFault}
-use Rattle.vdcp_text.specs.declared.failure.LineFault.TheVariants as lines
+use Rattle.vdcp_text.specs.declared.failure.ScriptLineFault.{ScriptLineFault}
+use Rattle.vdcp_text.specs.declared.failure.ScriptLineFault.TheVariants as lines
 use Rattle.vdcp_text.specs.declared.failure.RowFault.{RowFault}
 use Rattle.vdcp_text.specs.declared.failure.RowFault.TheVariants as rows
 
@@ -18,7 +18,7 @@ status_of Text = 2
 status_of (Open name) = 3
 status_of (Read name) = 3
 status_of (Row name row fault) = 1
-status_of (Line name number fault) = 1
+status_of (ScriptLine name number fault) = 1
 status_of (TooManyEvents name) = 1
 status_of (NotText name) = 1
 status_of (Write name) = 3
@@ -38,12 +38,12 @@ row_fault_text rows.Time = codes "time"
 row_fault_text rows.Twice = codes "twice"
 row_fault_text rows.TooMany = codes "too many"
 
-abbrev pub line_fault_text : LineFault → List ℕ
-line_fault_text lines.Word = codes "word"
-line_fault_text lines.Number = codes "number"
-line_fault_text lines.Hex = codes "hex"
+abbrev pub script_line_fault_text : ScriptLineFault → List ℕ
+script_line_fault_text lines.Word = codes "word"
+script_line_fault_text lines.Number = codes "number"
+script_line_fault_text lines.Hex = codes "hex"
 
--- what a failure is told as, but for a writer's, of which nothing is told
+-- the words of a failure; those of a failed writer are never printed
 abbrev pub failure_text : Failure → List ℕ
 failure_text Hex = codes "hex"
 failure_text Word = codes "word"
@@ -52,7 +52,8 @@ failure_text Text = codes "text"
 failure_text (Open name) = name.now ++ codes ": cannot open"
 failure_text (Read name) = name.now ++ codes ": read"
 failure_text (Row name row fault) = name.now ++ codes ": row " ++ decimal row ++ codes ": " ++ row_fault_text fault
-failure_text (Line name number fault) = name.now ++ codes ": line " ++ decimal number ++ codes ": " ++ line_fault_text fault
+failure_text (ScriptLine name number fault) =
+    name.now ++ codes ": line " ++ decimal number ++ codes ": " ++ script_line_fault_text fault
 failure_text (TooManyEvents name) = name.now ++ codes ": too many"
 failure_text (NotText name) = name.now ++ codes ": text"
 failure_text (Write name) = name.now ++ codes ": write"
@@ -65,6 +66,6 @@ failure_text Spent = codes "spent"
 failure_text Memory = codes "memory"
 failure_text Writer = codes "write"
 
--- the line that tells a failure
+-- the line that reports a failure
 abbrev pub failure_line : Failure → List ℕ
 failure_line failure = line (codes "vdcp: " ++ failure_text failure)

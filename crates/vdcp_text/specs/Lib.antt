@@ -1,7 +1,9 @@
 -- What the clauses of this crate cite.
 pub mod Meaning
 pub mod Text
-pub mod End
+pub mod Items
+pub mod Outcome
+pub mod Exchange
 pub mod Failure
 pub mod Show
 pub mod Make

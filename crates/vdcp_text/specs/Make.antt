@@ -32,12 +32,14 @@ words_of word arguments = word ∷ map (λ a. a.now) arguments
 
 -- the words that name each command
 abbrev pub Names : List (List ℕ) → Command → Type 0
-Names words (Open port lock) = (p l : List ℕ) × IsByteText p port × IsByteText l lock × (words ≡ codes "open" ∷ p ∷ l ∷ [])
+Names words (Open port lock) =
+    (p l : List ℕ) × IsByteText p port × IsByteText l lock × (words ≡ codes "open" ∷ p ∷ l ∷ [])
 Names words (Close port) = (p : List ℕ) × IsByteText p port × (words ≡ codes "close" ∷ p ∷ [])
 Names words (Select port) = (p : List ℕ) × IsByteText p port × (words ≡ codes "select" ∷ p ∷ [])
 Names words (PlayCue id) = (i : List ℕ) × IsIdText i id × (words ≡ codes "cue" ∷ i ∷ [])
 Names words (CueData id start duration) =
-    (i s d : List ℕ) × IsIdText i id × IsTimeText s start × IsTimeText d duration × (words ≡ codes "cue-data" ∷ i ∷ s ∷ d ∷ [])
+    (i s d : List ℕ) × IsIdText i id × IsTimeText s start × IsTimeText d duration
+    × (words ≡ codes "cue-data" ∷ i ∷ s ∷ d ∷ [])
 Names words Play = words ≡ codes "play" ∷ []
 Names words Stop = words ≡ codes "stop" ∷ []
 Names words (Status bitmap) = (b : List ℕ) × IsByteText b bitmap × (words ≡ codes "status" ∷ b ∷ [])
@@ -52,11 +54,12 @@ NamesNone words = (command : Command) → ¬ Names words command
 -- a command has this name
 abbrev pub IsName : List ℕ → Type 0
 IsName word =
-    (word ≡ codes "open") ⊎ (word ≡ codes "close") ⊎ (word ≡ codes "select") ⊎ (word ≡ codes "cue") ⊎ (word ≡ codes "cue-data")
-    ⊎ (word ≡ codes "play") ⊎ (word ≡ codes "stop") ⊎ (word ≡ codes "status") ⊎ (word ≡ codes "active") ⊎ (word ≡ codes "exists")
-    ⊎ (word ≡ codes "size")
+    (word ≡ codes "open") ⊎ (word ≡ codes "close") ⊎ (word ≡ codes "select")
+    ⊎ (word ≡ codes "cue") ⊎ (word ≡ codes "cue-data") ⊎ (word ≡ codes "play")
+    ⊎ (word ≡ codes "stop") ⊎ (word ≡ codes "status") ⊎ (word ≡ codes "active")
+    ⊎ (word ≡ codes "exists") ⊎ (word ≡ codes "size")
 
--- why words that name no command are refused: the first is no command's name, or it is one and the others aren't its arguments
+-- why words that name no command are refused: the first is no command's name, or the others aren't its arguments
 abbrev pub IsMakeFault : List ℕ → Failure → Type 0
 IsMakeFault word failure = ((failure ≡ failures.Word) × ¬ IsName word) ⊎ ((failure ≡ failures.Arguments) × IsName word)
 

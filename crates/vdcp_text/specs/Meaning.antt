@@ -17,7 +17,7 @@ abbrev pub command_meaning : Result Command WordFault → Result Reply WordFault
 command_meaning (Ok command) reply = codes " = " ++ command_text command
 command_meaning (Err fault) reply = reply_meaning reply
 
--- what is added behind a framed message: the text of the command or the reply that it carries
+-- what is added to a framed message: the text of the command or the reply that it carries
 abbrev pub meaning_text : Content → List ℕ
 meaning_text ack = []
 meaning_text (nak byte) = []

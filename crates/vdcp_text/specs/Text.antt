@@ -21,7 +21,8 @@ abbrev pub message_text : Content → List ℕ
 message_text ack = codes "ack"
 message_text (nak byte) = codes "nak " ++ byte_text byte
 message_text (framed kind unit code rest) =
-    codes "unit " ++ decimal unit ++ codes " type " ++ decimal kind ++ codes " code " ++ byte_text code ++ codes " data " ++ data_text rest
+    codes "unit " ++ decimal unit ++ codes " type " ++ decimal kind
+    ++ codes " code " ++ byte_text code ++ codes " data " ++ data_text rest
 
 -- the end of a reading as it is shown
 abbrev pub end_text : End → List ℕ

@@ -22,7 +22,7 @@ pub enum Failure<'a> {
     /// A row of the file of this name, counted from 1, is refused.
     Row(&'a str, usize, RowFault),
     /// A line of the script of this name, counted from 1, is refused.
-    Line(&'a str, usize, LineFault),
+    ScriptLine(&'a str, usize, ScriptLineFault),
     /// The script of this name has too many events.
     TooManyEvents(&'a str),
     /// The script of this name isn't UTF-8.
@@ -50,9 +50,9 @@ pub enum Failure<'a> {
 impl Failure<'_> {
     ghost use Rattle.vdcp_text.specs.Failure.{failure_line, status_of};
 
-    /// Tells `err` of the failure in one line and gives the exit status: 1 for refused data, 2 for
-    /// words that aren't text and for an address that is none, and 3 for the others. It is 3 too where
-    /// it can't be told. Of a writer that failed nothing is told.
+    /// Reports the failure to `err` in one line and gives the exit status: 1 for refused data, 2 for words
+    /// that aren't text and for an address that is none, and 3 for the others. The status is also 3 where
+    /// the line can't be written. `Writer` writes no line.
     pub fn report<E: io::Write>(self, err: &mut E) -> u8
         ensures status { (result ≡ status_of self.entry) ⊎ (result ≡ 3) }
         ensures told { result < 3 → Appends (E.contents err.old) (E.contents err.new) (failure_line self.entry) }
@@ -73,7 +73,7 @@ impl Failure<'_> {
     {
         match self {
             Failure::Hex | Failure::Word | Failure::Arguments => 1,
-            Failure::Row(..) | Failure::Line(..) => 1,
+            Failure::Row(..) | Failure::ScriptLine(..) => 1,
             Failure::TooManyEvents(_) | Failure::NotText(_) => 1,
             Failure::Text | Failure::Address => 2,
             Failure::Open(_) | Failure::Read(_) | Failure::Write(_) => 3,
@@ -99,7 +99,7 @@ impl fmt::Display for Failure<'_> {
             Failure::Open(name) => write!(f, "{name}: cannot open"),
             Failure::Read(name) => write!(f, "{name}: read"),
             Failure::Row(name, row, fault) => write!(f, "{name}: row {row}: {fault}"),
-            Failure::Line(name, line, fault) => write!(f, "{name}: line {line}: {fault}"),
+            Failure::ScriptLine(name, line, fault) => write!(f, "{name}: line {line}: {fault}"),
             Failure::TooManyEvents(name) => write!(f, "{name}: too many"),
             Failure::NotText(name) => write!(f, "{name}: text"),
             Failure::Write(name) => write!(f, "{name}: write"),
@@ -160,7 +160,7 @@ impl fmt::Display for RowFault {
 
 /// Why a line of a script is refused.
 #[derive(Clone, Copy, Debug, PartialEq, Eq)]
-pub enum LineFault {
+pub enum ScriptLineFault {
     /// No event has its words.
     Word,
     /// Its number isn't one that it can have.
@@ -169,17 +169,17 @@ pub enum LineFault {
     Hex,
 }
 
-impl fmt::Display for LineFault {
+impl fmt::Display for ScriptLineFault {
     ghost use Rattle.std.specs.Prelude.{Some};
-    ghost use Rattle.vdcp_text.specs.Failure.{line_fault_text};
+    ghost use Rattle.vdcp_text.specs.Failure.{script_line_fault_text};
 
-    ghost output = { λ fault. Some (line_fault_text fault) };
+    ghost output = { λ fault. Some (script_line_fault_text fault) };
 
     fn fmt<W: fmt::Write>(&self, f: &mut fmt::Formatter<W>) -> fmt::Result {
         match self {
-            LineFault::Word => write!(f, "word"),
-            LineFault::Number => write!(f, "number"),
-            LineFault::Hex => write!(f, "hex"),
+            ScriptLineFault::Word => write!(f, "word"),
+            ScriptLineFault::Number => write!(f, "number"),
+            ScriptLineFault::Hex => write!(f, "hex"),
         }
     }
 }

@@ -1,19 +1,27 @@
-//! Messages and failures as text, and the subcommands `show` and `make`, which need no more than that.
+//! Messages, items, outcomes, exchanges and failures as text, and the subcommands `show` and `make`, which
+//! need no more than that.
 //!
-//! `HexText`, `ByteText`, `DataText`, `MessageText`, `MeaningText` and `End` are shown by `Display`, each
-//! with its exact text. A `Failure` is why a subcommand gives up: its `Display` is what standard error is
-//! told, and `Failure::report` gives the exit status. `do_show` shows a burst's reading, and `do_make`
-//! makes the bytes of a command.
+//! `HexText`, `ByteText`, `DataText`, `MessageText`, `MeaningText`, `EndText`, `ItemText`, `OutcomeText` and
+//! `ExchangeText` are shown by `Display`, each with its exact text. A `Failure` is why a subcommand gives up:
+//! its `Display` is what standard error gets, and `Failure::report` gives the exit status. `do_show` shows a
+//! burst's reading, and `do_make` makes the bytes of a command.
+//!
+//! Files: `text` (bytes, messages and ends), `item`, `outcome`, `exchange` (what their names say, as text), `failure`
+//! (why a subcommand gives up, as a line and a status), `show` and `make` (a subcommand each).
 #![tactic(auto)]
 
-#[cfg(test)]
-mod failing;
+mod exchange;
 mod failure;
+mod item;
 mod make;
+mod outcome;
 mod show;
 mod text;
 
-pub use failure::{Failure, LineFault, RowFault};
+pub use exchange::ExchangeText;
+pub use failure::{Failure, RowFault, ScriptLineFault};
+pub use item::ItemText;
 pub use make::do_make;
+pub use outcome::OutcomeText;
 pub use show::do_show;
-pub use text::{ByteText, DataText, End, HexText, MeaningText, MessageText};
+pub use text::{ByteText, DataText, EndText, HexText, MeaningText, MessageText};

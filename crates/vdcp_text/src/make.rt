@@ -10,18 +10,16 @@ ghost use Rattle.vdcp_words.specs.declared.command.Command.{Command};
 
 use crate::failure::Failure;
 use crate::text::HexText;
-use arrayvec::ArrayVec;
 use hex::FromHex;
 use std::io;
-use vdcp_frame::write;
 use vdcp_value::ClipId;
 use vdcp_words::Command;
 
 /// Makes a command to a unit, which is at most 15, of its words: the command's name and its
 /// arguments. `out` gets its bytes, in hexadecimal digits in one line.
 ///
-/// The status is 0 where it is made, 1 where no command has these words, of which `err` is told,
-/// and 3 where a writer failed, to which nothing more is written.
+/// The status is 0 where it is made; 1 where no command has these words, and then `err` gets a line
+/// that says why; and 3 where a writer failed: nothing more is written to that one.
 pub fn do_make<W: io::Write, E: io::Write>(
     word: &str,
     arguments: &[&str],
@@ -56,15 +54,13 @@ fn make<W: io::Write>(
     requires { unit ≤ 15 }
     ensures made { OnOk result (IsMade (words_of word.now arguments.now) unit
         (W.contents out.old) (W.contents out.new)) }
-    ensures refused { IfErr result (λ e. ((e ≡ Failure.Writer) × (command : Command) × Names (words_of word.now arguments.now) command)
+    ensures refused { IfErr result
+        (λ e. ((e ≡ Failure.Writer) × (command : Command) × Names (words_of word.now arguments.now) command)
         ⊎ (NamesNone (words_of word.now arguments.now) × IsMakeFault word.now e
         × Keeps (W.contents out.old) (W.contents out.new))) }
 {
     let command = command_of(word, arguments)?;
-    let mut room = [0; 16];
-    let mut bytes = ArrayVec::<u8, 512>::new();
-    write(&command.to_message(unit, &mut room), &mut bytes).unwrap();
-    write_digits(out, bytes.as_slice()).map_err(|_| Failure::Writer)
+    write_digits(out, command.encode(unit).as_slice()).map_err(|_| Failure::Writer)
 }
 
 // Writes bytes in hexadecimal digits, in one line.

@@ -1,27 +1,28 @@
-ghost use Rattle.std.specs.Prelude.{◌≡◌, ◌⊎◌, ◌<◌, List, IfOk, IfErr, OnErr, OnOk, IsErr, IsOkAnd};
+ghost use Rattle.std.specs.Prelude.{◌≡◌, ◌⊎◌, ◌<◌, IfOk, IfErr, OnErr, OnOk, IsErr, IsOkAnd};
 ghost use Rattle.std.specs.Io.KnownBytes.{Appends, Keeps};
 ghost use Rattle.hex.specs.Hex.{decode_of};
-ghost use Rattle.vdcp_frame.specs.Message.{Content};
-ghost use Rattle.vdcp_frame.specs.Reading.{Reads};
-ghost use Rattle.vdcp_text.specs.End.{end_of};
+ghost use Rattle.vdcp_frame.specs.Burst.{end_of, messages_of};
+ghost use Rattle.vdcp_frame.specs.Message.{content_of};
+ghost use Rattle.vdcp_frame.specs.Walk.{end_seen};
 ghost use Rattle.vdcp_text.specs.Failure.{failure_line};
-ghost use Rattle.vdcp_text.specs.Text.{messages_text};
+ghost use Rattle.vdcp_text.specs.Text.{end_text, line, messages_text, shown_text};
 ghost use Rattle.vdcp_text.specs.Show.{GainsReading, IsShown};
 
 use crate::failure::Failure;
-use crate::text::{End, MeaningText, MessageText};
+use crate::text::{EndText, MeaningText, MessageText};
 use hex::FromHexError;
 use std::alloc::Allocator;
 use std::io;
-use vdcp_frame::{Step, read_at};
+use vdcp_frame::laws::one_reading;
+use vdcp_frame::{End, Message, Messages};
 
 /// Shows the burst that hexadecimal digits spell: a line for each of its messages, with `meanings`
 /// also the command or reply that it carries, and then one for its end.
 ///
-/// The status is 0 where the end is clean, and 1 where it isn't. It is 1 too where `hex` isn't an
-/// even number of hexadecimal digits, and 3 where memory was refused; `err` is told of both. It
-/// is 3 where a writer failed, to which nothing more is written; `out` is flushed behind the last
-/// line.
+/// The status is 0 where the end is clean, and 1 where it isn't. It is also 1 where `hex` isn't an
+/// even number of hexadecimal digits, and 3 where memory was refused; `err` gets a line of either.
+/// It is 3 where a writer failed: nothing more is written to that one. `out` is flushed after the
+/// last line.
 pub fn do_show<A: Allocator, W: io::Write, E: io::Write>(
     alloc: A,
     hex: &str,
@@ -33,7 +34,8 @@ pub fn do_show<A: Allocator, W: io::Write, E: io::Write>(
         IsShown meanings burst (W.contents out.old) (W.contents out.new) result) }
     ensures silent { OnErr (decode_of hex.now) (Keeps (W.contents out.old) (W.contents out.new)) }
     ensures refused { OnErr (decode_of hex.now) ((result ≡ 1) ⊎ (result ≡ 3)) }
-    ensures told { OnErr (decode_of hex.now) (result ≡ 1 → Appends (E.contents err.old) (E.contents err.new) (failure_line Failure.Hex)) }
+    ensures told { OnErr (decode_of hex.now)
+        (result ≡ 1 → Appends (E.contents err.old) (E.contents err.new) (failure_line Failure.Hex)) }
     ensures untold { OnOk (decode_of hex.now) (result < 2 → Keeps (E.contents err.old) (E.contents err.new)) }
     ensures statuses { (result < 2) ⊎ (result ≡ 3) }
 {
@@ -52,7 +54,7 @@ fn show<A: Allocator, W: io::Write>(
     out: &mut W,
 ) -> Result<End, Failure<'static>>
     ensures shown { IfOk result (λ end. IsOkAnd (decode_of hex.now) (λ burst.
-        GainsReading meanings burst (W.contents out.old) (W.contents out.new) (end_of end))) }
+        GainsReading meanings burst (W.contents out.old) (W.contents out.new) (end_seen end))) }
     ensures hex { result ≡ Err Failure.Hex → IsErr (decode_of hex.now) }
     ensures others { IfErr result (λ e. (e ≡ Failure.Hex) ⊎ (e ≡ Failure.Memory) ⊎ (e ≡ Failure.Writer)) }
     ensures silent { OnErr (decode_of hex.now) (Keeps (W.contents out.old) (W.contents out.new)) }
@@ -67,37 +69,49 @@ fn show<A: Allocator, W: io::Write>(
 
 // Writes a burst's reading, and gives its end.
 fn write_reading<W: io::Write>(out: &mut W, meanings: bool, burst: &[u8]) -> io::Result<End>
-    ensures { IfOk result (λ end. GainsReading meanings burst.now (W.contents out.old) (W.contents out.new) (end_of end)) }
+    ensures { IfOk result (λ end. GainsReading meanings burst.now (W.contents out.old) (W.contents out.new)
+        (end_seen end)) }
 {
+    one_reading();
     let end = write_messages(out, meanings, burst)?;
-    writeln!(out, "{end}")?;
-    out.flush()?;
+    write_end(out, end)?;
     Ok(end)
 }
 
 // Writes the lines of a burst's messages, and gives the burst's end.
 fn write_messages<W: io::Write>(out: &mut W, meanings: bool, burst: &[u8]) -> io::Result<End>
-    ensures { IfOk result (λ end. (ms : List Content) × Reads burst.now ms (end_of end)
-        × Appends (W.contents out.old) (W.contents out.new) (messages_text meanings ms)) }
+    ensures end { IfOk result (λ end. end_seen end ≡ end_of burst.now) }
+    ensures text { OnOk result (Appends (W.contents out.old) (W.contents out.new)
+        (messages_text meanings (messages_of burst.now))) }
 {
-    let mut from = 0;
-    loop {
-        match read_at(burst, from) {
-            Step::Message(message, next) => {
-                let text = MessageText(message);
-                if meanings {
-                    let meaning = MeaningText(message);
-                    writeln!(out, "{text}{meaning}")?;
-                } else {
-                    writeln!(out, "{text}")?;
-                }
-                from = next;
-            }
-            Step::Clean => return Ok(End::Clean),
-            Step::Cut(count) => return Ok(End::Cut(count)),
-            Step::Fault(fault, place) => return Ok(End::Fault(fault, place)),
-        }
+    let mut messages = Messages::of(burst);
+    'messages: while let Some(message) = messages.next() {
+        write_message(out, meanings, message)?;
     }
+    Ok(messages.end())
+}
+
+// Writes the line of a message.
+fn write_message<W: io::Write>(out: &mut W, meanings: bool, message: Message<'_>) -> io::Result<()>
+    ensures { OnOk result (Appends (W.contents out.old) (W.contents out.new)
+        (line (shown_text meanings (content_of message.entry)))) }
+{
+    let text = MessageText(message);
+    if meanings {
+        let meaning = MeaningText(message);
+        writeln!(out, "{text}{meaning}")
+    } else {
+        writeln!(out, "{text}")
+    }
+}
+
+// Writes the line of a burst's end, and flushes.
+fn write_end<W: io::Write>(out: &mut W, end: End) -> io::Result<()>
+    ensures { OnOk result (Appends (W.contents out.old) (W.contents out.new) (line (end_text (end_seen end)))) }
+{
+    let end = EndText(end);
+    writeln!(out, "{end}")?;
+    out.flush()
 }
 
 #[cfg(test)]

@@ -1,6 +1,6 @@
 use arrayvec::ArrayString;
 use std::{fmt, str};
-use vdcp_frame::{Fault, Message};
+use vdcp_frame::{End, Fault, Message};
 use vdcp_words::{Command, Reply};
 
 /// Bytes as lower-case hexadecimal digits, two for each.
@@ -124,26 +124,19 @@ impl fmt::Display for MeaningText<'_> {
     }
 }
 
-/// How the reading of a burst ends.
+/// How a burst ends.
 #[derive(Clone, Copy)]
-pub enum End {
-    /// Behind a whole message, or with no byte.
-    Clean,
-    /// Inside a message, of which there are so many bytes.
-    Cut(usize),
-    /// At a fault, whose place is counted from 1 at the burst's first byte.
-    Fault(Fault, usize),
-}
+pub struct EndText(pub End);
 
-impl fmt::Display for End {
+impl fmt::Display for EndText {
     ghost use Rattle.std.specs.Prelude.{Some};
+    ghost use Rattle.vdcp_frame.specs.Walk.{end_seen};
     ghost use Rattle.vdcp_text.specs.Text.{end_text};
-    ghost use Rattle.vdcp_text.specs.End.{end_of};
 
-    ghost output = { λ end. Some (end_text (end_of end)) };
+    ghost output = { λ end. Some (end_text (end_seen end.0)) };
 
     fn fmt<W: fmt::Write>(&self, f: &mut fmt::Formatter<W>) -> fmt::Result {
-        match *self {
+        match self.0 {
             End::Clean => write!(f, "clean"),
             End::Cut(count) => write!(f, "cut {count}"),
             End::Fault(Fault::BadStart, place) => write!(f, "fault bad-start {place}"),

@@ -41,8 +41,10 @@ pairs_ascii [] e = nil_ascii
 pairs_ascii (byte ∷ more) e =
     let h = both_hold (nat_lt byte 256) (all_below more) e in
     let small : byte < 256 = below_is byte h.0 in
-    cons_ascii (hex_digit (byte / 16)) (hex_digit (byte % 16) ∷ flat_map hex_pair more) (digit_small (byte / 16) (omega arith))
-    (cons_ascii (hex_digit (byte % 16)) (flat_map hex_pair more) (digit_small (byte % 16) (omega arith)) (pairs_ascii more h.1))
+    cons_ascii (hex_digit (byte / 16)) (hex_digit (byte % 16) ∷ flat_map hex_pair more)
+    (digit_small (byte / 16) (omega arith))
+    (cons_ascii (hex_digit (byte % 16)) (flat_map hex_pair more) (digit_small (byte % 16) (omega arith))
+    (pairs_ascii more h.1))
 
 hex_form_ascii : (bytes : List ℕ) → all_below bytes ≡ true → IsAscii (hex_form bytes)
 hex_form_ascii bytes e =
@@ -55,10 +57,12 @@ id_text_ascii id =
     let bytes = id_bytes id in
     elim (both_ways (is_plain (without_end_spaces bytes))) [
       | inl e ↦
-          let same : without_end_spaces bytes ≡ text_of_bytes bytes = ap (λ b. if b then without_end_spaces bytes else hex_form bytes) (sym e) in
+          let same : without_end_spaces bytes ≡ text_of_bytes bytes =
+          ap (λ b. if b then without_end_spaces bytes else hex_form bytes) (sym e) in
           subst IsAscii same (plain_ascii (without_end_spaces bytes) (plain_parts (without_end_spaces bytes) e).bytes)
       | inr e ↦
-          let same : hex_form bytes ≡ text_of_bytes bytes = ap (λ b. if b then without_end_spaces bytes else hex_form bytes) (sym e) in
+          let same : hex_form bytes ≡ text_of_bytes bytes =
+          ap (λ b. if b then without_end_spaces bytes else hex_form bytes) (sym e) in
           subst IsAscii same (hex_form_ascii bytes (all_below_of 8 bytes id.eight))
     ]
 

@@ -83,7 +83,8 @@ own_bcd timecode =
     let m : label.minutes < 100 = grind (arith, e) in
     let s : label.seconds < 100 = grind (arith, e) in
     let f : label.frames < 100 = grind (arith, e) in
-    digits_fault (rate_of timecode) (bcd_byte label.frames) (bcd_byte label.seconds) (bcd_byte label.minutes) (bcd_byte label.hours)
+    digits_fault (rate_of timecode) (bcd_byte label.frames) (bcd_byte label.seconds) (bcd_byte label.minutes)
+    (bcd_byte label.hours)
     (byte_is_bcd label.frames f) (byte_is_bcd label.seconds s) (byte_is_bcd label.minutes m) (byte_is_bcd label.hours h)
     ∙ ap (label_fault (rate_of timecode)) (label_of_own_bcd timecode)
     ∙ no_fault (rate_of timecode) (label_of timecode) timecode.lawful
@@ -93,11 +94,13 @@ pub own_is_time : (timecode : Timecode) → is_time (rate_of timecode) (bcd_of t
 own_is_time timecode = ap is_none (own_bcd timecode)
 
 -- what is known of bytes that were read as a time code
-pub read_is_time : (rate : Rate) (bytes : List ℕ) (timecode : Timecode) → rate_of timecode ≡ rate → bcd_of timecode ≡ bytes
+pub read_is_time : (rate : Rate) (bytes : List ℕ) (timecode : Timecode) → rate_of timecode ≡ rate →
+    bcd_of timecode ≡ bytes
     → is_time rate bytes ≡ true
 read_is_time rate bytes timecode r b = ap₂ is_time (sym r) (sym b) ∙ own_is_time timecode
 
-pub read_frames : (rate : Rate) (bytes : List ℕ) (timecode : Timecode) → rate_of timecode ≡ rate → bcd_of timecode ≡ bytes
+pub read_frames : (rate : Rate) (bytes : List ℕ) (timecode : Timecode) → rate_of timecode ≡ rate →
+    bcd_of timecode ≡ bytes
     → frames_in rate bytes ≡ frames_of timecode
 read_frames rate bytes timecode r b = ap₂ frames_in (sym r) (sym b) ∙ frames_in_own timecode
 
@@ -125,21 +128,28 @@ pub record Unfaulted (rate : Rate) (bytes : List ℕ) : Type 0 where
   pub hours : is_bcd (slice_index bytes 3) ≡ true
   pub label : label_fault rate (label_of_bcd bytes) ≡ None
 
-none_behind : (a b c d : Bool) (v w x y : TcFault) (fault : Option TcFault)
-    → is_none (if not a then Some v else if not b then Some w else if not c then Some x else if not d then Some y else fault) ≡ true
+none_of : (a b c d : Bool) (v w x y : TcFault) (fault : Option TcFault)
+    → is_none (if not a then Some v else if not b then Some w else
+    if not c then Some x else if not d then Some y else fault) ≡ true
     → (a ≡ true) × (b ≡ true) × (c ≡ true) × (d ≡ true) × (fault ≡ None)
-none_behind true true true true v w x y None e = (refl, refl, refl, refl, refl)
-none_behind true true true true v w x y (Some fault) e = cc e
-none_behind true true true false v w x y fault e = cc e
-none_behind true true false d v w x y fault e = cc e
-none_behind true false c d v w x y fault e = cc e
-none_behind false b c d v w x y fault e = cc e
+none_of true true true true v w x y None e = (refl, refl, refl, refl, refl)
+none_of true true true true v w x y (Some fault) e = cc e
+none_of true true true false v w x y fault e = cc e
+none_of true true false d v w x y fault e = cc e
+none_of true false c d v w x y fault e = cc e
+none_of false b c d v w x y fault e = cc e
 
 unfaulted : (rate : Rate) (bytes : List ℕ) → is_time rate bytes ≡ true → Unfaulted rate bytes
 unfaulted rate bytes e =
-    let h = none_behind (is_bcd (slice_index bytes 0)) (is_bcd (slice_index bytes 1)) (is_bcd (slice_index bytes 2)) (is_bcd (slice_index bytes 3))
+    let h = none_of (is_bcd (slice_index bytes 0)) (is_bcd (slice_index bytes 1)) (is_bcd (slice_index bytes 2))
+    (is_bcd (slice_index bytes 3))
     (NotBcd 1) (NotBcd 2) (NotBcd 3) (NotBcd 4) (label_fault rate (label_of_bcd bytes)) e in
     record { frames = h.0; seconds = h.1; minutes = h.2; hours = h.3; label = h.4 }
+
+-- bytes that are lawful say a lawful label
+pub lawful_is_time : (rate : Rate) (bytes : List ℕ) → is_time rate bytes ≡ true → is_lawful rate (label_of_bcd bytes)
+    ≡ true
+lawful_is_time rate bytes e = lawful_without rate (label_of_bcd bytes) (unfaulted rate bytes e).label
 
 byte_of_value : (byte : ℕ) → is_bcd byte ≡ true → bcd_byte (bcd_value byte) ≡ byte
 byte_of_value byte e =
@@ -148,7 +158,8 @@ byte_of_value byte e =
     omega (arith, tens, units)
 
 -- bytes of two digits each are those of the label that they write
-bytes_read_back : (rate : Rate) (bytes : List ℕ) → length bytes ≡ 4 → Unfaulted rate bytes → bcd_of_label (label_of_bcd bytes) ≡ bytes
+bytes_read_back : (rate : Rate) (bytes : List ℕ) → length bytes ≡ 4 → Unfaulted rate bytes →
+    bcd_of_label (label_of_bcd bytes) ≡ bytes
 bytes_read_back rate (f ∷ s ∷ m ∷ h ∷ []) four u =
     rw (byte_of_value f u.frames, byte_of_value s u.seconds, byte_of_value m u.minutes, byte_of_value h u.hours) refl
 bytes_read_back rate bytes four u = absurd (omega arith)
@@ -158,7 +169,7 @@ pub time_code_of : (rate : Rate) (bytes : List ℕ) → AreBytes 4 bytes → is_
     → (timecode : Timecode) × (rate_of timecode ≡ rate) × (bcd_of timecode ≡ bytes)
 time_code_of rate bytes four e =
     let u = unfaulted rate bytes e in (
-      record { rate = rate; label = label_of_bcd bytes; lawful = lawful_without rate (label_of_bcd bytes) u.label },
+      record { rate = rate; label = label_of_bcd bytes; lawful = lawful_is_time rate bytes e },
       refl,
       bytes_read_back rate bytes (length_of_bytes 4 bytes four) u,
     )

@@ -1,4 +1,4 @@
--- Lists of so many bytes: their length, and each of them below 256.
+-- Lists of a given number of bytes: their length, and each of them below 256.
 use Rattle.std.proofs.Common.{ℕ, List, length, [], ◌∷◌, ◌<◌, ◌≡◌, refl, true, All, get_or, arith, nat_lt, nat_eq, ◌&&◌, Bool}
 use Rattle.std.proofs.lemmas.List.Elements.{All-get_or, All-from_get_or, All-head, All-tail}
 use Rattle.std.proofs.lemmas.List.Folds.{list_all_at}
@@ -9,7 +9,8 @@ use Rattle.vdcp_value.specs.Bytes.{AreBytes}
 pub both_hold : (a b : Bool) → (a && b) ≡ true → (a ≡ true) × (b ≡ true)
 both_hold a b e = (grind (arith, e), grind (arith, e))
 
-below_at : (bytes : List ℕ) (k : ℕ) → list_all (λ byte. nat_lt byte 256) bytes ≡ true → k < length bytes → get_or bytes k 0 < 256
+below_at : (bytes : List ℕ) (k : ℕ) → list_all (λ byte. nat_lt byte 256) bytes ≡ true → k < length bytes →
+    get_or bytes k 0 < 256
 below_at bytes k e below = grind (arith, e, list_all_at (λ byte. nat_lt byte 256) bytes k 0 below)
 
 -- a list of n bytes has n numbers
@@ -21,7 +22,8 @@ length_of_bytes n bytes h =
 pub bytes_below : (n : ℕ) (bytes : List ℕ) → AreBytes n bytes → All (λ byte. byte < 256) bytes
 bytes_below n bytes h =
     All-from_get_or (λ byte. byte < 256) bytes 0
-    (λ k below. below_at bytes k (both_hold (nat_eq (length bytes) n) (list_all (λ byte. nat_lt byte 256) bytes) h).1 below)
+    (λ k below. below_at bytes k (both_hold (nat_eq (length bytes) n) (list_all (λ byte. nat_lt byte 256) bytes) h).1
+    below)
 
 pub byte_below : (n k : ℕ) (bytes : List ℕ) → AreBytes n bytes → k < n → get_or bytes k 0 < 256
 byte_below n k bytes h below =

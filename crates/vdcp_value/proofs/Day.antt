@@ -18,7 +18,8 @@ CountsFrom number a (label ∷ more) = (number label ≡ a) × CountsFrom number
 
 pub counts-append : (number : Label → ℕ) (a b : ℕ) (xs ys : List Label)
     → CountsFrom number a xs → a + length xs ≡ b → CountsFrom number b ys → CountsFrom number a (xs ++ ys)
-counts-append number a b [] ys left e right = let same : b ≡ a = omega (arith, e) in subst (λ n. CountsFrom number n ys) same right
+counts-append number a b [] ys left e right = let same : b ≡ a = omega (arith, e) in
+    subst (λ n. CountsFrom number n ys) same right
 counts-append number a b (x ∷ xs) ys left e right =
     (left.0, counts-append number (a + 1) b xs ys left.1 (omega (arith, e)) right)
 
@@ -33,7 +34,8 @@ counts-blocks number block start counts goes zero a =
     (tt, omega (arith, ap start (let e : a ≡ a + 0 = omega arith in e)))
 counts-blocks number block start counts goes (suc n) a =
     let more = counts-blocks number block start counts goes n (a + 1) in (
-      counts-append number (start a) (start (a + 1)) (block a) (flat_map block (range_with_len (a + 1) n)) (counts a) (goes a) more.0,
+      counts-append number (start a) (start (a + 1)) (block a) (flat_map block (range_with_len (a + 1) n)) (counts a)
+          (goes a) more.0,
       omega (
         arith,
         length-append (block a) (flat_map block (range_with_len (a + 1) n)),
@@ -47,13 +49,15 @@ counts-blocks number block start counts goes (suc n) a =
 pub counts-frames : (number : Label → ℕ) (label_at : ℕ → Label)
     → ((k : ℕ) → number (label_at (k + 1)) ≡ number (label_at k) + 1)
     → (n a : ℕ)
-    → CountsFrom number (number (label_at a)) (map label_at (range_with_len a n)) × (length (map label_at (range_with_len a n)) ≡ n)
+    → CountsFrom number (number (label_at a)) (map label_at (range_with_len a n))
+    × (length (map label_at (range_with_len a n)) ≡ n)
 counts-frames number label_at goes zero a = (tt, refl)
 counts-frames number label_at goes (suc n) a =
     let more = counts-frames number label_at goes n (a + 1) in (
       (
         refl,
-        let F : ℕ → Type 0 = λ m. CountsFrom number m (map label_at (range_with_len (a + 1) n)) in subst F (goes a) more.0,
+        let F : ℕ → Type 0 = λ m. CountsFrom number m (map label_at (range_with_len (a + 1) n)) in
+            subst F (goes a) more.0,
       ),
       omega (arith, more.1),
     )
@@ -81,7 +85,8 @@ among-blocks test block k zero a above below found = absurd (omega arith)
 among-blocks test block k (suc n) a above below found =
     rw list_any-append
     (elim (eq-or-lt_of_le above) [
-      | inl e ↦ let here : list_any test (block a) ≡ true = subst (λ m. list_any test (block m) ≡ true) (sym e) found in rw here
+      | inl e ↦ let here : list_any test (block a) ≡ true =
+          subst (λ m. list_any test (block m) ≡ true) (sym e) found in rw here
       | inr lt ↦
           let later : list_any test (flat_map block (range_with_len (a + 1) n)) ≡ true =
           among-blocks test block k n (a + 1) (omega arith) (omega arith) found in
@@ -98,7 +103,8 @@ among-filter label keeps (x ∷ xs) kept found =
       | inl e ↦ let k : keeps x ≡ true = kept x e in rw k (rw e refl)
       | inr e ↦
           let found_later : list_any (is_same label) xs ≡ true = rw e at found in
-          let later : list_any (is_same label) (filter keeps xs) ≡ true = among-filter label keeps xs kept found_later in
+          let later : list_any (is_same label) (filter keeps xs) ≡ true =
+          among-filter label keeps xs kept found_later in
           elim (both_ways (keeps x)) [ inl k ↦ rw k (rw e later) | inr k ↦ rw k later ]
     ]
 

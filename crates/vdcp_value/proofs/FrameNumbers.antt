@@ -25,7 +25,8 @@ among_frames : (test : Label → Bool) (label_at : ℕ → Label) (k n a : ℕ)
 among_frames test label_at k zero a above below found = absurd (omega arith)
 among_frames test label_at k (suc n) a above below found =
     elim (eq-or-lt_of_le above) [
-      | inl e ↦ let here : test (label_at a) ≡ true = subst (λ j. test (label_at j) ≡ true) (sym e) found in rw here refl
+      | inl e ↦ let here : test (label_at a) ≡ true = subst (λ j. test (label_at j) ≡ true) (sym e) found in
+          rw here refl
       | inr lt ↦
           let later : list_any test (map label_at (range_with_len (a + 1) n)) ≡ true =
           among_frames test label_at k n (a + 1) (omega arith) (omega arith) found in
@@ -49,13 +50,16 @@ unfolding labels_of_second labels_of_minute labels_of_hour labels_of_day
 among_day rate label e =
     let r = in_range rate label e in
     among-blocks (is_same label) (labels_of_hour rate) label.hours 24 0 (omega arith) (omega (arith, r.hours))
-    (among-blocks (is_same label) (labels_of_minute rate label.hours) label.minutes 60 0 (omega arith) (omega (arith, r.minutes))
-    (among-blocks (is_same label) (labels_of_second rate label.hours label.minutes) label.seconds 60 0 (omega arith) (omega (arith, r.seconds))
+    (among-blocks (is_same label) (labels_of_minute rate label.hours) label.minutes 60 0 (omega arith)
+    (omega (arith, r.minutes))
+    (among-blocks (is_same label) (labels_of_second rate label.hours label.minutes) label.seconds 60 0 (omega arith)
+    (omega (arith, r.seconds))
     (among_frames (is_same label) (at label.hours label.minutes label.seconds) label.frames (frames_per_second rate) 0
     (omega arith) (omega (arith, r.frames)) (same_self label))))
 
 -- the frame number, counted in the list, is that of the formula
-pub frame_number_is : (rate : Rate) (label : Label) → is_lawful rate label ≡ true → frame_number rate label ≡ number rate label
+pub frame_number_is : (rate : Rate) (label : Label) → is_lawful rate label ≡ true →
+    frame_number rate label ≡ number rate label
 unfolding frame_number lawful_labels
 frame_number_is rate label e =
     let ranged : is_in_range rate label ≡ true = grind (arith, e) in

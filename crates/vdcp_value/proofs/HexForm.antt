@@ -22,7 +22,8 @@ digit_is_hex n below = grind arith
 one_half : (m n : ℕ) → m < 16 → n < 16 → hex_digit m ≡ hex_digit n → m ≡ n
 one_half m n below below' e = grind (arith, e)
 
-one_byte : (m n : ℕ) → m < 256 → n < 256 → hex_digit (m / 16) ≡ hex_digit (n / 16) → hex_digit (m % 16) ≡ hex_digit (n % 16) → m ≡ n
+one_byte : (m n : ℕ) → m < 256 → n < 256 → hex_digit (m / 16) ≡ hex_digit (n / 16) →
+    hex_digit (m % 16) ≡ hex_digit (n % 16) → m ≡ n
 one_byte m n below below' high low =
     let h = one_half (m / 16) (n / 16) (omega arith) (omega arith) high in
     let l = one_half (m % 16) (n % 16) (omega arith) (omega arith) low in
@@ -58,8 +59,9 @@ one_hex_form a b p q e = one_pairs a b p q (ap (drop 2) e)
 pub hex_form_long : (bytes : List ℕ) → length bytes ≡ 8 → is_hex_long (hex_form bytes) ≡ true
 hex_form_long bytes eight = grind (arith, eight, length_of_pairs bytes)
 
--- what the digits of eight bytes behind 0x are
-pub hex_read : (text bytes : List ℕ) → is_hex_long text ≡ true → flat_map hex_pair bytes ≡ drop 2 text → text ≡ hex_form bytes
+-- what the digits of eight bytes after 0x are
+pub hex_read : (text bytes : List ℕ) → is_hex_long text ≡ true → flat_map hex_pair bytes ≡ drop 2 text →
+    text ≡ hex_form bytes
 hex_read (a ∷ b ∷ more) bytes long e =
     let first : a ≡ 48 = grind (arith, long) in
     let second : b ≡ 120 = grind (arith, long) in

@@ -17,7 +17,7 @@ trim-padded x [] n last =
     ap (kept_before x) (trim-spaces n) ∙ ap (λ b. if b then [] else x ∷ []) last
 trim-padded x (y ∷ ys) n last = ap (kept_before x) (trim-padded y ys n last)
 
--- what is left and the spaces that stood behind it are the list
+-- what is left and the spaces that stood after it are the list
 pub trim-pads : (xs : List ℕ) → (n : ℕ) × (without_end_spaces xs ++ replicate n 32 ≡ xs)
 trim-pads [] = (0, refl)
 trim-pads (x ∷ xs) = kept x xs (without_end_spaces xs) (trim-pads xs)
@@ -27,13 +27,16 @@ trim-pads (x ∷ xs) = kept x xs (without_end_spaces xs) (trim-pads xs)
     kept x xs [] (n, e) =
         elim (both_ways (nat_eq x 32)) [
           | inl h ↦
-              let same : x ≡ 32 = grind (arith, h) in
-              (suc n, ap (λ b. (if b then [] else x ∷ []) ++ replicate (suc n) 32) h ∙ ap (λ ys. 32 ∷ ys) e ∙ ap (λ y. y ∷ xs) (sym same))
+              let same : x ≡ 32 = grind (arith, h) in (
+                suc n,
+                ap (λ b. (if b then [] else x ∷ []) ++ replicate (suc n) 32) h ∙ ap (λ ys. 32 ∷ ys) e
+                    ∙ ap (λ y. y ∷ xs) (sym same),
+              )
           | inr h ↦ (n, ap (λ b. (if b then [] else x ∷ []) ++ replicate n 32) h ∙ ap (λ ys. x ∷ ys) e)
         ]
     kept x xs (y ∷ ys) (n, e) = (n, ap (λ zs. x ∷ zs) e)
 
--- what is kept when a space is added behind
+-- what is kept when a space is added at the end
 pub trim-push : (xs : List ℕ) → without_end_spaces (xs ++ 32 ∷ []) ≡ without_end_spaces xs
 trim-push [] = refl
 trim-push (x ∷ xs) = ap (kept_before x) (trim-push xs)
@@ -83,7 +86,8 @@ pub text_is_text : (bytes : List ℕ) → length bytes ≡ 8 → IsTextOf (text_
 text_is_text bytes eight =
     elim (both_ways (is_plain (without_end_spaces bytes))) [
       | inl e ↦
-          let same : without_end_spaces bytes ≡ text_of_bytes bytes = ap (λ b. if b then without_end_spaces bytes else hex_form bytes) (sym e) in
+          let same : without_end_spaces bytes ≡ text_of_bytes bytes =
+          ap (λ b. if b then without_end_spaces bytes else hex_form bytes) (sym e) in
           inl (subst (λ text. IsPlainForm text bytes) same (e, padded_trim bytes eight))
       | inr e ↦ inr (has_no_plain bytes e, ap (λ b. if b then without_end_spaces bytes else hex_form bytes) e)
     ]
@@ -105,11 +109,13 @@ pub trim-last : (xs : List ℕ) (n : ℕ) → n + 1 ≡ length xs → get_or xs 
     → without_end_spaces (take n xs) ≡ without_end_spaces xs
 trim-last xs n len last =
     let whole : xs ≡ take n xs ++ 32 ∷ [] =
-    sym (take_all (n + 1) xs (omega (arith, len))) ∙ take_more xs n 0 (omega (arith, len)) ∙ ap (λ x. take n xs ++ x ∷ []) last in
+    sym (take_all (n + 1) xs (omega (arith, len))) ∙ take_more xs n 0 (omega (arith, len))
+    ∙ ap (λ x. take n xs ++ x ∷ []) last in
     sym (ap without_end_spaces whole ∙ trim-push (take n xs))
 
 -- and where there is none nothing goes
-pub trim-none : (xs : List ℕ) → 1 ≤ length xs → nat_eq (get_or xs (length xs - 1) 0) 32 ≡ false → without_end_spaces xs ≡ xs
+pub trim-none : (xs : List ℕ) → 1 ≤ length xs → nat_eq (get_or xs (length xs - 1) 0) 32 ≡ false →
+    without_end_spaces xs ≡ xs
 trim-none [] some last = absurd (omega (arith, some))
 trim-none (x ∷ xs) some last =
     let one : length (x ∷ xs) - 1 ≡ length xs = omega arith in

@@ -26,8 +26,10 @@ long_length text e = grind (arith, e)
 -- a text is of one list of eight bytes
 pub one_bytes : (text x y : List ℕ) → AreBytes 8 x → AreBytes 8 y → IsTextOf text x → IsTextOf text y → x ≡ y
 one_bytes text x y p q (inl a) (inl b) = sym a.1 ∙ b.1
-one_bytes text x y p q (inl a) (inr b) = absurd (omega (arith, short_form text x a, long_form text y (length_of_bytes 8 y q) b.1))
-one_bytes text x y p q (inr a) (inl b) = absurd (omega (arith, short_form text y b, long_form text x (length_of_bytes 8 x p) a.1))
+one_bytes text x y p q (inl a) (inr b) =
+    absurd (omega (arith, short_form text x a, long_form text y (length_of_bytes 8 y q) b.1))
+one_bytes text x y p q (inr a) (inl b) =
+    absurd (omega (arith, short_form text y b, long_form text x (length_of_bytes 8 x p) a.1))
 one_bytes text x y p q (inr a) (inr b) = one_hex_form x y (all_below_of 8 x p) (all_below_of 8 y q) (sym a.1 ∙ b.1)
 
 -- and so of one ID
@@ -53,7 +55,8 @@ plain_refused text bytes BadHex h form = omega (arith, short_form text bytes for
 plain_refused text bytes HasPlainForm (other, b, e, h) form =
     omega (arith, short_form text bytes form, long_form text other (length_of_bytes 8 other b) e)
 
-hex_refused : (text bytes : List ℕ) (fault : IdFault) → AreBytes 8 bytes → IsIdFault text fault → ¬ HasPlain bytes → text ≡ hex_form bytes → ⊥
+hex_refused : (text bytes : List ℕ) (fault : IdFault) → AreBytes 8 bytes → IsIdFault text fault → ¬ HasPlain bytes →
+    text ≡ hex_form bytes → ⊥
 hex_refused text bytes Empty b h none e = omega (arith, ap length h, long_form text bytes (length_of_bytes 8 bytes b) e)
 hex_refused text bytes TooLong b h none e =
     true≢false (sym (hex_form_long bytes (length_of_bytes 8 bytes b)) ∙ ap is_hex_long (sym e) ∙ h.0)
@@ -62,12 +65,14 @@ hex_refused text bytes (BadByte place) b h none e =
 hex_refused text bytes EdgeSpace b h none e =
     omega (arith, h.1, long_form text bytes (length_of_bytes 8 bytes b) e)
 hex_refused text bytes BadHex b h none e =
-    true≢false (sym (pairs_are_hex bytes (all_below_of 8 bytes b)) ∙ ap (λ t. list_all is_hex_digit (drop 2 t)) (sym e) ∙ h.1)
+    true≢false (sym (pairs_are_hex bytes (all_below_of 8 bytes b))
+    ∙ ap (λ t. list_all is_hex_digit (drop 2 t)) (sym e) ∙ h.1)
 hex_refused text bytes HasPlainForm b (other, c, f, h) none e =
     let same : other ≡ bytes = one_hex_form other bytes (all_below_of 8 other c) (all_below_of 8 bytes b) (sym f ∙ e) in
     none (subst HasPlain same h)
 
-pub not_both : (text bytes : List ℕ) (fault : IdFault) → AreBytes 8 bytes → IsIdFault text fault → IsTextOf text bytes → ⊥
+pub not_both : (text bytes : List ℕ) (fault : IdFault) → AreBytes 8 bytes → IsIdFault text fault →
+    IsTextOf text bytes → ⊥
 not_both text bytes fault b h (inl form) = plain_refused text bytes fault h form
 not_both text bytes fault b h (inr (none, e)) = hex_refused text bytes fault b h none e
 

@@ -37,19 +37,24 @@ pub one_label : (rate : Rate) (a b : Label) → has_two_digits a ≡ true → ha
     → label_text rate a ≡ label_text rate b → a ≡ b
 one_label rate a b p q e =
     let h : a.hours ≡ b.hours =
-    one_number a.hours b.hours (grind (arith, p)) (grind (arith, q)) (ap (λ t. get_or t 0 0) e) (ap (λ t. get_or t 1 0) e) in
+    one_number a.hours b.hours (grind (arith, p)) (grind (arith, q)) (ap (λ t. get_or t 0 0) e)
+    (ap (λ t. get_or t 1 0) e) in
     let m : a.minutes ≡ b.minutes =
-    one_number a.minutes b.minutes (grind (arith, p)) (grind (arith, q)) (ap (λ t. get_or t 3 0) e) (ap (λ t. get_or t 4 0) e) in
+    one_number a.minutes b.minutes (grind (arith, p)) (grind (arith, q)) (ap (λ t. get_or t 3 0) e)
+    (ap (λ t. get_or t 4 0) e) in
     let s : a.seconds ≡ b.seconds =
-    one_number a.seconds b.seconds (grind (arith, p)) (grind (arith, q)) (ap (λ t. get_or t 6 0) e) (ap (λ t. get_or t 7 0) e) in
+    one_number a.seconds b.seconds (grind (arith, p)) (grind (arith, q)) (ap (λ t. get_or t 6 0) e)
+    (ap (λ t. get_or t 7 0) e) in
     let f : a.frames ≡ b.frames =
-    one_number a.frames b.frames (grind (arith, p)) (grind (arith, q)) (ap (λ t. get_or t 9 0) e) (ap (λ t. get_or t 10 0) e) in
+    one_number a.frames b.frames (grind (arith, p)) (grind (arith, q)) (ap (λ t. get_or t 9 0) e)
+    (ap (λ t. get_or t 10 0) e) in
     λ i. record { hours = h i; minutes = m i; seconds = s i; frames = f i }
 
 -- time codes of one rate and the same text are one time code
 pub one_timecode_text : (a b : Timecode) → rate_of a ≡ rate_of b → text_of a ≡ text_of b → a ≡ b
 one_timecode_text a b r e =
-    let t : label_text (rate_of b) (label_of a) ≡ label_text (rate_of b) (label_of b) = ap (λ rate. label_text rate (label_of a)) (sym r) ∙ e in
+    let t : label_text (rate_of b) (label_of a) ≡ label_text (rate_of b) (label_of b) =
+    ap (λ rate. label_text rate (label_of a)) (sym r) ∙ e in
     same_timecode a b r
     (one_label (rate_of b) (label_of a) (label_of b)
     (lawful_two_digits (rate_of a) (label_of a) a.lawful)

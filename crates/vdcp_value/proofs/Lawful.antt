@@ -16,7 +16,8 @@ use Rattle.vdcp_value.specs.declared.rate.Rate.{Rate}
 
 -- what holds of each block holds of the blocks joined
 all_blocks : (test : Label → Bool) (block : ℕ → List Label) (n a : ℕ)
-    → ((k : ℕ) → k < a + n → list_all test (block k) ≡ true) → list_all test (flat_map block (range_with_len a n)) ≡ true
+    → ((k : ℕ) → k < a + n → list_all test (block k) ≡ true) → list_all test (flat_map block (range_with_len a n))
+    ≡ true
 all_blocks test block zero a each = refl
 all_blocks test block (suc n) a each =
     let here : list_all test (block a) ≡ true = each a (omega arith) in
@@ -70,7 +71,8 @@ found_kept label test kept (x ∷ xs) all found =
     ]
 
 -- the lawful labels are those that stand in the day's list
-pub listed : (rate : Rate) (label : Label) → is_lawful rate label ≡ true → list_any (is_same label) (lawful_labels rate) ≡ true
+pub listed : (rate : Rate) (label : Label) → is_lawful rate label ≡ true →
+    list_any (is_same label) (lawful_labels rate) ≡ true
 unfolding lawful_labels
 listed rate label e =
     let range : is_in_range rate label ≡ true = grind (arith, e) in
@@ -79,7 +81,8 @@ listed rate label e =
     (λ other same. ap (keeps rate) (sym (same_label label other same)) ∙ kept)
     (among_day rate label range)
 
-pub listed_lawful : (rate : Rate) (label : Label) → list_any (is_same label) (lawful_labels rate) ≡ true → is_lawful rate label ≡ true
+pub listed_lawful : (rate : Rate) (label : Label) → list_any (is_same label) (lawful_labels rate) ≡ true →
+    is_lawful rate label ≡ true
 unfolding lawful_labels
 listed_lawful rate label found =
     found_kept label (is_in_range rate) (keeps rate) (labels_of_day rate) (all_in_range rate) found
@@ -119,6 +122,8 @@ one_frame rate a b p q e = one_place a b (lawful_labels rate) (listed rate a p) 
 -- and time codes of one rate and one frame number are one time code
 pub one_number : (a b : Timecode) → rate_of a ≡ rate_of b → frames_of a ≡ frames_of b → a ≡ b
 one_number a b r e =
-    let other : is_lawful (rate_of a) (label_of b) ≡ true = subst (λ rate. is_lawful rate (label_of b) ≡ true) (sym r) b.lawful in
+    let other : is_lawful (rate_of a) (label_of b) ≡ true =
+    subst (λ rate. is_lawful rate (label_of b) ≡ true) (sym r) b.lawful in
     same_timecode a b r
-    (one_frame (rate_of a) (label_of a) (label_of b) a.lawful other (e ∙ ap (λ rate. frame_number rate (label_of b)) (sym r)))
+    (one_frame (rate_of a) (label_of a) (label_of b) a.lawful other
+    (e ∙ ap (λ rate. frame_number rate (label_of b)) (sym r)))

@@ -54,7 +54,8 @@ plain_second : (rate : Rate) (fps h m s : ℕ) → frames_per_second rate ≡ fp
     → ((k : ℕ) → number rate (at h m s (k + 1)) ≡ number rate (at h m s k) + 1)
     → number rate (at h m s 0) ≡ second_start rate h m s
     → second_start rate h m s + fps ≡ second_start rate h m (s + 1)
-    → Fills rate (second_start rate h m s) (second_start rate h m (s + 1)) (filter (keeps rate) (labels_of_second rate h m s))
+    → Fills rate (second_start rate h m s) (second_start rate h m (s + 1))
+    (filter (keeps rate) (labels_of_second rate h m s))
 unfolding labels_of_second
 plain_second rate fps h m s e kept goes begins ends =
     rw e
@@ -73,7 +74,8 @@ keeps_tenth h m s k e = grind (arith, e)
 drops_early : (h m k : ℕ) → nat_eq (m % 10) 0 ≡ false → k < 2 → keeps D30 (at h m 0 k) ≡ false
 drops_early h m k e below = grind (arith, e)
 
-two_dropped : (test : Label → Bool) (label_at : ℕ → Label) (n : ℕ) → test (label_at 0) ≡ false → test (label_at 1) ≡ false
+two_dropped : (test : Label → Bool) (label_at : ℕ → Label) (n : ℕ) → test (label_at 0) ≡ false →
+    test (label_at 1) ≡ false
     → filter test (map label_at (range_with_len 0 (suc (suc n)))) ≡ filter test (map label_at (range_with_len 2 n))
 two_dropped test label_at n first second = rw (first, second) refl
 
@@ -81,22 +83,26 @@ dropped_second : (h m : ℕ) → nat_eq (m % 10) 0 ≡ false
     → Fills D30 (second_start D30 h m 0) (second_start D30 h m 1) (filter (keeps D30) (labels_of_second D30 h m 0))
 unfolding labels_of_second
 dropped_second h m e =
-    let F : Fills D30 (second_start D30 h m 0) (second_start D30 h m 0 + 28) (filter (keeps D30) (map (at h m 0) (range_with_len 2 28))) =
+    let F : Fills D30 (second_start D30 h m 0) (second_start D30 h m 0 + 28)
+    (filter (keeps D30) (map (at h m 0) (range_with_len 2 28))) =
     all_kept D30 (at h m 0) 28 2 (second_start D30 h m 0) (keeps_late h m 0) (λ k. omega arith) (rw e (omega arith)) in
     let ends : second_start D30 h m 0 + 28 ≡ second_start D30 h m 1 = rw e (omega arith) in
     subst (Fills D30 (second_start D30 h m 0) (second_start D30 h m 1))
-    (sym (two_dropped (keeps D30) (at h m 0) 28 (drops_early h m 0 e (omega arith)) (drops_early h m 1 e (omega arith))))
+    (sym (two_dropped (keeps D30) (at h m 0) 28 (drops_early h m 0 e (omega arith))
+    (drops_early h m 1 e (omega arith))))
     (F.0, F.1 ∙ ends)
 
 pub fills_second : (rate : Rate) (h m s : ℕ)
-    → Fills rate (second_start rate h m s) (second_start rate h m (s + 1)) (filter (keeps rate) (labels_of_second rate h m s))
+    → Fills rate (second_start rate h m s) (second_start rate h m (s + 1))
+    (filter (keeps rate) (labels_of_second rate h m s))
 fills_second F24 h m s = plain_second F24 24 h m s refl (λ k. refl) (λ k. omega arith) (omega arith) (omega arith)
 fills_second F25 h m s = plain_second F25 25 h m s refl (λ k. refl) (λ k. omega arith) (omega arith) (omega arith)
 fills_second F30 h m s = plain_second F30 30 h m s refl (λ k. refl) (λ k. omega arith) (omega arith) (omega arith)
 fills_second D30 h m zero =
     elim (both_ways (nat_eq (m % 10) 0)) [
       | inl e ↦
-          plain_second D30 30 h m 0 refl (λ k. keeps_tenth h m 0 k e) (λ k. omega arith) (rw e (omega arith)) (rw e (omega arith))
+          plain_second D30 30 h m 0 refl (λ k. keeps_tenth h m 0 k e) (λ k. omega arith) (rw e (omega arith))
+          (rw e (omega arith))
       | inr e ↦ dropped_second h m e
     ]
 fills_second D30 h m (suc s) =
@@ -150,9 +156,11 @@ pub fills_hour : (rate : Rate) (h : ℕ)
 unfolding labels_of_hour
 fills_hour rate h =
     let F = fills_blocks rate (labels_of_minute rate h) (minute_start rate h) 60 (fills_minute rate h) in
-    let G : Fills rate (minute_start rate h 0) (hour_start rate (h + 1)) (filter (keeps rate) (flat_map (labels_of_minute rate h) (range_with_len 0 60))) =
+    let G : Fills rate (minute_start rate h 0) (hour_start rate (h + 1))
+    (filter (keeps rate) (flat_map (labels_of_minute rate h) (range_with_len 0 60))) =
     (F.0, F.1 ∙ hour_ends rate h) in
-    subst (λ n. Fills rate n (hour_start rate (h + 1)) (filter (keeps rate) (flat_map (labels_of_minute rate h) (range_with_len 0 60))))
+    subst (λ n. Fills rate n (hour_start rate (h + 1))
+    (filter (keeps rate) (flat_map (labels_of_minute rate h) (range_with_len 0 60))))
     (hour_begins rate h) G
 
 day_begins : (rate : Rate) → hour_start rate 0 ≡ 0
@@ -172,7 +180,9 @@ pub fills_day : (rate : Rate) → Fills rate 0 (frames_of_day rate) (lawful_labe
 unfolding labels_of_day lawful_labels
 fills_day rate =
     let F = fills_blocks rate (labels_of_hour rate) (hour_start rate) 24 (fills_hour rate) in
-    let G : Fills rate (hour_start rate 0) (frames_of_day rate) (filter (keeps rate) (flat_map (labels_of_hour rate) (range_with_len 0 24))) =
+    let G : Fills rate (hour_start rate 0) (frames_of_day rate)
+    (filter (keeps rate) (flat_map (labels_of_hour rate) (range_with_len 0 24))) =
     (F.0, F.1 ∙ day_ends rate) in
-    subst (λ n. Fills rate n (frames_of_day rate) (filter (keeps rate) (flat_map (labels_of_hour rate) (range_with_len 0 24))))
+    subst (λ n. Fills rate n (frames_of_day rate)
+    (filter (keeps rate) (flat_map (labels_of_hour rate) (range_with_len 0 24))))
     (day_begins rate) G

@@ -37,11 +37,13 @@ case_of_fault EdgeSpace = 3
 case_of_fault BadHex = 4
 case_of_fault HasPlainForm = 5
 
-not_all_plain : (text : List ℕ) (place : ℕ) → 1 ≤ place → place ≤ length text → is_plain_byte (get_or text (place - 1) 0) ≡ false
+not_all_plain : (text : List ℕ) (place : ℕ) → 1 ≤ place → place ≤ length text →
+    is_plain_byte (get_or text (place - 1) 0) ≡ false
     → list_all is_plain_byte text ≡ false
 not_all_plain text place low high bad = list_all_at is_plain_byte text (place - 1) 0 (omega (arith, low, high)) bad
 
-hex_case : (bytes : List ℕ) → length bytes ≡ 8 → list_all is_hex_digit (drop 2 (hex_form bytes)) ≡ true → case_of_text (hex_form bytes) ≡ 5
+hex_case : (bytes : List ℕ) → length bytes ≡ 8 → list_all is_hex_digit (drop 2 (hex_form bytes)) ≡ true →
+    case_of_text (hex_form bytes) ≡ 5
 hex_case bytes eight digits = rw (hex_form_long bytes eight, digits) refl
 
 same_case : (text : List ℕ) (fault : IdFault) → IsIdFault text fault → case_of_text text ≡ case_of_fault fault
@@ -105,7 +107,8 @@ one_label_fault rate text a b (l, w, e) (m, v, f) =
     cc
 
 -- so is a time code's
-pub one_text_fault : (rate : Rate) (text : List ℕ) (a b : TcFault) → IsTextFault rate text a → IsTextFault rate text b → a ≡ b
+pub one_text_fault : (rate : Rate) (text : List ℕ) (a b : TcFault) → IsTextFault rate text a →
+    IsTextFault rate text b → a ≡ b
 one_text_fault rate text Shape Shape h k = refl
 one_text_fault rate text Shape (OutOfRange g) h (m, v, f) = absurd (h m v)
 one_text_fault rate text Shape Dropped h (m, v, f) = absurd (h m v)
@@ -122,9 +125,11 @@ own_digits : (timecode : Timecode) → has_two_digits (label_of timecode) ≡ tr
 own_digits timecode = lawful_two_digits (rate_of timecode) (label_of timecode) timecode.lawful
 
 own_label : (timecode : Timecode) (fault : TcFault)
-    → (label : Label) × Writes (rate_of timecode) (text_of timecode) label × (label_fault (rate_of timecode) label ≡ Some fault) → ⊥
+    → (label : Label) × Writes (rate_of timecode) (text_of timecode) label
+    × (label_fault (rate_of timecode) label ≡ Some fault) → ⊥
 own_label timecode fault (l, w, e) =
-    let same : label_of timecode ≡ l = one_label (rate_of timecode) (label_of timecode) l (own_digits timecode) w.0 w.1 in
+    let same : label_of timecode ≡ l =
+    one_label (rate_of timecode) (label_of timecode) l (own_digits timecode) w.0 w.1 in
     let none : label_fault (rate_of timecode) (label_of timecode) ≡ None =
     no_fault (rate_of timecode) (label_of timecode) timecode.lawful in
     let faults : None ≡ Some fault = sym none ∙ ap (label_fault (rate_of timecode)) same ∙ e in

@@ -21,5 +21,6 @@ pub fitting : (part : Part) (clip : Timecode) → part_fits part clip ≡ true �
 unfolding part_fits
 fitting part clip e =
     let rate = rate_of clip in
-    let h = four_hold (is_time rate part.start) (is_time rate part.duration) (frames_in rate part.start) (frames_in rate part.duration) (frames_of clip) e in
+    let h = four_hold (is_time rate part.start) (is_time rate part.duration) (frames_in rate part.start)
+    (frames_in rate part.duration) (frames_of clip) e in
     record { start_is_time = h.0; duration_is_time = h.1; some = h.2; within = h.3 }

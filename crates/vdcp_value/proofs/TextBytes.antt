@@ -13,7 +13,8 @@ use Rattle.vdcp_value.specs.declared.clip_id.ClipId.{ClipId}
 digit_number-hex_digit : (n : ℕ) → n < 16 → digit_number (hex_digit n) ≡ n
 digit_number-hex_digit n below = grind arith
 
-one_byte : (byte : ℕ) → byte < 256 → 16 * digit_number (hex_digit (byte / 16)) + digit_number (hex_digit (byte % 16)) ≡ byte
+one_byte : (byte : ℕ) → byte < 256 → 16 * digit_number (hex_digit (byte / 16)) + digit_number (hex_digit (byte % 16))
+    ≡ byte
 one_byte byte below =
     let high = digit_number-hex_digit (byte / 16) (omega arith) in
     let low = digit_number-hex_digit (byte % 16) (omega arith) in

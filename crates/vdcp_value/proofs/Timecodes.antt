@@ -23,10 +23,6 @@ same_timecode a b r l =
           i;
     }
 
--- the label of a time code is lawful at its rate
-pub lawful_label : (timecode : Timecode) → is_lawful (rate_of timecode) (label_of timecode) ≡ true
-lawful_label timecode = timecode.lawful
-
--- and its frame number is below the day's
+-- the frame number of a time code is below the day's
 pub frames_below : (timecode : Timecode) → frames_of timecode < frames_of_day (rate_of timecode)
 frames_below timecode = frame_number_below (rate_of timecode) (label_of timecode) timecode.lawful

@@ -1,4 +1,4 @@
--- Lists of so many bytes.
+-- Lists of a given number of bytes.
 use Rattle.std.specs.Prelude.{ℕ, List, length, nat_lt, nat_eq, ◌&&◌, Bool, IsTrue}
 use Rattle.std.specs.List.{list_all}
 

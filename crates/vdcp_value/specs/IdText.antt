@@ -64,7 +64,7 @@ IsIdFault text EdgeSpace =
 IsIdFault text BadHex = IsTrue (is_hex_long text) × IsFalse (list_all is_hex_digit (drop 2 text))
 IsIdFault text HasPlainForm = (bytes : List ℕ) × AreBytes 8 bytes × (text ≡ hex_form bytes) × HasPlain bytes
 
--- a byte before what is kept behind it, but no space before nothing
+-- a byte before what is kept of the rest, but no space before nothing
 abbrev pub kept_before : ℕ → List ℕ → List ℕ
 kept_before byte [] = if nat_eq byte 32 then [] else byte ∷ []
 kept_before byte (next ∷ more) = byte ∷ next ∷ more

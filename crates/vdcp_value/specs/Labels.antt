@@ -21,7 +21,8 @@ is_dropped D30 label = not (nat_eq (label.minutes % 10) 0) && nat_eq label.secon
 -- each field is below its bound
 abbrev pub is_in_range : Rate → Label → Bool
 is_in_range rate label =
-    nat_lt label.hours 24 && nat_lt label.minutes 60 && nat_lt label.seconds 60 && nat_lt label.frames (frames_per_second rate)
+    nat_lt label.hours 24 && nat_lt label.minutes 60 && nat_lt label.seconds 60
+    && nat_lt label.frames (frames_per_second rate)
 
 -- the labels that stand for a frame
 abbrev pub is_lawful : Rate → Label → Bool

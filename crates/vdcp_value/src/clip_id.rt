@@ -48,9 +48,9 @@ impl ClipId {
         self.bytes
     }
 
-    /// The ID that has this text. A text that no ID has is refused by its first fault: `Empty`;
-    /// where it is `0x` with sixteen bytes behind it, `BadHex`, then `HasPlainForm`; where it is any
-    /// other, `TooLong`, then `BadByte`, then `EdgeSpace`.
+    /// The ID that has this text. A text that no ID has is refused by its first fault. Of no bytes
+    /// that is `Empty`; of `0x` and sixteen bytes `BadHex`, then `HasPlainForm`; of any other text
+    /// `TooLong`, then `BadByte`, then `EdgeSpace`.
     pub fn parse(text: &str) -> Result<ClipId, IdFault>
         ensures read { IfOk result (λ id. IsTextOf text.now (id_bytes id)) }
         ensures accepts { (id : ClipId) → IsTextOf text.now (id_bytes id) → result ≡ Ok id }

@@ -1,7 +1,7 @@
 use std::fmt;
 use thiserror::Error;
 
-/// Why no ID has a text. `ClipId::parse` says which is told where several are true.
+/// Why no ID has a text. `ClipId::parse` says which one is given where several hold.
 #[derive(Clone, Copy, Debug, PartialEq, Eq, Error)]
 pub enum IdFault {
     #[error("the id is empty")]

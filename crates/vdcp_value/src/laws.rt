@@ -110,15 +110,19 @@ pub fn the_text_of_a_time_code_is_eleven_bytes()
 /// A text that is refused at a rate is no time code's, and it has one fault only.
 pub fn a_refused_text_is_no_time_codes()
     ensures none { (timecode : Timecode) (fault : TcFault) → ¬ IsTextFault (rate_of timecode) (text_of timecode) fault }
-    ensures one { (rate : Rate) (text : List ℕ) (a b : TcFault) → IsTextFault rate text a → IsTextFault rate text b → a ≡ b }
+    ensures one { (rate : Rate) (text : List ℕ) (a b : TcFault) → IsTextFault rate text a → IsTextFault rate text b →
+        a ≡ b }
 {}
 
 /// A part that fits a clip is two lawful time codes at the clip's rate, has at least one frame, and
 /// ends within the clip.
 pub fn a_part_that_fits_lies_within()
-    ensures start { (part : Part) (clip : Timecode) → IsTrue (part_fits part clip) → IsTrue (is_time (rate_of clip) part.start) }
-    ensures duration { (part : Part) (clip : Timecode) → IsTrue (part_fits part clip) → IsTrue (is_time (rate_of clip) part.duration) }
-    ensures some { (part : Part) (clip : Timecode) → IsTrue (part_fits part clip) → 1 ≤ frames_in (rate_of clip) part.duration }
+    ensures start { (part : Part) (clip : Timecode) → IsTrue (part_fits part clip) →
+        IsTrue (is_time (rate_of clip) part.start) }
+    ensures duration { (part : Part) (clip : Timecode) → IsTrue (part_fits part clip) →
+        IsTrue (is_time (rate_of clip) part.duration) }
+    ensures some { (part : Part) (clip : Timecode) → IsTrue (part_fits part clip) →
+        1 ≤ frames_in (rate_of clip) part.duration }
     ensures within { (part : Part) (clip : Timecode) → IsTrue (part_fits part clip) →
         frames_in (rate_of clip) part.start + frames_in (rate_of clip) part.duration ≤ frames_of clip }
 {}

@@ -12,9 +12,9 @@ use crate::label::Label;
 use crate::rate::Rate;
 use arrayvec::ArrayString;
 
-/// A lawful time code of a day at a rate: hours 0 to 23, minutes and seconds 0 to 59, frames from 0
-/// to below the rate's. At drop frame second 00 has no frames 00 and 01, except in the minutes 00, 10,
-/// 20, 30, 40 and 50 (SMPTE ST 12-1).
+/// A lawful time code at a rate: hours, minutes and seconds of a day, and a frame of the second, which
+/// is below the rate's number of frames. Drop frame leaves out frames 00 and 01 of second 00 in each
+/// minute that isn't divisible by ten (SMPTE ST 12-1).
 #[derive(Clone, Copy, Debug, PartialEq, Eq)]
 pub struct Timecode {
     rate: Rate,
@@ -31,7 +31,8 @@ impl Timecode {
         ensures within { IsSome result ↔ (frames < length (lawful_labels rate)) }
         ensures same_rate { IfSome result (λ timecode. rate_of timecode ≡ rate) }
         ensures number { IfSome result (λ timecode. frames_of timecode ≡ frames) }
-        ensures accepts { (timecode : Timecode) → rate_of timecode ≡ rate → frames_of timecode ≡ frames → result ≡ Some timecode }
+        ensures accepts { (timecode : Timecode) → rate_of timecode ≡ rate → frames_of timecode ≡ frames →
+            result ≡ Some timecode }
     {
         if frames >= rate.frames_of_day() {
             return None;
@@ -79,7 +80,8 @@ impl Timecode {
         ensures read { IfOk result (λ timecode. bcd_of timecode ≡ bytes) }
         ensures number { IfOk result (λ timecode. frames_of timecode ≡ frames_in rate bytes) }
         ensures lawful { IsOk result ↔ IsTrue (is_time rate bytes) }
-        ensures accepts { (timecode : Timecode) → rate_of timecode ≡ rate → bcd_of timecode ≡ bytes → result ≡ Ok timecode }
+        ensures accepts { (timecode : Timecode) → rate_of timecode ≡ rate → bcd_of timecode ≡ bytes →
+            result ≡ Ok timecode }
         ensures refused { IfErr result (λ fault. bcd_fault rate bytes ≡ Some fault) }
     {
         let label = Label {
@@ -97,7 +99,8 @@ impl Timecode {
     pub fn parse(rate: Rate, text: &str) -> Result<Timecode, TcFault>
         ensures same_rate { IfOk result (λ timecode. rate_of timecode ≡ rate) }
         ensures read { IfOk result (λ timecode. text_of timecode ≡ text.now) }
-        ensures accepts { (timecode : Timecode) → rate_of timecode ≡ rate → text_of timecode ≡ text.now → result ≡ Ok timecode }
+        ensures accepts { (timecode : Timecode) → rate_of timecode ≡ rate → text_of timecode ≡ text.now →
+            result ≡ Ok timecode }
         ensures refused { IfErr result (IsTextFault rate text.now) }
     {
         Timecode::parse_ascii(rate, text.as_bytes())
@@ -107,7 +110,8 @@ impl Timecode {
     pub fn parse_ascii(rate: Rate, text: &[u8]) -> Result<Timecode, TcFault>
         ensures same_rate { IfOk result (λ timecode. rate_of timecode ≡ rate) }
         ensures read { IfOk result (λ timecode. text_of timecode ≡ text.now) }
-        ensures accepts { (timecode : Timecode) → rate_of timecode ≡ rate → text_of timecode ≡ text.now → result ≡ Ok timecode }
+        ensures accepts { (timecode : Timecode) → rate_of timecode ≡ rate → text_of timecode ≡ text.now →
+            result ≡ Ok timecode }
         ensures refused { IfErr result (IsTextFault rate text.now) }
     {
         let Some(label) = label_in(rate, text) else {

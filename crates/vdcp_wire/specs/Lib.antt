@@ -3,3 +3,5 @@ pub mod Scripts
 pub mod Streams
 pub mod Wires
 pub mod WireLaws
+pub mod Address
+pub mod Listening

@@ -23,7 +23,7 @@ came_of (Ok zero) = Ok came.Closed
 came_of (Ok (suc n)) = Ok (came.Bytes (suc n))
 came_of (Err error) = came_of_kind (error_kind error) error
 
--- what is known of the connection behind it
+-- what is known of the connection after it
 abbrev pub connection_behind : Came → Connection → Connection
 connection_behind (came.Bytes n) before = before
 connection_behind came.Silence before = before

@@ -27,8 +27,8 @@ has_closed (bytes piece ∷ later) = has_closed later
 has_closed (silence ∷ later) = has_closed later
 has_closed (close ∷ later) = true
 
--- the bytes that went out; what came, up to the first close and with it; and how many bytes had gone
--- out at each time that waiting bytes were dropped. What was dropped isn't among what came
+-- what a wire carried: the bytes that went out; what came until a close, which is the last of it; and, for each drop of
+-- waiting bytes, how many bytes had gone out by then. What was dropped isn't among what came
 pub record Told : Type 0 where
   pub sent : List ℕ
   pub came : List Arrival
@@ -55,7 +55,7 @@ abbrev pub adds_drop : Option Told → Option Told
 adds_drop None = None
 adds_drop (Some t) = Some (record { sent = t.sent; came = t.came; drops = t.drops ++ length t.sent ∷ [] })
 
--- behind a close nothing else comes
+-- after a close nothing else comes
 abbrev pub MayCome : Arrival → Option Told → Type 0
 MayCome a None = Unit {0}
 MayCome a (Some t) = IsTrue (has_closed t.came) → a ≡ close

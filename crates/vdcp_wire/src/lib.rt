@@ -2,21 +2,30 @@
 //!
 //! `StreamWire` is one over a connection. `ScriptWire` is one in memory, which gives what a script of `Entry`s
 //! says and tells its bytes. Whoever drives a wire calls `send`, `listen` and `drop_waiting` of `Wire`, and none
-//! of them again once one has failed.
+//! of them again once one has failed. `address_of` reads the address of a TCP connection, and `accept_one` takes one
+//! connection there.
 //!
 //! ```text
+//! let stream = accept_one(rt, address_of(text)?, out)?;
 //! let mut wire = StreamWire::new(stream, silence)?;
 //! wire.drop_waiting()?;
 //! wire.send(bytes)?;
 //! let mut buffer = [0; PIECE];
 //! match wire.listen(&mut buffer)? { Came::Bytes(n) => .., Came::Silence => .., Came::Closed => .. }
 //! ```
+//!
+//! Files: `wire` (the trait), `script` (a wire in memory), `stream` (a wire over a connection), `address` and `accept`
+//! (the text of an address; the one connection that is taken there).
 #![tactic(auto)]
 
+mod accept;
+mod address;
 mod script;
 mod stream;
 mod wire;
 
+pub use accept::{AcceptFault, accept_one};
+pub use address::{AddressFault, address_of};
 pub use script::{Entry, ScriptWire};
 pub use stream::StreamWire;
 pub use wire::{Came, PIECE, Wire, WireFault};

@@ -29,7 +29,7 @@ struct Failure {
 /// A wire in memory, which gives what a script says and tells its bytes. Where memory is refused, the
 /// wire fails.
 ///
-/// `listen` gives the entries in order, and behind the last one that the other end has closed.
+/// `listen` gives the entries in order, and after the last one that the other end has closed.
 /// `drop_waiting` takes the `Stale` entries that stand next.
 #[derive(Drop)]
 pub struct ScriptWire<A: Allocator + Copy> {
@@ -39,7 +39,7 @@ pub struct ScriptWire<A: Allocator + Copy> {
     next: usize,
     given: usize,
     sent: Vec<u8, A>,
-    /// What each `listen` gave, up to the first close, and all bytes of these, one after another.
+    /// What each `listen` gave until a close, which is the last of it, and all bytes of these, one after another.
     came: Vec<Came, A>,
     bytes: Vec<u8, A>,
     drops: Vec<usize, A>,
@@ -135,7 +135,7 @@ impl<A: Allocator + Copy> ScriptWire<A> {
         }
     }
 
-    // Goes on behind what was given.
+    // Moves past what was given.
     fn advance(&mut self, came: Came)
         ensures { self.new ≡ self.old }
     {
@@ -153,7 +153,7 @@ impl<A: Allocator + Copy> ScriptWire<A> {
         }
     }
 
-    // Goes on behind the stale entries that stand next.
+    // Moves past the stale entries that stand next.
     fn pass_stale(&mut self)
         ensures { self.new ≡ self.old }
     {
@@ -182,7 +182,8 @@ impl<A: Allocator + Copy> ScriptWire<A> {
     // Gives what comes next.
     fn give(&mut self, buffer: &mut [u8; PIECE]) -> Result<Came, AllocError>
         ensures fits { IfOk result FitsBuffer }
-        ensures came { IfOk result (λ c. Some self.new.told ≡ adds_came (arrival_of c buffer.new) (Some self.old.told)) }
+        ensures came { IfOk result (λ c. Some self.new.told ≡ adds_came (arrival_of c buffer.new)
+            (Some self.old.told)) }
         ensures may_come { IfOk result (λ c. MayCome (arrival_of c buffer.new) (Some self.old.told)) }
         ensures kept { OnErr result (self.new ≡ self.old) }
         ensures failed { self.new.failed ≡ self.old.failed }
@@ -224,7 +225,7 @@ fn is_close(came: Came) -> bool
     }
 }
 
-// Puts the next piece of some bytes, of which so many were given, into the buffer.
+// Puts the next piece of some bytes into the buffer; the first `given` of them went before.
 fn put(bytes: &[u8], given: usize, buffer: &mut [u8; PIECE]) -> Came
     ensures { FitsBuffer result }
 {

@@ -8,7 +8,7 @@ use std::marker::Model;
 use std::net::{OpenStream, TcpStream};
 use std::time::Duration;
 
-/// So many reads `drop_waiting` makes at most, so that a peer that goes on sending can't hold it up.
+/// Read limit of `drop_waiting`, so that a peer that goes on sending can't hold it up.
 const MOST_READS: u32 = 128;
 
 /// What a wire knows of its connection.
@@ -24,8 +24,8 @@ enum Connection {
 
 /// A wire over a connection. It doesn't tell its bytes, and `send` and `listen` may wait for the other end.
 ///
-/// A read that waited for so long is a silence, and an interrupted read brings no bytes. `drop_waiting`
-/// doesn't wait, and drops what 128 reads take at most. The rest stays.
+/// A read that waited for the time of a silence is one, and an interrupted read brings no bytes. `drop_waiting`
+/// doesn't wait. It drops what at most 128 reads take; the rest stays.
 #[derive(Drop)]
 pub struct StreamWire<S: Read + Write + OpenStream + Drop = TcpStream> {
     stream: S,

@@ -1,6 +1,6 @@
 use thiserror::Error;
 
-/// So many bytes one `listen` brings at most.
+/// Most bytes one `listen` returns.
 pub const PIECE: usize = 512;
 
 /// A wire failed.
@@ -11,9 +11,9 @@ pub struct WireFault;
 /// What one `listen` brings.
 #[derive(Clone, Copy, Debug, PartialEq, Eq)]
 pub enum Came {
-    /// So many bytes, at the front of the buffer: none to `PIECE`.
+    /// This many bytes, 0 to `PIECE`, at the front of the buffer.
     Bytes(usize),
-    /// Nothing came for so long that the burst has ended.
+    /// Nothing came for the time that ends a burst.
     Silence,
     /// The other end has closed: nothing will come any more.
     Closed,

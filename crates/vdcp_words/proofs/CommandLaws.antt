@@ -22,7 +22,8 @@ number_of (framed kind unit code rest) = 256 * kind + code
 
 same_front : (a b x y : List ℕ) → length a ≡ length b → a ++ x ≡ b ++ y → (a ≡ b) × (x ≡ y)
 same_front a b x y size e =
-    let front : a ≡ b = sym (take_at a x (length a) refl) ∙ ap (take (length a)) e ∙ take_at b y (length a) (sym size) in
+    let front : a ≡ b = sym (take_at a x (length a) refl) ∙ ap (take (length a)) e
+    ∙ take_at b y (length a) (sym size) in
     (front, append_cancel_left a x y (e ∙ ap (λ (f : List ℕ). f ++ y) (sym front)))
 
 same_cue : ValueLaws → (i j : ClipId) (s d t f : List ℕ) → AreBytes 4 s × AreBytes 4 d → AreBytes 4 t × AreBytes 4 f →
@@ -32,7 +33,15 @@ same_cue v i j s d t f p q e =
     let t_size = length_of_bytes v 4 t q.0 in
     let fronts =
     same_front (id_bytes i ++ s) (id_bytes j ++ t) d f
-    (omega (arith, length-append (id_bytes i) s, length-append (id_bytes j) t, length_of_id v i, length_of_id v j, s_size, t_size)) e in
+    (omega (
+      arith,
+      length-append (id_bytes i) s,
+      length-append (id_bytes j) t,
+      length_of_id v i,
+      length_of_id v j,
+      s_size,
+      t_size,
+    )) e in
     let ids = same_front (id_bytes i) (id_bytes j) s t (omega (arith, length_of_id v i, length_of_id v j)) fronts.0 in
     let id_is : i ≡ j = v.one i j ids.0 in
     let s_is : s ≡ t = ids.1 in
@@ -127,12 +136,14 @@ one_command_reading v m (Ok a) (Err Length) p q = absurd (not_other_length v m a
 one_command_reading v m (Err NotCommand) (Ok b) p q = absurd (not_receipt m b q p)
 one_command_reading v m (Err NotCommand) (Err NotCommand) p q = refl
 one_command_reading v m (Err NotCommand) (Err Unknown) p q = absurd (receipt_is_not_framed m p q.is_framed)
-one_command_reading v m (Err NotCommand) (Err Length) p q = absurd (receipt_has_no_code m (command_message 0 q.command) p q.code)
+one_command_reading v m (Err NotCommand) (Err Length) p q =
+    absurd (receipt_has_no_code m (command_message 0 q.command) p q.code)
 one_command_reading v m (Err Unknown) (Ok b) p q = absurd (not_unknown m b q p)
 one_command_reading v m (Err Unknown) (Err NotCommand) p q = absurd (receipt_is_not_framed m q p.is_framed)
 one_command_reading v m (Err Unknown) (Err Unknown) p q = refl
 one_command_reading v m (Err Unknown) (Err Length) p q = absurd (p.no_code q.command q.code)
 one_command_reading v m (Err Length) (Ok b) p q = absurd (not_other_length v m b q p)
-one_command_reading v m (Err Length) (Err NotCommand) p q = absurd (receipt_has_no_code m (command_message 0 p.command) q p.code)
+one_command_reading v m (Err Length) (Err NotCommand) p q =
+    absurd (receipt_has_no_code m (command_message 0 p.command) q p.code)
 one_command_reading v m (Err Length) (Err Unknown) p q = absurd (q.no_code p.command p.code)
 one_command_reading v m (Err Length) (Err Length) p q = refl

@@ -37,7 +37,8 @@ cue_data_length unit rest other =
     }
 
 pub open_length : (unit : ℕ) (rest : List ℕ) → length rest ≢ 2 → HasOtherLength (framed 3 unit 0x01 rest)
-open_length unit rest other = record { command = Open 0 0; writable = (lit< tt, lit< tt); code = (refl, refl); other = other }
+open_length unit rest other =
+    record { command = Open 0 0; writable = (lit< tt, lit< tt); code = (refl, refl); other = other }
 
 pub status_length : (unit : ℕ) (rest : List ℕ) → length rest ≢ 1 → HasOtherLength (framed 3 unit 0x05 rest)
 status_length unit rest other = record { command = Status 0; writable = lit< tt; code = (refl, refl); other = other }

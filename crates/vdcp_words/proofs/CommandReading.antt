@@ -121,7 +121,11 @@ open_reads unit [] fits = open_length unit [] (λ e. absurd (omega (arith, e)))
 open_reads unit (x ∷ []) fits = open_length unit (x ∷ []) (λ e. absurd (omega (arith, e)))
 open_reads unit (x ∷ y ∷ []) fits =
     record {
-      writable = (All-head (λ b. b < 256) x (y ∷ []) fits, All-head (λ b. b < 256) y [] (All-tail (λ b. b < 256) x (y ∷ []) fits));
+      writable = (
+        All-head (λ b. b < 256) x (y ∷ []) fits,
+        All-head (λ b. b < 256) y []
+            (All-tail (λ b. b < 256) x (y ∷ []) fits),
+      );
       says = refl;
     }
 open_reads unit (x ∷ y ∷ z ∷ more) fits = open_length unit (x ∷ y ∷ z ∷ more) (λ e. absurd (omega (arith, e)))
@@ -137,7 +141,9 @@ parts rest =
 
 module _ (v : ValueLaws) (unit : ℕ) (rest : List ℕ) (fits : All (λ b. b < 256) rest) where
   cue_parts : length rest ≡ 16 → (test : Bool) → are_bytes 8 (take 8 rest) ≡ test →
-      ReadsCommand (framed 2 unit 0x25 rest) (with_id (λ id. CueData id (take 4 (drop 8 rest)) (drop 12 rest)) (cond test (Some (id_of (take 8 rest))) None))
+      ReadsCommand (framed 2 unit 0x25 rest)
+      (with_id (λ id. CueData id (take 4 (drop 8 rest)) (drop 12 rest))
+      (cond test (Some (id_of (take 8 rest))) None))
   cue_parts size true e =
       record {
         writable = (
@@ -146,7 +152,8 @@ module _ (v : ValueLaws) (unit : ℕ) (rest : List ℕ) (fits : All (λ b. b < 2
           bytes_are v 4 (drop 12 rest) (omega (arith, length-drop 12 rest)) (All-drop (λ b. b < 256) 12 rest fits),
         );
         says = ap (λ (r : List ℕ). framed 2 unit 0x25 r)
-            (parts rest ∙ ap (λ (id : List ℕ). id ++ take 4 (drop 8 rest) ++ drop 12 rest) (sym (v.of_bytes (take 8 rest) e)));
+            (parts rest ∙ ap (λ (id : List ℕ). id ++ take 4 (drop 8 rest) ++ drop 12 rest)
+            (sym (v.of_bytes (take 8 rest) e)));
       }
   cue_parts size false e =
       absurd (not_eight v (take 8 rest) (All-take (λ b. b < 256) 8 rest fits) e (omega (arith, length-take 8 rest)))
@@ -198,8 +205,19 @@ module _ (v : ValueLaws) (unit : ℕ) (rest : List ℕ) (fits : All (λ b. b < 2
               | inl is ↦ rw is (id_size_reads v unit rest fits (are_bytes 8 rest) refl)
               | inr no_size ↦ elim (cases_eq code 0x16) [
                 | inl is ↦ rw is (id_request_reads v unit rest fits (are_bytes 8 rest) refl)
-                | inr no_request ↦ rw (ne_eqb _ _ no_open, ne_eqb _ _ no_status, ne_eqb _ _ no_active, ne_eqb _ _ no_size, ne_eqb _ _ no_request)
-                    (record { is_framed = tt; no_code = no_sense_request unit code rest no_open no_status no_active no_size no_request })
+                | inr no_request ↦ rw (
+                  ne_eqb _ _ no_open,
+                  ne_eqb _ _ no_status,
+                  ne_eqb _ _ no_active,
+                  ne_eqb _ _ no_size,
+                  ne_eqb _ _
+                      no_request,
+                )
+                    (record {
+                      is_framed = tt;
+                      no_code =
+                          no_sense_request unit code rest no_open no_status no_active no_size no_request;
+                    })
               ]
             ]
           ]

@@ -96,7 +96,8 @@ one_of_two : ValueLaws → (m : Content) (a b : Reply) → IsReply m a → IsRep
 one_of_two v ack a b p q = p ∙ sym q
 one_of_two v (nak byte) a b p q = p ∙ sym q
 one_of_two v (framed kind unit code rest) a b p q =
-    same_reply v a b rest (same_code_of kind unit code rest a p.0 ∙ sym (same_code_of kind unit code rest b q.0)) p.1 q.1
+    same_reply v a b rest (same_code_of kind unit code rest a p.0 ∙ sym (same_code_of kind unit code rest b q.0)) p.1
+    q.1
 
 not_unknown : (m : Content) (a : Reply) → IsReply m a → IsUnknownReply m → ⊥
 not_unknown ack a p q = q.is_framed
@@ -144,7 +145,8 @@ not_short v (framed kind unit code rest) a p q =
     omega (arith, enough v a rest p.1, same_named a q.reply rest codes, q.short)
 
 -- a message is read in one way
-pub one_reply_reading : ValueLaws → (m : Content) (a b : Result Reply WordFault) → ReadsReply m a → ReadsReply m b → a ≡ b
+pub one_reply_reading : ValueLaws → (m : Content) (a b : Result Reply WordFault) → ReadsReply m a → ReadsReply m b →
+    a ≡ b
 one_reply_reading v m (Ok a) (Ok b) p q = ap Ok (one_of_two v m a b p q)
 one_reply_reading v m (Ok a) (Err NotCommand) p q = absurd q
 one_reply_reading v m (Ok a) (Err Unknown) p q = absurd (not_unknown m a p q)

@@ -34,4 +34,12 @@ size_short unit rest short = record { reply = Size []; code = (refl, refl); shor
 pub present_short : (unit : ℕ) (rest : List ℕ) → length rest ≡ 0 → IsShortReply (framed 3 unit 0x96 rest)
 present_short unit rest empty = record { reply = Present true; code = (refl, refl); short = omega (arith, empty) }
 
-pub ruleset shorts = (opened_short, state_short, state_byte_short, active_short, active_id_short, size_short, present_short)
+pub ruleset shorts = (
+  opened_short,
+  state_short,
+  state_byte_short,
+  active_short,
+  active_id_short,
+  size_short,
+  present_short,
+)

@@ -22,7 +22,8 @@ opened_reads unit (first ∷ more) = ((refl, refl), refl)
 
 state_byte_reads : (unit bitmap : ℕ) (more : List ℕ) → has_bit_0 bitmap ≡ true →
     ReadsReply (framed 3 unit 0x85 (bitmap ∷ more)) (state_byte_of bitmap more)
-state_byte_reads unit bitmap [] set = state_byte_short unit (bitmap ∷ []) (omega arith) (eqb-true (bit_and bitmap 1) 1 set)
+state_byte_reads unit bitmap [] set =
+    state_byte_short unit (bitmap ∷ []) (omega arith) (eqb-true (bit_and bitmap 1) 1 set)
 state_byte_reads unit bitmap (byte ∷ more) set = ((refl, refl), (refl, set, refl))
 
 state_when : (unit bitmap : ℕ) (more : List ℕ) (test : Bool) → has_bit_0 bitmap ≡ test →
@@ -36,13 +37,15 @@ state_reads unit (bitmap ∷ more) = state_when unit bitmap more (has_bit_0 bitm
 
 id_reads : ValueLaws → (unit first : ℕ) (more : List ℕ) → first ≢ 0 → All (λ b. b < 256) more →
     (test : Bool) → are_bytes 8 (take 8 more) ≡ test →
-    ReadsReply (framed 3 unit 0x87 (first ∷ more)) (with_id (λ id. Active (Some id)) (cond test (Some (id_of (take 8 more))) None))
+    ReadsReply (framed 3 unit 0x87 (first ∷ more))
+    (with_id (λ id. Active (Some id)) (cond test (Some (id_of (take 8 more))) None))
 id_reads v unit first more other fits true e = ((refl, refl), (other, v.of_bytes (take 8 more) e))
 id_reads v unit first more other fits false e =
     let short : length more < 8 =
     elim (cases_lt (length more) 8) [
       | inl lt ↦ lt
-      | inr le ↦ absurd (not_eight v (take 8 more) (All-take (λ b. b < 256) 8 more fits) e (omega (arith, length-take 8 more)))
+      | inr le ↦ absurd (not_eight v (take 8 more) (All-take (λ b. b < 256) 8 more fits) e
+          (omega (arith, length-take 8 more)))
     ] in
     active_id_short unit first more other short
 
@@ -52,7 +55,8 @@ active_reads v unit [] fits = active_short unit [] refl
 active_reads v unit (first ∷ more) fits =
     elim (cases_eq first 0) [
       | inl is ↦ rw is ((refl, refl), refl)
-      | inr other ↦ rw (ne_eqb _ _ other) (id_reads v unit first more other (All-tail (λ b. b < 256) first more fits) (are_bytes 8 (take 8 more)) refl)
+      | inr other ↦ rw (ne_eqb _ _ other)
+          (id_reads v unit first more other (All-tail (λ b. b < 256) first more fits) (are_bytes 8 (take 8 more)) refl)
     ]
 
 size_reads : (unit : ℕ) (rest : List ℕ) → ReadsReply (framed 3 unit 0x94 rest) (size_of rest)
@@ -104,8 +108,19 @@ sense_reply_reads v unit code rest fits =
             | inl is ↦ rw is (size_reads unit rest)
             | inr no_size ↦ elim (cases_eq code 0x96) [
               | inl is ↦ rw is (present_reads unit rest)
-              | inr no_present ↦ rw (ne_eqb _ _ no_opened, ne_eqb _ _ no_state, ne_eqb _ _ no_active, ne_eqb _ _ no_size, ne_eqb _ _ no_present)
-                  (record { is_framed = tt; no_code = no_reply unit code rest no_opened no_state no_active no_size no_present })
+              | inr no_present ↦ rw (
+                ne_eqb _ _ no_opened,
+                ne_eqb _ _ no_state,
+                ne_eqb _ _ no_active,
+                ne_eqb _ _ no_size,
+                ne_eqb _ _
+                    no_present,
+              )
+                  (record {
+                    is_framed = tt;
+                    no_code =
+                        no_reply unit code rest no_opened no_state no_active no_size no_present;
+                  })
             ]
           ]
         ]

@@ -1,10 +1,10 @@
 -- Words on the line: their messages fit, and their bytes read as them first.
-use Rattle.std.proofs.Common.{◌≡◌, ℕ, ◌<◌, ◌≤◌, Bool, true, false, List, [], ◌∷◌, ◌++◌, length, refl, sym, ap, subst, arith, length-append, Ok}
-use Rattle.std.specs.Prelude.{All, Some, None}
+use Rattle.std.proofs.Common.{◌≡◌, ℕ, ◌+◌, ◌*◌, ◌<◌, ◌≤◌, Bool, true, false, List, [], ◌∷◌, ◌++◌, length, refl, sym, ap, subst, arith, length-append, Ok}
+use Rattle.std.specs.Prelude.{All, Some, None, sum}
 use Rattle.std.proofs.lemmas.List.{append-nil}
 use Rattle.std.proofs.lemmas.List.Elements.{All-nil, All-cons, All-append}
 use Rattle.vdcp_value.specs.Ids.{id_bytes}
-use Rattle.vdcp_frame.specs.Message.{Content, ack, nak, framed, FitsFrame, Fits, Spells, spelling}
+use Rattle.vdcp_frame.specs.Message.{Content, ack, nak, framed, FitsFrame, Fits, Spells, spelling, check_byte}
 use Rattle.vdcp_frame.specs.Reading.{Reads, SpellsAll, End, clean}
 use Rattle.vdcp_words.specs.declared.command.Command.{Command}
 use Rattle.vdcp_words.specs.declared.command.Command.TheVariants as commands
@@ -33,21 +33,31 @@ one byte fits = one_more byte [] fits none
 frame : (kind unit code : ℕ) (rest : List ℕ) → kind < 16 → unit < 16 → code < 256 →
     All (λ b. b < 256) rest → length rest ≤ 253 → FitsFrame kind unit code rest
 frame kind unit code rest kind_fits unit_fits code_fits rest_fits rest_size =
-    record { kind_fits = kind_fits; unit_fits = unit_fits; code_fits = code_fits; rest_fits = rest_fits; rest_size = rest_size }
+    record {
+      kind_fits = kind_fits;
+      unit_fits = unit_fits;
+      code_fits = code_fits;
+      rest_fits = rest_fits;
+      rest_size =
+          rest_size;
+    }
 
 -- a command's message fits
 pub command_fits : ValueLaws → (unit : ℕ) (command : Command) → unit < 16 → IsWritableCommand command →
     Fits (command_message unit command)
 command_fits v unit commands.Stop u w = frame 1 unit 0x00 [] (omega arith) u (omega arith) none (omega arith)
 command_fits v unit commands.Play u w = frame 1 unit 0x01 [] (omega arith) u (omega arith) none (omega arith)
-command_fits v unit (commands.Close port) u w = frame 2 unit 0x21 (port ∷ []) (omega arith) u (omega arith) (one port w) (omega arith)
-command_fits v unit (commands.Select port) u w = frame 2 unit 0x22 (port ∷ []) (omega arith) u (omega arith) (one port w) (omega arith)
+command_fits v unit (commands.Close port) u w =
+    frame 2 unit 0x21 (port ∷ []) (omega arith) u (omega arith) (one port w) (omega arith)
+command_fits v unit (commands.Select port) u w =
+    frame 2 unit 0x22 (port ∷ []) (omega arith) u (omega arith) (one port w) (omega arith)
 command_fits v unit (commands.PlayCue id) u w =
     frame 2 unit 0x24 (id_bytes id) (omega arith) u (omega arith) (id_below v id) (omega (arith, length_of_id v id))
 command_fits v unit (commands.CueData id start duration) u w =
     frame 2 unit 0x25 (id_bytes id ++ start ++ duration) (omega arith) u (omega arith)
     (All-append (λ b. b < 256) (id_bytes id ++ start) duration
-    (All-append (λ b. b < 256) (id_bytes id) start (id_below v id) (bytes_below v 4 start w.0)) (bytes_below v 4 duration w.1))
+    (All-append (λ b. b < 256) (id_bytes id) start (id_below v id) (bytes_below v 4 start w.0))
+    (bytes_below v 4 duration w.1))
     (omega (
       arith,
       length-append (id_bytes id ++ start) duration,
@@ -57,8 +67,10 @@ command_fits v unit (commands.CueData id start duration) u w =
       length_of_bytes v 4 duration w.1,
     ))
 command_fits v unit (commands.Open port lock) u w =
-    frame 3 unit 0x01 (port ∷ lock ∷ []) (omega arith) u (omega arith) (one_more port (lock ∷ []) w.0 (one lock w.1)) (omega arith)
-command_fits v unit (commands.Status bitmap) u w = frame 3 unit 0x05 (bitmap ∷ []) (omega arith) u (omega arith) (one bitmap w) (omega arith)
+    frame 3 unit 0x01 (port ∷ lock ∷ []) (omega arith) u (omega arith) (one_more port (lock ∷ []) w.0 (one lock w.1))
+    (omega arith)
+command_fits v unit (commands.Status bitmap) u w =
+    frame 3 unit 0x05 (bitmap ∷ []) (omega arith) u (omega arith) (one bitmap w) (omega arith)
 command_fits v unit commands.ActiveId u w = frame 3 unit 0x07 [] (omega arith) u (omega arith) none (omega arith)
 command_fits v unit (commands.IdSize id) u w =
     frame 3 unit 0x14 (id_bytes id) (omega arith) u (omega arith) (id_below v id) (omega (arith, length_of_id v id))
@@ -75,20 +87,31 @@ pub reply_fits : ValueLaws → (unit : ℕ) (reply : Reply) → unit < 16 → Is
 reply_fits v unit replies.Ack u w = tt
 reply_fits v unit (replies.Nak byte) u w = w
 reply_fits v unit (replies.Opened granted) u w =
-    frame 3 unit 0x81 (flag granted ∷ []) (omega arith) u (omega arith) (one (flag granted) (flag_fits granted)) (omega arith)
+    frame 3 unit 0x81 (flag granted ∷ []) (omega arith) u (omega arith) (one (flag granted) (flag_fits granted))
+    (omega arith)
 reply_fits v unit (replies.State bitmap None) u w =
     frame 3 unit 0x85 (bitmap ∷ []) (omega arith) u (omega arith) (one bitmap w.0) (omega arith)
 reply_fits v unit (replies.State bitmap (Some state)) u w =
-    frame 3 unit 0x85 (bitmap ∷ state ∷ []) (omega arith) u (omega arith) (one_more bitmap (state ∷ []) w.0 (one state w.2)) (omega arith)
+    frame 3 unit 0x85 (bitmap ∷ state ∷ []) (omega arith) u (omega arith)
+    (one_more bitmap (state ∷ []) w.0 (one state w.2)) (omega arith)
 reply_fits v unit (replies.Active None) u w =
     frame 3 unit 0x87 (0 ∷ []) (omega arith) u (omega arith) (one 0 (omega arith)) (omega arith)
 reply_fits v unit (replies.Active (Some id)) u w =
-    frame 3 unit 0x87 (1 ∷ id_bytes id) (omega arith) u (omega arith) (one_more 1 (id_bytes id) (omega arith) (id_below v id))
+    frame 3 unit 0x87 (1 ∷ id_bytes id) (omega arith) u (omega arith)
+    (one_more 1 (id_bytes id) (omega arith) (id_below v id))
     (omega (arith, length_of_id v id))
 reply_fits v unit (replies.Size time) u w =
-    frame 3 unit 0x94 time (omega arith) u (omega arith) (bytes_below v 4 time w) (omega (arith, length_of_bytes v 4 time w))
+    frame 3 unit 0x94 time (omega arith) u (omega arith) (bytes_below v 4 time w)
+    (omega (arith, length_of_bytes v 4 time w))
 reply_fits v unit (replies.Present there) u w =
     frame 3 unit 0x96 (flag there ∷ []) (omega arith) u (omega arith) (one (flag there) (flag_fits there)) (omega arith)
+
+-- what has at most 16 bytes of data is spelt in at most 21
+pub short_spelling : (m : Content) → length (rest_of m) ≤ 16 → length (spelling m) ≤ 21
+short_spelling ack short = omega arith
+short_spelling (nak byte) short = omega arith
+short_spelling (framed kind unit code rest) short =
+    omega (arith, short, length-append rest (check_byte (16 * kind + unit + code + sum rest) ∷ []))
 
 -- ---- what was written is computed
 
@@ -121,7 +144,8 @@ rest_of-reply unit (replies.Present there) = refl
 pub reply_of-written : ValueLaws → (unit : ℕ) (reply : Reply) → IsWritableReply reply →
     reply_of (reply_message unit reply) ≡ Ok reply
 reply_of-written v unit reply writable =
-    let fits = subst (All (λ b. b < 256)) (rest_of-reply unit reply) (rest_fits (reply_message 0 reply) (reply_fits v 0 reply (omega arith) writable)) in
+    let fits = subst (All (λ b. b < 256)) (rest_of-reply unit reply)
+    (rest_fits (reply_message 0 reply) (reply_fits v 0 reply (omega arith) writable)) in
     one_reply_reading v (reply_message unit reply) (reply_of (reply_message unit reply)) (Ok reply)
     (reply_computed v (reply_message unit reply) fits) (reply_written v unit reply writable)
 
@@ -130,7 +154,8 @@ reply_of-written v unit reply writable =
 -- what the laws of vdcp_frame say of readings
 pub record FrameLaws : Type 0 where
   pub spelt : (m : Content) → Fits m → Spells m (spelling m)
-  pub only : (burst : List ℕ) (ms ns : List Content) (e f : End) → Reads burst ms e → Reads burst ns f → (ms ≡ ns) × (e ≡ f)
+  pub only : (burst : List ℕ) (ms ns : List Content) (e f : End) → Reads burst ms e → Reads burst ns f →
+      (ms ≡ ns) × (e ≡ f)
   pub first : (ms ns : List Content) (bytes more : List ℕ) (end : End) → SpellsAll ms bytes → length bytes ≤ 4096
       → Reads (bytes ++ more) ns end → (others : List Content) × (ns ≡ ms ++ others)
   pub alone : (ms : List Content) (bytes : List ℕ) → SpellsAll ms bytes → length bytes ≤ 4096 → Reads bytes ms clean
@@ -149,7 +174,8 @@ pub first_read : FrameLaws → (m : Content) (more : List ℕ) (ms : List Conten
     Reads (spelling m ++ more) ms end → (others : List Content) × (ms ≡ m ∷ others)
 first_read f m more ms end fits reads =
     let spelt = f.spelt m fits in
-    f.first (m ∷ []) ms (spelling m) more end (one_spelt m (spelling m) spelt) (omega (arith, spelling_size m (spelling m) spelt)) reads
+    f.first (m ∷ []) ms (spelling m) more end (one_spelt m (spelling m) spelt)
+    (omega (arith, spelling_size m (spelling m) spelt)) reads
 
 -- and alone, where nothing does
 read_only : FrameLaws → (m : Content) (ms : List Content) (end : End) → Fits m → Reads (spelling m) ms end →

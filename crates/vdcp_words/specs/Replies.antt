@@ -30,7 +30,7 @@ reply_message unit (Present there) = framed 3 unit 0x96 (flag there ∷ [])
 abbrev pub has_bit_0 : ℕ → Bool
 has_bit_0 byte = nat_eq (bit_and byte 1) 1
 
--- the data that each reply is read from; what stands behind the named bytes is ignored
+-- the data that each reply is read from; what follows the named bytes is ignored
 abbrev pub IsReadFrom : Reply → List ℕ → Type 0
 IsReadFrom (Opened granted) (first ∷ more) = granted ≡ not (nat_eq first 0x00)
 IsReadFrom (State bits None) (bitmap ∷ more) = (bits ≡ bitmap) × (has_bit_0 bitmap ≡ false)
@@ -61,7 +61,7 @@ IsWritableReply (Active playing) = Unit {0}
 IsWritableReply (Size time) = AreBytes 4 time
 IsWritableReply (Present there) = Unit {0}
 
--- a state byte stands exactly where bit 0 of the bitmap is set
+-- a state has a state byte if bit 0 of its bitmap asks for one, and none if not
 abbrev pub MatchesBitmap : Reply → Type 0
 MatchesBitmap (State bitmap state) = is_some state ≡ has_bit_0 bitmap
 MatchesBitmap _ = Unit {0}

@@ -1,14 +1,16 @@
-ghost use Rattle.std.specs.Prelude.{◌≡◌, ◌<◌, ◌≤◌, ℕ, All};
-ghost use Rattle.vdcp_frame.specs.Message.{content_of, framed, IsWritable};
+ghost use Rattle.std.specs.Prelude.{◌≡◌, ◌<◌, ◌≤◌, ℕ, All, length};
+ghost use Rattle.vdcp_frame.specs.Message.{content_of, framed, spelling, IsWritable};
 ghost use Rattle.vdcp_words.specs.Commands.{command_message, IsWritableCommand, ReadsCommand};
 ghost use Rattle.vdcp_words.specs.Computed.{command_of};
+ghost use Rattle.vdcp_words.specs.Messages.{rest_of};
 ghost use Rattle.vdcp_words.specs.Texts.{command_text};
 
+use crate::encoding::{LONGEST, encoded};
 use crate::fault::WordFault;
 use crate::room::{joined, message, put};
 use crate::text::{push_byte, push_id, push_time};
 use crate::{data, laws};
-use arrayvec::ArrayString;
+use arrayvec::{ArrayString, ArrayVec};
 use vdcp_frame::Message;
 use vdcp_value::ClipId;
 
@@ -75,6 +77,7 @@ impl Command {
         requires { unit ≤ 15 }
         ensures message { content_of result ≡ command_message unit self.now }
         ensures writable { IsWritable (content_of result) }
+        ensures short { length (rest_of (content_of result)) ≤ 16 }
         ensures of_bytes { IsWritableCommand self.now }
     {
         // Read once, so that the prover knows each of its numbers to be a byte.
@@ -94,6 +97,16 @@ impl Command {
             Command::IdSize(id) => message(3, unit, 0x14, put(room, &id.bytes())),
             Command::IdRequest(id) => message(3, unit, 0x16, put(room, &id.bytes())),
         }
+    }
+
+    /// The bytes that carry the command to the unit, which is at most 15.
+    pub fn encode(&self, unit: u8) -> ArrayVec<u8, LONGEST>
+        requires { unit ≤ 15 }
+        ensures bytes { result.items ≡ spelling (command_message unit self.now) }
+        ensures of_bytes { IsWritableCommand self.now }
+    {
+        let mut room = [0; 16];
+        encoded(&self.to_message(unit, &mut room))
     }
 
     /// Replaces the buffer's text by the command's (this profile), as `open 01 01`, `cue CLIP0001`

@@ -69,7 +69,7 @@ pub fn written_reply_is_read()
     one_reply();
 }
 
-/// The message of a command fits, and its bytes with anything behind them read first as it.
+/// The message of a command fits. Its bytes are read first, as that message, whatever follows them.
 pub fn command_is_read_first()
     ensures fits { (unit : ℕ) (command : Command) → unit ≤ 15 → IsWritableCommand command →
         Fits (command_message unit command) }
@@ -84,7 +84,7 @@ pub fn command_is_read_first()
     written_is_read();
 }
 
-/// The message of a reply fits, and its bytes with anything behind them read first as it.
+/// The message of a reply fits. Its bytes are read first, as that message, whatever follows them.
 pub fn reply_is_read_first()
     ensures fits { (unit : ℕ) (reply : Reply) → unit ≤ 15 → IsWritableReply reply →
         Fits (reply_message unit reply) }

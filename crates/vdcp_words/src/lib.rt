@@ -1,11 +1,9 @@
 //! Commands and replies of the Video Disk Communications Protocol, as far as this profile has them.
 //!
-//! A word is read from a message of `vdcp_frame`, and written as one. To write it the caller lends
-//! 16 bytes of room, in which the message's data then lies:
+//! A word is read from a message of `vdcp_frame`, and written as the bytes that go to the wire:
 //!
 //! ```text
-//! let mut room = [0; 16];
-//! write(&command.to_message(unit, &mut room), &mut out)?;
+//! send(command.encode(unit).as_slice());
 //! ..
 //! match Reply::read(&message) {
 //!     Ok(reply) => use the reply,
@@ -13,12 +11,19 @@
 //! }
 //! ```
 //!
+//! Where its message is wanted in place of its bytes, `to_message` makes one, whose data lies in 16
+//! bytes of room that the caller lends.
+//!
 //! Reading doesn't look at the unit that a message names: who reads it compares it. Nothing here
 //! allocates.
+//!
+//! Files: `command` and `reply` (read, written, shown), `data` and `room` (a message's data, read and written),
+//! `encoding` (a word's bytes), `text`, `fault`, `laws`.
 #![tactic(auto)]
 
 mod command;
 mod data;
+mod encoding;
 mod fault;
 pub mod laws;
 mod reply;
@@ -26,6 +31,7 @@ mod room;
 mod text;
 
 pub use command::Command;
+pub use encoding::LONGEST;
 pub use fault::WordFault;
 pub use reply::Reply;
 

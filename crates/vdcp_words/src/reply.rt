@@ -1,14 +1,16 @@
-ghost use Rattle.std.specs.Prelude.{◌≡◌, ◌<◌, ◌≤◌, ℕ, All};
-ghost use Rattle.vdcp_frame.specs.Message.{content_of, framed, IsWritable};
+ghost use Rattle.std.specs.Prelude.{◌≡◌, ◌<◌, ◌≤◌, ℕ, All, length};
+ghost use Rattle.vdcp_frame.specs.Message.{content_of, framed, spelling, IsWritable};
 ghost use Rattle.vdcp_words.specs.Computed.{reply_of};
+ghost use Rattle.vdcp_words.specs.Messages.{rest_of};
 ghost use Rattle.vdcp_words.specs.Texts.{reply_text};
 ghost use Rattle.vdcp_words.specs.Replies.{reply_message, IsWritableReply, MatchesBitmap, ReadsReply};
 
+use crate::encoding::{LONGEST, encoded};
 use crate::fault::WordFault;
 use crate::room::{four, marked, message, put};
 use crate::text::{push_byte, push_id, push_time};
 use crate::{data, laws};
-use arrayvec::ArrayString;
+use arrayvec::{ArrayString, ArrayVec};
 use vdcp_frame::Message;
 use vdcp_value::ClipId;
 
@@ -34,8 +36,8 @@ pub enum Reply {
 
 impl Reply {
     /// The reply that the message carries, from whatever unit (VDCP, and this profile for what each
-    /// byte means). Data behind the bytes that a reply names is ignored. A state is read with a
-    /// state byte exactly where bit 0 of its bitmap is set.
+    /// byte means). Data after the bytes that a reply names is ignored. Bit 0 of a state's bitmap says
+    /// whether a state byte follows.
     ///
     /// `Unknown` where no reply has the message's type and code; `Length` where one has, but the
     /// data ends too early. `NotCommand` never comes.
@@ -66,6 +68,7 @@ impl Reply {
         requires { unit ≤ 15 }
         ensures message { content_of result ≡ reply_message unit self.now }
         ensures writable { IsWritable (content_of result) }
+        ensures short { length (rest_of (content_of result)) ≤ 16 }
         ensures of_bytes { MatchesBitmap self.now → IsWritableReply self.now }
     {
         // Read once, so that the prover knows each of its numbers to be a byte.
@@ -83,6 +86,16 @@ impl Reply {
             Reply::Size(time) => message(3, unit, 0x94, put(room, &four(time))),
             Reply::Present(there) => message(3, unit, 0x96, put(room, &[u8::from(*there)])),
         }
+    }
+
+    /// The bytes that carry the reply from the unit, which is at most 15.
+    pub fn encode(&self, unit: u8) -> ArrayVec<u8, LONGEST>
+        requires { unit ≤ 15 }
+        ensures bytes { result.items ≡ spelling (reply_message unit self.now) }
+        ensures of_bytes { MatchesBitmap self.now → IsWritableReply self.now }
+    {
+        let mut room = [0; 16];
+        encoded(&self.to_message(unit, &mut room))
     }
 
     /// Replaces the buffer's text by that of the reply as it is heard (this profile), as `granted`,

@@ -40,7 +40,7 @@ pub(crate) fn four(time: &[u8; 4]) -> [u8; 4]
     [a, b, c, d]
 }
 
-/// An ID and two time codes, one behind another.
+/// An ID and two time codes, one after another.
 pub(crate) fn joined(id: &ClipId, start: &[u8; 4], duration: &[u8; 4]) -> [u8; 16]
     ensures bytes { result ≡ id_bytes id.now ++ start.now ++ duration.now }
     ensures start { AreBytes 4 start.now }
@@ -54,7 +54,7 @@ pub(crate) fn joined(id: &ClipId, start: &[u8; 4], duration: &[u8; 4]) -> [u8; 1
     [a, b, c, d, e, f, g, h, i, j, k, l, m, n, o, p]
 }
 
-/// An ID behind 01h.
+/// 01h, and then an ID.
 pub(crate) fn marked(id: &ClipId) -> [u8; 9]
     ensures { result ≡ 1 ∷ id_bytes id.now }
 {

@@ -2,10 +2,10 @@ ghost use Rattle.std.specs.Prelude.{◌≡◌, ◌≤◌, Ok};
 ghost use Rattle.vdcp_words.specs.Replies.{MatchesBitmap};
 
 use crate::{Command, Reply, WordFault, laws};
-use arrayvec::{ArrayString, ArrayVec};
+use arrayvec::ArrayString;
 use std::process::Abort;
 use std::test::Fail;
-use vdcp_frame::{Message, Step, read_at, write};
+use vdcp_frame::{Message, Step, read_at};
 use vdcp_value::ClipId;
 
 fn clip(bytes: &[u8; 8]) -> ClipId {
@@ -78,10 +78,7 @@ fn example_commands_are_written_read_and_shown(rt: HostRuntime) {
         ),
     ];
     for (command, bytes, text) in rows {
-        let mut room = [0; 16];
-        let mut out = ArrayVec::new();
-        assert_eq!(rt; write(&command.to_message(0, &mut room), &mut out), Ok(()));
-        assert_eq!(rt; out.as_slice(), bytes);
+        assert_eq!(rt; command.encode(0).as_slice(), bytes);
         assert_eq!(rt; Command::read(&message_of(&rt, bytes)), Ok(command));
         assert_eq!(rt; command_read_back(command, 15), Ok(command));
         let mut shown = ArrayString::new();
@@ -167,10 +164,7 @@ fn example_replies_are_written_read_and_shown(rt: HostRuntime) {
         ),
     ];
     for (reply, bytes, text) in rows {
-        let mut room = [0; 16];
-        let mut out = ArrayVec::new();
-        assert_eq!(rt; write(&reply.to_message(0, &mut room), &mut out), Ok(()));
-        assert_eq!(rt; out.as_slice(), bytes);
+        assert_eq!(rt; reply.encode(0).as_slice(), bytes);
         assert_eq!(rt; Reply::read(&message_of(&rt, bytes)), Ok(reply));
         let mut shown = ArrayString::new();
         reply.show(&mut shown);

@@ -20,7 +20,7 @@ use Rattle.vdcp_auto.specs.Plan.{Plan}
 use Rattle.vdcp_auto.specs.Turn.{awaited, given, came_to}
 use Rattle.vdcp_auto.specs.declared.exchange.Heard.{Heard}
 use Rattle.vdcp_auto.specs.declared.phase.Mode.TheVariants.{Confirming}
-use Rattle.vdcp_auto.specs.declared.phase.State.{State}
+use Rattle.vdcp_auto.specs.State.{State}
 
 pub record Below : Type 0 where
   -- what is spelt reads as its message, alone and with bytes behind it

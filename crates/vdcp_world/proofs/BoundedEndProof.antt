@@ -19,7 +19,7 @@ use Rattle.vdcp_auto.specs.Log.{answer_in, is_counted}
 use Rattle.vdcp_auto.specs.Plan.{Plan}
 use Rattle.vdcp_auto.specs.Replies.{is_receipt}
 use Rattle.vdcp_auto.specs.Table.{command_in, is_halting, on_no_answer}
-use Rattle.vdcp_auto.specs.Turn.{start, stage_after, settled_after, is_ready, outcome_of, awaited_in, ticked, tick_in, sent, take_after_sending, is_end, turn_of, turned, unanswered_after}
+use Rattle.vdcp_auto.specs.Turn.{start, stage_after, settled_after, is_ready, outcome_of, awaited_in, ticked, tick_in, sent, take_after_sending, is_end, transition_of, state_after, unanswered_after}
 use Rattle.vdcp_auto.specs.declared.exchange.Exchange.{Exchange}
 use Rattle.vdcp_auto.specs.declared.exchange.Heard.TheVariants as heard
 use Rattle.vdcp_auto.specs.declared.outcome.Outcome.{Outcome}
@@ -28,11 +28,11 @@ use Rattle.vdcp_auto.specs.declared.phase.Mode.{Mode}
 use Rattle.vdcp_auto.specs.declared.phase.Mode.TheVariants.{Plain, Confirming}
 use Rattle.vdcp_auto.specs.declared.phase.Phase.{Phase}
 use Rattle.vdcp_auto.specs.declared.phase.Phase.TheVariants as phase
-use Rattle.vdcp_auto.specs.declared.phase.Stage.{Stage}
-use Rattle.vdcp_auto.specs.declared.phase.Stage.TheVariants.{Ready, Awaiting, Ended}
-use Rattle.vdcp_auto.specs.declared.phase.State.{State}
-use Rattle.vdcp_auto.specs.declared.phase.Turn.{Turn}
-use Rattle.vdcp_auto.specs.declared.phase.Turn.TheVariants as turn
+use Rattle.vdcp_auto.specs.State.{Stage}
+use Rattle.vdcp_auto.specs.State.{Ready, Awaiting, Ended}
+use Rattle.vdcp_auto.specs.State.{State}
+use Rattle.vdcp_auto.specs.declared.phase.Transition.{Transition}
+use Rattle.vdcp_auto.specs.declared.phase.Transition.TheVariants as transition
 use Rattle.vdcp_world.specs.BoundedEnd.{IsDone, IsAllPlayable, CanGoOn, CanBegin, rounds_to_go_on, rounds_from_new, BoundedEnd}
 use Rattle.vdcp_world.specs.Channel.{Channel, Make, IsReached, after_events, state_hearing, state_waiting}
 use Rattle.vdcp_world.specs.Rounds.{round, good_round, times}
@@ -128,14 +128,14 @@ plain_round below c q k plain all idle ready e none on = by (command_in c.plan.l
         over : is_end c.plan.mode d (Some (heard.Reply x.answer)) ≡ true
         over = ap (λ (mode : Mode). is_end mode d (Some (heard.Reply x.answer))) plain
 
-        turn : Turn
-        turn = turn_of c.plan (sent q c.state) q (exchange d x.answer)
+        transition : Transition
+        transition = transition_of c.plan (sent q c.state) q (exchange d x.answer)
 
-        leads : (after_events c round).state ≡ turned turn (unanswered_after c.plan.mode (exchange d x.answer) c.state.unanswered) (sent q c.state)
+        leads : (after_events c round).state ≡ state_after transition (unanswered_after c.plan.mode (exchange d x.answer) c.state.unanswered) (sent q c.state)
         leads = x.state ∙ turns_on c.plan c.state q d x.answer e none is over
 
         same : turn_by Plain c.plan.list c.plan.limit (take_after_sending q c.state.take) c.state.tries c.state.unanswered
-            (is_counted c.plan.mode (exchange d x.answer)) q (answer_at (command_in c.plan.list c.plan.port q) x.answer) ≡ turn
+            (is_counted c.plan.mode (exchange d x.answer)) q (answer_at (command_in c.plan.list c.plan.port q) x.answer) ≡ transition
         same =
             ap (λ (o : Option Command). turn_by Plain c.plan.list c.plan.limit (take_after_sending q c.state.take) c.state.tries c.state.unanswered
             (is_counted c.plan.mode (exchange d x.answer)) q (answer_at o x.answer)) is
@@ -144,7 +144,7 @@ plain_round below c q k plain all idle ready e none on = by (command_in c.plan.l
             ∙ turn_same c.plan (take_after_sending q c.state.take) c.state.tries c.state.unanswered (is_counted c.plan.mode (exchange d x.answer)) q
             (answer_in (exchange d x.answer))
 
-        nears : Nears (length c.plan.list) c.state.settled (left (length c.plan.list - c.state.settled) q) turn
+        nears : Nears (length c.plan.list) c.state.settled (left (length c.plan.list - c.state.settled) q) transition
         nears = subst (Nears (length c.plan.list) c.state.settled (left (length c.plan.list - c.state.settled) q)) same
             (plain_nears c.plan.list c.port.clips c.port.state c.aired c.state.settled c.plan.port c.plan.limit c.state.tries c.state.unanswered
             (take_after_sending q c.state.take) (is_counted c.plan.mode (exchange d x.answer)) q x.answer k.stands.numbered idle ready all place firm on
@@ -275,8 +275,8 @@ confirmed_round below c q k confirms all idle ready e none before = by (command_
                   (sym leads) steps.2;
             }
           where
-            turn : Turn
-            turn = turn_of c.plan (sent q c.state) q e_is
+            transition : Transition
+            transition = transition_of c.plan (sent q c.state) q e_is
 
             steps_by : Steps (length c.plan.list) c.state.settled (left_before (length c.plan.list - c.state.settled) q)
                 (port_after c.port.clips c.port.state (command_in c.plan.list c.plan.port q)) x.answer
@@ -286,13 +286,13 @@ confirmed_round below c q k confirms all idle ready e none before = by (command_
                 (take_after_sending q c.state.take) (is_counted c.plan.mode e_is) q x.answer k.stands.numbered idle ready all place before s asked
 
             same : turn_by Confirming c.plan.list c.plan.limit (take_after_sending q c.state.take) c.state.tries c.state.unanswered
-                (is_counted c.plan.mode e_is) q (answer_in e_is) ≡ turn
+                (is_counted c.plan.mode e_is) q (answer_in e_is) ≡ transition
             same =
                 ap (λ (mode : Mode). turn_by mode c.plan.list c.plan.limit (take_after_sending q c.state.take) c.state.tries c.state.unanswered
                 (is_counted c.plan.mode e_is) q (answer_in e_is)) (sym confirms)
                 ∙ turn_same c.plan (take_after_sending q c.state.take) c.state.tries c.state.unanswered (is_counted c.plan.mode e_is) q (answer_in e_is)
 
-            steps : Steps (length c.plan.list) c.state.settled (left_before (length c.plan.list - c.state.settled) q) left x.answer turn
+            steps : Steps (length c.plan.list) c.state.settled (left_before (length c.plan.list - c.state.settled) q) left x.answer transition
             steps = subst (Steps (length c.plan.list) c.state.settled (left_before (length c.plan.list - c.state.settled) q) left x.answer) same
                 (subst (λ (o : Option Command). Steps (length c.plan.list) c.state.settled (left_before (length c.plan.list - c.state.settled) q)
                 (port_after c.port.clips c.port.state o) x.answer
@@ -305,7 +305,7 @@ confirmed_round below c q k confirms all idle ready e none before = by (command_
                 ∙ ap (λ (b : Bool). b && not (is_receipt x.answer)) (sense_of c.plan.list c.plan.port q d is ∙ s)
                 ∙ ap not steps.0
 
-            leads : (after_events c round).state ≡ turned turn (unanswered_after c.plan.mode e_is c.state.unanswered) (sent q c.state)
+            leads : (after_events c round).state ≡ state_after transition (unanswered_after c.plan.mode e_is c.state.unanswered) (sent q c.state)
             leads = x.state ∙ turns_on c.plan c.state q d x.answer e none is over
         which false s =
             record {
@@ -350,14 +350,14 @@ confirmed_behind below c q s k confirms all is e none same before =
 times_out : (c : Channel) (down up : List ℕ) (q : Phase) (d : Command) → down ≡ [] → up ≡ [] → c.plan.mode ≡ Confirming → c.state.stage ≡ Awaiting q
     → command_in c.plan.list c.plan.port q ≡ Some d → is_sense d ≡ false
     → state_waiting c.plan down up c.state
-    ≡ turned (on_no_answer Confirming q) (unanswered_after c.plan.mode (record { command = d; heard = None }) c.state.unanswered) c.state
+    ≡ state_after (on_no_answer Confirming q) (unanswered_after c.plan.mode (record { command = d; heard = None }) c.state.unanswered) c.state
 times_out c [] [] q d x y confirms e is no_sense = waits_over c.plan c.state q d confirms e is no_sense
 times_out c [] (b ∷ up) q d x y confirms e is no_sense = cc
 times_out c (b ∷ down) up q d x y confirms e is no_sense = cc
 
 -- a receipt has answered the phase's command: it times out, and the next phase asks what came of it
 confirmed_lapse : Below → (c : Channel) (q next : Phase) → IsKept c → c.plan.mode ≡ Confirming → IsAllPlayable c → c.state.stop ≡ false
-    → c.down ≡ [] → c.up ≡ [] → c.state.stage ≡ Awaiting q → senses q ≡ false → on_no_answer Confirming q ≡ turn.Goes next → Before c.port.state next
+    → c.down ≡ [] → c.up ≡ [] → c.state.stage ≡ Awaiting q → senses q ≡ false → on_no_answer Confirming q ≡ transition.Goes next → Before c.port.state next
     → Ahead (left_before (length c.plan.list - c.state.settled) next) (after_events c good_round)
 confirmed_lapse below c q next k confirms all none down up e no_sense leads before = by (command_in c.plan.list c.plan.port q) refl
   where
@@ -369,7 +369,7 @@ confirmed_lapse below c q next k confirms all none down up e no_sense leads befo
     by (Some d) is =
         confirmed_behind below c next _ k confirms all
         (times_out c c.down c.up q d down up confirms e is (sense_of c.plan.list c.plan.port q d is ∙ no_sense))
-        (ap stage_after leads) none (ap (λ (turn : Turn). settled_after turn c.state.settled) leads) before
+        (ap stage_after leads) none (ap (λ (transition : Transition). settled_after transition c.state.settled) leads) before
 
 -- the port has closed, and says so by a receipt: the controller is done
 confirmed_close : (c : Channel) → c.plan.mode ≡ Confirming → c.state.stop ≡ false → c.down ≡ [] → c.up ≡ [] → c.state.stage ≡ Awaiting phase.Close
@@ -384,7 +384,7 @@ confirmed_close c confirms none down up e = record {
 }
   where
     over : state_waiting c.plan c.down c.up c.state
-        ≡ turned (on_no_answer Confirming phase.Close)
+        ≡ state_after (on_no_answer Confirming phase.Close)
         (unanswered_after c.plan.mode (record { command = command.Close c.plan.port; heard = None }) c.state.unanswered) c.state
     over = times_out c c.down c.up phase.Close (command.Close c.plan.port) down up confirms e refl refl
 

@@ -20,9 +20,9 @@ use Rattle.vdcp_auto.specs.declared.outcome.Outcome.TheVariants as outcome
 use Rattle.vdcp_auto.specs.declared.phase.Mode.TheVariants.{Confirming}
 use Rattle.vdcp_auto.specs.declared.phase.Phase.{Phase}
 use Rattle.vdcp_auto.specs.declared.phase.Phase.TheVariants as phase
-use Rattle.vdcp_auto.specs.declared.phase.Stage.{Stage}
-use Rattle.vdcp_auto.specs.declared.phase.Stage.TheVariants.{Ready, Awaiting, Ended}
-use Rattle.vdcp_auto.specs.declared.phase.Turn.{Turn}
+use Rattle.vdcp_auto.specs.State.{Stage}
+use Rattle.vdcp_auto.specs.State.{Ready, Awaiting, Ended}
+use Rattle.vdcp_auto.specs.declared.phase.Transition.{Transition}
 use Rattle.vdcp_world.proofs.Exchanges.{turn_by}
 use Rattle.vdcp_world.proofs.PhaseTable.{PlaceReady, answer_after, port_after}
 use Rattle.vdcp_world.proofs.RoundsLeft.{answer_at, plays, known_of}
@@ -150,9 +150,9 @@ before_stays p q h = grind (arith, slot_stays p.cued)
 
 -- ---- a command that asks for a reply
 
--- no receipt answers it; a turn by which it goes on, with fewer rounds left
-abbrev pub Steps : ℕ → ℕ → ℕ → PortState → Reply → Turn → Type 0
-Steps n s old p r turn = (is_receipt r ≡ false) × Comes p (stage_after turn) × (left_from (n - settled_after turn s) (stage_after turn) < old)
+-- no receipt answers it; a transition by which it goes on, with fewer rounds left
+abbrev pub Steps : ℕ → ℕ → ℕ → PortState → Reply → Transition → Type 0
+Steps n s old p r transition = (is_receipt r ≡ false) × Comes p (stage_after transition) × (left_from (n - settled_after transition s) (stage_after transition) < old)
 
 -- the next event, or the drain
 comes_next : (list : List Item) (p : PortState) (k old : ℕ) → is_selected p ≡ true → 6 * (length list - k) + 3 < old

@@ -17,9 +17,9 @@ use Rattle.vdcp_auto.specs.Table.{command_in, on_reply, on_refusal}
 use Rattle.vdcp_auto.specs.Turn.{is_end, on_answer, on_unanswered, stage_after, settled_after, phase_to_send}
 use Rattle.vdcp_auto.specs.declared.phase.Mode.{Mode}
 use Rattle.vdcp_auto.specs.declared.phase.Mode.TheVariants.{Plain, Confirming}
-use Rattle.vdcp_auto.specs.declared.phase.Stage.TheVariants.{Awaiting}
+use Rattle.vdcp_auto.specs.State.{Awaiting}
 use Rattle.vdcp_auto.specs.declared.phase.Phase.{Phase}
-use Rattle.vdcp_auto.specs.declared.phase.Turn.{Turn}
+use Rattle.vdcp_auto.specs.declared.phase.Transition.{Transition}
 use Rattle.vdcp_auto.specs.declared.exchange.Heard.{Heard}
 use Rattle.vdcp_auto.specs.declared.exchange.Heard.TheVariants as heard
 use Rattle.vdcp_auto.specs.declared.phase.Phase.TheVariants as phase
@@ -135,14 +135,14 @@ fits_asked list port phase.Halt c r e f = cc
 fits_asked list port phase.HaltClose c r e f = cc
 
 -- where a reply leads, or none
-abbrev pub turn_by : Mode → List Item → ℕ → Bool → ℕ → ℕ → Bool → Phase → Option Reply → Turn
+abbrev pub turn_by : Mode → List Item → ℕ → Bool → ℕ → ℕ → Bool → Phase → Option Reply → Transition
 turn_by mode list limit take tries unanswered counts q (Some r) = on_answer mode list limit take tries q r
 turn_by mode list limit take tries unanswered counts q None = on_unanswered mode limit unanswered counts q
 
 pub record Behind (mode : Mode) (list : List Item) (clips : List (ClipId × Timecode)) (p : PortState) (aired : List Item) (settled : ℕ)
-    (turn : Turn) : Type 0 where
-  pub place : PlaceAt list clips p.cued aired (settled_after turn settled) (stage_after turn)
-  pub firm : FirmIn mode list clips p (stage_after turn)
+    (transition : Transition) : Type 0 where
+  pub place : PlaceAt list clips p.cued aired (settled_after transition settled) (stage_after transition)
+  pub firm : FirmIn mode list clips p (stage_after transition)
 
 either : (a b : Bool) → (a || b) ≡ true → (a ≡ true) ⊎ ((a ≡ false) × (b ≡ true))
 either true b e = inl refl
@@ -165,12 +165,12 @@ answered_plain : (list : List Item) (clips : List (ClipId × Timecode)) (p : Por
     → (is_refusal r ≡ true) ⊎ ((is_refusal r ≡ false) × (is_asked q r ≡ true))
     → Behind Plain list clips p aired settled (on_answer Plain list limit take tries q r)
 answered_plain list clips p aired settled limit tries take q r h firm t u (inl e) =
-    subst (λ turn. Behind Plain list clips p aired settled turn) (sym (on_refused Plain list limit tries take q r e)) (record {
+    subst (λ transition. Behind Plain list clips p aired settled transition) (sym (on_refused Plain list limit tries take q r e)) (record {
       place = refused_place list clips p aired settled q r h firm u e;
       firm = refused_firm list clips p q r firm u e;
     })
 answered_plain list clips p aired settled limit tries take q r h firm t u (inr (e, asked)) =
-    subst (λ turn. Behind Plain list clips p aired settled turn) (sym (on_replied Plain list limit tries take q r e)) (record {
+    subst (λ transition. Behind Plain list clips p aired settled transition) (sym (on_replied Plain list limit tries take q r e)) (record {
       place = replied_place list clips p.cued aired Plain settled limit tries take q r h t (hears_cue list clips p q r u) asked;
       firm = replied_firm list clips p aired limit tries take q r firm t u asked;
     })
@@ -180,7 +180,7 @@ answered_confirming : (list : List Item) (clips : List (ClipId × Timecode)) (p 
     → Place list p.cued aired settled q → Tells list clips p.cued aired q r → is_refusal r ≡ false → is_asked q r ≡ true
     → Behind Confirming list clips p aired settled (on_answer Confirming list limit take tries q r)
 answered_confirming list clips p aired settled limit tries take q r h t e asked =
-    subst (λ turn. Behind Confirming list clips p aired settled turn) (sym (on_replied Confirming list limit tries take q r e)) (record {
+    subst (λ transition. Behind Confirming list clips p aired settled transition) (sym (on_replied Confirming list limit tries take q r e)) (record {
       place = replied_place list clips p.cued aired Confirming settled limit tries take q r h t tt asked;
       firm = tt;
     })

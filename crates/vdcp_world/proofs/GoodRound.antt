@@ -15,17 +15,17 @@ use Rattle.vdcp_auto.specs.Heard.{heard_in}
 use Rattle.vdcp_auto.specs.Log.{is_counted}
 use Rattle.vdcp_auto.specs.Plan.{Plan}
 use Rattle.vdcp_auto.specs.Table.{command_in, on_no_answer}
-use Rattle.vdcp_auto.specs.Turn.{awaited, awaited_in, given, given_in, ticked, tick_in, sent, phase_to_send, came_to, exchange_of, ended_in, is_end, on_unanswered, turn_of, turned, unanswered_after}
+use Rattle.vdcp_auto.specs.Turn.{awaited, awaited_in, given, given_in, ticked, tick_in, sent, phase_to_send, came_to, exchange_of, ended_in, is_end, on_unanswered, transition_of, state_after, unanswered_after}
 use Rattle.vdcp_auto.specs.declared.exchange.Exchange.{Exchange}
 use Rattle.vdcp_auto.specs.declared.exchange.Heard.{Heard}
 use Rattle.vdcp_auto.specs.declared.exchange.Heard.TheVariants as heard
 use Rattle.vdcp_auto.specs.declared.phase.Mode.{Mode}
 use Rattle.vdcp_auto.specs.declared.phase.Mode.TheVariants.{Confirming}
 use Rattle.vdcp_auto.specs.declared.phase.Phase.{Phase}
-use Rattle.vdcp_auto.specs.declared.phase.Stage.{Stage}
-use Rattle.vdcp_auto.specs.declared.phase.Stage.TheVariants.{Ready, Awaiting}
-use Rattle.vdcp_auto.specs.declared.phase.State.{State}
-use Rattle.vdcp_auto.specs.declared.phase.Turn.{Turn}
+use Rattle.vdcp_auto.specs.State.{Stage}
+use Rattle.vdcp_auto.specs.State.{Ready, Awaiting}
+use Rattle.vdcp_auto.specs.State.{State}
+use Rattle.vdcp_auto.specs.declared.phase.Transition.{Transition}
 use Rattle.vdcp_world.specs.Channel.{Channel, after_events, down_behind, up_behind, answered, state_hearing, state_waiting}
 use Rattle.vdcp_world.specs.Rounds.{round}
 use Rattle.vdcp_world.specs.declared.event.Event.TheVariants as event
@@ -114,7 +114,7 @@ gives_own plan state q e none =
 pub turns_on : (plan : Plan) (state : State) (q : Phase) (d : Command) (r : Reply) → state.stage ≡ Ready q → state.stop ≡ false
     → command_in plan.list plan.port q ≡ Some d → is_end plan.mode d (Some (heard.Reply r)) ≡ true
     → came_to plan (Some (heard.Reply r)) (ticked state)
-    ≡ turned (turn_of plan (sent q state) q (exchange d r)) (unanswered_after plan.mode (exchange d r) state.unanswered) (sent q state)
+    ≡ state_after (transition_of plan (sent q state) q (exchange d r)) (unanswered_after plan.mode (exchange d r) state.unanswered) (sent q state)
 turns_on plan state q d r e none is over =
     ap (came_to plan (Some (heard.Reply r))) (ticks_on state q e none)
     ∙ ap (λ (o : Option Command). of (exchange_of plan.mode (Some (heard.Reply r)) o)) is
@@ -132,7 +132,7 @@ hears_still plan (Some h) state e =
 pub waits_over : (plan : Plan) (state : State) (q : Phase) (d : Command) → plan.mode ≡ Confirming → state.stage ≡ Awaiting q
     → command_in plan.list plan.port q ≡ Some d → is_sense d ≡ false
     → came_to plan None state
-    ≡ turned (on_no_answer Confirming q) (unanswered_after plan.mode (record { command = d; heard = None }) state.unanswered) state
+    ≡ state_after (on_no_answer Confirming q) (unanswered_after plan.mode (record { command = d; heard = None }) state.unanswered) state
 waits_over plan state q d confirms e is no_sense =
     ap (λ (stage : Stage). option_map_or (λ x. ended_in plan stage x state) (exchange_of plan.mode None (awaited_in plan stage)) state) e
     ∙ ap (λ (o : Option Command). of (exchange_of plan.mode None o)) is
@@ -146,5 +146,5 @@ waits_over plan state q d confirms e is no_sense =
     of : Option Exchange → State
     of o = option_map_or (λ x. ended_in plan (Awaiting q) x state) o state
 
-    to : Turn → State
-    to turn = turned turn (unanswered_after plan.mode silent state.unanswered) state
+    to : Transition → State
+    to transition = state_after transition (unanswered_after plan.mode silent state.unanswered) state

@@ -24,9 +24,9 @@ use Rattle.vdcp_auto.specs.declared.outcome.Outcome.TheVariants as outcome
 use Rattle.vdcp_auto.specs.declared.phase.Mode.{Mode}
 use Rattle.vdcp_auto.specs.declared.phase.Mode.TheVariants.{Plain, Confirming}
 use Rattle.vdcp_auto.specs.declared.phase.Phase.TheVariants.{Open}
-use Rattle.vdcp_auto.specs.declared.phase.Stage.{Stage}
-use Rattle.vdcp_auto.specs.declared.phase.Stage.TheVariants.{Ready, Awaiting, Ended}
-use Rattle.vdcp_auto.specs.declared.phase.State.{State}
+use Rattle.vdcp_auto.specs.State.{Stage}
+use Rattle.vdcp_auto.specs.State.{Ready, Awaiting, Ended}
+use Rattle.vdcp_auto.specs.State.{State}
 use Rattle.vdcp_words.specs.declared.reply.Reply.{Reply}
 use Rattle.vdcp_words.specs.declared.reply.Reply.TheVariants as reply
 use Rattle.vdcp_world.specs.Channel.{Channel, new_channel, after_event, after_events, IsReached, state_hearing, log_hearing, state_waiting, log_waiting, state_straying, log_straying}

@@ -22,7 +22,7 @@ use Rattle.vdcp_auto.specs.declared.exchange.Heard.{Heard}
 use Rattle.vdcp_auto.specs.declared.exchange.Heard.TheVariants as heard
 use Rattle.vdcp_auto.specs.declared.phase.Mode.{Mode}
 use Rattle.vdcp_auto.specs.declared.phase.Mode.TheVariants.{Plain, Confirming}
-use Rattle.vdcp_auto.specs.declared.phase.State.{State}
+use Rattle.vdcp_auto.specs.State.{State}
 use Rattle.vdcp_world.specs.Beginnings.{is_beginning}
 use Rattle.vdcp_world.specs.Channel.{Channel, after_event, up_behind, answered, state_hearing, state_waiting, is_short, can_become, can_become_up, altered}
 use Rattle.vdcp_auto.specs.Heard.{heard_in, heard_first, hears_receipt}

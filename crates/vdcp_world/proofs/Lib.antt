@@ -1,5 +1,4 @@
 mod Examples
-pub mod First
 pub mod Beginnings
 pub mod Reached
 pub mod Below

@@ -21,9 +21,9 @@ use Rattle.vdcp_auto.specs.declared.outcome.Outcome.TheVariants as outcome
 use Rattle.vdcp_auto.specs.declared.phase.Mode.TheVariants.{Plain}
 use Rattle.vdcp_auto.specs.declared.phase.Phase.{Phase}
 use Rattle.vdcp_auto.specs.declared.phase.Phase.TheVariants as phase
-use Rattle.vdcp_auto.specs.declared.phase.Stage.{Stage}
-use Rattle.vdcp_auto.specs.declared.phase.Stage.TheVariants.{Ready, Awaiting, Ended}
-use Rattle.vdcp_auto.specs.declared.phase.Turn.{Turn}
+use Rattle.vdcp_auto.specs.State.{Stage}
+use Rattle.vdcp_auto.specs.State.{Ready, Awaiting, Ended}
+use Rattle.vdcp_auto.specs.declared.phase.Transition.{Transition}
 use Rattle.vdcp_world.proofs.Exchanges.{turn_by}
 use Rattle.vdcp_world.proofs.PhaseTable.{PlaceReady, Firm, answer_after}
 
@@ -61,9 +61,9 @@ Goes (Ended (outcome.Refused k)) = ⊥
 Goes (Ended (outcome.Foreign k)) = ⊥
 Goes (Ended (outcome.Strange k)) = ⊥
 
--- a turn by which it does, with fewer rounds left
-abbrev pub Nears : ℕ → ℕ → ℕ → Turn → Type 0
-Nears n s old turn = Goes (stage_after turn) × (left_at (n - settled_after turn s) (stage_after turn) < old)
+-- a transition by which it does, with fewer rounds left
+abbrev pub Nears : ℕ → ℕ → ℕ → Transition → Type 0
+Nears n s old transition = Goes (stage_after transition) × (left_at (n - settled_after transition s) (stage_after transition) < old)
 
 -- the reply that answers a command, if there is one
 abbrev pub answer_at : Option Command → Reply → Option Reply

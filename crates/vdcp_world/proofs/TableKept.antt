@@ -18,7 +18,7 @@ use Rattle.vdcp_auto.specs.Log.{answer_to, is_counted}
 use Rattle.vdcp_auto.specs.Plan.{Plan}
 use Rattle.vdcp_auto.specs.Replies.{is_refusal}
 use Rattle.vdcp_auto.specs.Table.{command_in, names_other}
-use Rattle.vdcp_auto.specs.Turn.{awaited_in, given, given_in, ticked, tick_in, phase_to_send, came_to, exchange_of, ended_in, is_end, turn_on, turn_of, turned, unanswered_after}
+use Rattle.vdcp_auto.specs.Turn.{awaited_in, given, given_in, ticked, tick_in, phase_to_send, came_to, exchange_of, ended_in, is_end, transition_on, transition_of, state_after, unanswered_after}
 use Rattle.vdcp_auto.specs.declared.exchange.Exchange.{Exchange}
 use Rattle.vdcp_auto.specs.declared.exchange.Heard.{Heard}
 use Rattle.vdcp_auto.specs.declared.exchange.Heard.TheVariants as heard
@@ -26,11 +26,11 @@ use Rattle.vdcp_auto.specs.declared.phase.Mode.{Mode}
 use Rattle.vdcp_auto.specs.declared.phase.Mode.TheVariants.{Plain, Confirming}
 use Rattle.vdcp_auto.specs.declared.phase.Phase.{Phase}
 use Rattle.vdcp_auto.specs.declared.phase.Phase.TheVariants as phase
-use Rattle.vdcp_auto.specs.declared.phase.Stage.{Stage}
-use Rattle.vdcp_auto.specs.declared.phase.Stage.TheVariants.{Ready, Awaiting, Ended}
-use Rattle.vdcp_auto.specs.declared.phase.State.{State}
-use Rattle.vdcp_auto.specs.declared.phase.Turn.{Turn}
-use Rattle.vdcp_auto.specs.declared.phase.Turn.TheVariants.{Goes, Settles, Retries, Ends}
+use Rattle.vdcp_auto.specs.State.{Stage}
+use Rattle.vdcp_auto.specs.State.{Ready, Awaiting, Ended}
+use Rattle.vdcp_auto.specs.State.{State}
+use Rattle.vdcp_auto.specs.declared.phase.Transition.{Transition}
+use Rattle.vdcp_auto.specs.declared.phase.Transition.TheVariants.{Goes, Settles, Retries, Ends}
 use Rattle.vdcp_world.proofs.OnTheWay.{IsQuiet}
 use Rattle.vdcp_world.proofs.PhaseTable.{PlaysLast, Place, PlaceAt, Tells, FirmIn, FirmTells, TellsIn, Told, ToldAt, port_after, aired_after, answer_after}
 use Rattle.vdcp_world.proofs.Exchanges.{Behind, turn_by, turn_place, tick_place, tick_firm}
@@ -144,7 +144,7 @@ tick_told plan clips p aired state h s none told = by state.stage s none
 -- ---- something comes, or nothing in time
 
 pub turn_same : (plan : Plan) (take : Bool) (tries unanswered : ℕ) (counts : Bool) (q : Phase) (o : Option Reply)
-    → turn_by plan.mode plan.list plan.limit take tries unanswered counts q o ≡ turn_on plan take tries unanswered counts q o
+    → turn_by plan.mode plan.list plan.limit take tries unanswered counts q o ≡ transition_on plan take tries unanswered counts q o
 turn_same plan take tries unanswered counts q None = refl
 turn_same plan take tries unanswered counts q (Some r) = refl
 
@@ -169,7 +169,7 @@ came_stands plan clips p aired state came h told = by state.stage h told
         let counts = is_counted plan.mode e in
         let behind = turn_place plan.mode plan.list clips p aired state.settled plan.port plan.limit state.tries state.unanswered state.take counts q c came
         is over g.place g.firm t in
-        let after = subst (λ (turn : Turn). Behind plan.mode plan.list clips p aired state.settled turn)
+        let after = subst (λ (transition : Transition). Behind plan.mode plan.list clips p aired state.settled transition)
         (turn_same plan state.take state.tries state.unanswered counts q (answer_to c came)) behind in
         record { numbered = g.numbered; plays = g.plays; place = after.place; firm = after.firm }
 
@@ -192,7 +192,7 @@ came_told plan clips p aired state came h told = by state.stage
     After : State → Type 0
     After s = ToldAt plan.mode plan.list clips p aired s.stage h
 
-    turns : (turn : Turn) (n : ℕ) → After (turned turn n state)
+    turns : (transition : Transition) (n : ℕ) → After (state_after transition n state)
     turns (Goes q) n = tt
     turns (Settles k) n = tt
     turns (Retries k) n = tt
@@ -203,7 +203,7 @@ came_told plan clips p aired state came h told = by state.stage
     ends q c false = told
     ends q c true =
         let e : Exchange = record { command = c; heard = came } in
-        turns (turn_of plan state q e) (unanswered_after plan.mode e state.unanswered)
+        turns (transition_of plan state q e) (unanswered_after plan.mode e state.unanswered)
 
     awaits : (q : Phase) (o : Option Command) → After (option_map_or (λ e. ended_in plan (Awaiting q) e state) (exchange_of plan.mode came o) state)
     awaits q None = told

@@ -1,12 +1,11 @@
-ghost use Rattle.std.specs.Prelude.{◌≡◌, ◌≤◌, length, take};
+ghost use Rattle.std.specs.Prelude.{◌≡◌};
 ghost use Rattle.vdcp_frame.specs.Burst.{messages_of};
-ghost use Rattle.vdcp_frame.specs.Reading.{SpellsAll};
 ghost use Rattle.vdcp_world.specs.Beginnings.{is_beginning};
 ghost use Rattle.vdcp_world.specs.Channel as channel;
 
 use crate::heard;
 use vdcp_auto::{Controller, Source};
-use vdcp_frame::{Step, read_at};
+use vdcp_frame::whole_messages;
 
 /// How many bytes can be on the way in place of others.
 pub(crate) const MOST_BYTES: usize = 1024;
@@ -36,27 +35,11 @@ pub(crate) fn can_become_up<S: Source>(
 }
 
 /// Whether the messages of a burst are the first ones of another's.
-fn is_beginning(burst: &[u8], other: &[u8]) -> bool
+pub fn is_beginning(burst: &[u8], other: &[u8]) -> bool
     ensures { result ≡ is_beginning (messages_of burst.now) (messages_of other.now) }
 {
     vdcp_frame::laws::one_reading();
     vdcp_frame::laws::one_spelling();
     vdcp_frame::laws::written_is_read();
     other.starts_with(&burst[..whole_messages(burst)])
-}
-
-/// How many bytes of a burst are whole messages.
-fn whole_messages(burst: &[u8]) -> usize
-    ensures limit { result ≤ 4096 }
-    ensures within { result ≤ length burst.now }
-    ensures spelt { SpellsAll (messages_of burst.now) (take result burst.now) }
-{
-    vdcp_frame::laws::one_reading();
-    let mut from = 0;
-    loop {
-        match read_at(burst, from) {
-            Step::Message(_, next) => from = next,
-            Step::Clean | Step::Cut(_) | Step::Fault(_, _) => return from,
-        }
-    }
 }

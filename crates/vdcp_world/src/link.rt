@@ -180,12 +180,8 @@ fn put_command(command: &Command, unit: u8, down: &mut ArrayVec<u8, 1024>)
     requires { unit ≤ 15 }
     ensures { down.new.items ≡ spelling (command_message unit command.now) }
 {
-    let mut room = [0; 16];
-    let message = command.to_message(unit, &mut room);
-    let mut bytes = ArrayVec::<u8, 512>::new();
-    write(&message, &mut bytes).unwrap();
     down.clear();
-    down.try_extend_from_slice(bytes.as_slice()).unwrap();
+    down.try_extend_from_slice(command.encode(unit).as_slice()).unwrap();
 }
 
 /// The port reads what is on the way down, if anything is: it is gone then, and the answer is on the way

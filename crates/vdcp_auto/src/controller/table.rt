@@ -1,7 +1,8 @@
 //! The phase table: what each phase sends, and where the end of its exchange leads.
 ghost use Rattle.std.specs.Prelude.{◌≡◌, ◌<◌, Some, length};
-ghost use Rattle.vdcp_auto.specs.Bounds.{IsPhaseIn, IsTurnIn};
+ghost use Rattle.vdcp_auto.specs.Bounds.{IsPhaseIn, IsTransitionIn};
 ghost use Rattle.vdcp_auto.specs.Plan.{plan_of};
+ghost use Rattle.vdcp_auto.specs.State.{Awaiting};
 ghost use Rattle.vdcp_auto.specs.Table as table;
 ghost use Rattle.vdcp_auto.specs.Turn as turns;
 
@@ -9,7 +10,7 @@ use crate::controller::Controller;
 use crate::exchange::Exchange;
 use crate::meaning;
 use crate::outcome::Outcome;
-use crate::phase::{Mode, Phase, Turn};
+use crate::phase::{Mode, Phase, Position, Transition};
 use crate::source::Source;
 use vdcp_words::{Command, Reply};
 
@@ -41,82 +42,115 @@ impl<S: Source> Controller<S> {
         }
     }
 
-    /// Where an exchange leads. The limit of unanswered exchanges in a row goes before what the
-    /// phase does.
-    pub(super) fn turn_of(&self, phase: Phase, exchange: &Exchange) -> Turn
+    /// Ends the awaited exchange.
+    pub(super) fn end(&mut self, phase: Phase, exchange: &Exchange)
+        requires { self.old.state.stage ≡ Awaiting phase }
+        ensures { self.new ≡ record self.old {
+          state = turns.ended_in (plan_of S.items self.old) (Awaiting phase) exchange.now self.old.state;
+        } }
+    {
+        let answer = meaning::answer_in(exchange);
+        let counts = meaning::is_counted(self.mode, exchange);
+        let transition = self.transition_on(phase, counts, answer);
+        if counts {
+            self.unanswered = match answer {
+                Some(_) => 0,
+                None => self.unanswered + 1,
+            };
+        }
+        match transition {
+            Transition::Goes(next) => {
+                if let Phase::Exists(_) = next {
+                    self.tries = 0;
+                }
+                self.position = Position::Ready(next);
+            }
+            Transition::Settles(k) => {
+                self.settled = k + 1;
+                self.position = Position::Ready(Phase::Check(k));
+            }
+            Transition::Retries(k) => {
+                self.tries += 1;
+                self.position = Position::Ready(Phase::Cue(k));
+            }
+            Transition::Ends(outcome) => self.position = Position::Ended(outcome),
+        }
+    }
+
+    /// Where an exchange leads that this reply answers, if one does. The limit of unanswered exchanges
+    /// in a row goes before what the phase does.
+    fn transition_on(&self, phase: Phase, counts: bool, answer: Option<Reply>) -> Transition
         requires within { IsPhaseIn S.items self.now phase }
         requires few { self.now.state.unanswered < 1000 }
-        ensures turn { result
-            ≡ turns.turn_of (plan_of S.items self.now) self.now.state phase exchange.now }
-        ensures within { IsTurnIn S.items self.now result }
+        ensures transition { result ≡ turns.transition_on (plan_of S.items self.now) self.now.state.take
+            self.now.state.tries self.now.state.unanswered counts phase answer }
+        ensures within { IsTransitionIn S.items self.now result }
     {
-        match meaning::answer_in(exchange) {
+        match answer {
             Some(reply) if meaning::is_refusal(&reply) => self.on_refusal(phase),
             Some(reply) => self.on_reply(phase, &reply),
-            None
-                if meaning::is_counted(self.mode, exchange)
-                    && self.state.unanswered + 1 >= self.limit => { Turn::Ends(Outcome::Lost) }
+            None if counts && self.unanswered + 1 >= self.limit => Transition::Ends(Outcome::Lost),
             None => self.on_no_answer(phase),
         }
     }
 
     /// Where a reply leads that fits the phase's command.
-    fn on_reply(&self, phase: Phase, reply: &Reply) -> Turn
+    fn on_reply(&self, phase: Phase, reply: &Reply) -> Transition
         requires { IsPhaseIn S.items self.now phase }
-        ensures turn { result ≡ table.on_reply self.now.mode (S.items self.now.source)
+        ensures transition { result ≡ table.on_reply self.now.mode (S.items self.now.source)
             self.now.limit self.now.state.take self.now.state.tries phase reply.now }
-        ensures within { IsTurnIn S.items self.now result }
+        ensures within { IsTransitionIn S.items self.now result }
     {
         match phase {
-            Phase::Open if meaning::is_granted(reply) => Turn::Goes(Phase::Select),
-            Phase::Open => Turn::Ends(Outcome::Denied),
-            Phase::Select => Turn::Goes(self.next(0)),
-            Phase::Seen => Turn::Goes(self.next(0)),
-            Phase::Exists(k) if meaning::is_present(reply) => Turn::Goes(Phase::Cue(k)),
-            Phase::Exists(k) => Turn::Ends(Outcome::Missing(k)),
-            Phase::Cue(k) => Turn::Goes(Phase::Wait(k)),
+            Phase::Open if meaning::is_granted(reply) => Transition::Goes(Phase::Select),
+            Phase::Open => Transition::Ends(Outcome::Denied),
+            Phase::Select => Transition::Goes(self.next(0)),
+            Phase::Seen => Transition::Goes(self.next(0)),
+            Phase::Exists(k) if meaning::is_present(reply) => Transition::Goes(Phase::Cue(k)),
+            Phase::Exists(k) => Transition::Ends(Outcome::Missing(k)),
+            Phase::Cue(k) => Transition::Goes(Phase::Wait(k)),
             Phase::Wait(k) => self.on_state_in_wait(k, reply),
-            Phase::Play(k) => Turn::Settles(k),
-            Phase::Probe(k) if meaning::is_done(reply) => Turn::Goes(Phase::Play(k)),
-            Phase::Probe(k) if meaning::is_empty(reply) => Turn::Settles(k),
-            Phase::Probe(k) => Turn::Goes(Phase::Probe(k)),
+            Phase::Play(k) => Transition::Settles(k),
+            Phase::Probe(k) if meaning::is_done(reply) => Transition::Goes(Phase::Play(k)),
+            Phase::Probe(k) if meaning::is_empty(reply) => Transition::Settles(k),
+            Phase::Probe(k) => Transition::Goes(Phase::Probe(k)),
             Phase::Check(k) if meaning::names_other(&self.source.at(k), reply) => {
-                Turn::Ends(Outcome::Foreign(k))
+                Transition::Ends(Outcome::Foreign(k))
             }
-            Phase::Check(k) => Turn::Goes(self.next(k + 1)),
+            Phase::Check(k) => Transition::Goes(self.next(k + 1)),
             Phase::Drain => self.on_state_in_drain(reply),
-            Phase::Close => Turn::Ends(Outcome::Done),
-            Phase::Halt => Turn::Goes(Phase::HaltClose),
-            Phase::HaltClose => Turn::Ends(Outcome::Stopped),
+            Phase::Close => Transition::Ends(Outcome::Done),
+            Phase::Halt => Transition::Goes(Phase::HaltClose),
+            Phase::HaltClose => Transition::Ends(Outcome::Stopped),
         }
     }
 
     /// Where NAK 01 leads.
-    fn on_refusal(&self, phase: Phase) -> Turn
+    fn on_refusal(&self, phase: Phase) -> Transition
         requires { IsPhaseIn S.items self.now phase }
-        ensures turn { result ≡ table.on_refusal (length (S.items self.now.source)) phase }
-        ensures within { IsTurnIn S.items self.now result }
+        ensures transition { result ≡ table.on_refusal (length (S.items self.now.source)) phase }
+        ensures within { IsTransitionIn S.items self.now result }
     {
         match phase {
-            Phase::Open | Phase::Select | Phase::Seen => Turn::Ends(Outcome::Denied),
+            Phase::Open | Phase::Select | Phase::Seen => Transition::Ends(Outcome::Denied),
             Phase::Exists(k)
             | Phase::Cue(k)
             | Phase::Wait(k)
             | Phase::Play(k)
             | Phase::Probe(k)
-            | Phase::Check(k) => Turn::Ends(Outcome::Refused(k)),
-            Phase::Drain => Turn::Ends(Outcome::Refused(self.source.len())),
-            Phase::Close => Turn::Ends(Outcome::Done),
-            Phase::Halt => Turn::Goes(Phase::HaltClose),
-            Phase::HaltClose => Turn::Ends(Outcome::Stopped),
+            | Phase::Check(k) => Transition::Ends(Outcome::Refused(k)),
+            Phase::Drain => Transition::Ends(Outcome::Refused(self.source.len())),
+            Phase::Close => Transition::Ends(Outcome::Done),
+            Phase::Halt => Transition::Goes(Phase::HaltClose),
+            Phase::HaltClose => Transition::Ends(Outcome::Stopped),
         }
     }
 
     /// Where an unanswered exchange leads, short of the limit.
-    fn on_no_answer(&self, phase: Phase) -> Turn
+    fn on_no_answer(&self, phase: Phase) -> Transition
         requires { IsPhaseIn S.items self.now phase }
-        ensures turn { result ≡ table.on_no_answer self.now.mode phase }
-        ensures within { IsTurnIn S.items self.now result }
+        ensures transition { result ≡ table.on_no_answer self.now.mode phase }
+        ensures within { IsTransitionIn S.items self.now result }
     {
         match self.mode {
             Mode::Plain => on_no_answer_in_plain(phase),
@@ -125,47 +159,47 @@ impl<S: Source> Controller<S> {
     }
 
     /// Where a state leads in Wait(k).
-    fn on_state_in_wait(&self, k: usize, reply: &Reply) -> Turn
+    fn on_state_in_wait(&self, k: usize, reply: &Reply) -> Transition
         requires { k < length (S.items self.now.source) }
-        ensures turn { result ≡ table.on_reply self.now.mode (S.items self.now.source)
+        ensures transition { result ≡ table.on_reply self.now.mode (S.items self.now.source)
             self.now.limit self.now.state.take self.now.state.tries (Phase.Wait k) reply.now }
-        ensures within { IsTurnIn S.items self.now result }
+        ensures within { IsTransitionIn S.items self.now result }
     {
-        if meaning::is_done(reply) && (!meaning::is_playing(reply) || self.state.take) {
-            Turn::Goes(Phase::Play(k))
+        if meaning::is_done(reply) && (!meaning::is_playing(reply) || self.take) {
+            Transition::Goes(Phase::Play(k))
         } else if meaning::is_empty(reply) {
             self.on_lost_cue(k)
         } else {
-            Turn::Goes(Phase::Wait(k))
+            Transition::Goes(Phase::Wait(k))
         }
     }
 
     /// Where a state with nothing cued leads in Wait(k).
-    fn on_lost_cue(&self, k: usize) -> Turn
+    fn on_lost_cue(&self, k: usize) -> Transition
         requires { k < length (S.items self.now.source) }
-        ensures turn { result
+        ensures transition { result
             ≡ table.on_lost_cue self.now.mode self.now.limit self.now.state.tries k }
-        ensures within { IsTurnIn S.items self.now result }
+        ensures within { IsTransitionIn S.items self.now result }
     {
         match self.mode {
-            Mode::Plain => Turn::Ends(Outcome::Strange(k)),
-            Mode::Confirming if self.state.tries + 1 < self.limit => Turn::Retries(k),
-            Mode::Confirming => Turn::Ends(Outcome::Refused(k)),
+            Mode::Plain => Transition::Ends(Outcome::Strange(k)),
+            Mode::Confirming if self.tries + 1 < self.limit => Transition::Retries(k),
+            Mode::Confirming => Transition::Ends(Outcome::Refused(k)),
         }
     }
 
     /// Where a state leads in Drain.
-    fn on_state_in_drain(&self, reply: &Reply) -> Turn
-        ensures turn { result ≡ table.on_reply self.now.mode (S.items self.now.source)
+    fn on_state_in_drain(&self, reply: &Reply) -> Transition
+        ensures transition { result ≡ table.on_reply self.now.mode (S.items self.now.source)
             self.now.limit self.now.state.take self.now.state.tries Phase.Drain reply.now }
-        ensures within { IsTurnIn S.items self.now result }
+        ensures within { IsTransitionIn S.items self.now result }
     {
         if meaning::is_cueing(reply) || meaning::is_done(reply) {
-            Turn::Ends(Outcome::Strange(self.source.len()))
+            Transition::Ends(Outcome::Strange(self.source.len()))
         } else if meaning::is_playing(reply) {
-            Turn::Goes(Phase::Drain)
+            Transition::Goes(Phase::Drain)
         } else {
-            Turn::Goes(Phase::Close)
+            Transition::Goes(Phase::Close)
         }
     }
 
@@ -183,11 +217,11 @@ impl<S: Source> Controller<S> {
 }
 
 /// Where an unanswered exchange leads in plain mode, short of the limit.
-fn on_no_answer_in_plain(phase: Phase) -> Turn
+fn on_no_answer_in_plain(phase: Phase) -> Transition
     ensures { result ≡ table.on_no_answer Mode.Plain phase }
 {
     match phase {
-        Phase::Play(sent) => Turn::Goes(Phase::Probe(sent)),
+        Phase::Play(sent) => Transition::Goes(Phase::Probe(sent)),
         Phase::Open
         | Phase::Select
         | Phase::Seen
@@ -199,28 +233,28 @@ fn on_no_answer_in_plain(phase: Phase) -> Turn
         | Phase::Drain
         | Phase::Close
         | Phase::Halt
-        | Phase::HaltClose => Turn::Goes(phase),
+        | Phase::HaltClose => Transition::Goes(phase),
     }
 }
 
 /// Where an unanswered exchange leads in confirm mode, short of the limit. A command that only a
 /// receipt answers ends by its time-out.
-fn on_no_answer_in_confirming(phase: Phase) -> Turn
+fn on_no_answer_in_confirming(phase: Phase) -> Transition
     ensures { result ≡ table.on_no_answer Mode.Confirming phase }
 {
     match phase {
-        Phase::Select => Turn::Goes(Phase::Seen),
-        Phase::Seen => Turn::Goes(Phase::Select),
-        Phase::Cue(k) => Turn::Goes(Phase::Wait(k)),
-        Phase::Play(k) => Turn::Goes(Phase::Probe(k)),
-        Phase::Close => Turn::Ends(Outcome::Done),
-        Phase::Halt => Turn::Goes(Phase::HaltClose),
-        Phase::HaltClose => Turn::Ends(Outcome::Stopped),
+        Phase::Select => Transition::Goes(Phase::Seen),
+        Phase::Seen => Transition::Goes(Phase::Select),
+        Phase::Cue(k) => Transition::Goes(Phase::Wait(k)),
+        Phase::Play(k) => Transition::Goes(Phase::Probe(k)),
+        Phase::Close => Transition::Ends(Outcome::Done),
+        Phase::Halt => Transition::Goes(Phase::HaltClose),
+        Phase::HaltClose => Transition::Ends(Outcome::Stopped),
         Phase::Open
         | Phase::Exists(_)
         | Phase::Wait(_)
         | Phase::Probe(_)
         | Phase::Check(_)
-        | Phase::Drain => Turn::Goes(phase),
+        | Phase::Drain => Transition::Goes(phase),
     }
 }

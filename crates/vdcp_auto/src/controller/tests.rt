@@ -2,7 +2,7 @@
 use super::Controller;
 use crate::exchange::{Heard, Input};
 use crate::outcome::Outcome;
-use crate::phase::{Phase, Stage};
+use crate::phase::{Phase, Position};
 use crate::tests::clips::{
     ACK, CUED, Clips, GRANTED, IDLE, NOTHING_PLAYS, ONE, PLAYING, PRESENT, TWO, drive,
 };
@@ -112,94 +112,103 @@ fn in_place<'a>(phase: Phase, inputs: &'a [Input]) -> Place<'a> {
     }
 }
 
+/// Where what comes leads.
+#[derive(Clone, Copy, Debug, PartialEq, Eq)]
+enum Lead {
+    /// The exchange hasn't ended.
+    Stays,
+    Goes(Phase),
+    Ends(Outcome),
+}
+
 /// Where what comes leads in plain mode.
-fn plain_stage(phase: Phase, take: bool, kind: Kind) -> Stage {
+fn plain_stage(phase: Phase, take: bool, kind: Kind) -> Lead {
     match phase {
         Phase::Open => match kind {
-            Kind::Granted => Stage::Ready(Phase::Select),
-            Kind::Denied | Kind::Refusal => Stage::Ended(Outcome::Denied),
-            _ => Stage::Ready(phase),
+            Kind::Granted => Lead::Goes(Phase::Select),
+            Kind::Denied | Kind::Refusal => Lead::Ends(Outcome::Denied),
+            _ => Lead::Goes(phase),
         },
         Phase::Select | Phase::Seen => match kind {
-            Kind::Ack => Stage::Ready(Phase::Exists(0)),
-            Kind::Refusal => Stage::Ended(Outcome::Denied),
-            _ => Stage::Ready(phase),
+            Kind::Ack => Lead::Goes(Phase::Exists(0)),
+            Kind::Refusal => Lead::Ends(Outcome::Denied),
+            _ => Lead::Goes(phase),
         },
         Phase::Exists(k) => match kind {
-            Kind::Present => Stage::Ready(Phase::Cue(k)),
-            Kind::Absent => Stage::Ended(Outcome::Missing(k)),
-            Kind::Refusal => Stage::Ended(Outcome::Refused(k)),
-            _ => Stage::Ready(phase),
+            Kind::Present => Lead::Goes(Phase::Cue(k)),
+            Kind::Absent => Lead::Ends(Outcome::Missing(k)),
+            Kind::Refusal => Lead::Ends(Outcome::Refused(k)),
+            _ => Lead::Goes(phase),
         },
         Phase::Cue(k) => match kind {
-            Kind::Ack => Stage::Ready(Phase::Wait(k)),
-            Kind::Refusal => Stage::Ended(Outcome::Refused(k)),
-            _ => Stage::Ready(phase),
+            Kind::Ack => Lead::Goes(Phase::Wait(k)),
+            Kind::Refusal => Lead::Ends(Outcome::Refused(k)),
+            _ => Lead::Goes(phase),
         },
         Phase::Wait(k) => match kind {
-            Kind::Cued => Stage::Ready(Phase::Play(k)),
-            Kind::CuedAndPlaying => Stage::Ready(if take { Phase::Play(k) } else { phase }),
-            Kind::Idle | Kind::Playing => Stage::Ended(Outcome::Strange(k)),
-            Kind::Refusal => Stage::Ended(Outcome::Refused(k)),
-            _ => Stage::Ready(phase),
+            Kind::Cued => Lead::Goes(Phase::Play(k)),
+            Kind::CuedAndPlaying => Lead::Goes(if take { Phase::Play(k) } else { phase }),
+            Kind::Idle | Kind::Playing => Lead::Ends(Outcome::Strange(k)),
+            Kind::Refusal => Lead::Ends(Outcome::Refused(k)),
+            _ => Lead::Goes(phase),
         },
         Phase::Play(k) => match kind {
-            Kind::Ack => Stage::Ready(Phase::Check(k)),
-            Kind::Refusal => Stage::Ended(Outcome::Refused(k)),
-            _ => Stage::Ready(Phase::Probe(k)),
+            Kind::Ack => Lead::Goes(Phase::Check(k)),
+            Kind::Refusal => Lead::Ends(Outcome::Refused(k)),
+            _ => Lead::Goes(Phase::Probe(k)),
         },
         Phase::Probe(k) => match kind {
-            Kind::Cued | Kind::CuedAndPlaying => Stage::Ready(Phase::Play(k)),
-            Kind::Idle | Kind::Playing => Stage::Ready(Phase::Check(k)),
-            Kind::Refusal => Stage::Ended(Outcome::Refused(k)),
-            _ => Stage::Ready(phase),
+            Kind::Cued | Kind::CuedAndPlaying => Lead::Goes(Phase::Play(k)),
+            Kind::Idle | Kind::Playing => Lead::Goes(Phase::Check(k)),
+            Kind::Refusal => Lead::Ends(Outcome::Refused(k)),
+            _ => Lead::Goes(phase),
         },
         Phase::Check(0) => match kind {
-            Kind::NothingPlays | Kind::OnePlays => Stage::Ready(Phase::Exists(1)),
-            Kind::TwoPlays => Stage::Ended(Outcome::Foreign(0)),
-            Kind::Refusal => Stage::Ended(Outcome::Refused(0)),
-            _ => Stage::Ready(phase),
+            Kind::NothingPlays | Kind::OnePlays => Lead::Goes(Phase::Exists(1)),
+            Kind::TwoPlays => Lead::Ends(Outcome::Foreign(0)),
+            Kind::Refusal => Lead::Ends(Outcome::Refused(0)),
+            _ => Lead::Goes(phase),
         },
         Phase::Check(_) => match kind {
-            Kind::NothingPlays | Kind::TwoPlays => Stage::Ready(Phase::Drain),
-            Kind::OnePlays => Stage::Ended(Outcome::Foreign(1)),
-            Kind::Refusal => Stage::Ended(Outcome::Refused(1)),
-            _ => Stage::Ready(phase),
+            Kind::NothingPlays | Kind::TwoPlays => Lead::Goes(Phase::Drain),
+            Kind::OnePlays => Lead::Ends(Outcome::Foreign(1)),
+            Kind::Refusal => Lead::Ends(Outcome::Refused(1)),
+            _ => Lead::Goes(phase),
         },
         Phase::Drain => match kind {
             Kind::Cueing | Kind::CueingAndPlaying | Kind::Cued | Kind::CuedAndPlaying => {
-                Stage::Ended(Outcome::Strange(2))
+                Lead::Ends(Outcome::Strange(2))
             }
-            Kind::Playing => Stage::Ready(Phase::Drain),
-            Kind::Idle => Stage::Ready(Phase::Close),
-            Kind::Refusal => Stage::Ended(Outcome::Refused(2)),
-            _ => Stage::Ready(phase),
+            Kind::Playing => Lead::Goes(Phase::Drain),
+            Kind::Idle => Lead::Goes(Phase::Close),
+            Kind::Refusal => Lead::Ends(Outcome::Refused(2)),
+            _ => Lead::Goes(phase),
         },
         Phase::Close => match kind {
-            Kind::Ack | Kind::Refusal => Stage::Ended(Outcome::Done),
-            _ => Stage::Ready(phase),
+            Kind::Ack | Kind::Refusal => Lead::Ends(Outcome::Done),
+            _ => Lead::Goes(phase),
         },
         Phase::Halt => match kind {
-            Kind::Ack | Kind::Refusal => Stage::Ready(Phase::HaltClose),
-            _ => Stage::Ready(phase),
+            Kind::Ack | Kind::Refusal => Lead::Goes(Phase::HaltClose),
+            _ => Lead::Goes(phase),
         },
         Phase::HaltClose => match kind {
-            Kind::Ack | Kind::Refusal => Stage::Ended(Outcome::Stopped),
-            _ => Stage::Ready(phase),
+            Kind::Ack | Kind::Refusal => Lead::Ends(Outcome::Stopped),
+            _ => Lead::Goes(phase),
         },
     }
 }
 
 /// Where what comes leads in confirm mode.
-fn confirming_stage(place: &Place, kind: Kind) -> Stage {
+fn confirming_stage(place: &Place, kind: Kind) -> Lead {
     let phase = place.phase;
     match (phase, kind) {
-        (Phase::Select, Kind::Silence) => Stage::Ready(Phase::Seen),
-        (Phase::Cue(k), Kind::Silence) => Stage::Ready(Phase::Wait(k)),
-        (Phase::Play(k), Kind::Silence) => Stage::Ready(Phase::Probe(k)),
-        (Phase::Close, Kind::Silence) => Stage::Ended(Outcome::Done),
-        (Phase::Halt, Kind::Silence) => Stage::Ready(Phase::HaltClose),
-        (Phase::HaltClose, Kind::Silence) => Stage::Ended(Outcome::Stopped),
+        (Phase::Select, Kind::Silence) => Lead::Goes(Phase::Seen),
+        (Phase::Cue(k), Kind::Silence) => Lead::Goes(Phase::Wait(k)),
+        (Phase::Play(k), Kind::Silence) => Lead::Goes(Phase::Probe(k)),
+        (Phase::Close, Kind::Silence) => Lead::Ends(Outcome::Done),
+        (Phase::Halt, Kind::Silence) => Lead::Goes(Phase::HaltClose),
+        (Phase::HaltClose, Kind::Silence) => Lead::Ends(Outcome::Stopped),
         (
             Phase::Select
             | Phase::Cue(_)
@@ -208,8 +217,8 @@ fn confirming_stage(place: &Place, kind: Kind) -> Stage {
             | Phase::Halt
             | Phase::HaltClose,
             _,
-        ) => Stage::Awaiting(phase),
-        (_, Kind::Ack | Kind::Refusal | Kind::Unread | Kind::Cut) => Stage::Awaiting(phase),
+        ) => Lead::Stays,
+        (_, Kind::Ack | Kind::Refusal | Kind::Unread | Kind::Cut) => Lead::Stays,
         (
             Phase::Seen,
             Kind::Idle
@@ -218,13 +227,13 @@ fn confirming_stage(place: &Place, kind: Kind) -> Stage {
             | Kind::CueingAndPlaying
             | Kind::Cued
             | Kind::CuedAndPlaying,
-        ) => Stage::Ready(Phase::Exists(0)),
-        (Phase::Seen, _) => Stage::Ready(Phase::Select),
+        ) => Lead::Goes(Phase::Exists(0)),
+        (Phase::Seen, _) => Lead::Goes(Phase::Select),
         (Phase::Wait(k), Kind::Idle | Kind::Playing) => {
             if place.last_try {
-                Stage::Ended(Outcome::Refused(k))
+                Lead::Ends(Outcome::Refused(k))
             } else {
-                Stage::Ready(Phase::Cue(k))
+                Lead::Goes(Phase::Cue(k))
             }
         }
         (_, _) => plain_stage(phase, place.take, kind),
@@ -345,23 +354,24 @@ fn check(
     mut controller: Controller<Clips>,
     place: &Place,
     kind: Kind,
-    leads: Stage,
+    leads: Lead,
 ) {
     drive(&mut controller, place.inputs);
     controller.tick();
-    let awaiting = Stage::Awaiting(place.phase);
-    assert_eq!(rt; controller.state.stage, awaiting);
+    assert!(rt;
+        matches!(controller.position, Position::Awaiting(phase, _) if phase == place.phase)
+    );
 
     let ended = controller.receive(kind.came());
-    assert_eq!(rt;
-        controller.state.stage,
-        leads,
-        "{:?} in {:?}",
-        kind, place.phase
-    );
+    let led = match controller.position {
+        Position::Ready(phase) => Lead::Goes(phase),
+        Position::Awaiting(_, _) => Lead::Stays,
+        Position::Ended(outcome) => Lead::Ends(outcome),
+    };
+    assert_eq!(rt; led, leads, "{:?} in {:?}", kind, place.phase);
     assert_eq!(rt;
         ended.is_none(),
-        leads == awaiting,
+        leads == Lead::Stays,
         "{:?} in {:?}",
         kind,
         place.phase

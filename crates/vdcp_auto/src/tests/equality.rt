@@ -1,7 +1,7 @@
 //! Values that differ in one field are unequal.
 use crate::exchange::{Exchange, Heard, Input};
 use crate::outcome::Outcome;
-use crate::phase::{Mode, Phase, Stage, State, Turn};
+use crate::phase::{Mode, Phase};
 use std::process::Abort;
 use vdcp_words::{Command, Reply};
 
@@ -100,60 +100,6 @@ fn phases_differ_by_kind_and_event(rt: HostRuntime) {
             Phase::Close,
             Phase::Halt,
             Phase::HaltClose,
-        ],
-    );
-    are_all_different(
-        &rt,
-        &[
-            Turn::Goes(Phase::Open),
-            Turn::Goes(Phase::Drain),
-            Turn::Settles(0),
-            Turn::Settles(1),
-            Turn::Retries(0),
-            Turn::Retries(1),
-            Turn::Ends(Outcome::Done),
-            Turn::Ends(Outcome::Lost),
-        ],
-    );
-}
-
-#[test]
-fn states_differ_by_each_part(rt: HostRuntime) {
-    let start = State::start();
-    let stages = [
-        Stage::Ready(Phase::Open),
-        Stage::Ready(Phase::Drain),
-        Stage::Awaiting(Phase::Open),
-        Stage::Awaiting(Phase::Drain),
-        Stage::Ended(Outcome::Done),
-        Stage::Ended(Outcome::Lost),
-    ];
-    are_all_different(&rt, &stages);
-    are_all_different(
-        &rt,
-        &[
-            start,
-            State {
-                stage: Stage::Awaiting(Phase::Open),
-                ..start
-            },
-            State {
-                take: true,
-                ..start
-            },
-            State {
-                stop: true,
-                ..start
-            },
-            State {
-                unanswered: 1,
-                ..start
-            },
-            State {
-                settled: 1,
-                ..start
-            },
-            State { tries: 1, ..start },
         ],
     );
 }

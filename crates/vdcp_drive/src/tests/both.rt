@@ -1,13 +1,14 @@
 //! The two drivers against each other in one process: each runs anew over a script that has grown by
 //! what the other one sent.
 use super::calls::{run, send, serve};
-use super::clips::{Playlist, Shelf};
+use super::clips::Playlist;
 use crate::{AutoDriver, Ran, Server};
 use std::alloc::Global;
 use std::process::Abort;
 use std::test::Fail;
 use vdcp_auto::{Controller, Outcome};
 use vdcp_port::Port;
+use vdcp_testing::two_clips;
 use vdcp_wire::{Entry, ScriptWire};
 
 /// Bytes and then a silence, for each; a silence alone where there are none.
@@ -22,9 +23,9 @@ fn entries(alloc: Global, bursts: &Vec<Vec<u8>>) -> Result<Vec<Entry<Global>>, F
 
 /// What a server answers to the last of these bursts.
 fn answer(alloc: Global, bursts: &Vec<Vec<u8>>) -> Result<Vec<u8>, Fail> {
-    let shelf = Shelf::of(1).ok_or("one frame")?;
+    let clips = two_clips(1).ok_or("one frame")?;
     let wire = ScriptWire::new(alloc, entries(alloc, bursts)?);
-    let mut server = Server::new(Port::new(shelf, 0, 1), wire);
+    let mut server = Server::new(Port::new(clips, 0, 1), wire);
     let turns = 2 * bursts.len() as u64;
     let _ = serve(&mut server, turns.saturating_sub(2));
     let before = server.wire().sent().len();

@@ -2,12 +2,13 @@
 //! wire is.
 ghost use Rattle.std.specs.Prelude.{◌≡◌, false, IfOk, IsErr};
 
-use super::clips::{Playlist, Shelf};
+use super::clips::Playlist;
 use crate::{AutoDriver, DriveFault, Line, Ran, Server};
 use std::alloc::{AllocError, Global};
 use std::test::Fail;
 use vdcp_auto::{Controller, Source};
 use vdcp_port::{Catalogue, Port};
+use vdcp_testing::two_clips;
 use vdcp_wire::{Entry, ScriptWire, Wire};
 
 /// Two turns, whatever the first one answers.
@@ -47,8 +48,8 @@ fn failing(alloc: Global, call: u64) -> Result<ScriptWire<Global>, AllocError>
 
 #[test]
 fn turn_behind_a_failed_turn_fails(rt: HostRuntime) -> Result<(), Fail> {
-    let shelf = Shelf::of(250).ok_or("250 frames")?;
-    let mut server = Server::new(Port::new(shelf, 0, 1), failing(rt.alloc(), 1)?);
+    let clips = two_clips(250).ok_or("250 frames")?;
+    let mut server = Server::new(Port::new(clips, 0, 1), failing(rt.alloc(), 1)?);
     assert_eq!(rt;
         turned_twice(&mut server),
         (Err(DriveFault::Device), Err(DriveFault::Device))

@@ -1,6 +1,6 @@
 //! Hostile input: floods, halves, closes at each byte, and a line without memory.
 use super::calls::{run, serve, turn};
-use super::clips::{Playlist, Shelf};
+use super::clips::{Clips, Playlist};
 use super::messages::{ACK, CUE_1, OPEN, PLAY, SELECT, STATUS};
 use crate::{AutoDriver, DriveFault, Ran, Server};
 use linked_list_allocator::LocalHeap;
@@ -9,15 +9,16 @@ use std::process::Abort;
 use std::test::Fail;
 use vdcp_auto::{Controller, Outcome};
 use vdcp_port::Port;
+use vdcp_testing::two_clips;
 use vdcp_wire::{Entry, ScriptWire};
 
 /// A server with a new port over these entries.
 fn server(
     alloc: Global,
     entries: Vec<Entry<Global>>,
-) -> Result<Server<Shelf, ScriptWire<Global>>, &'static str> {
-    let shelf = Shelf::of(250).ok_or("250 frames")?;
-    Ok(Server::new(Port::new(shelf, 0, 1), ScriptWire::new(alloc, entries)))
+) -> Result<Server<Clips, ScriptWire<Global>>, &'static str> {
+    let clips = two_clips(250).ok_or("250 frames")?;
+    Ok(Server::new(Port::new(clips, 0, 1), ScriptWire::new(alloc, entries)))
 }
 
 #[test]
@@ -162,12 +163,12 @@ fn junk_answers_nothing(rt: HostRuntime) -> Result<(), Fail> {
 #[test]
 fn refused_growth_of_the_listens_is_a_failure_of_the_wire(rt: HostRuntime) -> Result<(), Fail> {
     let heap = LocalHeap::new(rt.alloc(), 256)?;
-    let shelf = Shelf::of(250).ok_or("250 frames")?;
+    let clips = two_clips(250).ok_or("250 frames")?;
     let mut entries = Vec::new(&heap);
     entries.push(Entry::Silence)?;
     let _rest = Vec::<u8, &LocalHeap>::with_capacity(&heap, 64);
     let _more = Vec::<u8, &LocalHeap>::with_capacity(&heap, 32);
-    let mut server = Server::new(Port::new(shelf, 0, 1), ScriptWire::new(&heap, entries));
+    let mut server = Server::new(Port::new(clips, 0, 1), ScriptWire::new(&heap, entries));
     assert_eq!(rt; turn(&mut server), Err(DriveFault::Device));
     assert_eq!(rt; turn(&mut server), Err(DriveFault::Device));
     assert_eq!(rt; server.port().status_byte(), 0x01);
@@ -178,10 +179,10 @@ fn refused_growth_of_the_listens_is_a_failure_of_the_wire(rt: HostRuntime) -> Re
 #[test]
 fn refused_growth_of_the_bytes_is_a_failure_of_the_wire(rt: HostRuntime) -> Result<(), Fail> {
     let heap = LocalHeap::new(rt.alloc(), 1024)?;
-    let shelf = Shelf::of(250).ok_or("250 frames")?;
+    let clips = two_clips(250).ok_or("250 frames")?;
     let mut entries = Vec::new(&heap);
     entries.push(Entry::Came(Vec::from_slice(&heap, &[0x03; 512])?))?;
-    let mut server = Server::new(Port::new(shelf, 0, 1), ScriptWire::new(&heap, entries));
+    let mut server = Server::new(Port::new(clips, 0, 1), ScriptWire::new(&heap, entries));
     assert_eq!(rt; turn(&mut server), Err(DriveFault::Device));
     assert_eq!(rt; turn(&mut server), Err(DriveFault::Device));
     Ok(())

@@ -18,11 +18,12 @@ use vdcp_wire::{Entry, ScriptWire, Wire};
 /// How many events a new automation reports as aired once it has run; None where its wire failed. It is
 /// what the exchanges over the wire show to be settled.
 fn reported<S: Source, W: Wire>(auto: &mut AutoDriver<S, W>, listens: u64) -> Option<usize>
-    requires new { IsNew auto.old.controller.state auto.old.reader auto.old.heard (W.told auto.old.wire) }
+    requires new { IsNew W.told auto.old }
     requires some { 1 ≤ auto.old.controller.limit }
     requires few { auto.old.controller.limit ≤ 1000 }
     ensures shown { IfSome result (λ n. IfTold (W.told auto.new.wire) (λ u.
-        n ≡ settled auto.old.controller.mode (course (plan_of S.items auto.old.controller) (inputs_of auto.old.unit u.came)))) }
+        n ≡ settled auto.old.controller.mode (course (plan_of S.items auto.old.controller)
+        (inputs_of auto.old.unit u.came)))) }
 {
     laws::a_run_is_lawful();
     match auto.run(listens) {

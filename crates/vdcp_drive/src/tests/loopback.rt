@@ -1,5 +1,5 @@
 //! The two drivers over a connection within this process. Each is called only when it has something to do.
-use super::clips::{Playlist, Shelf};
+use super::clips::{Clips, Playlist};
 use crate::{AutoDriver, Line, Server};
 use std::io::Write;
 use std::net::{Ipv4Addr, SocketAddr, TcpListener, TcpStream};
@@ -7,6 +7,7 @@ use std::test::Fail;
 use std::time::Duration;
 use vdcp_auto::{Controller, Outcome};
 use vdcp_port::Port;
+use vdcp_testing::two_clips;
 use vdcp_wire::StreamWire;
 
 /// An automation and a server at the two ends of a connection. The server's end has sent a NAK before
@@ -14,23 +15,23 @@ use vdcp_wire::StreamWire;
 fn ends(
     rt: &HostRuntime,
     controller: Controller<Playlist>,
-) -> Result<(AutoDriver<Playlist, StreamWire>, Server<Shelf, StreamWire>), Fail> {
+) -> Result<(AutoDriver<Playlist, StreamWire>, Server<Clips, StreamWire>), Fail> {
     let listener = TcpListener::bind(rt, SocketAddr::from((Ipv4Addr::LOCALHOST, 0)))?;
     let near = TcpStream::connect(rt, listener.local_addr()?)?;
     let (mut far, _) = listener.accept()?;
     far.write_all(&[0x05, 0x01])?;
     near.peek(&mut [0])?;
-    let shelf = Shelf::of(1).ok_or("one frame")?;
+    let clips = two_clips(1).ok_or("one frame")?;
     let near = StreamWire::new(near, Duration::from_millis(20))?;
     let far = StreamWire::new(far, Duration::from_millis(4))?;
     Ok((
         AutoDriver::new(controller, 0, near),
-        Server::new(Port::new(shelf, 0, 1), far),
+        Server::new(Port::new(clips, 0, 1), far),
     ))
 }
 
 /// The server takes turns until it has answered a burst.
-fn answer(server: &mut Server<Shelf, StreamWire>) -> Result<(), Fail> {
+fn answer(server: &mut Server<Clips, StreamWire>) -> Result<(), Fail> {
     for _ in 0..1000 {
         if server.turn()? == Line::Ended {
             return Ok(());

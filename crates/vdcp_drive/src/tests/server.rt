@@ -1,6 +1,6 @@
 //! A server over a wire in memory.
 use super::calls::{serve, turn};
-use super::clips::Shelf;
+use super::clips::Clips;
 use super::messages::{CUE_1, IDLE, OPEN, PLAY, SELECT, STATUS, STOP};
 use crate::{DriveFault, Line, Ran, Server};
 use linked_list_allocator::LocalHeap;
@@ -8,18 +8,19 @@ use std::alloc::{AllocError, Allocator, Global};
 use std::process::Abort;
 use std::test::Fail;
 use vdcp_port::Port;
+use vdcp_testing::two_clips;
 use vdcp_value::{ClipId, Item};
 use vdcp_wire::{Entry, ScriptWire};
 
-type Serving<A> = Server<Shelf, ScriptWire<A>>;
+type Serving<A> = Server<Clips, ScriptWire<A>>;
 
 /// A server with a new port of unit 0 and number 1, over a wire of these entries.
 fn server<A: Allocator + Copy>(
     alloc: A,
     entries: Vec<Entry<A>, A>,
 ) -> Result<Serving<A>, &'static str> {
-    let shelf = Shelf::of(250).ok_or("250 frames")?;
-    Ok(Server::new(Port::new(shelf, 0, 1), ScriptWire::new(alloc, entries)))
+    let clips = two_clips(250).ok_or("250 frames")?;
+    Ok(Server::new(Port::new(clips, 0, 1), ScriptWire::new(alloc, entries)))
 }
 
 /// A burst in pieces, and its silence.
@@ -157,10 +158,10 @@ fn item_of_the_last_turn_is_shown(rt: HostRuntime) -> Result<(), Fail> {
 
 #[test]
 fn failed_send_is_a_device_for_good(rt: HostRuntime) -> Result<(), Fail> {
-    let shelf = Shelf::of(250).ok_or("250 frames")?;
+    let clips = two_clips(250).ok_or("250 frames")?;
     let mut wire = ScriptWire::new(rt.alloc(), opening(rt.alloc())?);
     wire.fail_at(2, 2);
-    let mut server = Server::new(Port::new(shelf, 0, 1), wire);
+    let mut server = Server::new(Port::new(clips, 0, 1), wire);
     assert_eq!(rt; serve(&mut server, 100), Err(DriveFault::Device));
     assert_eq!(rt; server.wire().sent(), &OPENED[..2]);
     assert_eq!(rt; turn(&mut server), Err(DriveFault::Device));
@@ -172,10 +173,10 @@ fn failed_send_is_a_device_for_good(rt: HostRuntime) -> Result<(), Fail> {
 /// A server over a wire whose call of this number fails behind `part` bytes of a send: whether no call failed, and
 /// what was sent.
 fn failed_at(alloc: Global, call: u64, part: usize) -> Result<(bool, Vec<u8>), Fail> {
-    let shelf = Shelf::of(250).ok_or("250 frames")?;
+    let clips = two_clips(250).ok_or("250 frames")?;
     let mut wire = ScriptWire::new(alloc, opening(alloc)?);
     wire.fail_at(call, part);
-    let mut server = Server::new(Port::new(shelf, 0, 1), wire);
+    let mut server = Server::new(Port::new(clips, 0, 1), wire);
     let works = serve(&mut server, 100).is_ok();
     let sent = Vec::from_slice(alloc, server.wire().sent())?;
     Ok((works, sent))

@@ -1,5 +1,5 @@
 //! Who watches a driver: the controller in each listen, and each item that goes to air.
-use super::clips::{Playlist, Shelf};
+use super::clips::Playlist;
 use super::messages::{ACK, CUE_1, CUE_2, GRANTED, IDLE, OPEN, PLAY, SELECT};
 use crate::{AutoDriver, DriveFault, Ran, Server, Watch, WatchAir};
 use std::alloc::{AllocError, Global};
@@ -7,6 +7,7 @@ use std::process::Abort;
 use std::test::Fail;
 use vdcp_auto::{Controller, Source};
 use vdcp_port::Port;
+use vdcp_testing::two_clips;
 use vdcp_value::{ClipId, Item};
 use vdcp_wire::{Entry, ScriptWire};
 use vdcp_words::Command;
@@ -38,7 +39,7 @@ impl<S: Source> Watch<S> for Awaited {
 }
 
 /// Two clips of one frame each are cued and played, each in a burst of its own, and then the close.
-fn two_clips(alloc: Global) -> Result<Vec<Entry<Global>>, AllocError> {
+fn clips_played(alloc: Global) -> Result<Vec<Entry<Global>>, AllocError> {
     let mut entries = Vec::new(alloc);
     let bursts: [&[&[u8]]; 3] = [&[OPEN, SELECT, CUE_1], &[PLAY, CUE_2], &[PLAY, PLAY]];
     for burst in bursts {
@@ -60,9 +61,9 @@ fn item(id: &[u8; 8]) -> Item {
 
 #[test]
 fn items_are_lent_in_order(rt: HostRuntime) -> Result<(), Fail> {
-    let shelf = Shelf::of(1).ok_or("one frame")?;
-    let wire = ScriptWire::new(rt.alloc(), two_clips(rt.alloc())?);
-    let mut server = Server::new(Port::new(shelf, 0, 1), wire);
+    let clips = two_clips(1).ok_or("one frame")?;
+    let wire = ScriptWire::new(rt.alloc(), clips_played(rt.alloc())?);
+    let mut server = Server::new(Port::new(clips, 0, 1), wire);
     let mut as_run = AsRun {
         items: Vec::new(rt.alloc()),
     };
@@ -79,10 +80,10 @@ fn items_are_lent_in_order(rt: HostRuntime) -> Result<(), Fail> {
 // The ninth call sends the answer to the first PLAY: the item has gone to air though the wire fails in it.
 #[test]
 fn item_of_a_failed_turn_is_lent(rt: HostRuntime) -> Result<(), Fail> {
-    let shelf = Shelf::of(1).ok_or("one frame")?;
-    let mut wire = ScriptWire::new(rt.alloc(), two_clips(rt.alloc())?);
+    let clips = two_clips(1).ok_or("one frame")?;
+    let mut wire = ScriptWire::new(rt.alloc(), clips_played(rt.alloc())?);
     wire.fail_at(9, 0);
-    let mut server = Server::new(Port::new(shelf, 0, 1), wire);
+    let mut server = Server::new(Port::new(clips, 0, 1), wire);
     let mut as_run = AsRun {
         items: Vec::new(rt.alloc()),
     };

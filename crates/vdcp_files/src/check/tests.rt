@@ -1,15 +1,15 @@
 use super::do_check;
-use crate::failing::{Failing, FailingReader};
-use crate::input::Input;
+use crate::named_file::NamedFile;
 use std::alloc::Global;
 use std::process::Abort;
 use std::test::Fail;
+use vdcp_testing::{FailingReader, FailingWriter, Fails};
 use vdcp_value::Rate;
 
 const CLIPS: &[u8] = b"CLIP0001,00:00:10:00\nCLIP0002,00:00:05:00\n";
 
-fn file<R>(name: &str, reader: R) -> Input<'_, R> {
-    Input { name, reader }
+fn file<R>(name: &str, reader: R) -> NamedFile<'_, R> {
+    NamedFile { name, reader }
 }
 
 // What a check of these files gives: the text on `out`, the text on `err`, and the status.
@@ -169,7 +169,7 @@ fn each_failing_read_is_told(rt: HostRuntime) {
     for left in 0..30 {
         let mut out = Vec::new(alloc);
         let mut err = Vec::new(alloc);
-        let failing = file("list.csv", FailingReader { left, bytes: list });
+        let failing = file("list.csv", FailingReader::new(list, Fails::From(left)));
         let clips = file("clips.csv", CLIPS);
         match do_check(alloc, failing, clips, Rate::F25, &mut out, &mut err) {
             3 => {
@@ -185,7 +185,7 @@ fn each_failing_read_is_told(rt: HostRuntime) {
         let mut out = Vec::new(alloc);
         let mut err = Vec::new(alloc);
         let list = file("list.csv", list);
-        let failing = file("clips.csv", FailingReader { left, bytes: CLIPS });
+        let failing = file("clips.csv", FailingReader::new(CLIPS, Fails::From(left)));
         match do_check(alloc, list, failing, Rate::F25, &mut out, &mut err) {
             3 => {
                 assert_eq!(rt; err.as_slice(), b"vdcp: clips.csv: read\n".as_slice());
@@ -207,7 +207,7 @@ fn a_failing_call_of_the_writer_is_the_last(rt: HostRuntime) {
     let alloc = rt.alloc();
     let list = b"CLIP0001\nCLIP0009\n".as_slice();
     let text = b"events 2\nclips 2\nmissing 1 CLIP0009\n".as_slice();
-    let mut whole = Failing::new(alloc, 1000);
+    let mut whole = FailingWriter::new(alloc, Fails::Before(0));
     let mut err = Vec::new(alloc);
     let status = do_check(
         alloc,
@@ -221,7 +221,7 @@ fn a_failing_call_of_the_writer_is_the_last(rt: HostRuntime) {
     assert_eq!(rt; whole.bytes.as_slice(), text);
     assert_eq!(rt; whole.flushes, 1);
     for left in 0..whole.calls {
-        let mut out = Failing::new(alloc, left);
+        let mut out = FailingWriter::new(alloc, Fails::From(left));
         let status = do_check(
             alloc,
             file("l", list),
@@ -241,7 +241,7 @@ fn a_failing_call_of_the_writer_is_the_last(rt: HostRuntime) {
 fn a_fault_line_that_fails_has_status_3(rt: HostRuntime) {
     let alloc = rt.alloc();
     let mut out = Vec::new(alloc);
-    let mut err = Failing::new(alloc, 0);
+    let mut err = FailingWriter::new(alloc, Fails::From(0));
     let list = file("list.csv", b"\xff\n".as_slice());
     let status = do_check(
         alloc,

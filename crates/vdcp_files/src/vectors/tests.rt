@@ -1,17 +1,17 @@
 ghost use Rattle.std.specs.Prelude.{◌≤◌};
 
 use super::do_vectors;
-use crate::failing::{Failing, FailingReader};
-use crate::input::Input;
+use crate::named_file::NamedFile;
 use std::alloc::{AllocError, Global};
 use std::fmt::Write;
 use std::process::Abort;
 use std::test::Fail;
-use vdcp_frame::{Ended, Got, Reader};
-use vdcp_text::{End, HexText, MessageText};
+use vdcp_frame::{End, Ended, Got, Reader};
+use vdcp_testing::{FailingReader, FailingWriter, Fails};
+use vdcp_text::{EndText, HexText, MessageText};
 
-fn file<R>(reader: R) -> Input<'static, R> {
-    Input {
+fn file<R>(reader: R) -> NamedFile<'static, R> {
+    NamedFile {
         name: "vectors.csv",
         reader,
     }
@@ -284,7 +284,7 @@ fn each_failing_read_is_told(rt: HostRuntime) {
     for left in 0..30 {
         let mut out = Vec::new(rt.alloc());
         let mut err = Vec::new(rt.alloc());
-        let failing = file(FailingReader { left, bytes });
+        let failing = file(FailingReader::new(bytes, Fails::From(left)));
         match do_vectors(rt.alloc(), failing, &mut out, &mut err) {
             3 => {
                 assert_eq!(rt; err.as_slice(), b"vdcp: vectors.csv: read\n".as_slice());
@@ -305,13 +305,13 @@ fn a_failing_call_of_the_writer_is_the_last(rt: HostRuntime) {
     let alloc = rt.alloc();
     let rows = b"04,clean\nzz,\n04\n,clean\n".as_slice();
     let text = b"row 1: got ack; clean\nrow 2: hex\nrow 3: columns\nvectors 4 bad 3\n".as_slice();
-    let mut whole = Failing::new(alloc, 1000);
+    let mut whole = FailingWriter::new(alloc, Fails::Before(0));
     let mut err = Vec::new(alloc);
     assert_eq!(rt; do_vectors(alloc, file(rows), &mut whole, &mut err), 1);
     assert_eq!(rt; whole.bytes.as_slice(), text);
     assert_eq!(rt; whole.flushes, 1);
     for left in 0..whole.calls {
-        let mut out = Failing::new(alloc, left);
+        let mut out = FailingWriter::new(alloc, Fails::From(left));
         let status = do_vectors(alloc, file(rows), &mut out, &mut err);
         assert_eq!(rt; status, 3, "after {left}");
         assert_eq!(rt; out.calls, left + 1);
@@ -324,11 +324,8 @@ fn a_failing_call_of_the_writer_is_the_last(rt: HostRuntime) {
 fn a_fault_line_that_fails_has_status_3(rt: HostRuntime) {
     let alloc = rt.alloc();
     let mut out = Vec::new(alloc);
-    let mut err = Failing::new(alloc, 0);
-    let reader = FailingReader {
-        left: 0,
-        bytes: &[],
-    };
+    let mut err = FailingWriter::new(alloc, Fails::From(0));
+    let reader = FailingReader::new(&[], Fails::From(0));
     assert_eq!(rt; do_vectors(alloc, file(reader), &mut out, &mut err), 3);
     assert_eq!(rt; err.calls, 1);
     assert!(rt; out.is_empty());

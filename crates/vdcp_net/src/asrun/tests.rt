@@ -1,12 +1,12 @@
 use super::write_reported;
 use crate::answers::{TWO_EVENTS, two_played, wire_of};
-use crate::failing::Failing;
 use std::alloc::Global;
 use std::process::Abort;
 use std::test::Fail;
 use vdcp_auto::Controller;
 use vdcp_drive::AutoDriver;
 use vdcp_list::{List, WriteFault, read_list};
+use vdcp_testing::{FailingWriter, Fails};
 use vdcp_value::Rate;
 use vdcp_wire::ScriptWire;
 
@@ -29,9 +29,9 @@ fn written_after(
     rt: &HostRuntime,
     listens: u64,
     left: usize,
-) -> Result<(Failing, Result<(), WriteFault>), Fail> {
+) -> Result<(FailingWriter, Result<(), WriteFault>), Fail> {
     let driver = driver_after(rt, listens)?;
-    let mut file = Failing::new(rt.alloc(), left);
+    let mut file = FailingWriter::new(rt.alloc(), Fails::From(left));
     let written = write_reported(rt.alloc(), driver.controller(), Rate::F25, &mut file);
     Ok((file, written))
 }

@@ -1,11 +1,11 @@
 use super::{AirLog, Log, Logged};
-use crate::failing::Failing;
 use std::alloc::Global;
 use std::io::Write;
 use std::test::Fail;
 use vdcp_drive::{DriveFault, Ran, Server, WatchAir};
 use vdcp_list::Slots;
 use vdcp_port::Port;
+use vdcp_testing::{FailingWriter, Fails};
 use vdcp_value::{ClipId, Item, Part, Rate};
 use vdcp_wire::{Came, Entry, PIECE, ScriptWire, Wire};
 
@@ -72,7 +72,7 @@ fn messages_of_both_ways_are_logged(rt: HostRuntime) -> Result<(), Fail> {
 fn failed_log_fails_no_wire(rt: HostRuntime) -> Result<(), Fail> {
     let alloc = rt.alloc();
     for left in 0..40 {
-        let mut writer = Failing::new(alloc, left);
+        let mut writer = FailingWriter::new(alloc, Fails::From(left));
         assert_eq!(rt; serve_logged(alloc, &mut writer)?, (Ok(Ran::Closed), 13));
         assert!(rt; writer.calls <= left + 1);
         assert!(rt; LINES.as_bytes().starts_with(writer.bytes.as_slice()));

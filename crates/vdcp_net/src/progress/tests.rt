@@ -1,6 +1,5 @@
 use super::Progress;
 use crate::answers::{TWO_EVENTS, two_played, wire_of};
-use crate::failing::Failing;
 use std::alloc::Global;
 use std::cell::Cell;
 use std::process::Abort;
@@ -11,6 +10,7 @@ use std::{io, str};
 use vdcp_auto::{Controller, Heard};
 use vdcp_drive::{AutoDriver, Watch};
 use vdcp_list::{List, read_list};
+use vdcp_testing::{FailingWriter, Fails};
 use vdcp_value::Rate;
 use vdcp_wire::ScriptWire;
 use vdcp_words::Reply;
@@ -127,7 +127,7 @@ fn line_fits_a_narrow_terminal(rt: HostRuntime) -> Result<(), Fail> {
 #[test]
 fn failing_terminal_is_left_alone(rt: HostRuntime) -> Result<(), Fail> {
     for left in 0..6 {
-        let mut terminal = Failing::new(rt.alloc(), left);
+        let mut terminal = FailingWriter::new(rt.alloc(), Fails::From(left));
         let settled = show(&rt, Ticking::new(1000, 1000), &mut terminal)?;
         assert_eq!(rt; (terminal.calls, settled), (left + 1, 2));
     }

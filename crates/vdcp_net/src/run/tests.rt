@@ -5,14 +5,14 @@ use crate::answers::{
     ABSENT, ACK, ACTIVE_2, CUED, DENIED, GRANTED, IDLE, PRESENT, REFUSED, TWO_EVENTS, two_played,
     wire_of,
 };
-use crate::failing::Failing;
-use crate::told::Told;
+use crate::output::Output;
 use std::alloc::Global;
 use std::process::Abort;
 use std::test::Fail;
 use std::{env, fs, process};
 use vdcp_drive::{AutoDriver, Unwatched};
 use vdcp_list::read_list;
+use vdcp_testing::{FailingWriter, Fails};
 use vdcp_value::Rate;
 use vdcp_wire::{Entry, ScriptWire};
 
@@ -30,11 +30,11 @@ const SETTINGS: RunSettings<'static> = RunSettings {
 };
 
 // Tells an end.
-fn tell(alloc: Global, end: RunEnd<'_>) -> Result<Told, Fail> {
+fn tell(alloc: Global, end: RunEnd<'_>) -> Result<Output, Fail> {
     let mut out = Vec::new(alloc);
     let mut err = Vec::new(alloc);
     let status = end.tell(&mut out, &mut err)?;
-    Ok(Told { out, err, status })
+    Ok(Output { out, err, status })
 }
 
 // Plays a list over a wire.
@@ -43,7 +43,7 @@ fn played(
     list: &[u8],
     wire: ScriptWire<Global>,
     settings: RunSettings<'_>,
-) -> Result<Told, Fail>
+) -> Result<Output, Fail>
     requires { wire.failed ≡ false }
 {
     let settings = RunSettings {
@@ -55,9 +55,9 @@ fn played(
     tell(rt.alloc(), play(rt, &mut driver, &mut Unwatched, settings))
 }
 
-fn expect(rt: &impl Abort, told: &Told, out: &str, err: &str, status: u8) {
+fn expect(rt: &impl Abort, output: &Output, out: &str, err: &str, status: u8) {
     assert_eq!(rt;
-        (told.out.as_slice(), told.err.as_slice(), told.status),
+        (output.out.as_slice(), output.err.as_slice(), output.status),
         (out.as_bytes(), err.as_bytes(), status)
     );
 }
@@ -107,8 +107,8 @@ fn each_outcome_is_told(rt: HostRuntime) -> Result<(), Fail> {
         ),
     ];
     for (list, answers, text, status) in rows {
-        let told = played(&rt, list, wire_of(rt.alloc(), answers)?, SETTINGS)?;
-        expect(&rt, &told, text, "", status);
+        let output = played(&rt, list, wire_of(rt.alloc(), answers)?, SETTINGS)?;
+        expect(&rt, &output, text, "", status);
     }
     Ok(())
 }
@@ -119,13 +119,13 @@ fn controller_that_confirms_hears_no_receipt(rt: HostRuntime) -> Result<(), Fail
         confirm: true,
         ..SETTINGS
     };
-    let told = played(
+    let output = played(
         &rt,
         b"",
         wire_of(rt.alloc(), &[GRANTED, &[], IDLE, IDLE, &[]])?,
         settings,
     )?;
-    expect(&rt, &told, "reported 0\noutcome done\n", "", 0);
+    expect(&rt, &output, "reported 0\noutcome done\n", "", 0);
     Ok(())
 }
 
@@ -136,10 +136,10 @@ fn closed_line_is_told(rt: HostRuntime) -> Result<(), Fail> {
         entries.push(Entry::Came(Vec::from_slice(rt.alloc(), &GRANTED[..cut])?))?;
         entries.push(Entry::Closed)?;
         let wire = ScriptWire::new(rt.alloc(), entries);
-        let told = played(&rt, b"CLIP0001\n", wire, SETTINGS)?;
+        let output = played(&rt, b"CLIP0001\n", wire, SETTINGS)?;
         expect(
             &rt,
-            &told,
+            &output,
             "reported 0\noutcome open\n",
             "vdcp: line closed\n",
             3,
@@ -154,8 +154,8 @@ fn controller_that_ends_at_the_close_has_ended(rt: HostRuntime) -> Result<(), Fa
     let mut entries = Vec::new(rt.alloc());
     entries.push(Entry::Came(Vec::from_slice(rt.alloc(), DENIED)?))?;
     let wire = ScriptWire::new(rt.alloc(), entries);
-    let told = played(&rt, b"CLIP0001\n", wire, SETTINGS)?;
-    expect(&rt, &told, "reported 0\noutcome denied\n", "", 1);
+    let output = played(&rt, b"CLIP0001\n", wire, SETTINGS)?;
+    expect(&rt, &output, "reported 0\noutcome denied\n", "", 1);
     Ok(())
 }
 
@@ -167,16 +167,22 @@ fn spent_listens_are_told(rt: HostRuntime) -> Result<(), Fail> {
             ..SETTINGS
         };
         let wire = wire_of(rt.alloc(), &[GRANTED, ACK, IDLE, ACK])?;
-        let told = played(&rt, b"", wire, settings)?;
-        expect(&rt, &told, "reported 0\noutcome open\n", "vdcp: spent\n", 3);
+        let output = played(&rt, b"", wire, settings)?;
+        expect(
+            &rt,
+            &output,
+            "reported 0\noutcome open\n",
+            "vdcp: spent\n",
+            3,
+        );
     }
     let settings = RunSettings {
         listens: 8,
         ..SETTINGS
     };
     let wire = wire_of(rt.alloc(), &[GRANTED, ACK, IDLE, ACK])?;
-    let told = played(&rt, b"", wire, settings)?;
-    expect(&rt, &told, "reported 0\noutcome done\n", "", 0);
+    let output = played(&rt, b"", wire, settings)?;
+    expect(&rt, &output, "reported 0\noutcome done\n", "", 0);
     Ok(())
 }
 
@@ -192,13 +198,13 @@ fn failed_line_is_told_wherever_it_fails(rt: HostRuntime) -> Result<(), Fail> {
             25..=44 => "reported 1\noutcome open\n",
             _ => "reported 2\noutcome open\n",
         };
-        let told = played(&rt, TWO_EVENTS, wire, SETTINGS)?;
-        expect(&rt, &told, text, "vdcp: line failed\n", 3);
+        let output = played(&rt, TWO_EVENTS, wire, SETTINGS)?;
+        expect(&rt, &output, text, "vdcp: line failed\n", 3);
     }
     let mut wire = wire_of(rt.alloc(), &two_played())?;
     wire.fail_at(57, 1);
-    let told = played(&rt, TWO_EVENTS, wire, SETTINGS)?;
-    expect(&rt, &told, "reported 2\noutcome done\n", "", 0);
+    let output = played(&rt, TWO_EVENTS, wire, SETTINGS)?;
+    expect(&rt, &output, "reported 2\noutcome done\n", "", 0);
     Ok(())
 }
 
@@ -255,8 +261,8 @@ fn asrun_file_of_parts_has_their_times(rt: HostRuntime) -> Result<(), Fail> {
         ..SETTINGS
     };
     let list = b"CLIP0001,00:01:00;02,00:00:03;00\n\"A,B\",,\n";
-    let told = played(&rt, list, wire_of(rt.alloc(), &two_played())?, settings)?;
-    expect(&rt, &told, "reported 2\noutcome done\n", "", 0);
+    let output = played(&rt, list, wire_of(rt.alloc(), &two_played())?, settings)?;
+    expect(&rt, &output, "reported 2\noutcome done\n", "", 0);
     assert_eq!(rt;
         take_file(&rt, name.as_str())?.as_str(),
         "0,CLIP0001,00:01:00;02,00:00:03;00\n1,\"A,B\",,\n"
@@ -313,18 +319,18 @@ fn asrun_file_that_is_not_written_is_told_first(rt: HostRuntime) -> Result<(), F
             asrun: Some(name),
             ..SETTINGS
         };
-        let told = played(&rt, TWO_EVENTS, wire, settings)?;
-        expect(&rt, &told, text, faults, 3);
+        let output = played(&rt, TWO_EVENTS, wire, settings)?;
+        expect(&rt, &output, text, faults, 3);
     }
     let settings = RunSettings {
         asrun: Some("/"),
         listens: 1,
         ..SETTINGS
     };
-    let told = played(&rt, b"", wire_of(rt.alloc(), &[GRANTED])?, settings)?;
+    let output = played(&rt, b"", wire_of(rt.alloc(), &[GRANTED])?, settings)?;
     expect(
         &rt,
-        &told,
+        &output,
         "reported 0\noutcome open\n",
         "vdcp: /: cannot open\nvdcp: spent\n",
         3,
@@ -350,35 +356,35 @@ const SPENT_TEXT: &[u8] = b"reported 1\noutcome open\n";
 
 const SPENT_FAULTS: &[u8] = b"vdcp: /: cannot open\nvdcp: spent\n";
 
-// The two writers that this end was told to, each of which answers so many calls, and the status.
-fn told_to(
+// The two writers that this end was printed to, each of which answers this many calls, and the status.
+fn written_to(
     alloc: Global,
     end: RunEnd<'_>,
     out: usize,
     err: usize,
-) -> (Failing, Failing, Option<u8>) {
-    let mut out = Failing::new(alloc, out);
-    let mut err = Failing::new(alloc, err);
+) -> (FailingWriter, FailingWriter, Option<u8>) {
+    let mut out = FailingWriter::new(alloc, Fails::From(out));
+    let mut err = FailingWriter::new(alloc, Fails::From(err));
     let status = end.tell(&mut out, &mut err).ok();
     (out, err, status)
 }
 
 #[test]
 fn end_is_told_whole(rt: HostRuntime) -> Result<(), Fail> {
-    let (out, err, status) = told_to(rt.alloc(), spent_end(&rt)?, 1000, 1000);
+    let (out, err, status) = written_to(rt.alloc(), spent_end(&rt)?, 1000, 1000);
     assert_eq!(rt; (status, out.flushes), (Some(3), 1));
     assert_eq!(rt; out.bytes.as_slice(), SPENT_TEXT);
     assert_eq!(rt; err.bytes.as_slice(), SPENT_FAULTS);
     Ok(())
 }
 
-// Where standard output fails, standard error is told nothing.
+// Where standard output fails, standard error gets nothing.
 #[test]
 fn failing_call_of_standard_output_is_the_last(rt: HostRuntime) -> Result<(), Fail> {
     let end = spent_end(&rt)?;
-    let (whole, _, _) = told_to(rt.alloc(), end, 1000, 1000);
+    let (whole, _, _) = written_to(rt.alloc(), end, 1000, 1000);
     for left in 0..whole.calls {
-        let (out, err, status) = told_to(rt.alloc(), end, left, 1000);
+        let (out, err, status) = written_to(rt.alloc(), end, left, 1000);
         assert_eq!(rt;
             (status, out.calls, err.calls),
             (None, left + 1, 0),
@@ -395,9 +401,9 @@ fn failing_call_of_standard_output_is_the_last(rt: HostRuntime) -> Result<(), Fa
 #[test]
 fn failing_call_of_standard_error_is_the_last(rt: HostRuntime) -> Result<(), Fail> {
     let end = spent_end(&rt)?;
-    let (_, told, _) = told_to(rt.alloc(), end, 1000, 1000);
-    for left in 0..told.calls {
-        let (out, err, status) = told_to(rt.alloc(), end, 1000, left);
+    let (_, whole, _) = written_to(rt.alloc(), end, 1000, 1000);
+    for left in 0..whole.calls {
+        let (out, err, status) = written_to(rt.alloc(), end, 1000, left);
         assert_eq!(rt; (status, err.calls), (None, left + 1), "after {left}");
         assert!(rt;
             SPENT_FAULTS.starts_with(err.bytes.as_slice()),

@@ -2,17 +2,17 @@ ghost use Rattle.std.specs.Prelude.{◌≡◌};
 
 use super::{ServeSettings, do_serve, serve_line};
 use crate::answers::GRANTED;
-use crate::failing::{Failing, FailingReader};
-use crate::told::Told;
+use crate::output::Output;
 use std::alloc::Global;
 use std::io::{self, ErrorKind, Read, Write};
 use std::net::{Ipv4Addr, Net, Shutdown, SocketAddr, TcpListener, TcpStream};
 use std::process::Abort;
 use std::test::Fail;
 use std::time::Duration;
-use vdcp_files::Input;
+use vdcp_files::NamedFile;
 use vdcp_list::Slots;
 use vdcp_port::Port;
+use vdcp_testing::{FailingReader, FailingWriter, Fails};
 use vdcp_text::Failure;
 use vdcp_value::Rate;
 use vdcp_wire::{Entry, ScriptWire, StreamWire};
@@ -93,7 +93,7 @@ where
         silence,
         ..settings(turns)
     };
-    let catalogue = Input {
+    let catalogue = NamedFile {
         name: "clips.csv",
         reader: clips,
     };
@@ -101,8 +101,8 @@ where
     do_serve(net, address, catalogue, settings, log, out, err)
 }
 
-/// What is told where the clips of a reader are served for so many turns, with so many milliseconds of silence.
-fn served_with<N, C>(net: &N, address: &str, clips: C, turns: u32, silence: u32) -> Told
+/// What is printed where the clips of a reader are served for so many turns, with so many milliseconds of silence.
+fn served_with<N, C>(net: &N, address: &str, clips: C, turns: u32, silence: u32) -> Output
 where
     N: Net + AllocGlobal,
     C: Read + Drop,
@@ -110,19 +110,19 @@ where
     let mut out = Vec::new(net.alloc());
     let mut err = Vec::new(net.alloc());
     let status = serve_to(net, address, clips, (turns, silence), &mut out, &mut err);
-    Told { out, err, status }
+    Output { out, err, status }
 }
 
 /// Serves for so many turns.
-fn served<R: Net + AllocGlobal>(rt: &R, address: &str, catalogue: &[u8], turns: u32) -> Told {
+fn served<R: Net + AllocGlobal>(rt: &R, address: &str, catalogue: &[u8], turns: u32) -> Output {
     served_with(rt, address, catalogue, turns, 4)
 }
 
-/// Nothing but these texts and this status is told.
-fn expect(rt: &impl Abort, told: &Told, out: &str, err: &str, status: u8) {
-    assert_eq!(rt; told.out.as_slice(), out.as_bytes());
-    assert_eq!(rt; told.err.as_slice(), err.as_bytes(), "{out}");
-    assert_eq!(rt; told.status, status, "{out}");
+/// Nothing but these texts and this status is given.
+fn expect(rt: &impl Abort, output: &Output, out: &str, err: &str, status: u8) {
+    assert_eq!(rt; output.out.as_slice(), out.as_bytes());
+    assert_eq!(rt; output.err.as_slice(), err.as_bytes(), "{out}");
+    assert_eq!(rt; output.status, status, "{out}");
 }
 
 /// Serves an automation that has connected and sent these bytes, and then closes its side if it `closes`:
@@ -138,11 +138,11 @@ where
         automation.shutdown(Shutdown::Write)?;
     }
     let net = (Ready { listener }, rt.alloc());
-    let told = served(&net, "127.0.0.1:0", CLIPS, turns);
+    let output = served(&net, "127.0.0.1:0", CLIPS, turns);
     let mut text = format!(in rt.alloc(); "listening {address}\n")?;
     text.push_str(last)?;
     text.push_str("\n")?;
-    expect(rt, &told, text.as_str(), "", 0);
+    expect(rt, &output, text.as_str(), "", 0);
     let mut answers = Vec::new(rt.alloc());
     automation.read_to_end(&mut answers)?;
     Ok(answers)
@@ -192,17 +192,17 @@ fn junk_spends_the_turns(rt: HostRuntime) -> Result<(), Fail> {
     Ok(())
 }
 
-fn expect_refused(rt: &impl Abort, told: &Told, text: &str, status: u8) {
-    assert_eq!(rt; told.err.as_slice(), text.as_bytes());
-    assert_eq!(rt; told.status, status, "{text}");
-    assert!(rt; told.out.is_empty(), "{text}");
+fn expect_refused(rt: &impl Abort, output: &Output, text: &str, status: u8) {
+    assert_eq!(rt; output.err.as_slice(), text.as_bytes());
+    assert_eq!(rt; output.status, status, "{text}");
+    assert!(rt; output.out.is_empty(), "{text}");
 }
 
 #[test]
 fn address_is_tested_first(rt: HostRuntime) {
     for address in ["", "localhost:80", "127.0.0.1", "127.0.0.1:80 "] {
-        let told = served(&rt, address, b"CLIP0001\n", 1);
-        expect_refused(&rt, &told, "vdcp: address\n", 2);
+        let output = served(&rt, address, b"CLIP0001\n", 1);
+        expect_refused(&rt, &output, "vdcp: address\n", 2);
     }
 }
 
@@ -210,21 +210,18 @@ fn address_is_tested_first(rt: HostRuntime) {
 fn catalogue_is_read_before_the_address_is_bound(rt: HostRuntime) -> Result<(), Fail> {
     let (_held, address) = listen(&rt)?;
     let address = format!(in rt.alloc(); "{address}")?;
-    let told = served(&rt, address.as_str(), b"CLIP0001\n", 1);
-    expect_refused(&rt, &told, "vdcp: clips.csv: row 1: columns\n", 1);
-    let told = served(&rt, address.as_str(), CLIPS, 1);
-    expect_refused(&rt, &told, "vdcp: cannot bind\n", 3);
+    let output = served(&rt, address.as_str(), b"CLIP0001\n", 1);
+    expect_refused(&rt, &output, "vdcp: clips.csv: row 1: columns\n", 1);
+    let output = served(&rt, address.as_str(), CLIPS, 1);
+    expect_refused(&rt, &output, "vdcp: cannot bind\n", 3);
     Ok(())
 }
 
 #[test]
 fn catalogue_that_is_not_read_is_told(rt: HostRuntime) {
-    let clips = FailingReader {
-        left: 2,
-        bytes: CLIPS,
-    };
-    let told = served_with(&rt, "127.0.0.1:0", clips, 1, 4);
-    expect_refused(&rt, &told, "vdcp: clips.csv: read\n", 3);
+    let clips = FailingReader::new(CLIPS, Fails::From(2));
+    let output = served_with(&rt, "127.0.0.1:0", clips, 1, 4);
+    expect_refused(&rt, &output, "vdcp: clips.csv: read\n", 3);
 }
 
 // A connection that can't have this silence is a failed line.
@@ -233,9 +230,9 @@ fn refused_silence_is_a_failed_line(rt: HostRuntime) -> Result<(), Fail> {
     let (listener, address) = listen(&rt)?;
     let _automation = TcpStream::connect(&rt, address)?;
     let net = (Ready { listener }, rt.alloc());
-    let told = served_with(&net, "127.0.0.1:0", CLIPS, 1, 0);
+    let output = served_with(&net, "127.0.0.1:0", CLIPS, 1, 0);
     let text = format!(in rt.alloc(); "listening {address}\n")?;
-    expect(&rt, &told, text.as_str(), "vdcp: line failed\n", 3);
+    expect(&rt, &output, text.as_str(), "vdcp: line failed\n", 3);
     Ok(())
 }
 
@@ -245,14 +242,14 @@ fn refused_connection_is_told(rt: HostRuntime) -> Result<(), Fail> {
     let (listener, address) = listen(&rt)?;
     listener.set_nonblocking(true)?;
     let net = (Ready { listener }, rt.alloc());
-    let told = served(&net, "127.0.0.1:0", CLIPS, 1);
+    let output = served(&net, "127.0.0.1:0", CLIPS, 1);
     let text = format!(in rt.alloc(); "listening {address}\n")?;
-    expect(&rt, &told, text.as_str(), "vdcp: cannot bind\n", 3);
+    expect(&rt, &output, text.as_str(), "vdcp: cannot bind\n", 3);
     Ok(())
 }
 
 /// Serves an automation that closes at once, for one turn: the status, and the whole text that `out` is to get.
-fn served_at_once<R>(rt: &R, out: &mut Failing) -> Result<(u8, String), Fail>
+fn served_at_once<R>(rt: &R, out: &mut FailingWriter) -> Result<(u8, String), Fail>
 where
     R: Net<Listener = TcpListener, Stream = TcpStream> + AllocGlobal + Abort,
 {
@@ -269,7 +266,7 @@ where
 #[test]
 fn failing_call_of_the_writer_is_the_last(rt: HostRuntime) -> Result<(), Fail> {
     for left in 0..100 {
-        let mut out = Failing::new(rt.alloc(), left);
+        let mut out = FailingWriter::new(rt.alloc(), Fails::From(left));
         let (status, text) = served_at_once(&rt, &mut out)?;
         assert!(rt; text.as_bytes().starts_with(out.bytes.as_slice()));
         if status == 0 {

@@ -1,9 +1,9 @@
 use super::{SimSettings, do_sim};
-use crate::failing::{Failing, FailingReader};
 use std::alloc::Global;
 use std::process::Abort;
 use std::test::Fail;
-use vdcp_files::Input;
+use vdcp_files::NamedFile;
+use vdcp_testing::{FailingReader, FailingWriter, Fails};
 use vdcp_value::Rate;
 
 const CLIPS: &[u8] = b"CLIP0001,00:00:10:00\nCLIP0002,00:00:10:00\n";
@@ -28,8 +28,8 @@ const CONFIRMING: SimSettings = SimSettings {
     ..PLAIN
 };
 
-fn file<R>(name: &str, reader: R) -> Input<'_, R> {
-    Input { name, reader }
+fn file<R>(name: &str, reader: R) -> NamedFile<'_, R> {
+    NamedFile { name, reader }
 }
 
 // What a run of this script at unit 0 and port 1, with limit 3, gives: the text on `out`, the text on
@@ -269,7 +269,7 @@ fn a_reader_may_fail(rt: HostRuntime) {
         let list = file("list.csv", b"CLIP0001\n".as_slice());
         let clips = file("clips.csv", CLIPS);
         let bytes = b"good\ngood".as_slice();
-        let script = file("script.txt", FailingReader { left, bytes });
+        let script = file("script.txt", FailingReader::new(bytes, Fails::From(left)));
         let status = do_sim(rt.alloc(), list, clips, script, PLAIN, &mut out, &mut err);
         assert_eq!(rt; err.as_slice(), line.as_bytes());
         assert_eq!(rt; status, if line.is_empty() { 0 } else { 3 });
@@ -281,7 +281,7 @@ fn a_reader_may_fail(rt: HostRuntime) {
 fn a_writer_may_fail_at_each_call(rt: HostRuntime) -> Result<(), Fail> {
     let mut failed = 0;
     for left in 0..100 {
-        let mut out = Failing::new(rt.alloc(), left);
+        let mut out = FailingWriter::new(rt.alloc(), Fails::From(left));
         let mut err = Vec::new(rt.alloc());
         let list = file("list.csv", b"CLIP0001\n".as_slice());
         let clips = file("clips.csv", CLIPS);

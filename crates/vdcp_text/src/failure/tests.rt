@@ -1,4 +1,4 @@
-use super::{Failure, LineFault, RowFault};
+use super::{Failure, RowFault, ScriptLineFault};
 use std::alloc::Global;
 use std::process::Abort;
 use std::test::Fail;
@@ -48,17 +48,17 @@ const ROWS: [(Failure<'static>, &str, u8); 27] = [
         1,
     ),
     (
-        Failure::Line("a.txt", 1, LineFault::Word),
+        Failure::ScriptLine("a.txt", 1, ScriptLineFault::Word),
         "vdcp: a.txt: line 1: word\n",
         1,
     ),
     (
-        Failure::Line("a.txt", 1, LineFault::Number),
+        Failure::ScriptLine("a.txt", 1, ScriptLineFault::Number),
         "vdcp: a.txt: line 1: number\n",
         1,
     ),
     (
-        Failure::Line("b.txt", 3, LineFault::Hex),
+        Failure::ScriptLine("b.txt", 3, ScriptLineFault::Hex),
         "vdcp: b.txt: line 3: hex\n",
         1,
     ),

@@ -1,8 +1,8 @@
 use super::do_make;
-use crate::failing::Failing;
 use std::alloc::{AllocError, Global};
 use std::io;
 use std::test::Fail;
+use vdcp_testing::{FailingWriter, Fails};
 
 // What words parted by single spaces make: the status, with the text on `out` and on `err`.
 fn make<W: io::Write, E: io::Write>(
@@ -91,17 +91,17 @@ fn other_words_are_refused(rt: HostRuntime) -> Result<(), Fail> {
 #[test]
 fn a_failing_call_of_the_writer_is_the_last(rt: HostRuntime) -> Result<(), Fail> {
     let alloc = rt.alloc();
-    let mut whole = Failing::new(alloc, 1000);
+    let mut whole = FailingWriter::new(alloc, Fails::Before(0));
     let mut err = Vec::new(alloc);
     assert_eq!(rt; make(alloc, "play", &mut whole, &mut err)?, 0);
     assert_eq!(rt; whole.flushes, 1);
     for left in 0..whole.calls {
-        let mut out = Failing::new(alloc, left);
+        let mut out = FailingWriter::new(alloc, Fails::From(left));
         assert_eq!(rt; make(alloc, "play", &mut out, &mut err)?, 3, "after {left}");
         assert_eq!(rt; out.calls, left + 1);
     }
     assert!(rt; err.is_empty());
-    let mut err = Failing::new(alloc, 0);
+    let mut err = FailingWriter::new(alloc, Fails::From(0));
     assert_eq!(rt; make(alloc, "jog", &mut whole, &mut err)?, 3);
     Ok(())
 }

@@ -1,9 +1,9 @@
 use super::do_show;
-use crate::failing::Failing;
 use linked_list_allocator::LocalHeap;
 use std::alloc::Global;
 use std::process::Abort;
 use std::test::Fail;
+use vdcp_testing::{FailingWriter, Fails};
 
 // What a burst shows: the text on `out`, the text on `err`, and the status.
 fn shown(alloc: Global, hex: &str, meanings: bool) -> (Vec<u8>, Vec<u8>, u8) {
@@ -138,7 +138,7 @@ fn refused_memory_is_told(rt: HostRuntime) -> Result<(), Fail> {
 fn a_failing_call_of_the_writer_is_the_last(rt: HostRuntime) -> Result<(), Fail> {
     let alloc = rt.alloc();
     let text = b"unit 0 type 1 code 01 data -\nclean\n".as_slice();
-    let mut whole = Failing::new(alloc, 1000);
+    let mut whole = FailingWriter::new(alloc, Fails::Before(0));
     let mut err = Vec::new(alloc);
     assert_eq!(rt;
         do_show(alloc, "02021001ef", false, &mut whole, &mut err),
@@ -146,9 +146,8 @@ fn a_failing_call_of_the_writer_is_the_last(rt: HostRuntime) -> Result<(), Fail>
     );
     assert_eq!(rt; whole.bytes.as_slice(), text);
     assert_eq!(rt; whole.flushes, 1);
-    assert!(rt; whole.calls < 1000);
     for left in 0..whole.calls {
-        let mut out = Failing::new(alloc, left);
+        let mut out = FailingWriter::new(alloc, Fails::From(left));
         assert_eq!(rt;
             do_show(alloc, "02021001ef", false, &mut out, &mut err),
             3,
@@ -165,7 +164,7 @@ fn a_failing_call_of_the_writer_is_the_last(rt: HostRuntime) -> Result<(), Fail>
 fn a_fault_line_that_fails_has_status_3(rt: HostRuntime) {
     let alloc = rt.alloc();
     let mut out = Vec::new(alloc);
-    let mut err = Failing::new(alloc, 0);
+    let mut err = FailingWriter::new(alloc, Fails::From(0));
     assert_eq!(rt; do_show(alloc, "0", false, &mut out, &mut err), 3);
     assert_eq!(rt; err.calls, 1);
     assert!(rt; out.is_empty());

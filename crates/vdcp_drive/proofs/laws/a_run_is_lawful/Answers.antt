@@ -5,7 +5,7 @@ use Rattle.vdcp_auto.specs.Law.{IsLawful}
 use Rattle.vdcp_auto.specs.Plan.{Plan}
 use Rattle.vdcp_auto.specs.Turn.{ticked}
 use Rattle.vdcp_auto.specs.declared.exchange.Exchange.{Exchange}
-use Rattle.vdcp_auto.specs.declared.phase.State.{State}
+use Rattle.vdcp_auto.specs.State.{State}
 use Rattle.vdcp_drive.specs.Bursts.{is_within_burst}
 use Rattle.vdcp_drive.specs.Driven.{in_drop, in_send, in_listen, inputs_of}
 use Rattle.vdcp_drive.proofs.laws.a_run_is_lawful.Goals as goal

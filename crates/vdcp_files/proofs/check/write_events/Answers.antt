@@ -9,7 +9,8 @@ loop-k-preserved g c =
     let fault = c.fault_of-fault.result in
     record {
       text =
-          appends_event clips items c.loop-k.k item fault (g.W.Write.contents c.args.out.now) (g.W.Write.contents c.loop-k.out)
+          appends_event clips items c.loop-k.k item fault (g.W.Write.contents c.args.out.now)
+          (g.W.Write.contents c.loop-k.out)
           (g.W.Write.contents c.write_event.new.out) c.at-item.ensures c.fault_of-fault.ensures c.loop-k.invariant.text
           c.in_ok-write_event.ensures;
       playable =

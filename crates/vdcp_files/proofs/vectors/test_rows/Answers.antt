@@ -23,46 +23,57 @@ loop-tally-init g c = record {
 
 pub add-requires-clause-few : goal.add-requires-clause-few
 add-requires-clause-few g c =
-    let h = counted (g.R.Read.remaining c.args.file.reader) (rows_left g.R.Read.remaining c.loop-tally.rows) c.loop-tally.tally c.loop-tally.invariant.tested in
+    let h = counted (g.R.Read.remaining c.args.file.reader)
+    (rows_left g.R.Read.remaining c.loop-tally.rows) c.loop-tally.tally c.loop-tally.invariant.tested in
     omega (arith, h.1, c.if-tally-eq-MAX_ROWS.false)
 
 pub add-requires-clause-within : goal.add-requires-clause-within
 add-requires-clause-within g c =
-    (counted (g.R.Read.remaining c.args.file.reader) (rows_left g.R.Read.remaining c.loop-tally.rows) c.loop-tally.tally c.loop-tally.invariant.tested).0
+    (counted (g.R.Read.remaining c.args.file.reader)
+    (rows_left g.R.Read.remaining c.loop-tally.rows) c.loop-tally.tally c.loop-tally.invariant.tested).0
 
 pub loop-tally-preserved : goal.loop-tally-preserved
 loop-tally-preserved g c =
     let found : c.next_row.result ≡ Ok true = grind (arith, common_steps) in
-    let takes = if_ok (λ f. TakesRow (rows_left g.R.Read.remaining c.loop-tally.rows) (rows_left g.R.Read.remaining c.next_row.new.reader) f
+    let takes = if_ok (λ f. TakesRow (rows_left g.R.Read.remaining c.loop-tally.rows)
+    (rows_left g.R.Read.remaining c.next_row.new.reader) f
     (fields_of c.next_row.new.row))
     c.next_row.result true c.next_row.ensures.takes found in
-    let h = counted (g.R.Read.remaining c.args.file.reader) (rows_left g.R.Read.remaining c.loop-tally.rows) c.loop-tally.tally c.loop-tally.invariant.tested in
+    let h = counted (g.R.Read.remaining c.args.file.reader)
+    (rows_left g.R.Read.remaining c.loop-tally.rows) c.loop-tally.tally c.loop-tally.invariant.tested in
     let room : c.loop-tally.tally.rows < most_rows = omega (arith, h.1, c.if-tally-eq-MAX_ROWS.false) in
     record {
-      set = if_ok (λ f. f ≡ true → IsSet c.next_row.new.reader) c.next_row.result true c.next_row.ensures.set found refl;
+      set = if_ok (λ f. f ≡ true
+          → IsSet c.next_row.new.reader) c.next_row.result true c.next_row.ensures.set found refl;
       tested =
           tested_next (record {
             none = c.rows_are_read_in_order.ensures.none;
             more = c.rows_are_read_in_order.ensures.more;
             all = c.rows_are_read_in_order.ensures.all;
             begins = c.rows_are_read_in_order.ensures.begins;
-          }) (g.R.Read.remaining c.args.file.reader) (rows_left g.R.Read.remaining c.loop-tally.rows) (rows_left g.R.Read.remaining c.next_row.new.reader)
+          }) (g.R.Read.remaining c.args.file.reader) (rows_left g.R.Read.remaining c.loop-tally.rows)
+          (rows_left g.R.Read.remaining c.next_row.new.reader)
           c.loop-tally.tally c.add.new.self (fields_of c.next_row.new.row)
-          (finding_of c.in_ok-verdict.verdict) c.loop-tally.invariant.tested takes room c.in_ok-verdict.ensures c.in_ok-add.ensures;
+          (finding_of c.in_ok-verdict.verdict) c.loop-tally.invariant.tested takes room
+          c.in_ok-verdict.ensures c.in_ok-add.ensures;
     }
 
 pub loop-tally-smaller : goal.loop-tally-smaller
 loop-tally-smaller g c =
-    let h = counted (g.R.Read.remaining c.args.file.reader) (rows_left g.R.Read.remaining c.loop-tally.rows) c.loop-tally.tally c.loop-tally.invariant.tested in
-    let one = counts_one (g.R.Read.remaining c.args.file.reader) (rows_left g.R.Read.remaining c.loop-tally.rows) c.loop-tally.tally c.add.new.self
+    let h = counted (g.R.Read.remaining c.args.file.reader)
+    (rows_left g.R.Read.remaining c.loop-tally.rows) c.loop-tally.tally c.loop-tally.invariant.tested in
+    let one = counts_one (g.R.Read.remaining c.args.file.reader)
+    (rows_left g.R.Read.remaining c.loop-tally.rows) c.loop-tally.tally c.add.new.self
     (finding_of c.in_ok-verdict.verdict) c.loop-tally.invariant.tested c.in_ok-add.ensures in
-    let less : most_rows - c.add.new.self.rows < most_rows - c.loop-tally.tally.rows = omega (arith, h.1, one, c.if-tally-eq-MAX_ROWS.false) in
+    let less : most_rows - c.add.new.self.rows < most_rows - c.loop-tally.tally.rows =
+    omega (arith, h.1, one, c.if-tally-eq-MAX_ROWS.false) in
     less
 
 pub returns-then-tally-eq-MAX_ROWS-clause-refused : goal.returns-then-tally-eq-MAX_ROWS-clause-refused
 returns-then-tally-eq-MAX_ROWS-clause-refused g c =
     let found : c.next_row.result ≡ Ok true = grind (arith, common_steps) in
-    let takes = if_ok (λ f. TakesRow (rows_left g.R.Read.remaining c.loop-tally.rows) (rows_left g.R.Read.remaining c.next_row.new.reader) f
+    let takes = if_ok (λ f. TakesRow (rows_left g.R.Read.remaining c.loop-tally.rows)
+    (rows_left g.R.Read.remaining c.next_row.new.reader) f
     (fields_of c.next_row.new.row))
     c.next_row.result true c.next_row.ensures.takes found in
     inr (inr (
@@ -80,7 +91,8 @@ returns-then-tally-eq-MAX_ROWS-clause-refused g c =
 pub returns-clause-tally : goal.returns-clause-tally
 returns-clause-tally g c =
     let none : c.next_row.result ≡ Ok false = grind (arith, common_steps) in
-    let takes = if_ok (λ f. TakesRow (rows_left g.R.Read.remaining c.loop-tally.rows) (rows_left g.R.Read.remaining c.next_row.new.reader) f
+    let takes = if_ok (λ f. TakesRow (rows_left g.R.Read.remaining c.loop-tally.rows)
+    (rows_left g.R.Read.remaining c.next_row.new.reader) f
     (fields_of c.next_row.new.row))
     c.next_row.result false c.next_row.ensures.takes none in
     tested_all (record {
@@ -88,5 +100,6 @@ returns-clause-tally g c =
       more = c.rows_are_read_in_order.ensures.more;
       all = c.rows_are_read_in_order.ensures.all;
       begins = c.rows_are_read_in_order.ensures.begins;
-    }) (g.R.Read.remaining c.args.file.reader) (rows_left g.R.Read.remaining c.loop-tally.rows) (rows_left g.R.Read.remaining c.next_row.new.reader)
+    }) (g.R.Read.remaining c.args.file.reader) (rows_left g.R.Read.remaining c.loop-tally.rows)
+    (rows_left g.R.Read.remaining c.next_row.new.reader)
     c.loop-tally.tally (fields_of c.next_row.new.row) c.loop-tally.invariant.tested takes

@@ -16,7 +16,7 @@ loop-k-preserved g c =
     let number : c.as_str.result.now ≡ decimal c.loop-k.k = c.as_str.ensures.value ∙ on_ok c.show_number.result shown c.show_number.ensures in
     record {
       text =
-          events_step c.args.rate c.has_part-with_parts.result (g.S.Source.items c.args.source.now) c.loop-k.k c.at-item.result c.as_str.result.now
+          events_step c.args.rate c.args.with_parts (g.S.Source.items c.args.source.now) c.loop-k.k c.at-item.result c.as_str.result.now
           (text_written (λ text. Some text.items) c.loop-k.rows) (text_written (λ text. Some text.items) c.write_event.new.rows)
           c.at-item.ensures number c.loop-k.invariant.text (on_ok c.write_event.result good c.write_event.ensures.text);
       setup = on_ok c.write_event.result good c.write_event.ensures.setup;

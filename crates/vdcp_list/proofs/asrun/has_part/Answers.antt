@@ -1,6 +1,10 @@
 use Rattle.std.proofs.Common.{sym, ◌∙◌}
-use Rattle.vdcp_list.proofs.Events.{no_part_more, part_at}
+use Rattle.vdcp_list.proofs.Events.{no_part_more, part_among, part_at}
 use Rattle.vdcp_list.proofs.asrun.has_part.Goals as goal
+
+pub returns-then-among : goal.returns-then-among
+returns-then-among g c =
+    sym (part_among (g.S.Source.items c.args.source.now) c.args.from (sym c.requires.among ∙ c.if-among.true))
 
 pub returns-then-is_some : goal.returns-then-is_some
 returns-then-is_some g c =

@@ -4,9 +4,9 @@ use Rattle.vdcp_net.proofs.Reached.{new_ends_so}
 use Rattle.vdcp_net.proofs.run.run_list.Goals as goal
 use Rattle.vdcp_net.specs.Run.{not_connected}
 
-pub returns-in_default-clause-unplayed : goal.returns-in_default-clause-unplayed
-returns-in_default-clause-unplayed g c =
-    not_connected (c.in_ok-address.address, c.in_ok-address.ensures.address) (items_of c.in_ok-events.events, c.in_ok-events.ensures.events) refl
+pub returns-in_default-connect-clause-unplayed : goal.returns-in_default-connect-clause-unplayed
+returns-in_default-connect-clause-unplayed g c =
+    not_connected (c.in-Ok.address, c.in-Ok.ensures.address) (items_of c.in_ok-events.events, c.in_ok-events.ensures.events) refl
 
 pub returns-clause-whole : goal.returns-clause-whole
 returns-clause-whole g c = (items_of c.in_ok-events.events, c.in_ok-events.ensures.events)

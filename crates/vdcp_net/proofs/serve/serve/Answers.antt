@@ -5,16 +5,16 @@ use Rattle.vdcp_net.specs.Serve.{no_catalogue}
 
 pub returns-clause-served : goal.returns-clause-served
 returns-clause-served g c =
-    served_there c.args.settings.rate _ _ _ _ c.serve_line.result (c.in_ok-clips.clips, c.in_ok-clips.ensures.clips) c.in_ok-stream.ensures.prints
+    served_there c.args.settings.rate _ _ _ _ c.serve_line.result (c.in_ok-clips.clips, c.in_ok-clips.ensures.clips) c.in-Ok-accept_one.ensures.prints
     c.serve_line.ensures.ended
 
 pub returns-clause-unserved : goal.returns-clause-unserved
 returns-clause-unserved g c =
     unserved_line c.args.settings.rate c.args.address.now _ _ _ _ c.serve_line.result
-    (c.in_ok-address.address, c.in_ok-address.ensures.address) (c.in_ok-clips.clips, c.in_ok-clips.ensures.clips) c.in_ok-stream.ensures.prints c.serve_line.ensures.failed
+    (c.in-Ok.address, c.in-Ok.ensures.address) (c.in_ok-clips.clips, c.in_ok-clips.ensures.clips) c.in-Ok-accept_one.ensures.prints c.serve_line.ensures.failed
 
 pub returns-in_err-clips-clause-unserved : goal.returns-in_err-clips-clause-unserved
 returns-in_err-clips-clause-unserved g c =
-    let p = err_from_is_err_and c.from_residual-in_err-clips.result c.from_residual-in_err-clips.ensures.1 in
-    rw (p.1, p.2) (no_catalogue (c.in_ok-address.address, c.in_ok-address.ensures.address) c.in_err-clips.ensures.refused
+    let p = err_from_is_err_and c.from_residual.result c.from_residual.ensures.1 in
+    rw (p.1, p.2) (no_catalogue (c.in-Ok.address, c.in-Ok.ensures.address) c.in_err-clips.ensures.refused
     (keeps_itself (g.W.Write.contents c.args.out.now)))

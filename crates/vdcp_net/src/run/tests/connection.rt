@@ -3,8 +3,8 @@ ghost use Rattle.std.specs.Prelude.{◌≤◌};
 
 use super::{SETTINGS, expect, take_file, tell, temporary};
 use crate::answers::{GRANTED, TWO_EVENTS};
+use crate::output::Output;
 use crate::run::{RunSettings, Showing, do_run, new_controller, play_connected};
-use crate::told::Told;
 use std::io::{self, ErrorKind, Read, Write};
 use std::net::{Ipv4Addr, OpenStream, SocketAddr, TcpListener, TcpStream};
 use std::process::Abort;
@@ -12,7 +12,7 @@ use std::test::Fail;
 use std::time::{Duration, Instant};
 use std::{fs, mem};
 use vdcp_drive::{Line, Server};
-use vdcp_files::Input;
+use vdcp_files::NamedFile;
 use vdcp_list::{Table, read_catalogue, read_list};
 use vdcp_port::Port;
 use vdcp_value::Rate;
@@ -131,7 +131,7 @@ fn played(
     list: &[u8],
     near: Near,
     settings: RunSettings<'_>,
-) -> Result<Told, Fail> {
+) -> Result<Output, Fail> {
     let settings = RunSettings {
         unit: 0,
         limit: 3,
@@ -149,10 +149,10 @@ fn far_end_that_closes_at_each_byte_of_an_answer_has_closed(rt: HostRuntime) -> 
     for cut in 0..=GRANTED.len() {
         let (stream, far) = pair(&rt)?;
         let far = Far::Closes(far, cut);
-        let told = played(&rt, b"CLIP0001\n", Near { stream, far }, SETTINGS)?;
+        let output = played(&rt, b"CLIP0001\n", Near { stream, far }, SETTINGS)?;
         expect(
             &rt,
-            &told,
+            &output,
             "reported 0\noutcome open\n",
             "vdcp: line closed\n",
             3,
@@ -168,10 +168,10 @@ fn far_end_that_closes_at_once_has_closed(rt: HostRuntime) -> Result<(), Fail> {
         stream,
         far: Far::Gone,
     };
-    let told = played(&rt, b"CLIP0001\n", near, SETTINGS)?;
+    let output = played(&rt, b"CLIP0001\n", near, SETTINGS)?;
     expect(
         &rt,
-        &told,
+        &output,
         "reported 0\noutcome open\n",
         "vdcp: line closed\n",
         3,
@@ -183,10 +183,10 @@ fn far_end_that_closes_at_once_has_closed(rt: HostRuntime) -> Result<(), Fail> {
 fn reset_connection_has_failed(rt: HostRuntime) -> Result<(), Fail> {
     let (stream, far) = pair(&rt)?;
     let far = Far::Resets(far);
-    let told = played(&rt, b"CLIP0001\n", Near { stream, far }, SETTINGS)?;
+    let output = played(&rt, b"CLIP0001\n", Near { stream, far }, SETTINGS)?;
     expect(
         &rt,
-        &told,
+        &output,
         "reported 0\noutcome open\n",
         "vdcp: line failed\n",
         3,
@@ -198,8 +198,8 @@ fn reset_connection_has_failed(rt: HostRuntime) -> Result<(), Fail> {
 fn far_end_that_never_answers_is_lost(rt: HostRuntime) -> Result<(), Fail> {
     let (stream, far) = pair(&rt)?;
     let far = Far::Silent(far);
-    let told = played(&rt, b"CLIP0001\n", Near { stream, far }, SETTINGS)?;
-    expect(&rt, &told, "reported 0\noutcome lost\n", "", 3);
+    let output = played(&rt, b"CLIP0001\n", Near { stream, far }, SETTINGS)?;
+    expect(&rt, &output, "reported 0\noutcome lost\n", "", 3);
     Ok(())
 }
 
@@ -208,8 +208,14 @@ fn far_end_that_sends_junk_spends_the_listens(rt: HostRuntime) -> Result<(), Fai
     let (stream, mut far) = pair(&rt)?;
     fill(&mut far)?;
     let far = Far::Junk(far);
-    let told = played(&rt, b"CLIP0001\n", Near { stream, far }, SETTINGS)?;
-    expect(&rt, &told, "reported 0\noutcome open\n", "vdcp: spent\n", 3);
+    let output = played(&rt, b"CLIP0001\n", Near { stream, far }, SETTINGS)?;
+    expect(
+        &rt,
+        &output,
+        "reported 0\noutcome open\n",
+        "vdcp: spent\n",
+        3,
+    );
     Ok(())
 }
 
@@ -224,10 +230,10 @@ fn connection_that_refuses_the_silence_has_failed(rt: HostRuntime) -> Result<(),
         asrun: Some(name.as_str()),
         ..SETTINGS
     };
-    let told = played(&rt, b"CLIP0001\n", Near { stream, far }, settings)?;
+    let output = played(&rt, b"CLIP0001\n", Near { stream, far }, settings)?;
     expect(
         &rt,
-        &told,
+        &output,
         "reported 0\noutcome open\n",
         "vdcp: line failed\n",
         3,
@@ -255,8 +261,8 @@ fn served_list_is_played(rt: HostRuntime) -> Result<(), Fail> {
             asrun: Some(name.as_str()),
             ..SETTINGS
         };
-        let told = played(&rt, TWO_EVENTS, served(&rt)?, settings)?;
-        expect(&rt, &told, "reported 2\noutcome done\n", "", 0);
+        let output = played(&rt, TWO_EVENTS, served(&rt)?, settings)?;
+        expect(&rt, &output, "reported 2\noutcome done\n", "", 0);
         let written = take_file(&rt, name.as_str())?;
         assert_eq!(rt; written.as_str(), "0,CLIP0001\n1,\"A,B\"\n");
     }
@@ -264,20 +270,20 @@ fn served_list_is_played(rt: HostRuntime) -> Result<(), Fail> {
 }
 
 // The whole subcommand.
-fn run(rt: &HostRuntime, address: &str, list: &[u8], settings: RunSettings<'_>) -> Told
+fn run(rt: &HostRuntime, address: &str, list: &[u8], settings: RunSettings<'_>) -> Output
     requires unit { settings.unit ≤ 15 }
     requires some { 1 ≤ settings.limit }
     requires few { settings.limit ≤ 1000 }
 {
     let mut out = Vec::new(rt.alloc());
     let mut err = Vec::new(rt.alloc());
-    let list = Input {
+    let list = NamedFile {
         name: "list.csv",
         reader: list,
     };
     let showing: Showing<Vec<u8>> = Showing::Nothing;
     let status = do_run(rt, address, list, settings, showing, &mut out, &mut err);
-    Told { out, err, status }
+    Output { out, err, status }
 }
 
 // A listener, and its address as a text.
@@ -314,8 +320,8 @@ fn refused_run_makes_no_file(rt: HostRuntime) -> Result<(), Fail> {
         ("[::1]:80", b"CLIP0001\n", "vdcp: address\n", 2),
     ];
     for (address, list, fault, status) in rows {
-        let told = run(&rt, address, list, settings);
-        expect(&rt, &told, "", fault, status);
+        let output = run(&rt, address, list, settings);
+        expect(&rt, &output, "", fault, status);
         assert!(rt; !fs::exists(&rt, name.as_str())?, "{fault}");
     }
     Ok(())
@@ -343,9 +349,9 @@ fn run_that_nobody_answers_is_lost(rt: HostRuntime) -> Result<(), Fail> {
     };
     let (listener, address) = listen(&rt)?;
     let start = Instant::now(&rt)?;
-    let told = run(&rt, address.as_str(), b"CLIP0001\n", settings);
+    let output = run(&rt, address.as_str(), b"CLIP0001\n", settings);
     assert!(rt; start.elapsed(&rt)? >= Duration::from_millis(200));
-    expect(&rt, &told, "reported 0\noutcome lost\n", "", 3);
+    expect(&rt, &output, "reported 0\noutcome lost\n", "", 3);
     assert!(rt; take_file(&rt, name.as_str())?.is_empty());
     // OPEN of port 2 at unit 5 was sent twice.
     let open = [0x02, 0x04, 0x35, 0x01, 0x02, 0x01, 0xC7];

@@ -1,20 +1,19 @@
--- The loop over a burst's messages: how far it is, and what it has written.
-use Rattle.std.proofs.Common.{List, ◌-◌, ◌≤◌, length, take}
+-- The loop over a burst's messages: those whose lines are written, and those still to come.
+use Rattle.std.proofs.Common.{List, ℕ, ◌≡◌, ◌++◌, length}
 use Rattle.std.specs.Io.KnownBytes.{Appends}
+use Rattle.vdcp_frame.specs.Burst.{messages_of}
 use Rattle.vdcp_frame.specs.Message.{Content}
-use Rattle.vdcp_frame.specs.Reading.{SpellsAll}
+use Rattle.vdcp_frame.specs.Walk.{coming}
 use Rattle.vdcp_text.specs.Text.{messages_text}
 use Rattle.vdcp_text.proofs.show.write_messages.Given as goal
 
--- the bytes so far are these messages, whose lines are written
-abbrev pub invariant-loop-message : goal.invariant-loop-message
-invariant-loop-message g l = record {
-  limit : l.from ≤ 4096;
-  within : l.from ≤ length l.burst;
-  messages : List Content;
-  spelt : SpellsAll messages (take l.from l.burst);
-  written : Appends (g.W.Write.contents l.initial.out) (g.W.Write.contents l.out) (messages_text l.meanings messages);
+abbrev pub invariant-messages : goal.invariant-messages
+invariant-messages g l = record {
+  burst : ◌≡◌ {A = List ℕ} l.messages.burst l.burst;
+  shown : List Content;
+  all : shown ++ coming l.messages ≡ messages_of l.burst;
+  written : Appends (g.W.Write.contents l.initial.out) (g.W.Write.contents l.out) (messages_text l.meanings shown);
 }
 
-abbrev pub decreases-loop-message : goal.decreases-loop-message
-decreases-loop-message g l = length l.burst - l.from
+abbrev pub decreases-messages : goal.decreases-messages
+decreases-messages g l = length (coming l.messages)

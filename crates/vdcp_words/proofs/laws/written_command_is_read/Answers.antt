@@ -9,7 +9,8 @@ returns-clause-read c = command_written
 
 pub returns-clause-only : goal.returns-clause-only
 returns-clause-only c unit command outcome writable reads =
-    c.one_command.ensures.only (command_message unit command) outcome (Ok command) reads (command_written unit command writable)
+    c.one_command.ensures.only (command_message unit command) outcome (Ok command) reads
+    (command_written unit command writable)
 
 pub returns-clause-computed : goal.returns-clause-computed
 returns-clause-computed c =

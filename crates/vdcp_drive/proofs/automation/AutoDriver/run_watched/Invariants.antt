@@ -1,7 +1,7 @@
 use Rattle.std.proofs.Common.{List, ◌-◌, ◌≡◌, ◌≤◌, []}
 use Rattle.std.specs.Prelude.{Some}
 use Rattle.vdcp_auto.specs.Plan.{plan_of}
-use Rattle.vdcp_auto.specs.declared.phase.State.{State}
+use Rattle.vdcp_auto.specs.State.{State}
 use Rattle.vdcp_drive.specs.Driven.{GoesOn, IsNew}
 use Rattle.vdcp_drive.specs.Lines.{AllListened}
 use Rattle.vdcp_wire.specs.Wires.{Told, IfTold}
@@ -19,7 +19,7 @@ invariant-listens g l =
       unit : l.self.unit ≡ l.fn.self.unit;
       reached : GoesOn (plan_of g.S.Source.items l.fn.self.controller) l.fn.self.controller.state l.self.controller.state;
       listened : (t : Told) → told l.fn.self.wire ≡ Some t → IfTold (told l.self.wire) (λ u. AllListened l.made t.came u.came);
-      runs : IsNew l.fn.self.controller.state l.fn.self.reader l.fn.self.heard (told l.fn.self.wire) →
+      runs : IsNew told l.fn.self →
           IfTold (told l.self.wire) (λ u. RunsAt (plan_of g.S.Source.items l.fn.self.controller) l.fn.self.unit u l.self.controller.state l.self.reader
           l.self.heard × AllListened l.made [] u.came × ((states : List State) → g.V.Watch.watched l.fn.watcher ≡ Some states
           → WatchesAt (plan_of g.S.Source.items l.fn.self.controller) l.fn.self.unit u.came states (g.V.Watch.watched l.watcher)));

@@ -1,19 +1,16 @@
-use Rattle.std.proofs.Common.{◌≡◌, [], refl, sym, subst, ap, ◌∙◌, arith}
-use Rattle.vdcp_frame.specs.Progress.{Progress, reading}
-use Rattle.vdcp_port.specs.Clock.{ClockedPort}
-use Rattle.vdcp_drive.specs.Served.{IsServed}
+use Rattle.std.proofs.Common.{ℕ, ◌≡◌, refl, sym, subst, ap, ◌∙◌, arith, rules}
+use Rattle.std.proofs.lemmas.Grind.{common_steps}
+use Rattle.vdcp_drive.specs.Lines.{AllListened}
 use Rattle.vdcp_drive.specs.Serving.{Serving}
 use Rattle.vdcp_drive.specs.Watching.{adds_aired}
+use Rattle.vdcp_drive.specs.declared.line.Ran.TheVariants as ran
 use Rattle.vdcp_wire.specs.Wires.{nothing_told}
 use Rattle.vdcp_drive.proofs.Airing.{watched_more, watched_first, watched_all}
 use Rattle.vdcp_drive.proofs.Below.{Fed}
-use Rattle.vdcp_drive.proofs.Standing.{at_start, listened_more, has_closed_then}
+use Rattle.vdcp_drive.proofs.Leaving.{fresh, serve_failed, serve_made}
+use Rattle.vdcp_drive.proofs.Standing.{listened_more, has_closed_then}
 use Rattle.vdcp_drive.proofs.Taking.{on_err_of}
 use Rattle.vdcp_drive.proofs.server.Server.serve_watched.Goals as goal
-
--- a new server over a fresh wire has served what came: nothing
-fresh : (fed : Fed) (start : ClockedPort) (reader : Progress) → reader ≡ reading 0 [] → IsServed start nothing_told start reader
-fresh fed start reader r = subst (λ (x : Progress). IsServed start nothing_told start x) (sym r) (at_start fed start)
 
 pub turns-preserved : goal.turns-preserved
 turns-preserved g c = record {
@@ -38,51 +35,56 @@ turns-preserved g c = record {
       l.1 l.2.0 l.2.1 e.2 (λ x. c.in_default.not-Closed (e.1 ∙ x)) e.3;
 }
 
-pub returns-in-Closed-clause-answer : goal.returns-in-Closed-clause-answer
-returns-in-Closed-clause-answer g c t is =
+pub returns-in-Closed-clause-leaves : goal.returns-in-Closed-clause-leaves
+returns-in-Closed-clause-leaves g c =
+    let fed : Fed = record { start = c.what_is_fed_is_followed.ensures.start; next = c.what_is_fed_is_followed.ensures.next } in
     let told = g.W.Wire.told in
-    let l = c.turns.invariant.listened t is in
-    let e = c.in_ok-line.ensures.serves in
-    has_closed_then c.turns.made c.args.turns e.0 t l.0 (told c.turns.self.wire) c.turns.self.port c.turns.self.reader c.turn-line.new.self.port
-    c.turn-line.new.self.reader c.turn-line.new.self.aired (told c.turn-line.new.self.wire)
-    l.1 l.2.0 (omega arith) e.2 (sym e.1 ∙ c.in-Closed.is) e.3
+    let inv = c.turns.invariant in
+    let o = c.in_ok-line.ensures in
+    let e = o.serves in
+    let n = c.turn-line.new.self in
+    let worked : g.W.Wire.failures c.args.self.now.wire ≡ 0 = grind (arith, common_steps) in
+    serve_made fed told g.W.Wire.failures c.args.turns c.args.self.now n ran.Closed (λ is. absurd cc) worked o.works
+    (λ start t is h.
+    let s = inv.served start t is h in
+    o.served start s.0 s.1 s.2)
+    (λ t is.
+    let l = inv.listened t is in
+    has_closed_then c.turns.made c.args.turns e.0 t l.0 (told c.turns.self.wire) c.turns.self.port c.turns.self.reader n.port n.reader n.aired (told
+    n.wire) l.1 l.2.0 (omega arith) e.2 (sym e.1 ∙ c.in-Closed.is) e.3)
+    (λ t is.
+    let l = inv.listened t is in
+    let d = o.drops l.0 l.1 in
+    (d.0, d.1, d.2 ∙ l.2.1))
 
-pub returns-in-Closed-clause-sent : goal.returns-in-Closed-clause-sent
-returns-in-Closed-clause-sent g c new =
+pub returns-clause-leaves : goal.returns-clause-leaves
+returns-clause-leaves g c =
     let fed : Fed = record { start = c.what_is_fed_is_followed.ensures.start; next = c.what_is_fed_is_followed.ensures.next } in
-    let s = c.args.self.now in
-    let h = c.turns.invariant.served s.port nothing_told new.fresh (fresh fed s.port s.reader new.at_start) in
-    let n = c.in_ok-line.ensures.served s.port h.0 h.1 h.2 in
-    (n.0, n.1, n.2.sent_is)
+    let inv = c.turns.invariant in
+    let worked : g.W.Wire.failures c.args.self.now.wire ≡ 0 = grind (arith, common_steps) in
+    let all : c.turns.made ≡ c.args.turns = omega arith in
+    serve_made fed g.W.Wire.told g.W.Wire.failures c.args.turns c.args.self.now c.turns.self ran.Spent (λ is. absurd cc) worked inv.works inv.served
+    (λ t is.
+    let l = inv.listened t is in
+    (l.0, l.1, subst (λ (n : ℕ). AllListened n t.came l.0.came) all l.2.0))
+    (λ t is.
+    let l = inv.listened t is in
+    (l.0, l.1, l.2.1))
 
-pub returns-in-Closed-clause-port : goal.returns-in-Closed-clause-port
-returns-in-Closed-clause-port g c new =
+pub returns-in_err-line-clause-leaves : goal.returns-in_err-line-clause-leaves
+returns-in_err-line-clause-leaves g c =
     let fed : Fed = record { start = c.what_is_fed_is_followed.ensures.start; next = c.what_is_fed_is_followed.ensures.next } in
-    let s = c.args.self.now in
-    let h = c.turns.invariant.served s.port nothing_told new.fresh (fresh fed s.port s.reader new.at_start) in
-    let n = c.in_ok-line.ensures.served s.port h.0 h.1 h.2 in
-    (n.0, n.1, n.2.port_is)
-
-pub returns-clause-sent : goal.returns-clause-sent
-returns-clause-sent g c new =
-    let fed : Fed = record { start = c.what_is_fed_is_followed.ensures.start; next = c.what_is_fed_is_followed.ensures.next } in
-    let s = c.args.self.now in
-    let h = c.turns.invariant.served s.port nothing_told new.fresh (fresh fed s.port s.reader new.at_start) in
-    (h.0, h.1, h.2.sent_is)
-
-pub returns-clause-port : goal.returns-clause-port
-returns-clause-port g c new =
-    let fed : Fed = record { start = c.what_is_fed_is_followed.ensures.start; next = c.what_is_fed_is_followed.ensures.next } in
-    let s = c.args.self.now in
-    let h = c.turns.invariant.served s.port nothing_told new.fresh (fresh fed s.port s.reader new.at_start) in
-    (h.0, h.1, h.2.port_is)
-
-pub returns-in_err-line-clause-broken : goal.returns-in_err-line-clause-broken
-returns-in_err-line-clause-broken g c new works =
-    let fed : Fed = record { start = c.what_is_fed_is_followed.ensures.start; next = c.what_is_fed_is_followed.ensures.next } in
-    let s = c.args.self.now in
-    let h = c.turns.invariant.served s.port nothing_told new.fresh (fresh fed s.port s.reader new.at_start) in
-    on_err_of c.from_residual.result (c.in_err-line.ensures.broken_off s.port h.0 h.1 h.2 c.turns.invariant.works)
+    let inv = c.turns.invariant in
+    let o = c.in_err-line.ensures in
+    let worked : g.W.Wire.failures c.args.self.now.wire ≡ 0 = grind (arith, common_steps) in
+    serve_failed fed g.W.Wire.told g.W.Wire.failures c.args.turns c.args.self.now c.turn-line.new.self c.from_residual.result (search rules) worked o.device
+    (λ start t is h.
+    let s = inv.served start t is h in
+    o.broken_off start s.0 s.1 s.2 inv.works)
+    (λ t is.
+    let l = inv.listened t is in
+    let d = o.drops l.0 l.1 in
+    (d.0, d.1, d.2 ∙ l.2.1))
 
 pub returns-in-Closed-clause-watched_since : goal.returns-in-Closed-clause-watched_since
 returns-in-Closed-clause-watched_since g c start t items is h w =

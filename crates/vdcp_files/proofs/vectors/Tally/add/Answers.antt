@@ -5,4 +5,5 @@ use Rattle.vdcp_files.specs.Vectors.{finding_of}
 
 pub returns : goal.returns
 returns c findings h =
-    tally_push findings (finding_of c.args.verdict) c.args.self.now _ h refl (ap (λ n. c.args.self.now.bad + n) c.bad.ensures.bad) c.in_ok-write_line.ensures
+    tally_push findings (finding_of c.args.verdict) c.args.self.now _ h refl
+    (ap (λ n. c.args.self.now.bad + n) c.bad.ensures.bad) c.in_ok-write_line.ensures

@@ -1,30 +1,36 @@
 -- One more message of a burst is answered.
-use Rattle.std.proofs.Common.{arith}
-use Rattle.vdcp_frame.specs.Message.{content_of}
-use Rattle.vdcp_port.proofs.Answering.{answers_more}
-use Rattle.vdcp_port.proofs.Sizes.{size_of_range}
+use Rattle.std.proofs.Common.{List, length, arith, ap, subst, ◌∙◌}
+use Rattle.vdcp_frame.specs.Message.{Content, content_of}
+use Rattle.vdcp_frame.specs.Burst.{messages_of}
+use Rattle.vdcp_frame.specs.Walk.{coming}
+use Rattle.vdcp_port.specs.Answers.{bytes_for_all}
+use Rattle.vdcp_port.specs.Clock.{ClockedPort}
+use Rattle.vdcp_port.proofs.Answering.{Walked, walks_on}
+use Rattle.vdcp_port.proofs.Sizes.{size_of_first}
 use Rattle.vdcp_port.proofs.port.Port.answer_messages.Goals as goal
-
-pub answer_message-requires : goal.answer_message-requires
-answer_message-requires g c =
-    let short = c.an_answer_is_short.ensures c.messages.self (content_of c.in-Message.message) _ c.in-Message.ensures.message in
-    let size = size_of_range c.args.burst.now c.messages.from c.in-Message.next c.in-Message.ensures.further.0 c.in-Message.ensures.further.2 in
-    omega (arith, short, size, c.in-Message.ensures.further, c.messages.invariant.room)
 
 pub messages-preserved : goal.messages-preserved
 messages-preserved g c =
-    let message = content_of c.in-Message.message in
-    let short = c.an_answer_is_short.ensures c.messages.self message _ c.in-Message.ensures.message in
-    let size = size_of_range c.args.burst.now c.messages.from c.in-Message.next c.in-Message.ensures.further.0 c.in-Message.ensures.further.2 in
-    let walked = c.messages.invariant.walked in
+    let written = g.S.Sink.written in
+    let all = messages_of c.args.burst.now in
+    let now = c.messages.self in
+    let message = content_of c.in-Some.message in
+    let rest = coming c.next.new.self in
+    let next_is = c.in-Some.ensures.some in
     record {
-      within = c.in-Message.ensures.further.1;
-      in_burst = c.in-Message.ensures.further.2;
-      walked = record {
-        messages = _;
-        answered = answers_more _ _ _ _ _ _ _ _ _ _ _ walked.messages message walked.answered
-            (c.in-Message.ensures.next walked.messages walked.answered.spelt)
-            c.answer_message.ensures.sent c.answer_message.ensures.aired c.answer_message.ensures.next c.or-aired.ensures;
-      };
-      room = omega (arith, short, size, c.answer_message.ensures.room, c.messages.invariant.room, c.in-Message.ensures.further);
+      burst = c.next.ensures.burst ∙ c.messages.invariant.burst;
+      walked = walks_on c.args.self.now now c.answer_message.new.self all rest message
+          (written c.args.out.now) (written c.messages.out) (written c.answer_message.new.out)
+          c.messages.aired c.answer_message.result c.or-aired.result
+          (subst (λ (ms : List Content). Walked c.args.self.now now all ms (written c.args.out.now) (written c.messages.out) c.messages.aired)
+          next_is c.messages.invariant.walked)
+          c.answer_message.ensures.sent c.answer_message.ensures.aired c.answer_message.ensures.next c.or-aired.ensures;
+      room = omega (
+        arith,
+        c.messages.invariant.room,
+        c.answer_message.ensures.room,
+        ap (λ (ms : List Content). length (bytes_for_all now ms)) next_is,
+        size_of_first now message rest,
+        ap (λ (p : ClockedPort). length (bytes_for_all p rest)) c.answer_message.ensures.next,
+      );
     }

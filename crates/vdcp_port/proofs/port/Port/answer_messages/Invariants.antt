@@ -1,18 +1,21 @@
--- The walk over a burst: what is answered so far, and the room that is left.
-use Rattle.std.proofs.Common.{◌≤◌, ◌+◌, ◌*◌, ◌-◌, length, take, min}
+-- The walk along a burst: what is answered so far, and the room for what is still to come.
+use Rattle.std.proofs.Common.{◌≡◌, ◌≤◌, ◌+◌, ℕ, List, length}
+use Rattle.vdcp_frame.specs.Burst.{messages_of}
+use Rattle.vdcp_frame.specs.Walk.{coming}
+use Rattle.vdcp_port.specs.Answers.{bytes_for_all}
 use Rattle.vdcp_port.proofs.Answering.{Walked}
 use Rattle.vdcp_port.proofs.port.Port.answer_messages.Given as goal
 
--- what is read is answered, and there is room for the answers to what is left
 abbrev pub invariant-messages : goal.invariant-messages
 invariant-messages g l =
     let written = g.S.Sink.written in
+    let all = messages_of l.burst in
     record {
-      within : l.from ≤ 4096;
-      in_burst : l.from ≤ length l.burst;
-      walked : Walked l.fn.self l.self (take l.from l.burst) (written l.fn.out) (written l.out) l.aired;
-      room : 3 * (min (length l.burst) 4096 - l.from) + 2 ≤ g.S.Sink.room l.out;
+      burst : ◌≡◌ {A = List ℕ} l.messages.burst l.burst;
+      walked : Walked l.fn.self l.self all (coming l.messages) (written l.fn.out) (written l.out) l.aired;
+      room : g.S.Sink.room l.fn.out + length (bytes_for_all l.self (coming l.messages))
+          ≤ g.S.Sink.room l.out + length (bytes_for_all l.fn.self all);
     }
 
 abbrev pub decreases-messages : goal.decreases-messages
-decreases-messages g l = length l.burst - l.from
+decreases-messages g l = length (coming l.messages)

@@ -26,9 +26,11 @@ loop-chunk-preserved g c =
       λ plain.
           let so_far = c.loop-chunk.invariant.3 plain in (
             so_far.0 ++ encode_lower chunk,
-            has_written_append _ _ _ _ _ _ so_far.1 (rw shown at c.in_ok-write_str.ensures.writes so_far.1.plain (refl {a = true})),
+            has_written_append _ _ _ _ _ _ so_far.1
+                (rw shown at c.in_ok-write_str.ensures.writes so_far.1.plain (refl {a = true})),
             append_assoc so_far.0 _ _
-                ∙ ap (λ (text : List ℕ). so_far.0 ++ text) (sym (ap encode_lower steps.1.0 ∙ encode_lower-append chunk rest))
+                ∙ ap (λ (text : List ℕ). so_far.0 ++ text)
+                (sym (ap encode_lower steps.1.0 ∙ encode_lower-append chunk rest))
                 ∙ so_far.2,
           ),
     )

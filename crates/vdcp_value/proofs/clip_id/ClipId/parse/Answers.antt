@@ -4,4 +4,6 @@ use Rattle.vdcp_value.specs.IdText.{IsTextOf}
 use Rattle.vdcp_value.specs.Ids.{id_bytes}
 
 pub returns-clause-accepts : goal.returns-clause-accepts
-returns-clause-accepts c = λ id t. c.parse_ascii.ensures.accepts id (subst (λ text. IsTextOf text (id_bytes id)) (sym c.as_bytes.ensures.value) t)
+returns-clause-accepts c =
+    λ id t. c.parse_ascii.ensures.accepts id
+    (subst (λ text. IsTextOf text (id_bytes id)) (sym c.as_bytes.ensures.value) t)

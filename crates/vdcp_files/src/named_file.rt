@@ -1,0 +1,63 @@
+ghost use Rattle.std.specs.Prelude.{◌≡◌, ◌≢◌, IfErr, IfOk};
+ghost use Rattle.vdcp_files.specs.Files.{RefusesCatalogue, RefusesList, file, file_failure};
+ghost use Rattle.vdcp_list.specs.Catalogues.{IsCatalogueOf};
+ghost use Rattle.vdcp_list.specs.List.{items_of};
+ghost use Rattle.vdcp_list.specs.Playlists.{IsListOf};
+ghost use Rattle.vdcp_text.specs.Failure.{status_of};
+
+use std::alloc::Global;
+use std::io;
+use vdcp_list::{List, ListFault, Table, read_catalogue, read_list};
+use vdcp_text::{Failure, RowFault};
+use vdcp_value::Rate;
+
+/// A file to read, with its name.
+#[derive(Drop)]
+pub struct NamedFile<'a, R> {
+    /// Its name, as it was given.
+    pub name: &'a str,
+    pub reader: R,
+}
+
+impl<'a, R: io::Read + Drop> NamedFile<'a, R> {
+    /// Reads the playlist in the file, with time codes at this rate. `Row` where a row is refused, `Read` where
+    /// the file can't be read, and `Memory`.
+    pub fn read_list(self, alloc: Global, rate: Rate) -> Result<List, Failure<'a>>
+        ensures events { IfOk result (λ events. IsListOf rate (R.remaining self.entry.reader) (items_of events)) }
+        ensures refused { IfErr result (RefusesList rate (file self.entry.name (R.remaining self.entry.reader))) }
+        ensures statuses { IfErr result (λ e. status_of e ≢ 2) }
+    {
+        match read_list(alloc, self.reader, rate) {
+            Ok(events) => Ok(events),
+            Err(fault) => Err(file_failure(self.name, fault)),
+        }
+    }
+
+    /// Reads the catalogue in the file, with time codes at this rate. `Row` where a row is refused, `Read` where
+    /// the file can't be read, and `Memory`.
+    pub fn read_catalogue(self, alloc: Global, rate: Rate) -> Result<Table, Failure<'a>>
+        ensures clips { IfOk result (IsCatalogueOf rate (R.remaining self.entry.reader)) }
+        ensures refused { IfErr result (RefusesCatalogue rate (file self.entry.name (R.remaining self.entry.reader))) }
+        ensures statuses { IfErr result (λ e. status_of e ≢ 2) }
+    {
+        match read_catalogue(alloc, self.reader, rate) {
+            Ok(clips) => Ok(clips),
+            Err(fault) => Err(file_failure(self.name, fault)),
+        }
+    }
+}
+
+/// Why the list or the catalogue of this name isn't read.
+pub fn file_failure<'a>(name: &'a str, fault: ListFault) -> Failure<'a>
+    ensures { result ≡ file_failure name.entry fault }
+{
+    match fault {
+        ListFault::Columns(row) => Failure::Row(name, row, RowFault::Columns),
+        ListFault::Id(row) => Failure::Row(name, row, RowFault::Id),
+        ListFault::Time(row) => Failure::Row(name, row, RowFault::Time),
+        ListFault::Twice(row) => Failure::Row(name, row, RowFault::Twice),
+        ListFault::TooMany(row) => Failure::Row(name, row, RowFault::TooMany),
+        ListFault::Memory => Failure::Memory,
+        ListFault::Read => Failure::Read(name),
+    }
+}

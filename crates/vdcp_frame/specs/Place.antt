@@ -1,0 +1,28 @@
+-- Where a streaming reader is, with the buffer that has the bytes held.
+use Rattle.std.specs.Prelude.{ℕ, ◌≡◌, ◌+◌, ◌<◌, ◌≤◌, List, ◌++◌, length, take}
+use Rattle.vdcp_frame.specs.declared.reader.Place.{Place}
+use Rattle.vdcp_frame.specs.declared.reader.Place.TheVariants as place
+use Rattle.vdcp_frame.specs.Head.{IsPart}
+use Rattle.vdcp_frame.specs.Progress.{Progress, reading, failed}
+use Rattle.vdcp_frame.specs.Reading.{burst_limit}
+
+abbrev pub progress_at : Place → List ℕ → Progress
+progress_at (place.Reading taken held needs) buffer = reading taken (take held buffer)
+progress_at place.Failed buffer = failed
+
+-- the bytes held are part of a message, which the buffer has room for
+pub record Holds (taken held needs : ℕ) (buffer : List ℕ) : Type 0 where
+  pub limit : taken ≤ burst_limit
+  pub within : held ≤ length buffer
+  pub part : IsPart (take held buffer) needs
+
+abbrev pub IsPlace : Place → List ℕ → Type 0
+IsPlace (place.Reading taken held needs) buffer = Holds taken held needs buffer
+IsPlace place.Failed buffer = Unit {0}
+
+-- n bytes of a piece were copied after those held, and all of it unless the buffer is full or the burst too long
+pub record Fills (held taken : ℕ) (piece : List ℕ) (n : ℕ) (old new : List ℕ) : Type 0 where
+  pub within : n ≤ length piece
+  pub limit : taken + n ≤ burst_limit
+  pub all : held + n < 258 → taken + n < burst_limit → n ≡ length piece
+  pub copied : take (held + n) new ≡ take held old ++ take n piece

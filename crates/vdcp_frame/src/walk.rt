@@ -1,0 +1,116 @@
+ghost use Rattle.std.specs.Prelude.{◌≡◌, ◌≤◌, ◌∷◌, [], length, take, IfSome, IfNone};
+ghost use Rattle.vdcp_frame.specs.Burst.{messages_of, end_of};
+ghost use Rattle.vdcp_frame.specs.Message.{content_of};
+ghost use Rattle.vdcp_frame.specs.Reader.{IsEnd};
+ghost use Rattle.vdcp_frame.specs.Reading.{SpellsAll, AreMessages};
+ghost use Rattle.vdcp_frame.specs.Walk.{Walk, coming, end_seen};
+
+use crate::burst::{LIMIT, Step, read_at};
+use crate::got::Ended;
+use crate::message::{Fault, Message};
+use std::marker::Model;
+
+/// How a burst ends.
+#[derive(Clone, Copy, Debug, PartialEq, Eq)]
+pub enum End {
+    /// After a whole message, or with no byte.
+    Clean,
+    /// Inside a message, of which so many bytes came.
+    Cut(usize),
+    /// In a fault, with its place, counted from 1 at the burst's first byte.
+    Fault(Fault, usize),
+}
+
+impl End {
+    /// The end as a `Reader` tells it at a silence.
+    pub fn ended(self) -> Ended
+        ensures { IsEnd result (end_seen self) }
+    {
+        match self {
+            End::Clean => Ended::Clean,
+            End::Cut(count) => Ended::Cut(count),
+            End::Fault(_, _) => Ended::AfterFault,
+        }
+    }
+}
+
+/// The messages of a burst that lies in memory, one after another, and then its end.
+#[derive(Drop)]
+pub struct Messages<'a> {
+    burst: &'a [u8],
+    place: usize,
+}
+
+impl<'a> Model for Messages<'a> {
+    ghost use Rattle.vdcp_frame.specs.Walk.{Walk, IsWalk};
+
+    ghost Value = { Walk };
+
+    ghost view = { λ m. record { burst = m.burst.now; place = m.place } };
+
+    ghost invariant = { λ m. IsWalk (record { burst = m.burst.now; place = m.place }) };
+}
+
+impl<'a> Messages<'a> {
+    /// All messages of the burst.
+    pub fn of(burst: &'a [u8]) -> Self
+        ensures burst { result.burst ≡ burst.now }
+        ensures all { coming result ≡ messages_of burst.now }
+    {
+        Messages { burst, place: 0 }
+    }
+
+    /// The next message, or none where the burst has no more.
+    pub fn next(&mut self) -> Option<Message<'a>>
+        ensures some { IfSome result (λ m. coming self.old ≡ content_of m ∷ coming self.new) }
+        ensures none { IfNone result (coming self.old ≡ []) }
+        ensures rest { IfNone result (self.new ≡ self.old) }
+        ensures burst { self.new.burst ≡ self.old.burst }
+    {
+        match read_at(self.burst, self.place) {
+            Step::Message(message, next) => {
+                self.place = next;
+                Some(message)
+            }
+            Step::Clean => None,
+            Step::Cut(_) => None,
+            Step::Fault(_, _) => None,
+        }
+    }
+
+    /// How the burst ends, whatever messages are left.
+    pub fn end(self) -> End
+        ensures { end_seen result ≡ end_of self.entry.burst }
+    {
+        end_after(self.burst, self.place)
+    }
+}
+
+// The end of a burst of which the first `from` bytes are whole messages.
+fn end_after(burst: &[u8], from: usize) -> End
+    requires limit { from ≤ LIMIT }
+    requires within { from ≤ length burst.now }
+    requires whole { AreMessages (take from burst.now) }
+    ensures { end_seen result ≡ end_of burst.now }
+{
+    let mut place = from;
+    'messages: loop {
+        match read_at(burst, place) {
+            Step::Message(_, next) => place = next,
+            Step::Clean => return End::Clean,
+            Step::Cut(count) => return End::Cut(count),
+            Step::Fault(fault, place) => return End::Fault(fault, place),
+        }
+    }
+}
+
+/// How many bytes of a burst are whole messages.
+pub fn whole_messages(burst: &[u8]) -> usize
+    ensures limit { result ≤ 4096 }
+    ensures within { result ≤ length burst.now }
+    ensures spelt { SpellsAll (messages_of burst.now) (take result burst.now) }
+{
+    let mut messages = Messages::of(burst);
+    'messages: while messages.next().is_some() {}
+    messages.place
+}

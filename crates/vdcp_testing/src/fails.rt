@@ -1,0 +1,26 @@
+/// Which calls fail. Calls are counted from 0.
+#[derive(Clone, Copy, Debug, PartialEq, Eq)]
+pub enum Fails {
+    /// Each call before this one.
+    Before(usize),
+    /// This call alone.
+    At(usize),
+    /// This call and each later one.
+    From(usize),
+}
+
+impl Fails {
+    ghost use Rattle.std.specs.Prelude.{◌↔◌, IsTrue};
+    ghost use Rattle.vdcp_testing.specs.Fails.{FailsAt};
+
+    /// Whether this call fails.
+    pub fn fails_at(self, call: usize) -> bool
+        ensures { IsTrue result ↔ FailsAt self call }
+    {
+        match self {
+            Fails::Before(end) => call < end,
+            Fails::At(place) => call == place,
+            Fails::From(start) => start <= call,
+        }
+    }
+}

@@ -1,0 +1,52 @@
+ghost use Rattle.std.specs.Io.KnownBytes.{Appends, Keeps};
+ghost use Rattle.std.specs.Prelude.{◌≡◌, ◌⊎◌, IfErr, OnOk};
+ghost use Rattle.vdcp_wire.specs.Listening.{PrintsListening, listening_line};
+
+use std::io;
+use std::net::{Net, OpenListener, SocketAddr, SocketAddrV4};
+use thiserror::Error;
+
+/// Why no connection is taken.
+#[derive(Clone, Copy, Debug, PartialEq, Eq, Error)]
+pub enum AcceptFault {
+    /// The address can't be listened at, or no connection came there.
+    #[error("can't listen at the address")]
+    Bind,
+    /// The writer failed.
+    #[error("the writer failed")]
+    Writer,
+}
+
+/// Listens at an address and takes the first connection; the others are refused from then on. Port 0 is one that the
+/// system chooses. Once it listens, and before it waits, `out` gets a line with the address, and is flushed.
+pub fn accept_one<R: Net, W: io::Write>(
+    rt: &R,
+    address: SocketAddrV4,
+    out: &mut W,
+) -> Result<R::Stream, AcceptFault>
+    ensures prints { OnOk result (PrintsListening (W.contents out.old) (W.contents out.new)) }
+    ensures refused { IfErr result (λ fault. fault ≡ AcceptFault.Bind →
+        Keeps (W.contents out.old) (W.contents out.new) ⊎ PrintsListening (W.contents out.old) (W.contents out.new)) }
+{
+    let Ok(listener) = rt.bind(SocketAddr::V4(address)) else {
+        return Err(AcceptFault::Bind);
+    };
+    let Ok(bound) = listener.local_addr() else {
+        return Err(AcceptFault::Bind);
+    };
+    if write_listening(bound, out).is_err() {
+        return Err(AcceptFault::Writer);
+    }
+    match listener.accept() {
+        Ok((stream, _)) => Ok(stream),
+        Err(_) => Err(AcceptFault::Bind),
+    }
+}
+
+// Writes the line of the address that is listened at.
+fn write_listening<W: io::Write>(address: SocketAddr, out: &mut W) -> io::Result<()>
+    ensures { OnOk result (Appends (W.contents out.old) (W.contents out.new) (listening_line address)) }
+{
+    writeln!(out, "listening {address}")?;
+    out.flush()
+}

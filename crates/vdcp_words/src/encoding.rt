@@ -1,0 +1,26 @@
+//! The bytes of a word.
+
+ghost use Rattle.std.specs.Prelude.{◌≡◌, ◌≤◌, length};
+ghost use Rattle.vdcp_frame.specs.Message.{content_of, spelling, IsWritable};
+ghost use Rattle.vdcp_words.specs.Messages.{rest_of};
+
+use arrayvec::ArrayVec;
+use vdcp_frame::{Message, write};
+
+/// As many bytes as the longest word has: CUE WITH DATA is four bytes from the start byte to the
+/// command's code, sixteen of data and the checksum.
+pub const LONGEST: usize = 21;
+
+/// The bytes of a message that carries a word.
+#[tactic(auto, using(crate::proofs::WordBytes::short_spelling))]
+pub(crate) fn encoded(message: &Message) -> ArrayVec<u8, LONGEST>
+    requires writable { IsWritable (content_of message.now) }
+    requires short { length (rest_of (content_of message.now)) ≤ 16 }
+    ensures { result.items ≡ spelling (content_of message.now) }
+{
+    let mut spelt = ArrayVec::<u8, 512>::new();
+    write(message, &mut spelt).unwrap();
+    let mut bytes = ArrayVec::new();
+    bytes.try_extend_from_slice(spelt.as_slice()).unwrap();
+    bytes
+}
