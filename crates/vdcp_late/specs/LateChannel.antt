@@ -15,7 +15,7 @@ use Rattle.vdcp_port.specs.Port.{Cued, empty}
 use Rattle.vdcp_auto.specs.Course.{logged}
 use Rattle.vdcp_auto.specs.Heard.{heard_in}
 use Rattle.vdcp_auto.specs.Plan.{Plan}
-use Rattle.vdcp_auto.specs.Turn.{start, ticked, given, came_to, ended_by, taken, stopped}
+use Rattle.vdcp_auto.specs.Turn.{start, ticked, given, came_to, ended_by, taken, stopped, forgotten}
 use Rattle.vdcp_auto.specs.declared.exchange.Exchange.{Exchange}
 use Rattle.vdcp_auto.specs.declared.exchange.Heard.{Heard}
 use Rattle.vdcp_auto.specs.declared.phase.Mode.{Mode}
@@ -70,10 +70,6 @@ state_hearing plan (Some h) state = came_to plan (Some h) state
 abbrev pub log_hearing : Plan → Option Heard → State → List Exchange → List Exchange
 log_hearing plan None state log = log
 log_hearing plan (Some h) state log = logged log (ended_by plan (Some h) state)
-
--- The wishes of the operator that a controller hasn't acted on are forgotten.
-abbrev pub forgotten : State → State
-forgotten state = record state { take = false; stop = false }
 
 -- a port made anew, with the catalogue, the unit, the number and the clock of this one
 abbrev pub made_anew : ClockedPort → ClockedPort

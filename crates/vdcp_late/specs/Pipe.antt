@@ -1,6 +1,6 @@
 -- What can be on the way in each phase of the controller. The pipe is, the oldest first, the commands whose answers
 -- are on the way up, and then those on the way down; each is named by the phase that sent it.
-use Rattle.std.specs.Prelude.{ℕ, ◌+◌, ◌-◌, ◌*◌, Bool, true, ◌&&◌, nat_le, List, [], ◌∷◌}
+use Rattle.std.specs.Prelude.{ℕ, ◌+◌, ◌*◌, ◌≤◌, List, [], ◌∷◌}
 use Rattle.vdcp_auto.specs.declared.phase.Mode.{Mode}
 use Rattle.vdcp_auto.specs.declared.phase.Mode.TheVariants.{Plain, Confirming}
 use Rattle.vdcp_auto.specs.declared.phase.Phase.{Phase}
@@ -25,24 +25,36 @@ stretch mode n phase.Close = 5 * n + 3
 stretch mode n phase.Halt = 5 * n + 4
 stretch mode n phase.HaltClose = 5 * n + 4
 
--- The oldest stretch of which something can be in the pipe: the one before the phase's. What was sent in the halt
--- stands behind anything.
+-- The oldest stretch of which something can be in the pipe: the one before the phase's own, and in Close, where nothing
+-- can air any more, the one before that.
 abbrev pub oldest_stretch : Mode → ℕ → Phase → ℕ
-oldest_stretch Confirming n (phase.Cue k) = 5 * k + 2
+oldest_stretch mode n phase.Open = 0
+oldest_stretch mode n phase.Select = 0
+oldest_stretch mode n phase.Seen = 0
+oldest_stretch mode n (phase.Exists k) = 5 * k + 1
+oldest_stretch mode n (phase.Cue k) = 5 * k + 2
+oldest_stretch Plain n (phase.Wait k) = 5 * k + 3
 oldest_stretch Confirming n (phase.Wait k) = 5 * k + 2
+oldest_stretch mode n (phase.Play k) = 5 * k + 4
+oldest_stretch mode n (phase.Probe k) = 5 * k + 4
+oldest_stretch mode n (phase.Check k) = 5 * k + 5
+oldest_stretch mode n phase.Drain = 5 * n + 1
+oldest_stretch mode n phase.Close = 5 * n + 1
 oldest_stretch mode n phase.Halt = 0
 oldest_stretch mode n phase.HaltClose = 0
-oldest_stretch mode n q = stretch mode n q - 1
 
 -- numbers from one to another, none below one that stands before it
-abbrev pub climbs : ℕ → ℕ → List ℕ → Bool
-climbs low high [] = true
-climbs low high (x ∷ xs) = nat_le low x && nat_le x high && climbs x high xs
+abbrev pub Climbs : ℕ → ℕ → List ℕ → Type 0
+Climbs low high [] = Unit {0}
+Climbs low high (x ∷ xs) = (low ≤ x) × (x ≤ high) × Climbs x high xs
 
 abbrev pub stretches : Mode → ℕ → List Phase → List ℕ
 stretches mode n [] = []
 stretches mode n (q ∷ qs) = stretch mode n q ∷ stretches mode n qs
 
--- the pipe of a phase: runs of commands of its own stretch behind those of the one before it
-abbrev pub is_pipe : Mode → ℕ → Phase → List Phase → Bool
-is_pipe mode n q pipe = climbs (oldest_stretch mode n q) (stretch mode n q) (stretches mode n pipe)
+-- The pipe of a phase: runs of commands of its own stretch behind those of the one before it. In the halt it may hold
+-- anything.
+abbrev pub IsPipe : Mode → ℕ → Phase → List Phase → Type 0
+IsPipe mode n phase.Halt pipe = Unit {0}
+IsPipe mode n phase.HaltClose pipe = Unit {0}
+IsPipe mode n q pipe = Climbs (oldest_stretch mode n q) (stretch mode n q) (stretches mode n pipe)

@@ -17,6 +17,7 @@
 
 mod damage;
 mod event;
+pub mod laws;
 mod link;
 mod queue;
 mod world;

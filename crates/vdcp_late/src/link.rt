@@ -4,7 +4,7 @@ ghost use Rattle.vdcp_auto.specs.Heard.{heard_in};
 ghost use Rattle.vdcp_auto.specs.Plan.{plan_of};
 ghost use Rattle.vdcp_auto.specs.Turn as turns;
 ghost use Rattle.vdcp_late.specs.Damage as damage;
-ghost use Rattle.vdcp_late.specs.LateChannel.{after_late_event, bursts_of, command_bursts, forgotten, log_hearing, new_late_channel, oldest, state_hearing};
+ghost use Rattle.vdcp_late.specs.LateChannel.{after_late_event, bursts_of, command_bursts, log_hearing, new_late_channel, oldest, state_hearing};
 ghost use Rattle.vdcp_port.specs.Answers.{sent_for, aired_for, after_burst};
 
 use crate::damage::{can_become, can_become_up, is_junk_down, is_junk_up};
