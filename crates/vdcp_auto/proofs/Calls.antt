@@ -17,7 +17,7 @@ use Rattle.vdcp_auto.specs.State.{State}
 use Rattle.vdcp_auto.specs.Commands.{cue_for, cue_of}
 use Rattle.vdcp_auto.specs.Plan.{Plan}
 use Rattle.vdcp_auto.specs.Table.{command_in, can_stop}
-use Rattle.vdcp_auto.specs.Turn.{start, phase_to_send, ticked, is_end, ended_in, exchange_of, ended_by, came_to, taken, stopped}
+use Rattle.vdcp_auto.specs.Turn.{start, phase_to_send, ticked, is_end, ended_in, exchange_of, ended_by, came_to, taken, stopped, forgotten}
 use Rattle.vdcp_auto.proofs.Memo.{Memo, blank, remember}
 use Rattle.vdcp_auto.proofs.Keeps.{InPhase, Holds}
 use Rattle.vdcp_auto.proofs.Steps.{Sends, sends_open, sends_select, sends_seen, sends_exists, sends_whole, sends_part, sends_wait, sends_play, sends_probe}
@@ -71,6 +71,10 @@ stop_phase : (mode : Mode) (list : List Item) (m : Memo) (awaiting stop : Bool) 
     → InPhase mode list m awaiting (if can_stop p then true else stop) tries p
 stop_phase mode list m awaiting stop tries p holds = grind arith
 
+forget_phase : (mode : Mode) (list : List Item) (m : Memo) (awaiting stop : Bool) (tries : ℕ) (p : Phase)
+    → InPhase mode list m awaiting stop tries p → InPhase mode list m awaiting false tries p
+forget_phase mode list m awaiting stop tries p holds = grind arith
+
 abbrev pub state : Stage → Bool → Bool → ℕ → ℕ → ℕ → State
 state stage take stop unanswered settled tries =
     record { stage = stage; take = take; stop = stop; unanswered = unanswered; settled = settled; tries = tries }
@@ -107,11 +111,37 @@ stop_holds plan m (Awaiting p) take stop unanswered settled tries holds = record
   stage = stop_phase plan.mode plan.list m true stop tries p holds.stage;
 }
 
+forget_holds : (plan : Plan) (m : Memo) (stage : Stage) (take stop : Bool) (unanswered settled tries : ℕ)
+    → Holds plan m (state stage take stop unanswered settled tries)
+    → Holds plan m (forgotten (state stage take stop unanswered settled tries))
+forget_holds plan m (Ended outcome) take stop unanswered settled tries holds = record {
+  settled = holds.settled;
+  not_early = holds.not_early;
+  row = holds.row;
+  stage = holds.stage;
+}
+forget_holds plan m (Ready p) take stop unanswered settled tries holds = record {
+  settled = holds.settled;
+  not_early = holds.not_early;
+  row = holds.row;
+  stage = forget_phase plan.mode plan.list m false stop tries p holds.stage;
+}
+forget_holds plan m (Awaiting p) take stop unanswered settled tries holds = record {
+  settled = holds.settled;
+  not_early = holds.not_early;
+  row = holds.row;
+  stage = forget_phase plan.mode plan.list m true stop tries p holds.stage;
+}
+
 pub ticked_holds : (plan : Plan) (m : Memo) (s : State) → Holds plan m s → Holds plan m (ticked s)
 ticked_holds plan m s holds = tick_holds plan m s.stage s.take s.stop s.unanswered s.settled s.tries holds
 
 pub stopped_holds : (plan : Plan) (m : Memo) (s : State) → Holds plan m s → Holds plan m (stopped s)
 stopped_holds plan m s holds = stop_holds plan m s.stage s.take s.stop s.unanswered s.settled s.tries holds
+
+pub forgotten_holds : (plan : Plan) (m : Memo) (s : State) → Holds plan m s → Holds plan m (forgotten s)
+forgotten_holds plan m s holds =
+    forget_holds plan m s.stage s.take s.stop s.unanswered s.settled s.tries holds
 
 pub taken_holds : (plan : Plan) (m : Memo) (s : State) → Holds plan m s → Holds plan m (taken s)
 taken_holds plan m s holds = record { settled = holds.settled; not_early = holds.not_early; row = holds.row; stage = holds.stage }

@@ -21,8 +21,8 @@ use Rattle.vdcp_auto.specs.Settled.{has_open_play, settled}
 use Rattle.vdcp_auto.specs.RuleBook.{CuesItemAt, IsTaken, MayPlay, Rule, May, KeepsRules}
 use Rattle.vdcp_auto.specs.Endings.{counted, IsRefused}
 use Rattle.vdcp_auto.specs.Plan.{Plan}
-use Rattle.vdcp_auto.specs.Turn.{start, ticked, awaited_in, awaited, given, is_end, exchange_of, ended_by, came_to, taken, stopped, outcome_of}
-use Rattle.vdcp_auto.specs.Course.{course, Tick, Receive, Take, Stop, logged, Reached, begun, called}
+use Rattle.vdcp_auto.specs.Turn.{start, ticked, awaited_in, awaited, given, is_end, exchange_of, ended_by, came_to, taken, stopped, forgotten, outcome_of}
+use Rattle.vdcp_auto.specs.Course.{course, Tick, Receive, Take, Stop, Forget, logged, Reached, begun, called}
 use Rattle.vdcp_auto.specs.Law.{IsLawful}
 use Rattle.vdcp_auto.proofs.Lists.{cut}
 use Rattle.vdcp_auto.proofs.Memo.{Memo, blank, opens, settles_now, remember}
@@ -33,7 +33,7 @@ use Rattle.vdcp_auto.proofs.Steps.{Sends, sends_open, sends_select, sends_seen, 
 use Rattle.vdcp_auto.proofs.Steps.{sends_check, sends_drain, sends_close, sends_halt, sends_halt_close}
 use Rattle.vdcp_auto.proofs.Courses.{reached_after}
 use Rattle.vdcp_auto.proofs.Sending.{gives_ready, awaits_answer, stopped_before}
-use Rattle.vdcp_auto.proofs.Calls.{sends_of, begun_holds, ticked_holds, state as state_at, stopped_holds, taken_holds, remembered, came_holds}
+use Rattle.vdcp_auto.proofs.Calls.{sends_of, begun_holds, ticked_holds, state as state_at, stopped_holds, taken_holds, forgotten_holds, remembered, came_holds}
 
 -- What a log leaves behind.
 
@@ -263,6 +263,8 @@ known plan (called {state} {log} r Tick) = known_quiet plan state (ticked state)
 known plan (called {state} {log} r (Receive came)) = known_came plan state log came (known plan r)
 known plan (called {state} {log} r Take) = known_quiet plan state (taken state) log (known plan r) (λ m h. taken_holds plan m state h)
 known plan (called {state} {log} r Stop) = known_quiet plan state (stopped state) log (known plan r) (λ m h. stopped_holds plan m state h)
+known plan (called {state} {log} r Forget) =
+    known_quiet plan state (forgotten state) log (known plan r) (λ m h. forgotten_holds plan m state h)
 
 -- The ends.
 

@@ -7,7 +7,7 @@ use Rattle.vdcp_auto.specs.declared.exchange.Input.{Input}
 use Rattle.vdcp_auto.specs.declared.exchange.Input.TheVariants as input
 use Rattle.vdcp_auto.specs.State.{State}
 use Rattle.vdcp_auto.specs.Plan.{Plan}
-use Rattle.vdcp_auto.specs.Turn.{start, ticked, awaited, ended_by, came_to, taken, stopped}
+use Rattle.vdcp_auto.specs.Turn.{start, ticked, awaited, ended_by, came_to, taken, stopped, forgotten}
 
 -- the exchanges that these inputs end. Before something comes, or silence, the controller is
 -- ticked; where it has ended the course is over
@@ -59,6 +59,7 @@ pub data Call : Type 0 where
   Receive : Option Heard → Call
   Take : Call
   Stop : Call
+  Forget : Call
 
 -- the controller after the call
 abbrev pub after_call : Plan → Call → State → State
@@ -66,6 +67,7 @@ after_call plan Tick state = ticked state
 after_call plan (Receive came) state = came_to plan came state
 after_call plan Take state = taken state
 after_call plan Stop state = stopped state
+after_call plan Forget state = forgotten state
 
 -- the exchange that the call ends
 abbrev pub ended_by_call : Plan → Call → State → Option Exchange
@@ -73,6 +75,7 @@ ended_by_call plan Tick state = None
 ended_by_call plan (Receive came) state = ended_by plan came state
 ended_by_call plan Take state = None
 ended_by_call plan Stop state = None
+ended_by_call plan Forget state = None
 
 -- the log with the exchange that ended, if one did
 abbrev pub logged : List Exchange → Option Exchange → List Exchange

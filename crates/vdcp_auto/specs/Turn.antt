@@ -207,3 +207,7 @@ stop_in (Ended outcome) stop = stop
 -- the controller after the operator's stop, which counts only where can_stop says so
 abbrev pub stopped : State → State
 stopped state = record state { stop = stop_in state.stage state.stop }
+
+-- the wishes that it hasn't acted on are forgotten
+abbrev pub forgotten : State → State
+forgotten state = record state { take = false; stop = false }

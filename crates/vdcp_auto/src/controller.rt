@@ -19,12 +19,12 @@ mod tests;
 ///
 /// The calling loop: `tick` gives the next command, which the caller sends; then, until `awaiting` is
 /// false, `hear` takes what came, or `timeout` says that nothing did; and so on until `outcome`
-/// answers. `take` and `stop` are the operator's and may come at any time.
+/// answers. `take`, `stop` and `forget` are the operator's and may come at any time.
 ///
 /// - `settled`, `outcome`, `is_ready`, `awaiting`, `awaited`, `is_confirming` and `source` only look.
 /// - `hear` and `timeout` bring in what happens on the line; `receive` does both, and gives the
 ///   exchange that ended.
-/// - `take` and `stop` are commands of the operator.
+/// - `take` and `stop` are commands of the operator, and `forget` withdraws them.
 /// - `tick` gives out the next command.
 #[derive(Drop)]
 pub struct Controller<S: Source> {
@@ -236,6 +236,15 @@ impl<S: Source> Controller<S> {
             }
             Position::Ended(_) => {}
         }
+    }
+
+    /// The wishes of `take` and `stop` that the controller hasn't acted on are forgotten: so is an
+    /// automation that is started anew.
+    pub fn forget(&mut self)
+        ensures { self.new ≡ record self.old { state = turns.forgotten self.old.state } }
+    {
+        self.take = false;
+        self.stop = false;
     }
 
     /// Gives the next command, and awaits its answer. None where there is nothing to send: an answer is

@@ -14,9 +14,9 @@ ghost use Rattle.vdcp_auto.specs.Turn.{awaited, given, ended_by, came_to};
 ghost use Rattle.vdcp_auto.specs.Course.{course, course_from, after_input, ended_by_input, after_inputs, after_inputs_from, logged, Reached};
 ghost use Rattle.vdcp_auto.specs.Law.{IsLawful};
 
-/// Whatever calls a new controller had, in whatever order (ticks, replies of any kind, time-outs, takes
-/// and stops, also while an answer is awaited), in either mode, of the controller and of the log of the
-/// exchanges that these calls ended holds:
+/// Whatever calls a new controller had, in whatever order (ticks, replies of any kind, time-outs, takes,
+/// stops, and wishes forgotten, also while an answer is awaited), in either mode, of the controller and of
+/// the log of the exchanges that these calls ended holds:
 ///
 /// - the rule book allows each command of the log where it stands, and the one that is awaited now;
 /// - the next tick gives a command exactly where nothing is awaited and the controller hasn't ended,

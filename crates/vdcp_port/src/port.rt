@@ -15,7 +15,8 @@ const REFUSED: Reply = Reply::Nak(0x01);
 /// play. It speaks only in answer.
 ///
 /// `answer` and `burst_answer` bring in what the controller sends. `ready` and `ended`, or `frame` at
-/// each frame, bring in what the clips do. `status_byte` and `unit` only look.
+/// each frame, bring in what the clips do. `start_anew` forgets all that came. `status_byte`, `unit` and
+/// `number` only look.
 ///
 /// ```text
 ///        OPEN          SELECT
@@ -96,6 +97,13 @@ impl<C: Catalogue> Port<C> {
         self.address
     }
 
+    /// Its port number.
+    pub fn number(&self) -> u8
+        ensures { result ≡ self.now.state.number }
+    {
+        self.number
+    }
+
     /// The state byte of VDCP's port status, of which this profile sets four bits. Bit 0 says that both slots
     /// are empty, bit 1 that an item is cueing, bit 2 that one plays, and bit 7 that the cue is done.
     pub fn status_byte(&self) -> u8
@@ -123,6 +131,13 @@ impl<C: Catalogue> Port<C> {
         ensures { self.new ≡ after_ended self.old }
     {
         self.playing = None;
+    }
+
+    /// The port is as new, closed and with empty slots; its catalogue, unit, number and clock stay.
+    pub fn start_anew(&mut self)
+        ensures { self.new ≡ new_port self.old.clips self.old.state.unit self.old.state.number self.old.cue_frames }
+    {
+        (self.access, self.cued, self.playing) = (Access::Closed, None, None);
     }
 
     /// One frame passes at both slots. The answer is whether it was the last of the cue, which is then

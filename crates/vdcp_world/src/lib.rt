@@ -23,8 +23,9 @@ mod script;
 mod world;
 
 pub use burst::Burst;
-pub use damage::can_become;
+pub use damage::{can_become, is_beginning};
 pub use event::Event;
+pub use heard::first_of;
 pub use script::{ScriptFault, read_script};
 pub use world::World;
 

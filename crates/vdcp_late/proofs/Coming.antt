@@ -1,0 +1,172 @@
+-- What comes to the controller, or silence, in plain mode.
+use Rattle.std.proofs.Common.{◌≡◌, ℕ, ◌⊎◌, inl, inr, Bool, true, false, not, ◌||◌, ◌&&◌, List, [], ◌∷◌, length, Option, Some, None, refl, arith, sym, ap, subst, ◌∙◌, if◌then◌else◌}
+use Rattle.std.specs.List.{list_any}
+use Rattle.std.specs.Option.{option_map, option_map_or}
+use Rattle.std.specs.Prelude.{slice_get}
+use Rattle.vdcp_value.specs.declared.clip_id.ClipId.{ClipId}
+use Rattle.vdcp_value.specs.declared.part.Item.{Item}
+use Rattle.vdcp_value.specs.declared.part.Part.{Part}
+use Rattle.vdcp_value.specs.declared.timecode.Timecode.{Timecode}
+use Rattle.vdcp_words.specs.declared.command.Command.{Command}
+use Rattle.vdcp_words.specs.declared.command.Command.TheVariants as command
+use Rattle.vdcp_words.specs.declared.reply.Reply.{Reply}
+use Rattle.vdcp_words.specs.declared.reply.Reply.TheVariants as reply
+use Rattle.vdcp_port.specs.Port.{Cued}
+use Rattle.vdcp_auto.specs.Commands.{cue_for, cue_of, is_presence, fits}
+use Rattle.vdcp_auto.specs.Log.{answer_to, answer_in, is_counted}
+use Rattle.vdcp_auto.specs.Plan.{Plan}
+use Rattle.vdcp_auto.specs.Replies.{is_ack, is_refusal, is_receipt}
+use Rattle.vdcp_auto.specs.Table.{command_in, on_reply, on_refusal}
+use Rattle.vdcp_auto.specs.Turn.{transition_on, transition_of, awaited_in, on_answer, on_unanswered, ended_in, exchange_of, came_to, ticked, tick_in, phase_to_send, stage_after, settled_after}
+use Rattle.vdcp_auto.specs.declared.exchange.Exchange.{Exchange}
+use Rattle.vdcp_auto.specs.declared.exchange.Heard.{Heard}
+use Rattle.vdcp_auto.specs.declared.exchange.Heard.TheVariants as heard
+use Rattle.vdcp_auto.specs.declared.phase.Mode.TheVariants.{Plain, Confirming}
+use Rattle.vdcp_auto.specs.declared.phase.Phase.{Phase}
+use Rattle.vdcp_auto.specs.declared.phase.Phase.TheVariants as phase
+use Rattle.vdcp_auto.specs.State.{Stage}
+use Rattle.vdcp_auto.specs.State.{Ready, Awaiting, Ended}
+use Rattle.vdcp_auto.specs.State.{State}
+use Rattle.vdcp_auto.specs.declared.phase.Transition.{Transition}
+use Rattle.vdcp_late.specs.Damage.{is_no_answer, is_stray}
+use Rattle.vdcp_late.proofs.Claims.{Comes}
+use Rattle.vdcp_late.proofs.Hearing.{Leads, Here, Asked, silent, refused, replied}
+use Rattle.vdcp_late.proofs.Places.{Answer, misfits, is_asked}
+use Rattle.vdcp_late.proofs.Standing.{misleads, PlaceAt, Stands}
+
+-- the plan of a controller in plain mode
+abbrev pub plain_plan : List Item → ℕ → ℕ → Plan
+plain_plan list port limit = record { mode = Plain; list = list; port = port; limit = limit }
+
+-- ---- which command a reply answers
+
+-- the reply is of the kind that the phase's command asks for
+pub fits_asked : (list : List Item) (port : ℕ) (q : Phase) (c : Command) (r : Reply) → command_in list port q ≡ Some c → fits c r ≡ true → is_asked q r ≡ true
+fits_asked list port phase.Open c r e f = cc
+fits_asked list port phase.Select c r e f = cc
+fits_asked list port phase.Seen c r e f = cc
+fits_asked list port (phase.Exists k) c r e f = of_request (slice_get list k) e
+  where
+    of_request : (o : Option Item) → option_map (λ item. command.IdRequest item.id) o ≡ Some c → is_presence r ≡ true
+    of_request None e = cc
+    of_request (Some item) e = cc
+fits_asked list port (phase.Cue k) c r e f = of_cue (slice_get list k) e
+  where
+    of_part : (id : ClipId) (part : Option Part) → cue_for id part ≡ c → is_ack r ≡ true
+    of_part id None e = cc
+    of_part id (Some part) e = cc
+
+    same : (a b : Command) → Some a ≡ Some b → a ≡ b
+    same a b e = cc
+
+    of_cue : (o : Option Item) → option_map cue_of o ≡ Some c → is_ack r ≡ true
+    of_cue None e = cc
+    of_cue (Some item) e = of_part item.id item.part (same (cue_of item) c e)
+fits_asked list port (phase.Wait k) c r e f = cc
+fits_asked list port (phase.Play k) c r e f = cc
+fits_asked list port (phase.Probe k) c r e f = cc
+fits_asked list port (phase.Check k) c r e f = cc
+fits_asked list port phase.Drain c r e f = cc
+fits_asked list port phase.Close c r e f = cc
+fits_asked list port phase.Halt c r e f = cc
+fits_asked list port phase.HaltClose c r e f = cc
+
+-- a NAK fits no command
+nak_fits : (c : Command) (byte : ℕ) → fits c (reply.Nak byte) ≡ false
+nak_fits (command.Open port lock) byte = refl
+nak_fits (command.Close port) byte = refl
+nak_fits (command.Select port) byte = refl
+nak_fits (command.PlayCue id) byte = refl
+nak_fits (command.CueData id start duration) byte = refl
+nak_fits command.Play byte = refl
+nak_fits command.Stop byte = refl
+nak_fits (command.Status groups) byte = refl
+nak_fits command.ActiveId byte = refl
+nak_fits (command.IdRequest id) byte = refl
+nak_fits (command.IdSize id) byte = refl
+
+-- what is no answer answers no command
+no_answer : (c : Command) (came : Option Heard) → is_no_answer Plain came ≡ true → answer_to c came ≡ None
+no_answer c None e = refl
+no_answer c (Some heard.Other) e = refl
+no_answer c (Some (heard.Reply (reply.Nak byte))) e = by (is_refusal (reply.Nak byte)) (fits c (reply.Nak byte)) refl (nak_fits c byte)
+  where
+    by : (refuses fit : Bool) → is_refusal (reply.Nak byte) ≡ refuses → fit ≡ false → (if refuses || fit then Some (reply.Nak byte) else None) ≡ None
+    by true fit r f = absurd (impossible (sym e ∙ ap not r))
+      where
+        impossible : true ≡ false → ⊥
+        impossible e = cc
+    by false true r f = cc
+    by false false r f = refl
+no_answer c (Some (heard.Reply reply.Ack)) e = cc
+no_answer c (Some (heard.Reply (reply.Opened granted))) e = cc
+no_answer c (Some (heard.Reply (reply.State groups byte))) e = cc
+no_answer c (Some (heard.Reply (reply.Active id))) e = cc
+no_answer c (Some (heard.Reply (reply.Present there))) e = cc
+no_answer c (Some (heard.Reply (reply.Size length))) e = cc
+
+-- ---- where it leads
+
+abbrev pub LeadsBy : List Item → List (ClipId × Timecode) → ℕ → Bool → Cued → List Item → List Answer → List Phase → ℕ → State → ℕ → Bool → Phase
+    → Option Reply → Type 0
+LeadsBy list clips settled s a aired ups downs limit state port counts q o =
+    Leads list clips settled s a aired ups downs (transition_on (plain_plan list port limit) state.take state.tries state.unanswered counts q o)
+
+either : (a b : Bool) → (a || b) ≡ true → a ≡ false → b ≡ true
+either a b e f = grind arith
+
+came_led : (list : List Item) (clips : List (ClipId × Timecode)) (port limit : ℕ) (s : Bool) (a : Cued) (aired : List Item) (ups : List Answer)
+    (downs : List Phase) (state : State) (came : Option Heard) (q : Phase) (c : Command) (counts : Bool) → command_in list port q ≡ Some c → Comes Plain ups came
+    → Stands list clips state.settled s a aired ups downs (Awaiting q)
+    → LeadsBy list clips state.settled s a aired ups downs limit state port counts q (answer_to c came)
+came_led list clips port limit s a aired ups downs state came q c counts is (inl none) h =
+    subst (LeadsBy list clips state.settled s a aired ups downs limit state port counts q) (sym (no_answer c came none))
+    (silent list clips state.settled s a aired ups downs q limit state.unanswered counts h.place)
+came_led list clips port limit s a aired ups downs state came q c counts is (inr (x, rest, first, e)) h =
+    subst (λ (o : Option Heard). LeadsBy list clips state.settled s a aired ups downs limit state port counts q (answer_to c o)) (sym e)
+    (subst (λ (us : List Answer). LeadsBy list clips state.settled s a aired us downs limit state port counts q (answer_to c (Some (heard.Reply x.reply))))
+    (sym first) (by (is_refusal x.reply) (is_refusal x.reply || fits c x.reply) refl refl))
+  where
+    there : Stands list clips state.settled s a aired (x ∷ rest) downs (Awaiting q)
+    there = subst (λ (us : List Answer). Stands list clips state.settled s a aired us downs (Awaiting q)) first h
+
+    refusal : (b : Bool) → is_refusal x.reply ≡ b → (is_refusal x.reply || fits c x.reply) ≡ true
+        → Leads list clips state.settled s a aired (x ∷ rest) downs
+        (if b then on_refusal (length list) q else on_reply Plain list limit state.take state.tries q x.reply)
+    refusal true r f = refused list clips state.settled s a aired (x ∷ rest) downs q there.place
+    refusal false r f = replied list clips state.settled s a aired x rest downs limit state.tries state.take q
+        (record {
+          no_refusal = r;
+          asked = fits_asked list port q c x.reply is (either (is_refusal x.reply) (fits c x.reply) f r);
+          fit = there.fit;
+          true_told = there.true_told;
+        }) there.place
+
+    by : (r f : Bool) → is_refusal x.reply ≡ r → (is_refusal x.reply || fits c x.reply) ≡ f
+        → LeadsBy list clips state.settled s a aired (x ∷ rest) downs limit state port counts q (if f then Some x.reply else None)
+    by r false e g = silent list clips state.settled s a aired (x ∷ rest) downs q limit state.unanswered counts there.place
+    by r true e g = refusal (is_refusal x.reply) refl g
+
+pub came_stands : (list : List Item) (clips : List (ClipId × Timecode)) (port limit : ℕ) (s : Bool) (a : Cued) (aired : List Item) (ups : List Answer)
+    (downs : List Phase) (state : State) (came : Option Heard) → Comes Plain ups came
+    → Stands list clips state.settled s a aired ups downs state.stage
+    → Stands list clips (came_to (plain_plan list port limit) came state).settled s a aired ups downs (came_to (plain_plan list port limit) came state).stage
+came_stands list clips port limit s a aired ups downs state came comes h = by state.stage h
+  where
+    After : State → Type 0
+    After t = Stands list clips t.settled s a aired ups downs t.stage
+
+    awaits : (q : Phase) → Stands list clips state.settled s a aired ups downs (Awaiting q) → (o : Option Command) → command_in list port q ≡ o
+        → After (option_map_or (λ e. ended_in (plain_plan list port limit) (Awaiting q) e state) (exchange_of Plain came o) state)
+    awaits q g None is = h
+    awaits q g (Some c) is = record {
+      place = came_led list clips port limit s a aired ups downs state came q c true is comes g;
+      fit = g.fit;
+      true_told = g.true_told;
+    }
+
+    by : (stage : Stage) → Stands list clips state.settled s a aired ups downs stage
+        → After (option_map_or (λ e. ended_in (plain_plan list port limit) stage e state) (exchange_of Plain came (awaited_in (plain_plan list port limit) stage)) state)
+    by (Ready q) g = h
+    by (Awaiting q) g = awaits q g (command_in list port q) refl
+    by (Ended o) g = h

@@ -1,0 +1,115 @@
+-- The headline, from what holds of the clips that went to air, and from the law of the controller.
+use Rattle.std.proofs.Common.{ℕ, zero, suc, ◌+◌, ◌≡◌, ◌<◌, ◌≤◌, ◌⊎◌, inl, inr, Bool, true, false, List, [], ◌∷◌, ◌++◌, length, take, drop, refl, arith, sym, ap, subst, ◌∙◌, take-append-drop, length-drop}
+use Rattle.std.proofs.Math.Seq.{take-length}
+use Rattle.std.specs.Prelude.{Option, None, Some, IfSome, IsSomeAnd, slice_get}
+use Rattle.vdcp_value.specs.declared.clip_id.ClipId.{ClipId}
+use Rattle.vdcp_value.specs.declared.part.Item.{Item}
+use Rattle.vdcp_value.specs.declared.timecode.Timecode.{Timecode}
+use Rattle.vdcp_port.specs.Clips.{is_known}
+use Rattle.vdcp_auto.specs.Endings.{IsRefused}
+use Rattle.vdcp_auto.specs.Law.{IsLawful}
+use Rattle.vdcp_auto.specs.Plan.{Plan}
+use Rattle.vdcp_auto.specs.Settled.{settled}
+use Rattle.vdcp_auto.specs.Turn.{outcome_of}
+use Rattle.vdcp_auto.specs.declared.exchange.Exchange.{Exchange}
+use Rattle.vdcp_auto.specs.declared.outcome.Outcome.{Outcome}
+use Rattle.vdcp_auto.specs.declared.outcome.Outcome.TheVariants as outcome
+use Rattle.vdcp_auto.specs.declared.phase.Mode.{Mode}
+use Rattle.vdcp_auto.specs.declared.phase.Mode.TheVariants.{Plain, Confirming}
+use Rattle.vdcp_auto.specs.State.{Stage}
+use Rattle.vdcp_auto.specs.State.{Ready, Awaiting, Ended}
+use Rattle.vdcp_world.specs.Headline.{IsUnknownAt, AreReported}
+use Rattle.vdcp_late.specs.LateChannel.{LateChannel}
+use Rattle.vdcp_late.specs.LateHeadline.{IsLateRefused, LateMeans, LateHeadline, reported_of}
+use Rattle.vdcp_late.proofs.Delivering.{no_item}
+use Rattle.vdcp_late.proofs.Places.{At, Near}
+use Rattle.vdcp_late.proofs.Safety.{taken}
+use Rattle.vdcp_late.proofs.Standing.{knows}
+
+-- what an end says of the clips that went to air
+abbrev pub EndHolds : List Item → List (ClipId × Timecode) → List Item → ℕ → Outcome → Type 0
+EndHolds list clips aired settled outcome.Done = At list aired settled (length list)
+EndHolds list clips aired settled (outcome.Missing k) = At list aired settled k × (k < length list) × (knows clips (slice_get list k) ≡ false)
+EndHolds list clips aired settled _ = Unit {0}
+
+abbrev pub EndHoldsAt : List Item → List (ClipId × Timecode) → List Item → ℕ → Stage → Type 0
+EndHoldsAt list clips aired settled (Ended o) = EndHolds list clips aired settled o
+EndHoldsAt list clips aired settled _ = Unit {0}
+
+-- what a channel's clips have to keep
+pub record Airs (list : List Item) (clips : List (ClipId × Timecode)) (aired : List Item) (settled : ℕ) (stage : Stage) : Type 0 where
+  pub near : Near list aired settled
+  pub end_holds : EndHoldsAt list clips aired settled stage
+
+-- ---- lists
+
+take_within : {A : Type 0} → (s a : ℕ) (xs : List A) → s ≤ a → take s (take a xs) ≡ take s xs
+take_within zero a xs l = refl
+take_within (suc s) zero xs l = absurd (omega arith)
+take_within (suc s) (suc a) [] l = refl
+take_within (suc s) (suc a) (x ∷ xs) l = ap (λ ys. x ∷ ys) (take_within s a xs (omega arith))
+
+begins : (list aired : List Item) (settled : ℕ) → Near list aired settled → (more : List Item) × (list ≡ aired ++ more)
+begins list aired settled n =
+    (drop (length aired) list, sym (take-append-drop (length aired) list) ∙ ap (λ (front : List Item). front ++ drop (length aired) list) (sym n.aired_is))
+
+reports : (list aired : List Item) (settled : ℕ) → Near list aired settled
+    → (last : List Item) × (aired ≡ take settled list ++ last) × (length last ≤ 1)
+reports list aired settled n =
+    let front : take settled aired ≡ take settled list = ap (take settled) n.aired_is ∙ take_within settled (length aired) list n.low in
+    let size : length (drop settled aired) + settled ≡ length aired = omega (arith, length-drop settled aired, n.low) in
+    (
+      drop settled aired,
+      sym (take-append-drop settled aired) ∙ ap (λ (x : List Item). x ++ drop settled aired) front,
+      omega (arith, size, n.high),
+    )
+
+-- ---- what the outcome means
+
+unknown_at : (clips : List (ClipId × Timecode)) (list : List Item) (k : ℕ) (o : Option Item) → slice_get list k ≡ o → k < length list
+    → knows clips o ≡ false → IsUnknownAt clips list k
+unknown_at clips list k None is below e = absurd (no_item list k below is)
+unknown_at clips list k (Some item) is below e = subst (λ (o : Option Item). IsSomeAnd o (λ item. is_known clips item.id ≡ false)) (sym is) e
+
+exactly : (plan : Plan) (aired : List Item) (log : List Exchange) (reported k : ℕ) → At plan.list aired reported k → reported ≡ settled plan.mode log
+    → AreReported plan aired log k
+exactly plan aired log reported k a counted = record {
+  aired_count = ap length a.aired_is ∙ taken plan.list k a.within;
+  reported_count = sym counted ∙ a.settled_is;
+}
+
+refused_in : (mode : Mode) (plan : Plan) (log : List Exchange) (k : ℕ) → (mode ≡ Confirming → IsRefused plan.list plan.limit log k)
+    → IsLateRefused mode plan log k
+refused_in Plain plan log k by_log = tt
+refused_in Confirming plan log k by_log = by_log refl
+
+means : (c : LateChannel) (o : Outcome) → EndHolds c.plan.list c.port.clips c.aired c.state.settled o → IsLawful c.plan c.state c.log
+    → outcome_of c.state.stage ≡ Some o → LateMeans c.port.clips c.plan c.aired c.log o
+means c outcome.Done h l e =
+    (h.aired_is ∙ take-length c.plan.list, exactly c.plan c.aired c.log c.state.settled (length c.plan.list) h l.is_settled)
+means c outcome.Stopped h l e = tt
+means c outcome.Lost h l e = l.is_lost.0 e
+means c outcome.Denied h l e = tt
+means c (outcome.Missing k) h l e =
+    (unknown_at c.port.clips c.plan.list k (slice_get c.plan.list k) refl h.1 h.2, exactly c.plan c.aired c.log c.state.settled k h.0 l.is_settled)
+means c (outcome.Refused k) h l e = refused_in c.plan.mode c.plan c.log k (λ confirms. l.is_refused confirms k e)
+means c (outcome.Foreign k) h l e = tt
+means c (outcome.Strange k) h l e = tt
+
+means_at : (c : LateChannel) (stage : Stage) → c.state.stage ≡ stage → EndHoldsAt c.plan.list c.port.clips c.aired c.state.settled stage
+    → IsLawful c.plan c.state c.log
+    → IfSome (outcome_of stage) (LateMeans c.port.clips c.plan c.aired c.log)
+means_at c (Ready q) e h l = tt
+means_at c (Awaiting q) e h l = tt
+means_at c (Ended o) e h l = means c o h l (ap outcome_of e)
+
+pub headline : (c : LateChannel) → Airs c.plan.list c.port.clips c.aired c.state.settled c.state.stage → IsLawful c.plan c.state c.log → LateHeadline c
+headline c a l = record {
+  beginning = begins c.plan.list c.aired c.state.settled a.near;
+  reported = reports c.plan.list c.aired c.state.settled a.near;
+  count = taken c.plan.list c.state.settled (omega (arith, a.near.low, a.near.within));
+  is_settled = l.is_settled;
+  keeps_rules = l.keeps_rules;
+  may_await = l.may_await;
+  ended = means_at c c.state.stage refl a.end_holds l;
+}

@@ -1,0 +1,50 @@
+-- The controller of a late channel has had calls alone, and its log is of the exchanges that these ended.
+use Rattle.std.proofs.Common.{◌≡◌, List, [], ◌∷◌, sym, subst}
+use Rattle.std.specs.Prelude.{Option, None, Some}
+use Rattle.vdcp_auto.specs.Course as call
+use Rattle.vdcp_auto.specs.Course.{Reached, begun, called, Receive}
+use Rattle.vdcp_auto.specs.Heard.{heard_in}
+use Rattle.vdcp_auto.specs.Plan.{Plan}
+use Rattle.vdcp_auto.specs.State.{State}
+use Rattle.vdcp_auto.specs.declared.exchange.Exchange.{Exchange}
+use Rattle.vdcp_auto.specs.declared.exchange.Heard.{Heard}
+use Rattle.vdcp_late.specs.LateChannel.{LateChannel, new_late_channel, after_late_event, after_late_events, IsLateReached, oldest, state_hearing, log_hearing}
+use Rattle.vdcp_late.specs.declared.event.LateEvent.{LateEvent}
+use Rattle.vdcp_late.specs.declared.event.LateEvent.TheVariants as event
+
+hears_reached : (plan : Plan) (state : State) (log : List Exchange) (h : Option Heard) → Reached plan state log
+    → Reached plan (state_hearing plan h state) (log_hearing plan h state log)
+hears_reached plan state log None r = r
+hears_reached plan state log (Some h) r = called r (Receive (Some h))
+
+controller_event : (c : LateChannel) (e : LateEvent) → Reached c.plan c.state c.log
+    → Reached (after_late_event c e).plan (after_late_event c e).state (after_late_event c e).log
+controller_event c event.Tick r = called r call.Tick
+controller_event c event.Down r = r
+controller_event c event.Up r = hears_reached c.plan c.state c.log (heard_in c.port.state.unit (oldest c.up)) r
+controller_event c event.DownCopy r = r
+controller_event c event.UpCopy r = hears_reached c.plan c.state c.log (heard_in c.port.state.unit (oldest c.up)) r
+controller_event c (event.LoseDown place) r = r
+controller_event c (event.LoseUp place) r = r
+controller_event c (event.AlterDown place bytes) r = r
+controller_event c (event.AlterUp place bytes) r = r
+controller_event c (event.JunkDown place bytes) r = r
+controller_event c (event.JunkUp place bytes) r = r
+controller_event c event.Timeout r = called r (Receive None)
+controller_event c event.Ready r = r
+controller_event c event.End r = r
+controller_event c event.Frame r = r
+controller_event c event.Take r = called r call.Take
+controller_event c event.Stop r = called r call.Stop
+controller_event c event.ServerAnew r = r
+controller_event c event.AutomationAnew r = called (called r (Receive None)) call.Forget
+
+controller_events : (c : LateChannel) (es : List LateEvent) → Reached c.plan c.state c.log
+    → Reached (after_late_events c es).plan (after_late_events c es).state (after_late_events c es).log
+controller_events c [] r = r
+controller_events c (e ∷ es) r = controller_events (after_late_event c e) es (controller_event c e r)
+
+pub controller_reached : (c : LateChannel) → IsLateReached c → Reached c.plan c.state c.log
+controller_reached c r =
+    subst (λ (x : LateChannel). Reached x.plan x.state x.log) (sym r.led)
+    (controller_events (new_late_channel r.plan r.port) r.events (begun r.some r.few))

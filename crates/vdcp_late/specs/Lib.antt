@@ -1,0 +1,6 @@
+-- What the clauses of this crate cite, file by file.
+pub mod Damage
+pub mod LateChannel
+pub mod Pipe
+pub mod LateHeadline
+pub mod Runs

@@ -1,0 +1,34 @@
+//! The law of the definitions that the contracts of this crate cite. The function does nothing: its contract is the
+//! law, and a caller whose proof needs it calls it.
+ghost use Rattle.vdcp_late.specs.LateChannel.{LateChannel, IsLateReached};
+ghost use Rattle.vdcp_late.specs.LateHeadline.{LateHeadline};
+
+/// Whatever happened on a line that keeps order, from a new controller on: deliveries as late as they like, losses,
+/// detected damage, copies in their place, junk, time-outs at any moment, cue completions, clip ends, frames, the
+/// operator's calls, the server started anew, the automation started anew; in plain mode from a port in whatever
+/// state, and in confirm mode, with receipts from nowhere, from a port with nothing cued; with whatever playlist and
+/// catalogue:
+///
+/// - what went to air is a beginning of the playlist, each event once and in order;
+/// - the events reported as aired are a beginning of these, shorter by one at most, and are those that the log shows
+///   to be aired;
+/// - the rule book allows each command of the log where it stands, and the one that is awaited;
+/// - Done means that the whole playlist went to air and is reported; Missing(k), that event k's clip isn't in the
+///   catalogue, and that the events before k went to air and are reported; Lost, that the log shows it lost; and in
+///   confirm mode Refused(k), that since the last exchange that settles `limit` empty statuses came after a cue of
+///   event k.
+pub fn a_late_line_keeps_the_headline()
+    ensures { (c : LateChannel) → IsLateReached c → LateHeadline c }
+{
+    vdcp_frame::laws::a_spelling_is_its_message();
+    vdcp_words::laws::command_is_read_first();
+    vdcp_words::laws::reply_is_read_first();
+    vdcp_words::laws::written_reply_is_read();
+    vdcp_port::laws::a_command_has_its_own_row();
+    vdcp_port::laws::a_command_is_answered();
+    vdcp_port::laws::a_burst_without_a_message();
+    vdcp_port::laws::a_burst_with_one_message();
+    vdcp_port::laws::the_unit_stays();
+    vdcp_auto::laws::commands_can_be_written();
+    vdcp_auto::laws::reached_is_lawful();
+}

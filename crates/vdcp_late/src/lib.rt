@@ -1,0 +1,29 @@
+//! A line between the two ends of one playout channel that keeps order, and is late: what is on the way waits in a
+//! queue each way, and may come after the time-out that it should have beaten.
+//!
+//! A `LateWorld` is a controller, a port and that line. The caller says what happens, and looks at what came of it:
+//!
+//! ```text
+//! let mut world = LateWorld::new(alloc, source, port, limit);
+//! world.run(&events)?;
+//! world.aired(), world.reported(), world.log(), world.outcome()
+//! ```
+//!
+//! An event that can't happen changes nothing.
+//!
+//! Files: `event` (what happens), `world` (the late world), `link` (what each event does, over bytes), `queue`
+//! (bursts on the way), `damage` (what the line may make of them).
+#![tactic(auto)]
+
+mod damage;
+mod event;
+pub mod laws;
+mod link;
+mod queue;
+mod world;
+
+pub use event::LateEvent;
+pub use world::LateWorld;
+
+#[cfg(test)]
+mod tests;

@@ -1,0 +1,6 @@
+mod anew;
+mod clips;
+mod events;
+mod lateness;
+mod memory;
+mod seen;
