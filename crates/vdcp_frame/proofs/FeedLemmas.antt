@@ -170,7 +170,7 @@ module _ {now : Progress} {piece : List ℕ} {taken held needs k : ℕ} {buffer 
     long_fed longer =
         let same : take k piece ≡ take (k + 1 - 1) piece = ap (λ (i : ℕ). take i piece) (omega arith) in
         let full : taken + k ≡ 4096 = elim (cases_lt (taken + k) 4096) [
-          | inl less ↦ absurd (longer (f.all few less))
+          | inl less ↦ absurd (longer (f.all others part few less))
           | inr le ↦ omega (arith, f.limit)
         ] in
         let past : taken + (k + 1) ≡ 4096 + 1 = omega (arith, full) in
