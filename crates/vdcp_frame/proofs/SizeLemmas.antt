@@ -53,7 +53,8 @@ decided x y front more h = elim (cases_eq x 4) [
     | inl is_nak ↦ rw is_nak tt
     | inr no_nak ↦ elim (cases_eq x 2) [
       | inl is_frame ↦ rw is_frame
-          (frame_decided y front more (subst (λ (s : ℕ). size_of (head_of (s ∷ y ∷ front)) ≤ 2 + length (front ++ more)) is_frame h))
+          (frame_decided y front more
+          (subst (λ (s : ℕ). size_of (head_of (s ∷ y ∷ front)) ≤ 2 + length (front ++ more)) is_frame h))
       | inr no_frame ↦ rw (ne_eqb _ _ no_ack, ne_eqb _ _ no_nak, ne_eqb _ _ no_frame) tt
     ]
   ]
@@ -61,17 +62,21 @@ decided x y front more h = elim (cases_eq x 4) [
 
 decided_part : (bytes : List ℕ) (head : Head) (needs : ℕ) → HeadIs bytes head → IsDecided head → IsPart bytes needs → ⊥
 decided_part bytes (part others) needs is d p = d
-decided_part bytes (wrong which size) needs is d p = is.first.wrong (Begins-take size bytes (part_unfinished bytes needs p).begins)
+decided_part bytes (wrong which size) needs is d p =
+    is.first.wrong (Begins-take size bytes (part_unfinished bytes needs p).begins)
 decided_part bytes (found message size) needs is d p =
-    (part_unfinished bytes needs p).no_front message (take size bytes) (drop size bytes) is.spelt (sym (take-append-drop size bytes))
+    (part_unfinished bytes needs p).no_front message (take size bytes) (drop size bytes) is.spelt
+    (sym (take-append-drop size bytes))
 
 enough : (x y : ℕ) (front more : List ℕ) (needs : ℕ) → AreOctets (x ∷ y ∷ (front ++ more))
     → size_of (head_of (x ∷ y ∷ front)) ≤ 2 + length (front ++ more) → IsPart (x ∷ y ∷ (front ++ more)) needs → ⊥
 enough x y front more needs fits h p =
-    decided_part (x ∷ y ∷ (front ++ more)) (head_of (x ∷ y ∷ (front ++ more))) needs (head_is (x ∷ y ∷ (front ++ more)) fits) (decided x y front more h) p
+    decided_part (x ∷ y ∷ (front ++ more)) (head_of (x ∷ y ∷ (front ++ more))) needs
+    (head_is (x ∷ y ∷ (front ++ more)) fits) (decided x y front more h) p
 
--- with so many bytes, and more of the piece to come, what is held is no part
-pub size_enough : (held piece : List ℕ) (n needs : ℕ) → AreOctets (held ++ take n piece) → size_of (head_of (looked_at held piece)) ≤ length held + n
+-- with that many bytes, and more of the piece to come, what is held is no part
+pub size_enough : (held piece : List ℕ) (n needs : ℕ) → AreOctets (held ++ take n piece)
+    → size_of (head_of (looked_at held piece)) ≤ length held + n
     → 2 ≤ length held + n → n < length piece → IsPart (held ++ take n piece) needs → ⊥
 size_enough [] [] n needs fits h two less p = absurd (omega (arith, less))
 size_enough [] (x ∷ []) n needs fits h two less p = absurd (omega (arith, less, two))
@@ -84,4 +89,5 @@ size_enough (x ∷ []) (y ∷ piece) zero needs fits h two less p = absurd (omeg
 size_enough (x ∷ []) (y ∷ piece) (suc k) needs fits h two less p =
     enough x y [] (take k piece) needs fits (omega (arith, h, less, length-take k piece)) p
 size_enough (x ∷ y ∷ held) piece n needs fits h two less p =
-    enough x y held (take n piece) needs fits (omega (arith, h, less, length-append held (take n piece), length-take n piece)) p
+    enough x y held (take n piece) needs fits
+    (omega (arith, h, less, length-append held (take n piece), length-take n piece)) p

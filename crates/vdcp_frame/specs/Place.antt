@@ -34,5 +34,6 @@ looked_at (first ∷ second ∷ more) piece = first ∷ second ∷ more
 pub record Fills (held taken : ℕ) (piece : List ℕ) (n : ℕ) (old new : List ℕ) : Type 0 where
   pub within : n ≤ length piece
   pub limit : taken + n ≤ burst_limit
-  pub all : (needs : ℕ) → IsPart (take (held + n) new) needs → held + n < 258 → taken + n < burst_limit → n ≡ length piece
+  pub all : (needs : ℕ) → IsPart (take (held + n) new) needs → held + n < 258 → taken + n < burst_limit
+      → n ≡ length piece
   pub copied : take (held + n) new ≡ take held old ++ take n piece

@@ -33,7 +33,7 @@ impl Head<'_> {
         Head::of(bytes)
     }
 
-    /// The same, where a front of the bytes was a part that needs so many.
+    /// The same, where a front of the bytes was a part that needs `needs` bytes.
     pub(crate) fn further(bytes: &[u8], needs: usize) -> Head<'_>
         requires { (k : ℕ) × IsPart (take k bytes.now) needs }
         ensures { Means bytes.now result }

@@ -37,7 +37,7 @@ pub(crate) enum Place {
 }
 
 impl Place {
-    // Between two messages, after so many bytes.
+    // Between two messages, after `taken` bytes.
     const fn after(taken: usize) -> Self
         ensures { result ≡ places.Reading taken 0 1 }
     {
@@ -147,7 +147,10 @@ fn fill(buffer: &mut [u8; LONGEST], held: usize, taken: usize, piece: &[u8]) -> 
     ensures { Fills held taken piece.now result buffer.old buffer.new }
 {
     let size = size_shown(&buffer[..held], piece).max(2).min(LONGEST);
-    let count = piece.len().min(LIMIT - taken).min(size.saturating_sub(held));
+    let count = piece
+        .len()
+        .min(LIMIT - taken)
+        .min(size.saturating_sub(held));
     put(buffer, held, &piece[..count]);
     count
 }

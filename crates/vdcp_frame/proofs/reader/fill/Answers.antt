@@ -17,9 +17,11 @@ returns c =
     let copied : take (c.args.held + n) c.put.new.buffer ≡ held ++ take n piece =
     subst (λ (k : ℕ). take (c.args.held + k) c.put.new.buffer ≡ held ++ take n piece) size c.put.ensures in
     let held_fits : AreOctets held =
-    All-take (λ b. b < 256) c.args.held c.args.buffer.now (All-from_get_or (λ b. b < 256) c.args.buffer.now 0 (λ i h. omega (arith, c.fits-buffer i))) in
+    All-take (λ b. b < 256) c.args.held c.args.buffer.now
+    (All-from_get_or (λ b. b < 256) c.args.buffer.now 0 (λ i h. omega (arith, c.fits-buffer i))) in
     let piece_fits : AreOctets (take n piece) =
-    All-take (λ b. b < 256) n piece (All-from_get_or (λ b. b < 256) piece 0 (λ i h. omega (arith, c.type_inv.piece i))) in
+    All-take (λ b. b < 256) n piece
+    (All-from_get_or (λ b. b < 256) piece 0 (λ i h. omega (arith, c.type_inv.piece i))) in
     let held_size : length held ≡ c.args.held = omega (arith, length-take c.args.held c.args.buffer.now) in
     let fits : AreOctets (held ++ take n piece) = All-append (λ b. b < 256) held (take n piece) held_fits piece_fits in
     record {
@@ -27,8 +29,10 @@ returns c =
       limit = omega (arith, c.requires.taken);
       all = λ needs part room less. elim (cases_eq n (length piece)) [
         | inl whole ↦ whole
-        | inr front ↦ absurd (size_enough held piece n needs fits (omega (arith, held_size, c.size_shown.ensures, room, less, front))
-            (omega (arith, held_size, room, less, front)) (omega (arith, front)) (subst (λ (l : List ℕ). IsPart l needs) copied part))
+        | inr front ↦ absurd (size_enough held piece n needs fits
+            (omega (arith, held_size, c.size_shown.ensures, room, less, front))
+            (omega (arith, held_size, room, less, front)) (omega (arith, front))
+            (subst (λ (l : List ℕ). IsPart l needs) copied part))
       ];
       copied = copied;
     }
