@@ -22,13 +22,16 @@ at_once : (bytes : List ℕ) → AreOctets bytes → HasNoFront bytes → Split 
 at_once bytes fits none = record { whole = []; parts = refl; spelt = refl; fits = fits; none = none }
 
 split_at : (n : ℕ) (bytes : List ℕ) (head : Head) → length bytes ≤ suc n → AreOctets bytes → HeadIs bytes head →
-    ((remainder : List ℕ) → length remainder ≤ n → AreOctets remainder → Split remainder (messages_within n remainder) (left_within n remainder)) →
-    Split bytes (messages_at head (λ size. messages_within n (drop size bytes))) (left_at head bytes (λ size. left_within n (drop size bytes)))
+    ((remainder : List ℕ) → length remainder ≤ n → AreOctets remainder
+    → Split remainder (messages_within n remainder) (left_within n remainder)) →
+    Split bytes (messages_at head (λ size. messages_within n (drop size bytes)))
+    (left_at head bytes (λ size. left_within n (drop size bytes)))
 split_at n bytes (part needs) le fits is more = at_once bytes fits (part_unfinished bytes needs is).no_front
 split_at n bytes (wrong which size) le fits is more = at_once bytes fits is.no_front
 split_at n bytes (found m size) le fits is more =
     let tail : List ℕ = drop size bytes in
-    let s = more tail (omega (arith, is.some, is.within, length-drop size bytes)) (All-drop (λ b. b < 256) size bytes fits) in
+    let s = more tail (omega (arith, is.some, is.within, length-drop size bytes))
+    (All-drop (λ b. b < 256) size bytes fits) in
     record {
       whole = take size bytes ++ s.whole;
       parts = sym (take-append-drop size bytes) ∙ ap (λ (t : List ℕ). take size bytes ++ t) s.parts
@@ -38,20 +41,26 @@ split_at n bytes (found m size) le fits is more =
       none = s.none;
     }
 
-split_within : (n : ℕ) (bytes : List ℕ) → length bytes ≤ n → AreOctets bytes → Split bytes (messages_within n bytes) (left_within n bytes)
-split_within zero bytes le fits = at_once bytes fits (subst HasNoFront (sym (nil_from_length bytes (omega arith))) Unfinished-nil.no_front)
+split_within : (n : ℕ) (bytes : List ℕ) → length bytes ≤ n → AreOctets bytes
+    → Split bytes (messages_within n bytes) (left_within n bytes)
+split_within zero bytes le fits =
+    at_once bytes fits (subst HasNoFront (sym (nil_from_length bytes (omega arith))) Unfinished-nil.no_front)
 split_within (suc n) bytes le fits = split_at n bytes (head_of bytes) le fits (head_is bytes fits) (split_within n)
 
-ends_at : (before : ℕ) (remainder : List ℕ) (head : Head) → HeadIs remainder head → HasNoFront remainder → Ends before remainder (end_at before remainder head)
+ends_at : (before : ℕ) (remainder : List ℕ) (head : Head) → HeadIs remainder head → HasNoFront remainder
+    → Ends before remainder (end_at before remainder head)
 ends_at before remainder (part needs) is none = ends_unfinished before remainder (part_unfinished remainder needs is)
 ends_at before remainder (wrong which size) is none = (size, is.first, refl, is.fault_is)
-ends_at before remainder (found m size) is none = absurd (none m (take size remainder) (drop size remainder) is.spelt (sym (take-append-drop size remainder)))
+ends_at before remainder (found m size) is none =
+    absurd (none m (take size remainder) (drop size remainder) is.spelt (sym (take-append-drop size remainder)))
 
-pub reads_short_computed : (bytes : List ℕ) → AreOctets bytes → ReadsShort bytes (messages_within (length bytes) bytes) (short_end bytes)
+pub reads_short_computed : (bytes : List ℕ) → AreOctets bytes
+    → ReadsShort bytes (messages_within (length bytes) bytes) (short_end bytes)
 reads_short_computed bytes fits =
     let s = split_within (length bytes) bytes (omega arith) fits in
     let remainder : List ℕ = left_within (length bytes) bytes in
-    let before : length s.whole ≡ length bytes - length remainder = omega (arith, ap (length {A = ℕ}) s.parts, length-append s.whole remainder) in
+    let before : length s.whole ≡ length bytes - length remainder =
+    omega (arith, ap (length {A = ℕ}) s.parts, length-append s.whole remainder) in
     record {
       whole = s.whole;
       remainder = remainder;

@@ -21,28 +21,35 @@ not_long (start ∷ []) e = cc
 not_long (start ∷ count ∷ []) e = cc
 not_long (start ∷ count ∷ byte ∷ bytes) e = cc
 
-fault_taken : (taken : ℕ) (held piece : List ℕ) (n : ℕ) (which : Fault) → TakesWrong taken held piece n which → TakesFault taken held piece n which
+fault_taken : (taken : ℕ) (held piece : List ℕ) (n : ℕ) (which : Fault) → TakesWrong taken held piece n which
+    → TakesFault taken held piece n which
 fault_taken taken held piece n BadStart t = t
 fault_taken taken held piece n (BadCount count) t = t
 fault_taken taken held piece n BadSum t = t
-fault_taken taken held piece n Long t = absurd (not_long (take (length (held ++ take n piece)) (held ++ take n piece)) t.first.fault_is)
+fault_taken taken held piece n Long t =
+    absurd (not_long (take (length (held ++ take n piece)) (held ++ take n piece)) t.first.fault_is)
 
 -- what is found, or wrong, ends after the bytes held
-found_past : (held bytes : List ℕ) (m : Content) (size : ℕ) → IsUnfinished held → IsFound (held ++ bytes) m size → length held < size
+found_past : (held bytes : List ℕ) (m : Content) (size : ℕ) → IsUnfinished held → IsFound (held ++ bytes) m size
+    → length held < size
 found_past held bytes m size h f = elim (cases_lt (length held) size) [
   | inl past ↦ past
-  | inr le ↦ absurd (h.no_front m (take size held) (drop size held) (subst (Spells m) (take-append-le size held bytes le) f.spelt)
+  | inr le ↦ absurd (h.no_front m (take size held) (drop size held)
+      (subst (Spells m) (take-append-le size held bytes le) f.spelt)
       (sym (take-append-drop size held)))
 ]
 
-wrong_past : (held bytes : List ℕ) (which : Fault) (size : ℕ) → IsUnfinished held → IsWrong (held ++ bytes) which size → length held < size
+wrong_past : (held bytes : List ℕ) (which : Fault) (size : ℕ) → IsUnfinished held → IsWrong (held ++ bytes) which size
+    → length held < size
 wrong_past held bytes which size h w = elim (cases_lt (length held) size) [
   | inl past ↦ past
-  | inr le ↦ absurd (w.first.wrong (subst Begins (sym (take-append-le size held bytes le)) (Begins-take size held h.begins)))
+  | inr le ↦ absurd (w.first.wrong
+      (subst Begins (sym (take-append-le size held bytes le)) (Begins-take size held h.begins)))
 ]
 
 -- a wrong front is wrong by itself
-IsWrong-front : (bytes : List ℕ) (which : Fault) (size : ℕ) → IsWrong bytes which size → IsWrong (take size bytes) which (length (take size bytes))
+IsWrong-front : (bytes : List ℕ) (which : Fault) (size : ℕ) → IsWrong bytes which size
+    → IsWrong (take size bytes) which (length (take size bytes))
 IsWrong-front bytes which size w =
     let n : length (take size bytes) ≡ size = omega (arith, length-take size bytes, w.first.within) in
     let same : (k : ℕ) → k ≤ size → take k (take size bytes) ≡ take k bytes = λ k le. take-take k size bytes le in
@@ -53,7 +60,8 @@ IsWrong-front bytes which size w =
         shorter = λ k lt. let le : k ≤ size = omega arith in subst Begins (sym (same k le)) (w.first.shorter k lt);
       };
       no_front = λ m front later s e. w.no_front m front (later ++ drop size bytes) s
-          (sym (take-append-drop size bytes) ∙ ap (λ (l : List ℕ). l ++ drop size bytes) e ∙ append_assoc front later (drop size bytes));
+          (sym (take-append-drop size bytes) ∙ ap (λ (l : List ℕ). l ++ drop size bytes) e
+          ∙ append_assoc front later (drop size bytes));
       fault_is = w.fault_is ∙ ap fault_of (sym (same size (omega arith)));
     })
 
@@ -62,26 +70,29 @@ pub record IsFed (now : Progress) (piece : List ℕ) (n : ℕ) (answer : Answer)
   pub gives : Gives now piece n answer
   pub after : new ≡ fed now piece n answer
 
-pub failed_fed : (p : Place) (buffer : List ℕ) (now : Progress) (piece : List ℕ) → progress_at p buffer ≡ now → p ≡ place.Failed
+pub failed_fed : (p : Place) (buffer : List ℕ) (now : Progress) (piece : List ℕ) → progress_at p buffer ≡ now
+    → p ≡ place.Failed
     → IsFed now piece (length piece) more (progress_at p buffer)
 failed_fed p buffer now piece view_is is =
     let now_is : failed ≡ now = ap (λ (q : Place). progress_at q buffer) (sym is) ∙ view_is in
     subst (λ (o : Progress). IsFed o piece (length piece) more (progress_at p buffer)) now_is
     (record { gives = refl; after = ap (λ (q : Place). progress_at q buffer) is })
 
--- a reader that isn't behind a fault
+-- a reader that had no fault
 pub record IsReading (now : Progress) (taken held needs : ℕ) (buffer : List ℕ) : Type 0 where
   pub now_is : reading taken (take held buffer) ≡ now
   pub holds : Holds taken held needs buffer
 
-pub is_reading : (p : Place) (buffer : List ℕ) (now : Progress) (taken held needs : ℕ) → progress_at p buffer ≡ now → IsPlace p buffer
+pub is_reading : (p : Place) (buffer : List ℕ) (now : Progress) (taken held needs : ℕ) → progress_at p buffer ≡ now
+    → IsPlace p buffer
     → p ≡ place.Reading taken held needs → IsReading now taken held needs buffer
 is_reading p buffer now taken held needs view_is inside is = record {
   now_is = ap (λ (q : Place). progress_at q buffer) (sym is) ∙ view_is;
   holds = subst (λ (q : Place). IsPlace q buffer) is inside;
 }
 
-module _ {now : Progress} {piece : List ℕ} {taken held needs k : ℕ} {buffer filled : List ℕ} (r : IsReading now taken held needs buffer)
+module _ {now : Progress} {piece : List ℕ} {taken held needs k : ℕ} {buffer filled : List ℕ}
+    (r : IsReading now taken held needs buffer)
     (f : Fills held taken piece k buffer filled) where
   abbrev front : List ℕ
   front = take held buffer
@@ -94,14 +105,18 @@ module _ {now : Progress} {piece : List ℕ} {taken held needs k : ℕ} {buffer 
 
   pub further_part : (x : ℕ) × IsPart (take x (take (held + k) filled)) needs
   further_part =
-      let same : take held (front ++ take k piece) ≡ front = take_at front (take k piece) held size_is in
-      (held, subst (λ (l : List ℕ). IsPart (take held l) needs) (sym f.copied) (subst (λ (l : List ℕ). IsPart l needs) (sym same) r.holds.part))
+      let same : take held (front ++ take k piece) ≡ front = take_at front (take k piece) held size_is in (
+        held,
+        subst (λ (l : List ℕ). IsPart (take held l) needs) (sym f.copied)
+            (subst (λ (l : List ℕ). IsPart l needs) (sym same) r.holds.part),
+      )
 
   within_of : (size : ℕ) → size ≤ length (front ++ take k piece) → size ≤ held + k
   within_of size le = omega (arith, length-append front (take k piece), size_is, length-take k piece)
 
   -- the bytes up to there
-  taken_of : (size : ℕ) → held < size → size ≤ held + k → take size (front ++ take k piece) ≡ front ++ take (size - held) piece
+  taken_of : (size : ℕ) → held < size → size ≤ held + k
+      → take size (front ++ take k piece) ≡ front ++ take (size - held) piece
   taken_of size past within =
       let split : size ≡ length front + (size - held) = omega (arith, size_is) in
       let less : size - held ≤ k = omega arith in
@@ -155,10 +170,16 @@ module _ {now : Progress} {piece : List ℕ} {taken held needs k : ℕ} {buffer 
     part_there = part_unfinished (front ++ take k piece) others (subst (λ (l : List ℕ). IsPart l others) f.copied part)
 
     few : held + k < 258
-    few = omega (arith, part.short, part.most, f.within, ap (length {A = ℕ}) f.copied, length-append front (take k piece), size_is, length-take k piece)
-
-    pub more_holds : held + k ≤ length filled → Holds (taken + k) (held + k) others filled
-    more_holds room = record { limit = f.limit; within = room; part = part }
+    few = omega (
+      arith,
+      part.short,
+      part.most,
+      f.within,
+      ap (length {A = ℕ}) f.copied,
+      length-append front (take k piece),
+      size_is,
+      length-take k piece,
+    )
 
     pub more_fed : k ≡ length piece → IsFed now piece k more (reading (taken + k) (take (held + k) filled))
     more_fed all =
@@ -170,7 +191,7 @@ module _ {now : Progress} {piece : List ℕ} {taken held needs k : ℕ} {buffer 
     long_fed longer =
         let same : take k piece ≡ take (k + 1 - 1) piece = ap (λ (i : ℕ). take i piece) (omega arith) in
         let full : taken + k ≡ 4096 = elim (cases_lt (taken + k) 4096) [
-          | inl less ↦ absurd (longer (f.all few less))
+          | inl less ↦ absurd (longer (f.all others part few less))
           | inr le ↦ omega (arith, f.limit)
         ] in
         let past : taken + (k + 1) ≡ 4096 + 1 = omega (arith, full) in
@@ -180,17 +201,20 @@ module _ {now : Progress} {piece : List ℕ} {taken held needs k : ℕ} {buffer 
           past = past;
           unfinished = subst (λ (l : List ℕ). IsUnfinished (front ++ l)) same part_there;
         } in
-        subst (λ (o : Progress). IsFed o piece (k + 1) (wrong Long 4097) failed) r.now_is (record { gives = (takes, sym past); after = refl })
+        subst (λ (o : Progress). IsFed o piece (k + 1) (wrong Long 4097) failed) r.now_is
+        (record { gives = (takes, sym past); after = refl })
 
 -- ---- of what a call gives
 
-fault_within : (taken : ℕ) (held piece : List ℕ) (n : ℕ) (which : Fault) → TakesFault taken held piece n which → (0 < n) × (n ≤ length piece)
+fault_within : (taken : ℕ) (held piece : List ℕ) (n : ℕ) (which : Fault) → TakesFault taken held piece n which → (0 < n)
+    × (n ≤ length piece)
 fault_within taken held piece n BadStart t = (t.some, t.within)
 fault_within taken held piece n (BadCount count) t = (t.some, t.within)
 fault_within taken held piece n BadSum t = (t.some, t.within)
 fault_within taken held piece n Long t = (t.some, t.within)
 
-pub gives_within : (old : Progress) (piece : List ℕ) (n : ℕ) (answer : Answer) → Gives old piece n answer → n ≤ length piece
+pub gives_within : (old : Progress) (piece : List ℕ) (n : ℕ) (answer : Answer) → Gives old piece n answer
+    → n ≤ length piece
 gives_within (reading taken held) piece n (message m) g = g.within
 gives_within (reading taken held) piece n more g = omega (arith, g.all)
 gives_within (reading taken held) piece n (wrong which place) g = (fault_within taken held piece n which g.0).1
@@ -199,7 +223,8 @@ gives_within failed piece n more g = omega arith
 gives_within failed piece n (wrong which place) g = absurd g
 
 -- something is taken of a piece that has a byte
-pub gives_some : (old : Progress) (piece : List ℕ) (n : ℕ) (answer : Answer) → Gives old piece n answer → 0 < length piece → 0 < n
+pub gives_some : (old : Progress) (piece : List ℕ) (n : ℕ) (answer : Answer) → Gives old piece n answer
+    → 0 < length piece → 0 < n
 gives_some (reading taken held) piece n (message m) g some = g.some
 gives_some (reading taken held) piece n more g some = omega (arith, g.all)
 gives_some (reading taken held) piece n (wrong which place) g some = (fault_within taken held piece n which g.0).0

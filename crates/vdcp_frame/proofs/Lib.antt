@@ -2,6 +2,7 @@
 pub mod HeadLemmas
 pub mod ReadingLemmas
 pub mod BurstLemmas
+pub mod SizeLemmas
 pub mod SpellingLemmas
 pub mod FrameLemmas
 pub mod ChangedByteLemmas

@@ -16,9 +16,11 @@ use Rattle.std.proofs.Math.Seq.{take-add, take-append-add}
 -- ---- one message
 
 -- where two spellings begin one list of bytes, they are one
-pub one_front : (m n : Content) (a b x y : List ℕ) → Spells m a → Spells n b → a ++ x ≡ b ++ y → (m ≡ n) × (a ≡ b) × (x ≡ y)
+pub one_front : (m n : Content) (a b x y : List ℕ) → Spells m a → Spells n b → a ++ x ≡ b ++ y → (m ≡ n) × (a ≡ b)
+    × (x ≡ y)
 one_front m n a b x y s t e =
-    let same : found m (length a) ≡ found n (length b) = sym (head_of-spelt m a x s) ∙ ap head_of e ∙ head_of-spelt n b y t in
+    let same : found m (length a) ≡ found n (length b) = sym (head_of-spelt m a x s) ∙ ap head_of e
+    ∙ head_of-spelt n b y t in
     let m_is : m ≡ n = cc in
     let size : length a ≡ length b = cc in
     let a_is : a ≡ b = sym (take_at a x (length a) refl) ∙ ap (take (length a)) e ∙ take_at b y (length a) (sym size) in
@@ -52,29 +54,42 @@ spelt_some (framed kind unit code rest) bytes s = rw s.spelt (omega arith)
 
 -- ---- messages one after another
 
-pub SpellsAll-push : (ms : List Content) (m : Content) (front bytes : List ℕ) → SpellsAll ms front → Spells m bytes → SpellsAll (ms ++ m ∷ []) (front ++ bytes)
-SpellsAll-push [] m front bytes all s = (bytes, [], s, refl, ap (λ (f : List ℕ). f ++ bytes) all ∙ sym (append-nil bytes))
-SpellsAll-push (first ∷ ms) m front bytes all s =
-    (all.0, all.1 ++ bytes, all.2, SpellsAll-push ms m all.1 bytes all.3 s, ap (λ (f : List ℕ). f ++ bytes) all.4 ∙ append_assoc all.0 all.1 bytes)
+pub SpellsAll-push : (ms : List Content) (m : Content) (front bytes : List ℕ) → SpellsAll ms front → Spells m bytes
+    → SpellsAll (ms ++ m ∷ []) (front ++ bytes)
+SpellsAll-push [] m front bytes all s =
+    (bytes, [], s, refl, ap (λ (f : List ℕ). f ++ bytes) all ∙ sym (append-nil bytes))
+SpellsAll-push (first ∷ ms) m front bytes all s = (
+  all.0,
+  all.1 ++ bytes,
+  all.2,
+  SpellsAll-push ms m all.1 bytes all.3 s,
+  ap (λ (f : List ℕ). f ++ bytes) all.4
+      ∙ append_assoc all.0 all.1 bytes,
+)
 
-pub SpellsAll-append : (ms ns : List Content) (a b : List ℕ) → SpellsAll ms a → SpellsAll ns b → SpellsAll (ms ++ ns) (a ++ b)
+pub SpellsAll-append : (ms ns : List Content) (a b : List ℕ) → SpellsAll ms a → SpellsAll ns b
+    → SpellsAll (ms ++ ns) (a ++ b)
 SpellsAll-append [] ns a b p q = subst (SpellsAll ns) (ap (λ (f : List ℕ). f ++ b) (sym p)) q
 SpellsAll-append (m ∷ ms) ns a b p q =
     (p.0, p.1 ++ b, p.2, SpellsAll-append ms ns p.1 b p.3 q, ap (λ (f : List ℕ). f ++ b) p.4 ∙ append_assoc p.0 p.1 b)
 
 -- ---- one reading
 
-pub same_whole : (ms ns : List Content) (a b x y : List ℕ) → SpellsAll ms a → SpellsAll ns b → HasNoFront x → HasNoFront y → a ++ x ≡ b ++ y
+pub same_whole : (ms ns : List Content) (a b x y : List ℕ) → SpellsAll ms a → SpellsAll ns b → HasNoFront x
+    → HasNoFront y → a ++ x ≡ b ++ y
     → (ms ≡ ns) × (a ≡ b) × (x ≡ y)
 same_whole [] [] a b x y p q no_x no_y e =
     (refl, p ∙ sym q, sym (ap (λ (f : List ℕ). f ++ x) p) ∙ e ∙ ap (λ (f : List ℕ). f ++ y) q)
 same_whole [] (n ∷ ns) a b x y p q no_x no_y e =
-    absurd (no_x n q.0 (q.1 ++ y) q.2 (sym (ap (λ (f : List ℕ). f ++ x) p) ∙ e ∙ ap (λ (f : List ℕ). f ++ y) q.4 ∙ append_assoc q.0 q.1 y))
+    absurd (no_x n q.0 (q.1 ++ y) q.2 (sym (ap (λ (f : List ℕ). f ++ x) p) ∙ e ∙ ap (λ (f : List ℕ). f ++ y) q.4
+    ∙ append_assoc q.0 q.1 y))
 same_whole (m ∷ ms) [] a b x y p q no_x no_y e =
-    absurd (no_y m p.0 (p.1 ++ x) p.2 (sym (ap (λ (f : List ℕ). f ++ y) q) ∙ sym e ∙ ap (λ (f : List ℕ). f ++ x) p.4 ∙ append_assoc p.0 p.1 x))
+    absurd (no_y m p.0 (p.1 ++ x) p.2 (sym (ap (λ (f : List ℕ). f ++ y) q) ∙ sym e ∙ ap (λ (f : List ℕ). f ++ x) p.4
+    ∙ append_assoc p.0 p.1 x))
 same_whole (m ∷ ms) (n ∷ ns) a b x y p q no_x no_y e =
     let joined : p.0 ++ (p.1 ++ x) ≡ q.0 ++ (q.1 ++ y) =
-    sym (ap (λ (f : List ℕ). f ++ x) p.4 ∙ append_assoc p.0 p.1 x) ∙ e ∙ ap (λ (f : List ℕ). f ++ y) q.4 ∙ append_assoc q.0 q.1 y in
+    sym (ap (λ (f : List ℕ). f ++ x) p.4 ∙ append_assoc p.0 p.1 x) ∙ e ∙ ap (λ (f : List ℕ). f ++ y) q.4
+    ∙ append_assoc q.0 q.1 y in
     let first = one_front m n p.0 q.0 (p.1 ++ x) (q.1 ++ y) p.2 q.2 joined in
     let more = same_whole ms ns p.1 q.1 x y p.3 q.3 no_x no_y first.2 in
     (cc, cc, more.2)
@@ -113,15 +128,19 @@ one_end before remainder (fault which place) (fault other there) p q =
     let places : place ≡ there = p.2 ∙ ap (λ (n : ℕ). before + n) n_is ∙ sym q.2 in
     cc
 
-one_short : (bytes : List ℕ) (ms ns : List Content) (e f : End) → ReadsShort bytes ms e → ReadsShort bytes ns f → (ms ≡ ns) × (e ≡ f)
+one_short : (bytes : List ℕ) (ms ns : List Content) (e f : End) → ReadsShort bytes ms e → ReadsShort bytes ns f
+    → (ms ≡ ns) × (e ≡ f)
 one_short bytes ms ns e f p q =
-    let same = same_whole ms ns p.whole q.whole p.remainder q.remainder p.spelt q.spelt p.no_front q.no_front (sym p.parts ∙ q.parts) in
+    let same = same_whole ms ns p.whole q.whole p.remainder q.remainder p.spelt q.spelt p.no_front q.no_front
+    (sym p.parts ∙ q.parts) in
     let there : Ends (length p.whole) p.remainder f =
-    subst (λ (w : List ℕ). Ends (length w) p.remainder f) (sym same.1) (subst (λ (r : List ℕ). Ends (length q.whole) r f) (sym same.2) q.ends) in
+    subst (λ (w : List ℕ). Ends (length w) p.remainder f) (sym same.1)
+    (subst (λ (r : List ℕ). Ends (length q.whole) r f) (sym same.2) q.ends) in
     (same.0, one_end (length p.whole) p.remainder e f p.ends there)
 
 -- a burst has one reading at most
-pub one_reading : (limit : ℕ) (burst : List ℕ) (ms ns : List Content) (e f : End) → ReadsUpTo limit burst ms e → ReadsUpTo limit burst ns f
+pub one_reading : (limit : ℕ) (burst : List ℕ) (ms ns : List Content) (e f : End) → ReadsUpTo limit burst ms e
+    → ReadsUpTo limit burst ns f
     → (ms ≡ ns) × (e ≡ f)
 one_reading limit burst ms ns e f p q =
     let same = one_short (take limit burst) ms ns p.short q.short p.front q.front in
@@ -146,9 +165,11 @@ unfinished_cut [] n size some = absurd (omega arith)
 unfinished_cut (byte ∷ bytes) n size some = ap cut size
 
 -- the bytes that are read are messages and an unfinished remainder
-module _ (limit : ℕ) (burst : List ℕ) (ms : List Content) (whole held : List ℕ) (parts : take limit burst ≡ whole ++ held)
+module _ (limit : ℕ) (burst : List ℕ) (ms : List Content) (whole held : List ℕ)
+    (parts : take limit burst ≡ whole ++ held)
     (spelt : SpellsAll ms whole) (h : IsUnfinished held) where
-  reads_unfinished : ReadsUpTo limit burst ms (cond (ltb limit (length burst)) (long_end limit (unfinished_end held)) (unfinished_end held))
+  reads_unfinished : ReadsUpTo limit burst ms
+      (cond (ltb limit (length burst)) (long_end limit (unfinished_end held)) (unfinished_end held))
   reads_unfinished = record {
     short = unfinished_end held;
     front = record { whole = whole; remainder = held; parts = parts; spelt = spelt; no_front = h.no_front; ends = ends_unfinished (length whole) held h };
@@ -156,13 +177,15 @@ module _ (limit : ℕ) (burst : List ℕ) (ms : List Content) (whole held : List
   }
 
   pub reads_short : length burst ≤ limit → ReadsUpTo limit burst ms (unfinished_end held)
-  reads_short short = subst (λ (b : Bool). ReadsUpTo limit burst ms (cond b (long_end limit (unfinished_end held)) (unfinished_end held)))
+  reads_short short = subst
+      (λ (b : Bool). ReadsUpTo limit burst ms (cond b (long_end limit (unfinished_end held)) (unfinished_end held)))
       (le-ltb limit (length burst) short) reads_unfinished
 
   -- a longer burst is a fault, where there was none before
   pub reads_long : limit < length burst → ReadsUpTo limit burst ms (fault Long (limit + 1))
   reads_long long = subst (ReadsUpTo limit burst ms) (long_unfinished limit held)
-      (subst (λ (b : Bool). ReadsUpTo limit burst ms (cond b (long_end limit (unfinished_end held)) (unfinished_end held)))
+      (subst (λ (b : Bool). ReadsUpTo limit burst ms
+      (cond b (long_end limit (unfinished_end held)) (unfinished_end held)))
       (lt-ltb limit (length burst) long) reads_unfinished)
 
 -- ---- a step along a burst
@@ -186,13 +209,15 @@ module _ (limit : ℕ) (burst : List ℕ) (from : ℕ) (within : from ≤ limit)
   found_within m size f = omega (arith, f.some, f.within, length-drop from (take limit burst), length-take limit burst)
 
   -- a message that is found in what is left goes on the messages of the front
-  pub next_front : (ms : List Content) (m : Content) (size : ℕ) → IsFound (left limit burst from) m size → SpellsAll ms (take from burst)
+  pub next_front : (ms : List Content) (m : Content) (size : ℕ) → IsFound (left limit burst from) m size
+      → SpellsAll ms (take from burst)
       → SpellsAll (ms ++ m ∷ []) (take (from + size) burst)
   next_front ms m size f all =
       let whole : take (from + size) burst ≡ take from burst ++ take size (left limit burst from) =
       sym (take-take (from + size) limit burst (found_within m size f)) ∙ take-add from size (take limit burst)
       ∙ ap (λ (b : List ℕ). b ++ take size (left limit burst from)) front_of in
-      subst (SpellsAll (ms ++ m ∷ [])) (sym whole) (SpellsAll-push ms m (take from burst) (take size (left limit burst from)) all f.spelt)
+      subst (SpellsAll (ms ++ m ∷ [])) (sym whole)
+      (SpellsAll-push ms m (take from burst) (take size (left limit burst from)) all f.spelt)
 
   reads_left : (ms : List Content) (end : End) → SpellsAll ms (take from burst) → HasNoFront (left limit burst from)
       → Ends (length (take from burst)) (left limit burst from) end → ReadsShort (take limit burst) ms end
@@ -211,7 +236,8 @@ module _ (limit : ℕ) (burst : List ℕ) (from : ℕ) (within : from ≤ limit)
   reads_end ms end all none ends = record { short = end; front = reads_left ms end all none ends; long = refl }
 
   -- what is left begins with a fault
-  pub reads_wrong : (ms : List Content) (which : Fault) (size : ℕ) → from ≤ length burst → SpellsAll ms (take from burst)
+  pub reads_wrong : (ms : List Content) (which : Fault) (size : ℕ) → from ≤ length burst
+      → SpellsAll ms (take from burst)
       → IsWrong (left limit burst from) which size → ReadsUpTo limit burst ms (fault which (from + size))
   reads_wrong ms which size fits all w =
       let before : length (take from burst) ≡ from = omega (arith, length-take from burst) in
@@ -221,14 +247,17 @@ module _ (limit : ℕ) (burst : List ℕ) (from : ℕ) (within : from ≤ limit)
       (reads_end ms (fault which (from + size)) all w.no_front ends)
 
   -- where the message that is found lies in the burst
-  pub found_spelt : (m : Content) (size : ℕ) → IsFound (left limit burst from) m size → Spells m (take (from + size - from) (drop from burst))
+  pub found_spelt : (m : Content) (size : ℕ) → IsFound (left limit burst from) m size
+      → Spells m (take (from + size - from) (drop from burst))
   found_spelt m size f =
       let fits : from + size ≤ limit = found_within m size f in
       let whole : limit ≡ from + (limit - from) = omega arith in
       let less : size ≤ limit - from = omega arith in
-      let same : left limit burst from ≡ take (limit - from) (drop from burst) = ap (λ (n : ℕ). drop from (take n burst)) whole
+      let same : left limit burst from ≡ take (limit - from) (drop from burst) =
+      ap (λ (n : ℕ). drop from (take n burst)) whole
       ∙ drop-take from (limit - from) burst in
-      let there : take size (left limit burst from) ≡ take size (drop from burst) = ap (λ (b : List ℕ). take size b) same
+      let there : take size (left limit burst from) ≡ take size (drop from burst) =
+      ap (λ (b : List ℕ). take size b) same
       ∙ take-take size (limit - from) (drop from burst) less in
       let count : size ≡ from + size - from = omega arith in
       subst (λ (n : ℕ). Spells m (take n (drop from burst))) count (subst (Spells m) there f.spelt)
@@ -243,59 +272,65 @@ module _ (limit : ℕ) (burst : List ℕ) (from : ℕ) (within : from ≤ limit)
 
 -- ---- spellings
 
-pub begins_no_other : (m n : Content) (a b more : List ℕ) → Spells m a → Spells n b → b ≡ a ++ more → (m ≡ n) × (more ≡ [])
-begins_no_other m n a b more s t e =
-    let same = one_front m n a b more [] s t (sym e ∙ sym (append-nil b)) in
-    (same.0, same.2)
-
 pub fits-from_spelt : (m : Content) (bytes : List ℕ) → Spells m bytes → Fits m
 fits-from_spelt ack bytes s = tt
 fits-from_spelt (nak byte) bytes s = s.0
 fits-from_spelt (framed kind unit code rest) bytes s = s.fits
 
-pub the_spelling : (m : Content) (bytes : List ℕ) → Spells m bytes → Fits m × (bytes ≡ spelling m)
-the_spelling m bytes s =
-    let fits = fits-from_spelt m bytes s in
-    (fits, one_spelling m bytes (spelling m) s (Spells-spelling m fits))
-
 -- ---- written messages are read again
 
 -- the messages of a longer list begin with those of a front
-goes_on : (ms ns : List Content) (a b more remainder : List ℕ) → SpellsAll ms a → SpellsAll ns b → HasNoFront remainder → a ++ more ≡ b ++ remainder
+goes_on : (ms ns : List Content) (a b more remainder : List ℕ) → SpellsAll ms a → SpellsAll ns b → HasNoFront remainder
+    → a ++ more ≡ b ++ remainder
     → (others : List Content) × (ns ≡ ms ++ others)
 goes_on [] ns a b more remainder p q none e = (ns, refl)
 goes_on (m ∷ ms) [] a b more remainder p q none e =
-    absurd (none m p.0 (p.1 ++ more) p.2 (sym (ap (λ (f : List ℕ). f ++ remainder) q) ∙ sym e ∙ ap (λ (f : List ℕ). f ++ more) p.4 ∙ append_assoc p.0 p.1 more))
+    absurd (none m p.0 (p.1 ++ more) p.2 (sym (ap (λ (f : List ℕ). f ++ remainder) q) ∙ sym e
+    ∙ ap (λ (f : List ℕ). f ++ more) p.4 ∙ append_assoc p.0 p.1 more))
 goes_on (m ∷ ms) (n ∷ ns) a b more remainder p q none e =
     let joined : p.0 ++ (p.1 ++ more) ≡ q.0 ++ (q.1 ++ remainder) =
-    sym (ap (λ (f : List ℕ). f ++ more) p.4 ∙ append_assoc p.0 p.1 more) ∙ e ∙ ap (λ (f : List ℕ). f ++ remainder) q.4 ∙ append_assoc q.0 q.1 remainder in
+    sym (ap (λ (f : List ℕ). f ++ more) p.4 ∙ append_assoc p.0 p.1 more) ∙ e ∙ ap (λ (f : List ℕ). f ++ remainder) q.4
+    ∙ append_assoc q.0 q.1 remainder in
     let first = one_front m n p.0 q.0 (p.1 ++ more) (q.1 ++ remainder) p.2 q.2 joined in
     let tail = goes_on ms ns p.1 q.1 more remainder p.3 q.3 none first.2 in
     (tail.0, cc (first.0, tail.1))
 
-pub front_up_to : (limit : ℕ) (bytes more : List ℕ) → length bytes ≤ limit → take limit (bytes ++ more) ≡ bytes ++ take (limit - length bytes) more
+pub front_up_to : (limit : ℕ) (bytes more : List ℕ) → length bytes ≤ limit
+    → take limit (bytes ++ more) ≡ bytes ++ take (limit - length bytes) more
 front_up_to limit bytes more fits =
     let whole : limit ≡ length bytes + (limit - length bytes) = omega arith in
     ap (λ (n : ℕ). take n (bytes ++ more)) whole ∙ take-append-add bytes more (limit - length bytes)
 
-pub read_again : (limit : ℕ) (ms ns : List Content) (bytes more : List ℕ) (end : End) → SpellsAll ms bytes → length bytes ≤ limit
+pub read_again : (limit : ℕ) (ms ns : List Content) (bytes more : List ℕ) (end : End) → SpellsAll ms bytes
+    → length bytes ≤ limit
     → ReadsUpTo limit (bytes ++ more) ns end → (others : List Content) × (ns ≡ ms ++ others)
 read_again limit ms ns bytes more end all fits reads =
-    goes_on ms ns bytes reads.front.whole (take (limit - length bytes) more) reads.front.remainder all reads.front.spelt reads.front.no_front
+    goes_on ms ns bytes reads.front.whole
+    (take (limit - length bytes) more) reads.front.remainder all reads.front.spelt reads.front.no_front
     (sym (front_up_to limit bytes more fits) ∙ reads.front.parts)
 
-pub read_alone : (limit : ℕ) (ms : List Content) (bytes : List ℕ) → SpellsAll ms bytes → length bytes ≤ limit → ReadsUpTo limit bytes ms clean
+pub read_alone : (limit : ℕ) (ms : List Content) (bytes : List ℕ) → SpellsAll ms bytes → length bytes ≤ limit
+    → ReadsUpTo limit bytes ms clean
 read_alone limit ms bytes all fits =
     let short : take limit bytes ≡ bytes = take_all limit bytes fits in
     record {
       short = clean;
-      front = record { whole = bytes; remainder = []; parts = short ∙ sym (append-nil bytes); spelt = all; no_front = Unfinished-nil.no_front; ends = refl };
+      front = record {
+        whole = bytes;
+        remainder = [];
+        parts = short
+            ∙ sym (append-nil bytes);
+        spelt = all;
+        no_front = Unfinished-nil.no_front;
+        ends = refl;
+      };
       long = ap (λ (b : Bool). cond b (long_end limit clean) clean) (sym (le-ltb limit (length bytes) fits));
     }
 
--- ---- bytes behind a fault change nothing
+-- ---- bytes after a fault change nothing
 
-pub IsWrong-more : (w remainder : List ℕ) (which : Fault) → IsWrong w which (length w) → IsWrong (w ++ remainder) which (length w)
+pub IsWrong-more : (w remainder : List ℕ) (which : Fault) → IsWrong w which (length w)
+    → IsWrong (w ++ remainder) which (length w)
 IsWrong-more w remainder which h =
     let same : (k : ℕ) → k ≤ length w → take k (w ++ remainder) ≡ take k w = λ k le. take-append-le k w remainder le in
     let at_end = same (length w) (omega arith) in
@@ -310,8 +345,10 @@ IsWrong-more w remainder which h =
             let front_is : front ≡ w ++ drop (length w) front =
             sym (take-append-drop (length w) front)
             ∙ ap (λ (f : List ℕ). f ++ drop (length w) front)
-            (sym (take-append-le (length w) front tail (omega arith)) ∙ ap (λ (f : List ℕ). take (length w) f) (sym e) ∙ take_at w remainder (length w) refl) in
-            let begins : Begins w = record { message = m; more = drop (length w) front; spelt = subst (Spells m) front_is s } in
+            (sym (take-append-le (length w) front tail (omega arith)) ∙ ap (λ (f : List ℕ). take (length w) f) (sym e)
+            ∙ take_at w remainder (length w) refl) in
+            let begins : Begins w =
+            record { message = m; more = drop (length w) front; spelt = subst (Spells m) front_is s } in
             h.first.wrong (subst Begins (sym (take_all (length w) w (omega arith))) begins)
         | inr fits ↦
             let front_is : front ≡ take (length front) w =
@@ -323,15 +360,17 @@ IsWrong-more w remainder which h =
       fault_is = h.fault_is ∙ ap fault_of (sym at_end);
     }
 
--- a burst that is wrong behind whole messages, whatever follows
-pub wrong_reads : (limit : ℕ) (ms : List Content) (whole w remainder : List ℕ) (which : Fault) → SpellsAll ms whole → IsWrong w which (length w)
+-- a burst that is wrong after whole messages, whatever follows
+pub wrong_reads : (limit : ℕ) (ms : List Content) (whole w remainder : List ℕ) (which : Fault) → SpellsAll ms whole
+    → IsWrong w which (length w)
     → length whole + length w ≤ limit →
     ReadsUpTo limit ((whole ++ w) ++ remainder) ms (fault which (length whole + length w))
 wrong_reads limit ms whole w remainder which all h room =
     let front : List ℕ = whole ++ w in
     let size : length front ≡ length whole + length w = length-append whole w in
     let tail : List ℕ = take (limit - length front) remainder in
-    let read : take limit (front ++ remainder) ≡ whole ++ (w ++ tail) = front_up_to limit front remainder (omega arith) ∙ append_assoc whole w tail in
+    let read : take limit (front ++ remainder) ≡ whole ++ (w ++ tail) = front_up_to limit front remainder (omega arith)
+    ∙ append_assoc whole w tail in
     let there = IsWrong-more w tail which h in
     record {
       short = fault which (length whole + length w);

@@ -47,6 +47,12 @@ head_of (start ∷ bytes) =
     else (if start == 2 then frame_head bytes
     else wrong BadStart 1))
 
+-- how many bytes it is about
+abbrev pub size_of : Head → ℕ
+size_of (part needs) = needs
+size_of (wrong which size) = size
+size_of (found message size) = size
+
 -- what each answer means. While there are fewer bytes than are needed, no message is whole and none is
 -- ruled out
 pub record IsPart (bytes : List ℕ) (needs : ℕ) : Type 0 where

@@ -16,12 +16,14 @@ pub record Call : Type 0 where
 abbrev pub Feeds : Progress → List ℕ → List Call → Progress → Type 0
 Feeds old piece [] new = (piece ≡ []) × (new ≡ old)
 Feeds old piece (call ∷ calls) new =
-    Gives old piece call.count call.answer × Feeds (fed old piece call.count call.answer) (drop call.count piece) calls new
+    Gives old piece call.count call.answer
+    × Feeds (fed old piece call.count call.answer) (drop call.count piece) calls new
 
 -- the same for one piece after another
 abbrev pub FeedsAll : Progress → List (List ℕ) → List (List Call) → Progress → Type 0
 FeedsAll old [] [] new = new ≡ old
-FeedsAll old (piece ∷ pieces) (calls ∷ others) new = (mid : Progress) × Feeds old piece calls mid × FeedsAll mid pieces others new
+FeedsAll old (piece ∷ pieces) (calls ∷ others) new = (mid : Progress) × Feeds old piece calls mid
+    × FeedsAll mid pieces others new
 FeedsAll old [] (calls ∷ others) new = ⊥
 FeedsAll old (piece ∷ pieces) [] new = ⊥
 

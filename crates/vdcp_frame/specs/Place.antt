@@ -1,5 +1,5 @@
 -- Where a streaming reader is, with the buffer that has the bytes held.
-use Rattle.std.specs.Prelude.{ℕ, ◌≡◌, ◌+◌, ◌<◌, ◌≤◌, List, ◌++◌, length, take}
+use Rattle.std.specs.Prelude.{ℕ, ◌≡◌, ◌+◌, ◌<◌, ◌≤◌, List, [], ◌∷◌, ◌++◌, length, take}
 use Rattle.vdcp_frame.specs.declared.reader.Place.{Place}
 use Rattle.vdcp_frame.specs.declared.reader.Place.TheVariants as place
 use Rattle.vdcp_frame.specs.Head.{IsPart}
@@ -20,9 +20,20 @@ abbrev pub IsPlace : Place → List ℕ → Type 0
 IsPlace (place.Reading taken held needs) buffer = Holds taken held needs buffer
 IsPlace place.Failed buffer = Unit {0}
 
--- n bytes of a piece were copied after those held, and all of it unless the buffer is full or the burst too long
+-- of the bytes held and a piece, those that show how many bytes to look at: the first two, if there are two
+abbrev pub looked_at : List ℕ → List ℕ → List ℕ
+looked_at [] (first ∷ second ∷ more) = first ∷ second ∷ []
+looked_at [] (first ∷ []) = []
+looked_at [] [] = []
+looked_at (first ∷ []) (second ∷ more) = first ∷ second ∷ []
+looked_at (first ∷ []) [] = first ∷ []
+looked_at (first ∷ second ∷ more) piece = first ∷ second ∷ more
+
+-- n bytes of a piece were copied after those held: all of it, unless the burst is too long or what is
+-- held then is no longer part of a message
 pub record Fills (held taken : ℕ) (piece : List ℕ) (n : ℕ) (old new : List ℕ) : Type 0 where
   pub within : n ≤ length piece
   pub limit : taken + n ≤ burst_limit
-  pub all : held + n < 258 → taken + n < burst_limit → n ≡ length piece
+  pub all : (needs : ℕ) → IsPart (take (held + n) new) needs → held + n < 258 → taken + n < burst_limit
+      → n ≡ length piece
   pub copied : take (held + n) new ≡ take held old ++ take n piece

@@ -2,7 +2,7 @@
 use Rattle.std.specs.Prelude.{ℕ, List}
 
 -- how far a reader is in a burst: how many bytes it took, and which of these it holds, since they
--- begin a message; or behind a fault
+-- begin a message; or after a fault
 pub data Progress : Type 0 where
   reading : (taken : ℕ) (held : List ℕ) → Progress
   failed : Progress

@@ -96,7 +96,7 @@ abbrev pub Follows : List ℕ → List Content → Progress → Type 0
 Follows burst ms (reading taken held) = FollowsReading burst ms taken held
 Follows burst ms failed = (which : Fault) × (place : ℕ) × FollowsFault burst ms which place
 
--- the same behind one more call
+-- the same after one more call
 abbrev pub FollowsNext : List ℕ → List Content → Answer → Progress → Type 0
 FollowsNext burst ms (message m) new = Follows burst (ms ++ m ∷ []) new
 FollowsNext burst ms more new = Follows burst ms new

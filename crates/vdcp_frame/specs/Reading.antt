@@ -7,7 +7,8 @@ use Rattle.vdcp_frame.specs.Message.{Content, Spells}
 -- the bytes are the spellings of the messages, one after another
 abbrev pub SpellsAll : List Content → List ℕ → Type 0
 SpellsAll [] bytes = bytes ≡ []
-SpellsAll (m ∷ ms) bytes = (first remainder : List ℕ) × Spells m first × SpellsAll ms remainder × (bytes ≡ first ++ remainder)
+SpellsAll (m ∷ ms) bytes = (first remainder : List ℕ) × Spells m first × SpellsAll ms remainder
+    × (bytes ≡ first ++ remainder)
 
 -- the bytes are whole messages, one after another
 abbrev pub AreMessages : List ℕ → Type 0
@@ -47,11 +48,12 @@ fault_of (start ∷ []) = BadStart
 fault_of (start ∷ count ∷ []) = BadCount count
 fault_of (start ∷ count ∷ byte ∷ bytes) = BadSum
 
--- how a burst ends that has this remainder behind so many bytes of whole messages
+-- how a burst ends that has this remainder after whole messages, which have `before` bytes
 abbrev pub Ends : ℕ → List ℕ → End → Type 0
 Ends before remainder clean = remainder ≡ []
 Ends before remainder (cut count) = (remainder ≢ []) × Begins remainder × (count ≡ length remainder)
-Ends before remainder (fault which place) = (n : ℕ) × IsFirstWrong remainder n × (place ≡ before + n) × (which ≡ fault_of (take n remainder))
+Ends before remainder (fault which place) = (n : ℕ) × IsFirstWrong remainder n × (place ≡ before + n)
+    × (which ≡ fault_of (take n remainder))
 
 -- the messages' spellings, then a remainder that begins with no spelling, and what end the remainder makes
 pub record ReadsShort (bytes : List ℕ) (ms : List Content) (end : End) : Type 0 where
@@ -62,19 +64,19 @@ pub record ReadsShort (bytes : List ℕ) (ms : List Content) (end : End) : Type 
   pub no_front : HasNoFront remainder
   pub ends : Ends (length whole) remainder end
 
--- the end of a burst that goes on behind the bytes that are read
+-- the end of a burst that goes on after the bytes that are read
 abbrev pub long_end : ℕ → End → End
 long_end limit clean = fault Long (limit + 1)
 long_end limit (cut count) = fault Long (limit + 1)
 long_end limit (fault which place) = fault which place
 
--- of the bytes at most so many are read
+-- no more of the bytes than the limit are read
 pub record ReadsUpTo (limit : ℕ) (burst : List ℕ) (ms : List Content) (end : End) : Type 0 where
   pub short : End
   pub front : ReadsShort (take limit burst) ms short
   pub long : end ≡ (if nat_lt limit (length burst) then long_end limit short else short)
 
--- so many bytes of a burst are read
+-- how many bytes of a burst are read
 abbrev pub burst_limit : ℕ
 burst_limit = 4096
 

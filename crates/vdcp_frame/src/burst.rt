@@ -15,17 +15,17 @@ pub const LIMIT: usize = 4096;
 pub enum Step<'a> {
     /// A message, and how many bytes of the burst end with it: the next `from`.
     Message(Message<'a>, usize),
-    /// The burst ends behind a whole message, or is empty.
+    /// The burst ends after a whole message, or is empty.
     Clean,
-    /// The burst ends inside a message, of which it has so many bytes.
+    /// The burst ends inside a message: how many bytes of it came.
     Cut(usize),
     /// A fault, and the place of the byte that shows it, counted from 1 at the burst's first byte:
     /// the byte that begins no message, the count, the checksum, or byte 4,097. This profile reads
-    /// nothing behind it.
+    /// nothing after it.
     Fault(Fault, usize),
 }
 
-/// Reads the message that begins behind the first `from` bytes of a burst, in VDCP's message format,
+/// Reads the message that begins after the first `from` bytes of a burst, in VDCP's message format,
 /// or how the burst ends there. Those bytes, 4,096 at most, are whole messages: so they are for 0,
 /// and for each number that came with a message. Any other bytes are read, and refused where they
 /// are no messages.
@@ -37,7 +37,7 @@ pub fn read_at(burst: &[u8], from: usize) -> Step<'_>
     // The message is spelt by the bytes from here to the next place.
     ensures message { IfMessage result (λ m next. Spells m (slice_range burst.now from next)) }
     ensures further { IfMessage result (λ m next. (from < next) × (next ≤ LIMIT) × (next ≤ length burst.now)) }
-    // Whatever messages stand before it, it comes behind them.
+    // Whatever messages stand before it, it comes after them.
     ensures next { IfMessage result (λ m next. (ms : List Content) →
         SpellsAll ms (take from burst.now) → SpellsAll (ms ++ m ∷ []) (take next burst.now)) }
     // Whatever messages stand before it, the burst has these and this end.
@@ -53,7 +53,7 @@ pub fn read_at(burst: &[u8], from: usize) -> Step<'_>
     }
 }
 
-// What is left to read behind the first `from` bytes.
+// What is left to read after the first `from` bytes.
 fn left(burst: &[u8], from: usize) -> &[u8]
     requires limit { from ≤ LIMIT }
     requires within { from ≤ length burst.now }

@@ -3,7 +3,7 @@ use crate::message::{Fault, Message};
 /// What some bytes of a burst brought.
 #[derive(Clone, Copy, Debug, PartialEq, Eq)]
 pub enum Got<'a> {
-    /// A message. Feed the bytes behind it.
+    /// A message. Feed the bytes after it.
     Message(Message<'a>),
     /// All bytes are taken: feed more, or tell of the silence.
     More,
@@ -17,7 +17,7 @@ pub enum Got<'a> {
 pub enum Ended {
     /// Behind a whole message, or with no byte.
     Clean,
-    /// Inside a message, of which so many bytes came.
+    /// Inside a message: how many bytes of it came.
     Cut(usize),
     /// Behind a fault, which was given when it came.
     AfterFault,

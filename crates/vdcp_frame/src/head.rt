@@ -33,7 +33,7 @@ impl Head<'_> {
         Head::of(bytes)
     }
 
-    /// The same, where a front of the bytes was a part that needs so many.
+    /// The same, where a front of the bytes was a part that needs `needs` bytes.
     pub(crate) fn further(bytes: &[u8], needs: usize) -> Head<'_>
         requires { (k : ℕ) × IsPart (take k bytes.now) needs }
         ensures { Means bytes.now result }
@@ -45,7 +45,8 @@ impl Head<'_> {
         }
     }
 
-    fn of(bytes: &[u8]) -> Head<'_>
+    /// The same, said exactly.
+    pub(crate) fn of(bytes: &[u8]) -> Head<'_>
         ensures { seen result ≡ head_of bytes.now }
     {
         match bytes {
@@ -55,6 +56,19 @@ impl Head<'_> {
             [NAK, byte, ..] => Head::Found(Message::Nak(*byte), 2),
             [FRAME, left @ ..] => Head::of_frame(left),
             [_, ..] => Head::Wrong(Fault::BadStart, 1),
+        }
+    }
+
+    ghost use Rattle.vdcp_frame.specs.Head.{size_of};
+
+    /// The bytes that are needed, or those of the fault or the message.
+    pub(crate) fn size(self) -> usize
+        ensures { result ≡ size_of (seen self.entry) }
+    {
+        match self {
+            Head::Part(needs) => needs,
+            Head::Wrong(_, size) => size,
+            Head::Found(_, size) => size,
         }
     }
 

@@ -49,7 +49,7 @@ pub fn one_changed_byte()
 {}
 
 /// Messages that were written one after another into the first 4,096 bytes of a burst are the first
-/// ones read from it, with anything behind them; with nothing behind them they are all of it.
+/// ones read from it, with anything after them; with nothing after them they are all of it.
 pub fn written_is_read()
     ensures first { (ms ns : List Content) (bytes more : List ℕ) (end : End) →
         SpellsAll ms bytes → length bytes ≤ burst_limit → Reads (bytes ++ more) ns end →
@@ -60,7 +60,7 @@ pub fn written_is_read()
         SpellsAll ms bytes → length bytes ≤ burst_limit → (messages_of bytes ≡ ms) × (end_of bytes ≡ clean) }
 {}
 
-/// A spelling alone reads as its one message, and with anything behind it as this message first.
+/// A spelling alone reads as its one message, and with anything after it as this message first.
 pub fn a_spelling_is_its_message()
     ensures alone { (m : Content) (ms : List Content) (end : End) → Fits m →
         Reads (spelling m) ms end → (ms ≡ m ∷ []) × (end ≡ clean) }
@@ -72,7 +72,7 @@ pub fn a_spelling_is_its_message()
         (others : List Content) × (messages_of (spelling m ++ more) ≡ m ∷ others) }
 {}
 
-/// A reader follows the empty burst at its start, and behind each call of `feed` the burst with the
+/// A reader follows the empty burst at its start, and after each call of `feed` the burst with the
 /// bytes taken and the message given.
 pub fn what_is_fed_is_followed()
     ensures start { Follows [] [] (reading 0 []) }

@@ -1,18 +1,17 @@
 //! Messages of the Video Disk Communications Protocol, in its unextended form.
 //!
 //! A burst is what comes in one direction from one silence to the next. Where a whole burst lies in
-//! memory, `read_at` reads the message behind the first `from` bytes, or says how the burst ends; the
-//! caller goes on behind the message:
+//! memory, `Messages` gives its messages one after another, and then how it ends:
 //!
 //! ```text
-//! let mut from = 0;
-//! loop {
-//!     match read_at(burst, from) {
-//!         Step::Message(message, next) => { use the message; from = next }
-//!         Step::Clean | Step::Cut(_) | Step::Fault(_, _) => break,
-//!     }
+//! let mut messages = Messages::of(burst);
+//! while let Some(message) = messages.next() {
+//!     use the message
 //! }
+//! match messages.end() { End::Clean | End::Cut(_) | End::Fault(_, _) => .. }
 //! ```
+//!
+//! `read_at` is one step of such a walk, for a caller that keeps its place itself.
 //!
 //! Where a burst comes in pieces, a `Reader` holds what has come of a message:
 //!

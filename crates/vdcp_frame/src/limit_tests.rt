@@ -10,16 +10,16 @@ use std::test::Fail;
 const PLAY: [u8; 5] = [0x02, 0x02, 0x10, 0x01, 0xEF];
 
 // So many PLAYs, and then these bytes.
-fn plays(alloc: Global, count: usize, behind: &[u8]) -> Result<Vec<u8>, AllocError> {
+fn plays(alloc: Global, count: usize, after: &[u8]) -> Result<Vec<u8>, AllocError> {
     let mut burst = Vec::new(alloc);
     for _ in 0..count {
         burst.extend_from_slice(&PLAY)?;
     }
-    burst.extend_from_slice(behind)?;
+    burst.extend_from_slice(after)?;
     Ok(burst)
 }
 
-// Each front of 820 PLAYs, and all of them cut behind that front.
+// Each front of 820 PLAYs, and all of them cut after that front.
 #[test]
 fn fronts_around_the_limit(rt: HostRuntime) -> Result<(), Fail> {
     let rows: [(usize, usize, Step<'static>); 11] = [
@@ -58,7 +58,7 @@ fn fronts_around_the_limit(rt: HostRuntime) -> Result<(), Fail> {
 
 // 819 PLAYs have 4,095 bytes.
 #[test]
-fn what_stands_at_the_limit_and_behind_it(rt: HostRuntime) -> Result<(), Fail> {
+fn what_stands_at_the_limit_and_after_it(rt: HostRuntime) -> Result<(), Fail> {
     let rows: [(&'static [u8], usize, Step<'static>); 8] = [
         (&[0x04], 820, Step::Clean),
         (&[0x04, 0x04], 820, Step::Fault(Fault::Long, 4097)),
@@ -69,11 +69,11 @@ fn what_stands_at_the_limit_and_behind_it(rt: HostRuntime) -> Result<(), Fail> {
         (&[0x03, 0x04], 819, Step::Fault(Fault::BadStart, 4096)),
         (&[0x02, 0x00], 819, Step::Fault(Fault::Long, 4097)),
     ];
-    for (behind, count, end) in rows {
-        let burst = plays(rt.alloc(), 819, behind)?;
+    for (after, count, end) in rows {
+        let burst = plays(rt.alloc(), 819, after)?;
         let (messages, ended) = reading_of(rt.alloc(), burst.as_slice())?;
-        assert_eq!(rt; messages.len(), count, "in {behind:?}");
-        assert_eq!(rt; ended, end, "in {behind:?}");
+        assert_eq!(rt; messages.len(), count, "in {after:?}");
+        assert_eq!(rt; ended, end, "in {after:?}");
         for cut in 4094..=4097 {
             read_in_pieces(
                 &rt,
@@ -88,7 +88,7 @@ fn what_stands_at_the_limit_and_behind_it(rt: HostRuntime) -> Result<(), Fail> {
     Ok(())
 }
 
-// One reader reads these bursts, each behind the silence of the one before.
+// One reader reads these bursts, each after the silence of the one before.
 #[test]
 fn a_place_counts_from_the_silence(rt: HostRuntime) {
     let rows: [(&[u8], &[Message], Step); 6] = [
@@ -166,7 +166,7 @@ fn other_units_are_read(rt: HostRuntime) -> Result<(), Fail> {
 
 const ZEROS: [u8; 253] = [0; 253];
 
-// Writes a message of type 7 to unit 0 with so many zeros as its data.
+// Writes a message of type 7 to unit 0 with this many zeros as its data.
 fn write_zeros(out: &mut ArrayVec<u8, 512>, size: usize) -> Result<(), Full>
     requires { size ≤ 253 }
 {

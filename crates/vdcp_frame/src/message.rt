@@ -18,7 +18,7 @@ pub enum Message<'a> {
     },
 }
 
-/// What is wrong with a burst. This profile looks for no new start behind a fault.
+/// What is wrong with a burst. This profile looks for no new start after a fault.
 #[derive(Clone, Copy, Debug, PartialEq, Eq)]
 pub enum Fault {
     /// A message begins with another byte than 02h, 04h or 05h.

@@ -1,6 +1,7 @@
 ghost use Rattle.std.specs.Prelude.{◌≡◌, ◌+◌, ◌<◌, ◌≤◌, ◌++◌, [], List, ℕ, length, take};
 ghost use Rattle.vdcp_frame.specs.Message.{Content};
-ghost use Rattle.vdcp_frame.specs.Place.{Fills};
+ghost use Rattle.vdcp_frame.specs.Head.{head_of, size_of};
+ghost use Rattle.vdcp_frame.specs.Place.{Fills, looked_at};
 ghost use Rattle.vdcp_frame.specs.Progress.{Progress, reading};
 ghost use Rattle.vdcp_frame.specs.declared.reader.Place.TheVariants as places;
 ghost use Rattle.vdcp_frame.specs.Reader.{answer_of, Gives, fed, ended_of, Follows, FollowsNext, ReadsAs};
@@ -36,7 +37,7 @@ pub(crate) enum Place {
 }
 
 impl Place {
-    // Between two messages, after so many bytes.
+    // Between two messages, after `taken` bytes.
     const fn after(taken: usize) -> Self
         ensures { result ≡ places.Reading taken 0 1 }
     {
@@ -138,16 +139,31 @@ impl Reader {
     }
 }
 
-// Copies bytes of the piece to where the buffer's first `held` bytes end: as many as it has room for
-// and as a burst may have after `taken` bytes. Says how many.
+// Copies bytes of the piece to where the buffer's first `held` bytes end, up to the end of the message
+// that they begin, or of the burst's limit. Says how many.
 fn fill(buffer: &mut [u8; LONGEST], held: usize, taken: usize, piece: &[u8]) -> usize
     requires held { held ≤ 258 }
     requires taken { taken ≤ LIMIT }
     ensures { Fills held taken piece.now result buffer.old buffer.new }
 {
-    let count = piece.len().min(LIMIT - taken).min(LONGEST - held);
+    let size = size_shown(&buffer[..held], piece).max(2).min(LONGEST);
+    let count = piece
+        .len()
+        .min(LIMIT - taken)
+        .min(size.saturating_sub(held));
     put(buffer, held, &piece[..count]);
     count
+}
+
+// How many bytes of those held and the piece to look at.
+fn size_shown(held: &[u8], piece: &[u8]) -> usize
+    ensures { result ≡ size_of (head_of (looked_at held.now piece.now)) }
+{
+    match (held, piece) {
+        ([], [first, second, ..]) => Head::of(&[*first, *second]).size(),
+        ([first], [second, ..]) => Head::of(&[*first, *second]).size(),
+        (_, _) => Head::of(held).size(),
+    }
 }
 
 // Copies the piece to a place of the buffer.

@@ -15,7 +15,8 @@ fn feed_once(reader: &mut Reader, piece: &[u8]) -> (usize, usize)
     ensures some { 0 < length piece.now → 0 < result.0 }
     ensures most { result.1 ≤ 1 }
     ensures follows { (burst : List ℕ) (ms : List Content) → Follows burst ms reader.old →
-        (ns : List Content) × (length ns ≡ result.1) × Follows (burst ++ take result.0 piece.now) (ms ++ ns) reader.new }
+        (ns : List Content) × (length ns ≡ result.1)
+        × Follows (burst ++ take result.0 piece.now) (ms ++ ns) reader.new }
 {
     let (taken, got) = reader.feed(piece);
     match got {
@@ -112,7 +113,7 @@ fn feed_to_end(rt: &impl Abort, reader: &mut Reader, piece: &[u8], expected: &mu
     }
 }
 
-// The silence behind the pieces ends the burst as expected.
+// The silence after the pieces ends the burst as expected.
 fn end_burst(rt: &impl Abort, reader: &mut Reader, expected: &Expected) {
     assert_eq!(rt; expected.given, expected.messages.len());
     match reader.silence() {

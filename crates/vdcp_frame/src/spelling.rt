@@ -7,7 +7,7 @@ use crate::message::Message;
 use arrayvec::ArrayVec;
 use thiserror::Error;
 
-/// The message does not fit behind what the buffer holds.
+/// The message does not fit after what the buffer holds.
 #[derive(Clone, Copy, Debug, PartialEq, Eq, Error)]
 #[error("no room for the message")]
 pub struct Full;

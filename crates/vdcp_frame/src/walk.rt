@@ -15,7 +15,7 @@ use std::marker::Model;
 pub enum End {
     /// After a whole message, or with no byte.
     Clean,
-    /// Inside a message, of which so many bytes came.
+    /// Inside a message: how many bytes of it came.
     Cut(usize),
     /// In a fault, with its place, counted from 1 at the burst's first byte.
     Fault(Fault, usize),

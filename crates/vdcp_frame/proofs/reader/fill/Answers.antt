@@ -1,15 +1,38 @@
--- As much of the piece is copied as there is room for.
-use Rattle.std.proofs.Common.{◌≡◌, ◌+◌, ◌++◌, ℕ, length, take, subst, arith}
+-- As much of the piece is copied as the message may have.
+use Rattle.std.proofs.Common.{◌≡◌, ◌+◌, ◌++◌, ◌<◌, ℕ, List, length, take, subst, arith, inl, inr}
+use Rattle.std.proofs.lemmas.Bool.{cases_eq}
 use Rattle.std.proofs.lemmas.List.{length-take}
+use Rattle.std.proofs.lemmas.List.Elements.{All-append, All-take, All-from_get_or}
+use Rattle.vdcp_frame.specs.Head.{IsPart}
+use Rattle.vdcp_frame.specs.Message.{AreOctets}
+use Rattle.vdcp_frame.proofs.SizeLemmas.{size_enough}
 use Rattle.vdcp_frame.proofs.reader.fill.Goals as goal
 
 pub returns : goal.returns
 returns c =
-    let n : length (take c.min-count.result c.args.piece.now) ≡ c.min-count.result = omega (arith, length-take c.min-count.result c.args.piece.now) in
+    let piece : List ℕ = c.args.piece.now in
+    let held : List ℕ = take c.args.held c.args.buffer.now in
+    let n : ℕ = c.min-count.result in
+    let size : length (take n piece) ≡ n = omega (arith, length-take n piece) in
+    let copied : take (c.args.held + n) c.put.new.buffer ≡ held ++ take n piece =
+    subst (λ (k : ℕ). take (c.args.held + k) c.put.new.buffer ≡ held ++ take n piece) size c.put.ensures in
+    let held_fits : AreOctets held =
+    All-take (λ b. b < 256) c.args.held c.args.buffer.now
+    (All-from_get_or (λ b. b < 256) c.args.buffer.now 0 (λ i h. omega (arith, c.fits-buffer i))) in
+    let piece_fits : AreOctets (take n piece) =
+    All-take (λ b. b < 256) n piece
+    (All-from_get_or (λ b. b < 256) piece 0 (λ i h. omega (arith, c.type_inv.piece i))) in
+    let held_size : length held ≡ c.args.held = omega (arith, length-take c.args.held c.args.buffer.now) in
+    let fits : AreOctets (held ++ take n piece) = All-append (λ b. b < 256) held (take n piece) held_fits piece_fits in
     record {
       within = omega arith;
       limit = omega (arith, c.requires.taken);
-      all = λ room less. omega (arith, room, less);
-      copied = subst (λ (k : ℕ). take (c.args.held + k) c.put.new.buffer ≡ take c.args.held c.args.buffer.now ++ take c.min-count.result c.args.piece.now) n
-          c.put.ensures;
+      all = λ needs part room less. elim (cases_eq n (length piece)) [
+        | inl whole ↦ whole
+        | inr front ↦ absurd (size_enough held piece n needs fits
+            (omega (arith, held_size, c.size_shown.ensures, room, less, front))
+            (omega (arith, held_size, room, less, front)) (omega (arith, front))
+            (subst (λ (l : List ℕ). IsPart l needs) copied part))
+      ];
+      copied = copied;
     }

@@ -7,9 +7,10 @@ use Rattle.vdcp_frame.specs.Progress.{Progress}
 use Rattle.vdcp_frame.specs.Reader.{Follows}
 use Rattle.vdcp_frame.proofs.reader_tests.count_messages.Goals as goal
 
--- what was counted behind a burst
+-- what was counted after a burst
 Counts : Progress → Progress → List ℕ → ℕ → Type 0
-Counts old new bytes n = (burst : List ℕ) (ms : List Content) → Follows burst ms old → (ns : List Content) × (length ns ≡ n)
+Counts old new bytes n = (burst : List ℕ) (ms : List Content) → Follows burst ms old → (ns : List Content)
+    × (length ns ≡ n)
     × Follows (burst ++ bytes) (ms ++ ns) new
 
 none : (old : Progress) → Counts old old [] 0
@@ -21,7 +22,8 @@ none old burst ms f = (
       (subst (λ (l : List Content). Follows burst l old) (sym (append-nil ms)) f),
 )
 
-further : (old mid new : Progress) (front bytes : List ℕ) (n k : ℕ) → Counts old mid front n → Counts mid new bytes k → Counts old new (front ++ bytes) (n + k)
+further : (old mid new : Progress) (front bytes : List ℕ) (n k : ℕ) → Counts old mid front n → Counts mid new bytes k
+    → Counts old new (front ++ bytes) (n + k)
 unfolding Counts
 further old mid new front bytes n k first second burst ms f =
     let a = first burst ms f in
@@ -41,9 +43,12 @@ unfolding Counts
 piece-preserved c =
     let piece : List ℕ = c.args.piece.now in
     let n : ℕ = c.feed_once-taken.result.0 in
-    let rest : take (length piece - c.piece.at) (drop c.piece.at piece) ≡ drop c.piece.at piece = take_rest piece c.piece.at in
-    let left : 0 < length (take (length piece - c.piece.at) (drop c.piece.at piece)) = omega (arith, ap (length {A = ℕ}) rest, length-drop c.piece.at piece) in
-    let front : take c.piece.at piece ++ take n (take (length piece - c.piece.at) (drop c.piece.at piece)) ≡ take (c.piece.at + n) piece =
+    let rest : take (length piece - c.piece.at) (drop c.piece.at piece) ≡ drop c.piece.at piece =
+    take_rest piece c.piece.at in
+    let left : 0 < length (take (length piece - c.piece.at) (drop c.piece.at piece)) =
+    omega (arith, ap (length {A = ℕ}) rest, length-drop c.piece.at piece) in
+    let front : take c.piece.at piece ++ take n (take (length piece - c.piece.at) (drop c.piece.at piece)) ≡ take
+    (c.piece.at + n) piece =
     ap (λ (b : List ℕ). take c.piece.at piece ++ take n b) rest ∙ sym (take-add c.piece.at n piece) in
     let next = further c.args.reader.now c.piece.reader c.feed_once-taken.new.reader (take c.piece.at piece)
     (take n (take (length piece - c.piece.at) (drop c.piece.at piece))) c.piece.count c.feed_once-taken.result.1
@@ -51,11 +56,13 @@ piece-preserved c =
     let some = c.feed_once-taken.ensures.some left in (
       omega (arith, c.feed_once-taken.ensures.within, ap (length {A = ℕ}) rest, length-drop c.piece.at piece),
       omega (arith, some),
-      subst (λ (b : List ℕ). Counts c.args.reader.now c.feed_once-taken.new.reader b (c.piece.count + c.feed_once-taken.result.1)) front next,
+      subst (λ (b : List ℕ). Counts c.args.reader.now c.feed_once-taken.new.reader b
+          (c.piece.count + c.feed_once-taken.result.1)) front next,
     )
 
 pub returns-clause-follows : goal.returns-clause-follows
 unfolding Counts
 returns-clause-follows c =
-    let all : take c.piece.at c.args.piece.now ≡ c.args.piece.now = take_all c.piece.at c.args.piece.now (omega arith) in
+    let all : take c.piece.at c.args.piece.now ≡ c.args.piece.now =
+    take_all c.piece.at c.args.piece.now (omega arith) in
     subst (λ (b : List ℕ). Counts c.args.reader.now c.piece.reader b c.piece.count) all c.piece.invariant.2

@@ -12,7 +12,8 @@ returns-clause-messages c =
     let a = c.count_messages.ensures.follows [] [] c.new-reader.ensures.follows in
     let b = c.count_messages-2.ensures.follows first a.0 a.2 in
     let octets : AreOctets (first ++ second) =
-    All-append (λ x. x < 256) first second (All-from_get_or (λ x. x < 256) first 0 (λ i h. omega (arith, c.type_inv.first i)))
+    All-append (λ x. x < 256) first second
+    (All-from_get_or (λ x. x < 256) first 0 (λ i h. omega (arith, c.type_inv.first i)))
     (All-from_get_or (λ x. x < 256) second 0 (λ i h. omega (arith, c.type_inv.second i))) in
     let reads = c.silence.ensures.reads (first ++ second) (a.0 ++ b.0) b.2 in
     let same : a.0 ++ b.0 ≡ messages_of (first ++ second) =
@@ -26,7 +27,8 @@ returns-clause-end c =
     let a = c.count_messages.ensures.follows [] [] c.new-reader.ensures.follows in
     let b = c.count_messages-2.ensures.follows first a.0 a.2 in
     let octets : AreOctets (first ++ second) =
-    All-append (λ x. x < 256) first second (All-from_get_or (λ x. x < 256) first 0 (λ i h. omega (arith, c.type_inv.first i)))
+    All-append (λ x. x < 256) first second
+    (All-from_get_or (λ x. x < 256) first 0 (λ i h. omega (arith, c.type_inv.first i)))
     (All-from_get_or (λ x. x < 256) second 0 (λ i h. omega (arith, c.type_inv.second i))) in
     c.what_a_silence_tells_is_computed.ensures.end (first ++ second) (a.0 ++ b.0) c.silence.result octets
     (c.silence.ensures.reads (first ++ second) (a.0 ++ b.0) b.2)

@@ -5,7 +5,8 @@ use Rattle.vdcp_frame.specs.Reading.{SpellsAll}
 use Rattle.vdcp_frame.proofs.tests.reading_of.Given as goal
 
 abbrev pub invariant-messages : goal.invariant-messages
-invariant-messages l = (l.from ≤ 4096) × (l.from ≤ length l.burst) × SpellsAll (map content_of l.messages.items) (take l.from l.burst)
+invariant-messages l = (l.from ≤ 4096) × (l.from ≤ length l.burst)
+    × SpellsAll (map content_of l.messages.items) (take l.from l.burst)
 
 abbrev pub decreases-messages : goal.decreases-messages
 decreases-messages l = length l.burst - l.from

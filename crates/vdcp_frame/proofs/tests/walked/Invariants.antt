@@ -7,7 +7,8 @@ use Rattle.vdcp_frame.proofs.tests.walked.Given as goal
 
 abbrev pub invariant-messages : goal.invariant-messages
 invariant-messages l =
-    (◌≡◌ {A = List ℕ} l.messages.burst l.burst) × (map content_of l.read.items ++ coming l.messages ≡ messages_of l.burst)
+    (◌≡◌ {A = List ℕ} l.messages.burst l.burst)
+    × (map content_of l.read.items ++ coming l.messages ≡ messages_of l.burst)
 
 abbrev pub decreases-messages : goal.decreases-messages
 decreases-messages l = length (coming l.messages)

@@ -8,5 +8,6 @@ use Rattle.vdcp_frame.proofs.head.Head.at.Goals as goal
 
 pub returns : goal.returns
 returns c =
-    let fits : AreOctets c.args.bytes.now = All-from_get_or (λ b. b < 256) c.args.bytes.now 0 (λ i h. omega (arith, c.type_inv.bytes i)) in
+    let fits : AreOctets c.args.bytes.now =
+    All-from_get_or (λ b. b < 256) c.args.bytes.now 0 (λ i h. omega (arith, c.type_inv.bytes i)) in
     subst (HeadIs c.args.bytes.now) (sym c.of.ensures) (head_is c.args.bytes.now fits)

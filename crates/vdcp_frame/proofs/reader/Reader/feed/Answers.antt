@@ -27,14 +27,16 @@ returns-in-Failed c =
     )
 
 pub further-requires : goal.further-requires
-further-requires c = further_part (is_reading c.self.inside.place c.self.inside.buffer c.args.self.now c.in-Reading.taken c.in-Reading.held c.in-Reading.needs
+further-requires c = further_part
+    (is_reading c.self.inside.place c.self.inside.buffer c.args.self.now c.in-Reading.taken c.in-Reading.held c.in-Reading.needs
     c.self.view_is c.self.invariant c.in-Reading.is) c.fill-count.ensures
 
 pub overflow_sub-count : goal.overflow_sub-count
 overflow_sub-count c = omega (
   arith,
   found_after (is_reading c.self.inside.place c.self.inside.buffer c.args.self.now c.in-Reading.taken c.in-Reading.held c.in-Reading.needs
-      c.self.view_is c.self.invariant c.in-Reading.is) c.fill-count.ensures (content_of c.in-Found.message) c.in-Found.size c.in-Found.ensures,
+      c.self.view_is c.self.invariant c.in-Reading.is) c.fill-count.ensures
+      (content_of c.in-Found.message) c.in-Found.size c.in-Found.ensures,
 )
 
 pub overflow_sub-count-in-Wrong : goal.overflow_sub-count-in-Wrong
@@ -47,8 +49,10 @@ overflow_sub-count-in-Wrong c = omega (
 pub invariant_of-self-in-Found : goal.invariant_of-self-in-Found
 invariant_of-self-in-Found c =
     subst (λ (p : Place). IsPlace p c.fill-count.new.buffer) (sym c.after-self-inside.ensures)
-    (between (c.in-Reading.taken + (c.in-Found.size - c.in-Reading.held)) c.fill-count.new.buffer (message_limit (is_reading c.self.inside.place c.self.inside.buffer c.args.self.now c.in-Reading.taken c.in-Reading.held c.in-Reading.needs
-    c.self.view_is c.self.invariant c.in-Reading.is) c.fill-count.ensures (content_of c.in-Found.message) c.in-Found.size c.in-Found.ensures))
+    (between (c.in-Reading.taken + (c.in-Found.size - c.in-Reading.held)) c.fill-count.new.buffer
+    (message_limit (is_reading c.self.inside.place c.self.inside.buffer c.args.self.now c.in-Reading.taken c.in-Reading.held c.in-Reading.needs
+    c.self.view_is c.self.invariant c.in-Reading.is) c.fill-count.ensures
+    (content_of c.in-Found.message) c.in-Found.size c.in-Found.ensures))
 
 pub returns-in-Found : goal.returns-in-Found
 returns-in-Found c =
@@ -57,8 +61,14 @@ returns-in-Found c =
     let n : ℕ = c.in-Found.size - c.in-Reading.held in
     let answer : Answer = message (content_of c.in-Found.message) in
     let f = message_fed (is_reading c.self.inside.place c.self.inside.buffer c.args.self.now c.in-Reading.taken c.in-Reading.held c.in-Reading.needs
-    c.self.view_is c.self.invariant c.in-Reading.is) c.fill-count.ensures (content_of c.in-Found.message) c.in-Found.size c.in-Found.ensures in (
-      (refl, (λ _. tt), ap (λ (p : Place). progress_at p c.fill-count.new.buffer) c.after-self-inside.ensures ∙ f.after),
+    c.self.view_is c.self.invariant c.in-Reading.is) c.fill-count.ensures
+    (content_of c.in-Found.message) c.in-Found.size c.in-Found.ensures in (
+      (
+        refl,
+        (λ _. tt),
+        ap (λ (p : Place). progress_at p c.fill-count.new.buffer) c.after-self-inside.ensures
+            ∙ f.after,
+      ),
       record {
         within = gives_within now piece n answer f.gives;
         some = gives_some now piece n answer f.gives;

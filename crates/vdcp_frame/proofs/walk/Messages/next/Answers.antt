@@ -10,23 +10,27 @@ pub returns-in-Message-clause-some : goal.returns-in-Message-clause-some
 returns-in-Message-clause-some c =
     let all = c.self.invariant.whole in
     ap coming (sym c.self.view_is)
-    ∙ next_coming 4096 c.self.inside.place c.in-Message.next c.self.inside.burst.now all.0 (content_of c.in-Message.message) c.self.invariant.limit
+    ∙ next_coming 4096 c.self.inside.place c.in-Message.next c.self.inside.burst.now all.0
+    (content_of c.in-Message.message) c.self.invariant.limit
     c.in-Message.ensures.further.1 c.self.invariant.fits all.1 (c.in-Message.ensures.next all.0 all.1)
 
 pub returns-in-Clean-clause-none : goal.returns-in-Clean-clause-none
 returns-in-Clean-clause-none c =
     let all = c.self.invariant.whole in
-    ap coming (sym c.self.view_is) ∙ none_coming c.self.inside.place c.self.inside.burst.now all.0 clean c.self.invariant.limit c.self.invariant.fits all.1
+    ap coming (sym c.self.view_is)
+    ∙ none_coming c.self.inside.place c.self.inside.burst.now all.0 clean c.self.invariant.limit c.self.invariant.fits all.1
     (c.in-Clean.ensures.end all.0 all.1)
 
 pub returns-in-Cut-clause-none : goal.returns-in-Cut-clause-none
 returns-in-Cut-clause-none c =
     let all = c.self.invariant.whole in
-    ap coming (sym c.self.view_is) ∙ none_coming c.self.inside.place c.self.inside.burst.now all.0 (cut c.in-Cut.field-0) c.self.invariant.limit
+    ap coming (sym c.self.view_is)
+    ∙ none_coming c.self.inside.place c.self.inside.burst.now all.0 (cut c.in-Cut.field-0) c.self.invariant.limit
     c.self.invariant.fits all.1 (c.in-Cut.ensures.end all.0 all.1)
 
 pub returns-in-Fault-clause-none : goal.returns-in-Fault-clause-none
 returns-in-Fault-clause-none c =
     let all = c.self.invariant.whole in
-    ap coming (sym c.self.view_is) ∙ none_coming c.self.inside.place c.self.inside.burst.now all.0 (fault c.in-Fault.field-0 c.in-Fault.field-1)
+    ap coming (sym c.self.view_is)
+    ∙ none_coming c.self.inside.place c.self.inside.burst.now all.0 (fault c.in-Fault.field-0 c.in-Fault.field-1)
     c.self.invariant.limit c.self.invariant.fits all.1 (c.in-Fault.ensures.end all.0 all.1)
