@@ -38,6 +38,10 @@ step_reached c e r = record {
       ap (λ x. after_late_event x e) r.led ∙ sym (after_all (new_late_channel r.plan r.port) r.events (e ∷ []));
 }
 
+pub events_reached : (c : LateChannel) (es : List LateEvent) → IsLateReached c → IsLateReached (after_late_events c es)
+events_reached c [] r = r
+events_reached c (e ∷ es) r = events_reached (after_late_event c e) es (step_reached c e r)
+
 -- a step that was taken or refused leaves such a channel
 pub after_step : {A E : Type 0} (result : Result A E) (old now : LateChannel) (e : LateEvent)
     → OnOk result (now ≡ after_late_event old e) → OnErr result (now ≡ old) → IsLateReached old → IsLateReached now

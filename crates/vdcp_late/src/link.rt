@@ -162,7 +162,9 @@ fn tick<S: Source, A: Allocator + Copy>(
     down: &mut Queue<A>,
 ) -> Result<(), AllocError>
     requires { unit ≤ 15 }
-    ensures controller { OnOk result (controller.new ≡ record controller.old { state = turns.ticked controller.old.state }) }
+    ensures controller { OnOk result (controller.new ≡ record controller.old {
+      state = turns.ticked controller.old.state;
+    }) }
     ensures down { OnOk result (down.new.items ≡ down.old.items
         ++ command_bursts unit (turns.given (plan_of S.items controller.old) controller.old.state)) }
     ensures refused { OnErr result ((controller.new ≡ controller.old) × (down.new.items ≡ down.old.items)) }
@@ -189,7 +191,8 @@ fn deliver<C: Catalogue, A: Allocator + Copy>(
     ensures port { OnOk result (port.new ≡ after_burst port.old (oldest down.now.items)) }
     ensures up { OnOk result (up.new.items ≡ up.old.items ++ bursts_of (sent_for port.old (oldest down.now.items))) }
     ensures aired { OnOk result (aired.new.items ≡ aired.old.items ++ aired_for port.old (oldest down.now.items)) }
-    ensures refused { OnErr result ((port.new ≡ port.old) × (up.new.items ≡ up.old.items) × (aired.new.items ≡ aired.old.items)) }
+    ensures refused { OnErr result ((port.new ≡ port.old) × (up.new.items ≡ up.old.items)
+        × (aired.new.items ≡ aired.old.items)) }
 {
     let mut answer = Vec::new(alloc);
     up.reserve(1)?;

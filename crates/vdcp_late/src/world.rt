@@ -1,11 +1,16 @@
-ghost use Rattle.std.specs.Prelude.{◌≡◌, ◌≤◌, OnOk, OnErr, bit_and};
+ghost use Rattle.std.specs.Prelude.{◌≡◌, ◌≤◌, ◌++◌, List, length, take, IfSome, OnOk, OnErr, bit_and};
+ghost use Rattle.vdcp_auto.specs.RuleBook.{KeepsRules};
+ghost use Rattle.vdcp_auto.specs.Settled.{settled};
 ghost use Rattle.vdcp_auto.specs.Turn.{outcome_of};
 ghost use Rattle.vdcp_auto.specs.declared.phase.Mode.TheVariants.{Plain, Confirming};
 ghost use Rattle.vdcp_late.specs.LateChannel.{after_late_event, after_late_events, new_late_channel};
+ghost use Rattle.vdcp_late.specs.LateHeadline.{LateHeadline, LateMeans};
 ghost use Rattle.vdcp_late.specs.Runs.{LateInPart, late_make_of};
 ghost use Rattle.vdcp_port.specs.Port.{state_byte};
+ghost use Rattle.vdcp_value.specs.declared.part.Item.{Item};
 
 use crate::event::LateEvent;
+use crate::laws::a_late_line_keeps_the_headline;
 use crate::link::LateLink;
 use std::alloc::{AllocError, Allocator};
 use std::marker::Model;
@@ -18,6 +23,10 @@ use vdcp_value::Item;
 ///
 /// - `step` and `run` bring in what happens.
 /// - `aired`, `reported`, `log` and `outcome` only look.
+///
+/// Whatever happens, what went to air is a beginning of the playlist, each event once and in order, and the events
+/// reported as aired are a beginning of these, shorter by one at most: each call that changes a world or makes one
+/// says so of it (`headline`), and each that looks says it of its answer.
 ///
 /// It takes memory for what is on the way, for what went to air and for the log, and for nothing else.
 #[derive(Drop)]
@@ -43,9 +52,11 @@ impl<S: Source, C: Catalogue, A: Allocator + Copy> LateWorld<S, C, A> {
     pub fn new(alloc: A, source: S, port: Port<C>, limit: u32) -> Self
         requires some { 1 ≤ limit }
         requires few { limit ≤ 1000 }
-        ensures { result ≡ new_late_channel
+        ensures new { result ≡ new_late_channel
             (record { mode = Plain; list = S.items source; port = port.state.number; limit = limit }) port }
+        ensures headline { LateHeadline result }
     {
+        a_late_line_keeps_the_headline();
         let number = number_at_unit(&port);
         let controller = Controller::new(source, number, limit);
         LateWorld {
@@ -59,9 +70,11 @@ impl<S: Source, C: Catalogue, A: Allocator + Copy> LateWorld<S, C, A> {
         requires nothing_cued { bit_and (state_byte port.state) 0x82 ≡ 0 }
         requires some { 1 ≤ limit }
         requires few { limit ≤ 1000 }
-        ensures { result ≡ new_late_channel
+        ensures new { result ≡ new_late_channel
             (record { mode = Confirming; list = S.items source; port = port.state.number; limit = limit }) port }
+        ensures headline { LateHeadline result }
     {
+        a_late_line_keeps_the_headline();
         let number = number_at_unit(&port);
         let controller = Controller::confirming(source, number, limit);
         LateWorld {
@@ -75,7 +88,9 @@ impl<S: Source, C: Catalogue, A: Allocator + Copy> LateWorld<S, C, A> {
         ensures step { OnOk result (self.new ≡ after_late_event self.old event.now) }
         ensures refused { OnErr result (self.new ≡ self.old) }
         ensures make { late_make_of self.new ≡ late_make_of self.old }
+        ensures headline { LateHeadline self.new }
     {
+        a_late_line_keeps_the_headline();
         self.link.step(event)
     }
 
@@ -85,38 +100,53 @@ impl<S: Source, C: Catalogue, A: Allocator + Copy> LateWorld<S, C, A> {
         ensures run { OnOk result (self.new ≡ after_late_events self.old events.now) }
         ensures front { OnErr result (LateInPart events.now self.old self.new) }
         ensures make { late_make_of self.new ≡ late_make_of self.old }
+        ensures headline { LateHeadline self.new }
     {
+        a_late_line_keeps_the_headline();
+        // Read once, so that the prover knows that events have led to this world.
+        let _ = &self.link;
         for event in events {
             self.step(event)?;
         }
         Ok(())
     }
 
-    /// What went to air, in order.
+    /// What went to air, in order: a beginning of the playlist.
     pub fn aired(&self) -> &[Item]
-        ensures { result.now ≡ self.now.aired }
+        ensures items { result.now ≡ self.now.aired }
+        ensures beginning { (more : List Item) × (self.now.plan.list ≡ result.now ++ more) }
     {
+        a_late_line_keeps_the_headline();
         self.link.aired()
     }
 
-    /// How many events of the playlist the controller knows to have been aired.
+    /// How many events of the playlist the controller knows to have been aired: all that went to air, or one fewer.
     pub fn reported(&self) -> usize
-        ensures { result ≡ self.now.state.settled }
+        ensures count { result ≡ self.now.state.settled }
+        ensures settled { result ≡ settled self.now.plan.mode self.now.log }
+        ensures beginning { (last : List Item) × (self.now.aired ≡ take result self.now.plan.list ++ last)
+            × (length last ≤ 1) }
+        ensures within { length (take result self.now.plan.list) ≡ result }
     {
+        a_late_line_keeps_the_headline();
         self.link.reported()
     }
 
-    /// The exchanges that have ended, in order.
+    /// The exchanges that have ended, in order. The rule book allows each command where it stands.
     pub fn log(&self) -> &[Exchange]
-        ensures { result.now ≡ self.now.log }
+        ensures exchanges { result.now ≡ self.now.log }
+        ensures keeps_rules { KeepsRules self.now.plan.mode self.now.plan.list result.now }
     {
+        a_late_line_keeps_the_headline();
         self.link.log()
     }
 
     /// How the controller ended; `None` while it goes on.
     pub fn outcome(&self) -> Option<Outcome>
-        ensures { result ≡ outcome_of self.now.state.stage }
+        ensures outcome { result ≡ outcome_of self.now.state.stage }
+        ensures means { IfSome result (LateMeans self.now.port.clips self.now.plan self.now.aired self.now.log) }
     {
+        a_late_line_keeps_the_headline();
         self.link.outcome()
     }
 }

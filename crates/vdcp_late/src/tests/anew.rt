@@ -1,11 +1,8 @@
 //! Ends that are started anew, and ports that were in use before.
 use super::clips::{TwoClips, first, second};
 use super::seen::{
-    Counts, OPEN, Shelf, counts_of, good, has_log, heard, opened, plain, rounds, run, shelf, step,
+    Counts, OPEN, Shelf, counts_of, good, has_log, heard, opened, plain, rounds, run, shelf,
     unheard,
-};
-use crate::LateEvent::{
-    AutomationAnew, Down, LoseUp, Ready, ServerAnew, Stop, Take, Tick, Timeout, Up,
 };
 use crate::LateWorld;
 use std::test::Fail;
@@ -18,7 +15,7 @@ use vdcp_words::{Command, Reply};
 fn a_server_that_is_started_anew_airs_nothing(rt: HostRuntime) -> Result<(), Fail> {
     let mut world = plain(rt.alloc())?;
     good(&mut world, 5)?;
-    run(&mut world, &[Tick, ServerAnew, Down, Up])?;
+    run(rt.alloc(), &mut world, "tick server-anew down up")?;
     let refused = heard(Command::Play, Reply::Nak(0x01));
     assert_eq!(rt; world.log().get(5).copied(), Some(refused));
     let wanted = Counts {
@@ -35,7 +32,11 @@ fn a_server_that_is_started_anew_airs_nothing(rt: HostRuntime) -> Result<(), Fai
 fn a_server_that_is_started_anew_can_be_opened(rt: HostRuntime) -> Result<(), Fail> {
     let mut world = plain(rt.alloc())?;
     // OPEN was executed and its answer lost; the second try opens the port again.
-    run(&mut world, &[Tick, Down, LoseUp(0), ServerAnew, Timeout])?;
+    run(
+        rt.alloc(),
+        &mut world,
+        "tick down lose-up server-anew timeout",
+    )?;
     good(&mut world, 14)?;
     let wanted = Counts {
         aired: 2,
@@ -51,7 +52,7 @@ fn a_server_that_is_started_anew_can_be_opened(rt: HostRuntime) -> Result<(), Fa
 fn what_aired_before_a_server_is_started_anew_stays_reported(rt: HostRuntime) -> Result<(), Fail> {
     let mut world = plain(rt.alloc())?;
     good(&mut world, 6)?;
-    step(&mut world, &ServerAnew)?;
+    run(rt.alloc(), &mut world, "server-anew")?;
     rounds(&mut world, 1)?;
     let wanted = Counts {
         aired: 1,
@@ -67,7 +68,7 @@ fn what_aired_before_a_server_is_started_anew_stays_reported(rt: HostRuntime) ->
 fn an_automation_that_is_started_anew_goes_on(rt: HostRuntime) -> Result<(), Fail> {
     let mut world = plain(rt.alloc())?;
     good(&mut world, 6)?;
-    step(&mut world, &AutomationAnew)?;
+    run(rt.alloc(), &mut world, "automation-anew")?;
     assert_eq!(rt; world.reported(), 1);
     good(&mut world, 8)?;
     let wanted = Counts {
@@ -83,7 +84,7 @@ fn an_automation_that_is_started_anew_goes_on(rt: HostRuntime) -> Result<(), Fai
 #[test]
 fn what_is_awaited_has_timed_out(rt: HostRuntime) -> Result<(), Fail> {
     let mut world = plain(rt.alloc())?;
-    run(&mut world, &[Tick, AutomationAnew, Down, Tick, Up])?;
+    run(rt.alloc(), &mut world, "tick automation-anew down tick up")?;
     has_log(&rt, &world, &[unheard(OPEN), opened()]);
     Ok(())
 }
@@ -91,11 +92,11 @@ fn what_is_awaited_has_timed_out(rt: HostRuntime) -> Result<(), Fail> {
 #[test]
 fn wishes_are_forgotten(rt: HostRuntime) -> Result<(), Fail> {
     let mut world = plain(rt.alloc())?;
-    run(&mut world, &[Stop, AutomationAnew, Tick, Down, Up])?;
+    run(rt.alloc(), &mut world, "stop automation-anew tick down up")?;
     has_log(&rt, &world, &[opened()]);
     good(&mut world, 5)?;
     rounds(&mut world, 3)?;
-    run(&mut world, &[Take, AutomationAnew, Ready])?;
+    run(rt.alloc(), &mut world, "take automation-anew ready")?;
     rounds(&mut world, 2)?;
     // CLIP0001 still plays, and CLIP0002 waits for its end.
     assert_eq!(rt; world.aired(), [first()].as_slice());
@@ -136,7 +137,7 @@ fn in_confirm_mode_the_port_may_play(rt: HostRuntime) -> Result<(), Fail> {
     }
     let mut world = LateWorld::confirming(rt.alloc(), TwoClips::new(), port, 3);
     for _ in 0..18 {
-        step(&mut world, &Timeout)?;
+        run(rt.alloc(), &mut world, "timeout")?;
         good(&mut world, 1)?;
     }
     assert_eq!(rt; world.aired(), [first(), second()].as_slice());

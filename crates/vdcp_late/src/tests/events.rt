@@ -4,10 +4,7 @@ use super::seen::{
     Counts, OPEN, burst, confirming, counts_of, good, has_log, heard, opened, plain, rounds, run,
     shelf, step, unheard,
 };
-use crate::LateEvent::{
-    AlterDown, AlterUp, Down, DownCopy, End, Frame, JunkDown, JunkUp, LoseDown, LoseUp, Ready,
-    Stop, Take, Tick, Timeout, Up, UpCopy,
-};
+use crate::LateEvent::{AlterDown, AlterUp, JunkDown, JunkUp, LoseDown};
 use crate::LateWorld;
 use std::test::Fail;
 use vdcp_auto::Outcome;
@@ -17,9 +14,9 @@ use vdcp_words::{Command, Reply};
 #[test]
 fn an_answer_is_heard_once_it_comes(rt: HostRuntime) -> Result<(), Fail> {
     let mut world = plain(rt.alloc())?;
-    run(&mut world, &[Tick, Up, Down])?;
+    run(rt.alloc(), &mut world, "tick up down")?;
     has_log(&rt, &world, &[]);
-    step(&mut world, &Up)?;
+    run(rt.alloc(), &mut world, "up")?;
     has_log(&rt, &world, &[opened()]);
     Ok(())
 }
@@ -27,7 +24,7 @@ fn an_answer_is_heard_once_it_comes(rt: HostRuntime) -> Result<(), Fail> {
 #[test]
 fn the_answer_to_a_copy_goes_up(rt: HostRuntime) -> Result<(), Fail> {
     let mut world = plain(rt.alloc())?;
-    run(&mut world, &[Tick, DownCopy, LoseDown(0), Up])?;
+    run(rt.alloc(), &mut world, "tick down-copy lose-down up")?;
     has_log(&rt, &world, &[opened()]);
     Ok(())
 }
@@ -35,7 +32,7 @@ fn the_answer_to_a_copy_goes_up(rt: HostRuntime) -> Result<(), Fail> {
 #[test]
 fn a_copy_of_an_answer_is_heard_for_the_next_command(rt: HostRuntime) -> Result<(), Fail> {
     let mut world = plain(rt.alloc())?;
-    run(&mut world, &[Tick, Down, UpCopy, Tick, Up])?;
+    run(rt.alloc(), &mut world, "tick down up-copy tick up")?;
     let stale = heard(Command::Select(0x01), Reply::Opened(true));
     has_log(&rt, &world, &[opened(), stale]);
     Ok(())
@@ -44,9 +41,9 @@ fn a_copy_of_an_answer_is_heard_for_the_next_command(rt: HostRuntime) -> Result<
 #[test]
 fn what_is_lost_does_not_come(rt: HostRuntime) -> Result<(), Fail> {
     let mut world = plain(rt.alloc())?;
-    run(&mut world, &[Tick, LoseDown(0), Down, Up])?;
+    run(rt.alloc(), &mut world, "tick lose-down down up")?;
     has_log(&rt, &world, &[]);
-    run(&mut world, &[Timeout, Tick, Down, LoseUp(0), Up])?;
+    run(rt.alloc(), &mut world, "timeout tick down lose-up up")?;
     has_log(&rt, &world, &[unheard(OPEN)]);
     Ok(())
 }
@@ -55,12 +52,11 @@ fn what_is_lost_does_not_come(rt: HostRuntime) -> Result<(), Fail> {
 fn a_burst_is_lost_at_its_place(rt: HostRuntime) -> Result<(), Fail> {
     let mut world = plain(rt.alloc())?;
     // OPEN and SELECT are on the way; SELECT is lost, and there is no third burst to lose.
-    run(
-        &mut world,
-        &[Tick, DownCopy, Up, Tick, LoseDown(2), LoseDown(1)],
-    )?;
+    run(rt.alloc(), &mut world, "tick down-copy up tick")?;
+    step(&mut world, &LoseDown(2))?;
+    step(&mut world, &LoseDown(1))?;
     // The first OPEN is read again, and its answer is heard for SELECT; then nothing is on the way.
-    run(&mut world, &[Down, Up, Tick, LoseDown(0), Down, Up])?;
+    run(rt.alloc(), &mut world, "down up tick lose-down down up")?;
     let stale = heard(Command::Select(0x01), Reply::Opened(true));
     has_log(&rt, &world, &[opened(), stale]);
     Ok(())
@@ -69,8 +65,7 @@ fn a_burst_is_lost_at_its_place(rt: HostRuntime) -> Result<(), Fail> {
 #[test]
 fn damage_is_answered_by_a_nak(rt: HostRuntime) -> Result<(), Fail> {
     let mut world = plain(rt.alloc())?;
-    let junk = burst(rt.alloc(), &[0xff])?;
-    run(&mut world, &[Tick, AlterDown(0, junk), Down, Up])?;
+    run(rt.alloc(), &mut world, "tick alter-down down up")?;
     has_log(&rt, &world, &[heard(OPEN, Reply::Nak(0x04))]);
     Ok(())
 }
@@ -80,7 +75,9 @@ fn damage_makes_no_other_command(rt: HostRuntime) -> Result<(), Fail> {
     let mut world = plain(rt.alloc())?;
     let close = Command::Close(0x01).encode(0);
     let other = burst(rt.alloc(), close.as_slice())?;
-    run(&mut world, &[Tick, AlterDown(0, other), Down, Up])?;
+    run(rt.alloc(), &mut world, "tick")?;
+    step(&mut world, &AlterDown(0, other))?;
+    run(rt.alloc(), &mut world, "down up")?;
     has_log(&rt, &world, &[opened()]);
     Ok(())
 }
@@ -89,10 +86,11 @@ fn damage_makes_no_other_command(rt: HostRuntime) -> Result<(), Fail> {
 fn an_answer_becomes_a_nak_and_no_ack_in_plain_mode(rt: HostRuntime) -> Result<(), Fail> {
     let mut world = plain(rt.alloc())?;
     let ack = burst(rt.alloc(), &[0x04])?;
-    let cut = burst(rt.alloc(), &[0x05, 0x80])?;
-    run(&mut world, &[Tick, Down, AlterUp(0, ack), UpCopy])?;
+    run(rt.alloc(), &mut world, "tick down")?;
+    step(&mut world, &AlterUp(0, ack))?;
+    run(rt.alloc(), &mut world, "up-copy")?;
     has_log(&rt, &world, &[opened()]);
-    run(&mut world, &[Tick, AlterUp(0, cut), Up])?;
+    run(rt.alloc(), &mut world, "tick alter-up up")?;
     let damaged = heard(Command::Select(0x01), Reply::Nak(0x80));
     has_log(&rt, &world, &[opened(), damaged]);
     Ok(())
@@ -102,7 +100,9 @@ fn an_answer_becomes_a_nak_and_no_ack_in_plain_mode(rt: HostRuntime) -> Result<(
 fn an_answer_becomes_a_receipt_in_confirm_mode(rt: HostRuntime) -> Result<(), Fail> {
     let mut world = confirming(rt.alloc())?;
     let ack = burst(rt.alloc(), &[0x04])?;
-    run(&mut world, &[Tick, Down, AlterUp(0, ack), Up, Up])?;
+    run(rt.alloc(), &mut world, "tick down")?;
+    step(&mut world, &AlterUp(0, ack))?;
+    run(rt.alloc(), &mut world, "up up")?;
     has_log(&rt, &world, &[]);
     Ok(())
 }
@@ -110,10 +110,10 @@ fn an_answer_becomes_a_receipt_in_confirm_mode(rt: HostRuntime) -> Result<(), Fa
 #[test]
 fn junk_comes_before_a_command(rt: HostRuntime) -> Result<(), Fail> {
     let mut world = plain(rt.alloc())?;
-    let junk = burst(rt.alloc(), &[0xff])?;
     run(
+        rt.alloc(),
         &mut world,
-        &[Tick, JunkDown(0, junk), Down, Up, Tick, Down, Up],
+        "tick junk-down down up tick down up",
     )?;
     has_log(&rt, &world, &[heard(OPEN, Reply::Nak(0x04)), opened()]);
     Ok(())
@@ -123,10 +123,9 @@ fn junk_comes_before_a_command(rt: HostRuntime) -> Result<(), Fail> {
 fn junk_past_the_end_comes_last(rt: HostRuntime) -> Result<(), Fail> {
     let mut world = plain(rt.alloc())?;
     let junk = burst(rt.alloc(), &[0xff])?;
-    run(
-        &mut world,
-        &[Tick, JunkDown(9, junk), Down, Up, Tick, Down, Up],
-    )?;
+    run(rt.alloc(), &mut world, "tick")?;
+    step(&mut world, &JunkDown(9, junk))?;
+    run(rt.alloc(), &mut world, "down up tick down up")?;
     let damaged = heard(Command::Select(0x01), Reply::Nak(0x04));
     has_log(&rt, &world, &[opened(), damaged]);
     Ok(())
@@ -136,10 +135,11 @@ fn junk_past_the_end_comes_last(rt: HostRuntime) -> Result<(), Fail> {
 fn no_refusal_comes_from_nowhere_in_plain_mode(rt: HostRuntime) -> Result<(), Fail> {
     let mut world = plain(rt.alloc())?;
     let refusal = burst(rt.alloc(), &[0x05, 0x01])?;
-    let cut = burst(rt.alloc(), &[0x05, 0x80])?;
-    run(&mut world, &[Tick, JunkUp(0, refusal), Up])?;
+    run(rt.alloc(), &mut world, "tick")?;
+    step(&mut world, &JunkUp(0, refusal))?;
+    run(rt.alloc(), &mut world, "up")?;
     has_log(&rt, &world, &[]);
-    run(&mut world, &[JunkUp(0, cut), Up])?;
+    run(rt.alloc(), &mut world, "junk-up up")?;
     has_log(&rt, &world, &[heard(OPEN, Reply::Nak(0x80))]);
     Ok(())
 }
@@ -148,9 +148,11 @@ fn no_refusal_comes_from_nowhere_in_plain_mode(rt: HostRuntime) -> Result<(), Fa
 fn a_receipt_from_nowhere_answers_nothing_in_confirm_mode(rt: HostRuntime) -> Result<(), Fail> {
     let mut world = confirming(rt.alloc())?;
     let refusal = burst(rt.alloc(), &[0x05, 0x01])?;
-    run(&mut world, &[Tick, JunkUp(0, refusal), Down, Up])?;
+    run(rt.alloc(), &mut world, "tick")?;
+    step(&mut world, &JunkUp(0, refusal))?;
+    run(rt.alloc(), &mut world, "down up")?;
     has_log(&rt, &world, &[]);
-    step(&mut world, &Up)?;
+    run(rt.alloc(), &mut world, "up")?;
     has_log(&rt, &world, &[opened()]);
     Ok(())
 }
@@ -160,9 +162,9 @@ fn a_cue_takes_its_frames(rt: HostRuntime) -> Result<(), Fail> {
     let port = Port::with_clock(shelf()?, 0, 0x01, 3);
     let mut world = LateWorld::new(rt.alloc(), TwoClips::new(), port, 3);
     rounds(&mut world, 4)?;
-    run(&mut world, &[Frame, Frame])?;
+    run(rt.alloc(), &mut world, "frame frame")?;
     rounds(&mut world, 1)?;
-    step(&mut world, &Frame)?;
+    run(rt.alloc(), &mut world, "frame")?;
     rounds(&mut world, 1)?;
     let cueing = heard(Command::Status(0x01), Reply::State(0x01, Some(0x02)));
     let done = heard(Command::Status(0x01), Reply::State(0x01, Some(0x80)));
@@ -176,13 +178,13 @@ fn the_next_clip_waits_for_the_end_or_for_a_take(rt: HostRuntime) -> Result<(), 
     let mut world = plain(rt.alloc())?;
     good(&mut world, 6)?;
     rounds(&mut world, 3)?;
-    step(&mut world, &Ready)?;
+    run(rt.alloc(), &mut world, "ready")?;
     rounds(&mut world, 1)?;
     assert_eq!(rt; world.aired(), [first()].as_slice());
-    step(&mut world, &Take)?;
+    run(rt.alloc(), &mut world, "take")?;
     rounds(&mut world, 2)?;
     assert_eq!(rt; world.aired(), [first(), second()].as_slice());
-    step(&mut world, &End)?;
+    run(rt.alloc(), &mut world, "end")?;
     rounds(&mut world, 3)?;
     let wanted = Counts {
         aired: 2,
@@ -197,7 +199,7 @@ fn the_next_clip_waits_for_the_end_or_for_a_take(rt: HostRuntime) -> Result<(), 
 #[test]
 fn a_stop_goes_out_first(rt: HostRuntime) -> Result<(), Fail> {
     let mut world = plain(rt.alloc())?;
-    step(&mut world, &Stop)?;
+    run(rt.alloc(), &mut world, "stop")?;
     rounds(&mut world, 2)?;
     let stopped = heard(Command::Stop, Reply::Nak(0x01));
     let closed = heard(Command::Close(0x01), Reply::Ack);
@@ -224,7 +226,7 @@ fn two_clips_go_to_air_in_fourteen_rounds(rt: HostRuntime) -> Result<(), Fail> {
 fn two_clips_go_to_air_in_confirm_mode(rt: HostRuntime) -> Result<(), Fail> {
     let mut world = confirming(rt.alloc())?;
     for _ in 0..18 {
-        step(&mut world, &Timeout)?;
+        run(rt.alloc(), &mut world, "timeout")?;
         good(&mut world, 1)?;
     }
     let wanted = Counts {

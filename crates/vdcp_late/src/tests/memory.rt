@@ -1,11 +1,7 @@
 //! Late worlds to which growth is refused.
 use super::clips::{first, second};
-use super::seen::{Counts, Late, burst, counts_of, plain, run, step};
+use super::seen::{Counts, Late, counts_of, events_of, plain, run, step};
 use crate::LateEvent;
-use crate::LateEvent::{
-    AlterDown, AlterUp, AutomationAnew, Down, DownCopy, End, JunkDown, JunkUp, LoseUp, Ready, Tick,
-    Timeout, Up, UpCopy,
-};
 use linked_list_allocator::LocalHeap;
 use std::alloc::{AllocError, Global};
 use std::process::Abort;
@@ -71,30 +67,18 @@ fn run_where_there_is_room<'a>(
 fn each_refused_growth_leaves_the_world_as_it_was(rt: HostRuntime) -> Result<(), Fail> {
     let heap = LocalHeap::new(rt.alloc(), 16384)?;
     let mut world = plain(&heap)?;
-    // OPEN is damaged, and its copy is lost; then it is read twice, among junk.
-    let events = [
-        Tick,
-        AlterDown(0, burst(rt.alloc(), &[0xff])?),
-        DownCopy,
-        AlterUp(0, burst(rt.alloc(), &[0x05, 0x80])?),
-        UpCopy,
-        LoseUp(0),
-        Down,
-        LoseUp(0),
-        Tick,
-        JunkDown(1, burst(rt.alloc(), &[0xff])?),
-        Down,
-        JunkUp(1, burst(rt.alloc(), &[0xff])?),
-        Up,
-        Up,
-        Tick,
-        Timeout,
-        Tick,
-        AutomationAnew,
-    ];
-    let refused = run_where_there_is_room(&rt, rt.alloc(), &heap, &mut world, &events)?;
-    // Each event that needs a block of its own: four ticks, two changes, two pieces of junk, three answers.
-    assert!(rt; refused >= 11, "{refused}");
+    // OPEN is damaged, and what is heard is damaged too; then it comes after junk, and its answer too.
+    let first = "tick alter-down down-copy alter-up up-copy lose-up down lose-up";
+    let second = "tick junk-down down down junk-up lose-up lose-up up";
+    let third = "tick timeout tick automation-anew";
+    let mut refused: u32 = 0;
+    for words in [first, second, third] {
+        let events = events_of(rt.alloc(), words)?;
+        let more = run_where_there_is_room(&rt, rt.alloc(), &heap, &mut world, events.as_slice())?;
+        refused = refused.saturating_add(more);
+    }
+    // Each event that needs a block of its own: four ticks, two changes, two pieces of junk, four answers.
+    assert!(rt; refused >= 12, "{refused}");
     let wanted = Counts {
         aired: 0,
         reported: 0,
@@ -109,9 +93,15 @@ fn each_refused_growth_leaves_the_world_as_it_was(rt: HostRuntime) -> Result<(),
 fn each_refused_growth_leaves_what_aired_as_it_was(rt: HostRuntime) -> Result<(), Fail> {
     let heap = LocalHeap::new(rt.alloc(), 16384)?;
     let mut world = plain(&heap)?;
+    let round = events_of(rt.alloc(), "ready end tick down up")?;
     for _ in 0..14 {
-        let round = [Ready, End, Tick, Down, Up];
-        let refused = run_where_there_is_room(&rt, rt.alloc(), &heap, &mut world, &round)?;
+        let refused = run_where_there_is_room(
+            &rt,
+            rt.alloc(),
+            &heap,
+            &mut world,
+            round.as_slice(),
+        )?;
         assert!(rt; refused >= 2, "{refused}");
     }
     assert_eq!(rt; world.aired(), [first(), second()].as_slice());
@@ -123,13 +113,14 @@ fn each_refused_growth_leaves_what_aired_as_it_was(rt: HostRuntime) -> Result<()
 fn a_run_goes_as_far_as_memory_does(rt: HostRuntime) -> Result<(), Fail> {
     let heap = LocalHeap::new(rt.alloc(), 4096)?;
     let mut world = plain(&heap)?;
-    run(&mut world, &[Tick, Timeout, Tick])?;
+    run(rt.alloc(), &mut world, "tick timeout tick")?;
     let blocks = fill(rt.alloc(), &heap)?;
     // The log has room for the second exchange, and the third command has none.
-    assert!(rt; run(&mut world, &[Timeout, Tick, Timeout]).is_err());
+    let more = events_of(rt.alloc(), "timeout tick timeout")?;
+    assert!(rt; world.run(more.as_slice()).is_err());
     assert_eq!(rt; world.log().len(), 2);
     drop(blocks);
-    run(&mut world, &[Tick, Timeout])?;
+    run(rt.alloc(), &mut world, "tick timeout")?;
     assert_eq!(rt; world.log().len(), 3);
     assert_eq!(rt; world.outcome(), Some(Outcome::Lost));
     Ok(())

@@ -40,18 +40,66 @@ pub fn step<A: Allocator + Copy>(world: &mut Late<A>, event: &LateEvent) -> Resu
     world.step(event)
 }
 
-/// Events happen.
+/// Events happen, a word for each.
 pub fn run<A: Allocator + Copy>(
+    alloc: Global,
     world: &mut Late<A>,
-    events: &[LateEvent],
-) -> Result<(), AllocError> {
-    world.run(events)
+    words: &str,
+) -> Result<(), Fail> {
+    let events = events_of(alloc, words)?;
+    world.run(events.as_slice())?;
+    Ok(())
+}
+
+/// The events of words.
+pub fn events_of(alloc: Global, words: &str) -> Result<Vec<LateEvent>, Fail> {
+    let mut events = Vec::new(alloc);
+    for word in words.split_whitespace() {
+        let event = event_of(alloc, word)?;
+        events.push(event).map_err(AllocError::from)?;
+    }
+    Ok(events)
+}
+
+/// The event of a word. What is lost or damaged is the oldest burst: on the way down it becomes FFh, and on the way
+/// up NAK 80h, which are also the junk that comes before it.
+fn event_of(alloc: Global, word: &str) -> Result<LateEvent, Fail> {
+    match word {
+        "alter-down" => Ok(LateEvent::AlterDown(0, burst(alloc, &[0xff])?)),
+        "alter-up" => Ok(LateEvent::AlterUp(0, burst(alloc, &[0x05, 0x80])?)),
+        "junk-down" => Ok(LateEvent::JunkDown(0, burst(alloc, &[0xff])?)),
+        "junk-up" => Ok(LateEvent::JunkUp(0, burst(alloc, &[0x05, 0x80])?)),
+        _ => Ok(event_without_bytes(word).ok_or("no event")?),
+    }
+}
+
+fn event_without_bytes(word: &str) -> Option<LateEvent> {
+    match word {
+        "tick" => Some(LateEvent::Tick),
+        "down" => Some(LateEvent::Down),
+        "up" => Some(LateEvent::Up),
+        "down-copy" => Some(LateEvent::DownCopy),
+        "up-copy" => Some(LateEvent::UpCopy),
+        "lose-down" => Some(LateEvent::LoseDown(0)),
+        "lose-up" => Some(LateEvent::LoseUp(0)),
+        "timeout" => Some(LateEvent::Timeout),
+        "ready" => Some(LateEvent::Ready),
+        "end" => Some(LateEvent::End),
+        "frame" => Some(LateEvent::Frame),
+        "take" => Some(LateEvent::Take),
+        "stop" => Some(LateEvent::Stop),
+        "server-anew" => Some(LateEvent::ServerAnew),
+        "automation-anew" => Some(LateEvent::AutomationAnew),
+        _ => None,
+    }
 }
 
 /// A number of rounds: a command goes out, and its answer is heard.
 pub fn rounds<A: Allocator + Copy>(world: &mut Late<A>, times: u32) -> Result<(), AllocError> {
     for _ in 0..times {
-        run(world, &[LateEvent::Tick, LateEvent::Down, LateEvent::Up])?;
+        step(world, &LateEvent::Tick)?;
+        step(world, &LateEvent::Down)?;
+        step(world, &LateEvent::Up)?;
     }
     Ok(())
 }
@@ -59,7 +107,8 @@ pub fn rounds<A: Allocator + Copy>(world: &mut Late<A>, times: u32) -> Result<()
 /// A number of rounds, before each of which what cues is done, and what plays has ended.
 pub fn good<A: Allocator + Copy>(world: &mut Late<A>, times: u32) -> Result<(), AllocError> {
     for _ in 0..times {
-        run(world, &[LateEvent::Ready, LateEvent::End])?;
+        step(world, &LateEvent::Ready)?;
+        step(world, &LateEvent::End)?;
         rounds(world, 1)?;
     }
     Ok(())

@@ -1,7 +1,7 @@
-use Rattle.std.proofs.Common.{take, sym, ap, ◌∙◌, arith}
-use Rattle.vdcp_late.specs.LateChannel.{after_late_event}
+use Rattle.std.proofs.Common.{take, sym, ap, subst, ◌∙◌, arith}
+use Rattle.vdcp_late.specs.LateChannel.{IsLateReached, after_late_event}
 use Rattle.vdcp_late.specs.Runs.{late_make_of}
-use Rattle.vdcp_late.proofs.Happened.{one_more, in_part, make_after_all}
+use Rattle.vdcp_late.proofs.Happened.{one_more, in_part, make_after_all, events_reached}
 use Rattle.vdcp_late.proofs.world.LateWorld.run.Goals as goal
 
 pub returns-in_err-step-clause-front : goal.returns-in_err-step-clause-front
@@ -25,3 +25,10 @@ pub returns-clause-make : goal.returns-clause-make
 returns-clause-make g c =
     ap late_make_of c.loop-event.invariant
     ∙ make_after_all c.args.self.now (take c.loop-event.event-index c.args.events.now)
+
+pub returns-clause-headline : goal.returns-clause-headline
+returns-clause-headline g c =
+    let reached : IsLateReached c.args.self.now = rw (← c.self.view_is) c.self.invariant in
+    c.a_late_line_keeps_the_headline.ensures c.loop-event.self
+    (subst IsLateReached (sym c.loop-event.invariant)
+    (events_reached c.args.self.now (take c.loop-event.event-index c.args.events.now) reached))

@@ -11,3 +11,9 @@ returns-clause-make g c =
     rw (← c.self.view_is)
     (make_after_step c.step.result c.self.inside.link c.step.new.self c.args.event.now c.step.ensures.step
     c.step.ensures.refused)
+
+pub returns-clause-headline : goal.returns-clause-headline
+returns-clause-headline g c =
+    c.a_late_line_keeps_the_headline.ensures c.step.new.self
+    (after_step c.step.result c.self.inside.link c.step.new.self c.args.event.now c.step.ensures.step
+    c.step.ensures.refused c.self.invariant)
