@@ -14,9 +14,11 @@ use Rattle.vdcp_late.proofs.Thinning.{Thins, all_left, any_thins, none_thins}
 
 -- ---- something is left out
 
-on_air_thins : (list : List Item) (s : Bool) (a : Cued) (aired : List Item) (ups others : List Answer) (downs left : List Phase) (k : ℕ)
+on_air_thins : (list : List Item) (s : Bool) (a : Cued) (aired : List Item) (ups others : List Answer)
+    (downs left : List Phase) (k : ℕ)
     → Thins ups others → Thins downs left
-    → ToAir list s a aired ups k ⊎ OnAir list s a aired downs k → ToAir list s a aired others k ⊎ OnAir list s a aired left k
+    → ToAir list s a aired ups k ⊎ OnAir list s a aired downs k
+    → ToAir list s a aired others k ⊎ OnAir list s a aired left k
 on_air_thins list s a aired ups others downs left k u d (inl h) = inl (record {
   aired_is = h.aired_is;
   has_item = h.has_item;
@@ -30,8 +32,10 @@ on_air_thins list s a aired ups others downs left k u d (inr h) = inr (record {
   none_waits = none_thins waits downs left d h.none_waits;
 })
 
-playing_thins : (list : List Item) (settled : ℕ) (s : Bool) (a : Cued) (aired : List Item) (ups others : List Answer) (downs left : List Phase) (k : ℕ)
-    → Thins ups others → Thins downs left → Playing list settled s a aired ups downs k → Playing list settled s a aired others left k
+playing_thins : (list : List Item) (settled : ℕ) (s : Bool) (a : Cued) (aired : List Item) (ups others : List Answer)
+    (downs left : List Phase) (k : ℕ)
+    → Thins ups others → Thins downs left → Playing list settled s a aired ups downs k
+    → Playing list settled s a aired others left k
 playing_thins list settled s a aired ups others downs left k u d h = record {
   settled_is = h.settled_is;
   within = h.within;
@@ -43,12 +47,15 @@ pub safe_thins : (list : List Item) (settled : ℕ) (s : Bool) (a : Cued) (aired
     → Thins downs left → Safe list settled s a aired downs → Safe list settled s a aired left
 safe_thins list settled s a aired downs left d h = record { near = h.near; calm = by h.calm }
   where
-    by : (list_any plays downs ≡ false) ⊎ Unarmed list settled s a aired downs → (list_any plays left ≡ false) ⊎ Unarmed list settled s a aired left
+    by : (list_any plays downs ≡ false) ⊎ Unarmed list settled s a aired downs
+        → (list_any plays left ≡ false) ⊎ Unarmed list settled s a aired left
     by (inl e) = inl (none_thins plays downs left d e)
     by (inr u) = inr (record { none_arms = none_thins arms downs left d u.none_arms; last = u.last })
 
-pub place_thins : (list : List Item) (settled : ℕ) (s : Bool) (a : Cued) (aired : List Item) (ups others : List Answer) (downs left : List Phase) (q : Phase)
-    → Thins ups others → Thins downs left → Place list settled s a aired ups downs q → Place list settled s a aired others left q
+pub place_thins : (list : List Item) (settled : ℕ) (s : Bool) (a : Cued) (aired : List Item) (ups others : List Answer)
+    (downs left : List Phase) (q : Phase)
+    → Thins ups others → Thins downs left → Place list settled s a aired ups downs q
+    → Place list settled s a aired others left q
 place_thins list settled s a aired ups others downs left phase.Open u d h = h
 place_thins list settled s a aired ups others downs left phase.Select u d h = h
 place_thins list settled s a aired ups others downs left phase.Seen u d h = h
@@ -62,27 +69,38 @@ place_thins list settled s a aired ups others downs left (phase.Wait k) u d h = 
   shown = λ e. h.shown (any_thins says_done ups others u e);
   never_none = none_thins shows_no_cue ups others u h.never_none;
 }
-place_thins list settled s a aired ups others downs left (phase.Play k) u d h = playing_thins list settled s a aired ups others downs left k u d h
-place_thins list settled s a aired ups others downs left (phase.Probe k) u d h = playing_thins list settled s a aired ups others downs left k u d h
+place_thins list settled s a aired ups others downs left (phase.Play k) u d h =
+    playing_thins list settled s a aired ups others downs left k u d h
+place_thins list settled s a aired ups others downs left (phase.Probe k) u d h =
+    playing_thins list settled s a aired ups others downs left k u d h
 place_thins list settled s a aired ups others downs left (phase.Check k) u d h = h
 place_thins list settled s a aired ups others downs left phase.Drain u d h = h
 place_thins list settled s a aired ups others downs left phase.Close u d h = h
-place_thins list settled s a aired ups others downs left phase.Halt u d h = safe_thins list settled s a aired downs left d h
-place_thins list settled s a aired ups others downs left phase.HaltClose u d h = safe_thins list settled s a aired downs left d h
+place_thins list settled s a aired ups others downs left phase.Halt u d h =
+    safe_thins list settled s a aired downs left d h
+place_thins list settled s a aired ups others downs left phase.HaltClose u d h =
+    safe_thins list settled s a aired downs left d h
 
 -- the pipe
-pub pipe_thins : (mode : Mode) (n : ℕ) (ups others : List Answer) (downs left : List Phase) → Thins ups others → Thins downs left
+pub pipe_thins : (mode : Mode) (n : ℕ) (ups others : List Answer) (downs left : List Phase) → Thins ups others
+    → Thins downs left
     → Thins (stretches mode n (pipe_of ups downs)) (stretches mode n (pipe_of others left))
 pipe_thins mode n [] others downs left u d =
-    subst (λ (o : List Answer). Thins (stretches mode n downs) (stretches mode n (pipe_of o left))) (sym u) (below downs left d)
+    subst (λ (o : List Answer). Thins (stretches mode n downs) (stretches mode n (pipe_of o left))) (sym u)
+    (below downs left d)
   where
     below : (downs left : List Phase) → Thins downs left → Thins (stretches mode n downs) (stretches mode n left)
     below [] left d = ap (stretches mode n) d
     below (x ∷ downs) left (inl d) = inl (below downs left d)
-    below (x ∷ downs) left (inr (rest, is, d)) = inr (stretches mode n rest, ap (stretches mode n) is, below downs rest d)
+    below (x ∷ downs) left (inr (rest, is, d)) =
+        inr (stretches mode n rest, ap (stretches mode n) is, below downs rest d)
 pipe_thins mode n (a ∷ ups) others downs left (inl u) d = inl (pipe_thins mode n ups others downs left u d)
 pipe_thins mode n (a ∷ ups) others downs left (inr (rest, is, u)) d =
-    inr (stretches mode n (pipe_of rest left), ap (λ (o : List Answer). stretches mode n (pipe_of o left)) is, pipe_thins mode n ups rest downs left u d)
+    inr (
+      stretches mode n (pipe_of rest left),
+      ap (λ (o : List Answer). stretches mode n (pipe_of o left)) is,
+      pipe_thins mode n ups rest downs left u d,
+    )
 
 -- ---- the port changes by itself: its cue gets done, or it is made anew
 
@@ -96,7 +114,8 @@ pub record Ages (s : Bool) (a : Cued) (t : Bool) (b : Cued) : Type 0 where
   pub still_empty : a ≡ empty → b ≡ empty
   pub nothing_else : (b ≡ empty) ⊎ (cued_item b ≡ cued_item a)
 
-pub item_ages : (list : List Item) (s : Bool) (a : Cued) (t : Bool) (b : Cued) (k : ℕ) → Ages s a t b → HasItem list s a k → HasItem list t b k
+pub item_ages : (list : List Item) (s : Bool) (a : Cued) (t : Bool) (b : Cued) (k : ℕ) → Ages s a t b
+    → HasItem list s a k → HasItem list t b k
 item_ages list s a t b k g h = λ e. g.item e ∙ h (g.no_more e)
 
 pub done_ages : (s : Bool) (a : Cued) (t : Bool) (b : Cued) → Ages s a t b → HasDone s a → HasDone t b
@@ -107,22 +126,63 @@ none_ages s a t b g h = λ e. g.none e (h (g.no_more e))
 
 pub ready_ages : (s : Bool) (a : Cued) → Ages s a s (made_ready a)
 ready_ages s empty =
-    record { no_more = λ e. e; item = λ _. refl; done = λ _ e. e; none = λ _ e. e; still_empty = λ e. e; nothing_else = inr refl }
+    record {
+      no_more = λ e. e;
+      item = λ _. refl;
+      done = λ _ e. e;
+      none = λ _ e. e;
+      still_empty = λ e. e;
+      nothing_else =
+          inr refl;
+    }
 ready_ages s (cueing x) =
-    record { no_more = λ e. e; item = λ _. refl; done = λ _ _. refl; none = λ _ e. cc; still_empty = λ e. cc; nothing_else = inr refl }
+    record {
+      no_more = λ e. e;
+      item = λ _. refl;
+      done = λ _ _. refl;
+      none = λ _ e. cc;
+      still_empty = λ e. cc;
+      nothing_else = inr refl;
+    }
 ready_ages s (done x) =
-    record { no_more = λ e. e; item = λ _. refl; done = λ _ e. e; none = λ _ e. e; still_empty = λ e. e; nothing_else = inr refl }
+    record {
+      no_more = λ e. e;
+      item = λ _. refl;
+      done = λ _ e. e;
+      none = λ _ e. e;
+      still_empty = λ e. e;
+      nothing_else =
+          inr refl;
+    }
 
 pub same_ages : (s : Bool) (a : Cued) → Ages s a s a
 same_ages s a =
-    record { no_more = λ e. e; item = λ _. refl; done = λ _ e. e; none = λ _ e. e; still_empty = λ e. e; nothing_else = inr refl }
+    record {
+      no_more = λ e. e;
+      item = λ _. refl;
+      done = λ _ e. e;
+      none = λ _ e. e;
+      still_empty = λ e. e;
+      nothing_else =
+          inr refl;
+    }
 
 pub anew_ages : (s : Bool) (a : Cued) → Ages s a false empty
 anew_ages s a =
-    record { no_more = λ e. cc; item = λ e. cc; done = λ e. cc; none = λ e. cc; still_empty = λ _. refl; nothing_else = inl refl }
+    record {
+      no_more = λ e. cc;
+      item = λ e. cc;
+      done = λ e. cc;
+      none = λ e. cc;
+      still_empty = λ _. refl;
+      nothing_else =
+          inl refl;
+    }
 
-stand_ages : (list : List Item) (s : Bool) (a : Cued) (t : Bool) (b : Cued) (aired : List Item) (ups : List Answer) (downs : List Phase) (k : ℕ) → Ages s a t b
-    → ToAir list s a aired ups k ⊎ OnAir list s a aired downs k → ToAir list t b aired ups k ⊎ OnAir list t b aired downs k
+stand_ages : (list : List Item) (s : Bool) (a : Cued) (t : Bool) (b : Cued) (aired : List Item) (ups : List Answer)
+    (downs : List Phase) (k : ℕ) → Ages s a t b
+    → ToAir list s a aired ups k ⊎ OnAir list s a aired downs k
+    → ToAir list t b aired ups k ⊎ OnAir list t b aired downs k
 stand_ages list s a t b aired ups downs k g (inl h) = inl (record {
   aired_is = h.aired_is;
   has_item = item_ages list s a t b k g h.has_item;
@@ -136,7 +196,8 @@ stand_ages list s a t b aired ups downs k g (inr h) = inr (record {
   none_waits = h.none_waits;
 })
 
-playing_ages : (list : List Item) (settled : ℕ) (s : Bool) (a : Cued) (t : Bool) (b : Cued) (aired : List Item) (ups : List Answer) (downs : List Phase) (k : ℕ)
+playing_ages : (list : List Item) (settled : ℕ) (s : Bool) (a : Cued) (t : Bool) (b : Cued) (aired : List Item)
+    (ups : List Answer) (downs : List Phase) (k : ℕ)
     → Ages s a t b → Playing list settled s a aired ups downs k → Playing list settled t b aired ups downs k
 playing_ages list settled s a t b aired ups downs k g h = record {
   settled_is = h.settled_is;
@@ -145,7 +206,8 @@ playing_ages list settled s a t b aired ups downs k g h = record {
   stands = stand_ages list s a t b aired ups downs k g h.stands;
 }
 
-pub safe_ages : (list : List Item) (settled : ℕ) (s : Bool) (a : Cued) (t : Bool) (b : Cued) (aired : List Item) (downs : List Phase)
+pub safe_ages : (list : List Item) (settled : ℕ) (s : Bool) (a : Cued) (t : Bool) (b : Cued) (aired : List Item)
+    (downs : List Phase)
     → Ages s a t b → Safe list settled s a aired downs → Safe list settled t b aired downs
 safe_ages list settled s a t b aired downs g h = record { near = h.near; calm = by h.calm }
   where
@@ -153,11 +215,13 @@ safe_ages list settled s a t b aired downs g h = record { near = h.near; calm = 
     cue (inl e) = inl (none_ages s a t b g e)
     cue (inr (is, within, e)) = inr (is, within, item_ages list s a t b settled g e)
 
-    by : (list_any plays downs ≡ false) ⊎ Unarmed list settled s a aired downs → (list_any plays downs ≡ false) ⊎ Unarmed list settled t b aired downs
+    by : (list_any plays downs ≡ false) ⊎ Unarmed list settled s a aired downs
+        → (list_any plays downs ≡ false) ⊎ Unarmed list settled t b aired downs
     by (inl e) = inl e
     by (inr u) = inr (record { none_arms = u.none_arms; last = cue u.last })
 
-pub place_ages : (list : List Item) (settled : ℕ) (s : Bool) (a : Cued) (t : Bool) (b : Cued) (aired : List Item) (ups : List Answer) (downs : List Phase)
+pub place_ages : (list : List Item) (settled : ℕ) (s : Bool) (a : Cued) (t : Bool) (b : Cued) (aired : List Item)
+    (ups : List Answer) (downs : List Phase)
     (q : Phase) → Ages s a t b → Place list settled s a aired ups downs q → Place list settled t b aired ups downs q
 place_ages list settled s a t b aired ups downs phase.Open g h = h
 place_ages list settled s a t b aired ups downs phase.Select g h = h
@@ -172,9 +236,12 @@ place_ages list settled s a t b aired ups downs (phase.Wait k) g h = record {
   shown = λ e. done_ages s a t b g (h.shown e);
   never_none = h.never_none;
 }
-place_ages list settled s a t b aired ups downs (phase.Play k) g h = playing_ages list settled s a t b aired ups downs k g h
-place_ages list settled s a t b aired ups downs (phase.Probe k) g h = playing_ages list settled s a t b aired ups downs k g h
-place_ages list settled s a t b aired ups downs (phase.Check k) g h = record { at = h.at; within = h.within; has_none = none_ages s a t b g h.has_none }
+place_ages list settled s a t b aired ups downs (phase.Play k) g h =
+    playing_ages list settled s a t b aired ups downs k g h
+place_ages list settled s a t b aired ups downs (phase.Probe k) g h =
+    playing_ages list settled s a t b aired ups downs k g h
+place_ages list settled s a t b aired ups downs (phase.Check k) g h =
+    record { at = h.at; within = h.within; has_none = none_ages s a t b g h.has_none }
 place_ages list settled s a t b aired ups downs phase.Drain g h = h
 place_ages list settled s a t b aired ups downs phase.Close g h = h
 place_ages list settled s a t b aired ups downs phase.Halt g h = safe_ages list settled s a t b aired downs g h

@@ -41,7 +41,8 @@ plain_plan list port limit = record { mode = Plain; list = list; port = port; li
 -- ---- which command a reply answers
 
 -- the reply is of the kind that the phase's command asks for
-pub fits_asked : (list : List Item) (port : ℕ) (q : Phase) (c : Command) (r : Reply) → command_in list port q ≡ Some c → fits c r ≡ true → is_asked q r ≡ true
+pub fits_asked : (list : List Item) (port : ℕ) (q : Phase) (c : Command) (r : Reply) → command_in list port q ≡ Some c
+    → fits c r ≡ true → is_asked q r ≡ true
 fits_asked list port phase.Open c r e f = cc
 fits_asked list port phase.Select c r e f = cc
 fits_asked list port phase.Seen c r e f = cc
@@ -89,9 +90,11 @@ nak_fits (command.IdSize id) byte = refl
 no_answer : (c : Command) (came : Option Heard) → is_no_answer Plain came ≡ true → answer_to c came ≡ None
 no_answer c None e = refl
 no_answer c (Some heard.Other) e = refl
-no_answer c (Some (heard.Reply (reply.Nak byte))) e = by (is_refusal (reply.Nak byte)) (fits c (reply.Nak byte)) refl (nak_fits c byte)
+no_answer c (Some (heard.Reply (reply.Nak byte))) e =
+    by (is_refusal (reply.Nak byte)) (fits c (reply.Nak byte)) refl (nak_fits c byte)
   where
-    by : (refuses fit : Bool) → is_refusal (reply.Nak byte) ≡ refuses → fit ≡ false → (if refuses || fit then Some (reply.Nak byte) else None) ≡ None
+    by : (refuses fit : Bool) → is_refusal (reply.Nak byte) ≡ refuses → fit ≡ false
+        → (if refuses || fit then Some (reply.Nak byte) else None) ≡ None
     by true fit r f = absurd (impossible (sym e ∙ ap not r))
       where
         impossible : true ≡ false → ⊥
@@ -107,24 +110,30 @@ no_answer c (Some (heard.Reply (reply.Size length))) e = cc
 
 -- ---- where it leads
 
-abbrev pub LeadsBy : List Item → List (ClipId × Timecode) → ℕ → Bool → Cued → List Item → List Answer → List Phase → ℕ → State → ℕ → Bool → Phase
+abbrev pub LeadsBy : List Item → List (ClipId × Timecode) → ℕ → Bool → Cued → List Item → List Answer → List Phase → ℕ
+    → State → ℕ → Bool → Phase
     → Option Reply → Type 0
 LeadsBy list clips settled s a aired ups downs limit state port counts q o =
-    Leads list clips settled s a aired ups downs (transition_on (plain_plan list port limit) state.take state.tries state.unanswered counts q o)
+    Leads list clips settled s a aired ups downs (transition_on (plain_plan list port limit) state.take state.tries
+    state.unanswered counts q o)
 
 either : (a b : Bool) → (a || b) ≡ true → a ≡ false → b ≡ true
 either a b e f = grind arith
 
-came_led : (list : List Item) (clips : List (ClipId × Timecode)) (port limit : ℕ) (s : Bool) (a : Cued) (aired : List Item) (ups : List Answer)
-    (downs : List Phase) (state : State) (came : Option Heard) (q : Phase) (c : Command) (counts : Bool) → command_in list port q ≡ Some c → Comes Plain ups came
+came_led : (list : List Item) (clips : List (ClipId × Timecode)) (port limit : ℕ) (s : Bool) (a : Cued)
+    (aired : List Item) (ups : List Answer)
+    (downs : List Phase) (state : State) (came : Option Heard) (q : Phase) (c : Command) (counts : Bool)
+    → command_in list port q ≡ Some c → Comes Plain ups came
     → Stands list clips state.settled s a aired ups downs (Awaiting q)
     → LeadsBy list clips state.settled s a aired ups downs limit state port counts q (answer_to c came)
 came_led list clips port limit s a aired ups downs state came q c counts is (inl none) h =
     subst (LeadsBy list clips state.settled s a aired ups downs limit state port counts q) (sym (no_answer c came none))
     (silent list clips state.settled s a aired ups downs q limit state.unanswered counts h.place)
 came_led list clips port limit s a aired ups downs state came q c counts is (inr (x, rest, first, e)) h =
-    subst (λ (o : Option Heard). LeadsBy list clips state.settled s a aired ups downs limit state port counts q (answer_to c o)) (sym e)
-    (subst (λ (us : List Answer). LeadsBy list clips state.settled s a aired us downs limit state port counts q (answer_to c (Some (heard.Reply x.reply))))
+    subst (λ (o : Option Heard). LeadsBy list clips state.settled s a aired ups downs limit state port counts q
+    (answer_to c o)) (sym e)
+    (subst (λ (us : List Answer). LeadsBy list clips state.settled s a aired us downs limit state port counts q
+    (answer_to c (Some (heard.Reply x.reply))))
     (sym first) (by (is_refusal x.reply) (is_refusal x.reply || fits c x.reply) refl refl))
   where
     there : Stands list clips state.settled s a aired (x ∷ rest) downs (Awaiting q)
@@ -143,21 +152,27 @@ came_led list clips port limit s a aired ups downs state came q c counts is (inr
         }) there.place
 
     by : (r f : Bool) → is_refusal x.reply ≡ r → (is_refusal x.reply || fits c x.reply) ≡ f
-        → LeadsBy list clips state.settled s a aired (x ∷ rest) downs limit state port counts q (if f then Some x.reply else None)
-    by r false e g = silent list clips state.settled s a aired (x ∷ rest) downs q limit state.unanswered counts there.place
+        → LeadsBy list clips state.settled s a aired (x ∷ rest) downs limit state port counts q
+        (if f then Some x.reply else None)
+    by r false e g =
+        silent list clips state.settled s a aired (x ∷ rest) downs q limit state.unanswered counts there.place
     by r true e g = refusal (is_refusal x.reply) refl g
 
-pub came_stands : (list : List Item) (clips : List (ClipId × Timecode)) (port limit : ℕ) (s : Bool) (a : Cued) (aired : List Item) (ups : List Answer)
+pub came_stands : (list : List Item) (clips : List (ClipId × Timecode)) (port limit : ℕ) (s : Bool) (a : Cued)
+    (aired : List Item) (ups : List Answer)
     (downs : List Phase) (state : State) (came : Option Heard) → Comes Plain ups came
     → Stands list clips state.settled s a aired ups downs state.stage
-    → Stands list clips (came_to (plain_plan list port limit) came state).settled s a aired ups downs (came_to (plain_plan list port limit) came state).stage
+    → Stands list clips (came_to (plain_plan list port limit) came state).settled s a aired ups downs
+    (came_to (plain_plan list port limit) came state).stage
 came_stands list clips port limit s a aired ups downs state came comes h = by state.stage h
   where
     After : State → Type 0
     After t = Stands list clips t.settled s a aired ups downs t.stage
 
-    awaits : (q : Phase) → Stands list clips state.settled s a aired ups downs (Awaiting q) → (o : Option Command) → command_in list port q ≡ o
-        → After (option_map_or (λ e. ended_in (plain_plan list port limit) (Awaiting q) e state) (exchange_of Plain came o) state)
+    awaits : (q : Phase) → Stands list clips state.settled s a aired ups downs (Awaiting q) → (o : Option Command)
+        → command_in list port q ≡ o
+        → After (option_map_or (λ e. ended_in (plain_plan list port limit) (Awaiting q) e state)
+        (exchange_of Plain came o) state)
     awaits q g None is = h
     awaits q g (Some c) is = record {
       place = came_led list clips port limit s a aired ups downs state came q c true is comes g;
@@ -166,7 +181,8 @@ came_stands list clips port limit s a aired ups downs state came comes h = by st
     }
 
     by : (stage : Stage) → Stands list clips state.settled s a aired ups downs stage
-        → After (option_map_or (λ e. ended_in (plain_plan list port limit) stage e state) (exchange_of Plain came (awaited_in (plain_plan list port limit) stage)) state)
+        → After (option_map_or (λ e. ended_in (plain_plan list port limit) stage e state)
+        (exchange_of Plain came (awaited_in (plain_plan list port limit) stage)) state)
     by (Ready q) g = h
     by (Awaiting q) g = awaits q g (command_in list port q) refl
     by (Ended o) g = h

@@ -35,10 +35,12 @@ use Rattle.vdcp_late.proofs.Standing.{misleads}
 abbrev pub confirming_plan : List Item → ℕ → ℕ → Plan
 confirming_plan list port limit = record { mode = Confirming; list = list; port = port; limit = limit }
 
-abbrev LeadsBy : List Item → List (ClipId × Timecode) → ℕ → Bool → Cued → List Item → List Answer → List Phase → ℕ → State → ℕ → Bool → Phase
+abbrev LeadsBy : List Item → List (ClipId × Timecode) → ℕ → Bool → Cued → List Item → List Answer → List Phase → ℕ
+    → State → ℕ → Bool → Phase
     → Option Reply → Type 0
 LeadsBy list clips settled s a aired ups downs limit state port counts q o =
-    Leads list clips settled s a aired ups downs (transition_on (confirming_plan list port limit) state.take state.tries state.unanswered counts q o)
+    Leads list clips settled s a aired ups downs (transition_on (confirming_plan list port limit) state.take state.tries
+    state.unanswered counts q o)
 
 -- what ends an exchange is no receipt
 no_receipt : (c : Command) (r : Reply) → is_end Confirming c (Some (heard.Reply r)) ≡ true → is_receipt r ≡ false
@@ -51,7 +53,8 @@ no_refusal : (r : Reply) → is_receipt r ≡ false → is_refusal r ≡ false
 no_refusal r e = grind arith
 
 -- what is no answer, and ends the exchange, answers nothing
-no_answer : (c : Command) (came : Option Heard) → is_no_answer Confirming came ≡ true → is_end Confirming c came ≡ true → answer_to c came ≡ None
+no_answer : (c : Command) (came : Option Heard) → is_no_answer Confirming came ≡ true → is_end Confirming c came ≡ true
+    → answer_to c came ≡ None
 no_answer c None e f = refl
 no_answer c (Some heard.Other) e f = refl
 no_answer c (Some (heard.Reply r)) e f = clash (is_receipt r) e (no_receipt c r f)
@@ -59,17 +62,22 @@ no_answer c (Some (heard.Reply r)) e f = clash (is_receipt r) e (no_receipt c r 
 either : (a b : Bool) → (a || b) ≡ true → a ≡ false → b ≡ true
 either a b e f = grind arith
 
-came_led : (list : List Item) (clips : List (ClipId × Timecode)) (port limit : ℕ) (s : Bool) (a : Cued) (aired : List Item) (ups : List Answer)
-    (downs : List Phase) (state : State) (came : Option Heard) (q : Phase) (c : Command) (counts : Bool) → command_in list port q ≡ Some c
+came_led : (list : List Item) (clips : List (ClipId × Timecode)) (port limit : ℕ) (s : Bool) (a : Cued)
+    (aired : List Item) (ups : List Answer)
+    (downs : List Phase) (state : State) (came : Option Heard) (q : Phase) (c : Command) (counts : Bool)
+    → command_in list port q ≡ Some c
     → is_end Confirming c came ≡ true → Comes Confirming ups came
     → Holds list clips state.settled s a aired ups downs (Awaiting q)
     → LeadsBy list clips state.settled s a aired ups downs limit state port counts q (answer_to c came)
 came_led list clips port limit s a aired ups downs state came q c counts is ends (inl none) h =
-    subst (LeadsBy list clips state.settled s a aired ups downs limit state port counts q) (sym (no_answer c came none ends))
+    subst (LeadsBy list clips state.settled s a aired ups downs limit state port counts q)
+    (sym (no_answer c came none ends))
     (silent list clips state.settled s a aired ups downs q limit state.unanswered counts h.spot)
 came_led list clips port limit s a aired ups downs state came q c counts is ends (inr (x, rest, first, e)) h =
-    subst (λ (o : Option Heard). LeadsBy list clips state.settled s a aired ups downs limit state port counts q (answer_to c o)) (sym e)
-    (subst (λ (us : List Answer). LeadsBy list clips state.settled s a aired us downs limit state port counts q (answer_to c (Some (heard.Reply x.reply))))
+    subst (λ (o : Option Heard). LeadsBy list clips state.settled s a aired ups downs limit state port counts q
+    (answer_to c o)) (sym e)
+    (subst (λ (us : List Answer). LeadsBy list clips state.settled s a aired us downs limit state port counts q
+    (answer_to c (Some (heard.Reply x.reply))))
     (sym first) (by (is_refusal x.reply || fits c x.reply) refl))
   where
     there : Holds list clips state.settled s a aired (x ∷ rest) downs (Awaiting q)
@@ -91,11 +99,13 @@ came_led list clips port limit s a aired ups downs state came q c counts is ends
         }) there.spot
 
     by : (f : Bool) → (is_refusal x.reply || fits c x.reply) ≡ f
-        → LeadsBy list clips state.settled s a aired (x ∷ rest) downs limit state port counts q (if f then Some x.reply else None)
+        → LeadsBy list clips state.settled s a aired (x ∷ rest) downs limit state port counts q
+        (if f then Some x.reply else None)
     by false g = silent list clips state.settled s a aired (x ∷ rest) downs q limit state.unanswered counts there.spot
     by true g = answers (is_refusal x.reply) refl (no_refusal x.reply no_receipt_here) g
 
-pub came_holds : (list : List Item) (clips : List (ClipId × Timecode)) (port limit : ℕ) (s : Bool) (a : Cued) (aired : List Item) (ups : List Answer)
+pub came_holds : (list : List Item) (clips : List (ClipId × Timecode)) (port limit : ℕ) (s : Bool) (a : Cued)
+    (aired : List Item) (ups : List Answer)
     (downs : List Phase) (state : State) (came : Option Heard) → Comes Confirming ups came
     → Holds list clips state.settled s a aired ups downs state.stage
     → Holds list clips (came_to (confirming_plan list port limit) came state).settled s a aired ups downs
@@ -105,7 +115,8 @@ came_holds list clips port limit s a aired ups downs state came comes h = by sta
     After : State → Type 0
     After t = Holds list clips t.settled s a aired ups downs t.stage
 
-    ends : (q : Phase) → Holds list clips state.settled s a aired ups downs (Awaiting q) → (c : Command) → command_in list port q ≡ Some c
+    ends : (q : Phase) → Holds list clips state.settled s a aired ups downs (Awaiting q) → (c : Command)
+        → command_in list port q ≡ Some c
         → (b : Bool) → is_end Confirming c came ≡ b
         → After (option_map_or (λ e. ended_in (confirming_plan list port limit) (Awaiting q) e state)
         (if b then Some (record { command = c; heard = came }) else None) state)
@@ -116,8 +127,10 @@ came_holds list clips port limit s a aired ups downs state came comes h = by sta
       true_told = g.true_told;
     }
 
-    awaits : (q : Phase) → Holds list clips state.settled s a aired ups downs (Awaiting q) → (o : Option Command) → command_in list port q ≡ o
-        → After (option_map_or (λ e. ended_in (confirming_plan list port limit) (Awaiting q) e state) (exchange_of Confirming came o) state)
+    awaits : (q : Phase) → Holds list clips state.settled s a aired ups downs (Awaiting q) → (o : Option Command)
+        → command_in list port q ≡ o
+        → After (option_map_or (λ e. ended_in (confirming_plan list port limit) (Awaiting q) e state)
+        (exchange_of Confirming came o) state)
     awaits q g None is = h
     awaits q g (Some c) is = ends q g c is (is_end Confirming c came) refl
 

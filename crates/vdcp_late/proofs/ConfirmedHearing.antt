@@ -33,22 +33,33 @@ use Rattle.vdcp_late.proofs.Standing.{knows, differs, misleads, misleads_at}
 use Rattle.vdcp_late.proofs.Stretches.{Lies, ups_climb, none_answers}
 
 -- where a turn leads
-abbrev pub Leads : List Item → List (ClipId × Timecode) → ℕ → Bool → Cued → List Item → List Answer → List Phase → Transition → Type 0
-Leads list clips settled s a aired ups downs turn = SpotAt list clips (settled_after turn settled) s a aired ups downs (stage_after turn)
+abbrev pub Leads : List Item → List (ClipId × Timecode) → ℕ → Bool → Cued → List Item → List Answer → List Phase
+    → Transition → Type 0
+Leads list clips settled s a aired ups downs turn =
+    SpotAt list clips (settled_after turn settled) s a aired ups downs (stage_after turn)
 
 -- the spot of a phase, with its pipe
 abbrev pub Here : List Item → ℕ → Bool → Cued → List Item → List Answer → List Phase → Phase → Type 0
-Here list settled s a aired ups downs q = Spot list settled s a aired ups downs q × IsPipe Confirming (length list) q (pipe_of ups downs)
+Here list settled s a aired ups downs q =
+    Spot list settled s a aired ups downs q × IsPipe Confirming (length list) q (pipe_of ups downs)
 
 -- ---- silence
 
-closes : (list : List Item) (settled : ℕ) (s : Bool) (a : Cued) (aired : List Item) (ups : List Answer) (downs : List Phase)
-    → Here list settled s a aired ups downs phase.Close → At list aired settled (length list) × (list_any plays downs ≡ false)
-closes list settled s a aired ups downs h = (h.0, no_plays Confirming (length list) (5 * length list + 1) (5 * length list + 3) ups downs
-    (quiet Confirming (length list) (length list) (5 * length list + 1) (5 * length list + 3) (omega arith) (omega arith)) h.1)
+closes : (list : List Item) (settled : ℕ) (s : Bool) (a : Cued) (aired : List Item) (ups : List Answer)
+    (downs : List Phase)
+    → Here list settled s a aired ups downs phase.Close
+    → At list aired settled (length list) × (list_any plays downs ≡ false)
+closes list settled s a aired ups downs h = (
+  h.0,
+  no_plays Confirming (length list) (5 * length list + 1) (5 * length list + 3) ups downs
+      (quiet Confirming (length list) (length list) (5 * length list + 1) (5 * length list + 3) (omega arith)
+      (omega arith)) h.1,
+)
 
-goes_on : (list : List Item) (clips : List (ClipId × Timecode)) (settled : ℕ) (s : Bool) (a : Cued) (aired : List Item) (ups : List Answer) (downs : List Phase)
-    (q : Phase) → Here list settled s a aired ups downs q → Leads list clips settled s a aired ups downs (on_no_answer Confirming q)
+goes_on : (list : List Item) (clips : List (ClipId × Timecode)) (settled : ℕ) (s : Bool) (a : Cued) (aired : List Item)
+    (ups : List Answer) (downs : List Phase)
+    (q : Phase) → Here list settled s a aired ups downs q
+    → Leads list clips settled s a aired ups downs (on_no_answer Confirming q)
 goes_on list clips settled s a aired ups downs phase.Open h = h
 goes_on list clips settled s a aired ups downs phase.Select h = h
 goes_on list clips settled s a aired ups downs phase.Seen h = h
@@ -63,12 +74,15 @@ goes_on list clips settled s a aired ups downs phase.Close h = closes list settl
 goes_on list clips settled s a aired ups downs phase.Halt h = h
 goes_on list clips settled s a aired ups downs phase.HaltClose h = h.0
 
-pub silent : (list : List Item) (clips : List (ClipId × Timecode)) (settled : ℕ) (s : Bool) (a : Cued) (aired : List Item) (ups : List Answer) (downs : List Phase)
+pub silent : (list : List Item) (clips : List (ClipId × Timecode)) (settled : ℕ) (s : Bool) (a : Cued)
+    (aired : List Item) (ups : List Answer) (downs : List Phase)
     (q : Phase) (limit unanswered : ℕ) (counts : Bool)
-    → Here list settled s a aired ups downs q → Leads list clips settled s a aired ups downs (on_unanswered Confirming limit unanswered counts q)
+    → Here list settled s a aired ups downs q
+    → Leads list clips settled s a aired ups downs (on_unanswered Confirming limit unanswered counts q)
 silent list clips settled s a aired ups downs q limit unanswered counts h = by (counts && nat_le limit (unanswered + 1))
   where
-    by : (b : Bool) → Leads list clips settled s a aired ups downs (if b then Ends outcome.Lost else on_no_answer Confirming q)
+    by : (b : Bool) → Leads list clips settled s a aired ups downs
+        (if b then Ends outcome.Lost else on_no_answer Confirming q)
     by true = secure_in list settled s a aired ups downs q h.0 h.1
     by false = goes_on list clips settled s a aired ups downs q h
 
@@ -78,20 +92,24 @@ seen_passed : (n : ℕ) (d : Phase) → Lies Confirming n 0 1 d → wanted d ≡
 seen_passed n phase.Seen l w = refl
 seen_passed n d l w = absurd (omega arith)
 
-exists_passed : (n k : ℕ) (d : Phase) → k < n → Lies Confirming n (5 * k + 1) (5 * k + 2) d → wanted d ≡ 3 → d ≡ phase.Exists k
+exists_passed : (n k : ℕ) (d : Phase) → k < n → Lies Confirming n (5 * k + 1) (5 * k + 2) d → wanted d ≡ 3
+    → d ≡ phase.Exists k
 exists_passed n k (phase.Exists j) below l w = let e : j ≡ k = omega arith in ap phase.Exists e
 exists_passed n k d below l w = absurd (omega arith)
 
-wait_passed : (n k : ℕ) (d : Phase) → k < n → Lies Confirming n (5 * k + 2) (5 * k + 4) d → wanted d ≡ 2 → d ≡ phase.Wait k
+wait_passed : (n k : ℕ) (d : Phase) → k < n → Lies Confirming n (5 * k + 2) (5 * k + 4) d → wanted d ≡ 2
+    → d ≡ phase.Wait k
 wait_passed n k (phase.Wait j) below l w = let e : j ≡ k = omega arith in ap phase.Wait e
 wait_passed n k d below l w = absurd (omega arith)
 
-probe_passed : (n k : ℕ) (d : Phase) → k < n → Lies Confirming n (5 * k + 4) (5 * k + 5) d → wanted d ≡ 2 → (d ≡ phase.Wait k) ⊎ (d ≡ phase.Probe k)
+probe_passed : (n k : ℕ) (d : Phase) → k < n → Lies Confirming n (5 * k + 4) (5 * k + 5) d → wanted d ≡ 2
+    → (d ≡ phase.Wait k) ⊎ (d ≡ phase.Probe k)
 probe_passed n k (phase.Wait j) below l w = let e : j ≡ k = omega arith in inl (ap phase.Wait e)
 probe_passed n k (phase.Probe j) below l w = let e : j ≡ k = omega arith in inr (ap phase.Probe e)
 probe_passed n k d below l w = absurd (omega arith)
 
-check_passed : (n k : ℕ) (d : Phase) → k < n → Lies Confirming n (5 * k + 5) (5 * k + 6) d → wanted d ≡ 4 → d ≡ phase.Check k
+check_passed : (n k : ℕ) (d : Phase) → k < n → Lies Confirming n (5 * k + 5) (5 * k + 6) d → wanted d ≡ 4
+    → d ≡ phase.Check k
 check_passed n k (phase.Check j) below l w = let e : j ≡ k = omega arith in ap phase.Check e
 check_passed n k d below l w = absurd (omega arith)
 
@@ -109,25 +127,34 @@ exists_no_done n k ups downs below fit c =
 -- ---- an answer
 
 -- to the next event, or to the end of the list
-next_spot : (list : List Item) (clips : List (ClipId × Timecode)) (settled : ℕ) (s : Bool) (a : Cued) (aired : List Item) (ups : List Answer) (downs : List Phase)
-    (k : ℕ) → Idle list settled a aired k → Climbs (5 * k + 1) (5 * k + 1) (stretches Confirming (length list) (pipe_of ups downs))
+next_spot : (list : List Item) (clips : List (ClipId × Timecode)) (settled : ℕ) (s : Bool) (a : Cued)
+    (aired : List Item) (ups : List Answer) (downs : List Phase)
+    (k : ℕ) → Idle list settled a aired k → Climbs (5 * k + 1) (5 * k + 1)
+    (stretches Confirming (length list) (pipe_of ups downs))
     → SpotAt list clips settled s a aired ups downs (Ready (next list k))
 next_spot list clips settled s a aired ups downs k h c = by (nat_lt k (length list)) refl
   where
-    by : (b : Bool) → nat_lt k (length list) ≡ b → SpotAt list clips settled s a aired ups downs (Ready (if b then phase.Exists k else phase.Drain))
+    by : (b : Bool) → nat_lt k (length list) ≡ b
+        → SpotAt list clips settled s a aired ups downs (Ready (if b then phase.Exists k else phase.Drain))
     by true e =
-        let below : k < length list = grind arith in
-        ((h, below), climbs_within (5 * k + 1) (5 * k + 1) (5 * k + 1) (5 * k + 2) (stretches Confirming (length list) (pipe_of ups downs)) (omega arith)
-        (omega arith) c)
+        let below : k < length list = grind arith in (
+          (h, below),
+          climbs_within (5 * k + 1) (5 * k + 1) (5 * k + 1) (5 * k + 2)
+              (stretches Confirming (length list) (pipe_of ups downs)) (omega arith)
+              (omega arith) c,
+        )
     by false e =
         let past : length list ≤ k = grind arith in
-        let all : k ≡ length list = omega (arith, past, h.0.within) in
-        (subst (λ (n : ℕ). At list aired settled n) all h.0,
-        climbs_within (5 * k + 1) (5 * k + 1) (5 * length list + 1) (5 * length list + 2) (stretches Confirming (length list) (pipe_of ups downs))
-        (omega (arith, all)) (omega (arith, all)) c)
+        let all : k ≡ length list = omega (arith, past, h.0.within) in (
+          subst (λ (n : ℕ). At list aired settled n) all h.0,
+          climbs_within (5 * k + 1) (5 * k + 1) (5 * length list + 1) (5 * length list + 2)
+              (stretches Confirming (length list) (pipe_of ups downs))
+              (omega (arith, all)) (omega (arith, all)) c,
+        )
 
 -- what is known where a reply is heard that the phase asks for: it is the oldest answer
-pub record Asked (list : List Item) (clips : List (ClipId × Timecode)) (x : Answer) (ups : List Answer) (q : Phase) : Type 0 where
+pub record Asked (list : List Item) (clips : List (ClipId × Timecode)) (x : Answer) (ups : List Answer)
+    (q : Phase) : Type 0 where
   pub no_receipt : is_receipt x.reply ≡ false
   pub asked : is_asked q x.reply ≡ true
   pub fit : list_any misfits (x ∷ ups) ≡ false
@@ -140,19 +167,25 @@ no_refusal : (r : Reply) → is_receipt r ≡ false → is_refusal r ≡ false
 no_refusal r e = grind arith
 
 -- the phases want the same kind of reply
-wants : (list : List Item) (clips : List (ClipId × Timecode)) (x : Answer) (ups : List Answer) (q : Phase) → Asked list clips x ups q → wanted x.to ≡ wanted q
+wants : (list : List Item) (clips : List (ClipId × Timecode)) (x : Answer) (ups : List Answer) (q : Phase)
+    → Asked list clips x ups q → wanted x.to ≡ wanted q
 wants list clips x ups q k =
     same_wanted q x.to x.reply (no_refusal x.reply k.no_receipt)
     (fitting (fits_phase x.to x.reply) (first_of (misfits x) (list_any misfits ups) k.fit)) k.asked
 
-from_open : (list : List Item) (clips : List (ClipId × Timecode)) (settled : ℕ) (s : Bool) (a : Cued) (aired : List Item) (ups : List Answer) (downs : List Phase)
+from_open : (list : List Item) (clips : List (ClipId × Timecode)) (settled : ℕ) (s : Bool) (a : Cued)
+    (aired : List Item) (ups : List Answer) (downs : List Phase)
     (granted : Bool) → Here list settled s a aired ups downs phase.Open
     → Leads list clips settled s a aired ups downs (if granted then Goes phase.Select else Ends outcome.Denied)
-from_open list clips settled s a aired ups downs true h =
-    (h.0, climbs_within 0 0 0 1 (stretches Confirming (length list) (pipe_of ups downs)) (omega arith) (omega arith) h.1)
+from_open list clips settled s a aired ups downs true h = (
+  h.0,
+  climbs_within 0 0 0 1 (stretches Confirming (length list) (pipe_of ups downs)) (omega arith)
+      (omega arith) h.1,
+)
 from_open list clips settled s a aired ups downs false h = secure_in list settled s a aired ups downs phase.Open h.0 h.1
 
-from_seen : (list : List Item) (clips : List (ClipId × Timecode)) (settled : ℕ) (s : Bool) (a : Cued) (aired : List Item) (x : Answer) (ups : List Answer)
+from_seen : (list : List Item) (clips : List (ClipId × Timecode)) (settled : ℕ) (s : Bool) (a : Cued)
+    (aired : List Item) (x : Answer) (ups : List Answer)
     (downs : List Phase) → Idle list settled a aired 0 → wanted x.to ≡ 2
     → Climbs 0 1 (stretches Confirming (length list) (pipe_of (x ∷ ups) downs))
     → SpotAt list clips settled s a aired (x ∷ ups) downs (Ready (next list 0))
@@ -160,8 +193,10 @@ from_seen list clips settled s a aired x ups downs h w c =
     next_spot list clips settled s a aired (x ∷ ups) downs 0 h
     (all_own Confirming (length list) 0 1 x ups downs (seen_passed (length list) x.to (c.0, c.1) w) c)
 
-from_exists : (list : List Item) (clips : List (ClipId × Timecode)) (settled : ℕ) (s : Bool) (a : Cued) (aired : List Item) (x : Answer) (ups : List Answer)
-    (downs : List Phase) (k : ℕ) → Asked list clips x ups (phase.Exists k) → Here list settled s a aired (x ∷ ups) downs (phase.Exists k)
+from_exists : (list : List Item) (clips : List (ClipId × Timecode)) (settled : ℕ) (s : Bool) (a : Cued)
+    (aired : List Item) (x : Answer) (ups : List Answer)
+    (downs : List Phase) (k : ℕ) → Asked list clips x ups (phase.Exists k)
+    → Here list settled s a aired (x ∷ ups) downs (phase.Exists k)
     → (b : Bool) → is_present x.reply ≡ b
     → Leads list clips settled s a aired (x ∷ ups) downs (if b then Goes (phase.Cue k) else Ends (outcome.Missing k))
 from_exists list clips settled s a aired x ups downs k g h b e = by b e
@@ -170,16 +205,20 @@ from_exists list clips settled s a aired x ups downs k g h b e = by b e
     is = exists_passed (length list) k x.to h.0.1 (h.1.0, h.1.1) (wants list clips x ups (phase.Exists k) g)
 
     own : Climbs (5 * k + 2) (5 * k + 2) (stretches Confirming (length list) (pipe_of (x ∷ ups) downs))
-    own = all_own Confirming (length list) (5 * k + 1) (5 * k + 2) x ups downs (ap (stretch Confirming (length list)) is) h.1
+    own = all_own Confirming (length list) (5 * k + 1) (5 * k + 2) x ups downs
+        (ap (stretch Confirming (length list)) is) h.1
 
     none : list_any says_done (x ∷ ups) ≡ false
     none = exists_no_done (length list) k (x ∷ ups) downs h.0.1 g.fit own
 
-    unknown : (p k : Bool) → (is_presence x.reply && differs p k) ≡ false → is_presence x.reply ≡ true → p ≡ false → k ≡ false
+    unknown : (p k : Bool) → (is_presence x.reply && differs p k) ≡ false → is_presence x.reply ≡ true → p ≡ false
+        → k ≡ false
     unknown true k m f e = cc
     unknown false k m f e = grind arith
 
-    by : (b : Bool) → is_present x.reply ≡ b → Leads list clips settled s a aired (x ∷ ups) downs (if b then Goes (phase.Cue k) else Ends (outcome.Missing k))
+    by : (b : Bool) → is_present x.reply ≡ b
+        → Leads list clips settled s a aired (x ∷ ups) downs (if b then Goes (phase.Cue k) else Ends
+        (outcome.Missing k))
     by true e = (
       record {
         at = h.0.0.0;
@@ -188,7 +227,8 @@ from_exists list clips settled s a aired x ups downs k g h b e = by b e
         shown = λ t. clash (list_any says_done (x ∷ ups)) t none;
         full = full_none (x ∷ ups) none;
       },
-      climbs_within (5 * k + 2) (5 * k + 2) (5 * k + 2) (5 * k + 4) (stretches Confirming (length list) (pipe_of (x ∷ ups) downs)) (omega arith) (omega arith) own,
+      climbs_within (5 * k + 2) (5 * k + 2) (5 * k + 2) (5 * k + 4)
+          (stretches Confirming (length list) (pipe_of (x ∷ ups) downs)) (omega arith) (omega arith) own,
     )
     by false e = (
       h.0.0.0,
@@ -196,7 +236,8 @@ from_exists list clips settled s a aired x ups downs k g h b e = by b e
           (quiet Confirming (length list) k (5 * k + 1) (5 * k + 2) (omega arith) (omega arith)) h.1,
       h.0.1,
       unknown (is_present x.reply) (knows clips (slice_get list k))
-          (subst (λ (p : Phase). misleads_at list clips p x.reply ≡ false) is (first_of (misleads list clips x) (list_any (misleads list clips) ups) g.true_told))
+          (subst (λ (p : Phase). misleads_at list clips p x.reply ≡ false) is
+          (first_of (misleads list clips x) (list_any (misleads list clips) ups) g.true_told))
           g.asked e,
     )
 
@@ -223,7 +264,8 @@ done_not_empty (reply.Size length) e = refl
 none_shows : (ups : List Answer) → list_any says_empty ups ≡ false → list_any shows_no_cue ups ≡ false
 none_shows [] e = refl
 none_shows (x ∷ ups) e =
-    neither (shows_no_cue x) (list_any shows_no_cue ups) (second (waits x.to) (is_empty x.reply) (first_of (says_empty x) (list_any says_empty ups) e))
+    neither (shows_no_cue x) (list_any shows_no_cue ups) (second (waits x.to) (is_empty x.reply)
+    (first_of (says_empty x) (list_any says_empty ups) e))
     (none_shows ups (rest (says_empty x) (list_any says_empty ups) e))
   where
     second : (b c : Bool) → c ≡ false → (b && c) ≡ false
@@ -232,26 +274,32 @@ none_shows (x ∷ ups) e =
     rest : (b c : Bool) → (b || c) ≡ false → c ≡ false
     rest b c e = grind arith
 
-lost_cue : (list : List Item) (clips : List (ClipId × Timecode)) (settled : ℕ) (s : Bool) (a : Cued) (aired : List Item) (ups : List Answer) (downs : List Phase)
+lost_cue : (list : List Item) (clips : List (ClipId × Timecode)) (settled : ℕ) (s : Bool) (a : Cued) (aired : List Item)
+    (ups : List Answer) (downs : List Phase)
     (k : ℕ) (again : Bool) → Here list settled s a aired ups downs (phase.Wait k)
     → Leads list clips settled s a aired ups downs (if again then Retries k else Ends (outcome.Refused k))
 lost_cue list clips settled s a aired ups downs k true h = h
-lost_cue list clips settled s a aired ups downs k false h = secure_in list settled s a aired ups downs (phase.Wait k) h.0 h.1
+lost_cue list clips settled s a aired ups downs k false h =
+    secure_in list settled s a aired ups downs (phase.Wait k) h.0 h.1
 
-from_wait : (list : List Item) (clips : List (ClipId × Timecode)) (settled : ℕ) (s : Bool) (a : Cued) (aired : List Item) (x : Answer) (ups : List Answer)
-    (downs : List Phase) (k limit tries : ℕ) (wish : Bool) → Asked list clips x ups (phase.Wait k) → Here list settled s a aired (x ∷ ups) downs (phase.Wait k)
-    → Leads list clips settled s a aired (x ∷ ups) downs (on_reply Confirming list limit wish tries (phase.Wait k) x.reply)
-from_wait list clips settled s a aired x ups downs k limit tries wish g h = by (is_done x.reply) (not (is_playing x.reply) || wish) (is_empty x.reply) refl
+from_wait : (list : List Item) (clips : List (ClipId × Timecode)) (settled : ℕ) (s : Bool) (a : Cued)
+    (aired : List Item) (x : Answer) (ups : List Answer)
+    (downs : List Phase) (k limit tries : ℕ) (wish : Bool) → Asked list clips x ups (phase.Wait k)
+    → Here list settled s a aired (x ∷ ups) downs (phase.Wait k)
+    → Leads list clips settled s a aired (x ∷ ups) downs (on_reply Confirming list limit wish tries
+    (phase.Wait k) x.reply)
+from_wait list clips settled s a aired x ups downs k limit tries wish g h =
+    by (is_done x.reply) (not (is_playing x.reply) || wish) (is_empty x.reply) refl
   where
     own : Climbs (5 * k + 4) (5 * k + 4) (stretches Confirming (length list) (pipe_of (x ∷ ups) downs))
     own = all_own Confirming (length list) (5 * k + 2) (5 * k + 4) x ups downs
-        (ap (stretch Confirming (length list)) (wait_passed (length list) k x.to h.0.within (h.1.0, h.1.1) (wants list clips x ups (phase.Wait k) g))) h.1
+        (ap (stretch Confirming (length list)) (wait_passed (length list) k x.to h.0.within (h.1.0, h.1.1)
+        (wants list clips x ups (phase.Wait k) g))) h.1
 
     playing : is_done x.reply ≡ true → Leads list clips settled s a aired (x ∷ ups) downs (Goes (phase.Play k))
     playing e =
         let none : list_any says_empty (x ∷ ups) ≡ false =
-        neither (says_empty x) (list_any says_empty ups) (done_not_empty x.reply e) (h.0.full.0 e) in
-        (
+        neither (says_empty x) (list_any says_empty ups) (done_not_empty x.reply e) (h.0.full.0 e) in (
           record {
             settled_is = h.0.at.settled_is;
             within = h.0.within;
@@ -263,23 +311,28 @@ from_wait list clips settled s a aired x ups downs k limit tries wish g h = by (
               no_empty = none;
             });
           },
-          climbs_within (5 * k + 4) (5 * k + 4) (5 * k + 4) (5 * k + 5) (stretches Confirming (length list) (pipe_of (x ∷ ups) downs)) (omega arith) (omega arith)
-          own,
+          climbs_within (5 * k + 4) (5 * k + 4) (5 * k + 4) (5 * k + 5)
+              (stretches Confirming (length list) (pipe_of (x ∷ ups) downs)) (omega arith) (omega arith)
+              own,
         )
 
     by : (done may none : Bool) → is_done x.reply ≡ done
         → Leads list clips settled s a aired (x ∷ ups) downs
-        (if done && may then Goes (phase.Play k) else (if none then on_lost_cue Confirming limit tries k else Goes (phase.Wait k)))
+        (if done && may then Goes (phase.Play k) else (if none then on_lost_cue Confirming limit tries k else Goes
+        (phase.Wait k)))
     by true true none e = playing e
     by true false true e = lost_cue list clips settled s a aired (x ∷ ups) downs k (nat_lt (tries + 1) limit) h
     by true false false e = h
     by false may true e = lost_cue list clips settled s a aired (x ∷ ups) downs k (nat_lt (tries + 1) limit) h
     by false may false e = h
 
-from_probe : (list : List Item) (clips : List (ClipId × Timecode)) (settled : ℕ) (s : Bool) (a : Cued) (aired : List Item) (x : Answer) (ups : List Answer)
-    (downs : List Phase) (k : ℕ) → Asked list clips x ups (phase.Probe k) → Here list settled s a aired (x ∷ ups) downs (phase.Probe k)
+from_probe : (list : List Item) (clips : List (ClipId × Timecode)) (settled : ℕ) (s : Bool) (a : Cued)
+    (aired : List Item) (x : Answer) (ups : List Answer)
+    (downs : List Phase) (k : ℕ) → Asked list clips x ups (phase.Probe k)
+    → Here list settled s a aired (x ∷ ups) downs (phase.Probe k)
     → (done none : Bool) → is_empty x.reply ≡ none
-    → Leads list clips settled s a aired (x ∷ ups) downs (if done then Goes (phase.Play k) else (if none then Settles k else Goes (phase.Probe k)))
+    → Leads list clips settled s a aired (x ∷ ups) downs (if done then Goes (phase.Play k) else
+    (if none then Settles k else Goes (phase.Probe k)))
 from_probe list clips settled s a aired x ups downs k g h true none e = h
 from_probe list clips settled s a aired x ups downs k g h false false e = h
 from_probe list clips settled s a aired x ups downs k g h false true e = by h.0.stands which
@@ -290,36 +343,53 @@ from_probe list clips settled s a aired x ups downs k g h false true e = by h.0.
     shows : (q : Phase) → q ≡ phase.Wait k → (waits q && is_empty x.reply) ≡ true
     shows q is = ap (λ (p : Phase). waits p && is_empty x.reply) is ∙ e
 
-    by : ToSound list s a aired (x ∷ ups) k ⊎ Sounded list a aired downs k → (x.to ≡ phase.Wait k) ⊎ (x.to ≡ phase.Probe k)
+    by : ToSound list s a aired (x ∷ ups) k ⊎ Sounded list a aired downs k
+        → (x.to ≡ phase.Wait k) ⊎ (x.to ≡ phase.Probe k)
         → Leads list clips settled s a aired (x ∷ ups) downs (Settles k)
     by (inl q) w = clash (is_empty x.reply) e (first_of (is_empty x.reply) (list_any says_empty ups) q.no_empty)
-    by (inr q) (inl is) = clash (shows_no_cue x) (shows x.to is) (first_of (shows_no_cue x) (list_any shows_no_cue ups) h.0.never_none)
+    by (inr q) (inl is) =
+        clash (shows_no_cue x) (shows x.to is) (first_of (shows_no_cue x) (list_any shows_no_cue ups) h.0.never_none)
     by (inr q) (inr is) = (
-      ((record { aired_is = q.aired_is; within = omega (arith, h.0.within); settled_is = refl }, q.is_empty), h.0.within),
-      climbs_within (5 * k + 5) (5 * k + 5) (5 * k + 5) (5 * k + 6) (stretches Confirming (length list) (pipe_of (x ∷ ups) downs)) (omega arith) (omega arith)
-          (all_own Confirming (length list) (5 * k + 4) (5 * k + 5) x ups downs (ap (stretch Confirming (length list)) is) h.1),
+      (
+        (record { aired_is = q.aired_is; within = omega (arith, h.0.within); settled_is = refl }, q.is_empty),
+        h.0.within,
+      ),
+      climbs_within (5 * k + 5) (5 * k + 5) (5 * k + 5) (5 * k + 6)
+          (stretches Confirming (length list) (pipe_of (x ∷ ups) downs)) (omega arith) (omega arith)
+          (all_own Confirming (length list) (5 * k + 4) (5 * k + 5) x ups downs
+          (ap (stretch Confirming (length list)) is) h.1),
     )
 
-from_check : (list : List Item) (clips : List (ClipId × Timecode)) (settled : ℕ) (s : Bool) (a : Cued) (aired : List Item) (x : Answer) (ups : List Answer)
-    (downs : List Phase) (k : ℕ) (other : Bool) → Asked list clips x ups (phase.Check k) → Here list settled s a aired (x ∷ ups) downs (phase.Check k)
-    → Leads list clips settled s a aired (x ∷ ups) downs (if other then Ends (outcome.Foreign k) else Goes (next list (k + 1)))
-from_check list clips settled s a aired x ups downs k true g h = secure_in list settled s a aired (x ∷ ups) downs (phase.Check k) h.0 h.1
+from_check : (list : List Item) (clips : List (ClipId × Timecode)) (settled : ℕ) (s : Bool) (a : Cued)
+    (aired : List Item) (x : Answer) (ups : List Answer)
+    (downs : List Phase) (k : ℕ) (other : Bool) → Asked list clips x ups (phase.Check k)
+    → Here list settled s a aired (x ∷ ups) downs (phase.Check k)
+    → Leads list clips settled s a aired (x ∷ ups) downs (if other then Ends (outcome.Foreign k) else Goes
+    (next list (k + 1)))
+from_check list clips settled s a aired x ups downs k true g h =
+    secure_in list settled s a aired (x ∷ ups) downs (phase.Check k) h.0 h.1
 from_check list clips settled s a aired x ups downs k false g h =
     next_spot list clips settled s a aired (x ∷ ups) downs (k + 1) h.0.0
-    (climbs_within (5 * k + 6) (5 * k + 6) (5 * (k + 1) + 1) (5 * (k + 1) + 1) (stretches Confirming (length list) (pipe_of (x ∷ ups) downs))
+    (climbs_within (5 * k + 6) (5 * k + 6) (5 * (k + 1) + 1) (5 * (k + 1) + 1)
+    (stretches Confirming (length list) (pipe_of (x ∷ ups) downs))
     (omega arith) (omega arith)
     (all_own Confirming (length list) (5 * k + 5) (5 * k + 6) x ups downs
-    (ap (stretch Confirming (length list)) (check_passed (length list) k x.to h.0.1 (h.1.0, h.1.1) (wants list clips x ups (phase.Check k) g))) h.1))
+    (ap (stretch Confirming (length list)) (check_passed (length list) k x.to h.0.1 (h.1.0, h.1.1)
+    (wants list clips x ups (phase.Check k) g))) h.1))
 
-from_drain : (list : List Item) (clips : List (ClipId × Timecode)) (settled : ℕ) (s : Bool) (a : Cued) (aired : List Item) (ups : List Answer) (downs : List Phase)
+from_drain : (list : List Item) (clips : List (ClipId × Timecode)) (settled : ℕ) (s : Bool) (a : Cued)
+    (aired : List Item) (ups : List Answer) (downs : List Phase)
     (strange playing : Bool) → Here list settled s a aired ups downs phase.Drain
     → Leads list clips settled s a aired ups downs
     (if strange then Ends (outcome.Strange (length list)) else (if playing then Goes phase.Drain else Goes phase.Close))
-from_drain list clips settled s a aired ups downs true playing h = secure_in list settled s a aired ups downs phase.Drain h.0 h.1
+from_drain list clips settled s a aired ups downs true playing h =
+    secure_in list settled s a aired ups downs phase.Drain h.0 h.1
 from_drain list clips settled s a aired ups downs false true h = h
-from_drain list clips settled s a aired ups downs false false h =
-    (h.0, climbs_within (5 * length list + 1) (5 * length list + 2) (5 * length list + 1) (5 * length list + 3)
-    (stretches Confirming (length list) (pipe_of ups downs)) (omega arith) (omega arith) h.1)
+from_drain list clips settled s a aired ups downs false false h = (
+  h.0,
+  climbs_within (5 * length list + 1) (5 * length list + 2) (5 * length list + 1) (5 * length list + 3)
+      (stretches Confirming (length list) (pipe_of ups downs)) (omega arith) (omega arith) h.1,
+)
 
 -- a receipt is no such reply
 ack_receipt : {A : Type 0} → (r : Reply) → is_ack r ≡ true → is_receipt r ≡ false → A
@@ -328,24 +398,35 @@ ack_receipt r e f = clash (is_receipt r) (by r e) f
     by : (r : Reply) → is_ack r ≡ true → is_receipt r ≡ true
     by r e = grind arith
 
-pub replied : (list : List Item) (clips : List (ClipId × Timecode)) (settled : ℕ) (s : Bool) (a : Cued) (aired : List Item) (x : Answer) (ups : List Answer)
-    (downs : List Phase) (limit tries : ℕ) (wish : Bool) (q : Phase) → Asked list clips x ups q → Here list settled s a aired (x ∷ ups) downs q
+pub replied : (list : List Item) (clips : List (ClipId × Timecode)) (settled : ℕ) (s : Bool) (a : Cued)
+    (aired : List Item) (x : Answer) (ups : List Answer)
+    (downs : List Phase) (limit tries : ℕ) (wish : Bool) (q : Phase) → Asked list clips x ups q
+    → Here list settled s a aired (x ∷ ups) downs q
     → Leads list clips settled s a aired (x ∷ ups) downs (on_reply Confirming list limit wish tries q x.reply)
-replied list clips settled s a aired x ups downs limit tries wish phase.Open g h = from_open list clips settled s a aired (x ∷ ups) downs (is_granted x.reply) h
-replied list clips settled s a aired x ups downs limit tries wish phase.Select g h = ack_receipt x.reply g.asked g.no_receipt
+replied list clips settled s a aired x ups downs limit tries wish phase.Open g h =
+    from_open list clips settled s a aired (x ∷ ups) downs (is_granted x.reply) h
+replied list clips settled s a aired x ups downs limit tries wish phase.Select g h =
+    ack_receipt x.reply g.asked g.no_receipt
 replied list clips settled s a aired x ups downs limit tries wish phase.Seen g h =
     from_seen list clips settled s a aired x ups downs h.0 (wants list clips x ups phase.Seen g) h.1
 replied list clips settled s a aired x ups downs limit tries wish (phase.Exists k) g h =
     from_exists list clips settled s a aired x ups downs k g h (is_present x.reply) refl
-replied list clips settled s a aired x ups downs limit tries wish (phase.Cue k) g h = ack_receipt x.reply g.asked g.no_receipt
-replied list clips settled s a aired x ups downs limit tries wish (phase.Wait k) g h = from_wait list clips settled s a aired x ups downs k limit tries wish g h
-replied list clips settled s a aired x ups downs limit tries wish (phase.Play k) g h = ack_receipt x.reply g.asked g.no_receipt
+replied list clips settled s a aired x ups downs limit tries wish (phase.Cue k) g h =
+    ack_receipt x.reply g.asked g.no_receipt
+replied list clips settled s a aired x ups downs limit tries wish (phase.Wait k) g h =
+    from_wait list clips settled s a aired x ups downs k limit tries wish g h
+replied list clips settled s a aired x ups downs limit tries wish (phase.Play k) g h =
+    ack_receipt x.reply g.asked g.no_receipt
 replied list clips settled s a aired x ups downs limit tries wish (phase.Probe k) g h =
     from_probe list clips settled s a aired x ups downs k g h (is_done x.reply) (is_empty x.reply) refl
 replied list clips settled s a aired x ups downs limit tries wish (phase.Check k) g h =
     from_check list clips settled s a aired x ups downs k (names_other (slice_get list k) x.reply) g h
 replied list clips settled s a aired x ups downs limit tries wish phase.Drain g h =
-    from_drain list clips settled s a aired (x ∷ ups) downs (is_cueing x.reply || is_done x.reply) (is_playing x.reply) h
-replied list clips settled s a aired x ups downs limit tries wish phase.Close g h = ack_receipt x.reply g.asked g.no_receipt
-replied list clips settled s a aired x ups downs limit tries wish phase.Halt g h = ack_receipt x.reply g.asked g.no_receipt
-replied list clips settled s a aired x ups downs limit tries wish phase.HaltClose g h = ack_receipt x.reply g.asked g.no_receipt
+    from_drain list clips settled s a aired (x ∷ ups) downs (is_cueing x.reply || is_done x.reply)
+    (is_playing x.reply) h
+replied list clips settled s a aired x ups downs limit tries wish phase.Close g h =
+    ack_receipt x.reply g.asked g.no_receipt
+replied list clips settled s a aired x ups downs limit tries wish phase.Halt g h =
+    ack_receipt x.reply g.asked g.no_receipt
+replied list clips settled s a aired x ups downs limit tries wish phase.HaltClose g h =
+    ack_receipt x.reply g.asked g.no_receipt

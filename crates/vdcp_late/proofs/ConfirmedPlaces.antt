@@ -45,7 +45,8 @@ Owns list a k = (a ≡ empty) ⊎ (cued_item a ≡ slice_get list k)
 
 -- ---- the phases
 
-pub record Trying (list : List Item) (settled : ℕ) (s : Bool) (a : Cued) (aired : List Item) (ups : List Answer) (k : ℕ) : Type 0 where
+pub record Trying (list : List Item) (settled : ℕ) (s : Bool) (a : Cued) (aired : List Item) (ups : List Answer)
+    (k : ℕ) : Type 0 where
   pub at : At list aired settled k
   pub within : k < length list
   pub owns : Owns list a k
@@ -53,7 +54,8 @@ pub record Trying (list : List Item) (settled : ℕ) (s : Bool) (a : Cued) (aire
   pub full : FullAfterDone ups
 
 -- the event isn't aired yet, and no state on the way up says that it was
-pub record ToSound (list : List Item) (s : Bool) (a : Cued) (aired : List Item) (ups : List Answer) (k : ℕ) : Type 0 where
+pub record ToSound (list : List Item) (s : Bool) (a : Cued) (aired : List Item) (ups : List Answer)
+    (k : ℕ) : Type 0 where
   pub aired_is : aired ≡ take k list
   pub owns : Owns list a k
   pub has_item : HasItem list s a k
@@ -65,7 +67,8 @@ pub record Sounded (list : List Item) (a : Cued) (aired : List Item) (downs : Li
   pub is_empty : a ≡ empty
   pub none_tries : list_any tries downs ≡ false
 
-pub record Sounding (list : List Item) (settled : ℕ) (s : Bool) (a : Cued) (aired : List Item) (ups : List Answer) (downs : List Phase) (k : ℕ) : Type 0 where
+pub record Sounding (list : List Item) (settled : ℕ) (s : Bool) (a : Cued) (aired : List Item) (ups : List Answer)
+    (downs : List Phase) (k : ℕ) : Type 0 where
   pub settled_is : settled ≡ k
   pub within : k < length list
   pub never_none : list_any shows_no_cue ups ≡ false
@@ -122,7 +125,8 @@ or_first b c e = grind arith
 or_second : (b c : Bool) → c ≡ true → (b || c) ≡ true
 or_second b c e = grind arith
 
-pub full_pushed : (ups : List Answer) (x : Answer) → (list_any says_done ups ≡ true → says_empty x ≡ false) → FullAfterDone ups
+pub full_pushed : (ups : List Answer) (x : Answer) → (list_any says_done ups ≡ true → says_empty x ≡ false)
+    → FullAfterDone ups
     → FullAfterDone (ups ++ x ∷ [])
 full_pushed [] x f h = (λ _. refl, tt)
 full_pushed (y ∷ ups) x f h = (
@@ -159,7 +163,8 @@ pub none_sent : (test : Phase → Bool) (downs : List Phase) (q : Phase) → lis
     → list_any test (downs ++ q ∷ []) ≡ false
 none_sent test downs q e f = any_push test downs q ∙ neither (list_any test downs) (test q) e f
 
-pub last_sent : (s : ℕ) (downs : List Phase) (q : Phase) → cues q ≡ false → cues_other s q ≡ false → LastOf s downs → LastOf s (downs ++ q ∷ [])
+pub last_sent : (s : ℕ) (downs : List Phase) (q : Phase) → cues q ≡ false → cues_other s q ≡ false → LastOf s downs
+    → LastOf s (downs ++ q ∷ [])
 last_sent s [] q e o h = (o, λ _. refl, tt)
 last_sent s (d ∷ downs) q e o h = (h.0, λ p. none_sent cues downs q (h.1 p) e, last_sent s downs q e o h.2)
 
@@ -171,7 +176,8 @@ last_copied s d downs h = (h.0, λ e. neither (cues d) (list_any cues downs) (pl
 
 -- ---- the port by itself
 
-pub owns_ages : (list : List Item) (s : Bool) (a : Cued) (t : Bool) (b : Cued) (k : ℕ) → Ages s a t b → Owns list a k → Owns list b k
+pub owns_ages : (list : List Item) (s : Bool) (a : Cued) (t : Bool) (b : Cued) (k : ℕ) → Ages s a t b → Owns list a k
+    → Owns list b k
 owns_ages list s a t b k g h = by g.nothing_else h
   where
     by : (b ≡ empty) ⊎ (cued_item b ≡ cued_item a) → (a ≡ empty) ⊎ (cued_item a ≡ slice_get list k) → Owns list b k
@@ -179,7 +185,8 @@ owns_ages list s a t b k g h = by g.nothing_else h
     by (inr same) (inl none) = inl (g.still_empty none)
     by (inr same) (inr is) = inr (same ∙ is)
 
-trying_ages : (list : List Item) (settled : ℕ) (s : Bool) (a : Cued) (t : Bool) (b : Cued) (aired : List Item) (ups : List Answer) (k : ℕ) → Ages s a t b
+trying_ages : (list : List Item) (settled : ℕ) (s : Bool) (a : Cued) (t : Bool) (b : Cued) (aired : List Item)
+    (ups : List Answer) (k : ℕ) → Ages s a t b
     → Trying list settled s a aired ups k → Trying list settled t b aired ups k
 trying_ages list settled s a t b aired ups k g h = record {
   at = h.at;
@@ -189,7 +196,8 @@ trying_ages list settled s a t b aired ups k g h = record {
   full = h.full;
 }
 
-sounding_ages : (list : List Item) (settled : ℕ) (s : Bool) (a : Cued) (t : Bool) (b : Cued) (aired : List Item) (ups : List Answer) (downs : List Phase) (k : ℕ)
+sounding_ages : (list : List Item) (settled : ℕ) (s : Bool) (a : Cued) (t : Bool) (b : Cued) (aired : List Item)
+    (ups : List Answer) (downs : List Phase) (k : ℕ)
     → Ages s a t b → Sounding list settled s a aired ups downs k → Sounding list settled t b aired ups downs k
 sounding_ages list settled s a t b aired ups downs k g h = record {
   settled_is = h.settled_is;
@@ -198,7 +206,8 @@ sounding_ages list settled s a t b aired ups downs k g h = record {
   stands = by h.stands;
 }
   where
-    by : ToSound list s a aired ups k ⊎ Sounded list a aired downs k → ToSound list t b aired ups k ⊎ Sounded list b aired downs k
+    by : ToSound list s a aired ups k ⊎ Sounded list a aired downs k
+        → ToSound list t b aired ups k ⊎ Sounded list b aired downs k
     by (inl q) = inl (record {
       aired_is = q.aired_is;
       owns = owns_ages list s a t b k g q.owns;
@@ -207,7 +216,8 @@ sounding_ages list settled s a t b aired ups downs k g h = record {
     })
     by (inr q) = inr (record { aired_is = q.aired_is; is_empty = g.still_empty q.is_empty; none_tries = q.none_tries })
 
-pub secure_ages : (list : List Item) (settled : ℕ) (s : Bool) (a : Cued) (t : Bool) (b : Cued) (aired : List Item) (downs : List Phase)
+pub secure_ages : (list : List Item) (settled : ℕ) (s : Bool) (a : Cued) (t : Bool) (b : Cued) (aired : List Item)
+    (downs : List Phase)
     → Ages s a t b → Secure list settled a aired downs → Secure list settled b aired downs
 secure_ages list settled s a t b aired downs g h = record { near = h.near; calm = by h.calm }
   where
@@ -216,9 +226,15 @@ secure_ages list settled s a t b aired downs g h = record { near = h.near; calm 
     by (inl e) = inl e
     by (inr (inl q)) = inr (inl (record { is_empty = g.still_empty q.is_empty; none_cues = q.none_cues }))
     by (inr (inr q)) =
-        inr (inr (record { aired_is = q.aired_is; within = q.within; owns = owns_ages list s a t b settled g q.owns; last = q.last }))
+        inr (inr (record {
+          aired_is = q.aired_is;
+          within = q.within;
+          owns = owns_ages list s a t b settled g q.owns;
+          last = q.last;
+        }))
 
-pub spot_ages : (list : List Item) (settled : ℕ) (s : Bool) (a : Cued) (t : Bool) (b : Cued) (aired : List Item) (ups : List Answer) (downs : List Phase)
+pub spot_ages : (list : List Item) (settled : ℕ) (s : Bool) (a : Cued) (t : Bool) (b : Cued) (aired : List Item)
+    (ups : List Answer) (downs : List Phase)
     (q : Phase) → Ages s a t b → Spot list settled s a aired ups downs q → Spot list settled t b aired ups downs q
 spot_ages list settled s a t b aired ups downs phase.Open g h = (h.0, g.still_empty h.1)
 spot_ages list settled s a t b aired ups downs phase.Select g h = (h.0, g.still_empty h.1)
@@ -226,8 +242,10 @@ spot_ages list settled s a t b aired ups downs phase.Seen g h = (h.0, g.still_em
 spot_ages list settled s a t b aired ups downs (phase.Exists k) g h = ((h.0.0, g.still_empty h.0.1), h.1)
 spot_ages list settled s a t b aired ups downs (phase.Cue k) g h = trying_ages list settled s a t b aired ups k g h
 spot_ages list settled s a t b aired ups downs (phase.Wait k) g h = trying_ages list settled s a t b aired ups k g h
-spot_ages list settled s a t b aired ups downs (phase.Play k) g h = sounding_ages list settled s a t b aired ups downs k g h
-spot_ages list settled s a t b aired ups downs (phase.Probe k) g h = sounding_ages list settled s a t b aired ups downs k g h
+spot_ages list settled s a t b aired ups downs (phase.Play k) g h =
+    sounding_ages list settled s a t b aired ups downs k g h
+spot_ages list settled s a t b aired ups downs (phase.Probe k) g h =
+    sounding_ages list settled s a t b aired ups downs k g h
 spot_ages list settled s a t b aired ups downs (phase.Check k) g h = ((h.0.0, g.still_empty h.0.1), h.1)
 spot_ages list settled s a t b aired ups downs phase.Drain g h = h
 spot_ages list settled s a t b aired ups downs phase.Close g h = h
@@ -236,8 +254,10 @@ spot_ages list settled s a t b aired ups downs phase.HaltClose g h = secure_ages
 
 -- ---- something is left out
 
-sounding_thins : (list : List Item) (settled : ℕ) (s : Bool) (a : Cued) (aired : List Item) (ups others : List Answer) (downs left : List Phase) (k : ℕ)
-    → Thins ups others → Thins downs left → Sounding list settled s a aired ups downs k → Sounding list settled s a aired others left k
+sounding_thins : (list : List Item) (settled : ℕ) (s : Bool) (a : Cued) (aired : List Item) (ups others : List Answer)
+    (downs left : List Phase) (k : ℕ)
+    → Thins ups others → Thins downs left → Sounding list settled s a aired ups downs k
+    → Sounding list settled s a aired others left k
 sounding_thins list settled s a aired ups others downs left k u d h = record {
   settled_is = h.settled_is;
   within = h.within;
@@ -245,16 +265,23 @@ sounding_thins list settled s a aired ups others downs left k u d h = record {
   stands = by h.stands;
 }
   where
-    by : ToSound list s a aired ups k ⊎ Sounded list a aired downs k → ToSound list s a aired others k ⊎ Sounded list a aired left k
+    by : ToSound list s a aired ups k ⊎ Sounded list a aired downs k
+        → ToSound list s a aired others k ⊎ Sounded list a aired left k
     by (inl q) = inl (record {
       aired_is = q.aired_is;
       owns = q.owns;
       has_item = q.has_item;
       no_empty = none_thins says_empty ups others u q.no_empty;
     })
-    by (inr q) = inr (record { aired_is = q.aired_is; is_empty = q.is_empty; none_tries = none_thins tries downs left d q.none_tries })
+    by (inr q) = inr (record {
+      aired_is = q.aired_is;
+      is_empty = q.is_empty;
+      none_tries = none_thins tries downs left d
+          q.none_tries;
+    })
 
-trying_thins : (list : List Item) (settled : ℕ) (s : Bool) (a : Cued) (aired : List Item) (ups others : List Answer) (k : ℕ) → Thins ups others
+trying_thins : (list : List Item) (settled : ℕ) (s : Bool) (a : Cued) (aired : List Item) (ups others : List Answer)
+    (k : ℕ) → Thins ups others
     → Trying list settled s a aired ups k → Trying list settled s a aired others k
 trying_thins list settled s a aired ups others k u h = record {
   at = h.at;
@@ -264,42 +291,60 @@ trying_thins list settled s a aired ups others k u h = record {
   full = full_thins ups others u h.full;
 }
 
-pub secure_thins : (list : List Item) (settled : ℕ) (a : Cued) (aired : List Item) (downs left : List Phase) → Thins downs left
+pub secure_thins : (list : List Item) (settled : ℕ) (a : Cued) (aired : List Item) (downs left : List Phase)
+    → Thins downs left
     → Secure list settled a aired downs → Secure list settled a aired left
 secure_thins list settled a aired downs left d h = record { near = h.near; calm = by h.calm }
   where
     by : (list_any plays downs ≡ false) ⊎ Spent a downs ⊎ Last list settled a aired downs
         → (list_any plays left ≡ false) ⊎ Spent a left ⊎ Last list settled a aired left
     by (inl e) = inl (none_thins plays downs left d e)
-    by (inr (inl q)) = inr (inl (record { is_empty = q.is_empty; none_cues = none_thins cues downs left d q.none_cues }))
+    by (inr (inl q)) =
+        inr (inl (record { is_empty = q.is_empty; none_cues = none_thins cues downs left d q.none_cues }))
     by (inr (inr q)) =
-        inr (inr (record { aired_is = q.aired_is; within = q.within; owns = q.owns; last = last_thins settled downs left d q.last }))
+        inr (inr (record {
+          aired_is = q.aired_is;
+          within = q.within;
+          owns = q.owns;
+          last = last_thins settled downs left
+              d q.last;
+        }))
 
-pub spot_thins : (list : List Item) (settled : ℕ) (s : Bool) (a : Cued) (aired : List Item) (ups others : List Answer) (downs left : List Phase) (q : Phase)
-    → Thins ups others → Thins downs left → Spot list settled s a aired ups downs q → Spot list settled s a aired others left q
+pub spot_thins : (list : List Item) (settled : ℕ) (s : Bool) (a : Cued) (aired : List Item) (ups others : List Answer)
+    (downs left : List Phase) (q : Phase)
+    → Thins ups others → Thins downs left → Spot list settled s a aired ups downs q
+    → Spot list settled s a aired others left q
 spot_thins list settled s a aired ups others downs left phase.Open u d h = h
 spot_thins list settled s a aired ups others downs left phase.Select u d h = h
 spot_thins list settled s a aired ups others downs left phase.Seen u d h = h
 spot_thins list settled s a aired ups others downs left (phase.Exists k) u d h = h
-spot_thins list settled s a aired ups others downs left (phase.Cue k) u d h = trying_thins list settled s a aired ups others k u h
-spot_thins list settled s a aired ups others downs left (phase.Wait k) u d h = trying_thins list settled s a aired ups others k u h
-spot_thins list settled s a aired ups others downs left (phase.Play k) u d h = sounding_thins list settled s a aired ups others downs left k u d h
-spot_thins list settled s a aired ups others downs left (phase.Probe k) u d h = sounding_thins list settled s a aired ups others downs left k u d h
+spot_thins list settled s a aired ups others downs left (phase.Cue k) u d h =
+    trying_thins list settled s a aired ups others k u h
+spot_thins list settled s a aired ups others downs left (phase.Wait k) u d h =
+    trying_thins list settled s a aired ups others k u h
+spot_thins list settled s a aired ups others downs left (phase.Play k) u d h =
+    sounding_thins list settled s a aired ups others downs left k u d h
+spot_thins list settled s a aired ups others downs left (phase.Probe k) u d h =
+    sounding_thins list settled s a aired ups others downs left k u d h
 spot_thins list settled s a aired ups others downs left (phase.Check k) u d h = h
 spot_thins list settled s a aired ups others downs left phase.Drain u d h = h
 spot_thins list settled s a aired ups others downs left phase.Close u d h = h
-spot_thins list settled s a aired ups others downs left phase.Halt u d h = secure_thins list settled a aired downs left d h
-spot_thins list settled s a aired ups others downs left phase.HaltClose u d h = secure_thins list settled a aired downs left d h
+spot_thins list settled s a aired ups others downs left phase.Halt u d h =
+    secure_thins list settled a aired downs left d h
+spot_thins list settled s a aired ups others downs left phase.HaltClose u d h =
+    secure_thins list settled a aired downs left d h
 
 -- ---- the oldest command is copied in its place
 
-pub none_copied : (test : Phase → Bool) (d : Phase) (downs : List Phase) → list_any test (d ∷ downs) ≡ false → list_any test (d ∷ d ∷ downs) ≡ false
+pub none_copied : (test : Phase → Bool) (d : Phase) (downs : List Phase) → list_any test (d ∷ downs) ≡ false
+    → list_any test (d ∷ d ∷ downs) ≡ false
 none_copied test d downs e = by (test d) (list_any test downs) e
   where
     by : (x y : Bool) → (x || y) ≡ false → (x || (x || y)) ≡ false
     by x y e = grind arith
 
-sounding_copied : (list : List Item) (settled : ℕ) (s : Bool) (a : Cued) (aired : List Item) (ups : List Answer) (d : Phase) (downs : List Phase) (k : ℕ)
+sounding_copied : (list : List Item) (settled : ℕ) (s : Bool) (a : Cued) (aired : List Item) (ups : List Answer)
+    (d : Phase) (downs : List Phase) (k : ℕ)
     → Sounding list settled s a aired ups (d ∷ downs) k → Sounding list settled s a aired ups (d ∷ d ∷ downs) k
 sounding_copied list settled s a aired ups d downs k h = record {
   settled_is = h.settled_is;
@@ -308,9 +353,15 @@ sounding_copied list settled s a aired ups d downs k h = record {
   stands = by h.stands;
 }
   where
-    by : ToSound list s a aired ups k ⊎ Sounded list a aired (d ∷ downs) k → ToSound list s a aired ups k ⊎ Sounded list a aired (d ∷ d ∷ downs) k
+    by : ToSound list s a aired ups k ⊎ Sounded list a aired (d ∷ downs) k
+        → ToSound list s a aired ups k ⊎ Sounded list a aired (d ∷ d ∷ downs) k
     by (inl q) = inl q
-    by (inr q) = inr (record { aired_is = q.aired_is; is_empty = q.is_empty; none_tries = none_copied tries d downs q.none_tries })
+    by (inr q) = inr (record {
+      aired_is = q.aired_is;
+      is_empty = q.is_empty;
+      none_tries = none_copied tries d downs
+          q.none_tries;
+    })
 
 pub secure_copied : (list : List Item) (settled : ℕ) (a : Cued) (aired : List Item) (d : Phase) (downs : List Phase)
     → Secure list settled a aired (d ∷ downs) → Secure list settled a aired (d ∷ d ∷ downs)
@@ -321,9 +372,16 @@ secure_copied list settled a aired d downs h = record { near = h.near; calm = by
     by (inl e) = inl (none_copied plays d downs e)
     by (inr (inl q)) = inr (inl (record { is_empty = q.is_empty; none_cues = none_copied cues d downs q.none_cues }))
     by (inr (inr q)) =
-        inr (inr (record { aired_is = q.aired_is; within = q.within; owns = q.owns; last = last_copied settled d downs q.last }))
+        inr (inr (record {
+          aired_is = q.aired_is;
+          within = q.within;
+          owns = q.owns;
+          last = last_copied settled d downs
+              q.last;
+        }))
 
-pub spot_copied : (list : List Item) (settled : ℕ) (s : Bool) (a : Cued) (aired : List Item) (ups : List Answer) (d : Phase) (downs : List Phase) (q : Phase)
+pub spot_copied : (list : List Item) (settled : ℕ) (s : Bool) (a : Cued) (aired : List Item) (ups : List Answer)
+    (d : Phase) (downs : List Phase) (q : Phase)
     → Spot list settled s a aired ups (d ∷ downs) q → Spot list settled s a aired ups (d ∷ d ∷ downs) q
 spot_copied list settled s a aired ups d downs phase.Open h = h
 spot_copied list settled s a aired ups d downs phase.Select h = h
@@ -332,7 +390,8 @@ spot_copied list settled s a aired ups d downs (phase.Exists k) h = h
 spot_copied list settled s a aired ups d downs (phase.Cue k) h = h
 spot_copied list settled s a aired ups d downs (phase.Wait k) h = h
 spot_copied list settled s a aired ups d downs (phase.Play k) h = sounding_copied list settled s a aired ups d downs k h
-spot_copied list settled s a aired ups d downs (phase.Probe k) h = sounding_copied list settled s a aired ups d downs k h
+spot_copied list settled s a aired ups d downs (phase.Probe k) h =
+    sounding_copied list settled s a aired ups d downs k h
 spot_copied list settled s a aired ups d downs (phase.Check k) h = h
 spot_copied list settled s a aired ups d downs phase.Drain h = h
 spot_copied list settled s a aired ups d downs phase.Close h = h

@@ -36,14 +36,17 @@ none_taken (item ∷ list) = refl
 
 -- ---- the claim in confirm mode is closed
 
-comes : (plan : Plan) (clips : List (ClipId × Timecode)) (s : Bool) (a : Cued) (aired : List Item) (ups : List Answer) (downs : List Phase)
+comes : (plan : Plan) (clips : List (ClipId × Timecode)) (s : Bool) (a : Cued) (aired : List Item) (ups : List Answer)
+    (downs : List Phase)
     (state : State) (came : Option Heard) → plan.mode ≡ Confirming → Comes Confirming ups came
     → Holds plan.list clips state.settled s a aired ups downs state.stage
     → Holds plan.list clips (came_to plan came state).settled s a aired ups downs (came_to plan came state).stage
 comes plan clips s a aired ups downs state came confirms h k =
     subst (λ (m : Mode). Holds plan.list clips
-    (came_to (record { mode = m; list = plan.list; port = plan.port; limit = plan.limit }) came state).settled s a aired ups downs
-    (came_to (record { mode = m; list = plan.list; port = plan.port; limit = plan.limit }) came state).stage) (sym confirms)
+    (came_to (record { mode = m; list = plan.list; port = plan.port; limit = plan.limit }) came state).settled s a aired
+    ups downs
+    (came_to (record { mode = m; list = plan.list; port = plan.port; limit = plan.limit }) came state).stage)
+    (sym confirms)
     (came_holds plan.list clips plan.port plan.limit s a aired ups downs state came h k)
 
 confirming_closed : Closed Confirming Holds
@@ -58,7 +61,8 @@ confirming_closed = record {
 
 -- ---- from a new channel on
 
-kept_new : (plan : Plan) (port : ClockedPort) → plan.mode ≡ Confirming → port.state.cued ≡ empty → port.state.unit ≤ 15 → plan.port < 256 → All IsItem plan.list
+kept_new : (plan : Plan) (port : ClockedPort) → plan.mode ≡ Confirming → port.state.cued ≡ empty → port.state.unit ≤ 15
+    → plan.port < 256 → All IsItem plan.list
     → IsKept Confirming Holds (new_late_channel plan port)
 kept_new plan port confirms none u h items = record {
   mode_is = confirms;
@@ -76,38 +80,53 @@ kept_new plan port confirms none u h items = record {
   };
 }
 
-kept_events : Below → (c : LateChannel) (es : List LateEvent) → IsKept Confirming Holds c → IsKept Confirming Holds (after_late_events c es)
+kept_events : Below → (c : LateChannel) (es : List LateEvent) → IsKept Confirming Holds c
+    → IsKept Confirming Holds (after_late_events c es)
 kept_events below c [] k = k
-kept_events below c (e ∷ es) k = kept_events below (after_late_event c e) es (kept_event Confirming Holds confirming_closed below c e k)
+kept_events below c (e ∷ es) k =
+    kept_events below (after_late_event c e) es (kept_event Confirming Holds confirming_closed below c e k)
 
 -- ---- what went to air
 
-ended_near : (list : List Item) (clips : List (ClipId × Timecode)) (settled : ℕ) (port : ClockedPort) (aired : List Item) (downs : List Phase) (o : Outcome)
-    → SpotEnded list clips settled port.state.cued aired downs o → Near list aired settled × EndHolds list clips aired settled o
+ended_near : (list : List Item) (clips : List (ClipId × Timecode)) (settled : ℕ) (port : ClockedPort)
+    (aired : List Item) (downs : List Phase) (o : Outcome)
+    → SpotEnded list clips settled port.state.cued aired downs o
+    → Near list aired settled × EndHolds list clips aired settled o
 ended_near list clips settled port aired downs outcome.Done h = (near_at list aired settled _ h.0, h.0)
 ended_near list clips settled port aired downs outcome.Stopped h = (h.near, tt)
 ended_near list clips settled port aired downs outcome.Lost h = (h.near, tt)
 ended_near list clips settled port aired downs outcome.Denied h = (h.near, tt)
-ended_near list clips settled port aired downs (outcome.Missing k) h = (near_at list aired settled k h.0, (h.0, h.2, h.3))
+ended_near list clips settled port aired downs (outcome.Missing k) h =
+    (near_at list aired settled k h.0, (h.0, h.2, h.3))
 ended_near list clips settled port aired downs (outcome.Refused k) h = (h.near, tt)
 ended_near list clips settled port aired downs (outcome.Foreign k) h = (h.near, tt)
 ended_near list clips settled port aired downs (outcome.Strange k) h = (h.near, tt)
 
-airs_at : (list : List Item) (port : ClockedPort) (settled : ℕ) (aired : List Item) (ups : List Answer) (downs : List Phase) (stage : Stage)
-    → SpotAt list port.clips settled (is_selected port.state) port.state.cued aired ups downs stage → Airs list port.clips aired settled stage
+airs_at : (list : List Item) (port : ClockedPort) (settled : ℕ) (aired : List Item) (ups : List Answer)
+    (downs : List Phase) (stage : Stage)
+    → SpotAt list port.clips settled (is_selected port.state) port.state.cued aired ups downs stage
+    → Airs list port.clips aired settled stage
 airs_at list port settled aired ups downs (Ready q) h =
-    record { near = (secure_in list settled (is_selected port.state) port.state.cued aired ups downs q h.0 h.1).near; end_holds = tt }
+    record {
+      near = (secure_in list settled (is_selected port.state) port.state.cued aired ups downs q h.0 h.1).near;
+      end_holds = tt;
+    }
 airs_at list port settled aired ups downs (Awaiting q) h =
-    record { near = (secure_in list settled (is_selected port.state) port.state.cued aired ups downs q h.0 h.1).near; end_holds = tt }
+    record {
+      near = (secure_in list settled (is_selected port.state) port.state.cued aired ups downs q h.0 h.1).near;
+      end_holds = tt;
+    }
 airs_at list port settled aired ups downs (Ended o) h =
     let n = ended_near list port.clips settled port aired downs o h in
     record { near = n.0; end_holds = n.1 }
 
-airs : (c : LateChannel) → IsKept Confirming Holds c → Airs c.plan.list c.port.clips c.aired c.state.settled c.state.stage
+airs : (c : LateChannel) → IsKept Confirming Holds c
+    → Airs c.plan.list c.port.clips c.aired c.state.settled c.state.stage
 airs c k = airs_at c.plan.list c.port c.state.settled c.aired k.ups k.downs c.state.stage k.stands.spot
 
 -- whatever happens from a new channel on
-pub confirming_airs : Below → (plan : Plan) (port : ClockedPort) (events : List LateEvent) → plan.mode ≡ Confirming → port.state.cued ≡ empty → port.state.unit ≤ 15 → plan.port < 256
+pub confirming_airs : Below → (plan : Plan) (port : ClockedPort) (events : List LateEvent) → plan.mode ≡ Confirming
+    → port.state.cued ≡ empty → port.state.unit ≤ 15 → plan.port < 256
     → All IsItem plan.list
     → (c : LateChannel) → c ≡ after_late_events (new_late_channel plan port) events
     → Airs c.plan.list c.port.clips c.aired c.state.settled c.state.stage

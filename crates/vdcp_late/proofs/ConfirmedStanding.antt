@@ -1,4 +1,5 @@
--- What holds of a late channel in confirm mode, said of the phases that sent what is on the way; and that it stays so while the
+-- What holds of a late channel in confirm mode, said of the phases that sent what is on the way; and that it stays so
+-- while the
 -- controller hears nothing.
 use Rattle.std.proofs.Common.{◌≡◌, ℕ, ◌+◌, ◌*◌, ◌<◌, ◌≤◌, ◌⊎◌, inl, inr, Bool, true, false, not, nat_eq, ◌||◌, ◌&&◌, List, [], ◌∷◌, ◌++◌, length, take, Option, Some, None, refl, arith, sym, ap, subst, ◌∙◌, if◌then◌else◌}
 use Rattle.std.specs.List.{list_any}
@@ -30,20 +31,26 @@ use Rattle.vdcp_late.proofs.Standing.{knows, misleads, misleads_at, Reads}
 use Rattle.vdcp_late.proofs.Stretches.{Lies, lies_at, downs_climb, none_within, pipe_delivered, pipe_pushed, pipe_copied}
 use Rattle.vdcp_late.proofs.Thinning.{Thins, none_thins}
 
--- behind an end
+-- after an end
 abbrev pub SpotEnded : List Item → List (ClipId × Timecode) → ℕ → Cued → List Item → List Phase → Outcome → Type 0
-SpotEnded list clips settled a aired downs outcome.Done = At list aired settled (length list) × (list_any plays downs ≡ false)
+SpotEnded list clips settled a aired downs outcome.Done =
+    At list aired settled (length list) × (list_any plays downs ≡ false)
 SpotEnded list clips settled a aired downs (outcome.Missing k) =
-    At list aired settled k × (list_any plays downs ≡ false) × (k < length list) × (knows clips (slice_get list k) ≡ false)
+    At list aired settled k × (list_any plays downs ≡ false) × (k < length list) ×
+    (knows clips (slice_get list k) ≡ false)
 SpotEnded list clips settled a aired downs _ = Secure list settled a aired downs
 
-abbrev pub SpotAt : List Item → List (ClipId × Timecode) → ℕ → Bool → Cued → List Item → List Answer → List Phase → Stage → Type 0
-SpotAt list clips settled s a aired ups downs (Ready q) = Spot list settled s a aired ups downs q × IsPipe Confirming (length list) q (pipe_of ups downs)
-SpotAt list clips settled s a aired ups downs (Awaiting q) = Spot list settled s a aired ups downs q × IsPipe Confirming (length list) q (pipe_of ups downs)
+abbrev pub SpotAt : List Item → List (ClipId × Timecode) → ℕ → Bool → Cued → List Item → List Answer → List Phase
+    → Stage → Type 0
+SpotAt list clips settled s a aired ups downs (Ready q) =
+    Spot list settled s a aired ups downs q × IsPipe Confirming (length list) q (pipe_of ups downs)
+SpotAt list clips settled s a aired ups downs (Awaiting q) =
+    Spot list settled s a aired ups downs q × IsPipe Confirming (length list) q (pipe_of ups downs)
 SpotAt list clips settled s a aired ups downs (Ended o) = SpotEnded list clips settled a aired downs o
 
 -- all that holds
-pub record Holds (list : List Item) (clips : List (ClipId × Timecode)) (settled : ℕ) (s : Bool) (a : Cued) (aired : List Item) (ups : List Answer)
+pub record Holds (list : List Item) (clips : List (ClipId × Timecode)) (settled : ℕ) (s : Bool) (a : Cued)
+    (aired : List Item) (ups : List Answer)
     (downs : List Phase) (stage : Stage) : Type 0 where
   pub spot : SpotAt list clips settled s a aired ups downs stage
   pub fit : list_any misfits ups ≡ false
@@ -55,15 +62,18 @@ last_other : (n k : ℕ) (d : Phase) → Lies Confirming n (5 * k + 4) (5 * k + 
 last_other n k (phase.Cue j) l = let e : j ≡ k = omega arith in grind arith
 last_other n k d l = refl
 
-last_play : (n k : ℕ) (d : Phase) → plays d ≡ true → 5 * k + 4 ≤ stretch Confirming n d → 5 * k + 5 ≤ stretch Confirming n d
+last_play : (n k : ℕ) (d : Phase) → plays d ≡ true → 5 * k + 4 ≤ stretch Confirming n d
+    → 5 * k + 5 ≤ stretch Confirming n d
 last_play n k (phase.Play j) e l = omega arith
 last_play n k d e l = cc
 
-last_within : (n k low : ℕ) (downs : List Phase) → 5 * k + 4 ≤ low → Climbs low (5 * k + 5) (stretches Confirming n downs) → LastOf k downs
+last_within : (n k low : ℕ) (downs : List Phase) → 5 * k + 4 ≤ low
+    → Climbs low (5 * k + 5) (stretches Confirming n downs) → LastOf k downs
 last_within n k low [] l c = tt
 last_within n k low (d ∷ downs) l c = (
   last_other n k d (omega (arith, l, c.0), c.1),
-  λ e. none_within Confirming n (5 * k + 5) (5 * k + 5) cues downs (cue_free n (k + 1) (5 * k + 5) (5 * k + 5) (omega arith) (omega arith))
+  λ e. none_within Confirming n (5 * k + 5) (5 * k + 5) cues downs
+      (cue_free n (k + 1) (5 * k + 5) (5 * k + 5) (omega arith) (omega arith))
       (climbs_within (stretch Confirming n d) (5 * k + 5) (5 * k + 5) (5 * k + 5) (stretches Confirming n downs)
       (last_play n k d e (omega (arith, l, c.0))) (omega arith) c.2),
   last_within n k (stretch Confirming n d) downs (omega (arith, l, c.0)) c.2,
@@ -90,13 +100,15 @@ secure_calm : (list : List Item) (settled : ℕ) (a : Cued) (aired : List Item) 
     → At list aired settled k → list_any plays downs ≡ false → Secure list settled a aired downs
 secure_calm list settled a aired downs k h e = record { near = near_at list aired settled k h; calm = inl e }
 
-secure_sounding : (list : List Item) (settled : ℕ) (s : Bool) (a : Cued) (aired : List Item) (ups : List Answer) (downs : List Phase) (k : ℕ)
+secure_sounding : (list : List Item) (settled : ℕ) (s : Bool) (a : Cued) (aired : List Item) (ups : List Answer)
+    (downs : List Phase) (k : ℕ)
     → Sounding list settled s a aired ups downs k → LastOf k downs → Secure list settled a aired downs
 secure_sounding list settled s a aired ups downs k h l = by h.stands
   where
     by : ToSound list s a aired ups k ⊎ Sounded list a aired downs k → Secure list settled a aired downs
     by (inl q) = record {
-      near = near_of list aired settled k q.aired_is (omega (arith, h.within)) (omega (arith, h.settled_is)) (omega (arith, h.settled_is));
+      near = near_of list aired settled k q.aired_is (omega (arith, h.within)) (omega (arith, h.settled_is))
+          (omega (arith, h.settled_is));
       calm = inr (inr (record {
         aired_is = q.aired_is ∙ sym (ap (λ (n : ℕ). take n list) h.settled_is);
         within = omega (arith, h.settled_is, h.within);
@@ -105,20 +117,29 @@ secure_sounding list settled s a aired ups downs k h l = by h.stands
       }));
     }
     by (inr q) = record {
-      near = near_of list aired settled (k + 1) q.aired_is (omega (arith, h.within)) (omega (arith, h.settled_is)) (omega (arith, h.settled_is));
-      calm = inr (inl (record { is_empty = q.is_empty; none_cues = none_weaker tries cues downs tries_not_cues q.none_tries }));
+      near = near_of list aired settled (k + 1) q.aired_is (omega (arith, h.within)) (omega (arith, h.settled_is))
+          (omega (arith, h.settled_is));
+      calm = inr (inl (record {
+        is_empty = q.is_empty;
+        none_cues = none_weaker tries cues downs tries_not_cues
+            q.none_tries;
+      }));
     }
 
-pub secure_in : (list : List Item) (settled : ℕ) (s : Bool) (a : Cued) (aired : List Item) (ups : List Answer) (downs : List Phase) (q : Phase)
+pub secure_in : (list : List Item) (settled : ℕ) (s : Bool) (a : Cued) (aired : List Item) (ups : List Answer)
+    (downs : List Phase) (q : Phase)
     → Spot list settled s a aired ups downs q → IsPipe Confirming (length list) q (pipe_of ups downs)
     → Secure list settled a aired downs
 secure_in list settled s a aired ups downs phase.Open h c =
     secure_calm list settled a aired downs 0 h.0
-    (no_plays Confirming (length list) 0 0 ups downs (λ d l. quiet_first Confirming (length list) d (l.0, omega (arith, l.1))) c)
+    (no_plays Confirming (length list) 0 0 ups downs (λ d l. quiet_first Confirming (length list) d
+    (l.0, omega (arith, l.1))) c)
 secure_in list settled s a aired ups downs phase.Select h c =
-    secure_calm list settled a aired downs 0 h.0 (no_plays Confirming (length list) 0 1 ups downs (quiet_first Confirming (length list)) c)
+    secure_calm list settled a aired downs 0 h.0 (no_plays Confirming (length list) 0 1 ups downs
+    (quiet_first Confirming (length list)) c)
 secure_in list settled s a aired ups downs phase.Seen h c =
-    secure_calm list settled a aired downs 0 h.0 (no_plays Confirming (length list) 0 1 ups downs (quiet_first Confirming (length list)) c)
+    secure_calm list settled a aired downs 0 h.0 (no_plays Confirming (length list) 0 1 ups downs
+    (quiet_first Confirming (length list)) c)
 secure_in list settled s a aired ups downs (phase.Exists k) h c =
     secure_calm list settled a aired downs k h.0.0 (no_plays Confirming (length list) (5 * k + 1) (5 * k + 2) ups downs
     (quiet Confirming (length list) k (5 * k + 1) (5 * k + 2) (omega arith) (omega arith)) c)
@@ -130,10 +151,12 @@ secure_in list settled s a aired ups downs (phase.Wait k) h c =
     (quiet Confirming (length list) k (5 * k + 2) (5 * k + 4) (omega arith) (omega arith)) c)
 secure_in list settled s a aired ups downs (phase.Play k) h c =
     secure_sounding list settled s a aired ups downs k h
-    (last_within (length list) k (5 * k + 4) downs (omega arith) (downs_climb Confirming (length list) (5 * k + 4) (5 * k + 5) ups downs c))
+    (last_within (length list) k (5 * k + 4) downs (omega arith)
+    (downs_climb Confirming (length list) (5 * k + 4) (5 * k + 5) ups downs c))
 secure_in list settled s a aired ups downs (phase.Probe k) h c =
     secure_sounding list settled s a aired ups downs k h
-    (last_within (length list) k (5 * k + 4) downs (omega arith) (downs_climb Confirming (length list) (5 * k + 4) (5 * k + 5) ups downs c))
+    (last_within (length list) k (5 * k + 4) downs (omega arith)
+    (downs_climb Confirming (length list) (5 * k + 4) (5 * k + 5) ups downs c))
 secure_in list settled s a aired ups downs (phase.Check k) h c = record {
   near = near_at list aired settled (k + 1) h.0.0;
   calm = inr (inl (record {
@@ -144,44 +167,67 @@ secure_in list settled s a aired ups downs (phase.Check k) h c = record {
   }));
 }
 secure_in list settled s a aired ups downs phase.Drain h c =
-    secure_calm list settled a aired downs (length list) h (no_plays Confirming (length list) (5 * length list + 1) (5 * length list + 2) ups downs
-    (quiet Confirming (length list) (length list) (5 * length list + 1) (5 * length list + 2) (omega arith) (omega arith)) c)
+    secure_calm list settled a aired downs (length list) h (no_plays Confirming (length list) (5 * length list + 1)
+    (5 * length list + 2) ups downs
+    (quiet Confirming (length list) (length list) (5 * length list + 1) (5 * length list + 2) (omega arith)
+    (omega arith)) c)
 secure_in list settled s a aired ups downs phase.Close h c =
-    secure_calm list settled a aired downs (length list) h (no_plays Confirming (length list) (5 * length list + 1) (5 * length list + 3) ups downs
-    (quiet Confirming (length list) (length list) (5 * length list + 1) (5 * length list + 3) (omega arith) (omega arith)) c)
+    secure_calm list settled a aired downs (length list) h (no_plays Confirming (length list) (5 * length list + 1)
+    (5 * length list + 3) ups downs
+    (quiet Confirming (length list) (length list) (5 * length list + 1) (5 * length list + 3) (omega arith)
+    (omega arith)) c)
 secure_in list settled s a aired ups downs phase.Halt h c = h
 secure_in list settled s a aired ups downs phase.HaltClose h c = h
 
 -- ---- something is left out
 
-flow_thins : (n : ℕ) (ups others : List Answer) (downs left : List Phase) (q : Phase) → Thins ups others → Thins downs left
+flow_thins : (n : ℕ) (ups others : List Answer) (downs left : List Phase) (q : Phase) → Thins ups others
+    → Thins downs left
     → IsPipe Confirming n q (pipe_of ups downs) → IsPipe Confirming n q (pipe_of others left)
-flow_thins n ups others downs left phase.Open u d c = climbs_thins _ _ _ _ (pipe_thins Confirming n ups others downs left u d) c
-flow_thins n ups others downs left phase.Select u d c = climbs_thins _ _ _ _ (pipe_thins Confirming n ups others downs left u d) c
-flow_thins n ups others downs left phase.Seen u d c = climbs_thins _ _ _ _ (pipe_thins Confirming n ups others downs left u d) c
-flow_thins n ups others downs left (phase.Exists k) u d c = climbs_thins _ _ _ _ (pipe_thins Confirming n ups others downs left u d) c
-flow_thins n ups others downs left (phase.Cue k) u d c = climbs_thins _ _ _ _ (pipe_thins Confirming n ups others downs left u d) c
-flow_thins n ups others downs left (phase.Wait k) u d c = climbs_thins _ _ _ _ (pipe_thins Confirming n ups others downs left u d) c
-flow_thins n ups others downs left (phase.Play k) u d c = climbs_thins _ _ _ _ (pipe_thins Confirming n ups others downs left u d) c
-flow_thins n ups others downs left (phase.Probe k) u d c = climbs_thins _ _ _ _ (pipe_thins Confirming n ups others downs left u d) c
-flow_thins n ups others downs left (phase.Check k) u d c = climbs_thins _ _ _ _ (pipe_thins Confirming n ups others downs left u d) c
-flow_thins n ups others downs left phase.Drain u d c = climbs_thins _ _ _ _ (pipe_thins Confirming n ups others downs left u d) c
-flow_thins n ups others downs left phase.Close u d c = climbs_thins _ _ _ _ (pipe_thins Confirming n ups others downs left u d) c
+flow_thins n ups others downs left phase.Open u d c =
+    climbs_thins _ _ _ _ (pipe_thins Confirming n ups others downs left u d) c
+flow_thins n ups others downs left phase.Select u d c =
+    climbs_thins _ _ _ _ (pipe_thins Confirming n ups others downs left u d) c
+flow_thins n ups others downs left phase.Seen u d c =
+    climbs_thins _ _ _ _ (pipe_thins Confirming n ups others downs left u d) c
+flow_thins n ups others downs left (phase.Exists k) u d c =
+    climbs_thins _ _ _ _ (pipe_thins Confirming n ups others downs left u d) c
+flow_thins n ups others downs left (phase.Cue k) u d c =
+    climbs_thins _ _ _ _ (pipe_thins Confirming n ups others downs left u d) c
+flow_thins n ups others downs left (phase.Wait k) u d c =
+    climbs_thins _ _ _ _ (pipe_thins Confirming n ups others downs left u d) c
+flow_thins n ups others downs left (phase.Play k) u d c =
+    climbs_thins _ _ _ _ (pipe_thins Confirming n ups others downs left u d) c
+flow_thins n ups others downs left (phase.Probe k) u d c =
+    climbs_thins _ _ _ _ (pipe_thins Confirming n ups others downs left u d) c
+flow_thins n ups others downs left (phase.Check k) u d c =
+    climbs_thins _ _ _ _ (pipe_thins Confirming n ups others downs left u d) c
+flow_thins n ups others downs left phase.Drain u d c =
+    climbs_thins _ _ _ _ (pipe_thins Confirming n ups others downs left u d) c
+flow_thins n ups others downs left phase.Close u d c =
+    climbs_thins _ _ _ _ (pipe_thins Confirming n ups others downs left u d) c
 flow_thins n ups others downs left phase.Halt u d c = tt
 flow_thins n ups others downs left phase.HaltClose u d c = tt
 
-ended_thins : (list : List Item) (clips : List (ClipId × Timecode)) (settled : ℕ) (a : Cued) (aired : List Item) (downs left : List Phase)
-    (o : Outcome) → Thins downs left → SpotEnded list clips settled a aired downs o → SpotEnded list clips settled a aired left o
+ended_thins : (list : List Item) (clips : List (ClipId × Timecode)) (settled : ℕ) (a : Cued) (aired : List Item)
+    (downs left : List Phase)
+    (o : Outcome) → Thins downs left → SpotEnded list clips settled a aired downs o
+    → SpotEnded list clips settled a aired left o
 ended_thins list clips settled a aired downs left outcome.Done d h = (h.0, none_thins plays downs left d h.1)
-ended_thins list clips settled a aired downs left (outcome.Missing k) d h = (h.0, none_thins plays downs left d h.1, h.2, h.3)
+ended_thins list clips settled a aired downs left (outcome.Missing k) d h =
+    (h.0, none_thins plays downs left d h.1, h.2, h.3)
 ended_thins list clips settled a aired downs left outcome.Stopped d h = secure_thins list settled a aired downs left d h
 ended_thins list clips settled a aired downs left outcome.Lost d h = secure_thins list settled a aired downs left d h
 ended_thins list clips settled a aired downs left outcome.Denied d h = secure_thins list settled a aired downs left d h
-ended_thins list clips settled a aired downs left (outcome.Refused k) d h = secure_thins list settled a aired downs left d h
-ended_thins list clips settled a aired downs left (outcome.Foreign k) d h = secure_thins list settled a aired downs left d h
-ended_thins list clips settled a aired downs left (outcome.Strange k) d h = secure_thins list settled a aired downs left d h
+ended_thins list clips settled a aired downs left (outcome.Refused k) d h =
+    secure_thins list settled a aired downs left d h
+ended_thins list clips settled a aired downs left (outcome.Foreign k) d h =
+    secure_thins list settled a aired downs left d h
+ended_thins list clips settled a aired downs left (outcome.Strange k) d h =
+    secure_thins list settled a aired downs left d h
 
-pub holds_thins : (list : List Item) (clips : List (ClipId × Timecode)) (settled : ℕ) (s : Bool) (a : Cued) (aired : List Item) (ups others : List Answer)
+pub holds_thins : (list : List Item) (clips : List (ClipId × Timecode)) (settled : ℕ) (s : Bool) (a : Cued)
+    (aired : List Item) (ups others : List Answer)
     (downs left : List Phase) (stage : Stage) → Thins ups others → Thins downs left
     → Holds list clips settled s a aired ups downs stage → Holds list clips settled s a aired others left stage
 holds_thins list clips settled s a aired ups others downs left stage u d h = record {
@@ -190,14 +236,24 @@ holds_thins list clips settled s a aired ups others downs left stage u d h = rec
   true_told = none_thins (misleads list clips) ups others u h.true_told;
 }
   where
-    by : (stage : Stage) → SpotAt list clips settled s a aired ups downs stage → SpotAt list clips settled s a aired others left stage
-    by (Ready q) h = (spot_thins list settled s a aired ups others downs left q u d h.0, flow_thins (length list) ups others downs left q u d h.1)
-    by (Awaiting q) h = (spot_thins list settled s a aired ups others downs left q u d h.0, flow_thins (length list) ups others downs left q u d h.1)
+    by : (stage : Stage) → SpotAt list clips settled s a aired ups downs stage
+        → SpotAt list clips settled s a aired others left stage
+    by (Ready q) h = (
+      spot_thins list settled s a aired ups others downs left q u d h.0,
+      flow_thins
+          (length list) ups others downs left q u d h.1,
+    )
+    by (Awaiting q) h = (
+      spot_thins list settled s a aired ups others downs left q u d h.0,
+      flow_thins
+          (length list) ups others downs left q u d h.1,
+    )
     by (Ended o) h = ended_thins list clips settled a aired downs left o d h
 
 -- ---- the port changes by itself
 
-ended_ages : (list : List Item) (clips : List (ClipId × Timecode)) (settled : ℕ) (s : Bool) (a : Cued) (t : Bool) (b : Cued) (aired : List Item)
+ended_ages : (list : List Item) (clips : List (ClipId × Timecode)) (settled : ℕ) (s : Bool) (a : Cued) (t : Bool)
+    (b : Cued) (aired : List Item)
     (downs : List Phase) (o : Outcome) → Ages s a t b
     → SpotEnded list clips settled a aired downs o → SpotEnded list clips settled b aired downs o
 ended_ages list clips settled s a t b aired downs outcome.Done g h = h
@@ -205,24 +261,32 @@ ended_ages list clips settled s a t b aired downs (outcome.Missing k) g h = h
 ended_ages list clips settled s a t b aired downs outcome.Stopped g h = secure_ages list settled s a t b aired downs g h
 ended_ages list clips settled s a t b aired downs outcome.Lost g h = secure_ages list settled s a t b aired downs g h
 ended_ages list clips settled s a t b aired downs outcome.Denied g h = secure_ages list settled s a t b aired downs g h
-ended_ages list clips settled s a t b aired downs (outcome.Refused k) g h = secure_ages list settled s a t b aired downs g h
-ended_ages list clips settled s a t b aired downs (outcome.Foreign k) g h = secure_ages list settled s a t b aired downs g h
-ended_ages list clips settled s a t b aired downs (outcome.Strange k) g h = secure_ages list settled s a t b aired downs g h
+ended_ages list clips settled s a t b aired downs (outcome.Refused k) g h =
+    secure_ages list settled s a t b aired downs g h
+ended_ages list clips settled s a t b aired downs (outcome.Foreign k) g h =
+    secure_ages list settled s a t b aired downs g h
+ended_ages list clips settled s a t b aired downs (outcome.Strange k) g h =
+    secure_ages list settled s a t b aired downs g h
 
-pub holds_ages : (list : List Item) (clips : List (ClipId × Timecode)) (settled : ℕ) (s : Bool) (a : Cued) (t : Bool) (b : Cued) (aired : List Item)
+pub holds_ages : (list : List Item) (clips : List (ClipId × Timecode)) (settled : ℕ) (s : Bool) (a : Cued) (t : Bool)
+    (b : Cued) (aired : List Item)
     (ups : List Answer) (downs : List Phase) (stage : Stage) → Ages s a t b
     → Holds list clips settled s a aired ups downs stage → Holds list clips settled t b aired ups downs stage
-holds_ages list clips settled s a t b aired ups downs stage g h = record { spot = by stage h.spot; fit = h.fit; true_told = h.true_told }
+holds_ages list clips settled s a t b aired ups downs stage g h =
+    record { spot = by stage h.spot; fit = h.fit; true_told = h.true_told }
   where
-    by : (stage : Stage) → SpotAt list clips settled s a aired ups downs stage → SpotAt list clips settled t b aired ups downs stage
+    by : (stage : Stage) → SpotAt list clips settled s a aired ups downs stage
+        → SpotAt list clips settled t b aired ups downs stage
     by (Ready q) h = (spot_ages list settled s a t b aired ups downs q g h.0, h.1)
     by (Awaiting q) h = (spot_ages list settled s a t b aired ups downs q g h.0, h.1)
     by (Ended o) h = ended_ages list clips settled s a t b aired downs o g h
 
 -- ---- the controller sends
 
-sounding_sends : (list : List Item) (settled : ℕ) (s : Bool) (a : Cued) (aired : List Item) (ups : List Answer) (downs : List Phase) (k : ℕ) (q : Phase)
-    → tries q ≡ false → Sounding list settled s a aired ups downs k → Sounding list settled s a aired ups (downs ++ q ∷ []) k
+sounding_sends : (list : List Item) (settled : ℕ) (s : Bool) (a : Cued) (aired : List Item) (ups : List Answer)
+    (downs : List Phase) (k : ℕ) (q : Phase)
+    → tries q ≡ false → Sounding list settled s a aired ups downs k
+    → Sounding list settled s a aired ups (downs ++ q ∷ []) k
 sounding_sends list settled s a aired ups downs k q silent h = record {
   settled_is = h.settled_is;
   within = h.within;
@@ -230,20 +294,35 @@ sounding_sends list settled s a aired ups downs k q silent h = record {
   stands = by h.stands;
 }
   where
-    by : ToSound list s a aired ups k ⊎ Sounded list a aired downs k → ToSound list s a aired ups k ⊎ Sounded list a aired (downs ++ q ∷ []) k
+    by : ToSound list s a aired ups k ⊎ Sounded list a aired downs k
+        → ToSound list s a aired ups k ⊎ Sounded list a aired (downs ++ q ∷ []) k
     by (inl h) = inl h
-    by (inr h) = inr (record { aired_is = h.aired_is; is_empty = h.is_empty; none_tries = none_sent tries downs q h.none_tries silent })
+    by (inr h) = inr (record {
+      aired_is = h.aired_is;
+      is_empty = h.is_empty;
+      none_tries = none_sent tries downs q
+          h.none_tries silent;
+    })
 
 secure_sends : (list : List Item) (settled : ℕ) (a : Cued) (aired : List Item) (downs : List Phase) (q : Phase)
-    → plays q ≡ false → cues q ≡ false → cues_other settled q ≡ false → Secure list settled a aired downs → Secure list settled a aired (downs ++ q ∷ [])
+    → plays q ≡ false → cues q ≡ false → cues_other settled q ≡ false → Secure list settled a aired downs
+    → Secure list settled a aired (downs ++ q ∷ [])
 secure_sends list settled a aired downs q no_play no_cue no_other h = record { near = h.near; calm = by h.calm }
   where
     by : (list_any plays downs ≡ false) ⊎ Spent a downs ⊎ Last list settled a aired downs
-        → (list_any plays (downs ++ q ∷ []) ≡ false) ⊎ Spent a (downs ++ q ∷ []) ⊎ Last list settled a aired (downs ++ q ∷ [])
+        → (list_any plays (downs ++ q ∷ []) ≡ false) ⊎ Spent a (downs ++ q ∷ []) ⊎ Last list settled a aired
+        (downs ++ q ∷ [])
     by (inl e) = inl (none_sent plays downs q e no_play)
-    by (inr (inl h)) = inr (inl (record { is_empty = h.is_empty; none_cues = none_sent cues downs q h.none_cues no_cue }))
+    by (inr (inl h)) =
+        inr (inl (record { is_empty = h.is_empty; none_cues = none_sent cues downs q h.none_cues no_cue }))
     by (inr (inr h)) =
-        inr (inr (record { aired_is = h.aired_is; within = h.within; owns = h.owns; last = last_sent settled downs q no_cue no_other h.last }))
+        inr (inr (record {
+          aired_is = h.aired_is;
+          within = h.within;
+          owns = h.owns;
+          last = last_sent settled downs q
+              no_cue no_other h.last;
+        }))
 
 -- the pipe with one more of the greatest
 pushed : (n low : ℕ) (ups : List Answer) (downs : List Phase) (q : Phase) → low ≤ stretch Confirming n q
@@ -253,45 +332,71 @@ pushed n low ups downs q l c =
     subst (Climbs low (stretch Confirming n q)) (sym (pipe_pushed Confirming n ups downs q))
     (climbs_pushed low (stretch Confirming n q) (stretches Confirming n (pipe_of ups downs)) l c)
 
-own_sends : (list : List Item) (settled : ℕ) (s : Bool) (a : Cued) (aired : List Item) (ups : List Answer) (downs : List Phase) (q : Phase)
+own_sends : (list : List Item) (settled : ℕ) (s : Bool) (a : Cued) (aired : List Item) (ups : List Answer)
+    (downs : List Phase) (q : Phase)
     → Spot list settled s a aired ups downs q × IsPipe Confirming (length list) q (pipe_of ups downs)
-    → Spot list settled s a aired ups (downs ++ q ∷ []) q × IsPipe Confirming (length list) q (pipe_of ups (downs ++ q ∷ []))
-own_sends list settled s a aired ups downs phase.Open h = (h.0, pushed (length list) 0 ups downs phase.Open (omega arith) h.1)
-own_sends list settled s a aired ups downs phase.Select h = (h.0, pushed (length list) 0 ups downs phase.Select (omega arith) h.1)
-own_sends list settled s a aired ups downs phase.Seen h = (h.0, pushed (length list) 0 ups downs phase.Seen (omega arith) h.1)
-own_sends list settled s a aired ups downs (phase.Exists k) h = (h.0, pushed (length list) (5 * k + 1) ups downs (phase.Exists k) (omega arith) h.1)
-own_sends list settled s a aired ups downs (phase.Cue k) h = (h.0, pushed (length list) (5 * k + 2) ups downs (phase.Cue k) (omega arith) h.1)
-own_sends list settled s a aired ups downs (phase.Wait k) h = (h.0, pushed (length list) (5 * k + 2) ups downs (phase.Wait k) (omega arith) h.1)
-own_sends list settled s a aired ups downs (phase.Play k) h =
-    (sounding_sends list settled s a aired ups downs k (phase.Play k) refl h.0, pushed (length list) (5 * k + 4) ups downs (phase.Play k) (omega arith) h.1)
-own_sends list settled s a aired ups downs (phase.Probe k) h =
-    (sounding_sends list settled s a aired ups downs k (phase.Probe k) refl h.0, pushed (length list) (5 * k + 4) ups downs (phase.Probe k) (omega arith) h.1)
-own_sends list settled s a aired ups downs (phase.Check k) h = (h.0, pushed (length list) (5 * k + 5) ups downs (phase.Check k) (omega arith) h.1)
-own_sends list settled s a aired ups downs phase.Drain h = (h.0, pushed (length list) (5 * length list + 1) ups downs phase.Drain (omega arith) h.1)
-own_sends list settled s a aired ups downs phase.Close h = (h.0, pushed (length list) (5 * length list + 1) ups downs phase.Close (omega arith) h.1)
-own_sends list settled s a aired ups downs phase.Halt h = (secure_sends list settled a aired downs phase.Halt refl refl refl h.0, tt)
-own_sends list settled s a aired ups downs phase.HaltClose h = (secure_sends list settled a aired downs phase.HaltClose refl refl refl h.0, tt)
+    → Spot list settled s a aired ups (downs ++ q ∷ []) q × IsPipe Confirming (length list) q
+    (pipe_of ups (downs ++ q ∷ []))
+own_sends list settled s a aired ups downs phase.Open h =
+    (h.0, pushed (length list) 0 ups downs phase.Open (omega arith) h.1)
+own_sends list settled s a aired ups downs phase.Select h =
+    (h.0, pushed (length list) 0 ups downs phase.Select (omega arith) h.1)
+own_sends list settled s a aired ups downs phase.Seen h =
+    (h.0, pushed (length list) 0 ups downs phase.Seen (omega arith) h.1)
+own_sends list settled s a aired ups downs (phase.Exists k) h =
+    (h.0, pushed (length list) (5 * k + 1) ups downs (phase.Exists k) (omega arith) h.1)
+own_sends list settled s a aired ups downs (phase.Cue k) h =
+    (h.0, pushed (length list) (5 * k + 2) ups downs (phase.Cue k) (omega arith) h.1)
+own_sends list settled s a aired ups downs (phase.Wait k) h =
+    (h.0, pushed (length list) (5 * k + 2) ups downs (phase.Wait k) (omega arith) h.1)
+own_sends list settled s a aired ups downs (phase.Play k) h = (
+  sounding_sends list settled s a aired ups downs k (phase.Play k) refl h.0,
+  pushed (length list)
+      (5 * k + 4) ups downs (phase.Play k) (omega arith) h.1,
+)
+own_sends list settled s a aired ups downs (phase.Probe k) h = (
+  sounding_sends list settled s a aired ups downs k (phase.Probe k) refl h.0,
+  pushed (length list)
+      (5 * k + 4) ups downs (phase.Probe k) (omega arith) h.1,
+)
+own_sends list settled s a aired ups downs (phase.Check k) h =
+    (h.0, pushed (length list) (5 * k + 5) ups downs (phase.Check k) (omega arith) h.1)
+own_sends list settled s a aired ups downs phase.Drain h =
+    (h.0, pushed (length list) (5 * length list + 1) ups downs phase.Drain (omega arith) h.1)
+own_sends list settled s a aired ups downs phase.Close h =
+    (h.0, pushed (length list) (5 * length list + 1) ups downs phase.Close (omega arith) h.1)
+own_sends list settled s a aired ups downs phase.Halt h =
+    (secure_sends list settled a aired downs phase.Halt refl refl refl h.0, tt)
+own_sends list settled s a aired ups downs phase.HaltClose h =
+    (secure_sends list settled a aired downs phase.HaltClose refl refl refl h.0, tt)
 
-pub holds_sends : (list : List Item) (clips : List (ClipId × Timecode)) (settled : ℕ) (s : Bool) (a : Cued) (aired : List Item) (ups : List Answer)
+pub holds_sends : (list : List Item) (clips : List (ClipId × Timecode)) (settled : ℕ) (s : Bool) (a : Cued)
+    (aired : List Item) (ups : List Answer)
     (downs : List Phase) (stop : Bool) (q : Phase) → Holds list clips settled s a aired ups downs (Ready q)
     → Holds list clips settled s a aired ups (downs ++ phase_to_send stop q ∷ []) (Awaiting (phase_to_send stop q))
 holds_sends list clips settled s a aired ups downs false q h =
     record { spot = own_sends list settled s a aired ups downs q h.spot; fit = h.fit; true_told = h.true_told }
 holds_sends list clips settled s a aired ups downs true q h = record {
-  spot = own_sends list settled s a aired ups downs phase.Halt (secure_in list settled s a aired ups downs q h.spot.0 h.spot.1, tt);
+  spot =
+      own_sends list settled s a aired ups downs phase.Halt
+      (secure_in list settled s a aired ups downs q h.spot.0 h.spot.1, tt);
   fit = h.fit;
   true_told = h.true_told;
 }
 
 -- ---- the port reads the oldest command
 
-quiet_keeps : (list : List Item) (settled : ℕ) (s : Bool) (a : Cued) (aired : List Item) (d : Phase) (k : ℕ) (r : Reply) (t : Bool) (b : Cued) (airs : List Item)
-    → plays d ≡ false → At list aired settled k → Executed list d s a r t b airs → At list (aired ++ airs) settled k
-quiet_keeps list settled s a aired d k r t b airs silent h x = at_same list aired airs settled k (airs_none list d s a r t b airs silent x.does) h
-
-spot_keeps : (list : List Item) (settled : ℕ) (s : Bool) (a : Cued) (aired : List Item) (ups : List Answer) (d : Phase) (downs : List Phase) (q : Phase) (r : Reply)
+quiet_keeps : (list : List Item) (settled : ℕ) (s : Bool) (a : Cued) (aired : List Item) (d : Phase) (k : ℕ) (r : Reply)
     (t : Bool) (b : Cued) (airs : List Item)
-    → Spot list settled s a aired ups (d ∷ downs) q → IsPipe Confirming (length list) q (pipe_of ups (d ∷ downs)) → Executed list d s a r t b airs
+    → plays d ≡ false → At list aired settled k → Executed list d s a r t b airs → At list (aired ++ airs) settled k
+quiet_keeps list settled s a aired d k r t b airs silent h x =
+    at_same list aired airs settled k (airs_none list d s a r t b airs silent x.does) h
+
+spot_keeps : (list : List Item) (settled : ℕ) (s : Bool) (a : Cued) (aired : List Item) (ups : List Answer) (d : Phase)
+    (downs : List Phase) (q : Phase) (r : Reply)
+    (t : Bool) (b : Cued) (airs : List Item)
+    → Spot list settled s a aired ups (d ∷ downs) q → IsPipe Confirming (length list) q (pipe_of ups (d ∷ downs))
+    → Executed list d s a r t b airs
     → Spot list settled t b (aired ++ airs) (ups ++ record { to = d; reply = r } ∷ []) downs q
 spot_keeps list settled s a aired ups d downs phase.Open r t b airs h c x =
     let l = lies_at Confirming (length list) 0 0 ups d downs c in
@@ -303,29 +408,43 @@ spot_keeps list settled s a aired ups d downs phase.Seen r t b airs h c x =
     let l = lies_at Confirming (length list) 0 1 ups d downs c in
     idle_keeps list settled s a aired d 0 r t b airs (cue_free (length list) 0 0 1 (omega arith) (omega arith) d l) h x
 spot_keeps list settled s a aired ups d downs (phase.Exists k) r t b airs h c x =
-    let l = lies_at Confirming (length list) (5 * k + 1) (5 * k + 2) ups d downs c in
-    (idle_keeps list settled s a aired d k r t b airs (cue_free (length list) k (5 * k + 1) (5 * k + 2) (omega arith) (omega arith) d l) h.0 x, h.1)
+    let l = lies_at Confirming (length list) (5 * k + 1) (5 * k + 2) ups d downs c in (
+      idle_keeps list settled s a aired d k r t b airs (cue_free (length list) k (5 * k + 1) (5 * k + 2) (omega arith)
+          (omega arith) d l) h.0 x,
+      h.1,
+    )
 spot_keeps list settled s a aired ups d downs (phase.Cue k) r t b airs h c x =
-    trying_keeps list settled s a aired ups d k r t b airs h (lies_at Confirming (length list) (5 * k + 2) (5 * k + 4) ups d downs c) x
+    trying_keeps list settled s a aired ups d k r t b airs h (lies_at Confirming (length list) (5 * k + 2)
+    (5 * k + 4) ups d downs c) x
 spot_keeps list settled s a aired ups d downs (phase.Wait k) r t b airs h c x =
-    trying_keeps list settled s a aired ups d k r t b airs h (lies_at Confirming (length list) (5 * k + 2) (5 * k + 4) ups d downs c) x
+    trying_keeps list settled s a aired ups d k r t b airs h (lies_at Confirming (length list) (5 * k + 2)
+    (5 * k + 4) ups d downs c) x
 spot_keeps list settled s a aired ups d downs (phase.Play k) r t b airs h c x =
-    sounding_keeps list settled s a aired ups d downs k r t b airs h c (lies_at Confirming (length list) (5 * k + 4) (5 * k + 5) ups d downs c) x
+    sounding_keeps list settled s a aired ups d downs k r t b airs h c
+    (lies_at Confirming (length list) (5 * k + 4) (5 * k + 5) ups d downs c) x
 spot_keeps list settled s a aired ups d downs (phase.Probe k) r t b airs h c x =
-    sounding_keeps list settled s a aired ups d downs k r t b airs h c (lies_at Confirming (length list) (5 * k + 4) (5 * k + 5) ups d downs c) x
+    sounding_keeps list settled s a aired ups d downs k r t b airs h c
+    (lies_at Confirming (length list) (5 * k + 4) (5 * k + 5) ups d downs c) x
 spot_keeps list settled s a aired ups d downs (phase.Check k) r t b airs h c x =
-    let l = lies_at Confirming (length list) (5 * k + 5) (5 * k + 6) ups d downs c in
-    (idle_keeps list settled s a aired d (k + 1) r t b airs (cue_free (length list) (k + 1) (5 * k + 5) (5 * k + 6) (omega arith) (omega arith) d l) h.0 x, h.1)
+    let l = lies_at Confirming (length list) (5 * k + 5) (5 * k + 6) ups d downs c in (
+      idle_keeps list settled s a aired d (k + 1) r t b airs (cue_free (length list) (k + 1) (5 * k + 5) (5 * k + 6)
+          (omega arith) (omega arith) d l) h.0 x,
+      h.1,
+    )
 spot_keeps list settled s a aired ups d downs phase.Drain r t b airs h c x =
     quiet_keeps list settled s a aired d (length list) r t b airs
-    (quiet Confirming (length list) (length list) (5 * length list + 1) (5 * length list + 2) (omega arith) (omega arith) d
+    (quiet Confirming (length list) (length list) (5 * length list + 1) (5 * length list + 2) (omega arith)
+    (omega arith) d
     (lies_at Confirming (length list) (5 * length list + 1) (5 * length list + 2) ups d downs c)) h x
 spot_keeps list settled s a aired ups d downs phase.Close r t b airs h c x =
     quiet_keeps list settled s a aired d (length list) r t b airs
-    (quiet Confirming (length list) (length list) (5 * length list + 1) (5 * length list + 3) (omega arith) (omega arith) d
+    (quiet Confirming (length list) (length list) (5 * length list + 1) (5 * length list + 3) (omega arith)
+    (omega arith) d
     (lies_at Confirming (length list) (5 * length list + 1) (5 * length list + 3) ups d downs c)) h x
-spot_keeps list settled s a aired ups d downs phase.Halt r t b airs h c x = secure_keeps list settled s a aired d downs r t b airs h x
-spot_keeps list settled s a aired ups d downs phase.HaltClose r t b airs h c x = secure_keeps list settled s a aired d downs r t b airs h x
+spot_keeps list settled s a aired ups d downs phase.Halt r t b airs h c x =
+    secure_keeps list settled s a aired d downs r t b airs h x
+spot_keeps list settled s a aired ups d downs phase.HaltClose r t b airs h c x =
+    secure_keeps list settled s a aired d downs r t b airs h x
 
 left_of : (x y : Bool) → (x || y) ≡ false → x ≡ false
 left_of x y e = grind arith
@@ -333,9 +452,11 @@ left_of x y e = grind arith
 right_of : (x y : Bool) → (x || y) ≡ false → y ≡ false
 right_of x y e = grind arith
 
-ended_keeps : (list : List Item) (clips : List (ClipId × Timecode)) (settled : ℕ) (s : Bool) (a : Cued) (aired : List Item) (d : Phase) (downs : List Phase)
+ended_keeps : (list : List Item) (clips : List (ClipId × Timecode)) (settled : ℕ) (s : Bool) (a : Cued)
+    (aired : List Item) (d : Phase) (downs : List Phase)
     (o : Outcome) (r : Reply) (t : Bool) (b : Cued) (airs : List Item)
-    → SpotEnded list clips settled a aired (d ∷ downs) o → Executed list d s a r t b airs → SpotEnded list clips settled b (aired ++ airs) downs o
+    → SpotEnded list clips settled a aired (d ∷ downs) o → Executed list d s a r t b airs
+    → SpotEnded list clips settled b (aired ++ airs) downs o
 ended_keeps list clips settled s a aired d downs outcome.Done r t b airs h x = (
   quiet_keeps list settled s a aired d (length list) r t b airs (left_of (plays d) (list_any plays downs) h.1) h.0 x,
   right_of (plays d) (list_any plays downs) h.1,
@@ -346,14 +467,21 @@ ended_keeps list clips settled s a aired d downs (outcome.Missing k) r t b airs 
   h.2,
   h.3,
 )
-ended_keeps list clips settled s a aired d downs outcome.Stopped r t b airs h x = secure_keeps list settled s a aired d downs r t b airs h x
-ended_keeps list clips settled s a aired d downs outcome.Lost r t b airs h x = secure_keeps list settled s a aired d downs r t b airs h x
-ended_keeps list clips settled s a aired d downs outcome.Denied r t b airs h x = secure_keeps list settled s a aired d downs r t b airs h x
-ended_keeps list clips settled s a aired d downs (outcome.Refused k) r t b airs h x = secure_keeps list settled s a aired d downs r t b airs h x
-ended_keeps list clips settled s a aired d downs (outcome.Foreign k) r t b airs h x = secure_keeps list settled s a aired d downs r t b airs h x
-ended_keeps list clips settled s a aired d downs (outcome.Strange k) r t b airs h x = secure_keeps list settled s a aired d downs r t b airs h x
+ended_keeps list clips settled s a aired d downs outcome.Stopped r t b airs h x =
+    secure_keeps list settled s a aired d downs r t b airs h x
+ended_keeps list clips settled s a aired d downs outcome.Lost r t b airs h x =
+    secure_keeps list settled s a aired d downs r t b airs h x
+ended_keeps list clips settled s a aired d downs outcome.Denied r t b airs h x =
+    secure_keeps list settled s a aired d downs r t b airs h x
+ended_keeps list clips settled s a aired d downs (outcome.Refused k) r t b airs h x =
+    secure_keeps list settled s a aired d downs r t b airs h x
+ended_keeps list clips settled s a aired d downs (outcome.Foreign k) r t b airs h x =
+    secure_keeps list settled s a aired d downs r t b airs h x
+ended_keeps list clips settled s a aired d downs (outcome.Strange k) r t b airs h x =
+    secure_keeps list settled s a aired d downs r t b airs h x
 
-pub holds_reads : (list : List Item) (clips : List (ClipId × Timecode)) (settled : ℕ) (s : Bool) (a : Cued) (aired : List Item) (ups : List Answer) (d : Phase)
+pub holds_reads : (list : List Item) (clips : List (ClipId × Timecode)) (settled : ℕ) (s : Bool) (a : Cued)
+    (aired : List Item) (ups : List Answer) (d : Phase)
     (downs : List Phase) (stage : Stage) (r : Reply) (t : Bool) (b : Cued) (airs : List Item)
     → Holds list clips settled s a aired ups (d ∷ downs) stage → Reads list clips d s a r t b airs
     → Holds list clips settled t b (aired ++ airs) (ups ++ record { to = d; reply = r } ∷ []) downs stage
@@ -366,7 +494,8 @@ holds_reads list clips settled s a aired ups d downs stage r t b airs h x = reco
     new : Answer
     new = record { to = d; reply = r }
 
-    pipe : (q : Phase) → IsPipe Confirming (length list) q (pipe_of ups (d ∷ downs)) → IsPipe Confirming (length list) q (pipe_of (ups ++ new ∷ []) downs)
+    pipe : (q : Phase) → IsPipe Confirming (length list) q (pipe_of ups (d ∷ downs))
+        → IsPipe Confirming (length list) q (pipe_of (ups ++ new ∷ []) downs)
     pipe q c = subst (IsPipe Confirming (length list) q) (sym (pipe_delivered ups new downs)) c
 
     by : (stage : Stage) → SpotAt list clips settled s a aired ups (d ∷ downs) stage
@@ -393,8 +522,10 @@ flow_copied n ups d downs phase.Close c = pipe_copied Confirming n _ _ ups d dow
 flow_copied n ups d downs phase.Halt c = tt
 flow_copied n ups d downs phase.HaltClose c = tt
 
-ended_copied : (list : List Item) (clips : List (ClipId × Timecode)) (settled : ℕ) (a : Cued) (aired : List Item) (d : Phase) (downs : List Phase)
-    (o : Outcome) → SpotEnded list clips settled a aired (d ∷ downs) o → SpotEnded list clips settled a aired (d ∷ d ∷ downs) o
+ended_copied : (list : List Item) (clips : List (ClipId × Timecode)) (settled : ℕ) (a : Cued) (aired : List Item)
+    (d : Phase) (downs : List Phase)
+    (o : Outcome) → SpotEnded list clips settled a aired (d ∷ downs) o
+    → SpotEnded list clips settled a aired (d ∷ d ∷ downs) o
 ended_copied list clips settled a aired d downs outcome.Done h = (h.0, none_copied plays d downs h.1)
 ended_copied list clips settled a aired d downs (outcome.Missing k) h = (h.0, none_copied plays d downs h.1, h.2, h.3)
 ended_copied list clips settled a aired d downs outcome.Stopped h = secure_copied list settled a aired d downs h
@@ -404,12 +535,17 @@ ended_copied list clips settled a aired d downs (outcome.Refused k) h = secure_c
 ended_copied list clips settled a aired d downs (outcome.Foreign k) h = secure_copied list settled a aired d downs h
 ended_copied list clips settled a aired d downs (outcome.Strange k) h = secure_copied list settled a aired d downs h
 
-pub holds_copied : (list : List Item) (clips : List (ClipId × Timecode)) (settled : ℕ) (s : Bool) (a : Cued) (aired : List Item) (ups : List Answer) (d : Phase)
+pub holds_copied : (list : List Item) (clips : List (ClipId × Timecode)) (settled : ℕ) (s : Bool) (a : Cued)
+    (aired : List Item) (ups : List Answer) (d : Phase)
     (downs : List Phase) (stage : Stage)
-    → Holds list clips settled s a aired ups (d ∷ downs) stage → Holds list clips settled s a aired ups (d ∷ d ∷ downs) stage
-holds_copied list clips settled s a aired ups d downs stage h = record { spot = by stage h.spot; fit = h.fit; true_told = h.true_told }
+    → Holds list clips settled s a aired ups (d ∷ downs) stage
+    → Holds list clips settled s a aired ups (d ∷ d ∷ downs) stage
+holds_copied list clips settled s a aired ups d downs stage h =
+    record { spot = by stage h.spot; fit = h.fit; true_told = h.true_told }
   where
-    by : (stage : Stage) → SpotAt list clips settled s a aired ups (d ∷ downs) stage → SpotAt list clips settled s a aired ups (d ∷ d ∷ downs) stage
+    by : (stage : Stage) → SpotAt list clips settled s a aired ups (d ∷ downs) stage
+        → SpotAt list clips settled s a aired ups (d ∷ d ∷ downs) stage
     by (Ready q) h = (spot_copied list settled s a aired ups d downs q h.0, flow_copied (length list) ups d downs q h.1)
-    by (Awaiting q) h = (spot_copied list settled s a aired ups d downs q h.0, flow_copied (length list) ups d downs q h.1)
+    by (Awaiting q) h =
+        (spot_copied list settled s a aired ups d downs q h.0, flow_copied (length list) ups d downs q h.1)
     by (Ended o) h = ended_copied list clips settled a aired d downs o h

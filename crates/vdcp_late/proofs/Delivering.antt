@@ -15,7 +15,7 @@ use Rattle.vdcp_late.specs.Pipe.{stretch, Climbs, stretches, IsPipe}
 use Rattle.vdcp_late.proofs.Executed.{Does, Executed, Shows, left_cued, put_on_air}
 use Rattle.vdcp_late.proofs.Places.{Answer, pipe_of, plays, waits, arms, misfits, fits_phase, is_asked, says_ack, says_done, says_empty, shows_no_cue}
 use Rattle.vdcp_late.proofs.Places.{cued_item, HasItem, HasDone, HasNone, At, Cueing, Waiting, ToAir, OnAir, Playing, Checking, Place}
-use Rattle.vdcp_late.proofs.Stretches.{Lies, cue_or_before, wait_or_before, play_or_before, check_or_before, climbs_before, climbs_behind, none_within, none_answers}
+use Rattle.vdcp_late.proofs.Stretches.{Lies, cue_or_before, wait_or_before, play_or_before, check_or_before, climbs_before, climbs_after, none_within, none_answers}
 use Rattle.vdcp_late.proofs.Thinning.{any_push}
 
 -- ---- what stays
@@ -23,10 +23,13 @@ use Rattle.vdcp_late.proofs.Thinning.{any_push}
 pub aired_same : (aired airs : List Item) → airs ≡ [] → aired ++ airs ≡ aired
 aired_same aired airs e = ap (λ (more : List Item). aired ++ more) e ∙ append-nil aired
 
-pub at_same : (list aired airs : List Item) (settled k : ℕ) → airs ≡ [] → At list aired settled k → At list (aired ++ airs) settled k
-at_same list aired airs settled k e h = record { aired_is = aired_same aired airs e ∙ h.aired_is; within = h.within; settled_is = h.settled_is }
+pub at_same : (list aired airs : List Item) (settled k : ℕ) → airs ≡ [] → At list aired settled k
+    → At list (aired ++ airs) settled k
+at_same list aired airs settled k e h =
+    record { aired_is = aired_same aired airs e ∙ h.aired_is; within = h.within; settled_is = h.settled_is }
 
-pub item_same : (list : List Item) (s t : Bool) (a b : Cued) (k : ℕ) → (t ≡ true → s ≡ true) → b ≡ a → HasItem list s a k → HasItem list t b k
+pub item_same : (list : List Item) (s t : Bool) (a b : Cued) (k : ℕ) → (t ≡ true → s ≡ true) → b ≡ a
+    → HasItem list s a k → HasItem list t b k
 item_same list s t a b k st ba h = λ e. ap cued_item ba ∙ h (st e)
 
 pub done_same : (s t : Bool) (a b : Cued) → (t ≡ true → s ≡ true) → b ≡ a → HasDone s a → HasDone t b
@@ -66,11 +69,13 @@ clash b t f = absurd (impossible (sym t ∙ f))
 pub ack_fits : (r : Reply) → (is_refusal r || is_ack r) ≡ true → (is_done r ≡ false) × (is_empty r ≡ false)
 ack_fits r e = grind arith
 
-other_fits : (q : Phase) (r : Reply) → is_asked q r ≡ is_ack r → fits_phase q r ≡ true → (is_done r ≡ false) × (is_empty r ≡ false)
+other_fits : (q : Phase) (r : Reply) → is_asked q r ≡ is_ack r → fits_phase q r ≡ true
+    → (is_done r ≡ false) × (is_empty r ≡ false)
 other_fits q r same e = ack_fits r (ap (λ (b : Bool). is_refusal r || b) (sym same) ∙ e)
 
 -- only PLAY airs
-pub airs_none : (list : List Item) (d : Phase) (s : Bool) (a : Cued) (r : Reply) (t : Bool) (b : Cued) (airs : List Item)
+pub airs_none : (list : List Item) (d : Phase) (s : Bool) (a : Cued) (r : Reply) (t : Bool) (b : Cued)
+    (airs : List Item)
     → plays d ≡ false → Does list d s a r t b airs → airs ≡ []
 airs_none list phase.Open s a r t b airs p h = h.2
 airs_none list phase.Select s a r t b airs p h = h.1
@@ -91,7 +96,8 @@ airs_none list phase.HaltClose s a r t b airs p h = h.1
 pub presence_fits : (r : Reply) → (is_refusal r || is_presence r) ≡ true → is_ack r ≡ false
 presence_fits r e = grind arith
 
-cueing_pushed : (list : List Item) (settled : ℕ) (s : Bool) (a : Cued) (aired : List Item) (ups : List Answer) (k : ℕ) (d : Phase) (r : Reply) (t : Bool)
+cueing_pushed : (list : List Item) (settled : ℕ) (s : Bool) (a : Cued) (aired : List Item) (ups : List Answer) (k : ℕ)
+    (d : Phase) (r : Reply) (t : Bool)
     (b : Cued) (airs : List Item)
     → Cueing list settled s a aired ups k → airs ≡ []
     → (HasItem list s a k → HasItem list t b k) → (is_ack r ≡ true → HasItem list t b k)
@@ -109,17 +115,22 @@ cueing_pushed list settled s a aired ups k d r t b airs h none still now = recor
 pub cueing_cue : (list : List Item) (s : Bool) (a : Cued) (k : ℕ) (r : Reply) (t : Bool) (b : Cued) → t ≡ s
     → ((b ≡ a) × (is_ack r ≡ false)) ⊎ (cued_item b ≡ slice_get list k)
     → (HasItem list s a k → HasItem list t b k) × (is_ack r ≡ true → HasItem list t b k)
-cueing_cue list s a k r t b st (inl (same, no_ack)) = (λ h. item_same list s t a b k (no_more s t st) same h, λ e. clash (is_ack r) e no_ack)
+cueing_cue list s a k r t b st (inl (same, no_ack)) =
+    (λ h. item_same list s t a b k (no_more s t st) same h, λ e. clash (is_ack r) e no_ack)
 cueing_cue list s a k r t b st (inr is) = (λ h e. is, λ _ e. is)
 
-pub cueing_keeps : (list : List Item) (settled : ℕ) (s : Bool) (a : Cued) (aired : List Item) (ups : List Answer) (k : ℕ) (d : Phase) (r : Reply) (t : Bool)
+pub cueing_keeps : (list : List Item) (settled : ℕ) (s : Bool) (a : Cued) (aired : List Item) (ups : List Answer)
+    (k : ℕ) (d : Phase) (r : Reply) (t : Bool)
     (b : Cued) (airs : List Item)
-    → Cueing list settled s a aired ups k → Lies Plain (length list) (5 * k + 2) (5 * k + 3) d → Executed list d s a r t b airs
+    → Cueing list settled s a aired ups k → Lies Plain (length list) (5 * k + 2) (5 * k + 3) d
+    → Executed list d s a r t b airs
     → Cueing list settled t b (aired ++ airs) (ups ++ record { to = d; reply = r } ∷ []) k
 cueing_keeps list settled s a aired ups k d r t b airs h lies x = by (cue_or_before (length list) k d h.within lies)
   where
     Goal : Phase → Type 0
-    Goal d = Executed list d s a r t b airs → Cueing list settled t b (aired ++ airs) (ups ++ record { to = d; reply = r } ∷ []) k
+    Goal d =
+        Executed list d s a r t b airs → Cueing list settled t b (aired ++ airs)
+        (ups ++ record { to = d; reply = r } ∷ []) k
 
     exists : (j : ℕ) → Goal (phase.Exists j)
     exists j x = cueing_pushed list settled s a aired ups k (phase.Exists j) r t b airs h x.does.2
@@ -144,7 +155,8 @@ no_item list k below none = at (slice_get_cases list k).1
     different : (x : Item) → slice_get list k ≡ Some x → ⊥
     different x is = cc
 
-    at : (((x : Item) × (k < length list) × (slice_get list k ≡ Some x) × (get_or list k x ≡ x)) ⊎ ((length list ≤ k) × (slice_get list k ≡ None))) → ⊥
+    at : (((x : Item) × (k < length list) × (slice_get list k ≡ Some x) × (get_or list k x ≡ x)) ⊎
+        ((length list ≤ k) × (slice_get list k ≡ None))) → ⊥
     at (inl (x, within, is, here)) = different x is
     at (inr (past, is)) = absurd (omega arith)
 
@@ -154,7 +166,8 @@ none_cued (cueing item) e = cc
 none_cued (done item) e = cc
 
 -- where the event's item is cued no state shows that nothing is
-pub never_empty : (list : List Item) (s : Bool) (a : Cued) (k : ℕ) (r : Reply) → k < length list → HasItem list s a k → Shows s a r → is_empty r ≡ false
+pub never_empty : (list : List Item) (s : Bool) (a : Cued) (k : ℕ) (r : Reply) → k < length list → HasItem list s a k
+    → Shows s a r → is_empty r ≡ false
 never_empty list s a k r below h shows = by (is_empty r) refl
   where
     by : (b : Bool) → is_empty r ≡ b → is_empty r ≡ false
@@ -165,7 +178,8 @@ and_false : (a b : Bool) → b ≡ false → (a && b) ≡ false
 and_false true b e = e
 and_false false b e = refl
 
-waiting_wait : (list : List Item) (settled : ℕ) (s : Bool) (a : Cued) (aired : List Item) (ups : List Answer) (k : ℕ) (r : Reply) (t : Bool) (b : Cued)
+waiting_wait : (list : List Item) (settled : ℕ) (s : Bool) (a : Cued) (aired : List Item) (ups : List Answer) (k : ℕ)
+    (r : Reply) (t : Bool) (b : Cued)
     (airs : List Item)
     → Waiting list settled s a aired ups k → Executed list (phase.Wait k) s a r t b airs
     → Waiting list settled t b (aired ++ airs) (ups ++ record { to = phase.Wait k; reply = r } ∷ []) k
@@ -173,7 +187,8 @@ waiting_wait list settled s a aired ups k r t b airs h x = record {
   at = at_same list aired airs settled k x.does.0.2 h.at;
   within = h.within;
   has_item = item_same list s t a b k (no_more s t x.does.0.0) x.does.0.1 h.has_item;
-  shown = λ e. done_same s t a b (no_more s t x.does.0.0) x.does.0.1 (by (pushed says_done ups (record { to = phase.Wait k; reply = r }) e));
+  shown = λ e. done_same s t a b (no_more s t x.does.0.0) x.does.0.1
+      (by (pushed says_done ups (record { to = phase.Wait k; reply = r }) e));
   never_none = none_pushed shows_no_cue ups (record { to = phase.Wait k; reply = r }) h.never_none
       (never_empty list s a k r h.within h.has_item x.does.1);
 }
@@ -183,7 +198,8 @@ waiting_wait list settled s a aired ups k r t b airs h x = record {
     by (inr e) = λ _. x.does.1.shows_done e
 
 -- before the answer to a cue of the event there is none to a status
-none_done : (list : List Item) (k : ℕ) (ups : List Answer) (downs : List Phase) → k < length list → list_any misfits ups ≡ false
+none_done : (list : List Item) (k : ℕ) (ups : List Answer) (downs : List Phase) → k < length list
+    → list_any misfits ups ≡ false
     → Climbs (5 * k + 3) (5 * k + 4) (stretches Plain (length list) (pipe_of ups (phase.Cue k ∷ downs)))
     → list_any says_done ups ≡ false
 none_done list k ups downs below fit c =
@@ -201,9 +217,11 @@ none_done list k ups downs below fit c =
     one : (x : Answer) → Lies Plain (length list) (5 * k + 3) (5 * k + 3) x.to → misfits x ≡ false → says_done x ≡ false
     one x l m =
         let is = is_cue x.to l in
-        (ack_fits x.reply (subst (λ (q : Phase). fits_phase q x.reply ≡ true) is (fitting (fits_phase x.to x.reply) m))).0
+        (ack_fits x.reply (subst (λ (q : Phase). fits_phase q x.reply ≡ true) is
+        (fitting (fits_phase x.to x.reply) m))).0
 
-waiting_cue : (list : List Item) (settled : ℕ) (s : Bool) (a : Cued) (aired : List Item) (ups : List Answer) (k : ℕ) (r : Reply) (t : Bool) (b : Cued)
+waiting_cue : (list : List Item) (settled : ℕ) (s : Bool) (a : Cued) (aired : List Item) (ups : List Answer) (k : ℕ)
+    (r : Reply) (t : Bool) (b : Cued)
     (airs : List Item)
     → Waiting list settled s a aired ups k → list_any says_done ups ≡ false → Executed list (phase.Cue k) s a r t b airs
     → Waiting list settled t b (aired ++ airs) (ups ++ record { to = phase.Cue k; reply = r } ∷ []) k
@@ -216,17 +234,22 @@ waiting_cue list settled s a aired ups k r t b airs h none x = record {
   never_none = none_pushed shows_no_cue ups (record { to = phase.Cue k; reply = r }) h.never_none refl;
 }
 
-pub waiting_keeps : (list : List Item) (settled : ℕ) (s : Bool) (a : Cued) (aired : List Item) (ups : List Answer) (d : Phase) (downs : List Phase) (k : ℕ)
+pub waiting_keeps : (list : List Item) (settled : ℕ) (s : Bool) (a : Cued) (aired : List Item) (ups : List Answer)
+    (d : Phase) (downs : List Phase) (k : ℕ)
     (r : Reply) (t : Bool) (b : Cued) (airs : List Item)
     → Waiting list settled s a aired ups k → list_any misfits ups ≡ false
     → Climbs (5 * k + 3) (5 * k + 4) (stretches Plain (length list) (pipe_of ups (d ∷ downs)))
     → Lies Plain (length list) (5 * k + 3) (5 * k + 4) d → Executed list d s a r t b airs
     → Waiting list settled t b (aired ++ airs) (ups ++ record { to = d; reply = r } ∷ []) k
-waiting_keeps list settled s a aired ups d downs k r t b airs h fit c lies x = by (wait_or_before (length list) k d h.within lies)
+waiting_keeps list settled s a aired ups d downs k r t b airs h fit c lies x =
+    by (wait_or_before (length list) k d h.within lies)
   where
-    by : (d ≡ phase.Cue k) ⊎ (d ≡ phase.Wait k) → Waiting list settled t b (aired ++ airs) (ups ++ record { to = d; reply = r } ∷ []) k
-    by (inl e) = subst (λ (d : Phase). Climbs (5 * k + 3) (5 * k + 4) (stretches Plain (length list) (pipe_of ups (d ∷ downs)))
-        → Executed list d s a r t b airs → Waiting list settled t b (aired ++ airs) (ups ++ record { to = d; reply = r } ∷ []) k) (sym e)
+    by : (d ≡ phase.Cue k) ⊎ (d ≡ phase.Wait k)
+        → Waiting list settled t b (aired ++ airs) (ups ++ record { to = d; reply = r } ∷ []) k
+    by (inl e) =
+        subst (λ (d : Phase). Climbs (5 * k + 3) (5 * k + 4) (stretches Plain (length list) (pipe_of ups (d ∷ downs)))
+        → Executed list d s a r t b airs → Waiting list settled t b (aired ++ airs)
+        (ups ++ record { to = d; reply = r } ∷ []) k) (sym e)
         (λ c x. waiting_cue list settled s a aired ups k r t b airs h (none_done list k ups downs h.within fit c) x) c x
     by (inr e) = subst (λ (d : Phase). Executed list d s a r t b airs
         → Waiting list settled t b (aired ++ airs) (ups ++ record { to = d; reply = r } ∷ []) k) (sym e)

@@ -17,7 +17,7 @@ use Rattle.vdcp_late.proofs.Delivering.{at_same, aired_same, item_same, done_sam
 use Rattle.vdcp_late.proofs.Executed.{Does, Executed, Shows, left_cued, put_on_air}
 use Rattle.vdcp_late.proofs.Places.{Answer, pipe_of, plays, waits, arms, misfits, fits_phase, is_asked, says_ack, says_done, says_empty, shows_no_cue}
 use Rattle.vdcp_late.proofs.Places.{cued_item, HasItem, HasDone, HasNone, At, Cueing, Waiting, ToAir, OnAir, Playing, Checking, Place}
-use Rattle.vdcp_late.proofs.Stretches.{Lies, play_or_before, check_or_before, climbs_behind, none_within}
+use Rattle.vdcp_late.proofs.Stretches.{Lies, play_or_before, check_or_before, climbs_after, none_within}
 
 -- ---- the event airs
 
@@ -34,11 +34,13 @@ airs_item list aired k (done x) below is item ready = at (slice_get_cases list k
     none : slice_get list k ≡ None → ⊥
     none e = cc
 
-    at : (((y : Item) × (k < length list) × (slice_get list k ≡ Some y) × (get_or list k y ≡ y)) ⊎ ((length list ≤ k) × (slice_get list k ≡ None)))
+    at : (((y : Item) × (k < length list) × (slice_get list k ≡ Some y) × (get_or list k y ≡ y)) ⊎
+        ((length list ≤ k) × (slice_get list k ≡ None)))
         → aired ++ x ∷ [] ≡ take (k + 1) list
     at (inl (y, within, there, here)) =
         let e = same y there in
-        let more : take (k + 1) list ≡ take k list ++ y ∷ [] = take_more list k y below ∙ ap (λ (z : Item). take k list ++ z ∷ []) here in
+        let more : take (k + 1) list ≡ take k list ++ y ∷ [] = take_more list k y below ∙ ap
+        (λ (z : Item). take k list ++ z ∷ []) here in
         ap (λ (front : List Item). front ++ x ∷ []) is ∙ ap (λ (z : Item). take k list ++ z ∷ []) e ∙ sym more
     at (inr (past, there)) = absurd (none there)
 
@@ -59,7 +61,8 @@ pub state_fits : (r : Reply) → (is_refusal r || is_state r) ≡ true → is_ac
 state_fits r e = grind arith
 
 -- a status leaves all as it is
-to_air_shows : (list : List Item) (s : Bool) (a : Cued) (aired : List Item) (ups : List Answer) (k : ℕ) (d : Phase) (r : Reply) (t : Bool) (b : Cued)
+to_air_shows : (list : List Item) (s : Bool) (a : Cued) (aired : List Item) (ups : List Answer) (k : ℕ) (d : Phase)
+    (r : Reply) (t : Bool) (b : Cued)
     (airs : List Item) → k < length list → t ≡ s → b ≡ a → airs ≡ [] → is_ack r ≡ false → Shows s a r
     → ToAir list s a aired ups k → ToAir list t b (aired ++ airs) (ups ++ record { to = d; reply = r } ∷ []) k
 to_air_shows list s a aired ups k d r t b airs below ts ba none no_ack shows h = record {
@@ -67,10 +70,12 @@ to_air_shows list s a aired ups k d r t b airs below ts ba none no_ack shows h =
   has_item = item_same list s t a b k (no_more s t ts) ba h.has_item;
   has_done = done_same s t a b (no_more s t ts) ba h.has_done;
   no_ack = none_pushed says_ack ups (record { to = d; reply = r }) h.no_ack no_ack;
-  no_empty = none_pushed says_empty ups (record { to = d; reply = r }) h.no_empty (never_empty list s a k r below h.has_item shows);
+  no_empty = none_pushed says_empty ups (record { to = d; reply = r }) h.no_empty
+      (never_empty list s a k r below h.has_item shows);
 }
 
-on_air_stays : (list : List Item) (s : Bool) (a : Cued) (aired : List Item) (d : Phase) (downs : List Phase) (k : ℕ) (t : Bool) (b : Cued)
+on_air_stays : (list : List Item) (s : Bool) (a : Cued) (aired : List Item) (d : Phase) (downs : List Phase) (k : ℕ)
+    (t : Bool) (b : Cued)
     (airs : List Item) → t ≡ s → b ≡ a → airs ≡ []
     → OnAir list s a aired (d ∷ downs) k → OnAir list t b (aired ++ airs) downs k
 on_air_stays list s a aired d downs k t b airs ts ba none h = record {
@@ -82,18 +87,20 @@ on_air_stays list s a aired d downs k t b airs ts ba none h = record {
     rest : (x y : Bool) → (x || y) ≡ false → y ≡ false
     rest x y e = grind arith
 
--- behind a PLAY nothing waits
+-- after a PLAY nothing waits
 none_waits : (list : List Item) (k : ℕ) (ups : List Answer) (downs : List Phase)
-    → Climbs (5 * k + 4) (5 * k + 5) (stretches Plain (length list) (pipe_of ups (phase.Play k ∷ downs))) → list_any waits downs ≡ false
+    → Climbs (5 * k + 4) (5 * k + 5) (stretches Plain (length list) (pipe_of ups (phase.Play k ∷ downs)))
+    → list_any waits downs ≡ false
 none_waits list k ups downs c =
     none_within Plain (length list) (5 * k + 5) (5 * k + 5) waits downs one
-    (climbs_behind Plain (length list) (5 * k + 4) (5 * k + 5) ups (phase.Play k) downs c)
+    (climbs_after Plain (length list) (5 * k + 4) (5 * k + 5) ups (phase.Play k) downs c)
   where
     one : (d : Phase) → Lies Plain (length list) (5 * k + 5) (5 * k + 5) d → waits d ≡ false
     one (phase.Wait j) l = absurd (omega arith)
     one d l = refl
 
-playing_play : (list : List Item) (settled : ℕ) (s : Bool) (a : Cued) (aired : List Item) (ups : List Answer) (downs : List Phase) (k : ℕ) (r : Reply)
+playing_play : (list : List Item) (settled : ℕ) (s : Bool) (a : Cued) (aired : List Item) (ups : List Answer)
+    (downs : List Phase) (k : ℕ) (r : Reply)
     (t : Bool) (b : Cued) (airs : List Item)
     → Playing list settled s a aired ups (phase.Play k ∷ downs) k
     → Climbs (5 * k + 4) (5 * k + 5) (stretches Plain (length list) (pipe_of ups (phase.Play k ∷ downs)))
@@ -116,7 +123,8 @@ playing_play list settled s a aired ups downs k r t b airs h c x = record {
     none = none_waits list k ups downs c
 
     by : ToAir list s a aired ups k ⊎ OnAir list s a aired (phase.Play k ∷ downs) k
-        → ((s ≡ false) × (b ≡ a) × (airs ≡ []) × (is_ack r ≡ false)) ⊎ ((s ≡ true) × (b ≡ left_cued a) × (airs ≡ put_on_air a)) → After
+        → ((s ≡ false) × (b ≡ a) × (airs ≡ []) × (is_ack r ≡ false)) ⊎
+        ((s ≡ true) × (b ≡ left_cued a) × (airs ≡ put_on_air a)) → After
     by (inl h) (inl (off, ba, none, no_ack)) = inl (record {
       aired_is = aired_same aired airs none ∙ h.aired_is;
       has_item = item_same list s t a b k (no_more s t x.does.0) ba h.has_item;
@@ -125,17 +133,20 @@ playing_play list settled s a aired ups downs k r t b airs h c x = record {
       no_empty = none_pushed says_empty ups new h.no_empty (ack_fits r x.fits).1;
     })
     by (inl q) (inr (on, ba, plays)) = inr (record {
-      aired_is = ap (λ (more : List Item). aired ++ more) plays ∙ airs_item list aired k a h.within q.aired_is (q.has_item on) (q.has_done on);
+      aired_is = ap (λ (more : List Item). aired ++ more) plays ∙ airs_item list aired k a h.within q.aired_is
+          (q.has_item on) (q.has_done on);
       has_none = λ _. ba ∙ left_none a (q.has_done on);
       none_waits = none;
     })
-    by (inr q) (inl (off, ba, nothing, no_ack)) = inr (on_air_stays list s a aired (phase.Play k) downs k t b airs x.does.0 ba nothing q)
+    by (inr q) (inl (off, ba, nothing, no_ack)) =
+        inr (on_air_stays list s a aired (phase.Play k) downs k t b airs x.does.0 ba nothing q)
     by (inr q) (inr (on, ba, plays)) =
         let e = airs_nothing a (q.has_none on) in
         inr (on_air_stays list s a aired (phase.Play k) downs k t b airs x.does.0 (ba ∙ e.1) (plays ∙ e.0) q)
 
 -- a status, asked for in Wait before the PLAY or in Probe
-playing_shows : (list : List Item) (settled : ℕ) (s : Bool) (a : Cued) (aired : List Item) (ups : List Answer) (d : Phase) (downs : List Phase) (k : ℕ)
+playing_shows : (list : List Item) (settled : ℕ) (s : Bool) (a : Cued) (aired : List Item) (ups : List Answer)
+    (d : Phase) (downs : List Phase) (k : ℕ)
     (r : Reply) (t : Bool) (b : Cued) (airs : List Item)
     → Playing list settled s a aired ups (d ∷ downs) k → t ≡ s → b ≡ a → airs ≡ [] → is_ack r ≡ false → Shows s a r
     → (waits d ≡ false) ⊎ (waits d ≡ true)
@@ -145,7 +156,8 @@ playing_shows list settled s a aired ups d downs k r t b airs h ts ba none no_ac
     new : Answer
     new = record { to = d; reply = r }
 
-    with_stand : shows_no_cue new ≡ false → ToAir list t b (aired ++ airs) (ups ++ new ∷ []) k ⊎ OnAir list t b (aired ++ airs) downs k
+    with_stand : shows_no_cue new ≡ false → ToAir list t b (aired ++ airs) (ups ++ new ∷ []) k ⊎ OnAir list t b
+        (aired ++ airs) downs k
         → Playing list settled t b (aired ++ airs) (ups ++ new ∷ []) downs k
     with_stand e stands = record {
       settled_is = h.settled_is;
@@ -167,32 +179,40 @@ playing_shows list settled s a aired ups d downs k r t b airs h ts ba none no_ac
         → Playing list settled t b (aired ++ airs) (ups ++ new ∷ []) downs k
     by (inl q) w = with_stand (shown_not (waits d) (is_empty r) (never_empty list s a k r h.within q.has_item shows))
         (inl (to_air_shows list s a aired ups k d r t b airs h.within ts ba none no_ack shows q))
-    by (inr q) (inl w) = with_stand (not_shown (waits d) (is_empty r) w) (inr (on_air_stays list s a aired d downs k t b airs ts ba none q))
+    by (inr q) (inl w) =
+        with_stand (not_shown (waits d) (is_empty r) w)
+        (inr (on_air_stays list s a aired d downs k t b airs ts ba none q))
     by (inr q) (inr w) = clash (waits d) w (left (waits d) (list_any waits downs) q.none_waits)
 
-pub playing_keeps : (list : List Item) (settled : ℕ) (s : Bool) (a : Cued) (aired : List Item) (ups : List Answer) (d : Phase) (downs : List Phase) (k : ℕ)
+pub playing_keeps : (list : List Item) (settled : ℕ) (s : Bool) (a : Cued) (aired : List Item) (ups : List Answer)
+    (d : Phase) (downs : List Phase) (k : ℕ)
     (r : Reply) (t : Bool) (b : Cued) (airs : List Item)
     → Playing list settled s a aired ups (d ∷ downs) k
     → Climbs (5 * k + 4) (5 * k + 5) (stretches Plain (length list) (pipe_of ups (d ∷ downs)))
     → Lies Plain (length list) (5 * k + 4) (5 * k + 5) d → Executed list d s a r t b airs
     → Playing list settled t b (aired ++ airs) (ups ++ record { to = d; reply = r } ∷ []) downs k
-playing_keeps list settled s a aired ups d downs k r t b airs h c lies x = by (play_or_before (length list) k d h.within lies) h c x
+playing_keeps list settled s a aired ups d downs k r t b airs h c lies x =
+    by (play_or_before (length list) k d h.within lies) h c x
   where
     Goal : Phase → Type 0
     Goal d = Playing list settled s a aired ups (d ∷ downs) k
-        → Climbs (5 * k + 4) (5 * k + 5) (stretches Plain (length list) (pipe_of ups (d ∷ downs))) → Executed list d s a r t b airs
+        → Climbs (5 * k + 4) (5 * k + 5) (stretches Plain (length list) (pipe_of ups (d ∷ downs)))
+        → Executed list d s a r t b airs
         → Playing list settled t b (aired ++ airs) (ups ++ record { to = d; reply = r } ∷ []) downs k
 
     by : (d ≡ phase.Wait k) ⊎ (d ≡ phase.Play k) ⊎ (d ≡ phase.Probe k) → Goal d
-    by (inl e) = subst Goal (sym e) (λ h c x. playing_shows list settled s a aired ups (phase.Wait k) downs k r t b airs h x.does.0.0 x.does.0.1 x.does.0.2
+    by (inl e) = subst Goal (sym e) (λ h c x. playing_shows list settled s a aired ups
+        (phase.Wait k) downs k r t b airs h x.does.0.0 x.does.0.1 x.does.0.2
         (state_fits r x.fits) x.does.1 (inr refl))
     by (inr (inl e)) = subst Goal (sym e) (λ h c x. playing_play list settled s a aired ups downs k r t b airs h c x)
-    by (inr (inr e)) = subst Goal (sym e) (λ h c x. playing_shows list settled s a aired ups (phase.Probe k) downs k r t b airs h x.does.0.0 x.does.0.1
+    by (inr (inr e)) = subst Goal (sym e) (λ h c x. playing_shows list settled s a aired ups
+        (phase.Probe k) downs k r t b airs h x.does.0.0 x.does.0.1
         x.does.0.2 (state_fits r x.fits) x.does.1 (inl refl))
 
 -- ---- Check
 
-checking_stays : (list : List Item) (settled : ℕ) (s : Bool) (a : Cued) (aired : List Item) (k : ℕ) (t : Bool) (b : Cued) (airs : List Item)
+checking_stays : (list : List Item) (settled : ℕ) (s : Bool) (a : Cued) (aired : List Item) (k : ℕ) (t : Bool)
+    (b : Cued) (airs : List Item)
     → Checking list settled s a aired k → t ≡ s → b ≡ a → airs ≡ [] → Checking list settled t b (aired ++ airs) k
 checking_stays list settled s a aired k t b airs h ts ba none = record {
   at = at_same list aired airs settled (k + 1) none h.at;
@@ -200,25 +220,33 @@ checking_stays list settled s a aired k t b airs h ts ba none = record {
   has_none = none_same s t a b (no_more s t ts) ba h.has_none;
 }
 
-checking_play : (list : List Item) (settled : ℕ) (s : Bool) (a : Cued) (aired : List Item) (k : ℕ) (r : Reply) (t : Bool) (b : Cued) (airs : List Item)
+checking_play : (list : List Item) (settled : ℕ) (s : Bool) (a : Cued) (aired : List Item) (k : ℕ) (r : Reply)
+    (t : Bool) (b : Cued) (airs : List Item)
     → Checking list settled s a aired k → t ≡ s
-    → ((s ≡ false) × (b ≡ a) × (airs ≡ []) × (is_ack r ≡ false)) ⊎ ((s ≡ true) × (b ≡ left_cued a) × (airs ≡ put_on_air a))
+    → ((s ≡ false) × (b ≡ a) × (airs ≡ []) × (is_ack r ≡ false)) ⊎
+    ((s ≡ true) × (b ≡ left_cued a) × (airs ≡ put_on_air a))
     → Checking list settled t b (aired ++ airs) k
-checking_play list settled s a aired k r t b airs h ts (inl (off, ba, none, no_ack)) = checking_stays list settled s a aired k t b airs h ts ba none
+checking_play list settled s a aired k r t b airs h ts (inl (off, ba, none, no_ack)) =
+    checking_stays list settled s a aired k t b airs h ts ba none
 checking_play list settled s a aired k r t b airs h ts (inr (on, ba, plays)) =
     let e = airs_nothing a (h.has_none on) in
     checking_stays list settled s a aired k t b airs h ts (ba ∙ e.1) (plays ∙ e.0)
 
-pub checking_keeps : (list : List Item) (settled : ℕ) (s : Bool) (a : Cued) (aired : List Item) (d : Phase) (k : ℕ) (r : Reply) (t : Bool) (b : Cued)
+pub checking_keeps : (list : List Item) (settled : ℕ) (s : Bool) (a : Cued) (aired : List Item) (d : Phase) (k : ℕ)
+    (r : Reply) (t : Bool) (b : Cued)
     (airs : List Item)
-    → Checking list settled s a aired k → Lies Plain (length list) (5 * k + 5) (5 * k + 6) d → Executed list d s a r t b airs
+    → Checking list settled s a aired k → Lies Plain (length list) (5 * k + 5) (5 * k + 6) d
+    → Executed list d s a r t b airs
     → Checking list settled t b (aired ++ airs) k
-checking_keeps list settled s a aired d k r t b airs h lies x = by (check_or_before Plain (length list) k d h.within lies) x
+checking_keeps list settled s a aired d k r t b airs h lies x =
+    by (check_or_before Plain (length list) k d h.within lies) x
   where
     Goal : Phase → Type 0
     Goal d = Executed list d s a r t b airs → Checking list settled t b (aired ++ airs) k
 
     by : (d ≡ phase.Play k) ⊎ (d ≡ phase.Probe k) ⊎ (d ≡ phase.Check k) → Goal d
     by (inl e) = subst Goal (sym e) (λ x. checking_play list settled s a aired k r t b airs h x.does.0 x.does.1)
-    by (inr (inl e)) = subst Goal (sym e) (λ x. checking_stays list settled s a aired k t b airs h x.does.0.0 x.does.0.1 x.does.0.2)
-    by (inr (inr e)) = subst Goal (sym e) (λ x. checking_stays list settled s a aired k t b airs h x.does.0 x.does.1 x.does.2)
+    by (inr (inl e)) =
+        subst Goal (sym e) (λ x. checking_stays list settled s a aired k t b airs h x.does.0.0 x.does.0.1 x.does.0.2)
+    by (inr (inr e)) =
+        subst Goal (sym e) (λ x. checking_stays list settled s a aired k t b airs h x.does.0 x.does.1 x.does.2)

@@ -34,7 +34,8 @@ abbrev pub Does : List Item → Phase → Bool → Cued → Reply → Bool → C
 Does list phase.Open selected cued r selected_after cued_after airs = Stays selected cued selected_after cued_after airs
 Does list phase.Select selected cued r selected_after cued_after airs = (cued_after ≡ cued) × (airs ≡ [])
 Does list phase.Seen selected cued r selected_after cued_after airs = Stays selected cued selected_after cued_after airs
-Does list (phase.Exists k) selected cued r selected_after cued_after airs = Stays selected cued selected_after cued_after airs
+Does list (phase.Exists k) selected cued r selected_after cued_after airs =
+    Stays selected cued selected_after cued_after airs
 Does list (phase.Cue k) selected cued r selected_after cued_after airs =
     (selected_after ≡ selected) × (airs ≡ [])
     × (((cued_after ≡ cued) × (is_ack r ≡ false)) ⊎ (cued_item cued_after ≡ slice_get list k))
@@ -46,8 +47,10 @@ Does list (phase.Play k) selected cued r selected_after cued_after airs =
     ⊎ ((selected ≡ true) × (cued_after ≡ left_cued cued) × (airs ≡ put_on_air cued)))
 Does list (phase.Probe k) selected cued r selected_after cued_after airs =
     Stays selected cued selected_after cued_after airs × Shows selected cued r
-Does list (phase.Check k) selected cued r selected_after cued_after airs = Stays selected cued selected_after cued_after airs
-Does list phase.Drain selected cued r selected_after cued_after airs = Stays selected cued selected_after cued_after airs
+Does list (phase.Check k) selected cued r selected_after cued_after airs =
+    Stays selected cued selected_after cued_after airs
+Does list phase.Drain selected cued r selected_after cued_after airs =
+    Stays selected cued selected_after cued_after airs
 Does list phase.Close selected cued r selected_after cued_after airs =
     (selected_after ≡ true → selected ≡ true) × (airs ≡ []) × ((cued_after ≡ empty) ⊎ (cued_after ≡ cued))
 Does list phase.Halt selected cued r selected_after cued_after airs =
@@ -55,7 +58,8 @@ Does list phase.Halt selected cued r selected_after cued_after airs =
 Does list phase.HaltClose selected cued r selected_after cued_after airs =
     (selected_after ≡ true → selected ≡ true) × (airs ≡ []) × ((cued_after ≡ empty) ⊎ (cued_after ≡ cued))
 
-pub record Executed (list : List Item) (q : Phase) (selected : Bool) (cued : Cued) (r : Reply) (selected_after : Bool) (cued_after : Cued)
+pub record Executed (list : List Item) (q : Phase) (selected : Bool) (cued : Cued) (r : Reply) (selected_after : Bool)
+    (cued_after : Cued)
     (airs : List Item) : Type 0 where
   pub fits : fits_phase q r ≡ true
   pub does : Does list q selected cued r selected_after cued_after airs

@@ -29,7 +29,8 @@ use Rattle.vdcp_late.proofs.Standing.{knows}
 -- what an end says of the clips that went to air
 abbrev pub EndHolds : List Item → List (ClipId × Timecode) → List Item → ℕ → Outcome → Type 0
 EndHolds list clips aired settled outcome.Done = At list aired settled (length list)
-EndHolds list clips aired settled (outcome.Missing k) = At list aired settled k × (k < length list) × (knows clips (slice_get list k) ≡ false)
+EndHolds list clips aired settled (outcome.Missing k) =
+    At list aired settled k × (k < length list) × (knows clips (slice_get list k) ≡ false)
 EndHolds list clips aired settled _ = Unit {0}
 
 abbrev pub EndHoldsAt : List Item → List (ClipId × Timecode) → List Item → ℕ → Stage → Type 0
@@ -37,7 +38,8 @@ EndHoldsAt list clips aired settled (Ended o) = EndHolds list clips aired settle
 EndHoldsAt list clips aired settled _ = Unit {0}
 
 -- what a channel's clips have to keep
-pub record Airs (list : List Item) (clips : List (ClipId × Timecode)) (aired : List Item) (settled : ℕ) (stage : Stage) : Type 0 where
+pub record Airs (list : List Item) (clips : List (ClipId × Timecode)) (aired : List Item) (settled : ℕ)
+    (stage : Stage) : Type 0 where
   pub near : Near list aired settled
   pub end_holds : EndHoldsAt list clips aired settled stage
 
@@ -50,15 +52,18 @@ take_within (suc s) (suc a) [] l = refl
 take_within (suc s) (suc a) (x ∷ xs) l = ap (λ ys. x ∷ ys) (take_within s a xs (omega arith))
 
 begins : (list aired : List Item) (settled : ℕ) → Near list aired settled → (more : List Item) × (list ≡ aired ++ more)
-begins list aired settled n =
-    (drop (length aired) list, sym (take-append-drop (length aired) list) ∙ ap (λ (front : List Item). front ++ drop (length aired) list) (sym n.aired_is))
+begins list aired settled n = (
+  drop (length aired) list,
+  sym (take-append-drop (length aired) list) ∙ ap
+      (λ (front : List Item). front ++ drop (length aired) list) (sym n.aired_is),
+)
 
 reports : (list aired : List Item) (settled : ℕ) → Near list aired settled
     → (last : List Item) × (aired ≡ take settled list ++ last) × (length last ≤ 1)
 reports list aired settled n =
-    let front : take settled aired ≡ take settled list = ap (take settled) n.aired_is ∙ take_within settled (length aired) list n.low in
-    let size : length (drop settled aired) + settled ≡ length aired = omega (arith, length-drop settled aired, n.low) in
-    (
+    let front : take settled aired ≡ take settled list = ap (take settled) n.aired_is ∙ take_within settled
+    (length aired) list n.low in
+    let size : length (drop settled aired) + settled ≡ length aired = omega (arith, length-drop settled aired, n.low) in (
       drop settled aired,
       sym (take-append-drop settled aired) ∙ ap (λ (x : List Item). x ++ drop settled aired) front,
       omega (arith, size, n.high),
@@ -66,44 +71,57 @@ reports list aired settled n =
 
 -- ---- what the outcome means
 
-unknown_at : (clips : List (ClipId × Timecode)) (list : List Item) (k : ℕ) (o : Option Item) → slice_get list k ≡ o → k < length list
+unknown_at : (clips : List (ClipId × Timecode)) (list : List Item) (k : ℕ) (o : Option Item) → slice_get list k ≡ o
+    → k < length list
     → knows clips o ≡ false → IsUnknownAt clips list k
 unknown_at clips list k None is below e = absurd (no_item list k below is)
-unknown_at clips list k (Some item) is below e = subst (λ (o : Option Item). IsSomeAnd o (λ item. is_known clips item.id ≡ false)) (sym is) e
+unknown_at clips list k (Some item) is below e =
+    subst (λ (o : Option Item). IsSomeAnd o (λ item. is_known clips item.id ≡ false)) (sym is) e
 
-exactly : (plan : Plan) (aired : List Item) (log : List Exchange) (reported k : ℕ) → At plan.list aired reported k → reported ≡ settled plan.mode log
+exactly : (plan : Plan) (aired : List Item) (log : List Exchange) (reported k : ℕ) → At plan.list aired reported k
+    → reported ≡ settled plan.mode log
     → AreReported plan aired log k
 exactly plan aired log reported k a counted = record {
   aired_count = ap length a.aired_is ∙ taken plan.list k a.within;
   reported_count = sym counted ∙ a.settled_is;
 }
 
-refused_in : (mode : Mode) (plan : Plan) (log : List Exchange) (k : ℕ) → (mode ≡ Confirming → IsRefused plan.list plan.limit log k)
+refused_in : (mode : Mode) (plan : Plan) (log : List Exchange) (k : ℕ)
+    → (mode ≡ Confirming → IsRefused plan.list plan.limit log k)
     → IsLateRefused mode plan log k
 refused_in Plain plan log k by_log = tt
 refused_in Confirming plan log k by_log = by_log refl
 
-means : (c : LateChannel) (o : Outcome) → EndHolds c.plan.list c.port.clips c.aired c.state.settled o → IsLawful c.plan c.state c.log
+means : (c : LateChannel) (o : Outcome) → EndHolds c.plan.list c.port.clips c.aired c.state.settled o
+    → IsLawful c.plan c.state c.log
     → outcome_of c.state.stage ≡ Some o → LateMeans c.port.clips c.plan c.aired c.log o
-means c outcome.Done h l e =
-    (h.aired_is ∙ take-length c.plan.list, exactly c.plan c.aired c.log c.state.settled (length c.plan.list) h l.is_settled)
+means c outcome.Done h l e = (
+  h.aired_is ∙ take-length c.plan.list,
+  exactly c.plan c.aired c.log c.state.settled
+      (length c.plan.list) h l.is_settled,
+)
 means c outcome.Stopped h l e = tt
 means c outcome.Lost h l e = l.is_lost.0 e
 means c outcome.Denied h l e = tt
-means c (outcome.Missing k) h l e =
-    (unknown_at c.port.clips c.plan.list k (slice_get c.plan.list k) refl h.1 h.2, exactly c.plan c.aired c.log c.state.settled k h.0 l.is_settled)
+means c (outcome.Missing k) h l e = (
+  unknown_at c.port.clips c.plan.list k (slice_get c.plan.list k) refl h.1 h.2,
+  exactly c.plan c.aired c.log
+      c.state.settled k h.0 l.is_settled,
+)
 means c (outcome.Refused k) h l e = refused_in c.plan.mode c.plan c.log k (λ confirms. l.is_refused confirms k e)
 means c (outcome.Foreign k) h l e = tt
 means c (outcome.Strange k) h l e = tt
 
-means_at : (c : LateChannel) (stage : Stage) → c.state.stage ≡ stage → EndHoldsAt c.plan.list c.port.clips c.aired c.state.settled stage
+means_at : (c : LateChannel) (stage : Stage) → c.state.stage ≡ stage
+    → EndHoldsAt c.plan.list c.port.clips c.aired c.state.settled stage
     → IsLawful c.plan c.state c.log
     → IfSome (outcome_of stage) (LateMeans c.port.clips c.plan c.aired c.log)
 means_at c (Ready q) e h l = tt
 means_at c (Awaiting q) e h l = tt
 means_at c (Ended o) e h l = means c o h l (ap outcome_of e)
 
-pub headline : (c : LateChannel) → Airs c.plan.list c.port.clips c.aired c.state.settled c.state.stage → IsLawful c.plan c.state c.log → LateHeadline c
+pub headline : (c : LateChannel) → Airs c.plan.list c.port.clips c.aired c.state.settled c.state.stage
+    → IsLawful c.plan c.state c.log → LateHeadline c
 headline c a l = record {
   beginning = begins c.plan.list c.aired c.state.settled a.near;
   reported = reports c.plan.list c.aired c.state.settled a.near;

@@ -31,17 +31,22 @@ use Rattle.vdcp_late.proofs.Standing.{knows, differs, misleads, misleads_at, Pla
 use Rattle.vdcp_late.proofs.Stretches.{Lies}
 
 -- where a turn leads
-abbrev pub Leads : List Item → List (ClipId × Timecode) → ℕ → Bool → Cued → List Item → List Answer → List Phase → Transition → Type 0
-Leads list clips settled s a aired ups downs turn = PlaceAt list clips (settled_after turn settled) s a aired ups downs (stage_after turn)
+abbrev pub Leads : List Item → List (ClipId × Timecode) → ℕ → Bool → Cued → List Item → List Answer → List Phase
+    → Transition → Type 0
+Leads list clips settled s a aired ups downs turn =
+    PlaceAt list clips (settled_after turn settled) s a aired ups downs (stage_after turn)
 
 -- the place of a phase, with its pipe
 abbrev pub Here : List Item → ℕ → Bool → Cued → List Item → List Answer → List Phase → Phase → Type 0
-Here list settled s a aired ups downs q = Place list settled s a aired ups downs q × IsPipe Plain (length list) q (pipe_of ups downs)
+Here list settled s a aired ups downs q =
+    Place list settled s a aired ups downs q × IsPipe Plain (length list) q (pipe_of ups downs)
 
 -- ---- silence
 
-goes_on : (list : List Item) (clips : List (ClipId × Timecode)) (settled : ℕ) (s : Bool) (a : Cued) (aired : List Item) (ups : List Answer) (downs : List Phase)
-    (q : Phase) → Here list settled s a aired ups downs q → Leads list clips settled s a aired ups downs (on_no_answer Plain q)
+goes_on : (list : List Item) (clips : List (ClipId × Timecode)) (settled : ℕ) (s : Bool) (a : Cued) (aired : List Item)
+    (ups : List Answer) (downs : List Phase)
+    (q : Phase) → Here list settled s a aired ups downs q
+    → Leads list clips settled s a aired ups downs (on_no_answer Plain q)
 goes_on list clips settled s a aired ups downs (phase.Play k) h = h
 goes_on list clips settled s a aired ups downs phase.Open h = h
 goes_on list clips settled s a aired ups downs phase.Select h = h
@@ -56,34 +61,55 @@ goes_on list clips settled s a aired ups downs phase.Close h = h
 goes_on list clips settled s a aired ups downs phase.Halt h = h
 goes_on list clips settled s a aired ups downs phase.HaltClose h = h
 
-pub silent : (list : List Item) (clips : List (ClipId × Timecode)) (settled : ℕ) (s : Bool) (a : Cued) (aired : List Item) (ups : List Answer) (downs : List Phase)
+pub silent : (list : List Item) (clips : List (ClipId × Timecode)) (settled : ℕ) (s : Bool) (a : Cued)
+    (aired : List Item) (ups : List Answer) (downs : List Phase)
     (q : Phase) (limit unanswered : ℕ) (counts : Bool)
-    → Here list settled s a aired ups downs q → Leads list clips settled s a aired ups downs (on_unanswered Plain limit unanswered counts q)
+    → Here list settled s a aired ups downs q
+    → Leads list clips settled s a aired ups downs (on_unanswered Plain limit unanswered counts q)
 silent list clips settled s a aired ups downs q limit unanswered counts h = by (counts && nat_le limit (unanswered + 1))
   where
-    by : (b : Bool) → Leads list clips settled s a aired ups downs (if b then Ends outcome.Lost else on_no_answer Plain q)
+    by : (b : Bool) → Leads list clips settled s a aired ups downs
+        (if b then Ends outcome.Lost else on_no_answer Plain q)
     by true = calm_in list settled s a aired ups downs q h.0 h.1
     by false = goes_on list clips settled s a aired ups downs q h
 
 -- ---- a refusal
 
-closes : (list : List Item) (settled : ℕ) (s : Bool) (a : Cued) (aired : List Item) (ups : List Answer) (downs : List Phase)
-    → Here list settled s a aired ups downs phase.Close → At list aired settled (length list) × (list_any plays downs ≡ false)
-closes list settled s a aired ups downs h = (h.0, no_plays Plain (length list) (5 * length list + 1) (5 * length list + 3) ups downs
-    (quiet Plain (length list) (length list) (5 * length list + 1) (5 * length list + 3) (omega arith) (omega arith)) h.1)
+closes : (list : List Item) (settled : ℕ) (s : Bool) (a : Cued) (aired : List Item) (ups : List Answer)
+    (downs : List Phase)
+    → Here list settled s a aired ups downs phase.Close
+    → At list aired settled (length list) × (list_any plays downs ≡ false)
+closes list settled s a aired ups downs h = (
+  h.0,
+  no_plays Plain (length list) (5 * length list + 1) (5 * length list + 3) ups downs
+      (quiet Plain (length list) (length list) (5 * length list + 1) (5 * length list + 3) (omega arith) (omega arith))
+      h.1,
+)
 
-pub refused : (list : List Item) (clips : List (ClipId × Timecode)) (settled : ℕ) (s : Bool) (a : Cued) (aired : List Item) (ups : List Answer) (downs : List Phase)
-    (q : Phase) → Here list settled s a aired ups downs q → Leads list clips settled s a aired ups downs (on_refusal (length list) q)
-refused list clips settled s a aired ups downs phase.Open h = calm_in list settled s a aired ups downs phase.Open h.0 h.1
-refused list clips settled s a aired ups downs phase.Select h = calm_in list settled s a aired ups downs phase.Select h.0 h.1
-refused list clips settled s a aired ups downs phase.Seen h = calm_in list settled s a aired ups downs phase.Seen h.0 h.1
-refused list clips settled s a aired ups downs (phase.Exists k) h = calm_in list settled s a aired ups downs (phase.Exists k) h.0 h.1
-refused list clips settled s a aired ups downs (phase.Cue k) h = calm_in list settled s a aired ups downs (phase.Cue k) h.0 h.1
-refused list clips settled s a aired ups downs (phase.Wait k) h = calm_in list settled s a aired ups downs (phase.Wait k) h.0 h.1
-refused list clips settled s a aired ups downs (phase.Play k) h = calm_in list settled s a aired ups downs (phase.Play k) h.0 h.1
-refused list clips settled s a aired ups downs (phase.Probe k) h = calm_in list settled s a aired ups downs (phase.Probe k) h.0 h.1
-refused list clips settled s a aired ups downs (phase.Check k) h = calm_in list settled s a aired ups downs (phase.Check k) h.0 h.1
-refused list clips settled s a aired ups downs phase.Drain h = calm_in list settled s a aired ups downs phase.Drain h.0 h.1
+pub refused : (list : List Item) (clips : List (ClipId × Timecode)) (settled : ℕ) (s : Bool) (a : Cued)
+    (aired : List Item) (ups : List Answer) (downs : List Phase)
+    (q : Phase) → Here list settled s a aired ups downs q
+    → Leads list clips settled s a aired ups downs (on_refusal (length list) q)
+refused list clips settled s a aired ups downs phase.Open h =
+    calm_in list settled s a aired ups downs phase.Open h.0 h.1
+refused list clips settled s a aired ups downs phase.Select h =
+    calm_in list settled s a aired ups downs phase.Select h.0 h.1
+refused list clips settled s a aired ups downs phase.Seen h =
+    calm_in list settled s a aired ups downs phase.Seen h.0 h.1
+refused list clips settled s a aired ups downs (phase.Exists k) h =
+    calm_in list settled s a aired ups downs (phase.Exists k) h.0 h.1
+refused list clips settled s a aired ups downs (phase.Cue k) h =
+    calm_in list settled s a aired ups downs (phase.Cue k) h.0 h.1
+refused list clips settled s a aired ups downs (phase.Wait k) h =
+    calm_in list settled s a aired ups downs (phase.Wait k) h.0 h.1
+refused list clips settled s a aired ups downs (phase.Play k) h =
+    calm_in list settled s a aired ups downs (phase.Play k) h.0 h.1
+refused list clips settled s a aired ups downs (phase.Probe k) h =
+    calm_in list settled s a aired ups downs (phase.Probe k) h.0 h.1
+refused list clips settled s a aired ups downs (phase.Check k) h =
+    calm_in list settled s a aired ups downs (phase.Check k) h.0 h.1
+refused list clips settled s a aired ups downs phase.Drain h =
+    calm_in list settled s a aired ups downs phase.Drain h.0 h.1
 refused list clips settled s a aired ups downs phase.Close h = closes list settled s a aired ups downs h
 refused list clips settled s a aired ups downs phase.Halt h = h
 refused list clips settled s a aired ups downs phase.HaltClose h = h.0
@@ -91,23 +117,32 @@ refused list clips settled s a aired ups downs phase.HaltClose h = h.0
 -- ---- an answer
 
 -- to the next event, or to the end of the list
-next_place : (list : List Item) (clips : List (ClipId × Timecode)) (settled : ℕ) (s : Bool) (a : Cued) (aired : List Item) (ups : List Answer) (downs : List Phase)
-    (k : ℕ) → At list aired settled k → Climbs (5 * k + 1) (5 * k + 1) (stretches Plain (length list) (pipe_of ups downs))
+next_place : (list : List Item) (clips : List (ClipId × Timecode)) (settled : ℕ) (s : Bool) (a : Cued)
+    (aired : List Item) (ups : List Answer) (downs : List Phase)
+    (k : ℕ) → At list aired settled k → Climbs (5 * k + 1) (5 * k + 1)
+    (stretches Plain (length list) (pipe_of ups downs))
     → PlaceAt list clips settled s a aired ups downs (Ready (next list k))
 next_place list clips settled s a aired ups downs k h c = by (nat_lt k (length list)) refl
   where
-    by : (b : Bool) → nat_lt k (length list) ≡ b → PlaceAt list clips settled s a aired ups downs (Ready (if b then phase.Exists k else phase.Drain))
+    by : (b : Bool) → nat_lt k (length list) ≡ b
+        → PlaceAt list clips settled s a aired ups downs (Ready (if b then phase.Exists k else phase.Drain))
     by true e =
-        let below : k < length list = grind arith in
-        ((h, below), climbs_within (5 * k + 1) (5 * k + 1) (5 * k + 1) (5 * k + 2) (stretches Plain (length list) (pipe_of ups downs)) (omega arith) (omega arith) c)
+        let below : k < length list = grind arith in (
+          (h, below),
+          climbs_within (5 * k + 1) (5 * k + 1) (5 * k + 1) (5 * k + 2)
+              (stretches Plain (length list) (pipe_of ups downs)) (omega arith) (omega arith) c,
+        )
     by false e =
         let past : length list ≤ k = grind arith in
-        let all : k ≡ length list = omega (arith, past, h.within) in
-        (subst (λ (n : ℕ). At list aired settled n) all h,
-        climbs_within (5 * k + 1) (5 * k + 1) (5 * length list + 1) (5 * length list + 2) (stretches Plain (length list) (pipe_of ups downs)) (omega (arith, all)) (omega (arith, all)) c)
+        let all : k ≡ length list = omega (arith, past, h.within) in (
+          subst (λ (n : ℕ). At list aired settled n) all h,
+          climbs_within (5 * k + 1) (5 * k + 1) (5 * length list + 1) (5 * length list + 2)
+              (stretches Plain (length list) (pipe_of ups downs)) (omega (arith, all)) (omega (arith, all)) c,
+        )
 
 -- what is known where a reply is heard that the phase asks for: it is the oldest answer
-pub record Asked (list : List Item) (clips : List (ClipId × Timecode)) (x : Answer) (ups : List Answer) (q : Phase) : Type 0 where
+pub record Asked (list : List Item) (clips : List (ClipId × Timecode)) (x : Answer) (ups : List Answer)
+    (q : Phase) : Type 0 where
   pub no_refusal : is_refusal x.reply ≡ false
   pub asked : is_asked q x.reply ≡ true
   pub fit : list_any misfits (x ∷ ups) ≡ false
@@ -121,17 +156,22 @@ fitting true e = refl
 fitting false e = cc
 
 -- the phases want the same kind of reply
-wants : (list : List Item) (clips : List (ClipId × Timecode)) (x : Answer) (ups : List Answer) (q : Phase) → Asked list clips x ups q → wanted x.to ≡ wanted q
+wants : (list : List Item) (clips : List (ClipId × Timecode)) (x : Answer) (ups : List Answer) (q : Phase)
+    → Asked list clips x ups q → wanted x.to ≡ wanted q
 wants list clips x ups q k =
-    same_wanted q x.to x.reply k.no_refusal (fitting (fits_phase x.to x.reply) (first_of (misfits x) (list_any misfits ups) k.fit)) k.asked
+    same_wanted q x.to x.reply k.no_refusal (fitting (fits_phase x.to x.reply)
+    (first_of (misfits x) (list_any misfits ups) k.fit)) k.asked
 
-from_open : (list : List Item) (clips : List (ClipId × Timecode)) (settled : ℕ) (s : Bool) (a : Cued) (aired : List Item) (ups : List Answer) (downs : List Phase)
+from_open : (list : List Item) (clips : List (ClipId × Timecode)) (settled : ℕ) (s : Bool) (a : Cued)
+    (aired : List Item) (ups : List Answer) (downs : List Phase)
     (granted : Bool) → Here list settled s a aired ups downs phase.Open
     → Leads list clips settled s a aired ups downs (if granted then Goes phase.Select else Ends outcome.Denied)
-from_open list clips settled s a aired ups downs true h = (h.0, climbs_within 0 0 0 1 (stretches Plain (length list) (pipe_of ups downs)) (omega arith) (omega arith) h.1)
+from_open list clips settled s a aired ups downs true h =
+    (h.0, climbs_within 0 0 0 1 (stretches Plain (length list) (pipe_of ups downs)) (omega arith) (omega arith) h.1)
 from_open list clips settled s a aired ups downs false h = calm_in list settled s a aired ups downs phase.Open h.0 h.1
 
-from_select : (list : List Item) (clips : List (ClipId × Timecode)) (settled : ℕ) (s : Bool) (a : Cued) (aired : List Item) (x : Answer) (ups : List Answer)
+from_select : (list : List Item) (clips : List (ClipId × Timecode)) (settled : ℕ) (s : Bool) (a : Cued)
+    (aired : List Item) (x : Answer) (ups : List Answer)
     (downs : List Phase) → At list aired settled 0 → (wanted x.to ≡ 1 → ⊥)
     → Climbs 0 1 (stretches Plain (length list) (pipe_of (x ∷ ups) downs))
     → PlaceAt list clips settled s a aired (x ∷ ups) downs (Ready (next list 0))
@@ -139,8 +179,10 @@ from_select list clips settled s a aired x ups downs h other c =
     next_place list clips settled s a aired (x ∷ ups) downs 0 h
     (all_own Plain (length list) 0 1 x ups downs (first_passed (length list) x.to (c.0, c.1) other) c)
 
-from_exists : (list : List Item) (clips : List (ClipId × Timecode)) (settled : ℕ) (s : Bool) (a : Cued) (aired : List Item) (x : Answer) (ups : List Answer)
-    (downs : List Phase) (k : ℕ) → Asked list clips x ups (phase.Exists k) → Here list settled s a aired (x ∷ ups) downs (phase.Exists k)
+from_exists : (list : List Item) (clips : List (ClipId × Timecode)) (settled : ℕ) (s : Bool) (a : Cued)
+    (aired : List Item) (x : Answer) (ups : List Answer)
+    (downs : List Phase) (k : ℕ) → Asked list clips x ups (phase.Exists k)
+    → Here list settled s a aired (x ∷ ups) downs (phase.Exists k)
     → (b : Bool) → is_present x.reply ≡ b
     → Leads list clips settled s a aired (x ∷ ups) downs (if b then Goes (phase.Cue k) else Ends (outcome.Missing k))
 from_exists list clips settled s a aired x ups downs k g h b e = by b e
@@ -151,18 +193,23 @@ from_exists list clips settled s a aired x ups downs k g h b e = by b e
     own : Climbs (5 * k + 2) (5 * k + 2) (stretches Plain (length list) (pipe_of (x ∷ ups) downs))
     own = all_own Plain (length list) (5 * k + 1) (5 * k + 2) x ups downs (ap (stretch Plain (length list)) is) h.1
 
-    unknown : (p k : Bool) → (is_presence x.reply && differs p k) ≡ false → is_presence x.reply ≡ true → p ≡ false → k ≡ false
+    unknown : (p k : Bool) → (is_presence x.reply && differs p k) ≡ false → is_presence x.reply ≡ true → p ≡ false
+        → k ≡ false
     unknown true k m f e = cc
     unknown false k m f e = grind arith
 
-    by : (b : Bool) → is_present x.reply ≡ b → Leads list clips settled s a aired (x ∷ ups) downs (if b then Goes (phase.Cue k) else Ends (outcome.Missing k))
+    by : (b : Bool) → is_present x.reply ≡ b
+        → Leads list clips settled s a aired (x ∷ ups) downs (if b then Goes (phase.Cue k) else Ends
+        (outcome.Missing k))
     by true e = (
       record {
         at = h.0.0;
         within = h.0.1;
-        taken = λ t. clash (list_any says_ack (x ∷ ups)) t (exists_no_ack (length list) k (x ∷ ups) downs h.0.1 g.fit own);
+        taken =
+            λ t. clash (list_any says_ack (x ∷ ups)) t (exists_no_ack (length list) k (x ∷ ups) downs h.0.1 g.fit own);
       },
-      climbs_within (5 * k + 2) (5 * k + 2) (5 * k + 2) (5 * k + 3) (stretches Plain (length list) (pipe_of (x ∷ ups) downs)) (omega arith) (omega arith) own,
+      climbs_within (5 * k + 2) (5 * k + 2) (5 * k + 2) (5 * k + 3)
+          (stretches Plain (length list) (pipe_of (x ∷ ups) downs)) (omega arith) (omega arith) own,
     )
     by false e = (
       h.0.0,
@@ -170,39 +217,49 @@ from_exists list clips settled s a aired x ups downs k g h b e = by b e
           (quiet Plain (length list) k (5 * k + 1) (5 * k + 2) (omega arith) (omega arith)) h.1,
       h.0.1,
       unknown (is_present x.reply) (knows clips (slice_get list k))
-          (subst (λ (p : Phase). misleads_at list clips p x.reply ≡ false) is (first_of (misleads list clips x) (list_any (misleads list clips) ups) g.true_told))
+          (subst (λ (p : Phase). misleads_at list clips p x.reply ≡ false) is
+          (first_of (misleads list clips x) (list_any (misleads list clips) ups) g.true_told))
           g.asked e,
     )
 
 or_first : (b c : Bool) → b ≡ true → (b || c) ≡ true
 or_first b c e = grind arith
 
-from_cue : (list : List Item) (clips : List (ClipId × Timecode)) (settled : ℕ) (s : Bool) (a : Cued) (aired : List Item) (x : Answer) (ups : List Answer)
-    (downs : List Phase) (k : ℕ) → Asked list clips x ups (phase.Cue k) → Here list settled s a aired (x ∷ ups) downs (phase.Cue k)
+from_cue : (list : List Item) (clips : List (ClipId × Timecode)) (settled : ℕ) (s : Bool) (a : Cued) (aired : List Item)
+    (x : Answer) (ups : List Answer)
+    (downs : List Phase) (k : ℕ) → Asked list clips x ups (phase.Cue k)
+    → Here list settled s a aired (x ∷ ups) downs (phase.Cue k)
     → Leads list clips settled s a aired (x ∷ ups) downs (Goes (phase.Wait k))
 from_cue list clips settled s a aired x ups downs k g h = (
   record {
     at = h.0.at;
     within = h.0.within;
     has_item = h.0.taken (or_first (is_ack x.reply) (list_any says_ack ups) g.asked);
-    shown = λ t. clash (list_any says_done (x ∷ ups)) t (cue_no_state (length list) k (x ∷ ups) downs h.0.within g.fit own);
+    shown =
+        λ t. clash (list_any says_done (x ∷ ups)) t (cue_no_state (length list) k (x ∷ ups) downs h.0.within g.fit own);
     never_none = cue_shows_none (length list) k (x ∷ ups) downs h.0.within g.fit own;
   },
-  climbs_within (5 * k + 3) (5 * k + 3) (5 * k + 3) (5 * k + 4) (stretches Plain (length list) (pipe_of (x ∷ ups) downs)) (omega arith) (omega arith) own,
+  climbs_within (5 * k + 3) (5 * k + 3) (5 * k + 3) (5 * k + 4)
+      (stretches Plain (length list) (pipe_of (x ∷ ups) downs)) (omega arith) (omega arith) own,
 )
   where
     own : Climbs (5 * k + 3) (5 * k + 3) (stretches Plain (length list) (pipe_of (x ∷ ups) downs))
     own = all_own Plain (length list) (5 * k + 2) (5 * k + 3) x ups downs
-        (ap (stretch Plain (length list)) (cue_passed (length list) k x.to h.0.within (h.1.0, h.1.1) (wants list clips x ups (phase.Cue k) g))) h.1
+        (ap (stretch Plain (length list)) (cue_passed (length list) k x.to h.0.within (h.1.0, h.1.1)
+        (wants list clips x ups (phase.Cue k) g))) h.1
 
-from_wait : (list : List Item) (clips : List (ClipId × Timecode)) (settled : ℕ) (s : Bool) (a : Cued) (aired : List Item) (x : Answer) (ups : List Answer)
-    (downs : List Phase) (k limit tries : ℕ) (take : Bool) → Asked list clips x ups (phase.Wait k) → Here list settled s a aired (x ∷ ups) downs (phase.Wait k)
+from_wait : (list : List Item) (clips : List (ClipId × Timecode)) (settled : ℕ) (s : Bool) (a : Cued)
+    (aired : List Item) (x : Answer) (ups : List Answer)
+    (downs : List Phase) (k limit tries : ℕ) (take : Bool) → Asked list clips x ups (phase.Wait k)
+    → Here list settled s a aired (x ∷ ups) downs (phase.Wait k)
     → Leads list clips settled s a aired (x ∷ ups) downs (on_reply Plain list limit take tries (phase.Wait k) x.reply)
-from_wait list clips settled s a aired x ups downs k limit tries take g h = by (is_done x.reply) (not (is_playing x.reply) || take) (is_empty x.reply) refl
+from_wait list clips settled s a aired x ups downs k limit tries take g h =
+    by (is_done x.reply) (not (is_playing x.reply) || take) (is_empty x.reply) refl
   where
     own : Climbs (5 * k + 4) (5 * k + 4) (stretches Plain (length list) (pipe_of (x ∷ ups) downs))
     own = all_own Plain (length list) (5 * k + 3) (5 * k + 4) x ups downs
-        (ap (stretch Plain (length list)) (wait_passed (length list) k x.to h.0.within (h.1.0, h.1.1) (wants list clips x ups (phase.Wait k) g))) h.1
+        (ap (stretch Plain (length list)) (wait_passed (length list) k x.to h.0.within (h.1.0, h.1.1)
+        (wants list clips x ups (phase.Wait k) g))) h.1
 
     playing : is_done x.reply ≡ true → Leads list clips settled s a aired (x ∷ ups) downs (Goes (phase.Play k))
     playing e = (
@@ -218,12 +275,14 @@ from_wait list clips settled s a aired x ups downs k limit tries take g h = by (
           no_empty = wait_no_empty (length list) k (x ∷ ups) downs h.0.within h.0.never_none own;
         });
       },
-      climbs_within (5 * k + 4) (5 * k + 4) (5 * k + 4) (5 * k + 5) (stretches Plain (length list) (pipe_of (x ∷ ups) downs)) (omega arith) (omega arith) own,
+      climbs_within (5 * k + 4) (5 * k + 4) (5 * k + 4) (5 * k + 5)
+          (stretches Plain (length list) (pipe_of (x ∷ ups) downs)) (omega arith) (omega arith) own,
     )
 
     by : (done may none : Bool) → is_done x.reply ≡ done
         → Leads list clips settled s a aired (x ∷ ups) downs
-        (if done && may then Goes (phase.Play k) else (if none then on_lost_cue Plain limit tries k else Goes (phase.Wait k)))
+        (if done && may then Goes (phase.Play k) else (if none then on_lost_cue Plain limit tries k else Goes
+        (phase.Wait k)))
     by true true none e = playing e
     by true false true e = calm_in list settled s a aired (x ∷ ups) downs (phase.Wait k) h.0 h.1
     by true false false e = h
@@ -231,7 +290,8 @@ from_wait list clips settled s a aired x ups downs k limit tries take g h = by (
     by false may false e = h
 
 -- the event was aired
-settles : (list : List Item) (clips : List (ClipId × Timecode)) (settled : ℕ) (s : Bool) (a : Cued) (aired : List Item) (ups : List Answer) (downs : List Phase)
+settles : (list : List Item) (clips : List (ClipId × Timecode)) (settled : ℕ) (s : Bool) (a : Cued) (aired : List Item)
+    (ups : List Answer) (downs : List Phase)
     (k : ℕ) → k < length list → OnAir list s a aired downs k
     → Climbs (5 * k + 5) (5 * k + 5) (stretches Plain (length list) (pipe_of ups downs))
     → Leads list clips settled s a aired ups downs (Settles k)
@@ -241,23 +301,32 @@ settles list clips settled s a aired ups downs k below q own = (
     within = below;
     has_none = q.has_none;
   },
-  climbs_within (5 * k + 5) (5 * k + 5) (5 * k + 5) (5 * k + 6) (stretches Plain (length list) (pipe_of ups downs)) (omega arith) (omega arith) own,
+  climbs_within (5 * k + 5) (5 * k + 5) (5 * k + 5) (5 * k + 6) (stretches Plain (length list) (pipe_of ups downs))
+      (omega arith) (omega arith) own,
 )
 
-from_play : (list : List Item) (clips : List (ClipId × Timecode)) (settled : ℕ) (s : Bool) (a : Cued) (aired : List Item) (x : Answer) (ups : List Answer)
-    (downs : List Phase) (k : ℕ) → Asked list clips x ups (phase.Play k) → Here list settled s a aired (x ∷ ups) downs (phase.Play k)
+from_play : (list : List Item) (clips : List (ClipId × Timecode)) (settled : ℕ) (s : Bool) (a : Cued)
+    (aired : List Item) (x : Answer) (ups : List Answer)
+    (downs : List Phase) (k : ℕ) → Asked list clips x ups (phase.Play k)
+    → Here list settled s a aired (x ∷ ups) downs (phase.Play k)
     → Leads list clips settled s a aired (x ∷ ups) downs (Settles k)
 from_play list clips settled s a aired x ups downs k g h = by h.0.stands
   where
-    by : ToAir list s a aired (x ∷ ups) k ⊎ OnAir list s a aired downs k → Leads list clips settled s a aired (x ∷ ups) downs (Settles k)
+    by : ToAir list s a aired (x ∷ ups) k ⊎ OnAir list s a aired downs k
+        → Leads list clips settled s a aired (x ∷ ups) downs (Settles k)
     by (inl q) = clash (is_ack x.reply) g.asked (first_of (is_ack x.reply) (list_any says_ack ups) q.no_ack)
-    by (inr q) = settles list clips settled s a aired (x ∷ ups) downs k h.0.within q (all_own Plain (length list) (5 * k + 4) (5 * k + 5) x ups downs
-        (ap (stretch Plain (length list)) (play_passed (length list) k x.to h.0.within (h.1.0, h.1.1) (wants list clips x ups (phase.Play k) g))) h.1)
+    by (inr q) = settles list clips settled s a aired (x ∷ ups) downs k h.0.within q
+        (all_own Plain (length list) (5 * k + 4) (5 * k + 5) x ups downs
+        (ap (stretch Plain (length list)) (play_passed (length list) k x.to h.0.within (h.1.0, h.1.1)
+        (wants list clips x ups (phase.Play k) g))) h.1)
 
-from_probe : (list : List Item) (clips : List (ClipId × Timecode)) (settled : ℕ) (s : Bool) (a : Cued) (aired : List Item) (x : Answer) (ups : List Answer)
-    (downs : List Phase) (k : ℕ) → Asked list clips x ups (phase.Probe k) → Here list settled s a aired (x ∷ ups) downs (phase.Probe k)
+from_probe : (list : List Item) (clips : List (ClipId × Timecode)) (settled : ℕ) (s : Bool) (a : Cued)
+    (aired : List Item) (x : Answer) (ups : List Answer)
+    (downs : List Phase) (k : ℕ) → Asked list clips x ups (phase.Probe k)
+    → Here list settled s a aired (x ∷ ups) downs (phase.Probe k)
     → (done none : Bool) → is_empty x.reply ≡ none
-    → Leads list clips settled s a aired (x ∷ ups) downs (if done then Goes (phase.Play k) else (if none then Settles k else Goes (phase.Probe k)))
+    → Leads list clips settled s a aired (x ∷ ups) downs (if done then Goes (phase.Play k) else
+    (if none then Settles k else Goes (phase.Probe k)))
 from_probe list clips settled s a aired x ups downs k g h true none e = h
 from_probe list clips settled s a aired x ups downs k g h false false e = h
 from_probe list clips settled s a aired x ups downs k g h false true e = by h.0.stands which
@@ -268,51 +337,74 @@ from_probe list clips settled s a aired x ups downs k g h false true e = by h.0.
     shows : (q : Phase) → q ≡ phase.Wait k → (waits q && is_empty x.reply) ≡ true
     shows q is = ap (λ (p : Phase). waits p && is_empty x.reply) is ∙ e
 
-    by : ToAir list s a aired (x ∷ ups) k ⊎ OnAir list s a aired downs k → (x.to ≡ phase.Wait k) ⊎ (x.to ≡ phase.Probe k)
+    by : ToAir list s a aired (x ∷ ups) k ⊎ OnAir list s a aired downs k
+        → (x.to ≡ phase.Wait k) ⊎ (x.to ≡ phase.Probe k)
         → Leads list clips settled s a aired (x ∷ ups) downs (Settles k)
     by (inl q) w = clash (is_empty x.reply) e (first_of (is_empty x.reply) (list_any says_empty ups) q.no_empty)
-    by (inr q) (inl is) = clash (shows_no_cue x) (shows x.to is) (first_of (shows_no_cue x) (list_any shows_no_cue ups) h.0.never_none)
+    by (inr q) (inl is) =
+        clash (shows_no_cue x) (shows x.to is) (first_of (shows_no_cue x) (list_any shows_no_cue ups) h.0.never_none)
     by (inr q) (inr is) = settles list clips settled s a aired (x ∷ ups) downs k h.0.within q
         (all_own Plain (length list) (5 * k + 4) (5 * k + 5) x ups downs (ap (stretch Plain (length list)) is) h.1)
 
-from_check : (list : List Item) (clips : List (ClipId × Timecode)) (settled : ℕ) (s : Bool) (a : Cued) (aired : List Item) (x : Answer) (ups : List Answer)
-    (downs : List Phase) (k : ℕ) (other : Bool) → Asked list clips x ups (phase.Check k) → Here list settled s a aired (x ∷ ups) downs (phase.Check k)
-    → Leads list clips settled s a aired (x ∷ ups) downs (if other then Ends (outcome.Foreign k) else Goes (next list (k + 1)))
-from_check list clips settled s a aired x ups downs k true g h = calm_in list settled s a aired (x ∷ ups) downs (phase.Check k) h.0 h.1
+from_check : (list : List Item) (clips : List (ClipId × Timecode)) (settled : ℕ) (s : Bool) (a : Cued)
+    (aired : List Item) (x : Answer) (ups : List Answer)
+    (downs : List Phase) (k : ℕ) (other : Bool) → Asked list clips x ups (phase.Check k)
+    → Here list settled s a aired (x ∷ ups) downs (phase.Check k)
+    → Leads list clips settled s a aired (x ∷ ups) downs (if other then Ends (outcome.Foreign k) else Goes
+    (next list (k + 1)))
+from_check list clips settled s a aired x ups downs k true g h =
+    calm_in list settled s a aired (x ∷ ups) downs (phase.Check k) h.0 h.1
 from_check list clips settled s a aired x ups downs k false g h =
     next_place list clips settled s a aired (x ∷ ups) downs (k + 1) h.0.at
-    (climbs_within (5 * k + 6) (5 * k + 6) (5 * (k + 1) + 1) (5 * (k + 1) + 1) (stretches Plain (length list) (pipe_of (x ∷ ups) downs)) (omega arith) (omega arith)
+    (climbs_within (5 * k + 6) (5 * k + 6) (5 * (k + 1) + 1) (5 * (k + 1) + 1)
+    (stretches Plain (length list) (pipe_of (x ∷ ups) downs)) (omega arith) (omega arith)
     (all_own Plain (length list) (5 * k + 5) (5 * k + 6) x ups downs
-    (ap (stretch Plain (length list)) (check_passed (length list) k x.to h.0.within (h.1.0, h.1.1) (wants list clips x ups (phase.Check k) g))) h.1))
+    (ap (stretch Plain (length list)) (check_passed (length list) k x.to h.0.within (h.1.0, h.1.1)
+    (wants list clips x ups (phase.Check k) g))) h.1))
 
-from_drain : (list : List Item) (clips : List (ClipId × Timecode)) (settled : ℕ) (s : Bool) (a : Cued) (aired : List Item) (ups : List Answer) (downs : List Phase)
+from_drain : (list : List Item) (clips : List (ClipId × Timecode)) (settled : ℕ) (s : Bool) (a : Cued)
+    (aired : List Item) (ups : List Answer) (downs : List Phase)
     (strange playing : Bool) → Here list settled s a aired ups downs phase.Drain
     → Leads list clips settled s a aired ups downs
     (if strange then Ends (outcome.Strange (length list)) else (if playing then Goes phase.Drain else Goes phase.Close))
-from_drain list clips settled s a aired ups downs true playing h = calm_in list settled s a aired ups downs phase.Drain h.0 h.1
+from_drain list clips settled s a aired ups downs true playing h =
+    calm_in list settled s a aired ups downs phase.Drain h.0 h.1
 from_drain list clips settled s a aired ups downs false true h = h
-from_drain list clips settled s a aired ups downs false false h =
-    (h.0, climbs_within (5 * length list + 1) (5 * length list + 2) (5 * length list + 1) (5 * length list + 3) (stretches Plain (length list) (pipe_of ups downs)) (omega arith) (omega arith) h.1)
+from_drain list clips settled s a aired ups downs false false h = (
+  h.0,
+  climbs_within (5 * length list + 1) (5 * length list + 2) (5 * length list + 1) (5 * length list + 3)
+      (stretches Plain (length list) (pipe_of ups downs)) (omega arith) (omega arith) h.1,
+)
 
-pub replied : (list : List Item) (clips : List (ClipId × Timecode)) (settled : ℕ) (s : Bool) (a : Cued) (aired : List Item) (x : Answer) (ups : List Answer)
-    (downs : List Phase) (limit tries : ℕ) (take : Bool) (q : Phase) → Asked list clips x ups q → Here list settled s a aired (x ∷ ups) downs q
+pub replied : (list : List Item) (clips : List (ClipId × Timecode)) (settled : ℕ) (s : Bool) (a : Cued)
+    (aired : List Item) (x : Answer) (ups : List Answer)
+    (downs : List Phase) (limit tries : ℕ) (take : Bool) (q : Phase) → Asked list clips x ups q
+    → Here list settled s a aired (x ∷ ups) downs q
     → Leads list clips settled s a aired (x ∷ ups) downs (on_reply Plain list limit take tries q x.reply)
-replied list clips settled s a aired x ups downs limit tries take phase.Open g h = from_open list clips settled s a aired (x ∷ ups) downs (is_granted x.reply) h
+replied list clips settled s a aired x ups downs limit tries take phase.Open g h =
+    from_open list clips settled s a aired (x ∷ ups) downs (is_granted x.reply) h
 replied list clips settled s a aired x ups downs limit tries take phase.Select g h =
-    from_select list clips settled s a aired x ups downs h.0 (λ e. absurd (omega (arith, e, wants list clips x ups phase.Select g))) h.1
+    from_select list clips settled s a aired x ups downs h.0 (λ e. absurd
+    (omega (arith, e, wants list clips x ups phase.Select g))) h.1
 replied list clips settled s a aired x ups downs limit tries take phase.Seen g h =
-    from_select list clips settled s a aired x ups downs h.0 (λ e. absurd (omega (arith, e, wants list clips x ups phase.Seen g))) h.1
+    from_select list clips settled s a aired x ups downs h.0 (λ e. absurd
+    (omega (arith, e, wants list clips x ups phase.Seen g))) h.1
 replied list clips settled s a aired x ups downs limit tries take (phase.Exists k) g h =
     from_exists list clips settled s a aired x ups downs k g h (is_present x.reply) refl
-replied list clips settled s a aired x ups downs limit tries take (phase.Cue k) g h = from_cue list clips settled s a aired x ups downs k g h
-replied list clips settled s a aired x ups downs limit tries take (phase.Wait k) g h = from_wait list clips settled s a aired x ups downs k limit tries take g h
-replied list clips settled s a aired x ups downs limit tries take (phase.Play k) g h = from_play list clips settled s a aired x ups downs k g h
+replied list clips settled s a aired x ups downs limit tries take (phase.Cue k) g h =
+    from_cue list clips settled s a aired x ups downs k g h
+replied list clips settled s a aired x ups downs limit tries take (phase.Wait k) g h =
+    from_wait list clips settled s a aired x ups downs k limit tries take g h
+replied list clips settled s a aired x ups downs limit tries take (phase.Play k) g h =
+    from_play list clips settled s a aired x ups downs k g h
 replied list clips settled s a aired x ups downs limit tries take (phase.Probe k) g h =
     from_probe list clips settled s a aired x ups downs k g h (is_done x.reply) (is_empty x.reply) refl
 replied list clips settled s a aired x ups downs limit tries take (phase.Check k) g h =
     from_check list clips settled s a aired x ups downs k (names_other (slice_get list k) x.reply) g h
 replied list clips settled s a aired x ups downs limit tries take phase.Drain g h =
-    from_drain list clips settled s a aired (x ∷ ups) downs (is_cueing x.reply || is_done x.reply) (is_playing x.reply) h
-replied list clips settled s a aired x ups downs limit tries take phase.Close g h = closes list settled s a aired (x ∷ ups) downs h
+    from_drain list clips settled s a aired (x ∷ ups) downs (is_cueing x.reply || is_done x.reply)
+    (is_playing x.reply) h
+replied list clips settled s a aired x ups downs limit tries take phase.Close g h =
+    closes list settled s a aired (x ∷ ups) downs h
 replied list clips settled s a aired x ups downs limit tries take phase.Halt g h = h
 replied list clips settled s a aired x ups downs limit tries take phase.HaltClose g h = h.0

@@ -31,7 +31,7 @@ use Rattle.vdcp_auto.specs.State.{Ready, Awaiting, Ended}
 use Rattle.vdcp_auto.specs.State.{State}
 use Rattle.vdcp_world.specs.Beginnings.{is_beginning}
 use Rattle.vdcp_late.specs.Damage.{can_become, can_become_up, is_junk_down, is_junk_up, is_no_answer, with_damage, with_junk}
-use Rattle.vdcp_late.specs.LateChannel.{LateChannel, after_late_event, behind_oldest, oldest, command_bursts, bursts_of, state_hearing, made_anew}
+use Rattle.vdcp_late.specs.LateChannel.{LateChannel, after_late_event, without_oldest, oldest, command_bursts, bursts_of, state_hearing, made_anew}
 use Rattle.vdcp_late.specs.declared.event.LateEvent.{LateEvent}
 use Rattle.vdcp_late.specs.declared.event.LateEvent.TheVariants as event
 use Rattle.vdcp_late.proofs.Beginnings.{is_beginning_of}
@@ -52,7 +52,8 @@ abbrev pub IsJunkDown : List ℕ → Type 0
 IsJunkDown b = messages_of b ≡ []
 
 abbrev pub IsCommand : List Item → ℕ → ℕ → List ℕ → Phase → Type 0
-IsCommand list port unit b d = (c : Command) × (command_in list port d ≡ Some c) × (messages_of b ≡ command_message unit c ∷ [])
+IsCommand list port unit b d =
+    (c : Command) × (command_in list port d ≡ Some c) × (messages_of b ≡ command_message unit c ∷ [])
 
 -- on the way up: what is no answer, or one
 abbrev pub IsJunkUp : Mode → ℕ → List ℕ → Type 0
@@ -69,7 +70,8 @@ UpCarries mode unit bs us = Carries (IsJunkUp mode unit) (IsAnswer unit) bs us
 
 -- what is claimed, of a port
 abbrev pub StandsAt : Claim → List Item → ClockedPort → ℕ → Stage → List Item → List Answer → List Phase → Type 0
-StandsAt S list p settled stage aired ups downs = S list p.clips settled (is_selected p.state) p.state.cued aired ups downs stage
+StandsAt S list p settled stage aired ups downs =
+    S list p.clips settled (is_selected p.state) p.state.cued aired ups downs stage
 
 pub record IsKept (mode : Mode) (S : Claim) (c : LateChannel) : Type 0 where
   pub mode_is : c.plan.mode ≡ mode
@@ -94,79 +96,101 @@ keeps_unit (airs item) p = refl
 keeps_unit stops p = refl
 
 -- what a phase sends can be written
-pub writable : Below → (plan : Plan) (d : Phase) (c : Command) → All IsItem plan.list → plan.port < 256 → command_in plan.list plan.port d ≡ Some c
+pub writable : Below → (plan : Plan) (d : Phase) (c : Command) → All IsItem plan.list → plan.port < 256
+    → command_in plan.list plan.port d ≡ Some c
     → IsWritableCommand c
 writable below plan d c items fits is = subst (λ (o : Option Command). IfSome o IsWritableCommand) is
-    (below.given_written plan (record { stage = Ready d; take = false; stop = false; unanswered = 0; settled = 0; tries = 0 }) items fits)
+    (below.given_written plan
+    (record { stage = Ready d; take = false; stop = false; unanswered = 0; settled = 0; tries = 0 }) items fits)
 
 -- an answer that is heard joins the queue
-answer_joins : (mode : Mode) (unit : ℕ) (up : List (List ℕ)) (ups : List Answer) (sent : List ℕ) (x : Answer) → IsAnswer unit sent x
+answer_joins : (mode : Mode) (unit : ℕ) (up : List (List ℕ)) (ups : List Answer) (sent : List ℕ) (x : Answer)
+    → IsAnswer unit sent x
     → UpCarries mode unit up ups → UpCarries mode unit (up ++ bursts_of sent) (ups ++ x ∷ [])
 answer_joins mode unit up ups [] x h c = cc
-answer_joins mode unit up ups (byte ∷ bytes) x h c = carries_pushed (IsJunkUp mode unit) (IsAnswer unit) up ups (byte ∷ bytes) x h c
+answer_joins mode unit up ups (byte ∷ bytes) x h c =
+    carries_pushed (IsJunkUp mode unit) (IsAnswer unit) up ups (byte ∷ bytes) x h c
 
 junk_joins : (mode : Mode) (unit : ℕ) (up : List (List ℕ)) (ups : List Answer) (sent : List ℕ) → IsJunkUp mode unit sent
     → UpCarries mode unit up ups → UpCarries mode unit (up ++ bursts_of sent) ups
 junk_joins mode unit up ups [] h c = carries_same (IsJunkUp mode unit) (IsAnswer unit) up ups c
-junk_joins mode unit up ups (byte ∷ bytes) h c = carries_pushed_junk (IsJunkUp mode unit) (IsAnswer unit) up ups (byte ∷ bytes) h c
+junk_joins mode unit up ups (byte ∷ bytes) h c =
+    carries_pushed_junk (IsJunkUp mode unit) (IsAnswer unit) up ups (byte ∷ bytes) h c
 
 no_refusal : (mode : Mode) (byte : ℕ) → byte ≢ 0x01 → is_no_answer mode (Some (heard.Reply (reply.Nak byte))) ≡ true
 no_refusal Plain byte other = grind arith
 no_refusal Confirming byte other = refl
 
-says_junk : (mode : Mode) (p : ClockedPort) (down : List ℕ) → ReadsNothing p down → IsJunkUp mode p.state.unit (sent_for p down)
+says_junk : (mode : Mode) (p : ClockedPort) (down : List ℕ) → ReadsNothing p down
+    → IsJunkUp mode p.state.unit (sent_for p down)
 says_junk mode p down r = by r.says
   where
-    by : ((sent_for p down ≡ []) ⊎ ((byte : ℕ) × (byte ≢ 0x01) × (heard_in p.state.unit (sent_for p down) ≡ Some (heard.Reply (reply.Nak byte)))))
+    by : ((sent_for p down ≡ []) ⊎ ((byte : ℕ) × (byte ≢ 0x01) ×
+        (heard_in p.state.unit (sent_for p down) ≡ Some (heard.Reply (reply.Nak byte)))))
         → IsJunkUp mode p.state.unit (sent_for p down)
     by (inl none) = subst (λ (b : List ℕ). IsJunkUp mode p.state.unit b) (sym none) refl
-    by (inr (byte, other, hears)) = subst (λ (h : Option Heard). is_no_answer mode h ≡ true) (sym hears) (no_refusal mode byte other)
+    by (inr (byte, other, hears)) =
+        subst (λ (h : Option Heard). is_no_answer mode h ≡ true) (sym hears) (no_refusal mode byte other)
 
--- the channel behind a delivery, of which these are left on the way down
-pub record Delivered (mode : Mode) (S : Claim) (plan : Plan) (state : State) (p : ClockedPort) (up : List (List ℕ)) (aired : List Item) (down : List ℕ) (downs : List Phase) : Type 0 where
+-- the channel after a delivery, of which these are left on the way down
+pub record Delivered (mode : Mode) (S : Claim) (plan : Plan) (state : State) (p : ClockedPort) (up : List (List ℕ))
+    (aired : List Item) (down : List ℕ) (downs : List Phase) : Type 0 where
   pub unit_same : (after_burst p down).state.unit ≡ p.state.unit
   pub ups : List Answer
   pub up_is : UpCarries mode p.state.unit (up ++ bursts_of (sent_for p down)) ups
   pub stands : StandsAt S plan.list (after_burst p down) state.settled state.stage (aired ++ aired_for p down) ups downs
 
-pub delivered_nothing : (mode : Mode) (S : Claim) → Closed mode S → (plan : Plan) (state : State) (p : ClockedPort) (up : List (List ℕ)) (aired : List Item) (down : List ℕ) (ups : List Answer)
-    (downs : List Phase) → ReadsNothing p down → UpCarries mode p.state.unit up ups → StandsAt S plan.list p state.settled state.stage aired ups downs
+pub delivered_nothing : (mode : Mode) (S : Claim) → Closed mode S
+    → (plan : Plan) (state : State) (p : ClockedPort) (up : List (List ℕ)) (aired : List Item) (down : List ℕ)
+    (ups : List Answer)
+    (downs : List Phase) → ReadsNothing p down → UpCarries mode p.state.unit up ups
+    → StandsAt S plan.list p state.settled state.stage aired ups downs
     → Delivered mode S plan state p up aired down downs
 delivered_nothing mode S closed plan state p up aired down ups downs r u h = record {
   unit_same = ap (λ (q : ClockedPort). q.state.unit) r.stays;
   ups = ups;
   up_is = junk_joins mode p.state.unit up ups (sent_for p down) (says_junk mode p down r) u;
-  stands = subst (λ (q : ClockedPort). StandsAt S plan.list q state.settled state.stage (aired ++ aired_for p down) ups downs) (sym r.stays)
-      (subst (λ (a : List Item). StandsAt S plan.list p state.settled state.stage a ups downs) (sym (aired_same aired (aired_for p down) r.airs)) h);
+  stands = subst (λ (q : ClockedPort). StandsAt S plan.list q state.settled state.stage
+      (aired ++ aired_for p down) ups downs) (sym r.stays)
+      (subst (λ (a : List Item). StandsAt S plan.list p state.settled state.stage a ups downs)
+      (sym (aired_same aired (aired_for p down) r.airs)) h);
 }
 
 clips_same : (change : Change) (p : ClockedPort) → (after_change change p).clips ≡ p.clips
 clips_same change p = refl
 
-pub delivered_command : (mode : Mode) (S : Claim) → Closed mode S → (plan : Plan) (state : State) (p : ClockedPort) (up : List (List ℕ)) (aired : List Item) (down : List ℕ) (ups : List Answer)
-    (d : Phase) (downs : List Phase) (c : Command) → command_in plan.list plan.port d ≡ Some c → ReadsCommand p down c → UpCarries mode p.state.unit up ups
+pub delivered_command : (mode : Mode) (S : Claim) → Closed mode S
+    → (plan : Plan) (state : State) (p : ClockedPort) (up : List (List ℕ)) (aired : List Item) (down : List ℕ)
+    (ups : List Answer)
+    (d : Phase) (downs : List Phase) (c : Command) → command_in plan.list plan.port d ≡ Some c → ReadsCommand p down c
+    → UpCarries mode p.state.unit up ups
     → StandsAt S plan.list p state.settled state.stage aired ups (d ∷ downs)
     → Delivered mode S plan state p up aired down downs
 delivered_command mode S closed plan state p up aired down ups d downs c is r u h =
     let change : Change = (command_row p.clips p.state c).change in
     let x : Answer = record { to = d; reply = r.answer } in
-    let after = closed.reads plan.list p.clips state.settled (is_selected p.state) p.state.cued aired ups d downs state.stage r.answer
+    let after = closed.reads plan.list p.clips state.settled (is_selected p.state) p.state.cued aired ups d downs
+    state.stage r.answer
     (is_selected (changed change p.state)) (changed change p.state).cued (option_to_list (on_air change)) h
     (reads plan.list p.clips p.state plan.port d c is r.answer r.answers) in
     record {
       unit_same = ap (λ (q : ClockedPort). q.state.unit) r.leaves ∙ keeps_unit change p;
       ups = ups ++ x ∷ [];
       up_is = answer_joins mode p.state.unit up ups (sent_for p down) x r.heard u;
-      stands = subst (λ (q : ClockedPort). StandsAt S plan.list q state.settled state.stage (aired ++ aired_for p down) (ups ++ x ∷ []) downs) (sym r.leaves)
-          (subst (λ (more : List Item). StandsAt S plan.list (after_change change p) state.settled state.stage (aired ++ more) (ups ++ x ∷ []) downs) (sym r.airs)
+      stands = subst (λ (q : ClockedPort). StandsAt S plan.list q state.settled state.stage (aired ++ aired_for p down)
+          (ups ++ x ∷ []) downs) (sym r.leaves)
+          (subst (λ (more : List Item). StandsAt S plan.list (after_change change p) state.settled state.stage
+          (aired ++ more) (ups ++ x ∷ []) downs) (sym r.airs)
           after);
     }
 
 -- ---- with parts of a channel changed
 
 -- with another controller
-pub with_state : (mode : Mode) (S : Claim) → Closed mode S → (c : LateChannel) (k : IsKept mode S c) (state : State) (log : List Exchange)
-    → StandsAt S c.plan.list c.port state.settled state.stage c.aired k.ups k.downs → IsKept mode S (record c { state = state; log = log })
+pub with_state : (mode : Mode) (S : Claim) → Closed mode S
+    → (c : LateChannel) (k : IsKept mode S c) (state : State) (log : List Exchange)
+    → StandsAt S c.plan.list c.port state.settled state.stage c.aired k.ups k.downs
+    → IsKept mode S (record c { state = state; log = log })
 with_state mode S closed c k state log stands = record {
   mode_is = k.mode_is;
   unit_fits = k.unit_fits;
@@ -180,7 +204,8 @@ with_state mode S closed c k state log stands = record {
 }
 
 -- with another port, of the same unit and the same catalogue
-pub with_port : (mode : Mode) (S : Claim) → Closed mode S → (c : LateChannel) (k : IsKept mode S c) (p : ClockedPort) → p.state.unit ≡ c.port.state.unit → p.clips ≡ c.port.clips
+pub with_port : (mode : Mode) (S : Claim) → Closed mode S → (c : LateChannel) (k : IsKept mode S c) (p : ClockedPort)
+    → p.state.unit ≡ c.port.state.unit → p.clips ≡ c.port.clips
     → Ages (is_selected c.port.state) c.port.state.cued (is_selected p.state) p.state.cued
     → IsKept mode S (record c { port = p })
 with_port mode S closed c k p same clips ages = record {
@@ -192,15 +217,19 @@ with_port mode S closed c k p same clips ages = record {
   ups = k.ups;
   down_is = subst (λ (unit : ℕ). DownCarries c.plan.list c.plan.port unit c.down k.downs) (sym same) k.down_is;
   up_is = subst (λ (unit : ℕ). UpCarries mode unit c.up k.ups) (sym same) k.up_is;
-  stands = subst (λ (known : List (ClipId × Timecode)). S c.plan.list known c.state.settled (is_selected p.state) p.state.cued c.aired k.ups k.downs
+  stands = subst (λ (known : List (ClipId × Timecode)). S c.plan.list known c.state.settled
+      (is_selected p.state) p.state.cued c.aired k.ups k.downs
       c.state.stage) (sym clips)
-      (closed.ages c.plan.list c.port.clips c.state.settled (is_selected c.port.state) c.port.state.cued (is_selected p.state) p.state.cued c.aired k.ups k.downs
+      (closed.ages c.plan.list c.port.clips c.state.settled (is_selected c.port.state) c.port.state.cued
+      (is_selected p.state) p.state.cued c.aired k.ups k.downs
       c.state.stage ages k.stands);
 }
 
 -- with other bursts on the way, of which some may be left out
-pub with_down : (mode : Mode) (S : Claim) → Closed mode S → (c : LateChannel) (k : IsKept mode S c) (down : List (List ℕ))
-    → Left IsJunkDown (IsCommand c.plan.list c.plan.port c.port.state.unit) down k.downs → IsKept mode S (record c { down = down })
+pub with_down : (mode : Mode) (S : Claim) → Closed mode S
+    → (c : LateChannel) (k : IsKept mode S c) (down : List (List ℕ))
+    → Left IsJunkDown (IsCommand c.plan.list c.plan.port c.port.state.unit) down k.downs
+    → IsKept mode S (record c { down = down })
 with_down mode S closed c k down l = record {
   mode_is = k.mode_is;
   unit_fits = k.unit_fits;
@@ -210,12 +239,14 @@ with_down mode S closed c k down l = record {
   ups = k.ups;
   down_is = l.carries;
   up_is = k.up_is;
-  stands = closed.thins c.plan.list c.port.clips c.state.settled (is_selected c.port.state) c.port.state.cued c.aired k.ups k.ups k.downs l.left c.state.stage
+  stands = closed.thins c.plan.list c.port.clips c.state.settled (is_selected c.port.state) c.port.state.cued c.aired
+      k.ups k.ups k.downs l.left c.state.stage
       (all_left k.ups) l.thins k.stands;
 }
 
 pub with_up : (mode : Mode) (S : Claim) → Closed mode S → (c : LateChannel) (k : IsKept mode S c) (up : List (List ℕ))
-    → Left (IsJunkUp mode c.port.state.unit) (IsAnswer c.port.state.unit) up k.ups → IsKept mode S (record c { up = up })
+    → Left (IsJunkUp mode c.port.state.unit) (IsAnswer c.port.state.unit) up k.ups
+    → IsKept mode S (record c { up = up })
 with_up mode S closed c k up l = record {
   mode_is = k.mode_is;
   unit_fits = k.unit_fits;
@@ -225,13 +256,16 @@ with_up mode S closed c k up l = record {
   ups = l.left;
   down_is = k.down_is;
   up_is = l.carries;
-  stands = closed.thins c.plan.list c.port.clips c.state.settled (is_selected c.port.state) c.port.state.cued c.aired k.ups l.left k.downs k.downs c.state.stage
+  stands = closed.thins c.plan.list c.port.clips c.state.settled (is_selected c.port.state) c.port.state.cued c.aired
+      k.ups l.left k.downs k.downs c.state.stage
       l.thins (all_left k.downs) k.stands;
 }
 
--- behind a delivery to the port
-pub with_delivery : (mode : Mode) (S : Claim) → Closed mode S → (c : LateChannel) (k : IsKept mode S c) (burst : List ℕ) (down : List (List ℕ)) (downs : List Phase)
-    → DownCarries c.plan.list c.plan.port c.port.state.unit down downs → Delivered mode S c.plan c.state c.port c.up c.aired burst downs
+-- after a delivery to the port
+pub with_delivery : (mode : Mode) (S : Claim) → Closed mode S
+    → (c : LateChannel) (k : IsKept mode S c) (burst : List ℕ) (down : List (List ℕ)) (downs : List Phase)
+    → DownCarries c.plan.list c.plan.port c.port.state.unit down downs
+    → Delivered mode S c.plan c.state c.port c.up c.aired burst downs
     → IsKept mode S (record c {
       port = after_burst c.port burst;
       down = down;
@@ -246,6 +280,7 @@ with_delivery mode S closed c k burst down downs down_is d = record {
   downs = downs;
   ups = d.ups;
   down_is = subst (λ (unit : ℕ). DownCarries c.plan.list c.plan.port unit down downs) (sym d.unit_same) down_is;
-  up_is = subst (λ (unit : ℕ). UpCarries mode unit (c.up ++ bursts_of (sent_for c.port burst)) d.ups) (sym d.unit_same) d.up_is;
+  up_is = subst (λ (unit : ℕ). UpCarries mode unit (c.up ++ bursts_of (sent_for c.port burst)) d.ups)
+      (sym d.unit_same) d.up_is;
   stands = d.stands;
 }

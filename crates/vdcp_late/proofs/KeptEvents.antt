@@ -27,7 +27,7 @@ use Rattle.vdcp_auto.specs.State.{Ready, Awaiting, Ended}
 use Rattle.vdcp_auto.specs.State.{State}
 use Rattle.vdcp_world.specs.Beginnings.{is_beginning}
 use Rattle.vdcp_late.specs.Damage.{can_become, can_become_up, is_junk_down, is_junk_up, is_no_answer}
-use Rattle.vdcp_late.specs.LateChannel.{LateChannel, after_late_event, behind_oldest, oldest, command_bursts, bursts_of, state_hearing, log_hearing, made_anew}
+use Rattle.vdcp_late.specs.LateChannel.{LateChannel, after_late_event, without_oldest, oldest, command_bursts, bursts_of, state_hearing, log_hearing, made_anew}
 use Rattle.vdcp_late.specs.declared.event.LateEvent.{LateEvent}
 use Rattle.vdcp_late.specs.declared.event.LateEvent.TheVariants as event
 use Rattle.vdcp_late.proofs.Beginnings.{is_beginning_of}
@@ -46,14 +46,16 @@ use Rattle.vdcp_late.proofs.Thinning.{Thins, all_left, but_first}
 -- what joins the queue down
 pub record Ticked (mode : Mode) (S : Claim) (c : LateChannel) (k : IsKept mode S c) : Type 0 where
   pub downs : List Phase
-  pub down_is : DownCarries c.plan.list c.plan.port c.port.state.unit (c.down ++ command_bursts c.port.state.unit (given c.plan c.state)) downs
+  pub down_is : DownCarries c.plan.list c.plan.port c.port.state.unit
+      (c.down ++ command_bursts c.port.state.unit (given c.plan c.state)) downs
   pub stands : StandsAt S c.plan.list c.port (ticked c.state).settled (ticked c.state).stage c.aired k.ups downs
 
 last_left : {X : Type 0} → (xs : List X) (x : X) → Thins (xs ++ x ∷ []) xs
 last_left [] x = inl refl
 last_left (y ∷ xs) x = inr (xs, refl, last_left xs x)
 
-ticked_kept : (mode : Mode) (S : Claim) → Closed mode S → Below → (c : LateChannel) (k : IsKept mode S c) → Ticked mode S c k
+ticked_kept : (mode : Mode) (S : Claim) → Closed mode S → Below → (c : LateChannel) (k : IsKept mode S c)
+    → Ticked mode S c k
 ticked_kept mode S closed below c k = by c.state.stage refl
   where
     unit : ℕ
@@ -63,24 +65,32 @@ ticked_kept mode S closed below c k = by c.state.stage refl
     Queue o downs = DownCarries c.plan.list c.plan.port unit (c.down ++ command_bursts unit o) downs
 
     After : Stage → List Phase → Type 0
-    After stage downs = StandsAt S c.plan.list c.port (tick_in stage c.state).settled (tick_in stage c.state).stage c.aired k.ups downs
+    After stage downs =
+        StandsAt S c.plan.list c.port (tick_in stage c.state).settled (tick_in stage c.state).stage c.aired k.ups downs
 
     Goal : Stage → Type 0
     Goal stage = (downs : List Phase) × Queue (given_in c.plan c.state.stop stage) downs × After stage downs
 
     sent : (q : Phase) → (o : Option Command) → command_in c.plan.list c.plan.port q ≡ o
         → StandsAt S c.plan.list c.port c.state.settled (Awaiting q) c.aired k.ups (k.downs ++ q ∷ [])
-        → (downs : List Phase) × Queue o downs × StandsAt S c.plan.list c.port c.state.settled (Awaiting q) c.aired k.ups downs
+        → (downs : List Phase) × Queue o downs × StandsAt S c.plan.list c.port c.state.settled
+        (Awaiting q) c.aired k.ups downs
     sent q None is h = (
       k.downs,
       carries_same IsJunkDown (IsCommand c.plan.list c.plan.port unit) c.down k.downs k.down_is,
-      closed.thins c.plan.list c.port.clips c.state.settled (is_selected c.port.state) c.port.state.cued c.aired k.ups k.ups (k.downs ++ q ∷ []) k.downs (Awaiting q)
+      closed.thins c.plan.list c.port.clips c.state.settled (is_selected c.port.state) c.port.state.cued c.aired k.ups
+          k.ups (k.downs ++ q ∷ []) k.downs (Awaiting q)
           (all_left k.ups) (last_left k.downs q) h,
     )
     sent q (Some d) is h = (
       k.downs ++ q ∷ [],
-      carries_pushed IsJunkDown (IsCommand c.plan.list c.plan.port unit) c.down k.downs (spelling (command_message unit d)) q
-          (d, is, below.alone (command_message unit d) (below.command_fits unit d (omega (arith, k.unit_fits)) (writable below c.plan q d k.of_bytes k.port_fits is)))
+      carries_pushed IsJunkDown (IsCommand c.plan.list c.plan.port unit) c.down k.downs
+          (spelling (command_message unit d)) q (
+            d,
+            is,
+            below.alone (command_message unit d) (below.command_fits unit d (omega (arith, k.unit_fits))
+                (writable below c.plan q d k.of_bytes k.port_fits is)),
+          )
           k.down_is,
       h,
     )
@@ -88,64 +98,80 @@ ticked_kept mode S closed below c k = by c.state.stage refl
     at : (stage : Stage) → StandsAt S c.plan.list c.port c.state.settled stage c.aired k.ups k.downs → Goal stage
     at (Ready q) h =
         sent (phase_to_send c.state.stop q) (command_in c.plan.list c.plan.port (phase_to_send c.state.stop q)) refl
-        (closed.sends c.plan.list c.port.clips c.state.settled (is_selected c.port.state) c.port.state.cued c.aired k.ups k.downs c.state.stop q h)
-    at (Awaiting q) h = (k.downs, carries_same IsJunkDown (IsCommand c.plan.list c.plan.port unit) c.down k.downs k.down_is, k.stands)
-    at (Ended o) h = (k.downs, carries_same IsJunkDown (IsCommand c.plan.list c.plan.port unit) c.down k.downs k.down_is, k.stands)
+        (closed.sends c.plan.list c.port.clips c.state.settled (is_selected c.port.state) c.port.state.cued c.aired
+        k.ups k.downs c.state.stop q h)
+    at (Awaiting q) h =
+        (k.downs, carries_same IsJunkDown (IsCommand c.plan.list c.plan.port unit) c.down k.downs k.down_is, k.stands)
+    at (Ended o) h =
+        (k.downs, carries_same IsJunkDown (IsCommand c.plan.list c.plan.port unit) c.down k.downs k.down_is, k.stands)
 
     by : (stage : Stage) → c.state.stage ≡ stage → Ticked mode S c k
-    by stage e = let (downs, queue, h) = at c.state.stage k.stands in record { downs = downs; down_is = queue; stands = h }
+    by stage e =
+        let (downs, queue, h) = at c.state.stage k.stands in record { downs = downs; down_is = queue; stands = h }
 
 -- ---- the port reads the oldest burst
 
 -- the queue's oldest burst is taken, or stays
-pub record Deliveries (mode : Mode) (S : Claim) (c : LateChannel) (k : IsKept mode S c) (burst : List ℕ) (down rest : List (List ℕ)) : Type 0 where
+pub record Deliveries (mode : Mode) (S : Claim) (c : LateChannel) (k : IsKept mode S c) (burst : List ℕ)
+    (down rest : List (List ℕ)) : Type 0 where
   pub downs : List Phase
   pub down_is : DownCarries c.plan.list c.plan.port c.port.state.unit rest downs
   pub taken : Delivered mode S c.plan c.state c.port c.up c.aired burst downs
   pub kept : Delivered mode S c.plan c.state c.port c.up c.aired burst k.downs
 
-delivers : (mode : Mode) (S : Claim) → Closed mode S → Below → (c : LateChannel) (k : IsKept mode S c) (burst : List ℕ) (rest : List (List ℕ))
-    → DownCarries c.plan.list c.plan.port c.port.state.unit (burst ∷ rest) k.downs → Deliveries mode S c k burst (burst ∷ rest) rest
+delivers : (mode : Mode) (S : Claim) → Closed mode S → Below
+    → (c : LateChannel) (k : IsKept mode S c) (burst : List ℕ) (rest : List (List ℕ))
+    → DownCarries c.plan.list c.plan.port c.port.state.unit (burst ∷ rest) k.downs
+    → Deliveries mode S c k burst (burst ∷ rest) rest
 delivers mode S closed below c k burst rest (inl (junk, more)) =
-    let d = delivered_nothing mode S closed c.plan c.state c.port c.up c.aired burst k.ups k.downs (reads_nothing below c.port burst junk) k.up_is k.stands in
+    let d = delivered_nothing mode S closed c.plan c.state c.port c.up c.aired burst k.ups k.downs
+    (reads_nothing below c.port burst junk) k.up_is k.stands in
     record { downs = k.downs; down_is = more; taken = d; kept = d }
 delivers mode S closed below c k burst rest (inr (q, downs, first, (d, is, ms), more)) = record {
   downs = downs;
   down_is = more;
-  taken = delivered_command mode S closed c.plan c.state c.port c.up c.aired burst k.ups q downs d is read k.up_is there;
+  taken =
+      delivered_command mode S closed c.plan c.state c.port c.up c.aired burst k.ups q downs d is read k.up_is there;
   kept = subst (Delivered mode S c.plan c.state c.port c.up c.aired burst) (sym first)
       (delivered_command mode S closed c.plan c.state c.port c.up c.aired burst k.ups q (q ∷ downs) d is read k.up_is
-      (closed.copied c.plan.list c.port.clips c.state.settled (is_selected c.port.state) c.port.state.cued c.aired k.ups q downs c.state.stage there));
+      (closed.copied c.plan.list c.port.clips c.state.settled (is_selected c.port.state) c.port.state.cued c.aired k.ups
+      q downs c.state.stage there));
 }
   where
     read : ReadsCommand c.port burst d
     read = reads_command below c.port burst d k.unit_fits (writable below c.plan q d k.of_bytes k.port_fits is) ms
 
     there : StandsAt S c.plan.list c.port c.state.settled c.state.stage c.aired k.ups (q ∷ downs)
-    there = subst (λ (ds : List Phase). StandsAt S c.plan.list c.port c.state.settled c.state.stage c.aired k.ups ds) first k.stands
+    there = subst (λ (ds : List Phase). StandsAt S c.plan.list c.port c.state.settled c.state.stage c.aired k.ups ds)
+        first k.stands
 
-down_kept : (mode : Mode) (S : Claim) → Closed mode S → Below → (c : LateChannel) (k : IsKept mode S c) → IsKept mode S (after_late_event c event.Down)
+down_kept : (mode : Mode) (S : Claim) → Closed mode S → Below → (c : LateChannel) (k : IsKept mode S c)
+    → IsKept mode S (after_late_event c event.Down)
 down_kept mode S closed below c k = by c.down refl
   where
     nothing : Delivered mode S c.plan c.state c.port c.up c.aired [] k.downs
-    nothing = delivered_nothing mode S closed c.plan c.state c.port c.up c.aired [] k.ups k.downs (reads_nothing below c.port [] refl) k.up_is k.stands
+    nothing = delivered_nothing mode S closed c.plan c.state c.port c.up c.aired [] k.ups k.downs
+        (reads_nothing below c.port [] refl) k.up_is k.stands
 
     Goal : List (List ℕ) → Type 0
     Goal down = IsKept mode S (record c {
       port = after_burst c.port (oldest down);
-      down = behind_oldest down;
+      down = without_oldest down;
       up = c.up ++ bursts_of (sent_for c.port (oldest down));
       aired = c.aired ++ aired_for c.port (oldest down);
     })
 
     by : (down : List (List ℕ)) → c.down ≡ down → Goal c.down
     by [] e = subst Goal (sym e) (with_delivery mode S closed c k [] [] k.downs
-        (subst (λ (q : List (List ℕ)). DownCarries c.plan.list c.plan.port c.port.state.unit q k.downs) e k.down_is) nothing)
+        (subst (λ (q : List (List ℕ)). DownCarries c.plan.list c.plan.port c.port.state.unit q k.downs) e k.down_is)
+        nothing)
     by (burst ∷ rest) e =
-        let d = delivers mode S closed below c k burst rest (subst (λ (q : List (List ℕ)). DownCarries c.plan.list c.plan.port c.port.state.unit q k.downs) e k.down_is) in
+        let d = delivers mode S closed below c k burst rest
+        (subst (λ (q : List (List ℕ)). DownCarries c.plan.list c.plan.port c.port.state.unit q k.downs) e k.down_is) in
         subst Goal (sym e) (with_delivery mode S closed c k burst rest d.downs d.down_is d.taken)
 
-down_copy_kept : (mode : Mode) (S : Claim) → Closed mode S → Below → (c : LateChannel) (k : IsKept mode S c) → IsKept mode S (after_late_event c event.DownCopy)
+down_copy_kept : (mode : Mode) (S : Claim) → Closed mode S → Below → (c : LateChannel) (k : IsKept mode S c)
+    → IsKept mode S (after_late_event c event.DownCopy)
 down_copy_kept mode S closed below c k = by c.down refl
   where
     Goal : List (List ℕ) → Type 0
@@ -158,41 +184,54 @@ down_copy_kept mode S closed below c k = by c.down refl
 
     by : (down : List (List ℕ)) → c.down ≡ down → Goal c.down
     by [] e = subst Goal (sym e) (with_delivery mode S closed c k [] c.down k.downs k.down_is
-        (delivered_nothing mode S closed c.plan c.state c.port c.up c.aired [] k.ups k.downs (reads_nothing below c.port [] refl) k.up_is k.stands))
+        (delivered_nothing mode S closed c.plan c.state c.port c.up c.aired [] k.ups k.downs
+        (reads_nothing below c.port [] refl) k.up_is k.stands))
     by (burst ∷ rest) e =
-        let d = delivers mode S closed below c k burst rest (subst (λ (q : List (List ℕ)). DownCarries c.plan.list c.plan.port c.port.state.unit q k.downs) e k.down_is) in
+        let d = delivers mode S closed below c k burst rest
+        (subst (λ (q : List (List ℕ)). DownCarries c.plan.list c.plan.port c.port.state.unit q k.downs) e k.down_is) in
         subst Goal (sym e) (with_delivery mode S closed c k burst c.down k.downs k.down_is d.kept)
 
 -- ---- something comes to the controller, or nothing in time
 
-came_kept : (mode : Mode) (S : Claim) → Closed mode S → (c : LateChannel) (k : IsKept mode S c) (came : Option Heard) → Comes mode k.ups came
-    → StandsAt S c.plan.list c.port (came_to c.plan came c.state).settled (came_to c.plan came c.state).stage c.aired k.ups k.downs
+came_kept : (mode : Mode) (S : Claim) → Closed mode S → (c : LateChannel) (k : IsKept mode S c) (came : Option Heard)
+    → Comes mode k.ups came
+    → StandsAt S c.plan.list c.port (came_to c.plan came c.state).settled
+    (came_to c.plan came c.state).stage c.aired k.ups k.downs
 came_kept mode S closed c k came comes =
-    closed.comes c.plan c.port.clips (is_selected c.port.state) c.port.state.cued c.aired k.ups k.downs c.state came k.mode_is comes k.stands
+    closed.comes c.plan c.port.clips (is_selected c.port.state) c.port.state.cued c.aired k.ups k.downs c.state came
+    k.mode_is comes k.stands
 
 -- of the oldest burst on the way up
-hears : (mode : Mode) (S : Claim) → Closed mode S → (c : LateChannel) (k : IsKept mode S c) (up : List (List ℕ)) → c.up ≡ up → Comes mode k.ups (heard_in c.port.state.unit (oldest up))
+hears : (mode : Mode) (S : Claim) → Closed mode S → (c : LateChannel) (k : IsKept mode S c) (up : List (List ℕ))
+    → c.up ≡ up → Comes mode k.ups (heard_in c.port.state.unit (oldest up))
 hears mode S closed c k [] e = inl refl
-hears mode S closed c k (burst ∷ rest) e = by (subst (λ (q : List (List ℕ)). UpCarries mode c.port.state.unit q k.ups) e k.up_is)
+hears mode S closed c k (burst ∷ rest) e =
+    by (subst (λ (q : List (List ℕ)). UpCarries mode c.port.state.unit q k.ups) e k.up_is)
   where
     by : UpCarries mode c.port.state.unit (burst ∷ rest) k.ups → Comes mode k.ups (heard_in c.port.state.unit burst)
     by (inl (junk, more)) = inl junk
     by (inr (x, others, first, is, more)) = inr (x, others, first, is)
 
-hearing_kept : (mode : Mode) (S : Claim) → Closed mode S → (c : LateChannel) (k : IsKept mode S c) (came : Option Heard) → Comes mode k.ups came
-    → StandsAt S c.plan.list c.port (state_hearing c.plan came c.state).settled (state_hearing c.plan came c.state).stage c.aired k.ups k.downs
+hearing_kept : (mode : Mode) (S : Claim) → Closed mode S → (c : LateChannel) (k : IsKept mode S c) (came : Option Heard)
+    → Comes mode k.ups came
+    → StandsAt S c.plan.list c.port (state_hearing c.plan came c.state).settled
+    (state_hearing c.plan came c.state).stage c.aired k.ups k.downs
 hearing_kept mode S closed c k None comes = k.stands
 hearing_kept mode S closed c k (Some h) comes = came_kept mode S closed c k (Some h) comes
 
-up_copy_kept : (mode : Mode) (S : Claim) → Closed mode S → (c : LateChannel) (k : IsKept mode S c) → IsKept mode S (after_late_event c event.UpCopy)
+up_copy_kept : (mode : Mode) (S : Claim) → Closed mode S → (c : LateChannel) (k : IsKept mode S c)
+    → IsKept mode S (after_late_event c event.UpCopy)
 up_copy_kept mode S closed c k =
     let came : Option Heard = heard_in c.port.state.unit (oldest c.up) in
-    with_state mode S closed c k (state_hearing c.plan came c.state) (log_hearing c.plan came c.state c.log) (hearing_kept mode S closed c k came (hears mode S closed c k c.up refl))
+    with_state mode S closed c k (state_hearing c.plan came c.state) (log_hearing c.plan came c.state c.log)
+    (hearing_kept mode S closed c k came (hears mode S closed c k c.up refl))
 
 -- something was heard, and the oldest burst is gone
-with_hearing : (mode : Mode) (S : Claim) → Closed mode S → (c : LateChannel) (k : IsKept mode S c) (state : State) (up : List (List ℕ)) (log : List Exchange)
+with_hearing : (mode : Mode) (S : Claim) → Closed mode S
+    → (c : LateChannel) (k : IsKept mode S c) (state : State) (up : List (List ℕ)) (log : List Exchange)
     → Left (IsJunkUp mode c.port.state.unit) (IsAnswer c.port.state.unit) up k.ups
-    → StandsAt S c.plan.list c.port state.settled state.stage c.aired k.ups k.downs → IsKept mode S (record c { state = state; up = up; log = log })
+    → StandsAt S c.plan.list c.port state.settled state.stage c.aired k.ups k.downs
+    → IsKept mode S (record c { state = state; up = up; log = log })
 with_hearing mode S closed c k state up log l stands = record {
   mode_is = k.mode_is;
   unit_fits = k.unit_fits;
@@ -202,12 +241,15 @@ with_hearing mode S closed c k state up log l stands = record {
   ups = l.left;
   down_is = k.down_is;
   up_is = l.carries;
-  stands = closed.thins c.plan.list c.port.clips state.settled (is_selected c.port.state) c.port.state.cued c.aired k.ups l.left k.downs k.downs state.stage
+  stands = closed.thins c.plan.list c.port.clips state.settled (is_selected c.port.state) c.port.state.cued c.aired
+      k.ups l.left k.downs k.downs state.stage
       l.thins (all_left k.downs) stands;
 }
 
-up_kept : (mode : Mode) (S : Claim) → Closed mode S → (c : LateChannel) (k : IsKept mode S c) → IsKept mode S (after_late_event c event.Up)
-up_kept mode S closed c k = with_hearing mode S closed c k (state_hearing c.plan came c.state) (behind_oldest c.up) (log_hearing c.plan came c.state c.log) (by c.up refl)
+up_kept : (mode : Mode) (S : Claim) → Closed mode S → (c : LateChannel) (k : IsKept mode S c)
+    → IsKept mode S (after_late_event c event.Up)
+up_kept mode S closed c k = with_hearing mode S closed c k (state_hearing c.plan came c.state) (without_oldest c.up)
+    (log_hearing c.plan came c.state c.log) (by c.up refl)
     (hearing_kept mode S closed c k came (hears mode S closed c k c.up refl))
   where
     unit : ℕ
@@ -216,11 +258,14 @@ up_kept mode S closed c k = with_hearing mode S closed c k (state_hearing c.plan
     came : Option Heard
     came = heard_in unit (oldest c.up)
 
-    by : (up : List (List ℕ)) → c.up ≡ up → Left (IsJunkUp mode unit) (IsAnswer unit) (behind_oldest c.up) k.ups
-    by [] e = subst (λ (q : List (List ℕ)). Left (IsJunkUp mode unit) (IsAnswer unit) (behind_oldest q) k.ups) (sym e)
-        (left_same (IsJunkUp mode unit) (IsAnswer unit) [] k.ups (subst (λ (q : List (List ℕ)). UpCarries mode unit q k.ups) e k.up_is))
-    by (burst ∷ rest) e = subst (λ (q : List (List ℕ)). Left (IsJunkUp mode unit) (IsAnswer unit) (behind_oldest q) k.ups) (sym e)
-        (left_rest (IsJunkUp mode unit) (IsAnswer unit) burst rest k.ups (subst (λ (q : List (List ℕ)). UpCarries mode unit q k.ups) e k.up_is))
+    by : (up : List (List ℕ)) → c.up ≡ up → Left (IsJunkUp mode unit) (IsAnswer unit) (without_oldest c.up) k.ups
+    by [] e = subst (λ (q : List (List ℕ)). Left (IsJunkUp mode unit) (IsAnswer unit) (without_oldest q) k.ups) (sym e)
+        (left_same (IsJunkUp mode unit) (IsAnswer unit) [] k.ups
+        (subst (λ (q : List (List ℕ)). UpCarries mode unit q k.ups) e k.up_is))
+    by (burst ∷ rest) e =
+        subst (λ (q : List (List ℕ)). Left (IsJunkUp mode unit) (IsAnswer unit) (without_oldest q) k.ups) (sym e)
+        (left_rest (IsJunkUp mode unit) (IsAnswer unit) burst rest k.ups
+        (subst (λ (q : List (List ℕ)). UpCarries mode unit q k.ups) e k.up_is))
 
 -- ---- damage and junk
 
@@ -230,7 +275,8 @@ no_front (m ∷ ms) others e = cc
 
 one_front : (ms others : List Content) (m : Content) → m ∷ [] ≡ ms ++ others → (ms ≡ m ∷ []) ⊎ (ms ≡ [])
 one_front [] others m e = inr refl
-one_front (x ∷ ms) others m e = inl (ap (λ (front : List Content). x ∷ front) (no_front ms others (rest e)) ∙ ap (λ (y : Content). y ∷ []) (sym (first e)))
+one_front (x ∷ ms) others m e = inl (ap (λ (front : List Content). x ∷ front) (no_front ms others (rest e)) ∙ ap
+    (λ (y : Content). y ∷ []) (sym (first e)))
   where
     first : m ∷ [] ≡ x ∷ (ms ++ others) → m ≡ x
     first e = cc
@@ -238,7 +284,8 @@ one_front (x ∷ ms) others m e = inl (ap (λ (front : List Content). x ∷ fron
     rest : m ∷ [] ≡ x ∷ (ms ++ others) → [] ≡ ms ++ others
     rest e = cc
 
-damages_down : (list : List Item) (port unit : ℕ) (bytes : List ℕ) → Damages IsJunkDown (IsCommand list port unit) (λ was. can_become was bytes) bytes
+damages_down : (list : List Item) (port unit : ℕ) (bytes : List ℕ)
+    → Damages IsJunkDown (IsCommand list port unit) (λ was. can_become was bytes) bytes
 damages_down list port unit bytes = record { of_junk = junk; of_one = one }
   where
     junk : (was : List ℕ) → can_become was bytes ≡ true → messages_of was ≡ [] → messages_of bytes ≡ []
@@ -246,27 +293,32 @@ damages_down list port unit bytes = record { of_junk = junk; of_one = one }
         let (others, is) = is_beginning_of (messages_of bytes) (messages_of was) can in
         no_front (messages_of bytes) others (sym none ∙ is)
 
-    one : (was : List ℕ) (d : Phase) → can_become was bytes ≡ true → IsCommand list port unit was d → IsCommand list port unit bytes d ⊎ IsJunkDown bytes
+    one : (was : List ℕ) (d : Phase) → can_become was bytes ≡ true → IsCommand list port unit was d
+        → IsCommand list port unit bytes d ⊎ IsJunkDown bytes
     one was d can (c, is, ms) =
         let (others, front) = is_beginning_of (messages_of bytes) (messages_of was) can in
         by (one_front (messages_of bytes) others (command_message unit c) (sym ms ∙ front))
       where
-        by : (messages_of bytes ≡ command_message unit c ∷ []) ⊎ (messages_of bytes ≡ []) → IsCommand list port unit bytes d ⊎ IsJunkDown bytes
+        by : (messages_of bytes ≡ command_message unit c ∷ []) ⊎ (messages_of bytes ≡ [])
+            → IsCommand list port unit bytes d ⊎ IsJunkDown bytes
         by (inl same) = inl (c, is, same)
         by (inr none) = inr none
 
 -- what is heard of a beginning of messages: the same, or nothing
-heard_front : (unit : ℕ) (ms others : List Content) → (heard_first unit ms ≡ heard_first unit (ms ++ others)) ⊎ (heard_first unit ms ≡ None)
+heard_front : (unit : ℕ) (ms others : List Content)
+    → (heard_first unit ms ≡ heard_first unit (ms ++ others)) ⊎ (heard_first unit ms ≡ None)
 heard_front unit [] others = inr refl
 heard_front unit (m ∷ ms) others = inl refl
 
-hears_front : (unit : ℕ) (was bytes : List ℕ) → can_become was bytes ≡ true → (heard_in unit bytes ≡ heard_in unit was) ⊎ (heard_in unit bytes ≡ None)
+hears_front : (unit : ℕ) (was bytes : List ℕ) → can_become was bytes ≡ true
+    → (heard_in unit bytes ≡ heard_in unit was) ⊎ (heard_in unit bytes ≡ None)
 hears_front unit was bytes can =
     let (others, is) = is_beginning_of (messages_of bytes) (messages_of was) can in
     by others is (heard_front unit (messages_of bytes) others)
   where
     by : (others : List Content) → messages_of was ≡ messages_of bytes ++ others
-        → (heard_first unit (messages_of bytes) ≡ heard_first unit (messages_of bytes ++ others)) ⊎ (heard_first unit (messages_of bytes) ≡ None)
+        → (heard_first unit (messages_of bytes) ≡ heard_first unit (messages_of bytes ++ others)) ⊎
+        (heard_first unit (messages_of bytes) ≡ None)
         → (heard_in unit bytes ≡ heard_in unit was) ⊎ (heard_in unit bytes ≡ None)
     by others is (inl same) = inl (same ∙ ap (heard_first unit) (sym is))
     by others is (inr none) = inr none
@@ -275,7 +327,8 @@ or_either : (a b : Bool) → (a || b) ≡ true → (a ≡ true) ⊎ (b ≡ true)
 or_either true b e = inl refl
 or_either false b e = inr e
 
-damages_up : (mode : Mode) (unit : ℕ) (bytes : List ℕ) → Damages (IsJunkUp mode unit) (IsAnswer unit) (λ was. can_become_up mode unit was bytes) bytes
+damages_up : (mode : Mode) (unit : ℕ) (bytes : List ℕ)
+    → Damages (IsJunkUp mode unit) (IsAnswer unit) (λ was. can_become_up mode unit was bytes) bytes
 damages_up mode unit bytes = record { of_junk = junk; of_one = one }
   where
     none_is_junk : heard_in unit bytes ≡ None → IsJunkUp mode unit bytes
@@ -292,14 +345,17 @@ damages_up mode unit bytes = record { of_junk = junk; of_one = one }
         by (inl front) = heard_same (hears_front unit was bytes front)
         by (inr is) = is
 
-    one : (was : List ℕ) (x : Answer) → can_become_up mode unit was bytes ≡ true → IsAnswer unit was x → IsAnswer unit bytes x ⊎ IsJunkUp mode unit bytes
+    one : (was : List ℕ) (x : Answer) → can_become_up mode unit was bytes ≡ true → IsAnswer unit was x
+        → IsAnswer unit bytes x ⊎ IsJunkUp mode unit bytes
     one was x can i = by (or_either (can_become was bytes) (is_junk_up mode unit bytes) can)
       where
-        heard_same : (heard_in unit bytes ≡ heard_in unit was) ⊎ (heard_in unit bytes ≡ None) → IsAnswer unit bytes x ⊎ IsJunkUp mode unit bytes
+        heard_same : (heard_in unit bytes ≡ heard_in unit was) ⊎ (heard_in unit bytes ≡ None)
+            → IsAnswer unit bytes x ⊎ IsJunkUp mode unit bytes
         heard_same (inl same) = inl (same ∙ i)
         heard_same (inr none) = inr (none_is_junk none)
 
-        by : (can_become was bytes ≡ true) ⊎ (is_junk_up mode unit bytes ≡ true) → IsAnswer unit bytes x ⊎ IsJunkUp mode unit bytes
+        by : (can_become was bytes ≡ true) ⊎ (is_junk_up mode unit bytes ≡ true)
+            → IsAnswer unit bytes x ⊎ IsJunkUp mode unit bytes
         by (inl front) = heard_same (hears_front unit was bytes front)
         by (inr is) = inr is
 
@@ -310,7 +366,8 @@ junk_down bytes can =
 
 -- ---- the port by itself
 
-frame_ages : (p : ClockedPort) → Ages (is_selected p.state) p.state.cued (is_selected (after_frame p).state) (after_frame p).state.cued
+frame_ages : (p : ClockedPort) → Ages (is_selected p.state) p.state.cued (is_selected (after_frame p).state)
+    (after_frame p).state.cued
 frame_ages p = by (completes_cue p) (ends_clip p)
   where
     by : (cue clip : Bool)
@@ -337,7 +394,8 @@ frame_clips p = by (completes_cue p) (ends_clip p)
 
 -- ---- all events
 
-pub kept_event : (mode : Mode) (S : Claim) → Closed mode S → Below → (c : LateChannel) (e : LateEvent) → IsKept mode S c → IsKept mode S (after_late_event c e)
+pub kept_event : (mode : Mode) (S : Claim) → Closed mode S → Below → (c : LateChannel) (e : LateEvent) → IsKept mode S c
+    → IsKept mode S (after_late_event c e)
 kept_event mode S closed below c event.Tick k =
     let t = ticked_kept mode S closed below c k in
     record {
@@ -356,29 +414,42 @@ kept_event mode S closed below c event.Up k = up_kept mode S closed c k
 kept_event mode S closed below c event.DownCopy k = down_copy_kept mode S closed below c k
 kept_event mode S closed below c event.UpCopy k = up_copy_kept mode S closed c k
 kept_event mode S closed below c (event.LoseDown place) k =
-    with_down mode S closed c k (remove c.down place) (left_without IsJunkDown (IsCommand c.plan.list c.plan.port c.port.state.unit) c.down k.downs place k.down_is)
+    with_down mode S closed c k (remove c.down place) (left_without IsJunkDown
+    (IsCommand c.plan.list c.plan.port c.port.state.unit) c.down k.downs place k.down_is)
 kept_event mode S closed below c (event.LoseUp place) k =
-    with_up mode S closed c k (remove c.up place) (left_without (IsJunkUp mode c.port.state.unit) (IsAnswer c.port.state.unit) c.up k.ups place k.up_is)
+    with_up mode S closed c k (remove c.up place) (left_without (IsJunkUp mode c.port.state.unit)
+    (IsAnswer c.port.state.unit) c.up k.ups place k.up_is)
 kept_event mode S closed below c (event.AlterDown place bytes) k =
-    with_down mode S closed c k _ (left_damaged IsJunkDown (IsCommand c.plan.list c.plan.port c.port.state.unit) (λ was. can_become was bytes) bytes place c.down k.downs
+    with_down mode S closed c k _ (left_damaged IsJunkDown (IsCommand c.plan.list c.plan.port c.port.state.unit)
+    (λ was. can_become was bytes) bytes place c.down k.downs
     (damages_down c.plan.list c.plan.port c.port.state.unit bytes) k.down_is)
 kept_event mode S closed below c (event.AlterUp place bytes) k =
-    with_up mode S closed c k _ (left_damaged (IsJunkUp mode c.port.state.unit) (IsAnswer c.port.state.unit) (λ was. can_become_up c.plan.mode c.port.state.unit was bytes) bytes
+    with_up mode S closed c k _ (left_damaged (IsJunkUp mode c.port.state.unit) (IsAnswer c.port.state.unit)
+    (λ was. can_become_up c.plan.mode c.port.state.unit was bytes) bytes
     place c.up k.ups
-    (subst (λ (m : Mode). Damages (IsJunkUp mode c.port.state.unit) (IsAnswer c.port.state.unit) (λ was. can_become_up m c.port.state.unit was bytes) bytes) (sym k.mode_is)
+    (subst (λ (m : Mode). Damages (IsJunkUp mode c.port.state.unit) (IsAnswer c.port.state.unit)
+    (λ was. can_become_up m c.port.state.unit was bytes) bytes) (sym k.mode_is)
     (damages_up mode c.port.state.unit bytes)) k.up_is)
 kept_event mode S closed below c (event.JunkDown place bytes) k =
     with_down mode S closed c k _ (left_same IsJunkDown (IsCommand c.plan.list c.plan.port c.port.state.unit) _ k.downs
-    (carries_junk IsJunkDown (IsCommand c.plan.list c.plan.port c.port.state.unit) c.down k.downs place bytes (is_junk_down bytes) (junk_down bytes) k.down_is))
+    (carries_junk IsJunkDown (IsCommand c.plan.list c.plan.port c.port.state.unit) c.down k.downs place bytes
+    (is_junk_down bytes) (junk_down bytes) k.down_is))
 kept_event mode S closed below c (event.JunkUp place bytes) k =
     with_up mode S closed c k _ (left_same (IsJunkUp mode c.port.state.unit) (IsAnswer c.port.state.unit) _ k.ups
-    (carries_junk (IsJunkUp mode c.port.state.unit) (IsAnswer c.port.state.unit) c.up k.ups place bytes (is_junk_up c.plan.mode c.port.state.unit bytes)
+    (carries_junk (IsJunkUp mode c.port.state.unit) (IsAnswer c.port.state.unit) c.up k.ups place bytes
+    (is_junk_up c.plan.mode c.port.state.unit bytes)
     (λ e. ap (λ (m : Mode). is_junk_up m c.port.state.unit bytes) (sym k.mode_is) ∙ e) k.up_is))
-kept_event mode S closed below c event.Timeout k = with_state mode S closed c k (came_to c.plan None c.state) _ (came_kept mode S closed c k None (inl refl))
-kept_event mode S closed below c event.Ready k = with_port mode S closed c k (after_ready c.port) refl refl (ready_ages (is_selected c.port.state) c.port.state.cued)
-kept_event mode S closed below c event.End k = with_port mode S closed c k (after_ended c.port) refl refl (same_ages (is_selected c.port.state) c.port.state.cued)
-kept_event mode S closed below c event.Frame k = with_port mode S closed c k (after_frame c.port) (below.unit_frame c.port) (frame_clips c.port) (frame_ages c.port)
+kept_event mode S closed below c event.Timeout k =
+    with_state mode S closed c k (came_to c.plan None c.state) _ (came_kept mode S closed c k None (inl refl))
+kept_event mode S closed below c event.Ready k =
+    with_port mode S closed c k (after_ready c.port) refl refl (ready_ages (is_selected c.port.state) c.port.state.cued)
+kept_event mode S closed below c event.End k =
+    with_port mode S closed c k (after_ended c.port) refl refl (same_ages (is_selected c.port.state) c.port.state.cued)
+kept_event mode S closed below c event.Frame k =
+    with_port mode S closed c k (after_frame c.port) (below.unit_frame c.port) (frame_clips c.port) (frame_ages c.port)
 kept_event mode S closed below c event.Take k = with_state mode S closed c k (taken c.state) c.log k.stands
 kept_event mode S closed below c event.Stop k = with_state mode S closed c k (stopped c.state) c.log k.stands
-kept_event mode S closed below c event.ServerAnew k = with_port mode S closed c k (made_anew c.port) refl refl (anew_ages (is_selected c.port.state) c.port.state.cued)
-kept_event mode S closed below c event.AutomationAnew k = with_state mode S closed c k _ _ (came_kept mode S closed c k None (inl refl))
+kept_event mode S closed below c event.ServerAnew k =
+    with_port mode S closed c k (made_anew c.port) refl refl (anew_ages (is_selected c.port.state) c.port.state.cued)
+kept_event mode S closed below c event.AutomationAnew k =
+    with_state mode S closed c k _ _ (came_kept mode S closed c k None (inl refl))

@@ -29,4 +29,5 @@ pub mod ConfirmedComing
 pub mod ConfirmedReached
 pub mod LateReached
 pub mod LateController
+mod Premises
 pub mod Happened

@@ -1,4 +1,5 @@
--- A reply that answers the phase's command was sent for a command of the phase's own stretch, and so all that is older has
+-- A reply that answers the phase's command was sent for a command of the phase's own stretch, and so all that is older
+-- has
 -- passed. The one exception is a status that was asked for in Wait and is heard in Probe.
 use Rattle.std.proofs.Common.{◌≡◌, ℕ, ◌+◌, ◌*◌, ◌<◌, ◌≤◌, ◌⊎◌, inl, inr, Bool, true, false, not, ◌||◌, ◌&&◌, List, [], ◌∷◌, length, Option, Some, None, refl, arith, sym, ap, subst, ◌∙◌}
 use Rattle.std.specs.List.{list_any}
@@ -74,8 +75,10 @@ asked_kind phase.Halt r e = ack_kind r e
 asked_kind phase.HaltClose r e = ack_kind r e
 
 -- an answer that the phase asks for was sent for a command that wants it
-pub same_wanted : (q d : Phase) (r : Reply) → is_refusal r ≡ false → fits_phase d r ≡ true → is_asked q r ≡ true → wanted d ≡ wanted q
-same_wanted q d r none fits asked = sym (asked_kind d r (right (is_refusal r) (is_asked d r) none fits)) ∙ asked_kind q r asked
+pub same_wanted : (q d : Phase) (r : Reply) → is_refusal r ≡ false → fits_phase d r ≡ true → is_asked q r ≡ true
+    → wanted d ≡ wanted q
+same_wanted q d r none fits asked =
+    sym (asked_kind d r (right (is_refusal r) (is_asked d r) none fits)) ∙ asked_kind q r asked
   where
     right : (a b : Bool) → a ≡ false → (a || b) ≡ true → b ≡ true
     right a b e f = grind arith
@@ -88,7 +91,8 @@ first_passed n phase.Select l other = refl
 first_passed n phase.Seen l other = refl
 first_passed n d l other = absurd (omega arith)
 
-pub exists_passed : (n k : ℕ) (d : Phase) → k < n → Lies Plain n (5 * k + 1) (5 * k + 2) d → wanted d ≡ 3 → d ≡ phase.Exists k
+pub exists_passed : (n k : ℕ) (d : Phase) → k < n → Lies Plain n (5 * k + 1) (5 * k + 2) d → wanted d ≡ 3
+    → d ≡ phase.Exists k
 exists_passed n k (phase.Exists j) below l w = let e : j ≡ k = omega arith in ap phase.Exists e
 exists_passed n k d below l w = absurd (omega arith)
 
@@ -96,26 +100,32 @@ pub cue_passed : (n k : ℕ) (d : Phase) → k < n → Lies Plain n (5 * k + 2) 
 cue_passed n k (phase.Cue j) below l w = let e : j ≡ k = omega arith in ap phase.Cue e
 cue_passed n k d below l w = absurd (omega arith)
 
-pub wait_passed : (n k : ℕ) (d : Phase) → k < n → Lies Plain n (5 * k + 3) (5 * k + 4) d → wanted d ≡ 2 → d ≡ phase.Wait k
+pub wait_passed : (n k : ℕ) (d : Phase) → k < n → Lies Plain n (5 * k + 3) (5 * k + 4) d → wanted d ≡ 2
+    → d ≡ phase.Wait k
 wait_passed n k (phase.Wait j) below l w = let e : j ≡ k = omega arith in ap phase.Wait e
 wait_passed n k d below l w = absurd (omega arith)
 
-pub play_passed : (n k : ℕ) (d : Phase) → k < n → Lies Plain n (5 * k + 4) (5 * k + 5) d → wanted d ≡ 0 → d ≡ phase.Play k
+pub play_passed : (n k : ℕ) (d : Phase) → k < n → Lies Plain n (5 * k + 4) (5 * k + 5) d → wanted d ≡ 0
+    → d ≡ phase.Play k
 play_passed n k (phase.Play j) below l w = let e : j ≡ k = omega arith in ap phase.Play e
 play_passed n k d below l w = absurd (omega arith)
 
-pub probe_passed : (n k : ℕ) (d : Phase) → k < n → Lies Plain n (5 * k + 4) (5 * k + 5) d → wanted d ≡ 2 → (d ≡ phase.Wait k) ⊎ (d ≡ phase.Probe k)
+pub probe_passed : (n k : ℕ) (d : Phase) → k < n → Lies Plain n (5 * k + 4) (5 * k + 5) d → wanted d ≡ 2
+    → (d ≡ phase.Wait k) ⊎ (d ≡ phase.Probe k)
 probe_passed n k (phase.Wait j) below l w = let e : j ≡ k = omega arith in inl (ap phase.Wait e)
 probe_passed n k (phase.Probe j) below l w = let e : j ≡ k = omega arith in inr (ap phase.Probe e)
 probe_passed n k d below l w = absurd (omega arith)
 
-pub check_passed : (n k : ℕ) (d : Phase) → k < n → Lies Plain n (5 * k + 5) (5 * k + 6) d → wanted d ≡ 4 → d ≡ phase.Check k
+pub check_passed : (n k : ℕ) (d : Phase) → k < n → Lies Plain n (5 * k + 5) (5 * k + 6) d → wanted d ≡ 4
+    → d ≡ phase.Check k
 check_passed n k (phase.Check j) below l w = let e : j ≡ k = omega arith in ap phase.Check e
 check_passed n k d below l w = absurd (omega arith)
 
 -- all that is in the pipe is of that stretch then
-pub all_own : (mode : Mode) (n low high : ℕ) (x : Answer) (ups : List Answer) (downs : List Phase) → stretch mode n x.to ≡ high
-    → Climbs low high (stretches mode n (pipe_of (x ∷ ups) downs)) → Climbs high high (stretches mode n (pipe_of (x ∷ ups) downs))
+pub all_own : (mode : Mode) (n low high : ℕ) (x : Answer) (ups : List Answer) (downs : List Phase)
+    → stretch mode n x.to ≡ high
+    → Climbs low high (stretches mode n (pipe_of (x ∷ ups) downs))
+    → Climbs high high (stretches mode n (pipe_of (x ∷ ups) downs))
 all_own mode n low high x ups downs e c =
     subst (λ (m : ℕ). Climbs m high (stretches mode n (pipe_of (x ∷ ups) downs))) e
     (climbs_from low high (stretch mode n x.to) (stretches mode n (pipe_of ups downs)) c)

@@ -4,7 +4,8 @@ use Rattle.vdcp_late.specs.Pipe.{Climbs}
 use Rattle.vdcp_late.proofs.Thinning.{Thins}
 
 -- between wider bounds
-pub climbs_within : (low high lower higher : ℕ) (xs : List ℕ) → lower ≤ low → high ≤ higher → Climbs low high xs → Climbs lower higher xs
+pub climbs_within : (low high lower higher : ℕ) (xs : List ℕ) → lower ≤ low → high ≤ higher → Climbs low high xs
+    → Climbs lower higher xs
 climbs_within low high lower higher [] l h c = tt
 climbs_within low high lower higher (x ∷ xs) l h c =
     (omega (arith, l, c.0), omega (arith, h, c.1), climbs_within x high x higher xs (omega arith) h c.2)
@@ -22,6 +23,6 @@ pub climbs_pushed : (low high : ℕ) (xs : List ℕ) → low ≤ high → Climbs
 climbs_pushed low high [] l c = (l, omega arith, tt)
 climbs_pushed low high (x ∷ xs) l c = (c.0, c.1, climbs_pushed x high xs c.1 c.2)
 
--- behind the first one, and at it
+-- after the first one, and at it
 pub climbs_from : (low high x : ℕ) (xs : List ℕ) → Climbs low high (x ∷ xs) → Climbs x high (x ∷ xs)
 climbs_from low high x xs c = (omega arith, c.1, c.2)

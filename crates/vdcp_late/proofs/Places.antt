@@ -98,12 +98,14 @@ pub record At (list aired : List Item) (settled k : ℕ) : Type 0 where
 
 -- ---- the phases
 
-pub record Cueing (list : List Item) (settled : ℕ) (selected : Bool) (cued : Cued) (aired : List Item) (ups : List Answer) (k : ℕ) : Type 0 where
+pub record Cueing (list : List Item) (settled : ℕ) (selected : Bool) (cued : Cued) (aired : List Item)
+    (ups : List Answer) (k : ℕ) : Type 0 where
   pub at : At list aired settled k
   pub within : k < length list
   pub taken : list_any says_ack ups ≡ true → HasItem list selected cued k
 
-pub record Waiting (list : List Item) (settled : ℕ) (selected : Bool) (cued : Cued) (aired : List Item) (ups : List Answer) (k : ℕ) : Type 0 where
+pub record Waiting (list : List Item) (settled : ℕ) (selected : Bool) (cued : Cued) (aired : List Item)
+    (ups : List Answer) (k : ℕ) : Type 0 where
   pub at : At list aired settled k
   pub within : k < length list
   pub has_item : HasItem list selected cued k
@@ -111,7 +113,8 @@ pub record Waiting (list : List Item) (settled : ℕ) (selected : Bool) (cued : 
   pub never_none : list_any shows_no_cue ups ≡ false
 
 -- the event isn't aired yet, and its cue is done; no answer on the way up says that it was
-pub record ToAir (list : List Item) (selected : Bool) (cued : Cued) (aired : List Item) (ups : List Answer) (k : ℕ) : Type 0 where
+pub record ToAir (list : List Item) (selected : Bool) (cued : Cued) (aired : List Item) (ups : List Answer)
+    (k : ℕ) : Type 0 where
   pub aired_is : aired ≡ take k list
   pub has_item : HasItem list selected cued k
   pub has_done : HasDone selected cued
@@ -119,24 +122,27 @@ pub record ToAir (list : List Item) (selected : Bool) (cued : Cued) (aired : Lis
   pub no_empty : list_any says_empty ups ≡ false
 
 -- it was aired, and nothing was cued since
-pub record OnAir (list : List Item) (selected : Bool) (cued : Cued) (aired : List Item) (downs : List Phase) (k : ℕ) : Type 0 where
+pub record OnAir (list : List Item) (selected : Bool) (cued : Cued) (aired : List Item) (downs : List Phase)
+    (k : ℕ) : Type 0 where
   pub aired_is : aired ≡ take (k + 1) list
   pub has_none : HasNone selected cued
   pub none_waits : list_any waits downs ≡ false
 
-pub record Playing (list : List Item) (settled : ℕ) (selected : Bool) (cued : Cued) (aired : List Item) (ups : List Answer) (downs : List Phase)
+pub record Playing (list : List Item) (settled : ℕ) (selected : Bool) (cued : Cued) (aired : List Item)
+    (ups : List Answer) (downs : List Phase)
     (k : ℕ) : Type 0 where
   pub settled_is : settled ≡ k
   pub within : k < length list
   pub never_none : list_any shows_no_cue ups ≡ false
   pub stands : ToAir list selected cued aired ups k ⊎ OnAir list selected cued aired downs k
 
-pub record Checking (list : List Item) (settled : ℕ) (selected : Bool) (cued : Cued) (aired : List Item) (k : ℕ) : Type 0 where
+pub record Checking (list : List Item) (settled : ℕ) (selected : Bool) (cued : Cued) (aired : List Item)
+    (k : ℕ) : Type 0 where
   pub at : At list aired settled (k + 1)
   pub within : k < length list
   pub has_none : HasNone selected cued
 
--- ---- in the halt, and behind an end
+-- ---- in the halt, and after an end
 
 -- what was aired is a beginning of the list, and all of it is settled but one event at most
 pub record Near (list aired : List Item) (settled : ℕ) : Type 0 where
@@ -151,11 +157,13 @@ LastCue list settled selected cued aired =
     HasNone selected cued ⊎ ((aired ≡ take settled list) × (settled < length list) × HasItem list selected cued settled)
 
 -- what is on the way down airs no more than that event
-pub record Unarmed (list : List Item) (settled : ℕ) (selected : Bool) (cued : Cued) (aired : List Item) (downs : List Phase) : Type 0 where
+pub record Unarmed (list : List Item) (settled : ℕ) (selected : Bool) (cued : Cued) (aired : List Item)
+    (downs : List Phase) : Type 0 where
   pub none_arms : list_any arms downs ≡ false
   pub last : LastCue list settled selected cued aired
 
-pub record Safe (list : List Item) (settled : ℕ) (selected : Bool) (cued : Cued) (aired : List Item) (downs : List Phase) : Type 0 where
+pub record Safe (list : List Item) (settled : ℕ) (selected : Bool) (cued : Cued) (aired : List Item)
+    (downs : List Phase) : Type 0 where
   pub near : Near list aired settled
   pub calm : (list_any plays downs ≡ false) ⊎ Unarmed list settled selected cued aired downs
 

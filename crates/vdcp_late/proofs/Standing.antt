@@ -1,4 +1,5 @@
--- What holds of a late channel in plain mode, said of the phases that sent what is on the way; and that it stays so while the
+-- What holds of a late channel in plain mode, said of the phases that sent what is on the way; and that it stays so
+-- while the
 -- controller hears nothing.
 use Rattle.std.proofs.Common.{◌≡◌, ℕ, ◌+◌, ◌*◌, ◌<◌, ◌≤◌, ◌⊎◌, inl, inr, Bool, true, false, not, ◌||◌, ◌&&◌, List, [], ◌∷◌, ◌++◌, length, take, Option, Some, None, refl, arith, sym, ap, subst, ◌∙◌, if◌then◌else◌}
 use Rattle.std.specs.List.{list_any}
@@ -48,20 +49,27 @@ misleads_at list clips _ r = false
 abbrev pub misleads : List Item → List (ClipId × Timecode) → Answer → Bool
 misleads list clips a = misleads_at list clips a.to a.reply
 
--- behind an end
-abbrev pub PlaceEnded : List Item → List (ClipId × Timecode) → ℕ → Bool → Cued → List Item → List Phase → Outcome → Type 0
-PlaceEnded list clips settled s a aired downs outcome.Done = At list aired settled (length list) × (list_any plays downs ≡ false)
+-- after an end
+abbrev pub PlaceEnded : List Item → List (ClipId × Timecode) → ℕ → Bool → Cued → List Item → List Phase → Outcome
+    → Type 0
+PlaceEnded list clips settled s a aired downs outcome.Done =
+    At list aired settled (length list) × (list_any plays downs ≡ false)
 PlaceEnded list clips settled s a aired downs (outcome.Missing k) =
-    At list aired settled k × (list_any plays downs ≡ false) × (k < length list) × (knows clips (slice_get list k) ≡ false)
+    At list aired settled k × (list_any plays downs ≡ false) × (k < length list) ×
+    (knows clips (slice_get list k) ≡ false)
 PlaceEnded list clips settled s a aired downs _ = Safe list settled s a aired downs
 
-abbrev pub PlaceAt : List Item → List (ClipId × Timecode) → ℕ → Bool → Cued → List Item → List Answer → List Phase → Stage → Type 0
-PlaceAt list clips settled s a aired ups downs (Ready q) = Place list settled s a aired ups downs q × IsPipe Plain (length list) q (pipe_of ups downs)
-PlaceAt list clips settled s a aired ups downs (Awaiting q) = Place list settled s a aired ups downs q × IsPipe Plain (length list) q (pipe_of ups downs)
+abbrev pub PlaceAt : List Item → List (ClipId × Timecode) → ℕ → Bool → Cued → List Item → List Answer → List Phase
+    → Stage → Type 0
+PlaceAt list clips settled s a aired ups downs (Ready q) =
+    Place list settled s a aired ups downs q × IsPipe Plain (length list) q (pipe_of ups downs)
+PlaceAt list clips settled s a aired ups downs (Awaiting q) =
+    Place list settled s a aired ups downs q × IsPipe Plain (length list) q (pipe_of ups downs)
 PlaceAt list clips settled s a aired ups downs (Ended o) = PlaceEnded list clips settled s a aired downs o
 
 -- all that holds
-pub record Stands (list : List Item) (clips : List (ClipId × Timecode)) (settled : ℕ) (s : Bool) (a : Cued) (aired : List Item) (ups : List Answer)
+pub record Stands (list : List Item) (clips : List (ClipId × Timecode)) (settled : ℕ) (s : Bool) (a : Cued)
+    (aired : List Item) (ups : List Answer)
     (downs : List Phase) (stage : Stage) : Type 0 where
   pub place : PlaceAt list clips settled s a aired ups downs stage
   pub fit : list_any misfits ups ≡ false
@@ -69,35 +77,55 @@ pub record Stands (list : List Item) (clips : List (ClipId × Timecode)) (settle
 
 -- ---- something is left out
 
-flow_thins : (n : ℕ) (ups others : List Answer) (downs left : List Phase) (q : Phase) → Thins ups others → Thins downs left
+flow_thins : (n : ℕ) (ups others : List Answer) (downs left : List Phase) (q : Phase) → Thins ups others
+    → Thins downs left
     → IsPipe Plain n q (pipe_of ups downs) → IsPipe Plain n q (pipe_of others left)
-flow_thins n ups others downs left phase.Open u d c = climbs_thins _ _ _ _ (pipe_thins Plain n ups others downs left u d) c
-flow_thins n ups others downs left phase.Select u d c = climbs_thins _ _ _ _ (pipe_thins Plain n ups others downs left u d) c
-flow_thins n ups others downs left phase.Seen u d c = climbs_thins _ _ _ _ (pipe_thins Plain n ups others downs left u d) c
-flow_thins n ups others downs left (phase.Exists k) u d c = climbs_thins _ _ _ _ (pipe_thins Plain n ups others downs left u d) c
-flow_thins n ups others downs left (phase.Cue k) u d c = climbs_thins _ _ _ _ (pipe_thins Plain n ups others downs left u d) c
-flow_thins n ups others downs left (phase.Wait k) u d c = climbs_thins _ _ _ _ (pipe_thins Plain n ups others downs left u d) c
-flow_thins n ups others downs left (phase.Play k) u d c = climbs_thins _ _ _ _ (pipe_thins Plain n ups others downs left u d) c
-flow_thins n ups others downs left (phase.Probe k) u d c = climbs_thins _ _ _ _ (pipe_thins Plain n ups others downs left u d) c
-flow_thins n ups others downs left (phase.Check k) u d c = climbs_thins _ _ _ _ (pipe_thins Plain n ups others downs left u d) c
-flow_thins n ups others downs left phase.Drain u d c = climbs_thins _ _ _ _ (pipe_thins Plain n ups others downs left u d) c
-flow_thins n ups others downs left phase.Close u d c = climbs_thins _ _ _ _ (pipe_thins Plain n ups others downs left u d) c
+flow_thins n ups others downs left phase.Open u d c =
+    climbs_thins _ _ _ _ (pipe_thins Plain n ups others downs left u d) c
+flow_thins n ups others downs left phase.Select u d c =
+    climbs_thins _ _ _ _ (pipe_thins Plain n ups others downs left u d) c
+flow_thins n ups others downs left phase.Seen u d c =
+    climbs_thins _ _ _ _ (pipe_thins Plain n ups others downs left u d) c
+flow_thins n ups others downs left (phase.Exists k) u d c =
+    climbs_thins _ _ _ _ (pipe_thins Plain n ups others downs left u d) c
+flow_thins n ups others downs left (phase.Cue k) u d c =
+    climbs_thins _ _ _ _ (pipe_thins Plain n ups others downs left u d) c
+flow_thins n ups others downs left (phase.Wait k) u d c =
+    climbs_thins _ _ _ _ (pipe_thins Plain n ups others downs left u d) c
+flow_thins n ups others downs left (phase.Play k) u d c =
+    climbs_thins _ _ _ _ (pipe_thins Plain n ups others downs left u d) c
+flow_thins n ups others downs left (phase.Probe k) u d c =
+    climbs_thins _ _ _ _ (pipe_thins Plain n ups others downs left u d) c
+flow_thins n ups others downs left (phase.Check k) u d c =
+    climbs_thins _ _ _ _ (pipe_thins Plain n ups others downs left u d) c
+flow_thins n ups others downs left phase.Drain u d c =
+    climbs_thins _ _ _ _ (pipe_thins Plain n ups others downs left u d) c
+flow_thins n ups others downs left phase.Close u d c =
+    climbs_thins _ _ _ _ (pipe_thins Plain n ups others downs left u d) c
 flow_thins n ups others downs left phase.Halt u d c = tt
 flow_thins n ups others downs left phase.HaltClose u d c = tt
 
-ended_thins : (list : List Item) (clips : List (ClipId × Timecode)) (settled : ℕ) (s : Bool) (a : Cued) (aired : List Item) (downs left : List Phase)
+ended_thins : (list : List Item) (clips : List (ClipId × Timecode)) (settled : ℕ) (s : Bool) (a : Cued)
+    (aired : List Item) (downs left : List Phase)
     (o : Outcome) → Thins downs left
     → PlaceEnded list clips settled s a aired downs o → PlaceEnded list clips settled s a aired left o
 ended_thins list clips settled s a aired downs left outcome.Done d h = (h.0, none_thins plays downs left d h.1)
-ended_thins list clips settled s a aired downs left (outcome.Missing k) d h = (h.0, none_thins plays downs left d h.1, h.2, h.3)
-ended_thins list clips settled s a aired downs left outcome.Stopped d h = safe_thins list settled s a aired downs left d h
+ended_thins list clips settled s a aired downs left (outcome.Missing k) d h =
+    (h.0, none_thins plays downs left d h.1, h.2, h.3)
+ended_thins list clips settled s a aired downs left outcome.Stopped d h =
+    safe_thins list settled s a aired downs left d h
 ended_thins list clips settled s a aired downs left outcome.Lost d h = safe_thins list settled s a aired downs left d h
-ended_thins list clips settled s a aired downs left outcome.Denied d h = safe_thins list settled s a aired downs left d h
-ended_thins list clips settled s a aired downs left (outcome.Refused k) d h = safe_thins list settled s a aired downs left d h
-ended_thins list clips settled s a aired downs left (outcome.Foreign k) d h = safe_thins list settled s a aired downs left d h
-ended_thins list clips settled s a aired downs left (outcome.Strange k) d h = safe_thins list settled s a aired downs left d h
+ended_thins list clips settled s a aired downs left outcome.Denied d h =
+    safe_thins list settled s a aired downs left d h
+ended_thins list clips settled s a aired downs left (outcome.Refused k) d h =
+    safe_thins list settled s a aired downs left d h
+ended_thins list clips settled s a aired downs left (outcome.Foreign k) d h =
+    safe_thins list settled s a aired downs left d h
+ended_thins list clips settled s a aired downs left (outcome.Strange k) d h =
+    safe_thins list settled s a aired downs left d h
 
-pub stands_thins : (list : List Item) (clips : List (ClipId × Timecode)) (settled : ℕ) (s : Bool) (a : Cued) (aired : List Item) (ups others : List Answer)
+pub stands_thins : (list : List Item) (clips : List (ClipId × Timecode)) (settled : ℕ) (s : Bool) (a : Cued)
+    (aired : List Item) (ups others : List Answer)
     (downs left : List Phase) (stage : Stage) → Thins ups others → Thins downs left
     → Stands list clips settled s a aired ups downs stage → Stands list clips settled s a aired others left stage
 stands_thins list clips settled s a aired ups others downs left stage u d h = record {
@@ -106,14 +134,24 @@ stands_thins list clips settled s a aired ups others downs left stage u d h = re
   true_told = none_thins (misleads list clips) ups others u h.true_told;
 }
   where
-    by : (stage : Stage) → PlaceAt list clips settled s a aired ups downs stage → PlaceAt list clips settled s a aired others left stage
-    by (Ready q) h = (place_thins list settled s a aired ups others downs left q u d h.0, flow_thins (length list) ups others downs left q u d h.1)
-    by (Awaiting q) h = (place_thins list settled s a aired ups others downs left q u d h.0, flow_thins (length list) ups others downs left q u d h.1)
+    by : (stage : Stage) → PlaceAt list clips settled s a aired ups downs stage
+        → PlaceAt list clips settled s a aired others left stage
+    by (Ready q) h = (
+      place_thins list settled s a aired ups others downs left q u d h.0,
+      flow_thins
+          (length list) ups others downs left q u d h.1,
+    )
+    by (Awaiting q) h = (
+      place_thins list settled s a aired ups others downs left q u d h.0,
+      flow_thins
+          (length list) ups others downs left q u d h.1,
+    )
     by (Ended o) h = ended_thins list clips settled s a aired downs left o d h
 
 -- ---- the port changes by itself
 
-ended_ages : (list : List Item) (clips : List (ClipId × Timecode)) (settled : ℕ) (s : Bool) (a : Cued) (t : Bool) (b : Cued) (aired : List Item)
+ended_ages : (list : List Item) (clips : List (ClipId × Timecode)) (settled : ℕ) (s : Bool) (a : Cued) (t : Bool)
+    (b : Cued) (aired : List Item)
     (downs : List Phase) (o : Outcome) → Ages s a t b
     → PlaceEnded list clips settled s a aired downs o → PlaceEnded list clips settled t b aired downs o
 ended_ages list clips settled s a t b aired downs outcome.Done g h = h
@@ -121,24 +159,32 @@ ended_ages list clips settled s a t b aired downs (outcome.Missing k) g h = h
 ended_ages list clips settled s a t b aired downs outcome.Stopped g h = safe_ages list settled s a t b aired downs g h
 ended_ages list clips settled s a t b aired downs outcome.Lost g h = safe_ages list settled s a t b aired downs g h
 ended_ages list clips settled s a t b aired downs outcome.Denied g h = safe_ages list settled s a t b aired downs g h
-ended_ages list clips settled s a t b aired downs (outcome.Refused k) g h = safe_ages list settled s a t b aired downs g h
-ended_ages list clips settled s a t b aired downs (outcome.Foreign k) g h = safe_ages list settled s a t b aired downs g h
-ended_ages list clips settled s a t b aired downs (outcome.Strange k) g h = safe_ages list settled s a t b aired downs g h
+ended_ages list clips settled s a t b aired downs (outcome.Refused k) g h =
+    safe_ages list settled s a t b aired downs g h
+ended_ages list clips settled s a t b aired downs (outcome.Foreign k) g h =
+    safe_ages list settled s a t b aired downs g h
+ended_ages list clips settled s a t b aired downs (outcome.Strange k) g h =
+    safe_ages list settled s a t b aired downs g h
 
-pub stands_ages : (list : List Item) (clips : List (ClipId × Timecode)) (settled : ℕ) (s : Bool) (a : Cued) (t : Bool) (b : Cued) (aired : List Item)
+pub stands_ages : (list : List Item) (clips : List (ClipId × Timecode)) (settled : ℕ) (s : Bool) (a : Cued) (t : Bool)
+    (b : Cued) (aired : List Item)
     (ups : List Answer) (downs : List Phase) (stage : Stage) → Ages s a t b
     → Stands list clips settled s a aired ups downs stage → Stands list clips settled t b aired ups downs stage
-stands_ages list clips settled s a t b aired ups downs stage g h = record { place = by stage h.place; fit = h.fit; true_told = h.true_told }
+stands_ages list clips settled s a t b aired ups downs stage g h =
+    record { place = by stage h.place; fit = h.fit; true_told = h.true_told }
   where
-    by : (stage : Stage) → PlaceAt list clips settled s a aired ups downs stage → PlaceAt list clips settled t b aired ups downs stage
+    by : (stage : Stage) → PlaceAt list clips settled s a aired ups downs stage
+        → PlaceAt list clips settled t b aired ups downs stage
     by (Ready q) h = (place_ages list settled s a t b aired ups downs q g h.0, h.1)
     by (Awaiting q) h = (place_ages list settled s a t b aired ups downs q g h.0, h.1)
     by (Ended o) h = ended_ages list clips settled s a t b aired downs o g h
 
 -- ---- the controller sends
 
-playing_sends : (list : List Item) (settled : ℕ) (s : Bool) (a : Cued) (aired : List Item) (ups : List Answer) (downs : List Phase) (k : ℕ) (q : Phase)
-    → waits q ≡ false → Playing list settled s a aired ups downs k → Playing list settled s a aired ups (downs ++ q ∷ []) k
+playing_sends : (list : List Item) (settled : ℕ) (s : Bool) (a : Cued) (aired : List Item) (ups : List Answer)
+    (downs : List Phase) (k : ℕ) (q : Phase)
+    → waits q ≡ false → Playing list settled s a aired ups downs k
+    → Playing list settled s a aired ups (downs ++ q ∷ []) k
 playing_sends list settled s a aired ups downs k q silent h = record {
   settled_is = h.settled_is;
   within = h.within;
@@ -149,7 +195,8 @@ playing_sends list settled s a aired ups downs k q silent h = record {
     neither : (x y : Bool) → x ≡ false → y ≡ false → (x || y) ≡ false
     neither x y e f = grind arith
 
-    by : ToAir list s a aired ups k ⊎ OnAir list s a aired downs k → ToAir list s a aired ups k ⊎ OnAir list s a aired (downs ++ q ∷ []) k
+    by : ToAir list s a aired ups k ⊎ OnAir list s a aired downs k
+        → ToAir list s a aired ups k ⊎ OnAir list s a aired (downs ++ q ∷ []) k
     by (inl h) = inl h
     by (inr h) = inr (record {
       aired_is = h.aired_is;
@@ -158,7 +205,8 @@ playing_sends list settled s a aired ups downs k q silent h = record {
     })
 
 safe_sends : (list : List Item) (settled : ℕ) (s : Bool) (a : Cued) (aired : List Item) (downs : List Phase) (q : Phase)
-    → plays q ≡ false → arms q ≡ false → Safe list settled s a aired downs → Safe list settled s a aired (downs ++ q ∷ [])
+    → plays q ≡ false → arms q ≡ false → Safe list settled s a aired downs
+    → Safe list settled s a aired (downs ++ q ∷ [])
 safe_sends list settled s a aired downs q no_play no_arm h = record { near = h.near; calm = by h.calm }
   where
     neither : (x y : Bool) → x ≡ false → y ≡ false → (x || y) ≡ false
@@ -167,40 +215,68 @@ safe_sends list settled s a aired downs q no_play no_arm h = record { near = h.n
     by : (list_any plays downs ≡ false) ⊎ Unarmed list settled s a aired downs
         → (list_any plays (downs ++ q ∷ []) ≡ false) ⊎ Unarmed list settled s a aired (downs ++ q ∷ [])
     by (inl e) = inl (any_push plays downs q ∙ neither (list_any plays downs) (plays q) e no_play)
-    by (inr u) = inr (record { none_arms = any_push arms downs q ∙ neither (list_any arms downs) (arms q) u.none_arms no_arm; last = u.last })
+    by (inr u) = inr (record {
+      none_arms = any_push arms downs q ∙ neither (list_any arms downs)
+          (arms q) u.none_arms no_arm;
+      last = u.last;
+    })
 
 -- the pipe with one more of the greatest
 pushed : (n low : ℕ) (ups : List Answer) (downs : List Phase) (q : Phase) → low ≤ stretch Plain n q
-    → Climbs low (stretch Plain n q) (stretches Plain n (pipe_of ups downs)) → Climbs low (stretch Plain n q) (stretches Plain n (pipe_of ups (downs ++ q ∷ [])))
+    → Climbs low (stretch Plain n q) (stretches Plain n (pipe_of ups downs))
+    → Climbs low (stretch Plain n q) (stretches Plain n (pipe_of ups (downs ++ q ∷ [])))
 pushed n low ups downs q l c =
-    subst (Climbs low (stretch Plain n q)) (sym (pipe_pushed Plain n ups downs q)) (climbs_pushed low (stretch Plain n q) (stretches Plain n (pipe_of ups downs)) l c)
+    subst (Climbs low (stretch Plain n q)) (sym (pipe_pushed Plain n ups downs q))
+    (climbs_pushed low (stretch Plain n q) (stretches Plain n (pipe_of ups downs)) l c)
 
-own_sends : (list : List Item) (settled : ℕ) (s : Bool) (a : Cued) (aired : List Item) (ups : List Answer) (downs : List Phase) (q : Phase)
+own_sends : (list : List Item) (settled : ℕ) (s : Bool) (a : Cued) (aired : List Item) (ups : List Answer)
+    (downs : List Phase) (q : Phase)
     → Place list settled s a aired ups downs q × IsPipe Plain (length list) q (pipe_of ups downs)
-    → Place list settled s a aired ups (downs ++ q ∷ []) q × IsPipe Plain (length list) q (pipe_of ups (downs ++ q ∷ []))
-own_sends list settled s a aired ups downs phase.Open h = (h.0, pushed (length list) 0 ups downs phase.Open (omega arith) h.1)
-own_sends list settled s a aired ups downs phase.Select h = (h.0, pushed (length list) 0 ups downs phase.Select (omega arith) h.1)
-own_sends list settled s a aired ups downs phase.Seen h = (h.0, pushed (length list) 0 ups downs phase.Seen (omega arith) h.1)
-own_sends list settled s a aired ups downs (phase.Exists k) h = (h.0, pushed (length list) (5 * k + 1) ups downs (phase.Exists k) (omega arith) h.1)
-own_sends list settled s a aired ups downs (phase.Cue k) h = (h.0, pushed (length list) (5 * k + 2) ups downs (phase.Cue k) (omega arith) h.1)
-own_sends list settled s a aired ups downs (phase.Wait k) h = (h.0, pushed (length list) (5 * k + 3) ups downs (phase.Wait k) (omega arith) h.1)
-own_sends list settled s a aired ups downs (phase.Play k) h =
-    (playing_sends list settled s a aired ups downs k (phase.Play k) refl h.0, pushed (length list) (5 * k + 4) ups downs (phase.Play k) (omega arith) h.1)
-own_sends list settled s a aired ups downs (phase.Probe k) h =
-    (playing_sends list settled s a aired ups downs k (phase.Probe k) refl h.0, pushed (length list) (5 * k + 4) ups downs (phase.Probe k) (omega arith) h.1)
-own_sends list settled s a aired ups downs (phase.Check k) h = (h.0, pushed (length list) (5 * k + 5) ups downs (phase.Check k) (omega arith) h.1)
-own_sends list settled s a aired ups downs phase.Drain h = (h.0, pushed (length list) (5 * length list + 1) ups downs phase.Drain (omega arith) h.1)
-own_sends list settled s a aired ups downs phase.Close h = (h.0, pushed (length list) (5 * length list + 1) ups downs phase.Close (omega arith) h.1)
-own_sends list settled s a aired ups downs phase.Halt h = (safe_sends list settled s a aired downs phase.Halt refl refl h.0, tt)
-own_sends list settled s a aired ups downs phase.HaltClose h = (safe_sends list settled s a aired downs phase.HaltClose refl refl h.0, tt)
+    → Place list settled s a aired ups (downs ++ q ∷ []) q × IsPipe Plain (length list) q
+    (pipe_of ups (downs ++ q ∷ []))
+own_sends list settled s a aired ups downs phase.Open h =
+    (h.0, pushed (length list) 0 ups downs phase.Open (omega arith) h.1)
+own_sends list settled s a aired ups downs phase.Select h =
+    (h.0, pushed (length list) 0 ups downs phase.Select (omega arith) h.1)
+own_sends list settled s a aired ups downs phase.Seen h =
+    (h.0, pushed (length list) 0 ups downs phase.Seen (omega arith) h.1)
+own_sends list settled s a aired ups downs (phase.Exists k) h =
+    (h.0, pushed (length list) (5 * k + 1) ups downs (phase.Exists k) (omega arith) h.1)
+own_sends list settled s a aired ups downs (phase.Cue k) h =
+    (h.0, pushed (length list) (5 * k + 2) ups downs (phase.Cue k) (omega arith) h.1)
+own_sends list settled s a aired ups downs (phase.Wait k) h =
+    (h.0, pushed (length list) (5 * k + 3) ups downs (phase.Wait k) (omega arith) h.1)
+own_sends list settled s a aired ups downs (phase.Play k) h = (
+  playing_sends list settled s a aired ups downs k (phase.Play k) refl h.0,
+  pushed (length list)
+      (5 * k + 4) ups downs (phase.Play k) (omega arith) h.1,
+)
+own_sends list settled s a aired ups downs (phase.Probe k) h = (
+  playing_sends list settled s a aired ups downs k (phase.Probe k) refl h.0,
+  pushed (length list)
+      (5 * k + 4) ups downs (phase.Probe k) (omega arith) h.1,
+)
+own_sends list settled s a aired ups downs (phase.Check k) h =
+    (h.0, pushed (length list) (5 * k + 5) ups downs (phase.Check k) (omega arith) h.1)
+own_sends list settled s a aired ups downs phase.Drain h =
+    (h.0, pushed (length list) (5 * length list + 1) ups downs phase.Drain (omega arith) h.1)
+own_sends list settled s a aired ups downs phase.Close h =
+    (h.0, pushed (length list) (5 * length list + 1) ups downs phase.Close (omega arith) h.1)
+own_sends list settled s a aired ups downs phase.Halt h =
+    (safe_sends list settled s a aired downs phase.Halt refl refl h.0, tt)
+own_sends list settled s a aired ups downs phase.HaltClose h =
+    (safe_sends list settled s a aired downs phase.HaltClose refl refl h.0, tt)
 
-pub sends : (list : List Item) (clips : List (ClipId × Timecode)) (settled : ℕ) (s : Bool) (a : Cued) (aired : List Item) (ups : List Answer) (downs : List Phase)
+pub sends : (list : List Item) (clips : List (ClipId × Timecode)) (settled : ℕ) (s : Bool) (a : Cued)
+    (aired : List Item) (ups : List Answer) (downs : List Phase)
     (stop : Bool) (q : Phase) → Stands list clips settled s a aired ups downs (Ready q)
     → Stands list clips settled s a aired ups (downs ++ phase_to_send stop q ∷ []) (Awaiting (phase_to_send stop q))
 sends list clips settled s a aired ups downs false q h =
     record { place = own_sends list settled s a aired ups downs q h.place; fit = h.fit; true_told = h.true_told }
 sends list clips settled s a aired ups downs true q h = record {
-  place = own_sends list settled s a aired ups downs phase.Halt (calm_in list settled s a aired ups downs q h.place.0 h.place.1, tt);
+  place =
+      own_sends list settled s a aired ups downs phase.Halt
+      (calm_in list settled s a aired ups downs q h.place.0 h.place.1, tt);
   fit = h.fit;
   true_told = h.true_told;
 }
@@ -208,41 +284,54 @@ sends list clips settled s a aired ups downs true q h = record {
 -- ---- the port reads the oldest command
 
 -- it makes no false answer
-pub record Reads (list : List Item) (clips : List (ClipId × Timecode)) (d : Phase) (s : Bool) (a : Cued) (r : Reply) (t : Bool) (b : Cued) (airs : List Item)
+pub record Reads (list : List Item) (clips : List (ClipId × Timecode)) (d : Phase) (s : Bool) (a : Cued) (r : Reply)
+    (t : Bool) (b : Cued) (airs : List Item)
     : Type 0 where
   pub executed : Executed list d s a r t b airs
   pub true_told : misleads_at list clips d r ≡ false
 
-quiet_keeps : (list : List Item) (settled : ℕ) (s : Bool) (a : Cued) (aired : List Item) (d : Phase) (k : ℕ) (r : Reply) (t : Bool) (b : Cued) (airs : List Item)
+quiet_keeps : (list : List Item) (settled : ℕ) (s : Bool) (a : Cued) (aired : List Item) (d : Phase) (k : ℕ) (r : Reply)
+    (t : Bool) (b : Cued) (airs : List Item)
     → plays d ≡ false → At list aired settled k → Executed list d s a r t b airs → At list (aired ++ airs) settled k
-quiet_keeps list settled s a aired d k r t b airs silent h x = at_same list aired airs settled k (airs_none list d s a r t b airs silent x.does) h
+quiet_keeps list settled s a aired d k r t b airs silent h x =
+    at_same list aired airs settled k (airs_none list d s a r t b airs silent x.does) h
 
-place_keeps : (list : List Item) (settled : ℕ) (s : Bool) (a : Cued) (aired : List Item) (ups : List Answer) (d : Phase) (downs : List Phase) (q : Phase) (r : Reply)
+place_keeps : (list : List Item) (settled : ℕ) (s : Bool) (a : Cued) (aired : List Item) (ups : List Answer) (d : Phase)
+    (downs : List Phase) (q : Phase) (r : Reply)
     (t : Bool) (b : Cued) (airs : List Item) → list_any misfits ups ≡ false
-    → Place list settled s a aired ups (d ∷ downs) q → IsPipe Plain (length list) q (pipe_of ups (d ∷ downs)) → Executed list d s a r t b airs
+    → Place list settled s a aired ups (d ∷ downs) q → IsPipe Plain (length list) q (pipe_of ups (d ∷ downs))
+    → Executed list d s a r t b airs
     → Place list settled t b (aired ++ airs) (ups ++ record { to = d; reply = r } ∷ []) downs q
 place_keeps list settled s a aired ups d downs phase.Open r t b airs fit h c x =
     let l = lies_at Plain (length list) 0 0 ups d downs c in
     quiet_keeps list settled s a aired d 0 r t b airs (quiet_first Plain (length list) d (l.0, omega (arith, l.1))) h x
 place_keeps list settled s a aired ups d downs phase.Select r t b airs fit h c x =
-    quiet_keeps list settled s a aired d 0 r t b airs (quiet_first Plain (length list) d (lies_at Plain (length list) 0 1 ups d downs c)) h x
+    quiet_keeps list settled s a aired d 0 r t b airs (quiet_first Plain (length list) d
+    (lies_at Plain (length list) 0 1 ups d downs c)) h x
 place_keeps list settled s a aired ups d downs phase.Seen r t b airs fit h c x =
-    quiet_keeps list settled s a aired d 0 r t b airs (quiet_first Plain (length list) d (lies_at Plain (length list) 0 1 ups d downs c)) h x
+    quiet_keeps list settled s a aired d 0 r t b airs (quiet_first Plain (length list) d
+    (lies_at Plain (length list) 0 1 ups d downs c)) h x
 place_keeps list settled s a aired ups d downs (phase.Exists k) r t b airs fit h c x = (
   quiet_keeps list settled s a aired d k r t b airs
-      (quiet Plain (length list) k (5 * k + 1) (5 * k + 2) (omega arith) (omega arith) d (lies_at Plain (length list) (5 * k + 1) (5 * k + 2) ups d downs c)) h.0 x,
+      (quiet Plain (length list) k (5 * k + 1) (5 * k + 2) (omega arith) (omega arith) d
+      (lies_at Plain (length list) (5 * k + 1) (5 * k + 2) ups d downs c)) h.0 x,
   h.1,
 )
 place_keeps list settled s a aired ups d downs (phase.Cue k) r t b airs fit h c x =
-    cueing_keeps list settled s a aired ups k d r t b airs h (lies_at Plain (length list) (5 * k + 2) (5 * k + 3) ups d downs c) x
+    cueing_keeps list settled s a aired ups k d r t b airs h (lies_at Plain (length list) (5 * k + 2)
+    (5 * k + 3) ups d downs c) x
 place_keeps list settled s a aired ups d downs (phase.Wait k) r t b airs fit h c x =
-    waiting_keeps list settled s a aired ups d downs k r t b airs h fit c (lies_at Plain (length list) (5 * k + 3) (5 * k + 4) ups d downs c) x
+    waiting_keeps list settled s a aired ups d downs k r t b airs h fit c
+    (lies_at Plain (length list) (5 * k + 3) (5 * k + 4) ups d downs c) x
 place_keeps list settled s a aired ups d downs (phase.Play k) r t b airs fit h c x =
-    playing_keeps list settled s a aired ups d downs k r t b airs h c (lies_at Plain (length list) (5 * k + 4) (5 * k + 5) ups d downs c) x
+    playing_keeps list settled s a aired ups d downs k r t b airs h c
+    (lies_at Plain (length list) (5 * k + 4) (5 * k + 5) ups d downs c) x
 place_keeps list settled s a aired ups d downs (phase.Probe k) r t b airs fit h c x =
-    playing_keeps list settled s a aired ups d downs k r t b airs h c (lies_at Plain (length list) (5 * k + 4) (5 * k + 5) ups d downs c) x
+    playing_keeps list settled s a aired ups d downs k r t b airs h c
+    (lies_at Plain (length list) (5 * k + 4) (5 * k + 5) ups d downs c) x
 place_keeps list settled s a aired ups d downs (phase.Check k) r t b airs fit h c x =
-    checking_keeps list settled s a aired d k r t b airs h (lies_at Plain (length list) (5 * k + 5) (5 * k + 6) ups d downs c) x
+    checking_keeps list settled s a aired d k r t b airs h (lies_at Plain (length list) (5 * k + 5)
+    (5 * k + 6) ups d downs c) x
 place_keeps list settled s a aired ups d downs phase.Drain r t b airs fit h c x =
     quiet_keeps list settled s a aired d (length list) r t b airs
     (quiet Plain (length list) (length list) (5 * length list + 1) (5 * length list + 2) (omega arith) (omega arith) d
@@ -251,8 +340,10 @@ place_keeps list settled s a aired ups d downs phase.Close r t b airs fit h c x 
     quiet_keeps list settled s a aired d (length list) r t b airs
     (quiet Plain (length list) (length list) (5 * length list + 1) (5 * length list + 3) (omega arith) (omega arith) d
     (lies_at Plain (length list) (5 * length list + 1) (5 * length list + 3) ups d downs c)) h x
-place_keeps list settled s a aired ups d downs phase.Halt r t b airs fit h c x = safe_keeps list settled s a aired d downs r t b airs h x
-place_keeps list settled s a aired ups d downs phase.HaltClose r t b airs fit h c x = safe_keeps list settled s a aired d downs r t b airs h x
+place_keeps list settled s a aired ups d downs phase.Halt r t b airs fit h c x =
+    safe_keeps list settled s a aired d downs r t b airs h x
+place_keeps list settled s a aired ups d downs phase.HaltClose r t b airs fit h c x =
+    safe_keeps list settled s a aired d downs r t b airs h x
 
 left_of : (x y : Bool) → (x || y) ≡ false → x ≡ false
 left_of x y e = grind arith
@@ -260,9 +351,11 @@ left_of x y e = grind arith
 right_of : (x y : Bool) → (x || y) ≡ false → y ≡ false
 right_of x y e = grind arith
 
-ended_keeps : (list : List Item) (clips : List (ClipId × Timecode)) (settled : ℕ) (s : Bool) (a : Cued) (aired : List Item) (d : Phase) (downs : List Phase)
+ended_keeps : (list : List Item) (clips : List (ClipId × Timecode)) (settled : ℕ) (s : Bool) (a : Cued)
+    (aired : List Item) (d : Phase) (downs : List Phase)
     (o : Outcome) (r : Reply) (t : Bool) (b : Cued) (airs : List Item)
-    → PlaceEnded list clips settled s a aired (d ∷ downs) o → Executed list d s a r t b airs → PlaceEnded list clips settled t b (aired ++ airs) downs o
+    → PlaceEnded list clips settled s a aired (d ∷ downs) o → Executed list d s a r t b airs
+    → PlaceEnded list clips settled t b (aired ++ airs) downs o
 ended_keeps list clips settled s a aired d downs outcome.Done r t b airs h x = (
   quiet_keeps list settled s a aired d (length list) r t b airs (left_of (plays d) (list_any plays downs) h.1) h.0 x,
   right_of (plays d) (list_any plays downs) h.1,
@@ -273,14 +366,21 @@ ended_keeps list clips settled s a aired d downs (outcome.Missing k) r t b airs 
   h.2,
   h.3,
 )
-ended_keeps list clips settled s a aired d downs outcome.Stopped r t b airs h x = safe_keeps list settled s a aired d downs r t b airs h x
-ended_keeps list clips settled s a aired d downs outcome.Lost r t b airs h x = safe_keeps list settled s a aired d downs r t b airs h x
-ended_keeps list clips settled s a aired d downs outcome.Denied r t b airs h x = safe_keeps list settled s a aired d downs r t b airs h x
-ended_keeps list clips settled s a aired d downs (outcome.Refused k) r t b airs h x = safe_keeps list settled s a aired d downs r t b airs h x
-ended_keeps list clips settled s a aired d downs (outcome.Foreign k) r t b airs h x = safe_keeps list settled s a aired d downs r t b airs h x
-ended_keeps list clips settled s a aired d downs (outcome.Strange k) r t b airs h x = safe_keeps list settled s a aired d downs r t b airs h x
+ended_keeps list clips settled s a aired d downs outcome.Stopped r t b airs h x =
+    safe_keeps list settled s a aired d downs r t b airs h x
+ended_keeps list clips settled s a aired d downs outcome.Lost r t b airs h x =
+    safe_keeps list settled s a aired d downs r t b airs h x
+ended_keeps list clips settled s a aired d downs outcome.Denied r t b airs h x =
+    safe_keeps list settled s a aired d downs r t b airs h x
+ended_keeps list clips settled s a aired d downs (outcome.Refused k) r t b airs h x =
+    safe_keeps list settled s a aired d downs r t b airs h x
+ended_keeps list clips settled s a aired d downs (outcome.Foreign k) r t b airs h x =
+    safe_keeps list settled s a aired d downs r t b airs h x
+ended_keeps list clips settled s a aired d downs (outcome.Strange k) r t b airs h x =
+    safe_keeps list settled s a aired d downs r t b airs h x
 
-pub stands_reads : (list : List Item) (clips : List (ClipId × Timecode)) (settled : ℕ) (s : Bool) (a : Cued) (aired : List Item) (ups : List Answer) (d : Phase)
+pub stands_reads : (list : List Item) (clips : List (ClipId × Timecode)) (settled : ℕ) (s : Bool) (a : Cued)
+    (aired : List Item) (ups : List Answer) (d : Phase)
     (downs : List Phase) (stage : Stage) (r : Reply) (t : Bool) (b : Cued) (airs : List Item)
     → Stands list clips settled s a aired ups (d ∷ downs) stage → Reads list clips d s a r t b airs
     → Stands list clips settled t b (aired ++ airs) (ups ++ record { to = d; reply = r } ∷ []) downs stage
@@ -293,24 +393,28 @@ stands_reads list clips settled s a aired ups d downs stage r t b airs h x = rec
     new : Answer
     new = record { to = d; reply = r }
 
-    pipe : (q : Phase) → IsPipe Plain (length list) q (pipe_of ups (d ∷ downs)) → IsPipe Plain (length list) q (pipe_of (ups ++ new ∷ []) downs)
+    pipe : (q : Phase) → IsPipe Plain (length list) q (pipe_of ups (d ∷ downs))
+        → IsPipe Plain (length list) q (pipe_of (ups ++ new ∷ []) downs)
     pipe q c = subst (IsPipe Plain (length list) q) (sym (pipe_delivered ups new downs)) c
 
     by : (stage : Stage) → PlaceAt list clips settled s a aired ups (d ∷ downs) stage
         → PlaceAt list clips settled t b (aired ++ airs) (ups ++ new ∷ []) downs stage
     by (Ready q) g = (place_keeps list settled s a aired ups d downs q r t b airs h.fit g.0 g.1 x.executed, pipe q g.1)
-    by (Awaiting q) g = (place_keeps list settled s a aired ups d downs q r t b airs h.fit g.0 g.1 x.executed, pipe q g.1)
+    by (Awaiting q) g =
+        (place_keeps list settled s a aired ups d downs q r t b airs h.fit g.0 g.1 x.executed, pipe q g.1)
     by (Ended o) g = ended_keeps list clips settled s a aired d downs o r t b airs g x.executed
 
 -- ---- the oldest command is copied in its place
 
-none_copied : (test : Phase → Bool) (d : Phase) (downs : List Phase) → list_any test (d ∷ downs) ≡ false → list_any test (d ∷ d ∷ downs) ≡ false
+none_copied : (test : Phase → Bool) (d : Phase) (downs : List Phase) → list_any test (d ∷ downs) ≡ false
+    → list_any test (d ∷ d ∷ downs) ≡ false
 none_copied test d downs e = by (test d) (list_any test downs) e
   where
     by : (x y : Bool) → (x || y) ≡ false → (x || (x || y)) ≡ false
     by x y e = grind arith
 
-safe_copied : (list : List Item) (settled : ℕ) (s : Bool) (a : Cued) (aired : List Item) (d : Phase) (downs : List Phase)
+safe_copied : (list : List Item) (settled : ℕ) (s : Bool) (a : Cued) (aired : List Item) (d : Phase)
+    (downs : List Phase)
     → Safe list settled s a aired (d ∷ downs) → Safe list settled s a aired (d ∷ d ∷ downs)
 safe_copied list settled s a aired d downs h = record { near = h.near; calm = by h.calm }
   where
@@ -319,7 +423,8 @@ safe_copied list settled s a aired d downs h = record { near = h.near; calm = by
     by (inl e) = inl (none_copied plays d downs e)
     by (inr u) = inr (record { none_arms = none_copied arms d downs u.none_arms; last = u.last })
 
-playing_copied : (list : List Item) (settled : ℕ) (s : Bool) (a : Cued) (aired : List Item) (ups : List Answer) (d : Phase) (downs : List Phase) (k : ℕ)
+playing_copied : (list : List Item) (settled : ℕ) (s : Bool) (a : Cued) (aired : List Item) (ups : List Answer)
+    (d : Phase) (downs : List Phase) (k : ℕ)
     → Playing list settled s a aired ups (d ∷ downs) k → Playing list settled s a aired ups (d ∷ d ∷ downs) k
 playing_copied list settled s a aired ups d downs k h = record {
   settled_is = h.settled_is;
@@ -328,11 +433,18 @@ playing_copied list settled s a aired ups d downs k h = record {
   stands = by h.stands;
 }
   where
-    by : ToAir list s a aired ups k ⊎ OnAir list s a aired (d ∷ downs) k → ToAir list s a aired ups k ⊎ OnAir list s a aired (d ∷ d ∷ downs) k
+    by : ToAir list s a aired ups k ⊎ OnAir list s a aired (d ∷ downs) k
+        → ToAir list s a aired ups k ⊎ OnAir list s a aired (d ∷ d ∷ downs) k
     by (inl q) = inl q
-    by (inr q) = inr (record { aired_is = q.aired_is; has_none = q.has_none; none_waits = none_copied waits d downs q.none_waits })
+    by (inr q) = inr (record {
+      aired_is = q.aired_is;
+      has_none = q.has_none;
+      none_waits = none_copied waits d downs
+          q.none_waits;
+    })
 
-place_copied : (list : List Item) (settled : ℕ) (s : Bool) (a : Cued) (aired : List Item) (ups : List Answer) (d : Phase) (downs : List Phase) (q : Phase)
+place_copied : (list : List Item) (settled : ℕ) (s : Bool) (a : Cued) (aired : List Item) (ups : List Answer)
+    (d : Phase) (downs : List Phase) (q : Phase)
     → Place list settled s a aired ups (d ∷ downs) q → Place list settled s a aired ups (d ∷ d ∷ downs) q
 place_copied list settled s a aired ups d downs phase.Open h = h
 place_copied list settled s a aired ups d downs phase.Select h = h
@@ -341,7 +453,8 @@ place_copied list settled s a aired ups d downs (phase.Exists k) h = h
 place_copied list settled s a aired ups d downs (phase.Cue k) h = h
 place_copied list settled s a aired ups d downs (phase.Wait k) h = h
 place_copied list settled s a aired ups d downs (phase.Play k) h = playing_copied list settled s a aired ups d downs k h
-place_copied list settled s a aired ups d downs (phase.Probe k) h = playing_copied list settled s a aired ups d downs k h
+place_copied list settled s a aired ups d downs (phase.Probe k) h =
+    playing_copied list settled s a aired ups d downs k h
 place_copied list settled s a aired ups d downs (phase.Check k) h = h
 place_copied list settled s a aired ups d downs phase.Drain h = h
 place_copied list settled s a aired ups d downs phase.Close h = h
@@ -364,8 +477,10 @@ flow_copied n ups d downs phase.Close c = pipe_copied Plain n _ _ ups d downs c
 flow_copied n ups d downs phase.Halt c = tt
 flow_copied n ups d downs phase.HaltClose c = tt
 
-ended_copied : (list : List Item) (clips : List (ClipId × Timecode)) (settled : ℕ) (s : Bool) (a : Cued) (aired : List Item) (d : Phase) (downs : List Phase)
-    (o : Outcome) → PlaceEnded list clips settled s a aired (d ∷ downs) o → PlaceEnded list clips settled s a aired (d ∷ d ∷ downs) o
+ended_copied : (list : List Item) (clips : List (ClipId × Timecode)) (settled : ℕ) (s : Bool) (a : Cued)
+    (aired : List Item) (d : Phase) (downs : List Phase)
+    (o : Outcome) → PlaceEnded list clips settled s a aired (d ∷ downs) o
+    → PlaceEnded list clips settled s a aired (d ∷ d ∷ downs) o
 ended_copied list clips settled s a aired d downs outcome.Done h = (h.0, none_copied plays d downs h.1)
 ended_copied list clips settled s a aired d downs (outcome.Missing k) h = (h.0, none_copied plays d downs h.1, h.2, h.3)
 ended_copied list clips settled s a aired d downs outcome.Stopped h = safe_copied list settled s a aired d downs h
@@ -375,12 +490,18 @@ ended_copied list clips settled s a aired d downs (outcome.Refused k) h = safe_c
 ended_copied list clips settled s a aired d downs (outcome.Foreign k) h = safe_copied list settled s a aired d downs h
 ended_copied list clips settled s a aired d downs (outcome.Strange k) h = safe_copied list settled s a aired d downs h
 
-pub stands_copied : (list : List Item) (clips : List (ClipId × Timecode)) (settled : ℕ) (s : Bool) (a : Cued) (aired : List Item) (ups : List Answer) (d : Phase)
+pub stands_copied : (list : List Item) (clips : List (ClipId × Timecode)) (settled : ℕ) (s : Bool) (a : Cued)
+    (aired : List Item) (ups : List Answer) (d : Phase)
     (downs : List Phase) (stage : Stage)
-    → Stands list clips settled s a aired ups (d ∷ downs) stage → Stands list clips settled s a aired ups (d ∷ d ∷ downs) stage
-stands_copied list clips settled s a aired ups d downs stage h = record { place = by stage h.place; fit = h.fit; true_told = h.true_told }
+    → Stands list clips settled s a aired ups (d ∷ downs) stage
+    → Stands list clips settled s a aired ups (d ∷ d ∷ downs) stage
+stands_copied list clips settled s a aired ups d downs stage h =
+    record { place = by stage h.place; fit = h.fit; true_told = h.true_told }
   where
-    by : (stage : Stage) → PlaceAt list clips settled s a aired ups (d ∷ downs) stage → PlaceAt list clips settled s a aired ups (d ∷ d ∷ downs) stage
-    by (Ready q) h = (place_copied list settled s a aired ups d downs q h.0, flow_copied (length list) ups d downs q h.1)
-    by (Awaiting q) h = (place_copied list settled s a aired ups d downs q h.0, flow_copied (length list) ups d downs q h.1)
+    by : (stage : Stage) → PlaceAt list clips settled s a aired ups (d ∷ downs) stage
+        → PlaceAt list clips settled s a aired ups (d ∷ d ∷ downs) stage
+    by (Ready q) h =
+        (place_copied list settled s a aired ups d downs q h.0, flow_copied (length list) ups d downs q h.1)
+    by (Awaiting q) h =
+        (place_copied list settled s a aired ups d downs q h.0, flow_copied (length list) ups d downs q h.1)
     by (Ended o) h = ended_copied list clips settled s a aired d downs o h

@@ -21,7 +21,8 @@ cue_or_before n k (phase.Exists j) below l = inl (j, refl)
 cue_or_before n k (phase.Cue j) below l = let e : j ≡ k = omega arith in inr (ap phase.Cue e)
 cue_or_before n k d below l = absurd (omega arith)
 
-pub wait_or_before : (n k : ℕ) (d : Phase) → k < n → Lies Plain n (5 * k + 3) (5 * k + 4) d → (d ≡ phase.Cue k) ⊎ (d ≡ phase.Wait k)
+pub wait_or_before : (n k : ℕ) (d : Phase) → k < n → Lies Plain n (5 * k + 3) (5 * k + 4) d
+    → (d ≡ phase.Cue k) ⊎ (d ≡ phase.Wait k)
 wait_or_before n k (phase.Cue j) below l = let e : j ≡ k = omega arith in inl (ap phase.Cue e)
 wait_or_before n k (phase.Wait j) below l = let e : j ≡ k = omega arith in inr (ap phase.Wait e)
 wait_or_before n k d below l = absurd (omega arith)
@@ -51,21 +52,24 @@ pub none_within : (mode : Mode) (n low high : ℕ) (test : Phase → Bool) (ds :
 none_within mode n low high test [] f c = refl
 none_within mode n low high test (d ∷ ds) f c =
     let here = f d (c.0, c.1) in
-    let rest = none_within mode n low high test ds f (climbs_within (stretch mode n d) high low high (stretches mode n ds) c.0 (omega arith) c.2) in
+    let rest = none_within mode n low high test ds f (climbs_within (stretch mode n d) high low high
+    (stretches mode n ds) c.0 (omega arith) c.2) in
     rw here rest
 
 -- what is on the way down climbs as the pipe does
-pub downs_climb : (mode : Mode) (n low high : ℕ) (ups : List Answer) (downs : List Phase) → Climbs low high (stretches mode n (pipe_of ups downs))
+pub downs_climb : (mode : Mode) (n low high : ℕ) (ups : List Answer) (downs : List Phase)
+    → Climbs low high (stretches mode n (pipe_of ups downs))
     → Climbs low high (stretches mode n downs)
 downs_climb mode n low high [] downs c = c
 downs_climb mode n low high (a ∷ ups) downs c =
-    downs_climb mode n low high ups downs (climbs_within (stretch mode n a.to) high low high (stretches mode n (pipe_of ups downs)) c.0 (omega arith) c.2)
+    downs_climb mode n low high ups downs (climbs_within (stretch mode n a.to) high low high
+    (stretches mode n (pipe_of ups downs)) c.0 (omega arith) c.2)
 
--- and behind one of it, from that one on
-pub climbs_behind : (mode : Mode) (n low high : ℕ) (ups : List Answer) (d : Phase) (downs : List Phase)
+-- and after one of it, from that one on
+pub climbs_after : (mode : Mode) (n low high : ℕ) (ups : List Answer) (d : Phase) (downs : List Phase)
     → Climbs low high (stretches mode n (pipe_of ups (d ∷ downs)))
     → Climbs (stretch mode n d) high (stretches mode n downs)
-climbs_behind mode n low high ups d downs c = (downs_climb mode n low high ups (d ∷ downs) c).2
+climbs_after mode n low high ups d downs c = (downs_climb mode n low high ups (d ∷ downs) c).2
 
 -- of numbers that climb each is as high as the first ones at least
 lowest_at : (mode : Mode) (n low high : ℕ) (ups : List Answer) (d : Phase) (downs : List Phase)
@@ -77,8 +81,12 @@ pub climbs_before : (mode : Mode) (n low high : ℕ) (ups : List Answer) (d : Ph
     → Climbs low high (stretches mode n (pipe_of ups (d ∷ downs)))
     → Climbs low (stretch mode n d) (stretches mode n (pipe_of ups []))
 climbs_before mode n low high [] d downs c = tt
-climbs_before mode n low high (a ∷ ups) d downs c =
-    (c.0, lowest_at mode n (stretch mode n a.to) high ups d downs c.2, climbs_before mode n (stretch mode n a.to) high ups d downs c.2)
+climbs_before mode n low high (a ∷ ups) d downs c = (
+  c.0,
+  lowest_at mode n (stretch mode n a.to) high ups d downs c.2,
+  climbs_before mode n
+      (stretch mode n a.to) high ups d downs c.2,
+)
 
 false_left : (a b : Bool) → (a || b) ≡ false → a ≡ false
 false_left true b e = e
@@ -92,7 +100,8 @@ false_right true b e = absurd (impossible e)
 false_right false b e = e
 
 -- the answers climb as the pipe does
-pub ups_climb : (mode : Mode) (n low high : ℕ) (ups : List Answer) (downs : List Phase) → Climbs low high (stretches mode n (pipe_of ups downs))
+pub ups_climb : (mode : Mode) (n low high : ℕ) (ups : List Answer) (downs : List Phase)
+    → Climbs low high (stretches mode n (pipe_of ups downs))
     → Climbs low high (stretches mode n (pipe_of ups []))
 ups_climb mode n low high [] downs c = tt
 ups_climb mode n low high (a ∷ ups) downs c = (c.0, c.1, ups_climb mode n (stretch mode n a.to) high ups downs c.2)
@@ -115,7 +124,8 @@ pub lies_at : (mode : Mode) (n low high : ℕ) (ups : List Answer) (d : Phase) (
 lies_at mode n low high ups d downs c = let h = downs_climb mode n low high ups (d ∷ downs) c in (h.0, h.1)
 
 -- one that is delivered moves within the pipe
-pub pipe_delivered : (ups : List Answer) (a : Answer) (downs : List Phase) → pipe_of (ups ++ a ∷ []) downs ≡ pipe_of ups (a.to ∷ downs)
+pub pipe_delivered : (ups : List Answer) (a : Answer) (downs : List Phase)
+    → pipe_of (ups ++ a ∷ []) downs ≡ pipe_of ups (a.to ∷ downs)
 pipe_delivered [] a downs = refl
 pipe_delivered (x ∷ ups) a downs = ap (λ (p : List Phase). x.to ∷ p) (pipe_delivered ups a downs)
 
@@ -128,6 +138,8 @@ pipe_pushed mode n (a ∷ ups) downs q = ap (λ (p : List ℕ). stretch mode n a
 
 -- one is copied in its place
 pub pipe_copied : (mode : Mode) (n low high : ℕ) (ups : List Answer) (d : Phase) (downs : List Phase)
-    → Climbs low high (stretches mode n (pipe_of ups (d ∷ downs))) → Climbs low high (stretches mode n (pipe_of ups (d ∷ d ∷ downs)))
+    → Climbs low high (stretches mode n (pipe_of ups (d ∷ downs)))
+    → Climbs low high (stretches mode n (pipe_of ups (d ∷ d ∷ downs)))
 pipe_copied mode n low high [] d downs c = (c.0, c.1, (omega arith, c.1, c.2))
-pipe_copied mode n low high (a ∷ ups) d downs c = (c.0, c.1, pipe_copied mode n (stretch mode n a.to) high ups d downs c.2)
+pipe_copied mode n low high (a ∷ ups) d downs c =
+    (c.0, c.1, pipe_copied mode n (stretch mode n a.to) high ups d downs c.2)

@@ -25,21 +25,25 @@ or_both true b c f e = refl
 or_both false b c f e = f e
 
 -- what is left passed before
-pub any_thins : {A : Type 0} → (test : A → Bool) (xs ys : List A) → Thins xs ys → list_any test ys ≡ true → list_any test xs ≡ true
+pub any_thins : {A : Type 0} → (test : A → Bool) (xs ys : List A) → Thins xs ys → list_any test ys ≡ true
+    → list_any test xs ≡ true
 any_thins test [] ys t e = subst (λ zs. list_any test zs ≡ true) t e
 any_thins test (x ∷ xs) ys (inl t) e = or_right (test x) (list_any test xs) (any_thins test xs ys t e)
 any_thins test (x ∷ xs) ys (inr (rest, is, t)) e =
-    or_both (test x) (list_any test rest) (list_any test xs) (λ h. any_thins test xs rest t h) (subst (λ zs. list_any test zs ≡ true) is e)
+    or_both (test x) (list_any test rest) (list_any test xs) (λ h. any_thins test xs rest t h)
+    (subst (λ zs. list_any test zs ≡ true) is e)
 
 not_true : (b : Bool) → (b ≡ true → false ≡ true) → b ≡ false
 not_true true f = sym (f refl)
 not_true false f = refl
 
-pub none_thins : {A : Type 0} → (test : A → Bool) (xs ys : List A) → Thins xs ys → list_any test xs ≡ false → list_any test ys ≡ false
+pub none_thins : {A : Type 0} → (test : A → Bool) (xs ys : List A) → Thins xs ys → list_any test xs ≡ false
+    → list_any test ys ≡ false
 none_thins test xs ys t e = not_true (list_any test ys) (λ h. sym e ∙ any_thins test xs ys t h)
 
 -- one more at the end
-pub any_push : {A : Type 0} → (test : A → Bool) (xs : List A) (x : A) → list_any test (xs ++ x ∷ []) ≡ (list_any test xs || test x)
+pub any_push : {A : Type 0} → (test : A → Bool) (xs : List A) (x : A)
+    → list_any test (xs ++ x ∷ []) ≡ (list_any test xs || test x)
 any_push test [] x = or_false (test x)
   where
     or_false : (b : Bool) → (b || false) ≡ b

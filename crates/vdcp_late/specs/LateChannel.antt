@@ -42,11 +42,11 @@ abbrev pub new_late_channel : Plan → ClockedPort → LateChannel
 new_late_channel plan port =
     record { plan = plan; state = start; port = port; down = []; up = []; aired = []; log = [] }
 
--- The queue behind its oldest burst, and behind every one that was given to it.
+-- A queue without its oldest burst, and that burst; none where the queue is empty.
 
-abbrev pub behind_oldest : List (List ℕ) → List (List ℕ)
-behind_oldest [] = []
-behind_oldest (burst ∷ queue) = queue
+abbrev pub without_oldest : List (List ℕ) → List (List ℕ)
+without_oldest [] = []
+without_oldest (burst ∷ queue) = queue
 
 abbrev pub oldest : List (List ℕ) → List ℕ
 oldest [] = []
@@ -99,8 +99,8 @@ after_late_event c Tick =
       state = ticked c.state;
       down = c.down ++ command_bursts c.port.state.unit (given c.plan c.state);
     }
-after_late_event c Down = record (delivered_down c) { down = behind_oldest c.down }
-after_late_event c Up = record (delivered_up c) { up = behind_oldest c.up }
+after_late_event c Down = record (delivered_down c) { down = without_oldest c.down }
+after_late_event c Up = record (delivered_up c) { up = without_oldest c.up }
 after_late_event c DownCopy = delivered_down c
 after_late_event c UpCopy = delivered_up c
 after_late_event c (LoseDown place) = record c { down = remove c.down place }

@@ -43,7 +43,7 @@ reported_of c = take c.state.settled c.plan.list
 pub record LateHeadline (c : LateChannel) : Type 0 where
   pub beginning : (more : List Item) × (c.plan.list ≡ c.aired ++ more)
   pub reported : (last : List Item) × (c.aired ≡ reported_of c ++ last) × (length last ≤ 1)
-  -- and so many are reported
+  -- and that many are reported
   pub count : length (reported_of c) ≡ c.state.settled
   -- what is reported is what the exchanges between the two ends show to be aired
   pub is_settled : c.state.settled ≡ settled c.plan.mode c.log

@@ -52,7 +52,7 @@ abbrev pub stretches : Mode → ℕ → List Phase → List ℕ
 stretches mode n [] = []
 stretches mode n (q ∷ qs) = stretch mode n q ∷ stretches mode n qs
 
--- The pipe of a phase: runs of commands of its own stretch behind those of the one before it. In the halt it may hold
+-- The pipe of a phase: commands of its own stretch after those of the one before it. In the halt it may hold
 -- anything.
 abbrev pub IsPipe : Mode → ℕ → Phase → List Phase → Type 0
 IsPipe mode n phase.Halt pipe = Unit {0}

@@ -1,7 +1,7 @@
 ghost use Rattle.std.specs.Option.{option_copied};
 ghost use Rattle.std.specs.Prelude.{ℕ, ◌≡◌, ◌<◌, [], ◌∷◌, ◌++◌, List, OnOk, OnErr, insert, remove, slice_get};
 ghost use Rattle.std.specs.VecDeque.{deque_len, deque_capacity};
-ghost use Rattle.vdcp_late.specs.LateChannel.{behind_oldest, bursts_of, oldest};
+ghost use Rattle.vdcp_late.specs.LateChannel.{without_oldest, bursts_of, oldest};
 
 use std::alloc::{AllocError, Allocator};
 use std::collections::VecDeque;
@@ -60,7 +60,7 @@ pub(crate) fn burst_at<A: Allocator>(queue: &Queue<A>, place: usize) -> Option<&
 
 /// The oldest burst leaves the queue, if one waits.
 pub(crate) fn drop_oldest<A: Allocator>(queue: &mut Queue<A>)
-    ensures { queue.new.items ≡ behind_oldest queue.old.items }
+    ensures { queue.new.items ≡ without_oldest queue.old.items }
 {
     let _ = queue.pop_front();
 }
