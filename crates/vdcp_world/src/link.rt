@@ -181,7 +181,8 @@ fn put_command(command: &Command, unit: u8, down: &mut ArrayVec<u8, 1024>)
     ensures { down.new.items ≡ spelling (command_message unit command.now) }
 {
     down.clear();
-    down.try_extend_from_slice(command.encode(unit).as_slice()).unwrap();
+    down.try_extend_from_slice(command.encode(unit).as_slice())
+        .unwrap();
 }
 
 /// The port reads what is on the way down, if anything is: it is gone then, and the answer is on the way
