@@ -38,7 +38,8 @@ lost : (bytes : List ℕ) → remove (bursts_of bytes) 0 ≡ []
 lost [] = refl
 lost (byte ∷ bytes) = refl
 
-sent_whole : (unit : ℕ) (c : Command) → spelling (command_message unit c) ∷ [] ≡ bursts_of (spelling (command_message unit c))
+sent_whole : (unit : ℕ) (c : Command) → spelling (command_message unit c) ∷ [] ≡ bursts_of
+    (spelling (command_message unit c))
 sent_whole unit (command.Open port lock) = refl
 sent_whole unit (command.Close port) = refl
 sent_whole unit (command.Select port) = refl
@@ -79,9 +80,11 @@ joins_tick c (Some command) e =
         ∙ sent_whole c.port.state.unit command)
 
     up : remove (bursts_of c.up) 0 ≡ bursts_of (world.up_behind (given c.plan c.state) c.up)
-    up = subst (λ (o : Option Command). remove (bursts_of c.up) 0 ≡ bursts_of (world.up_behind o c.up)) (sym e) (lost c.up)
+    up = subst (λ (o : Option Command). remove (bursts_of c.up) 0 ≡ bursts_of (world.up_behind o c.up)) (sym e)
+        (lost c.up)
 
-joins_down : (c : Channel) (down : List ℕ) → Joins (record c { down = down }) (after_event (record c { down = down }) was.Down)
+joins_down : (c : Channel) (down : List ℕ)
+    → Joins (record c { down = down }) (after_event (record c { down = down }) was.Down)
 joins_down c [] = (
   late.Down ∷ [],
   same_lines (late_of (after_event (record c { down = [] }) was.Down)) _ _ _ _ refl
@@ -101,7 +104,8 @@ joins_down_copy : (c : Channel) (down up : List ℕ)
     → Joins (record c { down = down; up = up }) (after_event (record c { down = down; up = up }) was.DownCopy)
 joins_down_copy c [] up = (
   late.DownCopy ∷ [],
-  same_lines (late_of (after_event (record c { down = []; up = up }) was.DownCopy)) _ _ _ _ refl (append-nil (bursts_of up)),
+  same_lines (late_of (after_event (record c { down = []; up = up }) was.DownCopy)) _ _ _ _ refl
+      (append-nil (bursts_of up)),
 )
 joins_down_copy c (byte ∷ bytes) [] = (
   late.DownCopy ∷ late.LoseUp 0 ∷ [],
@@ -114,7 +118,8 @@ joins_down_copy c (byte ∷ bytes) (first ∷ up) = (
       (ap (λ (q : List (List ℕ)). (first ∷ up) ∷ q) (lost (sent_for c.port (byte ∷ bytes)))),
 )
 
-joins_up_copy : (c : Channel) (up : List ℕ) → Joins (record c { up = up }) (after_event (record c { up = up }) was.UpCopy)
+joins_up_copy : (c : Channel) (up : List ℕ)
+    → Joins (record c { up = up }) (after_event (record c { up = up }) was.UpCopy)
 joins_up_copy c [] = (late.UpCopy ∷ [], refl)
 joins_up_copy c (byte ∷ bytes) = (late.UpCopy ∷ [], refl)
 
@@ -141,7 +146,8 @@ joins_alter_down : (c : Channel) (bytes : List ℕ) (can : Bool) → world.can_b
     → Joins c (record c { down = world.altered can c.down bytes })
 joins_alter_down c bytes false e = ([], refl)
 joins_alter_down c bytes true e =
-    joins_damage_down c c.down bytes (right_of (world.is_short bytes) (is_beginning (messages_of bytes) (messages_of c.down)) e)
+    joins_damage_down c c.down bytes (right_of (world.is_short bytes)
+    (is_beginning (messages_of bytes) (messages_of c.down)) e)
 
 -- the burst up
 joins_damage_up : (c : Channel) (up bytes : List ℕ) → can_become_up c.plan.mode c.port.state.unit up bytes ≡ true
@@ -158,7 +164,8 @@ joins_damage_up c (byte ∷ up) (x ∷ bytes) can junk = (
   ap (λ (b : Bool). record (late_of c) { up = if b then (x ∷ bytes) ∷ [] else (byte ∷ up) ∷ [] }) can,
 )
 
-no_message : (unit : ℕ) (mode : Mode) (ms : List Content) → is_beginning ms [] ≡ true → is_no_answer mode (heard_first unit ms) ≡ true
+no_message : (unit : ℕ) (mode : Mode) (ms : List Content) → is_beginning ms [] ≡ true
+    → is_no_answer mode (heard_first unit ms) ≡ true
 no_message unit mode [] e = refl
 no_message unit mode (m ∷ ms) e = cc
 
@@ -187,21 +194,26 @@ lets Confirming unit up bytes e =
     by : (world.can_become up bytes ≡ true) ⊎ ((world.is_short bytes && hears_receipt (heard_in unit bytes)) ≡ true)
         → (is_beginning (messages_of bytes) (messages_of up) ≡ true) ⊎ (is_junk_up Confirming unit bytes ≡ true)
     by (inl can) = inl (right_of (world.is_short bytes) (is_beginning (messages_of bytes) (messages_of up)) can)
-    by (inr receipt) = inr (a_receipt (heard_in unit bytes) (right_of (world.is_short bytes) (hears_receipt (heard_in unit bytes)) receipt))
+    by (inr receipt) = inr (a_receipt (heard_in unit bytes) (right_of (world.is_short bytes)
+        (hears_receipt (heard_in unit bytes)) receipt))
 
-joins_alter_up : (c : Channel) (bytes : List ℕ) (can : Bool) → world.can_become_up c.plan.mode c.port.state.unit c.up bytes ≡ can
+joins_alter_up : (c : Channel) (bytes : List ℕ) (can : Bool)
+    → world.can_become_up c.plan.mode c.port.state.unit c.up bytes ≡ can
     → Joins c (record c { up = world.altered can c.up bytes })
 joins_alter_up c bytes false e = ([], refl)
 joins_alter_up c bytes true e = by (lets c.plan.mode c.port.state.unit c.up bytes e)
   where
-    by : (is_beginning (messages_of bytes) (messages_of c.up) ≡ true) ⊎ (is_junk_up c.plan.mode c.port.state.unit bytes ≡ true)
+    by : (is_beginning (messages_of bytes) (messages_of c.up) ≡ true) ⊎
+        (is_junk_up c.plan.mode c.port.state.unit bytes ≡ true)
         → Joins c (record c { up = bytes })
     by (inl can) = joins_damage_up c c.up bytes
-        (or_first (is_beginning (messages_of bytes) (messages_of c.up)) (is_junk_up c.plan.mode c.port.state.unit bytes) can)
+        (or_first (is_beginning (messages_of bytes) (messages_of c.up))
+        (is_junk_up c.plan.mode c.port.state.unit bytes) can)
         (λ none. no_message c.port.state.unit c.plan.mode (messages_of bytes)
         (subst (λ (up : List ℕ). is_beginning (messages_of bytes) (messages_of up) ≡ true) none can))
     by (inr junk) = joins_damage_up c c.up bytes
-        (or_second (is_beginning (messages_of bytes) (messages_of c.up)) (is_junk_up c.plan.mode c.port.state.unit bytes) junk) (λ none. junk)
+        (or_second (is_beginning (messages_of bytes) (messages_of c.up))
+        (is_junk_up c.plan.mode c.port.state.unit bytes) junk) (λ none. junk)
 
 -- ---- time-outs and receipts from nowhere
 
@@ -218,11 +230,13 @@ joins_ack : (c : Channel) (mode : Mode) → Joins (in_mode c mode) (after_event 
 joins_ack c Plain = ([], refl)
 joins_ack c Confirming = (late.JunkUp 0 (0x04 ∷ []) ∷ late.Up ∷ [], refl)
 
-joins_nak : (c : Channel) (mode : Mode) (byte : ℕ) → Joins (in_mode c mode) (after_event (in_mode c mode) (was.StrayNak byte))
+joins_nak : (c : Channel) (mode : Mode) (byte : ℕ)
+    → Joins (in_mode c mode) (after_event (in_mode c mode) (was.StrayNak byte))
 joins_nak c Plain byte = ([], refl)
 joins_nak c Confirming byte = (late.JunkUp 0 (0x05 ∷ byte ∷ []) ∷ late.Up ∷ [], refl)
 
-pub joins : (c : Channel) (e : Event) → (events : List LateEvent) × (after_late_events (late_of c) events ≡ late_of (after_event c e))
+pub joins : (c : Channel) (e : Event) → (events : List LateEvent) ×
+    (after_late_events (late_of c) events ≡ late_of (after_event c e))
 joins c was.Tick = joins_tick c (given c.plan c.state) refl
 joins c was.Down = joins_down c c.down
 joins c was.Up = joins_up c c.up
@@ -243,7 +257,8 @@ joins c (was.StrayNak byte) = joins_nak c c.plan.mode byte
 
 -- ---- whole runs
 
-late_all : (x : LateChannel) (events more : List LateEvent) → after_late_events x (events ++ more) ≡ after_late_events (after_late_events x events) more
+late_all : (x : LateChannel) (events more : List LateEvent)
+    → after_late_events x (events ++ more) ≡ after_late_events (after_late_events x events) more
 late_all x [] more = refl
 late_all x (e ∷ events) more = late_all (after_late_event x e) events more
 
