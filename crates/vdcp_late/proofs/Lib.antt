@@ -30,4 +30,5 @@ pub mod ConfirmedReached
 pub mod LateReached
 pub mod LateController
 mod Premises
+pub mod Joining
 pub mod Happened

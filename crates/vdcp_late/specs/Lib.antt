@@ -4,3 +4,4 @@ pub mod LateChannel
 pub mod Pipe
 pub mod LateHeadline
 pub mod Runs
+pub mod Joined

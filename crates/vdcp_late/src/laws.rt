@@ -1,7 +1,12 @@
-//! The law of the definitions that the contracts of this crate cite. The function does nothing: its contract is the
-//! law, and a caller whose proof needs it calls it.
-ghost use Rattle.vdcp_late.specs.LateChannel.{LateChannel, IsLateReached};
+//! The laws of the definitions that the contracts of this crate cite. The functions do nothing: their contracts are the
+//! laws, and a caller whose proof needs one calls it.
+ghost use Rattle.std.specs.Prelude.{◌≡◌, List};
+ghost use Rattle.vdcp_late.specs.Joined.{late_of};
+ghost use Rattle.vdcp_late.specs.LateChannel.{LateChannel, IsLateReached, after_late_events};
 ghost use Rattle.vdcp_late.specs.LateHeadline.{LateHeadline};
+ghost use Rattle.vdcp_late.specs.declared.event.LateEvent.{LateEvent};
+ghost use Rattle.vdcp_world.specs.Channel.{Channel, IsReached, after_event};
+ghost use Rattle.vdcp_world.specs.declared.event.Event.{Event};
 
 /// Whatever happened on a line that keeps order, from a new controller on: deliveries as late as they like, losses,
 /// detected damage, copies in their place, junk, time-outs at any moment, cue completions, clip ends, frames, the
@@ -32,3 +37,12 @@ pub fn a_late_line_keeps_the_headline()
     vdcp_auto::laws::commands_can_be_written();
     vdcp_auto::laws::reached_is_lawful();
 }
+
+/// Whatever happens on a line that holds one burst each way happens on one that keeps order: each event of the one is
+/// some events of the other. So a channel that events of the one have led to is one that events of the other lead
+/// to, and what holds of each late channel holds of it.
+pub fn a_line_of_one_burst_keeps_order()
+    ensures event { (c : Channel) (e : Event) →
+        (events : List LateEvent) × (after_late_events (late_of c) events ≡ late_of (after_event c e)) }
+    ensures reached { (c : Channel) → IsReached c → IsLateReached (late_of c) }
+{}
