@@ -263,7 +263,7 @@ receives law plan unit came came' h state state' more s r =
           ∙ ap (λ (l : List Command). commands_of plan unit came ++ l) (keeps_awaited plan h state (ended_by plan h state) refl);
     }
 
--- what came, with one more arrival behind no close
+-- what came, with one more arrival after no close
 came_open : (came : List Arrival) (a : Arrival) → has_closed came ≡ false → came_with came a ≡ came ++ a ∷ []
 came_open came a h = rw h refl
 
@@ -578,7 +578,7 @@ pub with_front : (plan : Plan) (unit : ℕ) (state : State) (told : Option Told)
     → IfTold told (λ u. HasRunBroken plan unit u state × IsPartlyRun plan unit u state)
 with_front plan unit state told b = (b.0, b.1, (b.2, broken_run_front plan unit b.0 state b.2))
 
--- so many listens, and one more
+-- some listens, and one more
 pub listened_then : (n : ℕ) (a : Arrival) (came came' : List Arrival) → AllListened n [] came → line_of a ≢ line.Closed → came' ≡ came ++ a ∷ []
     → AllListened (n + 1) [] came'
 listened_then n (bytes piece) came came' l not is = record {
@@ -631,7 +631,7 @@ unsent_so items told s l n t same united is h e =
     (subst (λ (q : Plan). HasSendBroken q s.unit l.controller.state n.controller.state (told l.wire) (told n.wire)) (ap (plan_of items) same)
     (subst (λ (m : ℕ). HasSendBroken (plan_of items l.controller) m l.controller.state n.controller.state (told l.wire) (told n.wire)) united e))
 
--- where it failed in the listen behind it, which leaves m
+-- where it failed in the listen after it, which leaves m
 pub unheard_so : {S W : Type 0} (items : S → List Item) (told : W → Option Told) (s n m : Driving S W) (t : Told)
     → told n.wire ≡ Some t → AwaitsAt (plan_of items s.controller) s.unit t n.controller.state n.reader n.heard
     → m ≡ record n { wire = m.wire } → told m.wire ≡ told n.wire

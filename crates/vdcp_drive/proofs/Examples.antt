@@ -73,7 +73,7 @@ empty_playlist_is_played = refl
 each_command_has_a_drop : starts_of 0 (commands_by (plan Plain) 0 answers (state_after (plan Plain) 0 answers)) ≡ 0 ∷ 7 ∷ 13 ∷ 19 ∷ []
 each_command_has_a_drop = refl
 
--- in confirm mode the three answers behind SELECT end nothing, and SELECT is still awaited
+-- in confirm mode the three answers after SELECT end nothing, and SELECT is still awaited
 receipts_confirm_nothing : bytes_of 0 (commands_by (plan Confirming) 0 answers (state_after (plan Confirming) 0 answers)) ≡ open_bytes ++ select_bytes
 receipts_confirm_nothing = refl
 

@@ -31,7 +31,7 @@ served_of start ended begun = sent_for_bursts start ended ++ bytes_for_all (afte
 abbrev port_of : ClockedPort → List (List ℕ) → List ℕ → ClockedPort
 port_of start ended begun = after_burst (after_bursts start ended) begun
 
--- a server stands so behind these ended bursts, in this begun one
+-- a server stands so after these ended bursts, in this begun one
 record StandsAt (start : ClockedPort) (ended : List (List ℕ)) (begun : List ℕ) (sent : List ℕ) (port : ClockedPort) (reader : Progress) : Type 0 where
   pub sent_is : sent ≡ served_of start ended begun
   pub port_is : port ≡ port_of start ended begun
@@ -68,7 +68,7 @@ sent_push p (b ∷ bursts) burst =
 
 -- More messages of the begun burst.
 
--- the bytes for more messages, behind those for the begun burst's
+-- the bytes for more messages, after those for the begun burst's
 sent_more : (law : InOrder) (start : ClockedPort) (ended : List (List ℕ)) (begun : List ℕ) (ns : List Content) (sent : List ℕ) (port : ClockedPort)
     → sent ≡ served_of start ended begun → port ≡ port_of start ended begun
     → sent ++ bytes_for_all port ns ≡ sent_for_bursts start ended ++ bytes_for_all (after_bursts start ended) (messages_of begun ++ ns)
@@ -433,7 +433,7 @@ broken_drops a t told port reader port' aired' told' is e =
     let r = tells_broken a t told port reader port' aired' told' is e in
     (r.0, r.1, r.2.1)
 
--- So many listens.
+-- A number of listens.
 
 pub listened_none : (t : Told) (told : Option Told) → told ≡ Some t → IfTold told (λ u. AllListened 0 t.came u.came × (u.drops ≡ t.drops))
 listened_none t told is = (t, is, (record { more = []; adds = sym (append-nil t.came); listened = refl; no_close = refl }, refl))
@@ -471,7 +471,7 @@ listened_more n a t u told port reader port' reader' aired' told' is l d may not
       ),
     )
 
--- At most so many.
+-- At most that number.
 
 pub at_most_all : (n listens : ℕ) (old now : List Arrival) → AllListened n old now → n ≤ listens → AtMostListened listens old now
 at_most_all n listens old now l within = record {

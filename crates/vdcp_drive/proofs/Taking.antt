@@ -80,7 +80,7 @@ broken_by alone got then m port reader aired told piece front rest port' aired' 
   sends = subst (λ (t : Option Told). SendsFront (bytes_for port m) t told') (sym (adds_nothing told)) sends;
 }
 
--- Calls behind calls.
+-- Calls after calls.
 
 pub taken_none : (port : ClockedPort) (reader : Progress) (aired : Option Item) (told : Option Told) → HasTaken port reader aired told [] port reader aired told
 taken_none port reader aired told = record {

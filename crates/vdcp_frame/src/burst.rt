@@ -6,7 +6,7 @@ ghost use Rattle.vdcp_frame.specs.Step.{IfMessage, IfEnd};
 use crate::head::Head;
 use crate::message::{Fault, Message};
 
-/// So many bytes of a burst are read. One that has more, and no fault among these, ends in the fault
+/// Most bytes of a burst that are read. One that has more, and no fault among these, ends in the fault
 /// `Long`. The limit is this profile's.
 pub const LIMIT: usize = 4096;
 

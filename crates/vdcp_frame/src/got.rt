@@ -15,10 +15,10 @@ pub enum Got<'a> {
 /// How a burst ended, at a silence.
 #[derive(Clone, Copy, Debug, PartialEq, Eq)]
 pub enum Ended {
-    /// Behind a whole message, or with no byte.
+    /// After a whole message, or with no byte.
     Clean,
     /// Inside a message: how many bytes of it came.
     Cut(usize),
-    /// Behind a fault, which was given when it came.
+    /// After a fault, which was given when it came.
     AfterFault,
 }

@@ -9,7 +9,7 @@ use std::test::Fail;
 
 const PLAY: [u8; 5] = [0x02, 0x02, 0x10, 0x01, 0xEF];
 
-// So many PLAYs, and then these bytes.
+// This many PLAYs, and then these bytes.
 fn plays(alloc: Global, count: usize, after: &[u8]) -> Result<Vec<u8>, AllocError> {
     let mut burst = Vec::new(alloc);
     for _ in 0..count {

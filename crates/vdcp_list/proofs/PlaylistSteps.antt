@@ -14,7 +14,7 @@ use Rattle.vdcp_list.specs.declared.faults.ListFault.{ListFault}
 use Rattle.vdcp_value.specs.declared.part.Item.{Item}
 use Rattle.vdcp_value.specs.declared.rate.Rate.{Rate}
 
--- n rows of a file were read, all of so many columns, and they name these items
+-- n rows of a file were read, all of one number of columns, and they name these items
 pub record NamedSoFar (rate : Rate) (file : Option (List ℕ)) (left : Option (List FileRow)) (n columns : ℕ) (items : List Item) : Type 0 where
   pub front : List FileRow
   pub is_front : IsFront (option_map rows_of file) left front

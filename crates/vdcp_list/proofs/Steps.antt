@@ -41,7 +41,7 @@ pub some_rows : (file : Option (List ℕ)) → (rows : List FileRow) × AreRowsO
 some_rows None = ([], tt)
 some_rows (Some bytes) = (rows_of bytes, refl)
 
--- the row behind those read, and what stands before it
+-- the row after those read, and what stands before it
 pub record Next (front rows : List FileRow) (row : FileRow) : Type 0 where
   pub below : length front < length rows
   pub here : slice_get rows (length front) ≡ Some row

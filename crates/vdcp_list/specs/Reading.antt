@@ -41,7 +41,7 @@ IsReadFault (TooMany k) = ⊥
 IsReadFault Memory = ⊤
 IsReadFault Read = ⊤
 
--- as what a failure of csv is told: the others but Io don't come, since rows may have any length and are read as bytes
+-- which fault an error of csv is: the others but Io don't come, since rows may have any length and are read as bytes
 abbrev pub fault_of_kind : ErrorKind → ListFault
 fault_of_kind kinds.OutOfMemory = Memory
 fault_of_kind (kinds.Io error) = Read

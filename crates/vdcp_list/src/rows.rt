@@ -42,7 +42,7 @@ pub fn next_row<R: Read>(reader: &mut Reader<R>, row: &mut ByteRecord) -> Result
     }
 }
 
-// As what a failure of `csv` is told.
+// Maps a `csv` error to a `ListFault`.
 fn fault_of(error: Error) -> ListFault
     ensures { result ≡ fault_of_kind (error_kind error) }
 {

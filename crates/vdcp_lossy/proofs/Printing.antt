@@ -1,4 +1,4 @@
--- What is told of one burst behind another.
+-- What is told of one burst after another.
 use Rattle.std.proofs.Common.{ℕ, ◌≡◌, List, [], ◌∷◌, ◌++◌, refl, sym, ap, subst, ◌∙◌, append_assoc, append-nil, codes, decimal, Option}
 use Rattle.std.proofs.KnownBytes.{Appends-nil, Appends-trans}
 use Rattle.std.specs.Io.KnownBytes.{Appends}
@@ -87,7 +87,7 @@ printed t u v end a b c d none (address, listens) told same ended =
     (Appends-trans b c d (fate_lines no_counts fates) (end_line end ++ counts_line) lines last) in
     record { address = address; fates = fates; end = end; gained = subst (Appends a d) (sym grouped) all }
 
--- the same behind calls that may fail
+-- the same after calls that may fail
 
 pub answer_told : {A E : Type 0} (result : Result A E) (d : Doing) (came : List ℕ) (t u v : Tally) (a b : Option (List ℕ)) → u ≡ with_answer t
     → OnOk result (PrintsFate way.Up d came u v a b) → OnOk result (PrintsFates t v a b)

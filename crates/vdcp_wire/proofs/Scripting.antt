@@ -8,7 +8,7 @@ use Rattle.vdcp_wire.specs.Scripts.{arrivals, brought, brought_in_all, closes}
 use Rattle.vdcp_wire.specs.Wires.{Arrival, bytes, Told, SendsFront, adds_came, arrival_of, has_closed}
 use Rattle.vdcp_wire.specs.WireLaws.{closed_bytes, closed_silence, closed_close}
 
--- what a listen gave, where more bytes stand behind
+-- what a listen gave, where more bytes stand after
 front_stays : (c : Came) (all more : List ℕ) → brought c ≤ length all → arrival_of c (all ++ more) ≡ arrival_of c all
 front_stays (Bytes n) all more within = ap bytes (take-append-le n all more within)
 front_stays Silence all more within = refl

@@ -23,7 +23,7 @@ use Rattle.vdcp_auto.specs.declared.phase.Mode.TheVariants.{Confirming}
 use Rattle.vdcp_auto.specs.State.{State}
 
 pub record Below : Type 0 where
-  -- what is spelt reads as its message, alone and with bytes behind it
+  -- what is spelt reads as its message, alone and with bytes after it
   pub alone : (m : Content) → Fits m → messages_of (spelling m) ≡ m ∷ []
   pub before : (m : Content) (more : List ℕ) → Fits m → AreOctets more → (others : List Content) × (messages_of (spelling m ++ more) ≡ m ∷ others)
   -- commands and replies

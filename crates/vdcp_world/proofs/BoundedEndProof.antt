@@ -93,7 +93,7 @@ still_playable c all = subst (λ (clips : List (ClipId × Timecode)). All (λ it
 
 -- ---- plain mode
 
--- behind a good round: no stop is wished for, and fewer rounds are left
+-- after a good round: no stop is wished for, and fewer rounds are left
 record Onwards (old : ℕ) (now : Channel) : Type 0 where
   pub no_wish : now.state.stop ≡ false
   pub goes : Goes now.state.stage
@@ -226,7 +226,7 @@ plain_end below c r lawful can n enough =
 
 -- ---- confirm mode
 
--- behind a good round: no stop is wished for, nothing is on the way, and fewer rounds are left
+-- after a good round: no stop is wished for, nothing is on the way, and fewer rounds are left
 record Ahead (old : ℕ) (now : Channel) : Type 0 where
   pub no_wish : now.state.stop ≡ false
   pub down : now.down ≡ []
@@ -335,7 +335,7 @@ confirmed_round below c q k confirms all idle ready e none before = by (command_
         (sent_place c.plan.list c.port.state.cued c.aired c.state.settled q place) is)
     by (Some d) is = go d is
 
--- the round behind a time-out
+-- the round after a time-out
 confirmed_behind : Below → (c : Channel) (q : Phase) (s : State) → IsKept c → c.plan.mode ≡ Confirming → IsAllPlayable c
     → state_waiting c.plan c.down c.up c.state ≡ s → s.stage ≡ Ready q → s.stop ≡ false → s.settled ≡ c.state.settled
     → Before c.port.state q

@@ -27,7 +27,7 @@ use Rattle.vdcp_world.proofs.Exchanges.{turn_by}
 use Rattle.vdcp_world.proofs.PhaseTable.{PlaceReady, answer_after, port_after}
 use Rattle.vdcp_world.proofs.RoundsLeft.{answer_at, plays, known_of}
 
--- where so many events aren't settled, before the phase's command is sent
+-- where this number of events isn't settled, before the phase's command is sent
 abbrev pub left_before : ℕ → Phase → ℕ
 left_before r phase.Open = 6 * r + 6
 left_before r phase.Select = 6 * r + 5

@@ -262,7 +262,7 @@ bytes_too_many_are_no_damage = refl
 as_many_bytes_are_damage : (after_event asked (AlterDown (replicate 1024 0xFF))).down ≡ replicate 1024 0xFF
 as_many_bytes_are_damage = refl
 
--- junk behind the message: it is executed, and its end is answered too, but not heard
+-- junk after the message: it is executed, and its end is answered too, but not heard
 abbrev junk_behind : Channel
 junk_behind = after_events asked (AlterDown (open_bytes ++ 0xFF ∷ []) ∷ Down ∷ [])
 

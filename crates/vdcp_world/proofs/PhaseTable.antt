@@ -97,7 +97,7 @@ abbrev pub PlaceReady : List Item → Cued → List Item → ℕ → Phase → T
 PlaceReady list cued aired settled (phase.Play k) = Standing list cued aired k × (settled ≡ k)
 PlaceReady list cued aired settled q = Place list cued aired settled q
 
--- and behind an end
+-- and after an end
 abbrev pub PlaceEnded : List Item → List (ClipId × Timecode) → List Item → ℕ → Outcome → Type 0
 PlaceEnded list clips aired settled outcome.Done = Aired list aired (length list) × (settled ≡ length list)
 PlaceEnded list clips aired settled outcome.Stopped = Near list aired settled

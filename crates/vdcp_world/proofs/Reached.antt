@@ -70,13 +70,13 @@ one_more c es i e below is =
     let taken : take (i + 1) es ≡ take i es ++ e ∷ [] = take_more es i e below ∙ ap (λ x. take i es ++ x ∷ []) (sym is) in
     ap (after_events c) taken ∙ after_all c (take i es) (e ∷ [])
 
--- the events before one of a list, it, and those behind it
+-- the events before one of a list, it, and those after it
 split_at_event : (es : List Event) (i : ℕ) (e : Event) → i < length es → e ≡ get_or es i e → es ≡ take i es ++ e ∷ drop (i + 1) es
 split_at_event es i e below is =
     let taken : take (i + 1) es ≡ take i es ++ e ∷ [] = take_more es i e below ∙ ap (λ x. take i es ++ x ∷ []) (sym is) in
     sym (take-append-drop (i + 1) es) ∙ ap (λ front. front ++ drop (i + 1) es) taken ∙ append_assoc (take i es) (e ∷ []) (drop (i + 1) es)
 
--- an error behind some events of a list
+-- an error after some events of a list
 pub in_part : {A E : Type 0} (result : Result A E) (old now : Channel) (es : List Event) (i : ℕ) (e : Event) → i < length es → e ≡ get_or es i e
     → now ≡ after_events old (take i es) → OnErr result (HappenInPart es old now)
 in_part (Ok a) old now es i e below is happened = tt

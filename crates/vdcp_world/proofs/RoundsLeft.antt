@@ -27,7 +27,7 @@ use Rattle.vdcp_auto.specs.declared.phase.Transition.{Transition}
 use Rattle.vdcp_world.proofs.Exchanges.{turn_by}
 use Rattle.vdcp_world.proofs.PhaseTable.{PlaceReady, Firm, answer_after}
 
--- in plain mode, where so many events aren't settled
+-- in plain mode, where this number of events isn't settled
 abbrev pub left : ℕ → Phase → ℕ
 left r phase.Open = 5 * r + 4
 left r phase.Select = 5 * r + 3

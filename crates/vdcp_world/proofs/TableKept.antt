@@ -127,7 +127,7 @@ gives_some list port cued aired settled phase.Close h e = cc
 gives_some list port cued aired settled phase.Halt h e = cc
 gives_some list port cued aired settled phase.HaltClose h e = cc
 
--- nothing is heard behind a command that is given; and nothing changes where none is
+-- nothing is heard after a command that is given; and nothing changes where none is
 pub tick_told : (plan : Plan) (clips : List (ClipId × Timecode)) (p : PortState) (aired : List Item) (state : State) (h : Option Heard)
     → Stands plan clips p aired state.settled state.stage → given plan state ≡ None
     → ToldAt plan.mode plan.list clips p aired state.stage h → ToldAt plan.mode plan.list clips p aired (ticked state).stage h
@@ -255,7 +255,7 @@ nak_told mode list clips p aired (Awaiting q) byte e = λ r is. subst (λ r. Tel
     tells Confirming = λ _. (nak_tells list clips p aired q byte e).0
 nak_told mode list clips p aired (Ended outcome) byte e = tt
 
--- behind a command that is awaited
+-- after a command that is awaited
 pub record Read (plan : Plan) (clips : List (ClipId × Timecode)) (p : PortState) (aired : List Item) (settled : ℕ) (q : Phase)
     (o : Option Command) : Type 0 where
   pub stands : Stands plan clips (port_after clips p o) (aired ++ aired_after clips p o) settled (Awaiting q)

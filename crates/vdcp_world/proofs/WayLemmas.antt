@@ -49,7 +49,7 @@ end_bytes unit clean = All-nil IsByte
 end_bytes unit (cut count) = All-cons IsByte 0x05 (0x80 ∷ []) (lit< tt) (All-cons IsByte 0x80 [] (lit< tt) (All-nil IsByte))
 end_bytes unit (fault kind place) = All-cons IsByte 0x05 (0x04 ∷ []) (lit< tt) (All-cons IsByte 0x04 [] (lit< tt) (All-nil IsByte))
 
--- a reply is heard, whatever bytes stand behind it
+-- a reply is heard, whatever bytes stand after it
 heard_reply : Below → (unit : ℕ) (r : Reply) (more : List ℕ) → unit < 16 → IsWritableReply r → AreOctets more
     → heard_in unit (spelling (reply_message unit r) ++ more) ≡ Some (heard.Reply r)
 heard_reply below unit r more u w bytes =

@@ -1,4 +1,4 @@
--- The bounded end: so many good rounds bring the whole playlist to air.
+-- The bounded end: how many good rounds bring the whole playlist to air.
 use Rattle.std.specs.Prelude.{ℕ, ◌+◌, ◌-◌, ◌*◌, ◌≡◌, ◌≤◌, false, IsTrue, Some, All, length}
 use Rattle.std.specs.List.{list_any}
 use Rattle.vdcp_port.specs.Clips.{is_playable}

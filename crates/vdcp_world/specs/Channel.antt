@@ -52,7 +52,7 @@ new_channel plan clips unit cue_frames =
       log = [];
     }
 
--- Tick: what is on the way down, and up, behind a tick that gives a command or none.
+-- Tick: what is on the way down, and up, after a tick that gives a command or none.
 
 abbrev pub down_behind : ℕ → Option Command → List ℕ → List ℕ
 down_behind unit None down = down
@@ -177,7 +177,7 @@ abbrev pub after_events : Channel → List Event → Channel
 after_events c [] = c
 after_events c (event ∷ events) = after_events (after_event c event) events
 
--- the events up to one of them have happened, and it hasn't, nor have those behind it
+-- the events up to one of them have happened, and it hasn't, nor have those after it
 pub record HappenInPart (events : List Event) (old now : Channel) : Type 0 where
   pub done : List Event
   pub refused : Event

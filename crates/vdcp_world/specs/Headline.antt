@@ -31,7 +31,7 @@ abbrev pub IsRefusedIn : Mode → List (ClipId × Timecode) → Plan → List Ex
 IsRefusedIn Plain clips plan log place = IsSomeAnd (slice_get plan.list place) (IsOutside clips)
 IsRefusedIn Confirming clips plan log place = IsRefused plan.list plan.limit log place
 
--- so many events went to air, and so many are reported
+-- this number of events went to air, and as many are reported
 pub record AreReported (plan : Plan) (aired : List Item) (log : List Exchange) (count : ℕ) : Type 0 where
   pub aired_count : length aired ≡ count
   pub reported_count : settled plan.mode log ≡ count

@@ -11,7 +11,7 @@ round = Tick ∷ Down ∷ Up ∷ []
 abbrev pub good_round : List Event
 good_round = Timeout ∷ Ready ∷ End ∷ round
 
--- some events so many times over
+-- some events, n times over
 abbrev pub times : ℕ → List Event → List Event
 times zero events = []
 times (suc n) events = events ++ times n events

@@ -14,7 +14,7 @@ ghost use Rattle.vdcp_world.specs.Headline.{Headline};
 /// - the rule book allows each command of the log where it stands, and the one that is awaited;
 /// - Done means that the whole playlist went to air and is reported; Missing(k), that event k's clip isn't
 ///   in the catalogue, and Refused(k), in plain mode, that event k is a part that doesn't fit its clip, and
-///   in confirm mode, that since the last exchange that settles `limit` empty statuses stand behind a cue of
+///   in confirm mode, that since the last exchange that settles `limit` empty statuses came after a cue of
 ///   event k; and either, that the events before k went to air and are reported;
 /// - the controller never ends Denied, Foreign or Strange.
 pub fn reached_keeps_the_headline()
@@ -36,10 +36,10 @@ pub fn reached_keeps_the_headline()
 
 /// In plain mode, from whatever channel that events have led to, in which nothing is awaited, the
 /// controller hasn't ended, and no stop is wished for or was sent; and in confirm mode from a new channel:
-/// where each item of the playlist is in the catalogue, and each part fits its clip, so many good rounds
+/// where each item of the playlist is in the catalogue, and each part fits its clip, enough good rounds
 /// bring the whole playlist to air, all of it reported, and the controller to Done. In plain mode five
 /// rounds for each event that isn't reported, and four, are enough, and in confirm mode six for each event,
-/// and six; and whatever number above. That good rounds ever come isn't said.
+/// and six; and so is any greater number. That good rounds ever come isn't said.
 pub fn good_rounds_bring_all_to_air()
     ensures { (c : Channel) → IsReached c → BoundedEnd c }
 {

@@ -7,9 +7,9 @@ use hex::{FromHex, FromHexError};
 use std::alloc::Global;
 use thiserror::Error;
 
-/// A script has so many events at most.
+/// Most events of a script.
 const MOST_EVENTS: usize = 100_000;
-/// A round, or a frame, comes so many times at most in one line.
+/// Most rounds, or frames, that one line asks for.
 const MOST_TIMES: u32 = 10_000;
 
 /// Why a script is refused. Lines are read one after another and count from 1, blank ones and comments

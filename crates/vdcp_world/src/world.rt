@@ -135,10 +135,10 @@ impl<S: Source, C: Catalogue, A: Allocator + Copy> World<S, C, A> {
     }
 
     /// The events happen, in order, up to the first for which memory is refused: the answer is then
-    /// `AllocError`; those before it have happened, and it hasn't, nor have those behind it.
+    /// `AllocError`; those before it have happened, and it hasn't, nor have those after it.
     ///
     /// A good round is the events `Timeout`, `Ready`, `End`, `Tick`, `Down`, `Up`. Where each item of the
-    /// playlist is in the catalogue, and each part fits its clip, a run of so many good rounds that answers
+    /// playlist is in the catalogue, and each part fits its clip, a run of this many good rounds that answers
     /// `Ok` leaves the controller Done, the whole playlist aired, and all of it reported:
     ///
     /// - in plain mode (`plain_end`), whatever happened before, while nothing is awaited, the controller hasn't
