@@ -44,7 +44,7 @@ _vdcp() {
     show:-) offers="--words -h --help" ;;
     make:-) offers="--unit -h --help" ;;
     check:-) offers="--rate -h --help" ;;
-    sim:-) offers="--unit --port --limit --rate --trace --cue-frames --confirm -h --help" ;;
+    sim:-) offers="--unit --port --limit --rate --trace --cue-frames --confirm --late -h --help" ;;
     serve:-) offers="--unit --port --rate --cue-frames --silence --turns --log -h --help" ;;
     run:-) offers="--unit --port --limit --rate --confirm --silence --listens --asrun --log -h --help" ;;
     lossy:-) offers="--seed --lose --copy --cut --damage --forge --silence --within --turns -h --help" ;;

@@ -101,7 +101,7 @@ pub run_has : (mode : Mode) (limit : ℕ) (log : List Exchange) (row : ℕ) → 
 run_has mode limit log row run short quiet = run_short (counted mode log) run.front run.rest limit run.in_order run.answered quiet.0 quiet.1
     (omega (arith, run.is_row))
 
--- no shorter front of the log ends so
+-- of the fronts of the log only the whole of it ends so
 abbrev pub IsFirst : Mode → ℕ → List Exchange → Type 0
 IsFirst mode limit log = (front rest : List Exchange) → rest ≢ [] → log ≡ front ++ rest → ¬ EndsUnanswered mode limit front
 

@@ -21,7 +21,8 @@ mod tests;
 /// false, `hear` takes what came, or `timeout` says that nothing did; and so on until `outcome`
 /// answers. `take`, `stop` and `forget` are the operator's and may come at any time.
 ///
-/// - `settled`, `outcome`, `is_ready`, `awaiting`, `awaited`, `is_confirming` and `source` only look.
+/// - `settled`, `outcome`, `is_ready`, `awaiting`, `awaited`, `wishes_to_stop`, `is_confirming` and `source`
+///   only look.
 /// - `hear` and `timeout` bring in what happens on the line; `receive` does both, and gives the
 ///   exchange that ended.
 /// - `take` and `stop` are commands of the operator, and `forget` withdraws them.
@@ -136,6 +137,14 @@ impl<S: Source> Controller<S> {
         ensures awaited { result ≡ is_some (turns.awaited (plan_of S.items self.now) self.now.state) }
     {
         matches!(self.position, Position::Awaiting(_, _))
+    }
+
+    /// The operator wants to stop, and the STOP hasn't gone out yet.
+    pub fn wishes_to_stop(&self) -> bool
+        ensures { result ≡ self.now.state.stop }
+    {
+        let Self { stop, .. } = self;
+        *stop
     }
 
     /// The command whose answer is awaited.

@@ -1,8 +1,8 @@
 use clap::{Arg, ArgAction, Command};
 use std::alloc::{AllocError, Global};
 use vdcp_options::{
-    COPY, CUE_FRAMES, CUT, DAMAGE, FORGE, LIMIT, LISTENS, LOSE, LOSSY_SILENCE, PORT, RUN_SILENCE,
-    SEED, SERVE_SILENCE, TURNS, UNIT, WITHIN, number_option, rate_option,
+    COPY, CUE_FRAMES, CUT, DAMAGE, FORGE, LIMIT, LISTENS, LOSE, LOSSY_SILENCE, PORT, RUN_LIMIT,
+    RUN_SILENCE, SEED, SERVE_SILENCE, TURNS, UNIT, WITHIN, number_option, rate_option,
 };
 
 // The program's version, and the toolchain that it is proved with.
@@ -90,7 +90,8 @@ fn sim<'a>(alloc: Global) -> Result<Command<'a>, AllocError> {
         .arg(rate_option(alloc))?
         .arg(trace(alloc))?
         .arg(number_option(alloc, &CUE_FRAMES))?
-        .arg(confirm(alloc))
+        .arg(confirm(alloc))?
+        .arg(late(alloc))
 }
 
 fn serve<'a>(alloc: Global) -> Result<Command<'a>, AllocError> {
@@ -122,7 +123,7 @@ fn run<'a>(alloc: Global) -> Result<Command<'a>, AllocError> {
         .arg(list(alloc))?
         .arg(number_option(alloc, &UNIT))?
         .arg(number_option(alloc, &PORT))?
-        .arg(number_option(alloc, &LIMIT))?
+        .arg(number_option(alloc, &RUN_LIMIT))?
         .arg(rate_option(alloc))?
         .arg(confirm(alloc))?
         .arg(number_option(alloc, &RUN_SILENCE))?
@@ -200,6 +201,13 @@ fn confirm<'a>(alloc: Global) -> Arg<'a> {
         .long("confirm")
         .action(ArgAction::SetTrue)
         .help("The controller trusts no ACK and no NAK")
+}
+
+fn late<'a>(alloc: Global) -> Arg<'a> {
+    Arg::new(alloc, "late")
+        .long("late")
+        .action(ArgAction::SetTrue)
+        .help("The line keeps order, and may be late")
 }
 
 fn asrun<'a>(alloc: Global) -> Arg<'a> {

@@ -17,7 +17,7 @@ use std::process::ExitCode;
 use std::{env, io};
 use vdcp_files::{do_check, do_vectors};
 use vdcp_lossy::do_lossy;
-use vdcp_net::{Showing, do_run, do_serve};
+use vdcp_net::{Screen, Showing, do_run, do_serve};
 use vdcp_options::{
     lossy_settings_of, open_file, rate_of, run_settings_of, serve_settings_of, sim_settings_of,
     unit_of,
@@ -147,7 +147,9 @@ fn run_serve<'a, W: Write, E: Write>(
     let catalogue = open_file(rt, matches, "CATALOGUE")?;
     let address = matches.get_str("ADDR").unwrap_or("");
     let settings = serve_settings_of(matches);
-    let log = matches.get_flag("log").then_some(rt.stderr());
+    let log = matches
+        .get_flag("log")
+        .then_some(Screen::new(rt, rt.stderr()));
     Ok(do_serve(rt, address, catalogue, settings, log, out, err))
 }
 
@@ -162,9 +164,9 @@ fn run_run<'a, W: Write, E: Write>(
     let settings = run_settings_of(matches);
     let terminal = rt.stderr();
     let showing = if matches.get_flag("log") {
-        Showing::Messages(terminal)
+        Showing::Messages(Screen::new(rt, terminal))
     } else if terminal.is_terminal() {
-        Showing::Progress(terminal)
+        Showing::Progress(Screen::new(rt, terminal))
     } else {
         Showing::Nothing
     };

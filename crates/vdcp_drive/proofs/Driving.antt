@@ -58,14 +58,14 @@ ticked_at (Ready p) s is = refl
 ticked_at (Awaiting p) s is = ap (λ (x : Stage). tick_in x s) is
 ticked_at (Ended outcome) s is = ap (λ (x : Stage). tick_in x s) is
 
-ticked_twice : (s : State) → ticked (ticked s) ≡ ticked s
+pub ticked_twice : (s : State) → ticked (ticked s) ≡ ticked s
 ticked_twice s = ticked_at s.stage s refl
 
 -- a tick that gives nothing leaves awaited what was; one that gives a command, just this
-none_given : (plan : Plan) (s : State) → given plan s ≡ None → awaited plan (ticked s) ≡ awaited plan s
+pub none_given : (plan : Plan) (s : State) → given plan s ≡ None → awaited plan (ticked s) ≡ awaited plan s
 none_given plan s h = grind (arith, common_steps)
 
-some_given : (plan : Plan) (s : State) (c : Command) → given plan s ≡ Some c → (awaited plan s ≡ None) × (awaited plan (ticked s) ≡ Some c)
+pub some_given : (plan : Plan) (s : State) (c : Command) → given plan s ≡ Some c → (awaited plan s ≡ None) × (awaited plan (ticked s) ≡ Some c)
 some_given plan s c h = grind (arith, common_steps)
 
 -- the input of a burst is what the controller receives at its end
@@ -77,7 +77,7 @@ input_ends : (plan : Plan) (s : State) (h : Option Heard) → ended_by_input pla
 input_ends plan s None = refl
 input_ends plan s (Some x) = refl
 
-abbrev command_of : Exchange → Command
+abbrev pub command_of : Exchange → Command
 command_of e = e.command
 
 -- the exchange that ends takes its command from what is awaited to the log
@@ -88,7 +88,7 @@ awaits_none plan (Retries k) n s = refl
 awaits_none plan (Ends outcome) n s = refl
 
 -- whether it ended or not, what is then in the log and awaited is what was awaited
-abbrev KeepsAwaited : Plan → Option Heard → State → Type 0
+abbrev pub KeepsAwaited : Plan → Option Heard → State → Type 0
 KeepsAwaited plan h s = option_to_list (option_map command_of (ended_by plan h s)) ++ option_to_list (awaited plan (came_to plan h s))
     ≡ option_to_list (awaited plan s)
 
@@ -121,11 +121,11 @@ exchange_is : (mode : Mode) (h : Option Heard) (c : Option Command) (e : Exchang
 exchange_is mode h None e is = cc
 exchange_is mode h (Some c) e is = made_of (is_end mode c h) c h e is
 
-keeps_awaited : (plan : Plan) (h : Option Heard) (s : State) (ends : Option Exchange) → ended_by plan h s ≡ ends → KeepsAwaited plan h s
+pub keeps_awaited : (plan : Plan) (h : Option Heard) (s : State) (ends : Option Exchange) → ended_by plan h s ≡ ends → KeepsAwaited plan h s
 keeps_awaited plan h s None is = none_ends plan h s is
 keeps_awaited plan h s (Some e) is = one_ends plan h s e is (exchange_is plan.mode h (awaited plan s) e is)
 
-logged_commands : (log : List Exchange) (ends : Option Exchange)
+pub logged_commands : (log : List Exchange) (ends : Option Exchange)
     → map command_of (logged log ends) ≡ map command_of log ++ option_to_list (option_map command_of ends)
 logged_commands log None = sym (append-nil (map command_of log))
 logged_commands log (Some e) = map-append command_of log (e ∷ [])
@@ -147,7 +147,7 @@ starts_of_push : (unit : ℕ) (commands : List Command) (c : Command)
     → starts_of unit (commands ++ c ∷ []) ≡ starts_of unit commands ++ length (bytes_of unit commands) ∷ []
 starts_of_push unit commands c = starts_push unit 0 commands c ∙ ap (λ (m : ℕ). starts_of unit commands ++ m ∷ []) (omega arith)
 
-bytes_push : (unit : ℕ) (commands : List Command) (c : Command) → bytes_of unit (commands ++ c ∷ []) ≡ bytes_of unit commands ++ command_bytes unit c
+pub bytes_push : (unit : ℕ) (commands : List Command) (c : Command) → bytes_of unit (commands ++ c ∷ []) ≡ bytes_of unit commands ++ command_bytes unit c
 bytes_push unit commands c = flat_map-append (command_bytes unit) commands (c ∷ [])
     ∙ ap (λ (l : List ℕ). bytes_of unit commands ++ l) (append-nil (command_bytes unit c))
 
@@ -267,7 +267,7 @@ receives law plan unit came came' h state state' more s r =
 came_open : (came : List Arrival) (a : Arrival) → has_closed came ≡ false → came_with came a ≡ came ++ a ∷ []
 came_open came a h = rw h refl
 
-tells_more : (t : Told) (a : Arrival) (told told' : Option Told) → told ≡ Some t → has_closed t.came ≡ false → told' ≡ adds_came a told
+pub tells_more : (t : Told) (a : Arrival) (told told' : Option Told) → told ≡ Some t → has_closed t.came ≡ false → told' ≡ adds_came a told
     → told' ≡ Some (record { sent = t.sent; came = t.came ++ a ∷ []; drops = t.drops })
 tells_more t a told told' is h e = e ∙ ap (adds_came a) is
     ∙ ap (λ (c : List Arrival). Some (record { sent = t.sent; came = c; drops = t.drops })) (came_open t.came a h)
@@ -474,7 +474,7 @@ broken_listen plan unit t state reader heard told state' told' is h stays same =
 
 -- A run whose controller has ended.
 
-ended_tick : (s : State) → is_awaiting (ticked s).stage ≡ false → (ticked s ≡ s) × IsSome (outcome_of s.stage)
+pub ended_tick : (s : State) → is_awaiting (ticked s).stage ≡ false → (ticked s ≡ s) × IsSome (outcome_of s.stage)
 ended_tick s h = at s.stage s refl h where
   at : (stage : Stage) (s : State) → s.stage ≡ stage → is_awaiting (tick_in stage s).stage ≡ false → (tick_in stage s ≡ s) × IsSome (outcome_of s.stage)
   at (Ready p) s is h = cc

@@ -1,4 +1,5 @@
 mod Examples
+mod PromptExamples
 pub mod Below
 pub mod Cutting
 pub mod Taking
@@ -9,3 +10,6 @@ pub mod Driving
 pub mod Reaching
 pub mod Watching
 pub mod Leaving
+pub mod Completing
+pub mod Prompting
+pub mod Prompted

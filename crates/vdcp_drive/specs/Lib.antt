@@ -8,3 +8,6 @@ pub mod ServeLeaves
 pub mod Hearing
 pub mod Driven
 pub mod RunLeaves
+pub mod PromptReading
+pub mod Prompt
+pub mod PromptLeaves

@@ -1,8 +1,6 @@
-ghost use Rattle.std.specs.Prelude.{◌≡◌, ◌<◌, ◌≤◌, ◌↔◌, false, [], ◌∷◌, ◌++◌, List, ℕ, length, take, IsSome, OnOk, OnErr, IfOk, IsErr, Some, None};
+ghost use Rattle.std.specs.Prelude.{◌≡◌, ◌≤◌, false, [], ◌∷◌, ◌++◌, List, IsSome, OnOk, OnErr, IfOk, IsErr, Some, None};
 ghost use Rattle.vdcp_frame.specs.Message.{content_of, AreOctets};
-ghost use Rattle.vdcp_frame.specs.Pieces.{with_message};
 ghost use Rattle.vdcp_frame.specs.Progress.{reading};
-ghost use Rattle.vdcp_frame.specs.Reader.{answer_of};
 ghost use Rattle.vdcp_auto.specs.Plan.{plan_of};
 ghost use Rattle.vdcp_auto.specs.Turn as turns;
 ghost use Rattle.vdcp_auto.specs.State.{State};
@@ -16,7 +14,7 @@ use crate::line::{DriveFault, Line, Ran};
 use crate::watch::{Unwatched, Watch};
 use std::marker::Model;
 use vdcp_auto::{Controller, Heard, Source, laws as courses};
-use vdcp_frame::{Got, Reader, laws as bursts};
+use vdcp_frame::{Got, Message, Reader, laws as bursts};
 use vdcp_wire::{Came, PIECE, Wire, WireFault};
 use vdcp_words::Command;
 
@@ -264,7 +262,11 @@ fn send_next<S: Source, W: Wire>(
 }
 
 // Sends the bytes of a command.
-fn send_command<W: Wire>(command: &Command, unit: u8, wire: &mut W) -> Result<(), WireFault>
+pub(crate) fn send_command<W: Wire>(
+    command: &Command,
+    unit: u8,
+    wire: &mut W,
+) -> Result<(), WireFault>
     requires unit { unit ≤ 15 }
     requires works { W.failures wire.old ≡ 0 }
     ensures sent { OnOk result (W.told wire.new ≡ adds_sent (command_bytes unit command.now) (W.told wire.old)) }
@@ -318,32 +320,22 @@ fn take_piece(unit: u8, reader: &mut Reader, heard: &mut Option<Heard>, piece: &
     ensures heard { HasHeard unit reader.old heard.old piece.now reader.new heard.new }
     ensures fits { AreOctets piece.now }
 {
-    let mut at = 0;
-    'piece: while at < piece.len() {
-        at += take_some(unit, reader, heard, &piece[at..]);
+    let mut rest = piece;
+    'piece: loop {
+        match reader.next(&mut rest) {
+            Got::Message(message) => keep_first(&message, unit, heard),
+            Got::Fault(_, _) => {}
+            Got::More => return,
+        }
     }
 }
 
-// Feeds the reader once, keeps what is heard first, and gives how many bytes it used up.
-fn take_some(unit: u8, reader: &mut Reader, heard: &mut Option<Heard>, piece: &[u8]) -> usize
-    ensures within { result ≤ length piece.now }
-    ensures some { 0 < length piece.now → 0 < result }
-    ensures heard { HasHeard unit reader.old heard.old (take result piece.now) reader.new heard.new }
-{
-    bursts::what_is_fed_is_followed();
-    let (taken, got) = reader.feed(piece);
-    keep_first(&got, unit, heard);
-    taken
-}
-
 // Keeps what is heard in a message, unless one was heard before.
-fn keep_first(got: &Got<'_>, unit: u8, heard: &mut Option<Heard>)
-    ensures { heard.new ≡ heard_by_then unit heard.old (with_message (answer_of got.now) []) }
+fn keep_first(message: &Message, unit: u8, heard: &mut Option<Heard>)
+    ensures { heard.new ≡ heard_by_then unit heard.old (content_of message.now ∷ []) }
 {
-    if let Got::Message(message) = got {
-        if heard.is_none() {
-            *heard = Some(Heard::of_message(message, unit));
-        }
+    if heard.is_none() {
+        *heard = Some(Heard::of_message(message, unit));
     }
 }
 

@@ -1,14 +1,20 @@
 //! The laws of the definitions that the contracts of this crate cite. The functions do nothing: their
 //! contracts are the laws, and a caller whose proof needs one calls it.
-ghost use Rattle.std.specs.Prelude.{◌≤◌, ℕ};
+ghost use Rattle.std.specs.Prelude.{◌≡◌, ◌≤◌, ℕ, List, [], ◌++◌, Option};
+ghost use Rattle.vdcp_frame.specs.Message.{Content};
+ghost use Rattle.vdcp_frame.specs.Progress.{Progress};
+ghost use Rattle.vdcp_frame.specs.Reading.{SpellsAll, IsUnfinished};
 ghost use Rattle.vdcp_auto.specs.Course.{course};
 ghost use Rattle.vdcp_auto.specs.Law.{IsLawful};
 ghost use Rattle.vdcp_auto.specs.Plan.{Plan};
 ghost use Rattle.vdcp_auto.specs.State.{State};
 ghost use Rattle.vdcp_drive.specs.Driven.{HasRun, HasRunBroken, inputs_of};
+ghost use Rattle.vdcp_drive.specs.Prompt.{HasRunPrompt, HasRunPromptBroken, prompted};
+ghost use Rattle.vdcp_drive.specs.PromptReading.{Held, holds, completed, held_after};
 ghost use Rattle.vdcp_wire.specs.Wires.{Told};
 
 use vdcp_auto::laws as courses;
+use vdcp_frame::laws as bursts;
 
 /// What holds of every controller and its log holds of the controller that a run leaves and of the
 /// course of what came: its count of settled events is what the course shows to be settled, the rule
@@ -21,4 +27,37 @@ pub fn a_run_is_lawful()
 {
     courses::a_course_is_reached();
     courses::reached_is_lawful();
+}
+
+/// The same of an automation that hears at once, and of the log of the exchanges that what came shows to have
+/// ended: each by a message that was heard, a silence or the close.
+pub fn a_prompt_run_is_lawful()
+    ensures run { (plan : Plan) (unit : ℕ) (told : Told) (state : State) (reader : Option Progress) (passed : ℕ) →
+        1 ≤ plan.limit → plan.limit ≤ 1000 → HasRunPrompt plan unit told state reader passed →
+        IsLawful plan state (prompted plan unit told.came).log }
+    ensures broken { (plan : Plan) (unit : ℕ) (told : Told) (state : State) (reader : Option Progress) (passed : ℕ) →
+        1 ≤ plan.limit → plan.limit ≤ 1000 → HasRunPromptBroken plan unit told state reader passed →
+        IsLawful plan state (prompted plan unit told.came).log }
+{
+    courses::reached_is_lawful();
+}
+
+/// An automation that hears at once completes just the messages that the bytes spell, and holds what has begun
+/// since; and it doesn't matter into which pieces the bytes are cut.
+pub fn what_is_spelt_is_completed()
+    ensures messages { (ms : List Content) (bytes rest : List ℕ) → SpellsAll ms bytes → IsUnfinished rest →
+        completed (holds []) (bytes ++ rest) ≡ ms }
+    ensures held { (ms : List Content) (bytes rest : List ℕ) → SpellsAll ms bytes → IsUnfinished rest →
+        held_after (holds []) (bytes ++ rest) ≡ holds rest }
+    ensures pieces { (at : Held) (piece more : List ℕ) →
+        completed at (piece ++ more) ≡ completed at piece ++ completed (held_after at piece) more }
+    ensures pieces_held { (at : Held) (piece more : List ℕ) →
+        held_after at (piece ++ more) ≡ held_after (held_after at piece) more }
+{
+    bursts::no_spelling_begins_another();
+    bursts::one_spelling();
+    bursts::what_is_spelt_is_bytes();
+    bursts::a_spelling_is_its_message();
+    bursts::what_is_followed_is_read();
+    bursts::one_reading();
 }

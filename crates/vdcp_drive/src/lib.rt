@@ -28,20 +28,25 @@
 //! auto.controller().outcome(), auto.controller().settled()
 //! ```
 //!
-//! `serve_watched` and `run_watched` lend each item that airs, and the controller, to who looks on.
+//! `PromptDriver` has the same calls, for a line that keeps order: it hears each answer as soon as it has come, and a
+//! silence is a time-out alone.
 //!
-//! Files: `server` and `automation` (the two drivers), `line` (results of a turn or listen), `watch` (observers),
+//! `serve_watched` and `run_watched` lend each item that airs, and the controller, to an observer.
+//!
+//! Files: `server`, `automation` and `prompt` (the drivers), `line` (results of a turn or listen), `watch` (observers),
 //! `laws`.
 #![tactic(auto)]
 
 mod automation;
 pub mod laws;
 mod line;
+mod prompt;
 mod server;
 mod watch;
 
 pub use automation::AutoDriver;
 pub use line::{DriveFault, Line, Ran};
+pub use prompt::PromptDriver;
 pub use server::Server;
 pub use vdcp_wire::{Came, Entry, PIECE, ScriptWire, StreamWire, Wire, WireFault};
 pub use watch::{Unwatched, Watch, WatchAir};

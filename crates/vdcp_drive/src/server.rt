@@ -252,40 +252,15 @@ fn take_piece<C: Catalogue, W: Wire>(
     ensures failed { OnErr result (W.failures wire.new ≡ 1) }
 {
     answers::messages_after_messages();
-    let mut at = 0;
-    'piece: while at < piece.len() {
-        at += take_some(reader, port, aired, wire, &piece[at..])?;
-    }
-    Ok(())
-}
-
-// Feeds the reader once, answers the message that this completes, and gives how many bytes it used up.
-fn take_some<C: Catalogue, W: Wire>(
-    reader: &mut Reader,
-    port: &mut Port<C>,
-    aired: &mut Option<Item>,
-    wire: &mut W,
-    piece: &[u8],
-) -> Result<usize, WireFault>
-    requires { W.failures wire.old ≡ 0 }
-    ensures within { IfOk result (λ n. n ≤ length piece.now) }
-    ensures some { IfOk result (λ n. 0 < length piece.now → 0 < n) }
-    ensures taken { IfOk result (λ n. HasTaken port.old reader.old aired.old (W.told wire.old) (take n piece.now)
-        port.new reader.new aired.new (W.told wire.new)) }
-    ensures broken { OnErr result (HasBroken port.old reader.old aired.old (W.told wire.old) piece.now port.new
-        aired.new (W.told wire.new)) }
-    ensures works { OnOk result (W.failures wire.new ≡ 0) }
-    ensures failed { OnErr result (W.failures wire.new ≡ 1) }
-{
-    bursts::what_is_fed_is_followed();
     answers::one_alone();
-    let (taken, got) = reader.feed(piece);
-    match got {
-        Got::Message(message) => answer(port, aired, wire, &message)?,
-        Got::More => {}
-        Got::Fault(_, _) => {}
+    let mut rest = piece;
+    'piece: loop {
+        match reader.next(&mut rest) {
+            Got::Message(message) => answer(port, aired, wire, &message)?,
+            Got::Fault(_, _) => {}
+            Got::More => return Ok(()),
+        }
     }
-    Ok(taken)
 }
 
 // Answers a message.

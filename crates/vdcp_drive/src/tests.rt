@@ -9,5 +9,6 @@ mod hostile;
 mod lawful;
 mod loopback;
 mod messages;
+mod prompt;
 mod server;
 mod watching;

@@ -1,7 +1,7 @@
 -- What a call of feed gives, from what stands at the front of the bytes held and those that come.
 use Rattle.std.proofs.Common.{◌≡◌, ℕ, ◌+◌, ◌-◌, ◌<◌, ◌≤◌, List, [], ◌∷◌, ◌++◌, length, take, drop, refl, sym, ap, subst, ◌∙◌, arith, inl, inr, append_assoc, length-append}
 use Rattle.std.proofs.lemmas.Bool.{cases_lt}
-use Rattle.std.proofs.lemmas.List.{take-append-drop, take-append-le, take-take, take_at, length-take}
+use Rattle.std.proofs.lemmas.List.{take-append-drop, take-append-le, take-take, take_at, length-take, length-drop, drop_all}
 use Rattle.std.proofs.Math.Seq.{take-append-add}
 use Rattle.vdcp_frame.specs.declared.message.Fault.{Fault}
 use Rattle.vdcp_frame.specs.declared.message.Fault.TheVariants.{BadStart, BadCount, BadSum, Long}
@@ -11,6 +11,7 @@ use Rattle.vdcp_frame.specs.Message.{Content, Spells}
 use Rattle.vdcp_frame.specs.Reading.{Begins, IsUnfinished, fault_of}
 use Rattle.vdcp_frame.specs.Head.{IsPart, IsWrong, IsFound}
 use Rattle.vdcp_frame.specs.Place.{progress_at, Holds, IsPlace, Fills}
+use Rattle.vdcp_frame.specs.Pieces.{GoesOn}
 use Rattle.vdcp_frame.specs.Progress.{Progress, reading, failed}
 use Rattle.vdcp_frame.specs.Reader.{Answer, message, more, wrong, TakesMessage, TakesAll, TakesWrong, TakesLong, TakesFault, Gives, fed}
 use Rattle.vdcp_frame.proofs.HeadLemmas.{Begins-take, part_unfinished, part_first}
@@ -231,6 +232,18 @@ gives_some (reading taken held) piece n (wrong which place) g some = (fault_with
 gives_some failed piece n (message m) g some = absurd g
 gives_some failed piece n more g some = omega arith
 gives_some failed piece n (wrong which place) g some = absurd g
+
+-- what is left of a piece
+pub gives_on : (old : Progress) (piece : List ℕ) (n : ℕ) (answer : Answer) → Gives old piece n answer
+    → GoesOn answer piece (drop n piece)
+gives_on (reading taken held) piece n (message m) g = omega (arith, g.some, g.within, length-drop n piece)
+gives_on (reading taken held) piece n more g = drop_all n piece (omega (arith, g.all))
+gives_on (reading taken held) piece n (wrong which place) g =
+    let within = fault_within taken held piece n which g.0 in
+    omega (arith, within.0, within.1, length-drop n piece)
+gives_on failed piece n (message m) g = absurd g
+gives_on failed piece n more g = drop_all n piece (omega (arith, g))
+gives_on failed piece n (wrong which place) g = absurd g
 
 -- a reader between two messages
 pub between : (taken : ℕ) (buffer : List ℕ) → taken ≤ 4096 → IsPlace (place.Reading taken 0 1) buffer

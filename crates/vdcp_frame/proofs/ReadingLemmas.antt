@@ -1,5 +1,5 @@
 -- Each burst has exactly one reading, and a step along it is a step of the reading.
-use Rattle.std.proofs.Common.{◌≡◌, ℕ, ◌+◌, ◌-◌, ◌*◌, ◌%◌, ◌<◌, ◌≤◌, Bool, true, false, cond, ltb, List, [], ◌∷◌, ◌++◌, length, take, drop, sum}
+use Rattle.std.proofs.Common.{◌≡◌, ℕ, ◌+◌, ◌-◌, ◌*◌, ◌<◌, ◌≤◌, Bool, true, false, cond, ltb, List, [], ◌∷◌, ◌++◌, length, take, drop, sum}
 use Rattle.std.proofs.Common.{refl, sym, ap, subst, ◌∙◌, append_assoc, arith, inl, inr, length-append}
 use Rattle.std.proofs.lemmas.Bool.{cases_lt, lt-ltb, le-ltb}
 use Rattle.std.proofs.lemmas.List.{take_at, take-append-drop, length-take, length-drop, append-nil, append_cancel_left, take_all, take-take}
@@ -25,18 +25,6 @@ one_front m n a b x y s t e =
     let size : length a ≡ length b = cc in
     let a_is : a ≡ b = sym (take_at a x (length a) refl) ∙ ap (take (length a)) e ∙ take_at b y (length a) (sym size) in
     (m_is, a_is, append_cancel_left a x y (e ∙ ap (λ (f : List ℕ). f ++ y) (sym a_is)))
-
-one_check : (total a b : ℕ) → a < 256 → b < 256 → (total + a) % 256 ≡ 0 → (total + b) % 256 ≡ 0 → a ≡ b
-one_check total a b a_fits b_fits p q = omega arith
-
--- a message has one spelling
-pub one_spelling : (m : Content) (a b : List ℕ) → Spells m a → Spells m b → a ≡ b
-one_spelling ack a b s t = s ∙ sym t
-one_spelling (nak byte) a b s t = s.1 ∙ sym t.1
-one_spelling (framed kind unit code rest) a b s t =
-    let total : ℕ = 16 * kind + unit + code + sum rest in
-    let same : s.check ≡ t.check = one_check total s.check t.check s.byte t.byte s.adds_up t.adds_up in
-    s.spelt ∙ ap (λ (c : ℕ). 2 ∷ (length rest + 2) ∷ (16 * kind + unit) ∷ code ∷ (rest ++ c ∷ [])) same ∙ sym t.spelt
 
 -- what fits is spelt by its spelling
 pub Spells-spelling : (m : Content) → Fits m → Spells m (spelling m)
@@ -271,11 +259,6 @@ module _ (limit : ℕ) (burst : List ℕ) (from : ℕ) (within : from ≤ limit)
   )
 
 -- ---- spellings
-
-pub fits-from_spelt : (m : Content) (bytes : List ℕ) → Spells m bytes → Fits m
-fits-from_spelt ack bytes s = tt
-fits-from_spelt (nak byte) bytes s = s.0
-fits-from_spelt (framed kind unit code rest) bytes s = s.fits
 
 -- ---- written messages are read again
 

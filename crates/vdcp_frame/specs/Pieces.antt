@@ -1,11 +1,11 @@
 -- A burst that is fed in pieces: the calls, and what they give.
-use Rattle.std.specs.Prelude.{ℕ, ◌≡◌, List, [], ◌∷◌, Option, Some, None, drop, unwrap_or}
+use Rattle.std.specs.Prelude.{ℕ, ◌≡◌, ◌<◌, List, [], ◌∷◌, ◌++◌, Option, Some, None, length, take, drop, unwrap_or}
 use Rattle.vdcp_frame.specs.declared.got.Ended.{Ended}
 use Rattle.vdcp_frame.specs.declared.got.Ended.TheVariants as silence
 use Rattle.vdcp_frame.specs.Message.{Content}
 use Rattle.vdcp_frame.specs.Reading.{End, clean, cut, fault}
 use Rattle.vdcp_frame.specs.Progress.{Progress}
-use Rattle.vdcp_frame.specs.Reader.{Answer, message, more, wrong, Gives, fed}
+use Rattle.vdcp_frame.specs.Reader.{Answer, message, more, wrong, Gives, fed, Follows}
 
 -- one call of feed: how many bytes it took, and its answer
 pub record Call : Type 0 where
@@ -32,6 +32,22 @@ abbrev pub with_message : Answer → List Content → List Content
 with_message (message m) ms = m ∷ ms
 with_message more ms = ms
 with_message (wrong which place) ms = ms
+
+-- a call of next took the front of a piece and left these bytes of it: the call of feed that it is, and what
+-- the burst's messages are with it
+pub record ReadsOn (old : Progress) (piece : List ℕ) (answer : Answer) (left : List ℕ) (new : Progress) : Type 0 where
+  pub count : ℕ
+  pub gives : Gives old piece count answer
+  pub after : new ≡ fed old piece count answer
+  pub leaves : left ≡ drop count piece
+  pub follows : (burst : List ℕ) (ms : List Content) → Follows burst ms old →
+      Follows (burst ++ take count piece) (ms ++ with_message answer []) new
+
+-- a message and a fault take some bytes, and nothing is left where neither came
+abbrev pub GoesOn : Answer → List ℕ → List ℕ → Type 0
+GoesOn (message m) piece left = length left < length piece
+GoesOn more piece left = left ≡ []
+GoesOn (wrong which place) piece left = length left < length piece
 
 abbrev pub messages_given : List Call → List Content
 messages_given [] = []

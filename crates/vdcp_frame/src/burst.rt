@@ -26,9 +26,9 @@ pub enum Step<'a> {
 }
 
 /// Reads the message that begins after the first `from` bytes of a burst, in VDCP's message format,
-/// or how the burst ends there. Those bytes, 4,096 at most, are whole messages: so they are for 0,
-/// and for each number that came with a message. Any other bytes are read, and refused where they
-/// are no messages.
+/// or how the burst ends there. Those bytes, 4,096 at most, have to be whole messages: so they are
+/// for 0, and for each number that came with a message. Any other bytes are read, and refused where
+/// they are no messages.
 pub fn read_at(burst: &[u8], from: usize) -> Step<'_>
     requires limit { from ≤ LIMIT }
     requires within { from ≤ length burst.now }

@@ -1,4 +1,5 @@
-ghost use Rattle.std.specs.Prelude.{◌≡◌, ◌*◌, ◌<◌, ◌≤◌, ℕ, length, sum, take};
+ghost use Rattle.vdcp_frame.specs.Message as spelt;
+ghost use Rattle.std.specs.Prelude.{◌≡◌, ◌+◌, ◌*◌, ◌<◌, ◌≤◌, ℕ, length, sum, take};
 
 use crate::message::{Fault, Message};
 
@@ -95,8 +96,7 @@ impl Head<'_> {
         match bytes {
             [address, code, tail @ ..] if size < tail.len() => {
                 let rest = &tail[..size];
-                let total = *address as u32 + *code as u32 + total_of(rest) + tail[size] as u32;
-                if total % 256 == 0 {
+                if tail[size] == check_byte(*address, *code, rest) {
                     let message = Message::Framed {
                         kind: *address / 16,
                         unit: *address % 16,
@@ -113,8 +113,17 @@ impl Head<'_> {
     }
 }
 
-/// The sum of at most 256 bytes.
-pub(crate) fn total_of(bytes: &[u8]) -> u32
+/// The checksum of a frame: the byte that brings the sum of CMD-1, CMD-2 and the data to 0 modulo 256.
+pub(crate) fn check_byte(address: u8, code: u8, rest: &[u8]) -> u8
+    requires { length rest.now ≤ 253 }
+    ensures { result ≡ spelt.check_byte (address + code + sum rest.now) }
+{
+    let total = u32::from(address) + u32::from(code) + total_of(rest);
+    ((256 - total % 256) % 256) as u8
+}
+
+// The sum of at most 256 bytes.
+fn total_of(bytes: &[u8]) -> u32
     requires { length bytes.now ≤ 256 }
     ensures total { result ≡ sum bytes.now }
     ensures bound { result ≤ 255 * length bytes.now }

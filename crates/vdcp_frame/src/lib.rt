@@ -17,15 +17,19 @@
 //!
 //! ```text
 //! for each piece that comes {
-//!     let mut at = 0;
-//!     while at < piece.len() {
-//!         let (taken, got) = reader.feed(&piece[at..]);
-//!         use the message or the fault in `got`;
-//!         at += taken;
+//!     let mut rest = piece;
+//!     loop {
+//!         match reader.next(&mut rest) {
+//!             Got::Message(message) => use the message,
+//!             Got::Fault(fault, place) => use the fault,
+//!             Got::More => break,
+//!         }
 //!     }
 //! }
 //! at a silence: reader.silence()
 //! ```
+//!
+//! `feed` is one step of it, for a caller that keeps its place in the piece itself.
 //!
 //! `write` appends a message's spelling to a buffer. Nothing here allocates: a message borrows its
 //! data from the burst, or from the reader's buffer.

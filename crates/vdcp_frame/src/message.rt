@@ -27,6 +27,6 @@ pub enum Fault {
     BadCount(u8),
     /// The bytes from CMD-1 to the checksum don't add up to 0 modulo 256.
     BadSum,
-    /// The burst has more than 4,096 bytes, and no fault among these.
+    /// No fault stands among the burst's first 4,096 bytes, and it has more.
     Long,
 }

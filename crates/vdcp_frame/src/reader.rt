@@ -5,6 +5,7 @@ ghost use Rattle.vdcp_frame.specs.Place.{Fills, looked_at};
 ghost use Rattle.vdcp_frame.specs.Progress.{Progress, reading};
 ghost use Rattle.vdcp_frame.specs.declared.reader.Place.TheVariants as places;
 ghost use Rattle.vdcp_frame.specs.Reader.{answer_of, Gives, fed, ended_of, Follows, FollowsNext, ReadsAs};
+ghost use Rattle.vdcp_frame.specs.Pieces.{ReadsOn, GoesOn};
 
 use crate::burst::LIMIT;
 use crate::got::{Ended, Got};
@@ -14,8 +15,8 @@ use std::marker::Model;
 
 /// Reads a burst that comes in pieces.
 ///
-/// The caller passes each piece to `feed`, again from after the bytes that a call took, until all
-/// are taken, and calls `silence` at each silence.
+/// The caller passes each piece to `next`, until that says that none of it is left, and calls `silence` at each
+/// silence. `feed` is one such call, for a caller that keeps its place itself.
 #[derive(Drop)]
 pub struct Reader {
     place: Place,
@@ -77,7 +78,7 @@ impl Reader {
     ghost use Rattle.std.specs.Prelude.{⊤};
     ghost use Rattle.vdcp_frame.specs.contracts.reader.Reader.{the_row};
 
-    /// Takes bytes of the burst up to the end of one message or one fault, or else all of them, and
+    /// Takes bytes of the burst until one message or one fault has ended, or else all of them, and
     /// says how many it took. After a fault it takes all and reads nothing.
     pub fn feed(&mut self, piece: &[u8]) -> (usize, Got<'_>)
         ensures within { result.0 ≤ length piece.now }
@@ -120,6 +121,20 @@ impl Reader {
                 (count + 1, Got::Fault(Fault::Long, LIMIT + 1))
             }
         }
+    }
+
+    /// Reads on in a piece: takes bytes from the front of `rest`, up to the end of one message or one fault, or
+    /// else all of them, and leaves those after them there. `More` says that none is left.
+    pub fn next(&mut self, rest: &mut &[u8]) -> Got<'_>
+        ensures shorter { GoesOn (answer_of result) rest.old.now rest.new.now }
+        // What is taken and given, and where the reader is then.
+        ensures* reads { sem 𝓛 (follows_so the_row the_row self.entry.ghost_name none (λ _ _. ⊤)
+            (λ new. ReadsOn self.old rest.old.now (answer_of result) rest.new.now new)) }
+    {
+        let piece = *rest;
+        let (taken, got) = self.feed(piece);
+        *rest = &piece[taken..];
+        got
     }
 
     /// The burst ends here; the next byte begins a new one.

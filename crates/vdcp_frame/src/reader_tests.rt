@@ -88,12 +88,11 @@ struct Expected<'a> {
     failed: bool,
 }
 
-// Feeds a piece to its end; each message and fault that comes is the next one expected.
-fn feed_to_end(rt: &impl Abort, reader: &mut Reader, piece: &[u8], expected: &mut Expected) {
-    let mut at = 0;
-    'piece: while at < piece.len() {
-        let (taken, got) = reader.feed(&piece[at..]);
-        match got {
+// Reads a piece to its end; each message and fault that comes is the next one expected.
+fn read_to_end(rt: &impl Abort, reader: &mut Reader, piece: &[u8], expected: &mut Expected) {
+    let mut rest = piece;
+    'piece: loop {
+        match reader.next(&mut rest) {
             Got::Message(message) => {
                 assert_eq!(rt;
                     Some(&message),
@@ -103,13 +102,12 @@ fn feed_to_end(rt: &impl Abort, reader: &mut Reader, piece: &[u8], expected: &mu
                 assert!(rt; expected.given < expected.messages.len());
                 expected.given += 1;
             }
-            Got::More => {}
+            Got::More => return,
             Got::Fault(fault, place) => {
                 assert_eq!(rt; Step::Fault(fault, place), expected.end, "in {piece:?}");
                 expected.failed = true;
             }
         }
-        at += taken;
     }
 }
 
@@ -152,9 +150,9 @@ pub(crate) fn read_next(
         failed: false,
     };
     let (first, left) = burst.split_at(cut.min(burst.len()));
-    feed_to_end(rt, reader, first, &mut expected);
+    read_to_end(rt, reader, first, &mut expected);
     for piece in left.chunks(step.max(1)) {
-        feed_to_end(rt, reader, piece, &mut expected);
+        read_to_end(rt, reader, piece, &mut expected);
     }
     end_burst(rt, reader, &expected);
 }
@@ -204,6 +202,23 @@ fn pieces_read_as_the_whole(rt: HostRuntime) -> Result<(), Fail> {
 }
 
 #[test]
+fn a_piece_is_read_message_by_message(rt: HostRuntime) {
+    let mut reader = Reader::new();
+    let mut rest: &[u8] = &[0x04, 0x05, 0x80, 0x02, 0x02];
+    assert_eq!(rt; reader.next(&mut rest), Got::Message(Message::Ack));
+    assert_eq!(rt; rest, [0x05, 0x80, 0x02, 0x02].as_slice());
+    assert_eq!(rt; reader.next(&mut rest), Got::Message(Message::Nak(0x80)));
+    assert_eq!(rt; reader.next(&mut rest), Got::More);
+    assert!(rt; rest.is_empty());
+    rest = &[0x10, 0x00, 0x04, 0x04];
+    assert_eq!(rt; reader.next(&mut rest), Got::Fault(Fault::BadSum, 8));
+    assert_eq!(rt; rest, [0x04].as_slice());
+    assert_eq!(rt; reader.next(&mut rest), Got::More);
+    assert!(rt; rest.is_empty());
+    assert_eq!(rt; reader.silence(), Ended::AfterFault);
+}
+
+#[test]
 fn after_a_fault_all_is_taken_until_the_silence(rt: HostRuntime) {
     let mut reader = Reader::new();
     assert_eq!(rt;
@@ -216,7 +231,7 @@ fn after_a_fault_all_is_taken_until_the_silence(rt: HostRuntime) {
     assert_eq!(rt; reader.silence(), Ended::Clean);
 }
 
-// By `read_at`, and by `feed` byte by byte.
+// By `read_at`, and by a reader byte by byte.
 pub(crate) fn is_read_as(
     rt: &impl Abort,
     alloc: Global,

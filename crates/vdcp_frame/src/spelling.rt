@@ -2,7 +2,7 @@ ghost use Rattle.std.specs.Prelude.{◌≡◌, ◌+◌, ◌*◌, ◌<◌, ◌≤
 ghost use Rattle.arrayvec.specs.ArrayVec.{array_vec_len};
 ghost use Rattle.vdcp_frame.specs.Message.{content_of, FitsFrame, IsWritable, Spells, spelling, frame_spelling};
 
-use crate::head::{ACK, FRAME, NAK, total_of};
+use crate::head::{ACK, FRAME, NAK, check_byte};
 use crate::message::Message;
 use arrayvec::ArrayVec;
 use thiserror::Error;
@@ -13,13 +13,12 @@ use thiserror::Error;
 pub struct Full;
 
 /// Appends a message's spelling in VDCP's message format. Kind and unit are at most 15, and the data
-/// at most 253 bytes. `Full` where the buffer's 512 bytes have no room for it; the buffer then stays
-/// as it was.
-pub fn write(message: &Message, out: &mut ArrayVec<u8, 512>) -> Result<(), Full>
+/// at most 253 bytes. `Full` where the buffer has no room for it; the buffer then stays as it was.
+pub fn write<const N: usize>(message: &Message, out: &mut ArrayVec<u8, N>) -> Result<(), Full>
     requires { IsWritable (content_of message.now) }
     ensures spelt { Spells (content_of message.now) (spelling (content_of message.now)) }
     ensures ok { OnOk result (out.new.items ≡ out.old.items ++ spelling (content_of message.now)) }
-    ensures full { IsOk result ↔ (array_vec_len out.old + length (spelling (content_of message.now)) ≤ 512) }
+    ensures full { IsOk result ↔ (array_vec_len out.old + length (spelling (content_of message.now)) ≤ N) }
     ensures err { OnErr result (out.new ≡ out.old) }
 {
     match message {
@@ -34,30 +33,28 @@ pub fn write(message: &Message, out: &mut ArrayVec<u8, 512>) -> Result<(), Full>
     }
 }
 
-fn write_frame(
+fn write_frame<const N: usize>(
     kind: u8,
     unit: u8,
     code: u8,
     rest: &[u8],
-    out: &mut ArrayVec<u8, 512>,
+    out: &mut ArrayVec<u8, N>,
 ) -> Result<(), Full>
     requires kind { kind < 16 }
     requires unit { unit < 16 }
     requires size { length rest.now ≤ 253 }
     ensures fits { FitsFrame kind unit code rest.now }
     ensures ok { OnOk result (out.new.items ≡ out.old.items ++ frame_spelling (16 * kind + unit) code rest.now) }
-    ensures full { IsOk result ↔ (array_vec_len out.old + (length rest.now + 5) ≤ 512) }
+    ensures full { IsOk result ↔ (array_vec_len out.old + (length rest.now + 5) ≤ N) }
     ensures err { OnErr result (out.new ≡ out.old) }
 {
     if out.remaining_capacity() < rest.len() + 5 {
         return Err(Full);
     }
     let address = 16 * kind + unit;
-    let total = u32::from(address) + u32::from(code) + total_of(rest);
-    let check = (256 - total % 256) % 256;
     out.try_extend_from_slice(&[FRAME, rest.len() as u8 + 2, address, code])
         .unwrap();
     out.try_extend_from_slice(rest).unwrap();
-    out.push(check as u8);
+    out.push(check_byte(address, code, rest));
     Ok(())
 }

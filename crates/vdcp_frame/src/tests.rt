@@ -279,7 +279,7 @@ fn the_largest_message_is_written_and_read(rt: HostRuntime) {
         code: 0x00,
         rest: &[0; 253],
     };
-    let mut out = ArrayVec::new();
+    let mut out = ArrayVec::<u8, 512>::new();
     assert_eq!(rt; write(&largest, &mut out), Ok(()));
     assert_eq!(rt; out.len(), 258);
     assert_eq!(rt; &out.as_slice()[..4], [0x02, 0xFF, 0x70, 0x00].as_slice());

@@ -1,11 +1,11 @@
-ghost use Rattle.std.specs.Prelude.{◌≡◌, ◌≤◌, ◌∷◌, [], length, take, IfSome, IfNone};
+ghost use Rattle.std.specs.Prelude.{◌≡◌, ◌≤◌, ◌∷◌, [], length, take, IfSome, IfNone, IfOk, OnErr, IfErr};
 ghost use Rattle.vdcp_frame.specs.Burst.{messages_of, end_of};
 ghost use Rattle.vdcp_frame.specs.Message.{content_of};
 ghost use Rattle.vdcp_frame.specs.Reader.{IsEnd};
-ghost use Rattle.vdcp_frame.specs.Reading.{SpellsAll, AreMessages};
+ghost use Rattle.vdcp_frame.specs.Reading.{SpellsAll};
 ghost use Rattle.vdcp_frame.specs.Walk.{Walk, coming, end_seen};
 
-use crate::burst::{LIMIT, Step, read_at};
+use crate::burst::{Step, read_at};
 use crate::got::Ended;
 use crate::message::{Fault, Message};
 use std::marker::Model;
@@ -39,16 +39,21 @@ impl End {
 pub struct Messages<'a> {
     burst: &'a [u8],
     place: usize,
+    // None until it's come upon.
+    end: Option<End>,
 }
 
 impl<'a> Model for Messages<'a> {
-    ghost use Rattle.vdcp_frame.specs.Walk.{Walk, IsWalk};
+    ghost use Rattle.std.specs.Prelude.{◌≡◌, IfSome};
+    ghost use Rattle.vdcp_frame.specs.Burst.{end_of};
+    ghost use Rattle.vdcp_frame.specs.Walk.{Walk, IsWalk, end_seen};
 
     ghost Value = { Walk };
 
     ghost view = { λ m. record { burst = m.burst.now; place = m.place } };
 
-    ghost invariant = { λ m. IsWalk (record { burst = m.burst.now; place = m.place }) };
+    ghost invariant = { λ m. IsWalk (record { burst = m.burst.now; place = m.place })
+        × IfSome m.end (λ end. end_seen end ≡ end_of m.burst.now) };
 }
 
 impl<'a> Messages<'a> {
@@ -57,7 +62,11 @@ impl<'a> Messages<'a> {
         ensures burst { result.burst ≡ burst.now }
         ensures all { coming result ≡ messages_of burst.now }
     {
-        Messages { burst, place: 0 }
+        Messages {
+            burst,
+            place: 0,
+            end: None,
+        }
     }
 
     /// The next message, or none where the burst has no more.
@@ -67,39 +76,45 @@ impl<'a> Messages<'a> {
         ensures rest { IfNone result (self.new ≡ self.old) }
         ensures burst { self.new.burst ≡ self.old.burst }
     {
-        match read_at(self.burst, self.place) {
-            Step::Message(message, next) => {
-                self.place = next;
-                Some(message)
+        match self.step() {
+            Ok(message) => Some(message),
+            Err(end) => {
+                self.end = Some(end);
+                None
             }
-            Step::Clean => None,
-            Step::Cut(_) => None,
-            Step::Fault(_, _) => None,
         }
     }
 
     /// How the burst ends, whatever messages are left.
-    pub fn end(self) -> End
+    pub fn end(mut self) -> End
         ensures { end_seen result ≡ end_of self.entry.burst }
     {
-        end_after(self.burst, self.place)
+        if let Some(end) = self.end {
+            return end;
+        }
+        'messages: loop {
+            if let Err(end) = self.step() {
+                return end;
+            }
+        }
     }
-}
 
-// The end of a burst of which the first `from` bytes are whole messages.
-fn end_after(burst: &[u8], from: usize) -> End
-    requires limit { from ≤ LIMIT }
-    requires within { from ≤ length burst.now }
-    requires whole { AreMessages (take from burst.now) }
-    ensures { end_seen result ≡ end_of burst.now }
-{
-    let mut place = from;
-    'messages: loop {
-        match read_at(burst, place) {
-            Step::Message(_, next) => place = next,
-            Step::Clean => return End::Clean,
-            Step::Cut(count) => return End::Cut(count),
-            Step::Fault(fault, place) => return End::Fault(fault, place),
+    // The next message, or else how the burst ends.
+    fn step(&mut self) -> Result<Message<'a>, End>
+        ensures some { IfOk result (λ m. coming self.old ≡ content_of m ∷ coming self.new) }
+        ensures none { OnErr result (coming self.old ≡ []) }
+        ensures end { IfErr result (λ end. end_seen end ≡ end_of self.old.burst) }
+        ensures rest { OnErr result (self.new ≡ self.old) }
+        ensures burst { self.new.burst ≡ self.old.burst }
+    {
+        match read_at(self.burst, self.place) {
+            Step::Message(message, next) => {
+                self.place = next;
+                Ok(message)
+            }
+            Step::Clean => Err(End::Clean),
+            Step::Cut(count) => Err(End::Cut(count)),
+            Step::Fault(fault, place) => Err(End::Fault(fault, place)),
         }
     }
 }

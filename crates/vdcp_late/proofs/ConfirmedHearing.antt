@@ -279,8 +279,11 @@ lost_cue : (list : List Item) (clips : List (ClipId × Timecode)) (settled : ℕ
     (k : ℕ) (again : Bool) → Here list settled s a aired ups downs (phase.Wait k)
     → Leads list clips settled s a aired ups downs (if again then Retries k else Ends (outcome.Refused k))
 lost_cue list clips settled s a aired ups downs k true h = h
-lost_cue list clips settled s a aired ups downs k false h =
-    secure_in list settled s a aired ups downs (phase.Wait k) h.0 h.1
+lost_cue list clips settled s a aired ups downs k false h = (
+  h.0.at,
+  no_plays Confirming (length list) (5 * k + 2) (5 * k + 4) ups downs
+      (quiet Confirming (length list) k (5 * k + 2) (5 * k + 4) (omega arith) (omega arith)) h.1,
+)
 
 from_wait : (list : List Item) (clips : List (ClipId × Timecode)) (settled : ℕ) (s : Bool) (a : Cued)
     (aired : List Item) (x : Answer) (ups : List Answer)

@@ -38,6 +38,8 @@ SpotEnded list clips settled a aired downs outcome.Done =
 SpotEnded list clips settled a aired downs (outcome.Missing k) =
     At list aired settled k × (list_any plays downs ≡ false) × (k < length list) ×
     (knows clips (slice_get list k) ≡ false)
+SpotEnded list clips settled a aired downs (outcome.Refused k) =
+    At list aired settled k × (list_any plays downs ≡ false)
 SpotEnded list clips settled a aired downs _ = Secure list settled a aired downs
 
 abbrev pub SpotAt : List Item → List (ClipId × Timecode) → ℕ → Bool → Cued → List Item → List Answer → List Phase
@@ -219,8 +221,7 @@ ended_thins list clips settled a aired downs left (outcome.Missing k) d h =
 ended_thins list clips settled a aired downs left outcome.Stopped d h = secure_thins list settled a aired downs left d h
 ended_thins list clips settled a aired downs left outcome.Lost d h = secure_thins list settled a aired downs left d h
 ended_thins list clips settled a aired downs left outcome.Denied d h = secure_thins list settled a aired downs left d h
-ended_thins list clips settled a aired downs left (outcome.Refused k) d h =
-    secure_thins list settled a aired downs left d h
+ended_thins list clips settled a aired downs left (outcome.Refused k) d h = (h.0, none_thins plays downs left d h.1)
 ended_thins list clips settled a aired downs left (outcome.Foreign k) d h =
     secure_thins list settled a aired downs left d h
 ended_thins list clips settled a aired downs left (outcome.Strange k) d h =
@@ -261,8 +262,7 @@ ended_ages list clips settled s a t b aired downs (outcome.Missing k) g h = h
 ended_ages list clips settled s a t b aired downs outcome.Stopped g h = secure_ages list settled s a t b aired downs g h
 ended_ages list clips settled s a t b aired downs outcome.Lost g h = secure_ages list settled s a t b aired downs g h
 ended_ages list clips settled s a t b aired downs outcome.Denied g h = secure_ages list settled s a t b aired downs g h
-ended_ages list clips settled s a t b aired downs (outcome.Refused k) g h =
-    secure_ages list settled s a t b aired downs g h
+ended_ages list clips settled s a t b aired downs (outcome.Refused k) g h = h
 ended_ages list clips settled s a t b aired downs (outcome.Foreign k) g h =
     secure_ages list settled s a t b aired downs g h
 ended_ages list clips settled s a t b aired downs (outcome.Strange k) g h =
@@ -473,8 +473,10 @@ ended_keeps list clips settled s a aired d downs outcome.Lost r t b airs h x =
     secure_keeps list settled s a aired d downs r t b airs h x
 ended_keeps list clips settled s a aired d downs outcome.Denied r t b airs h x =
     secure_keeps list settled s a aired d downs r t b airs h x
-ended_keeps list clips settled s a aired d downs (outcome.Refused k) r t b airs h x =
-    secure_keeps list settled s a aired d downs r t b airs h x
+ended_keeps list clips settled s a aired d downs (outcome.Refused k) r t b airs h x = (
+  quiet_keeps list settled s a aired d k r t b airs (left_of (plays d) (list_any plays downs) h.1) h.0 x,
+  right_of (plays d) (list_any plays downs) h.1,
+)
 ended_keeps list clips settled s a aired d downs (outcome.Foreign k) r t b airs h x =
     secure_keeps list settled s a aired d downs r t b airs h x
 ended_keeps list clips settled s a aired d downs (outcome.Strange k) r t b airs h x =
@@ -531,7 +533,7 @@ ended_copied list clips settled a aired d downs (outcome.Missing k) h = (h.0, no
 ended_copied list clips settled a aired d downs outcome.Stopped h = secure_copied list settled a aired d downs h
 ended_copied list clips settled a aired d downs outcome.Lost h = secure_copied list settled a aired d downs h
 ended_copied list clips settled a aired d downs outcome.Denied h = secure_copied list settled a aired d downs h
-ended_copied list clips settled a aired d downs (outcome.Refused k) h = secure_copied list settled a aired d downs h
+ended_copied list clips settled a aired d downs (outcome.Refused k) h = (h.0, none_copied plays d downs h.1)
 ended_copied list clips settled a aired d downs (outcome.Foreign k) h = secure_copied list settled a aired d downs h
 ended_copied list clips settled a aired d downs (outcome.Strange k) h = secure_copied list settled a aired d downs h
 

@@ -154,6 +154,8 @@ make_stays c event.Take = refl
 make_stays c event.Stop = refl
 make_stays c event.ServerAnew = refl
 make_stays c event.AutomationAnew = refl
+make_stays c event.StrayAck = refl
+make_stays c (event.StrayNak byte) = refl
 
 pub make_after_all : (c : LateChannel) (es : List LateEvent)
     → late_make_of (after_late_events c es) ≡ late_make_of c

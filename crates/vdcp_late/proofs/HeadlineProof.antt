@@ -26,22 +26,28 @@ use Rattle.vdcp_late.proofs.Places.{At, Near}
 use Rattle.vdcp_late.proofs.Safety.{taken}
 use Rattle.vdcp_late.proofs.Standing.{knows}
 
--- what an end says of the clips that went to air
-abbrev pub EndHolds : List Item → List (ClipId × Timecode) → List Item → ℕ → Outcome → Type 0
-EndHolds list clips aired settled outcome.Done = At list aired settled (length list)
-EndHolds list clips aired settled (outcome.Missing k) =
-    At list aired settled k × (k < length list) × (knows clips (slice_get list k) ≡ false)
-EndHolds list clips aired settled _ = Unit {0}
+-- a refusal in confirm mode is of a cue that was tried too often
+abbrev pub RefusalHolds : Mode → List Item → List Item → ℕ → ℕ → Type 0
+RefusalHolds Plain list aired settled k = Unit {0}
+RefusalHolds Confirming list aired settled k = At list aired settled k
 
-abbrev pub EndHoldsAt : List Item → List (ClipId × Timecode) → List Item → ℕ → Stage → Type 0
-EndHoldsAt list clips aired settled (Ended o) = EndHolds list clips aired settled o
-EndHoldsAt list clips aired settled _ = Unit {0}
+-- what an end says of the clips that went to air
+abbrev pub EndHolds : Mode → List Item → List (ClipId × Timecode) → List Item → ℕ → Outcome → Type 0
+EndHolds mode list clips aired settled outcome.Done = At list aired settled (length list)
+EndHolds mode list clips aired settled (outcome.Missing k) =
+    At list aired settled k × (k < length list) × (knows clips (slice_get list k) ≡ false)
+EndHolds mode list clips aired settled (outcome.Refused k) = RefusalHolds mode list aired settled k
+EndHolds mode list clips aired settled _ = Unit {0}
+
+abbrev pub EndHoldsAt : Mode → List Item → List (ClipId × Timecode) → List Item → ℕ → Stage → Type 0
+EndHoldsAt mode list clips aired settled (Ended o) = EndHolds mode list clips aired settled o
+EndHoldsAt mode list clips aired settled _ = Unit {0}
 
 -- what a channel's clips have to keep
-pub record Airs (list : List Item) (clips : List (ClipId × Timecode)) (aired : List Item) (settled : ℕ)
+pub record Airs (mode : Mode) (list : List Item) (clips : List (ClipId × Timecode)) (aired : List Item) (settled : ℕ)
     (stage : Stage) : Type 0 where
   pub near : Near list aired settled
-  pub end_holds : EndHoldsAt list clips aired settled stage
+  pub end_holds : EndHoldsAt mode list clips aired settled stage
 
 -- ---- lists
 
@@ -86,13 +92,15 @@ exactly plan aired log reported k a counted = record {
   reported_count = sym counted ∙ a.settled_is;
 }
 
-refused_in : (mode : Mode) (plan : Plan) (log : List Exchange) (k : ℕ)
+refused_in : (mode : Mode) (plan : Plan) (aired : List Item) (log : List Exchange) (reported k : ℕ)
+    → RefusalHolds mode plan.list aired reported k → reported ≡ settled plan.mode log
     → (mode ≡ Confirming → IsRefused plan.list plan.limit log k)
-    → IsLateRefused mode plan log k
-refused_in Plain plan log k by_log = tt
-refused_in Confirming plan log k by_log = by_log refl
+    → IsLateRefused mode plan aired log k
+refused_in Plain plan aired log reported k h counted by_log = tt
+refused_in Confirming plan aired log reported k h counted by_log =
+    (by_log refl, exactly plan aired log reported k h counted)
 
-means : (c : LateChannel) (o : Outcome) → EndHolds c.plan.list c.port.clips c.aired c.state.settled o
+means : (c : LateChannel) (o : Outcome) → EndHolds c.plan.mode c.plan.list c.port.clips c.aired c.state.settled o
     → IsLawful c.plan c.state c.log
     → outcome_of c.state.stage ≡ Some o → LateMeans c.port.clips c.plan c.aired c.log o
 means c outcome.Done h l e = (
@@ -108,19 +116,20 @@ means c (outcome.Missing k) h l e = (
   exactly c.plan c.aired c.log
       c.state.settled k h.0 l.is_settled,
 )
-means c (outcome.Refused k) h l e = refused_in c.plan.mode c.plan c.log k (λ confirms. l.is_refused confirms k e)
+means c (outcome.Refused k) h l e = refused_in c.plan.mode c.plan c.aired c.log c.state.settled k h l.is_settled
+    (λ confirms. l.is_refused confirms k e)
 means c (outcome.Foreign k) h l e = tt
 means c (outcome.Strange k) h l e = tt
 
 means_at : (c : LateChannel) (stage : Stage) → c.state.stage ≡ stage
-    → EndHoldsAt c.plan.list c.port.clips c.aired c.state.settled stage
+    → EndHoldsAt c.plan.mode c.plan.list c.port.clips c.aired c.state.settled stage
     → IsLawful c.plan c.state c.log
     → IfSome (outcome_of stage) (LateMeans c.port.clips c.plan c.aired c.log)
 means_at c (Ready q) e h l = tt
 means_at c (Awaiting q) e h l = tt
 means_at c (Ended o) e h l = means c o h l (ap outcome_of e)
 
-pub headline : (c : LateChannel) → Airs c.plan.list c.port.clips c.aired c.state.settled c.state.stage
+pub headline : (c : LateChannel) → Airs c.plan.mode c.plan.list c.port.clips c.aired c.state.settled c.state.stage
     → IsLawful c.plan c.state c.log → LateHeadline c
 headline c a l = record {
   beginning = begins c.plan.list c.aired c.state.settled a.near;

@@ -215,25 +215,13 @@ joins_alter_up c bytes true e = by (lets c.plan.mode c.port.state.unit c.up byte
         (or_second (is_beginning (messages_of bytes) (messages_of c.up))
         (is_junk_up c.plan.mode c.port.state.unit bytes) junk) (λ none. junk)
 
--- ---- time-outs and receipts from nowhere
+-- ---- time-outs
 
 joins_timeout : (c : Channel) (down up : List ℕ)
     → Joins (record c { down = down; up = up }) (after_event (record c { down = down; up = up }) was.Timeout)
 joins_timeout c [] [] = (late.Timeout ∷ [], refl)
 joins_timeout c [] (byte ∷ up) = ([], refl)
 joins_timeout c (byte ∷ down) up = ([], refl)
-
-abbrev in_mode : Channel → Mode → Channel
-in_mode c mode = record c { plan = record c.plan { mode = mode } }
-
-joins_ack : (c : Channel) (mode : Mode) → Joins (in_mode c mode) (after_event (in_mode c mode) was.StrayAck)
-joins_ack c Plain = ([], refl)
-joins_ack c Confirming = (late.JunkUp 0 (0x04 ∷ []) ∷ late.Up ∷ [], refl)
-
-joins_nak : (c : Channel) (mode : Mode) (byte : ℕ)
-    → Joins (in_mode c mode) (after_event (in_mode c mode) (was.StrayNak byte))
-joins_nak c Plain byte = ([], refl)
-joins_nak c Confirming byte = (late.JunkUp 0 (0x05 ∷ byte ∷ []) ∷ late.Up ∷ [], refl)
 
 pub joins : (c : Channel) (e : Event) → (events : List LateEvent) ×
     (after_late_events (late_of c) events ≡ late_of (after_event c e))
@@ -252,8 +240,8 @@ joins c was.End = (late.End ∷ [], refl)
 joins c was.Frame = (late.Frame ∷ [], refl)
 joins c was.Take = (late.Take ∷ [], refl)
 joins c was.Stop = (late.Stop ∷ [], refl)
-joins c was.StrayAck = joins_ack c c.plan.mode
-joins c (was.StrayNak byte) = joins_nak c c.plan.mode byte
+joins c was.StrayAck = (late.StrayAck ∷ [], refl)
+joins c (was.StrayNak byte) = (late.StrayNak byte ∷ [], refl)
 
 -- ---- whole runs
 

@@ -31,7 +31,7 @@ use Rattle.vdcp_auto.specs.State.{Ready, Awaiting, Ended}
 use Rattle.vdcp_auto.specs.State.{State}
 use Rattle.vdcp_world.specs.Beginnings.{is_beginning}
 use Rattle.vdcp_late.specs.Damage.{can_become, can_become_up, is_junk_down, is_junk_up, is_no_answer, with_damage, with_junk}
-use Rattle.vdcp_late.specs.LateChannel.{LateChannel, after_late_event, without_oldest, oldest, command_bursts, bursts_of, state_hearing, made_anew}
+use Rattle.vdcp_late.specs.LateChannel.{LateChannel, after_late_event, without_oldest, oldest, command_bursts, bursts_of, made_anew}
 use Rattle.vdcp_late.specs.declared.event.LateEvent.{LateEvent}
 use Rattle.vdcp_late.specs.declared.event.LateEvent.TheVariants as event
 use Rattle.vdcp_late.proofs.Beginnings.{is_beginning_of}

@@ -9,10 +9,13 @@ use Rattle.vdcp_frame.specs.Burst.{messages_of}
 use Rattle.vdcp_frame.specs.Message.{Content, spelling}
 use Rattle.vdcp_words.specs.Commands.{command_message, IsWritableCommand}
 use Rattle.vdcp_words.specs.declared.command.Command.{Command}
+use Rattle.vdcp_words.specs.declared.reply.Reply.{Reply}
+use Rattle.vdcp_words.specs.declared.reply.Reply.TheVariants.{Ack, Nak}
 use Rattle.vdcp_port.specs.Answers.{sent_for, aired_for, after_burst}
 use Rattle.vdcp_port.specs.Clock.{ClockedPort, after_ready, after_ended, after_frame, counted_down, completes_cue, ends_clip}
 use Rattle.vdcp_port.specs.Port.{PortState, Cued, is_selected, ready_state, ended_state}
 use Rattle.vdcp_auto.specs.Heard.{heard_in, heard_first}
+use Rattle.vdcp_auto.specs.Replies.{is_receipt}
 use Rattle.vdcp_auto.specs.Plan.{Plan}
 use Rattle.vdcp_auto.specs.Table.{command_in}
 use Rattle.vdcp_auto.specs.Turn.{given, given_in, ticked, tick_in, taken, stopped, came_to, phase_to_send}
@@ -26,8 +29,9 @@ use Rattle.vdcp_auto.specs.State.{Stage}
 use Rattle.vdcp_auto.specs.State.{Ready, Awaiting, Ended}
 use Rattle.vdcp_auto.specs.State.{State}
 use Rattle.vdcp_world.specs.Beginnings.{is_beginning}
+use Rattle.vdcp_world.specs.Channel.{state_hearing, log_hearing, state_straying}
 use Rattle.vdcp_late.specs.Damage.{can_become, can_become_up, is_junk_down, is_junk_up, is_no_answer}
-use Rattle.vdcp_late.specs.LateChannel.{LateChannel, after_late_event, without_oldest, oldest, command_bursts, bursts_of, state_hearing, log_hearing, made_anew}
+use Rattle.vdcp_late.specs.LateChannel.{LateChannel, after_late_event, without_oldest, oldest, command_bursts, bursts_of, made_anew}
 use Rattle.vdcp_late.specs.declared.event.LateEvent.{LateEvent}
 use Rattle.vdcp_late.specs.declared.event.LateEvent.TheVariants as event
 use Rattle.vdcp_late.proofs.Beginnings.{is_beginning_of}
@@ -225,6 +229,22 @@ up_copy_kept mode S closed c k =
     let came : Option Heard = heard_in c.port.state.unit (oldest c.up) in
     with_state mode S closed c k (state_hearing c.plan came c.state) (log_hearing c.plan came c.state c.log)
     (hearing_kept mode S closed c k came (hears mode S closed c k c.up refl))
+
+-- a receipt from nowhere
+stray_kept : (mode : Mode) (S : Claim) → Closed mode S → (c : LateChannel) (k : IsKept mode S c) (receipt : Reply)
+    → is_receipt receipt ≡ true
+    → StandsAt S c.plan.list c.port (state_straying c.plan.mode c.plan receipt c.state).settled
+    (state_straying c.plan.mode c.plan receipt c.state).stage c.aired k.ups k.downs
+stray_kept mode S closed c k receipt is = subst Goal (sym k.mode_is) (by mode refl)
+  where
+    Goal : Mode → Type 0
+    Goal m = StandsAt S c.plan.list c.port (state_straying m c.plan receipt c.state).settled
+        (state_straying m c.plan receipt c.state).stage c.aired k.ups k.downs
+
+    by : (m : Mode) → mode ≡ m → Goal m
+    by Plain e = k.stands
+    by Confirming e = came_kept mode S closed c k (Some (heard.Reply receipt))
+        (inl (ap (λ (x : Mode). is_no_answer x (Some (heard.Reply receipt))) e ∙ is))
 
 -- something was heard, and the oldest burst is gone
 with_hearing : (mode : Mode) (S : Claim) → Closed mode S
@@ -453,3 +473,7 @@ kept_event mode S closed below c event.ServerAnew k =
     with_port mode S closed c k (made_anew c.port) refl refl (anew_ages (is_selected c.port.state) c.port.state.cued)
 kept_event mode S closed below c event.AutomationAnew k =
     with_state mode S closed c k _ _ (came_kept mode S closed c k None (inl refl))
+kept_event mode S closed below c event.StrayAck k =
+    with_state mode S closed c k _ _ (stray_kept mode S closed c k Ack refl)
+kept_event mode S closed below c (event.StrayNak byte) k =
+    with_state mode S closed c k _ _ (stray_kept mode S closed c k (Nak byte) refl)

@@ -8,7 +8,13 @@ use Rattle.vdcp_auto.specs.Plan.{Plan}
 use Rattle.vdcp_auto.specs.State.{State}
 use Rattle.vdcp_auto.specs.declared.exchange.Exchange.{Exchange}
 use Rattle.vdcp_auto.specs.declared.exchange.Heard.{Heard}
-use Rattle.vdcp_late.specs.LateChannel.{LateChannel, new_late_channel, after_late_event, after_late_events, IsLateReached, oldest, state_hearing, log_hearing}
+use Rattle.vdcp_words.specs.declared.reply.Reply.{Reply}
+use Rattle.vdcp_words.specs.declared.reply.Reply.TheVariants.{Ack, Nak}
+use Rattle.vdcp_auto.specs.declared.exchange.Heard.TheVariants as heard
+use Rattle.vdcp_auto.specs.declared.phase.Mode.{Mode}
+use Rattle.vdcp_auto.specs.declared.phase.Mode.TheVariants.{Plain, Confirming}
+use Rattle.vdcp_world.specs.Channel.{state_hearing, log_hearing, state_straying, log_straying}
+use Rattle.vdcp_late.specs.LateChannel.{LateChannel, new_late_channel, after_late_event, after_late_events, IsLateReached, oldest}
 use Rattle.vdcp_late.specs.declared.event.LateEvent.{LateEvent}
 use Rattle.vdcp_late.specs.declared.event.LateEvent.TheVariants as event
 
@@ -16,6 +22,12 @@ hears_reached : (plan : Plan) (state : State) (log : List Exchange) (h : Option 
     → Reached plan (state_hearing plan h state) (log_hearing plan h state log)
 hears_reached plan state log None r = r
 hears_reached plan state log (Some h) r = called r (Receive (Some h))
+
+strays_reached : (mode : Mode) (plan : Plan) (state : State) (log : List Exchange) (receipt : Reply)
+    → Reached plan state log
+    → Reached plan (state_straying mode plan receipt state) (log_straying mode plan receipt state log)
+strays_reached Plain plan state log receipt r = r
+strays_reached Confirming plan state log receipt r = called r (Receive (Some (heard.Reply receipt)))
 
 controller_event : (c : LateChannel) (e : LateEvent) → Reached c.plan c.state c.log
     → Reached (after_late_event c e).plan (after_late_event c e).state (after_late_event c e).log
@@ -38,6 +50,8 @@ controller_event c event.Take r = called r call.Take
 controller_event c event.Stop r = called r call.Stop
 controller_event c event.ServerAnew r = r
 controller_event c event.AutomationAnew r = called (called r (Receive None)) call.Forget
+controller_event c event.StrayAck r = strays_reached c.plan.mode c.plan c.state c.log Ack r
+controller_event c (event.StrayNak byte) r = strays_reached c.plan.mode c.plan c.state c.log (Nak byte) r
 
 controller_events : (c : LateChannel) (es : List LateEvent) → Reached c.plan c.state c.log
     → Reached (after_late_events c es).plan (after_late_events c es).state (after_late_events c es).log

@@ -91,7 +91,7 @@ kept_events below c (e ∷ es) k =
 ended_near : (list : List Item) (clips : List (ClipId × Timecode)) (settled : ℕ) (port : ClockedPort)
     (aired : List Item) (downs : List Phase) (o : Outcome)
     → PlaceEnded list clips settled (is_selected port.state) port.state.cued aired downs o
-    → Near list aired settled × EndHolds list clips aired settled o
+    → Near list aired settled × EndHolds Plain list clips aired settled o
 ended_near list clips settled port aired downs outcome.Done h = (near_at list aired settled _ h.0, h.0)
 ended_near list clips settled port aired downs outcome.Stopped h = (h.near, tt)
 ended_near list clips settled port aired downs outcome.Lost h = (h.near, tt)
@@ -105,7 +105,7 @@ ended_near list clips settled port aired downs (outcome.Strange k) h = (h.near, 
 airs_at : (list : List Item) (port : ClockedPort) (settled : ℕ) (aired : List Item) (ups : List Answer)
     (downs : List Phase) (stage : Stage)
     → PlaceAt list port.clips settled (is_selected port.state) port.state.cued aired ups downs stage
-    → Airs list port.clips aired settled stage
+    → Airs Plain list port.clips aired settled stage
 airs_at list port settled aired ups downs (Ready q) h =
     record {
       near = (calm_in list settled (is_selected port.state) port.state.cued aired ups downs q h.0 h.1).near;
@@ -120,16 +120,19 @@ airs_at list port settled aired ups downs (Ended o) h =
     let n = ended_near list port.clips settled port aired downs o h in
     record { near = n.0; end_holds = n.1 }
 
-airs : (c : LateChannel) → IsKept Plain Stands c → Airs c.plan.list c.port.clips c.aired c.state.settled c.state.stage
-airs c k = airs_at c.plan.list c.port c.state.settled c.aired k.ups k.downs c.state.stage k.stands.place
+airs : (c : LateChannel) → IsKept Plain Stands c
+    → Airs c.plan.mode c.plan.list c.port.clips c.aired c.state.settled c.state.stage
+airs c k =
+    subst (λ (m : Mode). Airs m c.plan.list c.port.clips c.aired c.state.settled c.state.stage) (sym k.mode_is)
+    (airs_at c.plan.list c.port c.state.settled c.aired k.ups k.downs c.state.stage k.stands.place)
 
 -- whatever happens from a new channel on
 pub plain_airs : Below → (plan : Plan) (port : ClockedPort) (events : List LateEvent) → plan.mode ≡ Plain
     → port.state.unit ≤ 15 → plan.port < 256
     → All IsItem plan.list
     → (c : LateChannel) → c ≡ after_late_events (new_late_channel plan port) events
-    → Airs c.plan.list c.port.clips c.aired c.state.settled c.state.stage
+    → Airs c.plan.mode c.plan.list c.port.clips c.aired c.state.settled c.state.stage
 plain_airs below plan port events plain u h items c led =
-    subst (λ (x : LateChannel). Airs x.plan.list x.port.clips x.aired x.state.settled x.state.stage) (sym led)
+    subst (λ (x : LateChannel). Airs x.plan.mode x.plan.list x.port.clips x.aired x.state.settled x.state.stage) (sym led)
     (airs (after_late_events (new_late_channel plan port) events)
     (kept_events below (new_late_channel plan port) events (kept_new plan port plain u h items)))

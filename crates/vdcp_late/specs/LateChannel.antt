@@ -9,6 +9,7 @@ use Rattle.vdcp_value.specs.Parts.{IsItem}
 use Rattle.vdcp_frame.specs.Message.{spelling}
 use Rattle.vdcp_words.specs.Commands.{command_message}
 use Rattle.vdcp_words.specs.declared.command.Command.{Command}
+use Rattle.vdcp_words.specs.declared.reply.Reply.TheVariants.{Ack, Nak}
 use Rattle.vdcp_port.specs.Answers.{sent_for, aired_for, after_burst}
 use Rattle.vdcp_port.specs.Clock.{ClockedPort, new_port, after_ready, after_ended, after_frame}
 use Rattle.vdcp_port.specs.Port.{Cued, empty}
@@ -21,10 +22,11 @@ use Rattle.vdcp_auto.specs.declared.exchange.Heard.{Heard}
 use Rattle.vdcp_auto.specs.declared.phase.Mode.{Mode}
 use Rattle.vdcp_auto.specs.declared.phase.Mode.TheVariants.{Plain, Confirming}
 use Rattle.vdcp_auto.specs.State.{State}
+use Rattle.vdcp_world.specs.Channel.{state_hearing, log_hearing, state_straying, log_straying}
 use Rattle.vdcp_late.specs.Damage.{can_become, is_junk_down, is_junk_up, can_become_up, with_damage, with_junk}
 use Rattle.vdcp_late.specs.declared.event.LateEvent.{LateEvent}
 use Rattle.vdcp_late.specs.declared.event.LateEvent.TheVariants.{Tick, Down, Up, DownCopy, UpCopy, LoseDown, LoseUp, AlterDown, AlterUp, JunkDown, JunkUp}
-use Rattle.vdcp_late.specs.declared.event.LateEvent.TheVariants.{Timeout, Ready, End, Frame, Take, Stop, ServerAnew, AutomationAnew}
+use Rattle.vdcp_late.specs.declared.event.LateEvent.TheVariants.{Timeout, Ready, End, Frame, Take, Stop, ServerAnew, AutomationAnew, StrayAck, StrayNak}
 
 -- The controller, with what it was made with, and the port; the bursts on the way down, to the port, and up, to
 -- the controller; what went to air; the exchanges that ended. Lists have the oldest first.
@@ -60,16 +62,6 @@ command_bursts unit command = option_to_list (option_map (λ c. spelling (comman
 abbrev pub bursts_of : List ℕ → List (List ℕ)
 bursts_of [] = []
 bursts_of (byte ∷ bytes) = (byte ∷ bytes) ∷ []
-
--- The controller and the log, once something was heard of a burst, or nothing.
-
-abbrev pub state_hearing : Plan → Option Heard → State → State
-state_hearing plan None state = state
-state_hearing plan (Some h) state = came_to plan (Some h) state
-
-abbrev pub log_hearing : Plan → Option Heard → State → List Exchange → List Exchange
-log_hearing plan None state log = log
-log_hearing plan (Some h) state log = logged log (ended_by plan (Some h) state)
 
 -- a port made anew, with the catalogue, the unit, the number and the clock of this one
 abbrev pub made_anew : ClockedPort → ClockedPort
@@ -127,6 +119,16 @@ after_late_event c AutomationAnew =
     record c {
       state = forgotten (came_to c.plan None c.state);
       log = logged c.log (ended_by c.plan None c.state);
+    }
+after_late_event c StrayAck =
+    record c {
+      state = state_straying c.plan.mode c.plan Ack c.state;
+      log = log_straying c.plan.mode c.plan Ack c.state c.log;
+    }
+after_late_event c (StrayNak byte) =
+    record c {
+      state = state_straying c.plan.mode c.plan (Nak byte) c.state;
+      log = log_straying c.plan.mode c.plan (Nak byte) c.state c.log;
     }
 
 -- what events leave, one after another

@@ -17,17 +17,18 @@ use Rattle.vdcp_auto.specs.declared.phase.Mode.TheVariants.{Plain, Confirming}
 use Rattle.vdcp_world.specs.Headline.{IsUnknownAt, AreReported}
 use Rattle.vdcp_late.specs.LateChannel.{LateChannel}
 
--- in confirm mode the log shows why the event at this place was refused
-abbrev pub IsLateRefused : Mode → Plan → List Exchange → ℕ → Type 0
-IsLateRefused Plain plan log place = Unit {0}
-IsLateRefused Confirming plan log place = IsRefused plan.list plan.limit log place
+-- in confirm mode the log shows why the event at this place was refused, and the report is complete
+abbrev pub IsLateRefused : Mode → Plan → List Item → List Exchange → ℕ → Type 0
+IsLateRefused Plain plan aired log place = Unit {0}
+IsLateRefused Confirming plan aired log place =
+    IsRefused plan.list plan.limit log place × AreReported plan aired log place
 
 -- What it means that a controller ended so. A stale answer or a server that was started anew may end it Denied,
 -- Refused, Foreign or Strange, whatever the playlist.
 abbrev pub LateMeans : List (ClipId × Timecode) → Plan → List Item → List Exchange → Outcome → Type 0
 LateMeans clips plan aired log outcome.Done = (aired ≡ plan.list) × AreReported plan aired log (length plan.list)
 LateMeans clips plan aired log (outcome.Missing k) = IsUnknownAt clips plan.list k × AreReported plan aired log k
-LateMeans clips plan aired log (outcome.Refused k) = IsLateRefused plan.mode plan log k
+LateMeans clips plan aired log (outcome.Refused k) = IsLateRefused plan.mode plan aired log k
 LateMeans clips plan aired log outcome.Lost = IsLost plan.mode plan.limit log
 LateMeans clips plan aired log outcome.Stopped = Unit {0}
 LateMeans clips plan aired log outcome.Denied = Unit {0}

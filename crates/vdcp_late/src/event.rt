@@ -46,4 +46,8 @@ pub enum LateEvent {
     ServerAnew,
     /// The automation is started anew and goes on: what it awaits has timed out, and its wishes are forgotten.
     AutomationAnew,
+    /// ACK comes to the controller from nowhere, before all that is on the way (confirm mode).
+    StrayAck,
+    /// NAK with this byte comes to the controller from nowhere, before all that is on the way (confirm mode).
+    StrayNak(u8),
 }

@@ -9,10 +9,10 @@
 //! world.aired(), world.reported(), world.log(), world.outcome()
 //! ```
 //!
-//! An event that can't happen changes nothing.
+//! An event that can't happen changes nothing. `read_script` of `vdcp_world` makes `LateEvent`s of a text, too.
 //!
 //! Files: `event` (what happens), `world` (the late world), `link` (what each event does, over bytes), `queue`
-//! (bursts on the way), `damage` (what the line may make of them).
+//! (bursts on the way), `damage` (what the line may make of them), `script` (the words of scripts).
 #![tactic(auto)]
 
 mod damage;
@@ -20,6 +20,7 @@ mod event;
 pub mod laws;
 mod link;
 mod queue;
+mod script;
 mod world;
 
 pub use event::LateEvent;

@@ -4,8 +4,9 @@ ghost use Rattle.vdcp_auto.specs.Heard.{heard_in};
 ghost use Rattle.vdcp_auto.specs.Plan.{plan_of};
 ghost use Rattle.vdcp_auto.specs.Turn as turns;
 ghost use Rattle.vdcp_late.specs.Damage as damage;
-ghost use Rattle.vdcp_late.specs.LateChannel.{after_late_event, bursts_of, command_bursts, log_hearing, new_late_channel, oldest, state_hearing};
+ghost use Rattle.vdcp_late.specs.LateChannel.{after_late_event, bursts_of, command_bursts, new_late_channel, oldest};
 ghost use Rattle.vdcp_port.specs.Answers.{sent_for, aired_for, after_burst};
+ghost use Rattle.vdcp_world.specs.Channel.{log_hearing, log_straying, state_hearing, state_straying};
 
 use crate::damage::{can_become, can_become_up, is_junk_down, is_junk_up};
 use crate::event::LateEvent;
@@ -16,7 +17,7 @@ use std::marker::Model;
 use vdcp_auto::{Controller, Exchange, Heard, Outcome, Source};
 use vdcp_port::{Catalogue, Port};
 use vdcp_value::Item;
-use vdcp_words::LONGEST;
+use vdcp_words::{LONGEST, Reply};
 use vdcp_world::first_of;
 
 /// A controller and a port, what is on the way between them, and what came of it: a late world, without what
@@ -149,6 +150,10 @@ impl<S: Source, C: Catalogue, A: Allocator + Copy> LateLink<S, C, A> {
                 time_out(&mut self.controller, &mut self.log)?;
                 self.controller.forget();
             }
+            LateEvent::StrayAck => stray(&mut self.controller, Reply::Ack, &mut self.log)?,
+            LateEvent::StrayNak(byte) => {
+                stray(&mut self.controller, Reply::Nak(*byte), &mut self.log)?;
+            }
         }
         Ok(())
     }
@@ -237,6 +242,26 @@ fn time_out<S: Source, A: Allocator>(
 {
     log.reserve(1)?;
     end_exchange(controller, None, log);
+    Ok(())
+}
+
+/// The controller hears a receipt from nowhere, in confirm mode.
+fn stray<S: Source, A: Allocator>(
+    controller: &mut Controller<S>,
+    receipt: Reply,
+    log: &mut Vec<Exchange, A>,
+) -> Result<(), AllocError>
+    ensures controller { OnOk result (controller.new ≡ record controller.old {
+      state = state_straying controller.old.mode (plan_of S.items controller.old) receipt controller.old.state;
+    }) }
+    ensures log { OnOk result (log.new.items ≡ log_straying controller.old.mode (plan_of S.items controller.old) receipt
+        controller.old.state log.old.items) }
+    ensures refused { OnErr result ((controller.new ≡ controller.old) × (log.new.items ≡ log.old.items)) }
+{
+    log.reserve(1)?;
+    if controller.is_confirming() {
+        end_exchange(controller, Some(Heard::Reply(receipt)), log);
+    }
     Ok(())
 }
 

@@ -3,4 +3,5 @@ mod clips;
 mod events;
 mod lateness;
 mod memory;
+mod scripts;
 mod seen;

@@ -135,7 +135,7 @@ fn drop_frame_parts_are_read_at_their_rate(rt: HostRuntime) -> Result<(), Fail> 
     Ok(())
 }
 
-/// So many rows of `CLIP0001` and `"A,B"` in turn.
+/// This many rows of `CLIP0001` and `"A,B"` in turn.
 fn rows_in_turn(alloc: Global, count: usize) -> Result<String, Fail> {
     let mut text = String::new(alloc);
     for k in 0..count {
@@ -196,7 +196,7 @@ fn rows_are_counted(rt: HostRuntime) -> Result<(), Fail> {
     Ok(())
 }
 
-/// A catalogue of so many clips, in falling order.
+/// A catalogue of this many clips, in falling order.
 fn clips_in_rows(alloc: Global, count: u32) -> Result<String, Fail> {
     let mut text = String::new(alloc);
     for k in 0..count {
@@ -340,7 +340,7 @@ fn unlawful_parts_are_told_and_nothing_is_written(rt: HostRuntime) -> Result<(),
     Ok(())
 }
 
-/// A reader of a text, at most so many bytes a read, that fails at one of its reads and works at each other.
+/// A reader of a text, at most this many bytes a read, that fails at one of its reads and works at each other.
 #[derive(Drop)]
 struct FailingReader<'a> {
     text: &'a [u8],
@@ -365,7 +365,7 @@ impl Read for FailingReader<'_> {
     }
 }
 
-/// So many rows of three columns, whole clips and parts in turn.
+/// This many rows of three columns, whole clips and parts in turn.
 fn rows_of_parts(alloc: Global, count: usize) -> Result<String, Fail> {
     let mut text = String::new(alloc);
     for k in 0..count {

@@ -1,17 +1,20 @@
 ghost use Rattle.std.specs.Io.KnownBytes.{Appends, Keeps};
 ghost use Rattle.std.specs.Prelude.{◌≡◌, ◌⊎◌, ◌<◌, ◌≤◌, IfOk, OnOk, length};
+ghost use Rattle.vdcp_frame.specs.Message.{spelling};
 ghost use Rattle.vdcp_wire.specs.Wires.{adds_drop, adds_sent};
 ghost use Rattle.vdcp_lossy.specs.Brought.{HasSome};
 ghost use Rattle.vdcp_lossy.specs.Carried.{GoesOn, GoesUp, sent_by};
-ghost use Rattle.vdcp_lossy.specs.Doings.{adds_part, goes_on, joined, part_on};
+ghost use Rattle.vdcp_lossy.specs.Doings.{adds_part, goes_on, joined, part_on, receipt_message};
 ghost use Rattle.vdcp_lossy.specs.Printed.{PrintsFate, PrintsFates};
 ghost use Rattle.vdcp_lossy.specs.declared.doing.Doing.{Doing};
 
 use crate::doing::{Doing, HeldBurst, Receipt, Way};
 use crate::session::{Brought, CarryEnd, CarryFault, Session};
+use arrayvec::ArrayVec;
 use std::io;
 use std::rt::Clock;
 use std::time::Instant;
+use vdcp_frame::write;
 use vdcp_wire::{Wire, WireFault};
 
 /// Carries bursts between an automation and a server until either closes, or the turns are used up.
@@ -207,9 +210,17 @@ fn send_once<W: Wire>(wire: &mut W, doing: &Doing, came: &[u8]) -> Result<(), Ca
         Doing::Lost | Doing::Late => Ok(()),
         Doing::Cut(count) => send(wire, &came[..(*count).min(came.len())]),
         Doing::Damaged(bytes) => send(wire, bytes.as_slice()),
-        Doing::Forged(Receipt::Ack) => send(wire, &[0x04]),
-        Doing::Forged(Receipt::Nak(byte)) => send(wire, &[0x05, *byte]),
+        Doing::Forged(receipt) => send(wire, bytes_of(*receipt).as_slice()),
     }
+}
+
+// The bytes of a receipt.
+fn bytes_of(receipt: Receipt) -> ArrayVec<u8, 2>
+    ensures { result.items ≡ spelling (receipt_message receipt) }
+{
+    let mut bytes = ArrayVec::new();
+    write(&receipt.message(), &mut bytes).unwrap();
+    bytes
 }
 
 // Sends bytes, mapping a wire failure to `CarryFault::Line`.

@@ -7,7 +7,7 @@ ghost use Rattle.vdcp_lossy.specs.declared.doing.Way.{Way};
 
 use crate::dice::Dice;
 use arrayvec::ArrayVec;
-use vdcp_frame::{Message, Step, laws as bursts, read_at};
+use vdcp_frame::{Message, Messages};
 use vdcp_world::can_become;
 
 /// Most bytes that are held of a burst. A longer one is lost.
@@ -154,9 +154,7 @@ fn copied(way: Way, came: &[u8]) -> Doing
 fn begins_with_message(burst: &[u8]) -> bool
     ensures { result ≡ true → (m : Content) × (more : List Content) × (messages_of burst.now ≡ m ∷ more) }
 {
-    bursts::one_reading();
-    bursts::written_is_read();
-    matches!(read_at(burst, 0), Step::Message(_, _))
+    Messages::of(burst).next().is_some()
 }
 
 // Some of the first bytes go on, not all; of a burst of one byte none, so it is lost.

@@ -23,10 +23,10 @@ pub struct LossySettings {
     pub seed: u32,
     /// What is done with how many bursts.
     pub chances: Chances,
-    /// How long a silence ends a burst, in milliseconds, 1 to 60,000. It has to be longer than the server's.
+    /// How long a silence ends a burst, in milliseconds, 1 to 60,000: more than the silence of the server.
     pub silence: u32,
-    /// How long after its command anything may still go on, in milliseconds, 1 to 60,000. It has to be shorter than the
-    /// automation's silence.
+    /// How long after its command anything may still go on, in milliseconds, 1 to 60,000: less than the silence of the
+    /// automation.
     pub within: u32,
     /// The most waits that are made, each for bytes or for a silence.
     pub turns: u32,

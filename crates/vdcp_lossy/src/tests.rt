@@ -35,7 +35,7 @@ const NONE: Chances = Chances {
     forge: 0,
 };
 
-/// A clock that has gone on by so many milliseconds at each reading.
+/// A clock that has gone on by this many milliseconds at each reading.
 #[derive(Drop)]
 struct Ticking {
     reads: Cell<u64>,
@@ -54,7 +54,7 @@ impl Clock for Ticking {
     }
 }
 
-/// A wire on which these bursts come, each with a silence behind it; no bytes are a silence alone.
+/// A wire on which these bursts come, each with a silence after it; no bytes are a silence alone.
 fn wire_of(alloc: Global, bursts: &[&[u8]]) -> Result<ScriptWire<Global>, AllocError>
     ensures { IfOk result (λ wire. wire.failed ≡ false) }
 {
@@ -78,7 +78,7 @@ fn settings(chances: Chances) -> LossySettings {
     }
 }
 
-/// What was printed and sent each way, where a reading of the clock takes so many milliseconds.
+/// What was printed and sent each way, where a reading of the clock takes this many milliseconds.
 #[derive(Drop)]
 struct Seen {
     lines: Vec<u8>,

@@ -2,3 +2,4 @@ pub mod Ends
 mod Reached
 mod Unplayed
 mod Unserved
+mod Written

@@ -1,7 +1,7 @@
 -- How a run ends: what it tells then, and its exit status.
 use Rattle.std.specs.Borrow.{Bor}
 use Rattle.std.specs.Io.KnownBytes.{Appends, Keeps}
-use Rattle.std.specs.Prelude.{ℕ, ◌≡◌, ◌⊎◌, List, [], ◌++◌, codes, decimal, Option, None, Some, IsSome, Result, Ok, Err}
+use Rattle.std.specs.Prelude.{ℕ, zero, suc, ◌≡◌, ◌⊎◌, Bool, true, false, List, [], ◌++◌, codes, decimal, Option, None, Some, IsSome, Result, Ok, Err}
 use Rattle.vdcp_value.specs.declared.part.Item.{Item}
 use Rattle.vdcp_value.specs.declared.rate.Rate.{Rate}
 use Rattle.vdcp_auto.specs.Course.{Reached}
@@ -23,6 +23,8 @@ use Rattle.vdcp_drive.specs.declared.line.DriveFault.{DriveFault}
 use Rattle.vdcp_drive.specs.declared.line.Ran.{Ran}
 use Rattle.vdcp_drive.specs.declared.line.Ran.TheVariants as ran
 use Rattle.vdcp_wire.specs.Address.{IsAddress}
+use Rattle.vdcp_net.specs.declared.asrun.Older.{Older}
+use Rattle.vdcp_net.specs.declared.asrun.Older.TheVariants as older
 use Rattle.vdcp_net.specs.declared.run.LineEnd.{LineEnd}
 use Rattle.vdcp_net.specs.declared.run.LineEnd.TheVariants as line_end
 use Rattle.vdcp_net.specs.declared.run.RunEnd.{RunEnd}
@@ -65,6 +67,17 @@ abbrev pub MayBeUnwritten : Option (Bor (List ℕ)) → Option Failure → Type 
 MayBeUnwritten name None = Unit {0}
 MayBeUnwritten None (Some failure) = ⊥
 MayBeUnwritten (Some name) (Some failure) = IsUnwritten name failure
+
+-- why a run isn't begun with this name for its file, if it has one: it names the list, or the file can't have its list
+abbrev pub IsPlaceRefused : Option (Bor (List ℕ)) → Failure → Type 0
+IsPlaceRefused None failure = ⊥
+IsPlaceRefused (Some name) failure = (failure ≡ failures.IsList name) ⊎ IsUnwritten name failure
+
+-- what becomes of an older file, by how many events are reported and whether the port has answered
+abbrev pub older_after : ℕ → Bool → Older
+older_after zero false = older.Kept
+older_after zero true = older.Replaced
+older_after (suc n) answered = older.Replaced
 
 -- ---- what is printed and reported
 
@@ -129,12 +142,15 @@ pub record IsRun (settings : RunSettings) (list : File) (out out' : Option (List
   pub gained : Appends out out' (end_text end)
   pub status_is : status ≡ run_status end
 
--- why a list isn't played: the text is no address, or else the list isn't read, or else nobody takes the connection
-pub data IsUnplayed (rate : Rate) (text : List ℕ) (list : File) (failure : Failure) : Type 0 where
-  no_address : ¬ IsAddress text → failure ≡ failures.Address → IsUnplayed rate text list failure
-  no_list : IsAddress text → RefusesList rate list failure → IsUnplayed rate text list failure
-  not_connected : IsAddress text → IsWholeList rate list → failure ≡ failures.Connect →
-      IsUnplayed rate text list failure
+-- why a list isn't played: the text is no address, or else the list isn't read, or else the as-run list can't be written, or
+-- else nobody takes the connection
+pub data IsUnplayed (settings : RunSettings) (text : List ℕ) (list : File) (failure : Failure) : Type 0 where
+  no_address : ¬ IsAddress text → failure ≡ failures.Address → IsUnplayed settings text list failure
+  no_list : IsAddress text → RefusesList settings.rate list failure → IsUnplayed settings text list failure
+  no_place : IsAddress text → IsWholeList settings.rate list → IsPlaceRefused settings.asrun failure →
+      IsUnplayed settings text list failure
+  not_connected : IsAddress text → IsWholeList settings.rate list → failure ≡ failures.Connect →
+      IsUnplayed settings text list failure
 
 -- a row of the list is refused: one writer gained the line that tells it, and the other nothing
 pub record IsListRefused (rate : Rate) (list : File) (out out' err err' : Option (List ℕ)) : Type 0 where

@@ -1,6 +1,9 @@
-ghost use Rattle.std.specs.Prelude.{◌≡◌, ◌<◌, ◌≤◌, length};
+ghost use Rattle.std.specs.Prelude.{◌≡◌};
 
+use crate::screen::write_at_once;
+use arrayvec::ArrayString;
 use std::cell::Cell;
+use std::fmt::Write;
 use std::{fmt, io};
 use vdcp_drive::WatchAir;
 use vdcp_frame::{End, Ended, Got, Reader};
@@ -8,32 +11,103 @@ use vdcp_text::{EndText, ItemText, MeaningText, MessageText};
 use vdcp_value::{Item, Rate};
 use vdcp_wire::{Came, PIECE, Wire, WireFault};
 
+/// Most bytes of a line; what stands further on isn't told.
+const MOST_BYTES: usize = 1024;
+
 /// The lines of a log. They go to its writer, until that fails: from then on no line goes there, and
-/// nothing else comes of the failure, since what is logged goes on without its log.
+/// nothing else comes of the failure, since what is logged goes on without its log. Nor does it wait: where a writer
+/// takes nothing (`WouldBlock`), the line under way stays, and each further one is dropped; the next line that goes out
+/// is then `dropped` and how many.
 ///
 /// The writer is in a cell, since a wire and what watches over the other end of it share one log.
 #[derive(Drop)]
 pub struct Log<L: io::Write> {
     // None once it has failed.
-    writer: Cell<Option<L>>,
+    lines: Cell<Option<Lines<L>>>,
+}
+
+/// The line under way, and how many were dropped meanwhile.
+#[derive(Drop)]
+struct Lines<L> {
+    writer: L,
+    line: ArrayString<MOST_BYTES>,
+    // how many of its bytes went out
+    gone: usize,
+    dropped: u64,
 }
 
 impl<L: io::Write + Drop> Log<L> {
     /// A log with this writer.
     pub fn new(writer: L) -> Self {
         Log {
-            writer: Cell::new(Some(writer)),
+            lines: Cell::new(Some(Lines {
+                writer,
+                line: ArrayString::new(),
+                gone: 0,
+                dropped: 0,
+            })),
         }
     }
 
     /// Adds a line.
     pub fn tell<T: fmt::Display>(&self, line: &T) {
-        let Some(mut writer) = self.writer.replace(None) else {
+        let Some(mut lines) = self.lines.replace(None) else {
             return;
         };
-        if writeln!(writer, "{line}").is_ok() && writer.flush().is_ok() {
-            let _ = self.writer.replace(Some(writer));
+        if lines.tell(line).is_ok() {
+            let _ = self.lines.replace(Some(lines));
         }
+    }
+}
+
+impl<L: io::Write> Lines<L> {
+    // Adds a line, or counts it where the one before it is still under way.
+    fn tell<T: fmt::Display>(&mut self, line: &T) -> io::Result<()> {
+        if self.is_under_way()? {
+            self.dropped = self.dropped.saturating_add(1);
+            return Ok(());
+        }
+        if self.dropped > 0 {
+            let dropped = self.dropped;
+            self.begin(&format_args!("dropped {dropped}"));
+            self.dropped = 0;
+            if self.is_under_way()? {
+                self.dropped = 1;
+                return Ok(());
+            }
+        }
+        self.begin(line);
+        self.is_under_way()?;
+        Ok(())
+    }
+
+    // Begins a line.
+    fn begin<T: fmt::Display>(&mut self, line: &T) {
+        self.line.clear();
+        self.gone = 0;
+        let _ = write!(self.line, "{line}");
+        // (a line that is cut ends all the same)
+        if self.line.remaining_capacity() == 0 {
+            let _ = self.line.pop();
+        }
+        let _ = self.line.try_push('\n');
+    }
+
+    // Writes what the writer takes of the line, and says whether some is left.
+    fn is_under_way(&mut self) -> io::Result<bool> {
+        let line = self.line.as_bytes();
+        let left = &line[self.gone.min(line.len())..];
+        if left.is_empty() {
+            return Ok(false);
+        }
+        self.gone = self
+            .gone
+            .saturating_add(write_at_once(&mut self.writer, left)?);
+        if self.gone < self.line.len() {
+            return Ok(true);
+        }
+        self.writer.flush()?;
+        Ok(false)
     }
 }
 
@@ -142,33 +216,18 @@ fn tell_piece<L: io::Write + Drop>(
     reader: &mut Reader,
     piece: &[u8],
 ) {
-    let mut at = 0;
-    'piece: while at < piece.len() {
-        at += tell_some(log, direction, reader, &piece[at..]);
-    }
-}
-
-// Feeds the reader once, logs what that gives, and answers how many bytes it used up.
-fn tell_some<L: io::Write + Drop>(
-    log: &Log<L>,
-    direction: Direction,
-    reader: &mut Reader,
-    piece: &[u8],
-) -> usize
-    ensures within { result ≤ length piece.now }
-    ensures some { 0 < length piece.now → 0 < result }
-{
-    let (taken, got) = reader.feed(piece);
-    match got {
-        Got::Message(message) => {
-            let text = MessageText(message);
-            let meaning = MeaningText(message);
-            log.tell(&format_args!("{direction} {text}{meaning}"));
+    let mut rest = piece;
+    'piece: loop {
+        match reader.next(&mut rest) {
+            Got::Message(message) => {
+                let text = MessageText(message);
+                let meaning = MeaningText(message);
+                log.tell(&format_args!("{direction} {text}{meaning}"));
+            }
+            Got::Fault(fault, place) => tell_fault(log, direction, End::Fault(fault, place)),
+            Got::More => return,
         }
-        Got::Fault(fault, place) => tell_fault(log, direction, End::Fault(fault, place)),
-        Got::More => {}
     }
-    taken
 }
 
 // The burst ends: tells where it was cut.

@@ -1,3 +1,4 @@
+use crate::screen::write_at_once;
 use arrayvec::ArrayString;
 use std::fmt::{self, Write};
 use std::io;
@@ -66,7 +67,7 @@ impl<'a, R: Clock, V: io::Write> Progress<'a, R, V> {
     /// Erases the line.
     pub fn clear(&mut self) {
         if let Drawing::Line { .. } = self.drawing {
-            let _ = self.terminal.write_all(ERASE.as_bytes());
+            let _ = write_at_once(&mut self.terminal, ERASE.as_bytes());
             let _ = self.terminal.flush();
             self.drawing = Drawing::Blank;
         }
@@ -87,14 +88,14 @@ impl<'a, R: Clock, V: io::Write> Progress<'a, R, V> {
         Ok(())
     }
 
-    // Writes the line at once, so that it doesn't flicker.
+    // Writes the line at once, so that it doesn't flicker. What the terminal doesn't take then is never drawn.
     fn draw(&mut self, glance: &Glance, seconds: u64) -> io::Result<()> {
         let mut line = ArrayString::<256>::new();
         let _ = write!(line, "{ERASE}{glance}, ");
         let _ = write_time(seconds, &mut line);
         let bytes = line.as_bytes();
         let end = bytes.len().min(ERASE.len() + MOST_COLUMNS);
-        self.terminal.write_all(&bytes[..end])?;
+        write_at_once(&mut self.terminal, &bytes[..end])?;
         self.terminal.flush()
     }
 }

@@ -12,8 +12,10 @@ ghost use Rattle.vdcp_net.specs.Run.{IsEndOf, IsListRefused, IsPlayed, IsRun, Is
 ghost use Rattle.vdcp_net.specs.Run.{end_text, fault_text, faults_text, line_end_of, line_failure, run_status};
 ghost use Rattle.vdcp_text.specs.Failure.{failure_line};
 
-use crate::asrun::save_asrun;
+use crate::asrun::{Older, save_asrun};
 use crate::log::{Log, Logged};
+use crate::notice::Notice;
+use crate::place::test_place;
 use crate::progress::Progress;
 use std::io;
 use std::net::{Net, OpenStream, SocketAddr};
@@ -117,8 +119,10 @@ impl RunEnd<'_> {
         ensures faults { OnOk result (Appends (E.contents err.old) (E.contents err.new) (faults_text self.entry)) }
         ensures status { IfOk result (λ status. status ≡ run_status self.entry) }
     {
-        self.write_lines(out)?;
+        let written = self.write_lines(out);
+        // (also where `out` failed)
         self.write_faults(err)?;
+        written?;
         Ok(self.status())
     }
 
@@ -169,10 +173,9 @@ fn write_fault<E: io::Write>(failure: Option<Failure<'_>>, err: &mut E) -> io::R
 
 /// Plays a list through the port of a server at `address`: an IPv4 address, a colon and a port number. It
 /// reads the list, connects, and runs a new controller until that ends, the other end closes, all listens
-/// are made or the line fails. Then, whatever the end is, it makes the as-run file, if one is named, and
-/// writes the as-run list of the reported events to it; and `out` gets how many events are reported, and how
-/// the controller ended, and is flushed. `err` gets the fault line of the as-run file, if there is one, and
-/// then that of the line.
+/// are made or the line fails. Then, whatever the end is, it makes the as-run file, if one is named, with a
+/// row for each reported event; and `out` gets how many events are reported, and how the controller ended,
+/// and is flushed. `err` gets the fault line of the as-run file, if there is one, and then that of the line.
 ///
 /// What the headline says of a controller and its log holds of the reported events: they are those that the
 /// exchanges over the line show to be settled.
@@ -243,13 +246,15 @@ fn run_list<'a, R: Net + Files + Clock + AllocGlobal, L: io::Read + Drop, V: io:
     ensures whole { OnOk result (IsWholeList settings.entry.rate
         (file list.entry.name (L.remaining list.entry.reader))) }
     ensures played { IfOk result (IsPlayed settings.entry (file list.entry.name (L.remaining list.entry.reader))) }
-    ensures unplayed { IfErr result (IsUnplayed settings.entry.rate address.now
+    ensures unplayed { IfErr result (IsUnplayed settings.entry address.now
         (file list.entry.name (L.remaining list.entry.reader))) }
 {
     let Ok(address) = address_of(address) else {
         return Err(Failure::Address);
     };
+    let name = list.name;
     let events = list.read_list(rt.alloc(), settings.rate)?;
+    test_place(rt, settings.asrun, name)?;
     let Ok(stream) = rt.connect(SocketAddr::V4(address)) else {
         return Err(Failure::Connect);
     };
@@ -306,7 +311,7 @@ fn play_over<
 {
     match wire {
         Ok(wire) => play_shown(rt, controller, wire, settings, showing),
-        Err(_) => ended(rt, &controller, LineEnd::Failed, settings),
+        Err(_) => ended(rt, &controller, LineEnd::Failed, false, settings),
     }
 }
 
@@ -380,15 +385,18 @@ fn play<'a, R: Files + AllocGlobal, S: Source, W: Wire, V: Watch<S>>(
     ensures reported { result.reported ≡ driver.new.controller.state.settled }
     ensures unwritten { MayBeUnwritten settings.entry.asrun result.unwritten }
 {
-    let line = LineEnd::of_run(driver.run_watched(u64::from(settings.listens), watcher));
-    ended(rt, driver.controller(), line, settings)
+    let mut notice = Notice::new(watcher);
+    let line = LineEnd::of_run(driver.run_watched(u64::from(settings.listens), &mut notice));
+    let is_answered = notice.has_answer(driver.controller());
+    ended(rt, driver.controller(), line, is_answered, settings)
 }
 
-// How a run has ended, by its controller and its line. The as-run list is written.
+// How a run has ended, by its controller and its line, and by whether the port has answered. The as-run list is written.
 fn ended<'a, R: Files + AllocGlobal, S: Source>(
     rt: &R,
     controller: &Controller<S>,
     line: LineEnd,
+    is_answered: bool,
     settings: RunSettings<'a>,
 ) -> RunEnd<'a>
     ensures outcome { result.outcome ≡ turns.outcome_of controller.now.state.stage }
@@ -397,7 +405,10 @@ fn ended<'a, R: Files + AllocGlobal, S: Source>(
     ensures unwritten { MayBeUnwritten settings.entry.asrun result.unwritten }
 {
     let unwritten = match settings.asrun {
-        Some(name) => save_asrun(rt, name, controller, settings.rate).err(),
+        Some(name) => {
+            let older = Older::after(controller.settled(), is_answered);
+            save_asrun(rt, name, older, controller, settings.rate).err()
+        }
         None => None,
     };
     RunEnd {

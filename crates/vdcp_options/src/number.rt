@@ -44,6 +44,16 @@ pub const LIMIT: NumberOption = NumberOption {
     help: "The controller gives up after so many unanswered exchanges in a row, 1 to 1000",
 };
 
+/// The limit over TCP: the port isn't given up before the system has had the time to send twice what was lost.
+pub const RUN_LIMIT: NumberOption = NumberOption {
+    name: "limit",
+    value_name: "L",
+    least: 1,
+    most: 1_000,
+    default: "10",
+    help: "The controller gives up after so many unanswered exchanges in a row, 1 to 1000",
+};
+
 pub const CUE_FRAMES: NumberOption = NumberOption {
     name: "cue-frames",
     value_name: "F",

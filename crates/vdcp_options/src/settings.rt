@@ -36,6 +36,8 @@ pub fn sim_settings_of(matches: &ArgMatches) -> SimSettings
     ensures rates { (rate : Rate) → GivesRate (found_of matches.now) (codes "rate") rate → result.rate ≡ rate }
     ensures confirms { HasFlag (found_of matches.now) (codes "confirm") true → result.confirm ≡ true }
     ensures confirms_not { HasFlag (found_of matches.now) (codes "confirm") false → result.confirm ≡ false }
+    ensures keeps_order { HasFlag (found_of matches.now) (codes "late") true → result.late ≡ true }
+    ensures keeps_one { HasFlag (found_of matches.now) (codes "late") false → result.late ≡ false }
     ensures traces { HasFlag (found_of matches.now) (codes "trace") true → result.trace ≡ true }
     ensures traces_not { HasFlag (found_of matches.now) (codes "trace") false → result.trace ≡ false }
 {
@@ -45,6 +47,7 @@ pub fn sim_settings_of(matches: &ArgMatches) -> SimSettings
         limit: limit_of(matches),
         cue_frames: cue_frames_of(matches),
         confirm: flag_of(matches, "confirm"),
+        late: flag_of(matches, "late"),
         rate: rate_of(matches),
         trace: flag_of(matches, "trace"),
     }

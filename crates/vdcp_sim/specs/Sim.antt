@@ -26,6 +26,10 @@ use Rattle.vdcp_files.specs.Mode.{mode_of}
 use Rattle.vdcp_world.specs.Channel.{Channel, new_channel, after_events}
 use Rattle.vdcp_world.specs.Headline.{Headline}
 use Rattle.vdcp_world.specs.declared.event.Event.{Event}
+use Rattle.vdcp_late.specs.Joined.{late_of}
+use Rattle.vdcp_late.specs.LateChannel.{LateChannel, after_late_events}
+use Rattle.vdcp_late.specs.LateHeadline.{LateHeadline}
+use Rattle.vdcp_late.specs.declared.event.LateEvent.{LateEvent}
 use Rattle.vdcp_sim.specs.declared.sim.SimSettings.{SimSettings}
 
 -- ---- lines
@@ -57,12 +61,14 @@ end_text reported exchanges outcome =
     ++ line (codes "exchanges " ++ decimal exchanges)
     ++ line (codes "outcome " ++ outcome_text outcome)
 
+-- what is printed of the exchanges that ended, of what went to air, of how many events are reported, and of the end
+abbrev pub run_text : Bool → Rate → List Exchange → List Item → ℕ → Option Outcome → List ℕ
+run_text trace rate log aired reported outcome =
+    trace_text trace log ++ aired_text rate aired ++ end_text reported (length log) outcome
+
 -- what is printed of a channel
-abbrev pub channel_text : Bool → Rate → Channel → List ℕ
-channel_text trace rate c =
-    trace_text trace c.log
-    ++ aired_text rate c.aired
-    ++ end_text c.state.settled (length c.log) (outcome_of c.state.stage)
+abbrev pub channel_text : Bool → Rate → LateChannel → List ℕ
+channel_text trace rate c = run_text trace rate c.log c.aired c.state.settled (outcome_of c.state.stage)
 
 -- ---- the channel
 
@@ -75,19 +81,33 @@ plan_for settings items =
 abbrev pub channel_of : SimSettings → List Item → List (ClipId × Timecode) → Channel
 channel_of settings items clips = new_channel (plan_for settings items) clips settings.unit settings.cue_frames
 
--- the files are a playlist and a catalogue, and a writer gained what is printed of the channel that some
--- events led to from their new one; and this channel keeps the headline
+-- Some events of a script have led from the new channel to this one, which keeps the headline; with --late on a line
+-- that keeps order, else on one that holds one burst each way.
+pub data HasRun (settings : SimSettings) (items : List Item) (clips : List (ClipId × Timecode)) (c : LateChannel) :
+    Type 0 where
+  in_time : (events : List Event) → settings.late ≡ false → length events ≤ 100000
+      → c ≡ late_of (after_events (channel_of settings items clips) events)
+      → Headline (after_events (channel_of settings items clips) events)
+      → HasRun settings items clips c
+  late : (events : List LateEvent) → settings.late ≡ true → length events ≤ 100000
+      → c ≡ after_late_events (late_of (channel_of settings items clips)) events
+      → LateHeadline c
+      → HasRun settings items clips c
+
+-- a writer gained what is printed of such a channel
+pub record IsRun (settings : SimSettings) (items : List Item) (clips : List (ClipId × Timecode))
+    (old new : Option (List ℕ)) : Type 0 where
+  pub channel : LateChannel
+  pub has_run : HasRun settings items clips channel
+  pub gained : Appends old new (channel_text settings.trace settings.rate channel)
+
+-- the files are a playlist and a catalogue, and a writer gained what is printed of a run with them
 pub record IsSimulated (settings : SimSettings) (list catalogue : File) (old new : Option (List ℕ)) : Type 0 where
   pub items : List Item
   pub clips : List (ClipId × Timecode)
-  pub events : List Event
-  pub few : length events ≤ 100000
   pub is_playlist : IsListOf settings.rate (bytes_of list) items
   pub is_catalogue : IsCatalogueOf settings.rate (bytes_of catalogue) clips
-  pub gained :
-      Appends old new
-      (channel_text settings.trace settings.rate (after_events (channel_of settings items clips) events))
-  pub headline : Headline (after_events (channel_of settings items clips) events)
+  pub is_run : IsRun settings items clips old new
 
 -- ---- scripts that are refused
 
@@ -97,6 +117,11 @@ IsScriptFailure name failure =
     ((number : ℕ) × (fault : ScriptLineFault) × (failure ≡ failures.ScriptLine name number fault))
     ⊎ ((failure ≡ failures.TooManyEvents name) ⊎ ((failure ≡ failures.NotText name)
     ⊎ ((failure ≡ failures.Read name) ⊎ (failure ≡ failures.Memory))))
+
+-- why a script isn't run: it is refused, or can't be read or run, and nothing was printed; or the writer failed
+abbrev pub IsRunFailure : Bor (List ℕ) → Option (List ℕ) → Option (List ℕ) → Failure → Type 0
+IsRunFailure script out out' failure =
+    (IsScriptFailure script failure × Keeps out out') ⊎ (failure ≡ failures.Writer)
 
 -- why nothing is simulated, and what was printed by then: the list or the catalogue isn't read; or else the
 -- script isn't; or else the writer failed

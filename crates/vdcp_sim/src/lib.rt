@@ -1,8 +1,8 @@
 //! The subcommand `sim`: a script of events on the line between a controller and a port, and what came of
 //! it.
 //!
-//! `do_sim` reads a playlist, a catalogue and a script, each a `NamedFile`, runs the script in a new world, and
-//! prints what went to air and what was reported of it. It reports a failure to standard error in one line,
+//! `do_sim` reads a playlist, a catalogue and a script, each a `NamedFile`, brings the script's events into a new
+//! world, and prints what went to air and what was reported of it. It reports a failure to standard error in one line,
 //! and gives the exit status.
 //!
 //! Files: `sim` (the subcommand), `script` (how its script is read).

@@ -5,16 +5,16 @@ use std::alloc::Global;
 use std::{io, str};
 use vdcp_files::NamedFile;
 use vdcp_text::{Failure, ScriptLineFault};
-use vdcp_world::{Event, ScriptFault, read_script};
+use vdcp_world::{ScriptEvent, ScriptFault, read_script};
 
 /// A script that needs more reads can't be read. The limit is this profile's.
 const MOST_READS: u32 = 1_000_000;
 
 /// Reads a script.
-pub fn read_events<'a, R: io::Read + Drop>(
+pub fn read_events<'a, E: ScriptEvent, R: io::Read + Drop>(
     alloc: Global,
     script: NamedFile<'a, R>,
-) -> Result<Vec<Event>, Failure<'a>>
+) -> Result<Vec<E>, Failure<'a>>
     ensures few { IfOk result (λ events. length events.items ≤ 100000) }
     ensures refused { IfErr result (IsScriptFailure script.entry.name) }
 {

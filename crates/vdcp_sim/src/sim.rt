@@ -1,16 +1,19 @@
 ghost use Rattle.std.specs.Io.KnownBytes.{Appends, Keeps};
-ghost use Rattle.std.specs.Prelude.{◌≡◌, ◌≢◌, ◌⊎◌, ◌<◌, ◌≤◌, IfErr, OnOk, true};
+ghost use Rattle.std.specs.Prelude.{◌≡◌, ◌≢◌, ◌⊎◌, ◌<◌, ◌≤◌, IfErr, OnOk, false, true};
 ghost use Rattle.vdcp_files.specs.Check.{AreWhole, IsRefused};
 ghost use Rattle.vdcp_files.specs.Files.{file};
-ghost use Rattle.vdcp_sim.specs.Sim.{IsScriptRefused, IsSimulated, IsUnsimulated, aired_line, aired_text, channel_of, channel_text, end_text, exchange_line, trace_text};
+ghost use Rattle.vdcp_late.specs.Joined.{late_of};
+ghost use Rattle.vdcp_sim.specs.Sim.{IsRun, IsRunFailure, IsScriptRefused, IsSimulated, IsUnsimulated};
+ghost use Rattle.vdcp_sim.specs.Sim.{aired_line, aired_text, channel_of, end_text, exchange_line, run_text, trace_text};
 ghost use Rattle.vdcp_text.specs.Failure.{status_of};
 
 use crate::script::read_events;
-use std::alloc::{Allocator, Global};
+use std::alloc::Global;
 use std::io;
 use vdcp_auto::{Exchange, Outcome, Source};
 use vdcp_files::NamedFile;
-use vdcp_port::Catalogue;
+use vdcp_late::LateWorld;
+use vdcp_port::{Catalogue, Port};
 use vdcp_text::{ExchangeText, Failure, ItemText, OutcomeText};
 use vdcp_value::{Item, Rate};
 use vdcp_world::World;
@@ -28,6 +31,8 @@ pub struct SimSettings {
     pub cue_frames: u32,
     /// The controller is in confirm mode, and receipts may come from nowhere.
     pub confirm: bool,
+    /// The line keeps order, and bursts wait in it however long; else it holds one burst each way.
+    pub late: bool,
     /// The frame rate of time codes.
     pub rate: Rate,
     /// Each exchange is printed too.
@@ -87,7 +92,7 @@ pub fn do_sim<
     }
 }
 
-// Reads the files, runs the script, and writes what came of it.
+// Reads the playlist and the catalogue, runs the script, and writes what came of it.
 fn simulate<'a, L: io::Read + Drop, C: io::Read + Drop, R: io::Read + Drop, W: io::Write>(
     alloc: Global,
     list: NamedFile<'a, L>,
@@ -116,10 +121,69 @@ fn simulate<'a, L: io::Read + Drop, C: io::Read + Drop, R: io::Read + Drop, W: i
 {
     let events = list.read_list(alloc, settings.rate)?;
     let clips = catalogue.read_catalogue(alloc, settings.rate)?;
-    let script = read_events(alloc, script)?;
-    let mut world = new_world(alloc, events, clips, settings);
-    world.run(script.as_slice())?;
-    write_world(&world, settings, out).map_err(|_| Failure::Writer)
+    if settings.late {
+        run_late(alloc, events, clips, script, settings, out)
+    } else {
+        run_in_time(alloc, events, clips, script, settings, out)
+    }
+}
+
+// Runs the script on a line that holds one burst each way, and writes what came of it.
+fn run_in_time<'a, S: Source + Drop, C: Catalogue + Drop, R: io::Read + Drop, W: io::Write>(
+    alloc: Global,
+    source: S,
+    catalogue: C,
+    script: NamedFile<'a, R>,
+    settings: SimSettings,
+    out: &mut W,
+) -> Result<(), Failure<'a>>
+    requires in_time { settings.late ≡ false }
+    requires unit { settings.unit ≤ 15 }
+    requires some { 1 ≤ settings.limit }
+    requires few { settings.limit ≤ 1000 }
+    requires some_frames { 1 ≤ settings.cue_frames }
+    requires few_frames { settings.cue_frames ≤ 1000 }
+    ensures ran { OnOk result (IsRun settings (S.items source) (C.clips catalogue)
+        (W.contents out.old) (W.contents out.new)) }
+    ensures failed { IfErr result (IsRunFailure script.entry.name (W.contents out.old) (W.contents out.new)) }
+    ensures statuses { IfErr result (λ e. status_of e ≢ 2) }
+{
+    let events = read_events(alloc, script)?;
+    let mut world = new_world(alloc, source, catalogue, settings);
+    world.run(events.as_slice())?;
+    let (log, aired) = (world.log(), world.aired());
+    write_run(log, aired, world.reported(), world.outcome(), settings, out).map_err(
+        |_| Failure::Writer,
+    )
+}
+
+// Runs the script on a line that keeps order, and writes what came of it.
+fn run_late<'a, S: Source + Drop, C: Catalogue + Drop, R: io::Read + Drop, W: io::Write>(
+    alloc: Global,
+    source: S,
+    catalogue: C,
+    script: NamedFile<'a, R>,
+    settings: SimSettings,
+    out: &mut W,
+) -> Result<(), Failure<'a>>
+    requires late { settings.late ≡ true }
+    requires unit { settings.unit ≤ 15 }
+    requires some { 1 ≤ settings.limit }
+    requires few { settings.limit ≤ 1000 }
+    requires some_frames { 1 ≤ settings.cue_frames }
+    requires few_frames { settings.cue_frames ≤ 1000 }
+    ensures ran { OnOk result (IsRun settings (S.items source) (C.clips catalogue)
+        (W.contents out.old) (W.contents out.new)) }
+    ensures failed { IfErr result (IsRunFailure script.entry.name (W.contents out.old) (W.contents out.new)) }
+    ensures statuses { IfErr result (λ e. status_of e ≢ 2) }
+{
+    let events = read_events(alloc, script)?;
+    let mut world = new_late_world(alloc, source, catalogue, settings);
+    world.run(events.as_slice())?;
+    let (log, aired) = (world.log(), world.aired());
+    write_run(log, aired, world.reported(), world.outcome(), settings, out).map_err(
+        |_| Failure::Writer,
+    )
 }
 
 // The new world of a playlist and a catalogue.
@@ -150,21 +214,52 @@ fn new_world<S: Source, C: Catalogue>(
     }
 }
 
-// Writes what came of a world.
-fn write_world<S: Source, C: Catalogue, A: Allocator + Copy, W: io::Write>(
-    world: &World<S, C, A>,
+// The new late world of a playlist and a catalogue.
+fn new_late_world<S: Source, C: Catalogue>(
+    alloc: Global,
+    source: S,
+    catalogue: C,
+    settings: SimSettings,
+) -> LateWorld<S, C, Global>
+    requires unit { settings.unit ≤ 15 }
+    requires some { 1 ≤ settings.limit }
+    requires few { settings.limit ≤ 1000 }
+    requires some_frames { 1 ≤ settings.cue_frames }
+    requires few_frames { settings.cue_frames ≤ 1000 }
+    ensures { result ≡ late_of (channel_of settings (S.items source) (C.clips catalogue)) }
+{
+    let SimSettings {
+        unit,
+        port,
+        limit,
+        cue_frames,
+        ..
+    } = settings;
+    let port = Port::with_clock(catalogue, unit, port, cue_frames);
+    if settings.confirm {
+        LateWorld::confirming(alloc, source, port, limit)
+    } else {
+        LateWorld::new(alloc, source, port, limit)
+    }
+}
+
+// Writes what came of a run.
+fn write_run<W: io::Write>(
+    log: &[Exchange],
+    aired: &[Item],
+    reported: usize,
+    outcome: Option<Outcome>,
     settings: SimSettings,
     out: &mut W,
 ) -> io::Result<()>
     ensures { OnOk result (Appends (W.contents out.old) (W.contents out.new)
-        (channel_text settings.trace settings.rate world.now)) }
+        (run_text settings.trace settings.rate log.now aired.now reported outcome)) }
 {
-    let log = world.log();
     if settings.trace {
         write_log(log, out)?;
     }
-    write_aired(world.aired(), settings.rate, out)?;
-    write_end(world.reported(), log.len(), world.outcome(), out)?;
+    write_aired(aired, settings.rate, out)?;
+    write_end(reported, log.len(), outcome, out)?;
     out.flush()
 }
 

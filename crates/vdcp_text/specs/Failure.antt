@@ -2,7 +2,7 @@
 use Rattle.std.specs.Prelude.{ℕ, List, ◌++◌, codes, decimal}
 use Rattle.vdcp_text.specs.Text.{line}
 use Rattle.vdcp_text.specs.declared.failure.Failure.{Failure}
-use Rattle.vdcp_text.specs.declared.failure.Failure.TheVariants.{Hex, Word, Arguments, Text, Open, Read, Row, ScriptLine, TooManyEvents, NotText, Write, Memory, Writer}
+use Rattle.vdcp_text.specs.declared.failure.Failure.TheVariants.{Hex, Word, Arguments, Text, Open, Read, Row, ScriptLine, TooManyEvents, NotText, Write, IsList, Memory, Writer}
 use Rattle.vdcp_text.specs.declared.failure.Failure.TheVariants.{Address, Connect, Bind, LineFailed, LineClosed, Spent}
 use Rattle.vdcp_text.specs.declared.failure.ScriptLineFault.{ScriptLineFault}
 use Rattle.vdcp_text.specs.declared.failure.ScriptLineFault.TheVariants as lines
@@ -22,6 +22,7 @@ status_of (ScriptLine name number fault) = 1
 status_of (TooManyEvents name) = 1
 status_of (NotText name) = 1
 status_of (Write name) = 3
+status_of (IsList name) = 3
 status_of Address = 2
 status_of Connect = 3
 status_of Bind = 3
@@ -57,6 +58,7 @@ failure_text (ScriptLine name number fault) =
 failure_text (TooManyEvents name) = name.now ++ codes ": too many"
 failure_text (NotText name) = name.now ++ codes ": text"
 failure_text (Write name) = name.now ++ codes ": write"
+failure_text (IsList name) = name.now ++ codes ": exists as the list"
 failure_text Address = codes "address"
 failure_text Connect = codes "cannot connect"
 failure_text Bind = codes "cannot bind"

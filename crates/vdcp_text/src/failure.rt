@@ -29,6 +29,8 @@ pub enum Failure<'a> {
     NotText(&'a str),
     /// The file of this name can't be written.
     Write(&'a str),
+    /// The file of this name, which was to be made, is the list.
+    IsList(&'a str),
     /// The address isn't an IPv4 address, a colon and a port number.
     Address,
     /// Nobody takes the connection.
@@ -76,7 +78,7 @@ impl Failure<'_> {
             Failure::Row(..) | Failure::ScriptLine(..) => 1,
             Failure::TooManyEvents(_) | Failure::NotText(_) => 1,
             Failure::Text | Failure::Address => 2,
-            Failure::Open(_) | Failure::Read(_) | Failure::Write(_) => 3,
+            Failure::Open(_) | Failure::Read(_) | Failure::Write(_) | Failure::IsList(_) => 3,
             Failure::Connect | Failure::Bind => 3,
             Failure::LineFailed | Failure::LineClosed | Failure::Spent => 3,
             Failure::Memory | Failure::Writer => 3,
@@ -103,6 +105,7 @@ impl fmt::Display for Failure<'_> {
             Failure::TooManyEvents(name) => write!(f, "{name}: too many"),
             Failure::NotText(name) => write!(f, "{name}: text"),
             Failure::Write(name) => write!(f, "{name}: write"),
+            Failure::IsList(name) => write!(f, "{name}: exists as the list"),
             Failure::Address => write!(f, "address"),
             Failure::Connect => write!(f, "cannot connect"),
             Failure::Bind => write!(f, "cannot bind"),

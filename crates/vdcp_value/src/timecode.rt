@@ -13,8 +13,8 @@ use crate::rate::Rate;
 use arrayvec::ArrayString;
 
 /// A lawful time code at a rate: hours, minutes and seconds of a day, and a frame of the second, which
-/// is below the rate's number of frames. Drop frame leaves out frames 00 and 01 of second 00 in each
-/// minute that isn't divisible by ten (SMPTE ST 12-1).
+/// is below the rate's number of frames. Drop frame leaves out frames 00 and 01 of second 00 in all
+/// minutes but 00, 10, 20, 30, 40 and 50 (SMPTE ST 12-1).
 #[derive(Clone, Copy, Debug, PartialEq, Eq)]
 pub struct Timecode {
     rate: Rate,

@@ -4,16 +4,16 @@ use Rattle.std.specs.IoError.{error_kind}
 use Rattle.std.specs.Prelude.{ℕ, zero, suc, ◌≤◌, Result, Ok, Err}
 use Rattle.std.specs.declared.io.Error.{Error}
 use Rattle.std.specs.declared.io.ErrorKind.{ErrorKind}
-use Rattle.std.specs.declared.io.ErrorKind.TheVariants.{WouldBlock, TimedOut, Interrupted}
+use Rattle.std.specs.declared.io.ErrorKind.TheVariants.{WouldBlock, Interrupted}
 use Rattle.vdcp_wire.specs.declared.stream.Connection.{Connection}
 use Rattle.vdcp_wire.specs.declared.stream.Connection.TheVariants as connection
 use Rattle.vdcp_wire.specs.declared.wire.Came.{Came}
 use Rattle.vdcp_wire.specs.declared.wire.Came.TheVariants as came
 
--- what a read that failed so brought, or else the failure: it waited long enough, or it was interrupted
+-- what a read that failed so brought, or else the failure: it waited long enough, or it was interrupted. The system gives
+-- up a connection in which nothing is acknowledged by another kind than that of a read that waited
 abbrev pub came_of_kind : ErrorKind → Error → Result Came Error
 came_of_kind WouldBlock error = Ok came.Silence
-came_of_kind TimedOut error = Ok came.Silence
 came_of_kind Interrupted error = Ok (came.Bytes 0)
 came_of_kind _ error = Err error
 

@@ -24,8 +24,8 @@ enum Connection {
 
 /// A wire over a connection. It doesn't tell its bytes, and `send` and `listen` may wait for the other end.
 ///
-/// A read that waited for the time of a silence is one, and an interrupted read brings no bytes. `drop_waiting`
-/// doesn't wait. It drops what at most 128 reads take; the rest stays.
+/// A read that waited for the time of a silence is one, and an interrupted read brings no bytes. A connection that
+/// the system gives up, since nothing is acknowledged any more, has failed. `drop_waiting` doesn't wait. It drops what at most 128 reads take; the rest stays.
 #[derive(Drop)]
 pub struct StreamWire<S: Read + Write + OpenStream + Drop = TcpStream> {
     stream: S,
@@ -152,7 +152,7 @@ fn came_of(read: io::Result<usize>) -> io::Result<Came>
         Ok(0) => Ok(Came::Closed),
         Ok(n) => Ok(Came::Bytes(n)),
         Err(error) => match error.kind() {
-            ErrorKind::WouldBlock | ErrorKind::TimedOut => Ok(Came::Silence),
+            ErrorKind::WouldBlock => Ok(Came::Silence),
             ErrorKind::Interrupted => Ok(Came::Bytes(0)),
             _ => Err(error),
         },

@@ -18,9 +18,7 @@ pub(crate) fn encoded(message: &Message) -> ArrayVec<u8, LONGEST>
     requires short { length (rest_of (content_of message.now)) ≤ 16 }
     ensures { result.items ≡ spelling (content_of message.now) }
 {
-    let mut spelt = ArrayVec::<u8, 512>::new();
-    write(message, &mut spelt).unwrap();
     let mut bytes = ArrayVec::new();
-    bytes.try_extend_from_slice(spelt.as_slice()).unwrap();
+    write(message, &mut bytes).unwrap();
     bytes
 }

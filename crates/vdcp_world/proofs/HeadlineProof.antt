@@ -1,5 +1,5 @@
 -- The headline of every channel that events have led to.
-use Rattle.std.proofs.Common.{ℕ, ◌≡◌, ◌<◌, ◌≤◌, Bool, true, false, not, ◌&&◌, List, [], ◌∷◌, ◌++◌, All, length, take, drop, refl, arith, sym, ap, subst, ◌∙◌, inl, take-append-drop}
+use Rattle.std.proofs.Common.{ℕ, zero, suc, ◌+◌, ◌≡◌, ◌<◌, ◌≤◌, Bool, true, false, not, ◌&&◌, List, [], ◌∷◌, ◌++◌, All, length, take, drop, refl, arith, sym, ap, subst, ◌∙◌, inl, take-append-drop, length-append, length-drop, append-nil}
 use Rattle.std.proofs.Math.Seq.{take-length}
 use Rattle.std.specs.Prelude.{Option, None, Some, IsTrue, IsSome, IfSome, IsSomeAnd, slice_get, is_some}
 use Rattle.vdcp_value.specs.Parts.{IsItem}
@@ -31,7 +31,7 @@ use Rattle.vdcp_words.specs.declared.reply.Reply.{Reply}
 use Rattle.vdcp_words.specs.declared.reply.Reply.TheVariants as reply
 use Rattle.vdcp_world.specs.Channel.{Channel, new_channel, after_event, after_events, IsReached, state_hearing, log_hearing, state_waiting, log_waiting, state_straying, log_straying}
 use Rattle.vdcp_auto.specs.Heard.{heard_in}
-use Rattle.vdcp_world.specs.Headline.{IsUnknownAt, IsOutside, IsRefusedIn, AreReported, Means, Headline}
+use Rattle.vdcp_world.specs.Headline.{IsUnknownAt, IsOutside, IsRefusedIn, AreReported, Means, is_complete, reported_of, Headline}
 use Rattle.vdcp_world.specs.declared.event.Event.{Event}
 use Rattle.vdcp_world.specs.declared.event.Event.TheVariants as event
 use Rattle.vdcp_world.proofs.Below.{Below}
@@ -150,6 +150,59 @@ begins : (list aired : List Item) (settled : ℕ) → Near list aired settled �
 begins list aired settled n =
     (drop (length aired) list, sym (take-append-drop (length aired) list) ∙ ap (λ (front : List Item). front ++ drop (length aired) list) (sym n.aired_is))
 
+take_within : {A : Type 0} → (s a : ℕ) (xs : List A) → s ≤ a → take s (take a xs) ≡ take s xs
+take_within zero a xs l = refl
+take_within (suc s) zero xs l = absurd (omega arith)
+take_within (suc s) (suc a) [] l = refl
+take_within (suc s) (suc a) (x ∷ xs) l = ap (λ ys. x ∷ ys) (take_within s a xs (omega arith))
+
+reports : (list aired : List Item) (settled : ℕ) → Near list aired settled
+    → (last : List Item) × (aired ≡ take settled list ++ last) × (length last ≤ 1)
+reports list aired settled n =
+    let front : take settled aired ≡ take settled list =
+    ap (take settled) n.aired_is ∙ take_within settled (length aired) list n.low in
+    let size : length (drop settled aired) + settled ≡ length aired = omega (arith, length-drop settled aired, n.low) in (
+      drop settled aired,
+      sym (take-append-drop settled aired) ∙ ap (λ (x : List Item). x ++ drop settled aired) front,
+      omega (arith, size, n.high),
+    )
+
+-- ---- all that went to air is reported
+
+without_last : (aired front last : List Item) → aired ≡ front ++ last → length aired ≡ length front → aired ≡ front
+without_last aired front [] e same = e ∙ append-nil front
+without_last aired front (item ∷ last) e same = absurd (omega (arith, ap length e, length-append front (item ∷ last), same))
+
+pub complete : (c : Channel) → Headline c → IfSome (outcome_of c.state.stage) (λ outcome. IsTrue (is_complete outcome) → c.aired ≡ reported_of c)
+complete c h = by (outcome_of c.state.stage) h.ended
+  where
+    all : (k : ℕ) → AreReported c.plan c.aired c.log k → c.aired ≡ reported_of c
+    all k a = without_last c.aired (reported_of c) h.reported.0 h.reported.1
+        (a.aired_count ∙ sym (h.count ∙ h.is_settled ∙ a.reported_count))
+
+    by : (o : Option Outcome) → IfSome o (Means c.port.clips c.plan c.aired c.log) → IfSome o (λ outcome. IsTrue (is_complete outcome) → c.aired ≡ reported_of c)
+    by None m = tt
+    by (Some outcome.Done) m = λ _. all (length c.plan.list) m.1
+    by (Some (outcome.Missing k)) m = λ _. all k m.1
+    by (Some (outcome.Refused k)) m = λ _. all k m.1
+    by (Some outcome.Lost) m = λ e. cc
+    by (Some outcome.Stopped) m = λ e. cc
+    by (Some outcome.Denied) m = absurd m
+    by (Some (outcome.Foreign k)) m = absurd m
+    by (Some (outcome.Strange k)) m = absurd m
+
+pub fewer : (c : Channel) → Headline c → c.state.settled ≤ length c.aired
+fewer c h = omega (arith, ap length h.reported.1, length-append (reported_of c) h.reported.0, h.count)
+
+pub but_one : (c : Channel) → Headline c → length c.aired ≤ c.state.settled + 1
+but_one c h = omega (arith, ap length h.reported.1, length-append (reported_of c) h.reported.0, h.count, h.reported.2)
+
+-- ---- no other outcome
+
+-- what never comes
+pub never : (c : Channel) (o : Outcome) → Headline c → outcome_of c.state.stage ≡ Some o → Means c.port.clips c.plan c.aired c.log o
+never c o h e = subst (λ (x : Option Outcome). IfSome x (Means c.port.clips c.plan c.aired c.log)) e h.ended
+
 -- ---- what the outcome means
 
 unknown_at : (clips : List (ClipId × Timecode)) (list : List Item) (k : ℕ) (o : Option Item) → slice_get list k ≡ o → k < length list
@@ -222,8 +275,8 @@ headline c k l =
     let near = near_at c.plan.list c.port.clips c.port.state.cued c.aired c.state.settled c.state.stage k.stands.place in
     record {
       beginning = begins c.plan.list c.aired c.state.settled near;
-      reported = near.low;
-      but_one = near.high;
+      reported = reports c.plan.list c.aired c.state.settled near;
+      count = taken c.plan.list c.state.settled (omega (arith, near.low, near.within));
       is_settled = l.is_settled;
       keeps_rules = l.keeps_rules;
       may_await = l.may_await;

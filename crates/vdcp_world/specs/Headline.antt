@@ -1,5 +1,5 @@
 -- The headline: what holds of every channel that events have led to, whatever they were.
-use Rattle.std.specs.Prelude.{ℕ, ◌+◌, ◌≡◌, ◌≤◌, false, IsTrue, IsSome, IfSome, IsSomeAnd, List, ◌++◌, length, slice_get}
+use Rattle.std.specs.Prelude.{ℕ, ◌≡◌, ◌≤◌, Bool, true, false, IsTrue, IsSome, IfSome, IsSomeAnd, List, ◌++◌, length, take, slice_get}
 use Rattle.vdcp_value.specs.declared.clip_id.ClipId.{ClipId}
 use Rattle.vdcp_value.specs.declared.part.Item.{Item}
 use Rattle.vdcp_value.specs.declared.timecode.Timecode.{Timecode}
@@ -47,12 +47,24 @@ Means clips plan aired log outcome.Denied = ⊥
 Means clips plan aired log (outcome.Foreign k) = ⊥
 Means clips plan aired log (outcome.Strange k) = ⊥
 
+-- the outcomes after which all that went to air is reported
+abbrev pub is_complete : Outcome → Bool
+is_complete outcome.Done = true
+is_complete (outcome.Missing k) = true
+is_complete (outcome.Refused k) = true
+is_complete _ = false
+
+-- the events that are reported as aired
+abbrev pub reported_of : Channel → List Item
+reported_of c = take c.state.settled c.plan.list
+
 -- What went to air is a beginning of the playlist, each event once and in order; and the events reported as
 -- aired are a beginning of these, shorter by one at most.
 pub record Headline (c : Channel) : Type 0 where
   pub beginning : (more : List Item) × (c.plan.list ≡ c.aired ++ more)
-  pub reported : c.state.settled ≤ length c.aired
-  pub but_one : length c.aired ≤ c.state.settled + 1
+  pub reported : (last : List Item) × (c.aired ≡ reported_of c ++ last) × (length last ≤ 1)
+  -- and that many are reported
+  pub count : length (reported_of c) ≡ c.state.settled
   -- what is reported is what the exchanges between the two ends show to be aired
   pub is_settled : c.state.settled ≡ settled c.plan.mode c.log
   -- the rule book allows each command of the log where it stands, and the one that is awaited

@@ -6,11 +6,11 @@ pub enum Event {
     /// The controller gives its next command: it is on the way down, and what was on the way either way is
     /// dropped.
     Tick,
-    /// What is on the way down comes to the port, whose answer is on the way up in place of what was there.
+    /// The port receives what is on the way down; its answer replaces what was on the way up.
     Down,
     /// What is on the way up comes to the controller, which hears its first message.
     Up,
-    /// What is on the way down comes to the port and stays on the way; the answer is lost.
+    /// The port receives what is on the way down, which stays there; the answer is lost.
     DownCopy,
     /// What is on the way up comes to the controller and stays on the way.
     UpCopy,

@@ -34,8 +34,8 @@ pub fn reached_keeps_the_headline()
     vdcp_auto::laws::reached_is_lawful();
 }
 
-/// In plain mode, from whatever channel that events have led to, in which nothing is awaited, the
-/// controller hasn't ended, and no stop is wished for or was sent; and in confirm mode from a new channel:
+/// In plain mode, from whatever channel that events have led to, as long as the controller hasn't ended and
+/// awaits nothing, and no stop is wished for or was sent; and in confirm mode from a new channel:
 /// where each item of the playlist is in the catalogue, and each part fits its clip, enough good rounds
 /// bring the whole playlist to air, all of it reported, and the controller to Done. In plain mode five
 /// rounds for each event that isn't reported, and four, are enough, and in confirm mode six for each event,

@@ -9,8 +9,8 @@
 //! world.aired(), world.reported(), world.log(), world.outcome()
 //! ```
 //!
-//! An event that can't happen changes nothing. `read_script` makes events of a text, and `can_become` says
-//! what damage may make of a burst.
+//! An event that can't happen changes nothing. `read_script` makes events of a text, also another line's
+//! (`ScriptEvent`), and `can_become` says what damage may make of a burst.
 #![tactic(auto)]
 
 mod burst;
@@ -26,7 +26,7 @@ pub use burst::Burst;
 pub use damage::{can_become, is_beginning};
 pub use event::Event;
 pub use heard::first_of;
-pub use script::{ScriptFault, read_script};
+pub use script::{ScriptEvent, ScriptFault, ScriptLine, read_script};
 pub use world::World;
 
 #[cfg(test)]

@@ -93,6 +93,18 @@ impl<S: Source, C: Catalogue, A: Allocator + Copy> Link<S, C, A> {
         self.controller.settled()
     }
 
+    pub fn is_ready(&self) -> bool
+        ensures { result ≡ turns.is_ready self.now.state.stage }
+    {
+        self.controller.is_ready()
+    }
+
+    pub fn wishes_to_stop(&self) -> bool
+        ensures { result ≡ self.now.state.stop }
+    {
+        self.controller.wishes_to_stop()
+    }
+
     pub fn outcome(&self) -> Option<Outcome>
         ensures { result ≡ turns.outcome_of self.now.state.stage }
     {

@@ -9,15 +9,15 @@ use thiserror::Error;
 
 /// Most events of a script.
 const MOST_EVENTS: usize = 100_000;
-/// Most rounds, or frames, that one line asks for.
-const MOST_TIMES: u32 = 10_000;
+/// The greatest number of a line.
+const GREATEST: u32 = 10_000;
 
 /// Why a script is refused. Lines are read one after another and count from 1, blank ones and comments
 /// included, and the first refusal is given; within a line the order is `Word`, `Number` or `Hex`,
 /// `TooMany`.
 #[derive(Clone, Copy, Debug, PartialEq, Eq, Error)]
 pub enum ScriptFault {
-    /// No event has the line's first word, or a word is missing or too many.
+    /// The line's first word is no event's, or not as many words follow it as should.
     #[error("line {0} is no event")]
     Word(usize),
     /// The line's number isn't 1 to 10,000, in digits without leading zeros.
@@ -34,55 +34,150 @@ pub enum ScriptFault {
     Memory,
 }
 
+/// Events that a script can have: those of the line that holds one burst each way, as they are on this one, and
+/// others that have words of their own.
+pub trait ScriptEvent: Sized + Drop {
+    /// What this event is here.
+    fn of_event(event: Event) -> Self;
+
+    /// The event of a line with a word of its own; `None` where it has no such word. It is asked first.
+    fn of_line(alloc: Global, line: &ScriptLine<'_>) -> Result<Option<Self>, ScriptFault>;
+}
+
+impl ScriptEvent for Event {
+    fn of_event(event: Event) -> Event {
+        event
+    }
+
+    fn of_line(_alloc: Global, _line: &ScriptLine<'_>) -> Result<Option<Event>, ScriptFault> {
+        Ok(None)
+    }
+}
+
+/// A line of a script.
+#[derive(Clone, Copy, Debug)]
+pub struct ScriptLine<'a> {
+    /// Its number, from 1.
+    pub number: usize,
+    /// Its first word.
+    pub word: &'a str,
+    /// What one space parts from that word.
+    pub argument: Option<&'a str>,
+}
+
+impl<'a> ScriptLine<'a> {
+    fn of_text(number: usize, text: &'a str) -> Result<ScriptLine<'a>, ScriptFault> {
+        let (word, argument) = match text.split_once(' ') {
+            None => (text, None),
+            Some((word, argument)) => (word, Some(argument)),
+        };
+        if argument.is_some_and(|words| words.bytes().any(|byte| byte == b' ')) {
+            return Err(ScriptFault::Word(number));
+        }
+        Ok(ScriptLine {
+            number,
+            word,
+            argument,
+        })
+    }
+
+    /// The number that follows the word, 1 to 10,000; 1 where none does.
+    pub fn count(&self) -> Result<u32, ScriptFault>
+        ensures { IfOk result (λ count. (1 ≤ count) × (count ≤ 10000)) }
+    {
+        let Some(digits) = self.argument else {
+            return Ok(1);
+        };
+        if digits.starts_with('0') || !digits.bytes().all(|byte| byte.is_ascii_digit()) {
+            return Err(ScriptFault::Number(self.number));
+        }
+        match digits.parse::<u32>() {
+            Ok(count) if 1 <= count && count <= GREATEST => Ok(count),
+            Ok(_) | Err(_) => Err(ScriptFault::Number(self.number)),
+        }
+    }
+
+    /// The bytes whose hexadecimal digits follow the word, 1 to 1,024.
+    pub fn burst(&self, alloc: Global) -> Result<Burst, ScriptFault> {
+        let digits = self.needed()?;
+        if digits.is_empty() || digits.len() > 2 * MOST_BYTES {
+            return Err(ScriptFault::Hex(self.number));
+        }
+        match hex::decode(alloc, digits) {
+            Ok(bytes) => Ok(Burst::new(bytes)),
+            Err(FromHexError::OutOfMemory) => Err(ScriptFault::Memory),
+            Err(_) => Err(ScriptFault::Hex(self.number)),
+        }
+    }
+
+    // The byte whose two lower-case digits follow the word.
+    fn byte(&self) -> Result<u8, ScriptFault> {
+        let digits = self.needed()?;
+        if digits.bytes().any(|byte| byte.is_ascii_uppercase()) {
+            return Err(ScriptFault::Hex(self.number));
+        }
+        match <[u8; 1]>::from_hex(digits) {
+            Ok(bytes) => Ok(bytes[0]),
+            Err(_) => Err(ScriptFault::Hex(self.number)),
+        }
+    }
+
+    // What follows the word.
+    fn needed(&self) -> Result<&'a str, ScriptFault> {
+        self.argument.ok_or(ScriptFault::Word(self.number))
+    }
+}
+
 /// Reads a script: a line for each event, or for some rounds or frames. Lines end with a line feed, or
 /// with a carriage return and one; the last one may end with the text. Blank lines and those that begin
 /// with `#` are skipped, and words are parted by one space. `docs/PROTOCOL.md` has the words.
-pub fn read_script(alloc: Global, text: &str) -> Result<Vec<Event>, ScriptFault>
+pub fn read_script<E: ScriptEvent>(alloc: Global, text: &str) -> Result<Vec<E>, ScriptFault>
     ensures few { IfOk result (λ events. length events.items ≤ 100000) }
 {
     let mut events = Vec::new(alloc);
     'lines: for (before, line) in text.lines().enumerate() {
         if !line.is_empty() && !line.starts_with('#') {
-            read_line(alloc, before + 1, line, &mut events)?;
+            read_line(alloc, &ScriptLine::of_text(before + 1, line)?, &mut events)?;
         }
     }
     Ok(events)
 }
 
-/// Reads one line, of this number.
-fn read_line(
+fn read_line<E: ScriptEvent>(
     alloc: Global,
-    number: usize,
-    line: &str,
-    events: &mut Vec<Event>,
+    line: &ScriptLine<'_>,
+    events: &mut Vec<E>,
 ) -> Result<(), ScriptFault>
     requires { length events.old.items ≤ 100000 }
     ensures { length events.new.items ≤ 100000 }
 {
-    let (word, argument) = match line.split_once(' ') {
-        None => (line, None),
-        Some((word, argument)) => (word, Some(argument)),
-    };
-    if argument.is_some_and(|words| words.bytes().any(|byte| byte == b' ')) {
-        return Err(ScriptFault::Word(number));
+    if let Some(event) = E::of_line(alloc, line)? {
+        return push(event, events);
     }
-    match word {
-        "frame" => push_frames(times_of(number, argument)?, events),
-        "round" => push_rounds(times_of(number, argument)?, events),
-        "good" => push_good_rounds(times_of(number, argument)?, events),
-        _ => {
-            let event = match argument {
-                None => event_of(word),
-                Some(hex) => event_with(alloc, number, word, hex)?,
-            };
-            push(event.ok_or(ScriptFault::Word(number))?, events)
-        }
+    match line.word {
+        "frame" => push_frames(line.count()?, events),
+        "round" => push_rounds(line.count()?, events),
+        "good" => push_good_rounds(line.count()?, events),
+        _ => push(E::of_event(event_of(alloc, line)?), events),
+    }
+}
+
+/// The event of a line that has one.
+fn event_of(alloc: Global, line: &ScriptLine<'_>) -> Result<Event, ScriptFault> {
+    match line.word {
+        "alter-down" => Ok(Event::AlterDown(line.burst(alloc)?)),
+        "alter-up" => Ok(Event::AlterUp(line.burst(alloc)?)),
+        "stray-nak" => Ok(Event::StrayNak(line.byte()?)),
+        _ => event_alone(line).ok_or(ScriptFault::Word(line.number)),
     }
 }
 
 /// The event of a word that stands alone.
-fn event_of(word: &str) -> Option<Event> {
-    match word {
+fn event_alone(line: &ScriptLine<'_>) -> Option<Event> {
+    if line.argument.is_some() {
+        return None;
+    }
+    match line.word {
         "tick" => Some(Event::Tick),
         "down" => Some(Event::Down),
         "up" => Some(Event::Up),
@@ -100,97 +195,43 @@ fn event_of(word: &str) -> Option<Event> {
     }
 }
 
-/// The event of a word that hexadecimal digits follow.
-fn event_with(
-    alloc: Global,
-    number: usize,
-    word: &str,
-    digits: &str,
-) -> Result<Option<Event>, ScriptFault> {
-    match word {
-        "alter-down" => Ok(Some(Event::AlterDown(burst_of(alloc, number, digits)?))),
-        "alter-up" => Ok(Some(Event::AlterUp(burst_of(alloc, number, digits)?))),
-        "stray-nak" => {
-            let byte = byte_of(digits).ok_or(ScriptFault::Hex(number))?;
-            Ok(Some(Event::StrayNak(byte)))
-        }
-        _ => Ok(None),
-    }
-}
-
-/// How many times: once where the line doesn't say.
-fn times_of(number: usize, argument: Option<&str>) -> Result<u32, ScriptFault> {
-    let Some(digits) = argument else {
-        return Ok(1);
-    };
-    if digits.starts_with('0') || !digits.bytes().all(|byte| byte.is_ascii_digit()) {
-        return Err(ScriptFault::Number(number));
-    }
-    match digits.parse::<u32>() {
-        Ok(times) if times <= MOST_TIMES => Ok(times),
-        Ok(_) | Err(_) => Err(ScriptFault::Number(number)),
-    }
-}
-
-fn burst_of(alloc: Global, number: usize, digits: &str) -> Result<Burst, ScriptFault> {
-    if digits.is_empty() || digits.len() > 2 * MOST_BYTES {
-        return Err(ScriptFault::Hex(number));
-    }
-    match hex::decode(alloc, digits) {
-        Ok(bytes) => Ok(Burst::new(bytes)),
-        Err(FromHexError::OutOfMemory) => Err(ScriptFault::Memory),
-        Err(_) => Err(ScriptFault::Hex(number)),
-    }
-}
-
-/// The byte of two lower-case digits.
-fn byte_of(digits: &str) -> Option<u8> {
-    if digits.bytes().any(|byte| byte.is_ascii_uppercase()) {
-        return None;
-    }
-    match <[u8; 1]>::from_hex(digits) {
-        Ok(bytes) => Some(bytes[0]),
-        Err(_) => None,
-    }
-}
-
-fn push_frames(times: u32, events: &mut Vec<Event>) -> Result<(), ScriptFault>
+fn push_frames<E: ScriptEvent>(times: u32, events: &mut Vec<E>) -> Result<(), ScriptFault>
     requires { length events.old.items ≤ 100000 }
     ensures { length events.new.items ≤ 100000 }
 {
     'frames: for _ in 0..times {
-        push(Event::Frame, events)?;
+        push(E::of_event(Event::Frame), events)?;
     }
     Ok(())
 }
 
-fn push_rounds(times: u32, events: &mut Vec<Event>) -> Result<(), ScriptFault>
+fn push_rounds<E: ScriptEvent>(times: u32, events: &mut Vec<E>) -> Result<(), ScriptFault>
     requires { length events.old.items ≤ 100000 }
     ensures { length events.new.items ≤ 100000 }
 {
     'rounds: for _ in 0..times {
-        push(Event::Tick, events)?;
-        push(Event::Down, events)?;
-        push(Event::Up, events)?;
+        push(E::of_event(Event::Tick), events)?;
+        push(E::of_event(Event::Down), events)?;
+        push(E::of_event(Event::Up), events)?;
     }
     Ok(())
 }
 
-fn push_good_rounds(times: u32, events: &mut Vec<Event>) -> Result<(), ScriptFault>
+fn push_good_rounds<E: ScriptEvent>(times: u32, events: &mut Vec<E>) -> Result<(), ScriptFault>
     requires { length events.old.items ≤ 100000 }
     ensures { length events.new.items ≤ 100000 }
 {
     'rounds: for _ in 0..times {
-        push(Event::Timeout, events)?;
-        push(Event::Ready, events)?;
-        push(Event::End, events)?;
+        push(E::of_event(Event::Timeout), events)?;
+        push(E::of_event(Event::Ready), events)?;
+        push(E::of_event(Event::End), events)?;
         push_rounds(1, events)?;
     }
     Ok(())
 }
 
 /// Adds an event, where it isn't one too many.
-fn push(event: Event, events: &mut Vec<Event>) -> Result<(), ScriptFault>
+fn push<E: ScriptEvent>(event: E, events: &mut Vec<E>) -> Result<(), ScriptFault>
     requires { length events.old.items ≤ 100000 }
     ensures { length events.new.items ≤ 100000 }
 {

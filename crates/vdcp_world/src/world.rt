@@ -1,12 +1,13 @@
-ghost use Rattle.std.specs.Prelude.{ℕ, ◌≡◌, ◌+◌, ◌≤◌, ◌<◌, ◌++◌, List, length, IfSome, OnOk, OnErr};
+ghost use Rattle.std.specs.Prelude.{ℕ, ◌≡◌, ◌≢◌, ◌+◌, ◌≤◌, ◌<◌, ◌++◌, List, Some, length, take, IsTrue, IfSome, OnOk, OnErr};
 ghost use Rattle.vdcp_auto.specs.RuleBook.{KeepsRules};
 ghost use Rattle.vdcp_auto.specs.Settled.{settled};
-ghost use Rattle.vdcp_auto.specs.Turn.{outcome_of};
+ghost use Rattle.vdcp_auto.specs.Turn.{is_ready, outcome_of};
 ghost use Rattle.vdcp_value.specs.declared.part.Item.{Item};
+ghost use Rattle.vdcp_auto.specs.declared.outcome.Outcome.TheVariants.{Denied, Foreign, Strange};
 ghost use Rattle.vdcp_auto.specs.declared.phase.Mode.TheVariants.{Plain, Confirming};
 ghost use Rattle.vdcp_world.specs.declared.event.Event.{Event};
 ghost use Rattle.vdcp_world.specs.Channel.{new_channel, after_event, after_events, make_of, HappenInPart};
-ghost use Rattle.vdcp_world.specs.Headline.{Headline, Means};
+ghost use Rattle.vdcp_world.specs.Headline.{Headline, Means, is_complete};
 ghost use Rattle.vdcp_world.specs.Rounds.{good_round, times};
 ghost use Rattle.vdcp_world.specs.BoundedEnd.{IsDone, CanGoOn, CanBegin, rounds_to_go_on, rounds_from_new};
 
@@ -23,7 +24,7 @@ use vdcp_value::Item;
 /// holds one burst each way.
 ///
 /// - `step` and `run` bring in what happens.
-/// - `aired`, `reported`, `log` and `outcome` only look.
+/// - `aired`, `reported`, `log`, `is_ready`, `wishes_to_stop` and `outcome` only look.
 ///
 /// Whatever happens, what went to air is a beginning of the playlist, each event once and in order, and
 /// the events reported as aired are a beginning of these, shorter by one at most: each call that changes
@@ -137,9 +138,10 @@ impl<S: Source, C: Catalogue, A: Allocator + Copy> World<S, C, A> {
     /// The events happen, in order, up to the first for which memory is refused: the answer is then
     /// `AllocError`; those before it have happened, and it hasn't, nor have those after it.
     ///
-    /// A good round is the events `Timeout`, `Ready`, `End`, `Tick`, `Down`, `Up`. Where each item of the
-    /// playlist is in the catalogue, and each part fits its clip, a run of this many good rounds that answers
-    /// `Ok` leaves the controller Done, the whole playlist aired, and all of it reported:
+    /// A good round begins with `Timeout`, `Ready` and `End`, and then comes a round: `Tick`, `Down`, `Up`.
+    /// Where each item of the playlist is in the catalogue, and each part fits its clip, a run of this many
+    /// good rounds that answers `Ok` leaves the controller Done, the whole playlist aired, and all of it
+    /// reported:
     ///
     /// - in plain mode (`plain_end`), whatever happened before, while nothing is awaited, the controller hasn't
     ///   ended, and no stop is wished for or was sent: five for each event that isn't reported, and four, or more;
@@ -173,13 +175,19 @@ impl<S: Source, C: Catalogue, A: Allocator + Copy> World<S, C, A> {
         self.link.aired()
     }
 
-    /// How many events of the playlist the controller knows to have been aired: all that went to air, or
-    /// one fewer.
+    /// How many events of the playlist the controller knows to have been aired. They are the first of those
+    /// that went to air: all of them, or all but the last; and all once the outcome is Done, Missing or
+    /// Refused.
     pub fn reported(&self) -> usize
         ensures count { result ≡ self.now.state.settled }
         ensures settled { result ≡ settled self.now.plan.mode self.now.log }
         ensures aired { result ≤ length self.now.aired }
         ensures but_one { length self.now.aired ≤ result + 1 }
+        ensures beginning { (last : List Item) × (self.now.aired ≡ take result self.now.plan.list ++ last)
+            × (length last ≤ 1) }
+        ensures within { length (take result self.now.plan.list) ≡ result }
+        ensures complete { IfSome (outcome_of self.now.state.stage)
+            (λ outcome. IsTrue (is_complete outcome) → self.now.aired ≡ take result self.now.plan.list) }
     {
         reached_keeps_the_headline();
         self.link.reported()
@@ -194,9 +202,26 @@ impl<S: Source, C: Catalogue, A: Allocator + Copy> World<S, C, A> {
         self.link.log()
     }
 
-    /// How the controller ended; `None` while it goes on.
+    /// The controller awaits nothing, and hasn't ended: the next tick gives a command.
+    pub fn is_ready(&self) -> bool
+        ensures { result ≡ is_ready self.now.state.stage }
+    {
+        self.link.is_ready()
+    }
+
+    /// The operator wants to stop, and the STOP hasn't gone out yet.
+    pub fn wishes_to_stop(&self) -> bool
+        ensures { result ≡ self.now.state.stop }
+    {
+        self.link.wishes_to_stop()
+    }
+
+    /// How the controller ended; `None` while it goes on. Never Denied, Foreign or Strange.
     pub fn outcome(&self) -> Option<Outcome>
         ensures outcome { result ≡ outcome_of self.now.state.stage }
+        ensures not_denied { result ≢ Some Denied }
+        ensures not_foreign { (k : ℕ) → result ≢ Some (Foreign k) }
+        ensures not_strange { (k : ℕ) → result ≢ Some (Strange k) }
         ensures means { IfSome result (Means self.now.port.clips self.now.plan self.now.aired self.now.log) }
     {
         reached_keeps_the_headline();

@@ -9,7 +9,7 @@ use std::test::Fail;
 use vdcp_auto::{Controller, Outcome};
 use vdcp_wire::{Entry, ScriptWire};
 
-/// Each answer, and a silence behind it; and stale bytes before the answer of this number.
+/// Each answer, and a silence after it; and stale bytes before the answer of this number.
 fn answers<A: Allocator + Copy>(
     alloc: A,
     answers: &[&[u8]],
@@ -103,7 +103,7 @@ fn close_inside_a_message_is_a_time_out(rt: HostRuntime) -> Result<(), Fail> {
     expect_cut_off(&rt, rt.alloc(), confirming())
 }
 
-/// In confirm mode SELECT ends by its time-out alone: the three answers behind it are heard and change
+/// In confirm mode SELECT ends by its time-out alone: the three answers after it are heard and change
 /// nothing, and the close is the time-out.
 fn expect_unconfirmed(rt: &impl Abort, alloc: Global, stale: Option<usize>) -> Result<(), Fail> {
     let wire = ScriptWire::new(alloc, answers(alloc, &[GRANTED, ACK, IDLE, ACK], stale)?);
@@ -213,7 +213,7 @@ fn failed_listen_is_a_device_for_good(rt: HostRuntime) -> Result<(), Fail> {
     Ok(())
 }
 
-/// A run of this controller whose call of this number fails behind `part` bytes of a send: whether no call failed, and
+/// A run of this controller whose call of this number fails after `part` bytes of a send: whether no call failed, and
 /// what was sent, and whether an answer is awaited.
 fn failed_at(
     alloc: Global,
@@ -235,7 +235,7 @@ fn front(all: &Vec<u8>, len: usize) -> Result<&[u8], &'static str> {
     all.get(..len).ok_or("more was sent")
 }
 
-/// A run of a new controller over these answers, of which some call fails behind `part` bytes of a send.
+/// A run of a new controller over these answers, of which some call fails after `part` bytes of a send.
 #[derive(Clone, Copy)]
 struct FailingRun<'a> {
     alloc: Global,

@@ -56,7 +56,7 @@ fn half_messages_are_cut_each_time(rt: HostRuntime) -> Result<(), Fail> {
     Ok(())
 }
 
-/// How many bytes a server answers where the close comes behind so many bytes of a burst.
+/// How many bytes a server answers where the close comes after this many bytes of a burst.
 fn answered(alloc: Global, burst: &[u8], cut: usize) -> Result<usize, Fail> {
     let mut entries = Vec::new(alloc);
     let front = burst.get(..cut).ok_or("the burst is shorter")?;
@@ -91,7 +91,7 @@ fn close_at_each_byte_gives_up_what_is_cut_off(rt: HostRuntime) -> Result<(), Fa
     Ok(())
 }
 
-/// OPEN, SELECT, and then 100,000 bytes of PLAY, with a silence behind each.
+/// OPEN, SELECT, and then 100,000 bytes of PLAY, with a silence after each.
 fn long_burst(alloc: Global) -> Result<Vec<Entry<Global>>, AllocError> {
     let mut plays = Vec::new(alloc);
     for _ in 0..20_000 {
@@ -116,7 +116,7 @@ fn long_burst_is_answered_as_far_as_it_is_read(rt: HostRuntime) -> Result<(), Fa
     let mut server = server(rt.alloc(), long_burst(rt.alloc())?)?;
     assert_eq!(rt; serve(&mut server, 4), Ok(Ran::Spent));
     let before = server.wire().sent().len();
-    // 196 pieces of at most 512 bytes, the silence, and the close behind the last entry.
+    // 196 pieces of at most 512 bytes, the silence, and the close after the last entry.
     assert_eq!(rt; serve(&mut server, 198), Ok(Ran::Closed));
     let sent = server.wire().sent().get(before..).ok_or("less was sent")?;
     let mut answers = Vec::from_slice(rt.alloc(), &[0x04; 819])?;

@@ -32,7 +32,7 @@ fn reported<S: Source, W: Wire>(auto: &mut AutoDriver<S, W>, listens: u64) -> Op
     }
 }
 
-/// These answers, with a silence behind each.
+/// These answers, with a silence after each.
 fn answers(alloc: Global, answers: &[&[u8]]) -> Result<ScriptWire<Global>, AllocError>
     ensures told { IfOk result (λ wire. wire.told ≡ nothing_told) }
     ensures works { IfOk result (λ wire. wire.failed ≡ false) }

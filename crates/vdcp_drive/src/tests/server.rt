@@ -61,7 +61,7 @@ fn opening_is_served(rt: HostRuntime) -> Result<(), Fail> {
     Ok(())
 }
 
-/// What a server sends for PLAY and STOP in one burst, cut into two pieces behind so many bytes.
+/// What a server sends for PLAY and STOP in one burst, cut into two pieces after this many bytes.
 fn play_and_stop(alloc: Global, cut: usize) -> Result<Vec<u8>, Fail> {
     let mut burst = Vec::from_slice(alloc, PLAY)?;
     burst.extend_from_slice(STOP)?;
@@ -170,7 +170,7 @@ fn failed_send_is_a_device_for_good(rt: HostRuntime) -> Result<(), Fail> {
     Ok(())
 }
 
-/// A server over a wire whose call of this number fails behind `part` bytes of a send: whether no call failed, and
+/// A server over a wire whose call of this number fails after `part` bytes of a send: whether no call failed, and
 /// what was sent.
 fn failed_at(alloc: Global, call: u64, part: usize) -> Result<(bool, Vec<u8>), Fail> {
     let clips = two_clips(250).ok_or("250 frames")?;

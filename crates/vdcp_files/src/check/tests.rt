@@ -92,7 +92,7 @@ fn both_files_are_read_at_the_rate(rt: HostRuntime) {
     assert_eq!(rt; err.as_slice(), b"vdcp: list.csv: row 1: time\n".as_slice());
 }
 
-// So many copies of a row.
+// This many copies of a row.
 fn copies(alloc: Global, row: &str, count: usize) -> Result<String, Fail> {
     let mut all = String::new(alloc);
     for _ in 0..count {

@@ -81,7 +81,7 @@ fn rows_are_tested(rt: HostRuntime) {
     }
 }
 
-// So many copies of a text.
+// This many copies of a text.
 fn copies(alloc: Global, text: &str, count: usize) -> Result<String, AllocError> {
     let mut all = String::new(alloc);
     for _ in 0..count {
@@ -175,7 +175,7 @@ fn fed(alloc: Global, burst: &[u8]) -> Result<String, AllocError> {
 /// A damaged burst, and the reading that it has to have.
 type Row = (Vec<u8>, String);
 
-// The burst cut behind each byte but the last.
+// The burst cut after each byte but the last.
 fn add_cuts(alloc: Global, rows: &mut Vec<Row>) -> Result<(), AllocError> {
     for k in 1..=12 {
         let burst = Vec::from_slice(alloc, &CUE[..k])?;
@@ -184,7 +184,7 @@ fn add_cuts(alloc: Global, rows: &mut Vec<Row>) -> Result<(), AllocError> {
     Ok(())
 }
 
-// The burst with each other byte at each place behind the count.
+// The burst with each other byte at each place after the count.
 fn add_bad_sums(alloc: Global, rows: &mut Vec<Row>) -> Result<(), AllocError> {
     for place in 3..=13 {
         for byte in 0..=255 {

@@ -4,7 +4,7 @@ use super::seen::{
     Counts, OPEN, burst, confirming, counts_of, good, has_log, heard, opened, plain, rounds, run,
     shelf, step, unheard,
 };
-use crate::LateEvent::{AlterDown, AlterUp, JunkDown, JunkUp, LoseDown};
+use crate::LateEvent::{AlterDown, AlterUp, JunkDown, JunkUp, LoseDown, StrayAck, StrayNak};
 use crate::LateWorld;
 use std::test::Fail;
 use vdcp_auto::Outcome;
@@ -236,5 +236,23 @@ fn two_clips_go_to_air_in_confirm_mode(rt: HostRuntime) -> Result<(), Fail> {
         outcome: Some(Outcome::Done),
     };
     assert_eq!(rt; counts_of(&world), wanted);
+    Ok(())
+}
+
+#[test]
+fn a_receipt_from_nowhere_is_heard_before_what_is_on_the_way(rt: HostRuntime) -> Result<(), Fail> {
+    let mut world = plain(rt.alloc())?;
+    run(rt.alloc(), &mut world, "tick down")?;
+    step(&mut world, &StrayAck)?;
+    step(&mut world, &StrayNak(0x01))?;
+    has_log(&rt, &world, &[]);
+    run(rt.alloc(), &mut world, "up")?;
+    has_log(&rt, &world, &[opened()]);
+    // In confirm mode it is heard, and ends nothing.
+    let mut world = confirming(rt.alloc())?;
+    run(rt.alloc(), &mut world, "tick down up tick down lose-up")?;
+    step(&mut world, &StrayAck)?;
+    step(&mut world, &StrayNak(0x01))?;
+    has_log(&rt, &world, &[opened()]);
     Ok(())
 }

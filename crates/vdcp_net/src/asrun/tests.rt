@@ -12,7 +12,7 @@ use vdcp_wire::ScriptWire;
 
 const PLAYED: &[u8] = b"0,CLIP0001\n1,\"A,B\"\n";
 
-// The automation of a list whose events are played, after so many listens.
+// The automation of a list whose events are played, after this many listens.
 fn driver_after(
     rt: &HostRuntime,
     listens: u64,
@@ -24,7 +24,7 @@ fn driver_after(
     Ok(driver)
 }
 
-// Writes the events that are reported after so many listens to a file that answers so many calls.
+// Writes the events that are reported after this many listens to a file that answers this many calls.
 fn written_after(
     rt: &HostRuntime,
     listens: u64,

@@ -15,7 +15,7 @@ use vdcp_value::Rate;
 use vdcp_wire::ScriptWire;
 use vdcp_words::Reply;
 
-/// A clock that goes on by so many milliseconds each time it is read, and fails once it has been read so
+/// A clock that goes on by this many milliseconds each time it is read, and fails once it has been read so
 /// often.
 #[derive(Drop)]
 struct Ticking {

@@ -252,6 +252,33 @@ fn asrun_file_has_the_reported_events(rt: HostRuntime) -> Result<(), Fail> {
     Ok(())
 }
 
+// The port has answered once another command than OPEN, the second send, is awaited.
+#[test]
+fn older_list_stays_where_the_port_never_answered(rt: HostRuntime) -> Result<(), Fail> {
+    let name = temporary(&rt, "older")?;
+    let settings = RunSettings {
+        asrun: Some(name.as_str()),
+        ..SETTINGS
+    };
+    for (call, text) in [(1, "older"), (2, "older"), (4, "older"), (6, ""), (7, "")] {
+        fs::write(&rt, name.as_str(), "older")?;
+        let mut wire = wire_of(rt.alloc(), &two_played())?;
+        wire.fail_at(call, 0);
+        let _ = played(&rt, TWO_EVENTS, wire, settings)?;
+        let written = fs::read_to_string(&rt, name.as_str())?;
+        assert_eq!(rt; written.as_str(), text, "at {call}");
+    }
+    // (three silences are no answer, and a refused OPEN is one)
+    let rows: [(&[&[u8]], &str); 2] = [(&[&[], &[], &[]], "older"), (&[DENIED], "")];
+    for (answers, text) in rows {
+        fs::write(&rt, name.as_str(), "older")?;
+        let _ = played(&rt, TWO_EVENTS, wire_of(rt.alloc(), answers)?, settings)?;
+        let written = take_file(&rt, name.as_str())?;
+        assert_eq!(rt; written.as_str(), text);
+    }
+    Ok(())
+}
+
 #[test]
 fn asrun_file_of_parts_has_their_times(rt: HostRuntime) -> Result<(), Fail> {
     let name = temporary(&rt, "parts")?;
@@ -378,7 +405,7 @@ fn end_is_told_whole(rt: HostRuntime) -> Result<(), Fail> {
     Ok(())
 }
 
-// Where standard output fails, standard error gets nothing.
+// Where standard output fails, standard error gets the faults all the same.
 #[test]
 fn failing_call_of_standard_output_is_the_last(rt: HostRuntime) -> Result<(), Fail> {
     let end = spent_end(&rt)?;
@@ -386,8 +413,8 @@ fn failing_call_of_standard_output_is_the_last(rt: HostRuntime) -> Result<(), Fa
     for left in 0..whole.calls {
         let (out, err, status) = written_to(rt.alloc(), end, left, 1000);
         assert_eq!(rt;
-            (status, out.calls, err.calls),
-            (None, left + 1, 0),
+            (status, out.calls, err.bytes.as_slice()),
+            (None, left + 1, SPENT_FAULTS),
             "after {left}"
         );
         assert!(rt;

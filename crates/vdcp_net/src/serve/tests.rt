@@ -60,7 +60,7 @@ where
     Ok((listener, address))
 }
 
-/// Port 1 of unit 0, for so many turns, each with four milliseconds of silence.
+/// Port 1 of unit 0, for this many turns, each with four milliseconds of silence.
 fn settings(turns: u32) -> ServeSettings
     ensures unit { result.unit ≡ 0 }
     ensures cue_frames { result.cue_frames ≡ 1 }
@@ -75,7 +75,7 @@ fn settings(turns: u32) -> ServeSettings
     }
 }
 
-/// Serves the clips of a reader for so many turns, with so many milliseconds of silence: the status.
+/// Serves the clips of a reader for this many turns, with this many milliseconds of silence: the status.
 fn serve_to<N, C, W>(
     net: &N,
     address: &str,
@@ -101,7 +101,7 @@ where
     do_serve(net, address, catalogue, settings, log, out, err)
 }
 
-/// What is printed where the clips of a reader are served for so many turns, with so many milliseconds of silence.
+/// What is printed where the clips of a reader are served for this many turns, with this many milliseconds of silence.
 fn served_with<N, C>(net: &N, address: &str, clips: C, turns: u32, silence: u32) -> Output
 where
     N: Net + AllocGlobal,
@@ -113,7 +113,7 @@ where
     Output { out, err, status }
 }
 
-/// Serves for so many turns.
+/// Serves for this many turns.
 fn served<R: Net + AllocGlobal>(rt: &R, address: &str, catalogue: &[u8], turns: u32) -> Output {
     served_with(rt, address, catalogue, turns, 4)
 }

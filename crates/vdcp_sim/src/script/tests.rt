@@ -16,7 +16,7 @@ fn a_script_is_read_by_a_million_reads_at_most(rt: HostRuntime) -> Result<(), Fa
             name: "script.txt",
             reader,
         };
-        match read_events(rt.alloc(), script) {
+        match read_events::<Event, _>(rt.alloc(), script) {
             Ok(events) => {
                 assert!(rt; is_read, "{times}");
                 assert_eq!(rt; events.as_slice(), [Event::Tick].as_slice());

@@ -14,6 +14,7 @@ const PLAIN: SimSettings = SimSettings {
     limit: 3,
     cue_frames: 1,
     confirm: false,
+    late: false,
     rate: Rate::F25,
     trace: false,
 };
@@ -26,6 +27,16 @@ const TRACED: SimSettings = SimSettings {
 const CONFIRMING: SimSettings = SimSettings {
     confirm: true,
     ..PLAIN
+};
+
+const LATE: SimSettings = SimSettings {
+    late: true,
+    ..PLAIN
+};
+
+const LATE_CONFIRMING: SimSettings = SimSettings {
+    late: true,
+    ..CONFIRMING
 };
 
 fn file<R>(name: &str, reader: R) -> NamedFile<'_, R> {
@@ -200,6 +211,142 @@ fn a_lost_play_is_asked_after(rt: HostRuntime) {
     );
 }
 
+#[test]
+fn a_late_line_keeps_its_bursts(rt: HostRuntime) {
+    // (the answer to PLAY comes after its time-out, and is heard for the STATUS after it)
+    let script =
+        b"good 5\ntick\ndown\ntimeout\ntick\nup\ntick\ndown\nup\nlose-down\nround\nend\nround 2\n";
+    let text = "1 open 01 01 -> granted\n2 select 01 -> ack\n3 exists CLIP0001 -> present\n\
+        4 cue CLIP0001 -> ack\n5 status 01 -> state 80\n6 play -> silence\n7 status 01 -> ack\n\
+        8 status 01 -> state 04\n9 active -> active CLIP0001\n10 status 01 -> state 01\n\
+        11 close 01 -> ack\naired 0 CLIP0001\nreported 1\nexchanges 11\noutcome done\n";
+    let settings = SimSettings {
+        late: true,
+        ..TRACED
+    };
+    expect_text(&rt, b"CLIP0001\n", script, settings, text);
+    let rows: [(&[u8], &str); 7] = [
+        (
+            b"tick\ntimeout\ntick\nlose-down 2\nlose-down 2\ndown\nup\nround\n",
+            "1 open 01 01 -> silence\n2 open 01 01 -> granted\n3 select 01 -> ack\n\
+             reported 0\nexchanges 3\noutcome open\n",
+        ),
+        (
+            b"tick\ndown-copy\ndown-copy\nlose-up 2\nup\nup\nround\n",
+            "1 open 01 01 -> granted\n2 select 01 -> granted\nreported 0\nexchanges 2\noutcome open\n",
+        ),
+        (
+            b"junk-down ff\nround\n",
+            "1 open 01 01 -> nak 04\nreported 0\nexchanges 1\noutcome open\n",
+        ),
+        (
+            b"tick\njunk-down ff\ndown\nup\n",
+            "1 open 01 01 -> granted\nreported 0\nexchanges 1\noutcome open\n",
+        ),
+        (
+            b"junk-up 0580\nround\n",
+            "1 open 01 01 -> nak 80\nreported 0\nexchanges 1\noutcome open\n",
+        ),
+        (
+            b"alter-up 0580\nalter-down ff\ntick\ndown\nalter-up 0580\nup\n",
+            "1 open 01 01 -> nak 80\nreported 0\nexchanges 1\noutcome open\n",
+        ),
+        (
+            b"tick\njunk-up 04\nstray-ack\nstray-nak 01\nup\n",
+            "reported 0\nexchanges 0\noutcome open\n",
+        ),
+    ];
+    for (script, text) in rows {
+        expect_text(&rt, b"CLIP0001\n", script, settings, text);
+    }
+}
+
+#[test]
+fn an_end_is_started_anew(rt: HostRuntime) {
+    let rows: [(&[u8], SimSettings, &str); 8] = [
+        (
+            b"good 9\n",
+            LATE,
+            "aired 0 CLIP0001\nreported 1\nexchanges 9\noutcome done\n",
+        ),
+        (
+            b"good 6\nserver-anew\ngood\n",
+            LATE,
+            "aired 0 CLIP0001\nreported 1\nexchanges 7\noutcome refused 0\n",
+        ),
+        (
+            b"good 5\ntick\ndown\nautomation-anew\nlose-up\ngood 4\n",
+            LATE,
+            "aired 0 CLIP0001\nreported 1\nexchanges 10\noutcome done\n",
+        ),
+        (
+            b"stop\nautomation-anew\ngood 9\n",
+            LATE,
+            "aired 0 CLIP0001\nreported 1\nexchanges 9\noutcome done\n",
+        ),
+        (
+            b"good 12\n",
+            LATE_CONFIRMING,
+            "aired 0 CLIP0001\nreported 1\nexchanges 11\noutcome done\n",
+        ),
+        (
+            b"tick\ntimeout\ntick\ndown\nup\nlose-down\ngood 11\n",
+            LATE_CONFIRMING,
+            "aired 0 CLIP0001\nreported 1\nexchanges 12\noutcome done\n",
+        ),
+        (
+            b"good 7\nserver-anew\ngood 4\n",
+            LATE_CONFIRMING,
+            "aired 0 CLIP0001\nreported 0\nexchanges 10\noutcome lost\n",
+        ),
+        (
+            b"tick\njunk-up 04\nup\nstray-ack\ndown\nup\ngood 6\nautomation-anew\ngood 5\n",
+            LATE_CONFIRMING,
+            "aired 0 CLIP0001\nreported 1\nexchanges 11\noutcome done\n",
+        ),
+    ];
+    for (script, settings, text) in rows {
+        expect_text(&rt, b"CLIP0001\n", script, settings, text);
+    }
+}
+
+#[test]
+fn a_late_cue_takes_its_frames(rt: HostRuntime) {
+    let settings = SimSettings {
+        cue_frames: 3,
+        ..LATE
+    };
+    let script = b"round 4\nframe 2\nround\nframe\nround 3\nframe 250\nround 2\n";
+    let text = "aired 0 CLIP0001\nreported 1\nexchanges 10\noutcome done\n";
+    expect_text(&rt, b"CLIP0001\n", script, settings, text);
+}
+
+#[test]
+fn a_script_of_a_late_line_is_refused(rt: HostRuntime) {
+    let rows: [(&[u8], SimSettings, &str); 9] = [
+        (b"server-anew\n", PLAIN, "line 1: word"),
+        (b"automation-anew\n", CONFIRMING, "line 1: word"),
+        (b"tick\nlose-down 2\n", PLAIN, "line 2: word"),
+        (b"lose-up 1\n", PLAIN, "line 1: word"),
+        (b"junk-down ff\n", PLAIN, "line 1: word"),
+        (b"junk-up ff\n", CONFIRMING, "line 1: word"),
+        (b"server-anew 1\n", LATE, "line 1: word"),
+        (b"lose-down 0\n", LATE, "line 1: number"),
+        (b"junk-down 0\n", LATE_CONFIRMING, "line 1: hex"),
+    ];
+    for (script, settings, fault) in rows {
+        let (out, err, status) = ran(rt.alloc(), b"CLIP0001\n", script, settings);
+        assert!(rt;
+            err.as_slice()
+                .windows(fault.len())
+                .any(|text| text == fault.as_bytes()),
+            "{fault}"
+        );
+        assert_eq!(rt; status, 1, "{fault}");
+        assert!(rt; out.is_empty(), "{fault}");
+    }
+}
+
 fn expect_refused(rt: &(impl Abort + AllocGlobal), list: &[u8], script: &[u8], line: &str) {
     let (out, err, status) = ran(rt.alloc(), list, script, PLAIN);
     assert_eq!(rt; err.as_slice(), line.as_bytes());
@@ -279,6 +426,12 @@ fn a_reader_may_fail(rt: HostRuntime) {
 
 #[test]
 fn a_writer_may_fail_at_each_call(rt: HostRuntime) -> Result<(), Fail> {
+    fails_at_each_call(&rt, false)?;
+    fails_at_each_call(&rt, true)
+}
+
+fn fails_at_each_call(rt: &(impl Abort + AllocGlobal), late: bool) -> Result<(), Fail> {
+    let settings = SimSettings { late, ..TRACED };
     let mut failed = 0;
     for left in 0..100 {
         let mut out = FailingWriter::new(rt.alloc(), Fails::From(left));
@@ -286,7 +439,15 @@ fn a_writer_may_fail_at_each_call(rt: HostRuntime) -> Result<(), Fail> {
         let list = file("list.csv", b"CLIP0001\n".as_slice());
         let clips = file("clips.csv", CLIPS);
         let script = file("script.txt", b"good 9\n".as_slice());
-        let status = do_sim(rt.alloc(), list, clips, script, TRACED, &mut out, &mut err);
+        let status = do_sim(
+            rt.alloc(),
+            list,
+            clips,
+            script,
+            settings,
+            &mut out,
+            &mut err,
+        );
         assert!(rt; err.is_empty());
         if status == 0 {
             break;

@@ -4,7 +4,7 @@ use std::process::Abort;
 use std::test::Fail;
 
 // Each failure, with the line that tells it and its status.
-const ROWS: [(Failure<'static>, &str, u8); 27] = [
+const ROWS: [(Failure<'static>, &str, u8); 28] = [
     (Failure::Hex, "vdcp: hex\n", 1),
     (Failure::Word, "vdcp: word\n", 1),
     (Failure::Arguments, "vdcp: arguments\n", 1),
@@ -69,6 +69,11 @@ const ROWS: [(Failure<'static>, &str, u8); 27] = [
     ),
     (Failure::NotText("a.txt"), "vdcp: a.txt: text\n", 1),
     (Failure::Write("a.csv"), "vdcp: a.csv: write\n", 3),
+    (
+        Failure::IsList("a.csv"),
+        "vdcp: a.csv: exists as the list\n",
+        3,
+    ),
     (Failure::Address, "vdcp: address\n", 2),
     (Failure::Connect, "vdcp: cannot connect\n", 3),
     (Failure::Bind, "vdcp: cannot bind\n", 3),

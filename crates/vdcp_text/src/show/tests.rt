@@ -76,7 +76,7 @@ fn words_are_shown(rt: HostRuntime) {
     }
 }
 
-// So many copies of a text.
+// This many copies of a text.
 fn copies(alloc: Global, text: &str, count: usize) -> Result<String, Fail> {
     let mut all = String::new(alloc);
     for _ in 0..count {

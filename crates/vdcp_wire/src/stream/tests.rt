@@ -16,7 +16,7 @@ pub fn pair(rt: &HostRuntime) -> io::Result<(TcpStream, TcpStream)> {
     Ok((near, far))
 }
 
-/// A peer, and a wire with so many milliseconds of silence over the other end of its connection.
+/// A peer, and a wire with this many milliseconds of silence over the other end of its connection.
 fn wire(rt: &HostRuntime, silence: u64) -> io::Result<(TcpStream, StreamWire)> {
     let (peer, stream) = pair(rt)?;
     Ok((
@@ -111,7 +111,7 @@ fn silence_comes_after_so_long(rt: HostRuntime) -> Result<(), Fail> {
     let start = Instant::now(&rt)?;
     assert_eq!(rt; listen(&mut wire, &mut [0; PIECE]), Ok(Came::Silence));
     assert!(rt; start.elapsed(&rt)? >= Duration::from_millis(40));
-    // It goes on behind a silence.
+    // It goes on after a silence.
     peer.write_all(&[7])?;
     assert_eq!(rt; listen(&mut wire, &mut [0; PIECE]), Ok(Came::Bytes(1)));
     assert_eq!(rt; listen(&mut wire, &mut [0; PIECE]), Ok(Came::Silence));
@@ -251,7 +251,7 @@ enum Step {
 }
 
 /// A connection whose reads answer these steps, and then that they would wait. Each write takes three
-/// bytes at most, and fails once so many were taken.
+/// bytes at most, and fails once this many were taken.
 #[derive(Drop)]
 struct Fake {
     steps: Vec<Step>,
@@ -327,7 +327,6 @@ fn reads_are_told_apart(rt: HostRuntime) -> Result<(), Fail> {
         Step::Gives(512),
         Step::Fails(ErrorKind::Interrupted),
         Step::Fails(ErrorKind::WouldBlock),
-        Step::Fails(ErrorKind::TimedOut),
         Step::Gives(1),
         Step::Gives(0),
         Step::Gives(1),
@@ -336,7 +335,6 @@ fn reads_are_told_apart(rt: HostRuntime) -> Result<(), Fail> {
     let came = [
         Came::Bytes(512),
         Came::Bytes(0),
-        Came::Silence,
         Came::Silence,
         Came::Bytes(1),
         Came::Closed,
@@ -347,11 +345,11 @@ fn reads_are_told_apart(rt: HostRuntime) -> Result<(), Fail> {
     }
     // After the close nothing is read.
     drop_waiting(&mut wire)?;
-    assert_eq!(rt; wire.stream.reads, 6);
+    assert_eq!(rt; wire.stream.reads, 5);
     Ok(())
 }
 
-/// A read that fails so, behind a byte, is a failure of the listen.
+/// A read that fails so, after a byte, is a failure of the listen.
 fn expect_failed_listen(rt: &impl Abort, alloc: Global, kind: ErrorKind) -> Result<(), Fail> {
     let mut wire = wire_over(alloc, &[Step::Gives(1), Step::Fails(kind)])?;
     assert_eq!(rt; listen(&mut wire, &mut [0; PIECE]), Ok(Came::Bytes(1)));
@@ -377,6 +375,10 @@ fn only_a_failed_read_is_a_failure(rt: HostRuntime) -> Result<(), Fail> {
         ErrorKind::ConnectionAborted,
         ErrorKind::NotConnected,
         ErrorKind::BrokenPipe,
+        // (nothing was acknowledged for long, or no way leads there any more)
+        ErrorKind::TimedOut,
+        ErrorKind::HostUnreachable,
+        ErrorKind::NetworkUnreachable,
         ErrorKind::Other,
     ];
     for kind in kinds {

@@ -28,7 +28,7 @@ fn played<S: Source, C: Catalogue, A: Allocator + Copy>(
     Ok((world.reported(), world.outcome()))
 }
 
-/// How many events are reported behind a script and another one, and how the controller ended.
+/// How many events are reported after a script and another one, and how the controller ended.
 fn reported_behind(
     alloc: Global,
     mut world: World<Clips, Shelf, Global>,

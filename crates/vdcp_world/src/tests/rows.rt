@@ -395,7 +395,7 @@ fn a_part_airs_as_a_part(rt: HostRuntime) -> Result<(), Fail> {
     Ok(())
 }
 
-/// The late part is refused after so many exchanges.
+/// The late part is refused after this many exchanges.
 fn refused_after(exchanges: usize) -> Counts {
     Counts {
         aired: 0,

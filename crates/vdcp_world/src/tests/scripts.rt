@@ -11,7 +11,7 @@ fn each_word_is_its_event(rt: HostRuntime) -> Result<(), Fail> {
     let text =
         "tick\ndown\nup\ndown-copy\nup-copy\nlose-down\nlose-up\ntimeout\nready\nend\ntake\nstop\n\
                 frame\nstray-ack\nstray-nak 0a\nalter-down 02FF\nalter-up fe\nframe 2\nround\nround 2\ngood\n";
-    let events = read_script(alloc, text)?;
+    let events: Vec<Event> = read_script(alloc, text)?;
     let two = Burst::new(Vec::from_slice(alloc, &[0x02, 0xFF])?);
     let one = Burst::new(Vec::from_slice(alloc, &[0xFE])?);
     let wanted = [
@@ -67,7 +67,11 @@ fn rounds_and_frames_count_as_their_events(rt: HostRuntime) -> Result<(), Fail> 
         ("good 10000\nround 10000\nframe 10000\n", 100_000),
     ];
     for (text, count) in counts {
-        assert_eq!(rt; read_script(rt.alloc(), text)?.len(), count, "{text:?}");
+        assert_eq!(rt;
+            read_script::<Event>(rt.alloc(), text)?.len(),
+            count,
+            "{text:?}"
+        );
     }
     Ok(())
 }
@@ -116,7 +120,7 @@ fn the_first_fault_is_told(rt: HostRuntime) -> Result<(), Fail> {
     ];
     for (text, fault) in refused {
         assert_eq!(rt;
-            read_script(rt.alloc(), text).err(),
+            read_script::<Event>(rt.alloc(), text).err(),
             Some(fault),
             "{text:?}"
         );
@@ -131,14 +135,14 @@ fn a_burst_has_1024_bytes_at_most(rt: HostRuntime) -> Result<(), Fail> {
     for _ in 0..1024 {
         text.push_str("fF")?;
     }
-    let events = read_script(rt.alloc(), text.as_str())?;
+    let events: Vec<Event> = read_script(rt.alloc(), text.as_str())?;
     let Some(Event::AlterDown(burst)) = events.first() else {
         return Err(Fail::from("no alter-down"));
     };
     assert_eq!(rt; burst.bytes().len(), 1024);
     text.push_str("ff")?;
     assert_eq!(rt;
-        read_script(rt.alloc(), text.as_str()).err(),
+        read_script::<Event>(rt.alloc(), text.as_str()).err(),
         Some(ScriptFault::Hex(1))
     );
     Ok(())

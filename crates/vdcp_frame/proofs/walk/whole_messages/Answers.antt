@@ -15,4 +15,4 @@ returns-clause-spelt c =
     let none = none_left c.next.result c.messages.messages c.next.new.self (sym c.is_some.ensures
     ∙ c.messages-test.false) c.next.ensures.none c.next.ensures.rest in
     subst (λ (b : List ℕ). SpellsAll (messages_of b) (take place b)) same
-    (whole_spelt walk c.messages-2.invariant (ap coming c.messages-2.view_is ∙ none))
+    (whole_spelt walk c.messages-2.invariant.0 (ap coming c.messages-2.view_is ∙ none))

@@ -1,5 +1,5 @@
-use Rattle.std.proofs.Common.{◌-◌, length}
+use Rattle.std.proofs.Common.{length}
 use Rattle.vdcp_net.proofs.log.tell_piece.Given as goal
 
 abbrev pub decreases-piece : goal.decreases-piece
-decreases-piece g l = length l.piece - l.at
+decreases-piece g l = length l.rest

@@ -31,7 +31,7 @@ fn pair(rt: &HostRuntime) -> io::Result<(TcpStream, TcpStream)> {
 enum Far {
     /// It has closed.
     Gone,
-    /// It reads the command, answers with so many of these bytes, and closes.
+    /// It reads the command, answers with this many of these bytes, and closes.
     Closes(TcpStream, usize),
     /// It closes before it has read the command.
     Resets(TcpStream),

@@ -18,28 +18,3 @@ returns-in_err-clips-clause-unsimulated g c =
       c.in_err-clips.ensures.refused,
     ))
     (kept (g.W.Write.contents c.args.out.now)))
-
-pub returns-in_err-script-clause-unsimulated : goal.returns-in_err-script-clause-unsimulated
-returns-in_err-script-clause-unsimulated g c =
-    let p = err_from_is_err_and c.from_residual-in_err-script.result c.from_residual-in_err-script.ensures.1 in
-    rw (p.1, p.2) (no_script (
-      (items_of c.in_ok-events.events, c.in_ok-events.ensures.events),
-      (c.in_ok-clips.clips, c.in_ok-clips.ensures.clips),
-    )
-    c.in_err-script.ensures.refused (kept (g.W.Write.contents c.args.out.now)))
-
-pub returns-in_err-run-clause-unsimulated : goal.returns-in_err-run-clause-unsimulated
-returns-in_err-run-clause-unsimulated g c =
-    let p = err_from_is_err_and c.from_residual-in_err-run.result c.from_residual-in_err-run.ensures.1 in
-    rw (p.1, p.2) (no_script (
-      (items_of c.in_ok-events.events, c.in_ok-events.ensures.events),
-      (c.in_ok-clips.clips, c.in_ok-clips.ensures.clips),
-    )
-    (inr (inr (inr (inr refl)))) (kept (g.W.Write.contents c.args.out.now)))
-
-pub returns-clause-silent : goal.returns-clause-silent
-returns-clause-silent g c =
-    inr (
-      (items_of c.in_ok-events.events, c.in_ok-events.ensures.events),
-      (c.in_ok-clips.clips, c.in_ok-clips.ensures.clips),
-    )

@@ -3,4 +3,4 @@ use Rattle.vdcp_world.proofs.script.push_rounds.Given as goal
 
 -- there are no more events than a script may have
 abbrev pub invariant-rounds : goal.invariant-rounds
-invariant-rounds l = length l.events.items ≤ 100000
+invariant-rounds g l = length l.events.items ≤ 100000

@@ -3,4 +3,4 @@ use Rattle.vdcp_world.proofs.script.read_script.Given as goal
 
 -- there are no more events than a script may have
 abbrev pub invariant-lines : goal.invariant-lines
-invariant-lines l = length l.events.items ≤ 100000
+invariant-lines g l = length l.events.items ≤ 100000

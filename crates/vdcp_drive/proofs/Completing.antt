@@ -1,0 +1,279 @@
+-- The messages that bytes complete, one byte after another, by what a reader gives for them.
+use Rattle.std.proofs.Common.{ℕ, ◌≡◌, ◌-◌, ◌<◌, ◌≤◌, List, [], ◌∷◌, ◌++◌, length, take, map, refl, sym, ap, ap₂, subst, ◌∙◌}
+use Rattle.std.proofs.Common.{append_assoc, append-nil, length-append, arith}
+use Rattle.std.proofs.Math.Seq.{take-append_seam}
+use Rattle.std.proofs.lemmas.List.{length-take-le}
+use Rattle.std.proofs.lemmas.List.Elements.{All-append, All-take}
+use Rattle.std.specs.Prelude.{Option, Some, None}
+use Rattle.vdcp_frame.specs.Burst.{messages_of, end_of}
+use Rattle.vdcp_frame.specs.Head.{IsWrong}
+use Rattle.vdcp_frame.specs.Message.{Content, AreOctets, Fits, Spells, spelling}
+use Rattle.vdcp_frame.specs.Progress.{Progress, reading, failed}
+use Rattle.vdcp_frame.specs.Reader.{message, more, wrong, Gives, fed, Follows, FollowsNext, ReadsAs, ended_of, TakesFault, TakesWrong, TakesLong}
+use Rattle.vdcp_frame.specs.Reading.{End, clean, cut, fault, Reads, Begins, IsUnfinished, SpellsAll}
+use Rattle.vdcp_frame.specs.declared.message.Fault.{Fault}
+use Rattle.vdcp_frame.specs.declared.message.Fault.TheVariants.{BadStart, BadCount, BadSum, Long}
+use Rattle.vdcp_auto.specs.Heard.{heard_as}
+use Rattle.vdcp_auto.specs.declared.exchange.Heard.{Heard}
+use Rattle.vdcp_drive.specs.PromptReading.{Held, holds, skips, held_with, held_after_byte, completed_by, held_after, completed, IsReader, HasRead}
+
+-- vdcp_frame::laws: no_spelling_begins_another, one_spelling, what_is_spelt_is_bytes, a_spelling_is_its_message,
+-- what_is_followed_is_read, one_reading
+pub record Spelt : Type 0 where
+  pub no_other : (m n : Content) (a b rest : List ℕ) → Spells m a → Spells n b → b ≡ a ++ rest → (m ≡ n) × (rest ≡ [])
+  pub only : (m : Content) (bytes : List ℕ) → Spells m bytes → Fits m × (bytes ≡ spelling m)
+  pub octets : (m : Content) (bytes : List ℕ) → Spells m bytes → AreOctets bytes
+  pub size : (m : Content) (bytes : List ℕ) → Spells m bytes → (0 < length bytes) × (length bytes ≤ 258)
+  pub alone : (m : Content) → Fits m → messages_of (spelling m) ≡ m ∷ []
+  pub read : (burst : List ℕ) (ms : List Content) (p : Progress) → Follows burst ms p → ReadsAs burst ms (ended_of p)
+  pub computed : (burst : List ℕ) (ms : List Content) (end : End) → AreOctets burst → Reads burst ms end
+      → (ms ≡ messages_of burst) × (end ≡ end_of burst)
+
+-- Bytes that begin a message and are no whole one.
+
+octets_front : (xs ys : List ℕ) → AreOctets (xs ++ ys) → AreOctets xs
+octets_front xs ys h = subst AreOctets (take-append_seam xs ys) (All-take (λ b. b < 256) (length xs) (xs ++ ys) h)
+
+pub front_unfinished : (xs ys : List ℕ) → IsUnfinished (xs ++ ys) → IsUnfinished xs
+front_unfinished xs ys u = record {
+  begins = record {
+    message = u.begins.message;
+    more = ys ++ u.begins.more;
+    spelt = subst (Spells u.begins.message) (append_assoc xs ys u.begins.more) u.begins.spelt;
+  };
+  no_front = λ m front rest s is. u.no_front m front (rest ++ ys) s (ap (λ (l : List ℕ). l ++ ys) is ∙ append_assoc front rest ys);
+}
+
+unfinished_octets : (law : Spelt) (xs : List ℕ) → IsUnfinished xs → AreOctets xs
+unfinished_octets law xs u = octets_front xs u.begins.more (law.octets u.begins.message (xs ++ u.begins.more) u.begins.spelt)
+
+unfinished_size : (law : Spelt) (xs : List ℕ) → IsUnfinished xs → length xs ≤ 258
+unfinished_size law xs u =
+    omega (arith, (law.size u.begins.message (xs ++ u.begins.more) u.begins.spelt).1, length-append xs u.begins.more)
+
+-- a reader that holds them follows them
+pub follows_held : (law : Spelt) (held : List ℕ) → IsUnfinished held → Follows held [] (reading (length held) held)
+follows_held law held u = record {
+  whole = [];
+  parts = refl;
+  spelt = refl;
+  unfinished = u;
+  count = refl;
+  limit = omega (arith, unfinished_size law held u);
+}
+
+reads_as : (law : Spelt) (xs : List ℕ) → IsUnfinished xs → (end : End) × (Reads xs [] end) × (held_with xs [] end ≡ holds xs)
+reads_as law [] u = (clean, law.read [] [] (reading 0 []) (follows_held law [] u), refl)
+reads_as law (x ∷ xs) u = (cut (length (x ∷ xs)), law.read (x ∷ xs) [] (reading (length (x ∷ xs)) (x ∷ xs)) (follows_held law (x ∷ xs) u), refl)
+
+reads_unfinished : (law : Spelt) (xs : List ℕ) → IsUnfinished xs → (messages_of xs ≡ []) × (held_with xs (messages_of xs) (end_of xs) ≡ holds xs)
+reads_unfinished law xs u =
+    let r = reads_as law xs u in
+    let same = law.computed xs [] r.0 (unfinished_octets law xs u) r.1 in
+    (sym same.0, ap₂ (held_with xs) (sym same.0) (sym same.1) ∙ r.2)
+
+-- Bytes one after another.
+
+pub completed_both : (at : Held) (xs ys : List ℕ) → completed at (xs ++ ys) ≡ completed at xs ++ completed (held_after at xs) ys
+completed_both at [] ys = refl
+completed_both at (x ∷ xs) ys =
+    ap (λ (l : List Content). completed_by at x ++ l) (completed_both (held_after_byte at x) xs ys)
+    ∙ sym (append_assoc (completed_by at x) (completed (held_after_byte at x) xs) (completed (held_after (held_after_byte at x) xs) ys))
+
+pub held_both : (at : Held) (xs ys : List ℕ) → held_after at (xs ++ ys) ≡ held_after (held_after at xs) ys
+held_both at [] ys = refl
+held_both at (x ∷ xs) ys = held_both (held_after_byte at x) xs ys
+
+-- bytes complete nothing and are held, where they finish no message
+record AreHeld (held xs : List ℕ) : Type 0 where
+  none : completed (holds held) xs ≡ []
+  all : held_after (holds held) xs ≡ holds (held ++ xs)
+
+are_held : (law : Spelt) (held xs : List ℕ) → IsUnfinished (held ++ xs) → AreHeld held xs
+are_held law held [] u = record { none = refl; all = ap holds (sym (append-nil held)) }
+are_held law held (x ∷ xs) u =
+    let v : IsUnfinished ((held ++ x ∷ []) ++ xs) = subst IsUnfinished (sym (append_assoc held (x ∷ []) xs)) u in
+    let s = reads_unfinished law (held ++ x ∷ []) (front_unfinished (held ++ x ∷ []) xs v) in
+    let r = are_held law (held ++ x ∷ []) xs v in record {
+      none = ap₂ (λ (ms : List Content) (at : Held). ms ++ completed at xs) s.0 s.1 ∙ r.none;
+      all = ap (λ (at : Held). held_after at xs) s.1 ∙ r.all ∙ ap holds (append_assoc held (x ∷ []) xs);
+    }
+
+-- where only the last byte may finish one, it decides
+record IsDecided (held xs : List ℕ) : Type 0 where
+  gives : completed (holds held) xs ≡ messages_of (held ++ xs)
+  leaves : held_after (holds held) xs ≡ held_with (held ++ xs) (messages_of (held ++ xs)) (end_of (held ++ xs))
+
+decided_last : (law : Spelt) (held xs : List ℕ) (x : ℕ) → IsUnfinished (held ++ xs) → IsDecided held (xs ++ x ∷ [])
+decided_last law held xs x u =
+    let h = are_held law held xs u in
+    let all : (held ++ xs) ++ x ∷ [] ≡ held ++ (xs ++ x ∷ []) = append_assoc held xs (x ∷ []) in record {
+      gives = completed_both (holds held) xs (x ∷ [])
+          ∙ ap₂ (λ (ms : List Content) (at : Held). ms ++ completed at (x ∷ [])) h.none h.all
+          ∙ append-nil (messages_of ((held ++ xs) ++ x ∷ []))
+          ∙ ap messages_of all;
+      leaves = held_both (holds held) xs (x ∷ [])
+          ∙ ap (λ (at : Held). held_after at (x ∷ [])) h.all
+          ∙ ap (λ (b : List ℕ). held_with b (messages_of b) (end_of b)) all;
+    }
+
+-- a last byte
+record Last (xs : List ℕ) : Type 0 where
+  before : List ℕ
+  last : ℕ
+  parts : xs ≡ before ++ last ∷ []
+
+last_of : (x : ℕ) (xs : List ℕ) → Last (x ∷ xs)
+last_of x [] = record { before = []; last = x; parts = refl }
+last_of x (y ∷ xs) =
+    let l = last_of y xs in
+    record { before = x ∷ l.before; last = l.last; parts = ap (λ (r : List ℕ). x ∷ r) l.parts }
+
+has_last : (xs : List ℕ) → 0 < length xs → Last xs
+has_last [] h = absurd (omega (arith, h))
+has_last (x ∷ xs) h = last_of x xs
+
+decided : (law : Spelt) (held xs : List ℕ) (l : Last xs) → IsUnfinished (held ++ l.before) → IsDecided held xs
+decided law held xs l u = subst (IsDecided held) (sym l.parts) (decided_last law held l.before l.last u)
+
+parts_of : (held xs : List ℕ) (l : Last xs) → held ++ xs ≡ (held ++ l.before) ++ l.last ∷ []
+parts_of held xs l = ap (λ (b : List ℕ). held ++ b) l.parts ∙ sym (append_assoc held l.before (l.last ∷ []))
+
+-- What a reader took, by its answer.
+
+spelling_unfinished : (law : Spelt) (m : Content) (xs : List ℕ) (x : ℕ) → Spells m (xs ++ x ∷ []) → IsUnfinished xs
+spelling_unfinished law m xs x s = record {
+  begins = record { message = m; more = x ∷ []; spelt = s };
+  no_front = λ n front rest t is.
+      let e = law.no_other n m front (xs ++ x ∷ []) (rest ++ x ∷ []) t s (ap (λ (l : List ℕ). l ++ x ∷ []) is ∙ append_assoc front rest (x ∷ [])) in
+      absurd (omega (arith, ap (length {A = ℕ}) e.1, length-append rest (x ∷ [])));
+}
+
+-- the bytes finish this message
+pub completes : (law : Spelt) (held xs : List ℕ) (m : Content) → 0 < length xs → Spells m (held ++ xs)
+    → (completed (holds held) xs ≡ m ∷ []) × (held_after (holds held) xs ≡ holds [])
+completes law held xs m some s =
+    let l = has_last xs some in
+    let d = decided law held xs l (spelling_unfinished law m (held ++ l.before) l.last (subst (Spells m) (parts_of held xs l) s)) in
+    let o = law.only m (held ++ xs) s in
+    let is : messages_of (held ++ xs) ≡ m ∷ [] = ap messages_of o.1 ∙ law.alone m o.0 in
+    (d.gives ∙ is, d.leaves ∙ ap (λ (ms : List Content). held_with (held ++ xs) ms (end_of (held ++ xs))) is)
+
+-- they finish none
+pub completes_none : (law : Spelt) (held xs : List ℕ) → IsUnfinished (held ++ xs)
+    → (completed (holds held) xs ≡ []) × (held_after (holds held) xs ≡ holds (held ++ xs))
+completes_none law held xs u = let h = are_held law held xs u in (h.none, h.all)
+
+-- the last of them shows a fault
+wrong_unfinished : (xs : List ℕ) (x : ℕ) (which : Fault) (n : ℕ) → n ≡ length (xs ++ x ∷ []) → IsWrong (xs ++ x ∷ []) which n → IsUnfinished xs
+wrong_unfinished xs x which n is w = record {
+  begins = subst Begins (take-append_seam xs (x ∷ [])) (w.first.shorter (length xs) (omega (arith, is, length-append xs (x ∷ []))));
+  no_front = λ m front rest s parts. w.no_front m front (rest ++ x ∷ []) s (ap (λ (l : List ℕ). l ++ x ∷ []) parts ∙ append_assoc front rest (x ∷ []));
+}
+
+pub completes_fault : (law : Spelt) (held xs : List ℕ) (which : Fault) (place : ℕ) → 0 < length xs → AreOctets (held ++ xs)
+    → IsWrong (held ++ xs) which (length (held ++ xs)) → Reads (held ++ xs) [] (fault which place)
+    → (completed (holds held) xs ≡ []) × (held_after (holds held) xs ≡ skips)
+completes_fault law held xs which place some fits w r =
+    let l = has_last xs some in
+    let p = parts_of held xs l in
+    let v : IsUnfinished (held ++ l.before) = wrong_unfinished (held ++ l.before) l.last which (length (held ++ xs)) (ap (length {A = ℕ}) p)
+    (subst (λ (b : List ℕ). IsWrong b which (length (held ++ xs))) p w) in
+    let d = decided law held xs l v in
+    let same = law.computed (held ++ xs) [] (fault which place) fits r in
+    (d.gives ∙ sym same.0, d.leaves ∙ ap₂ (held_with (held ++ xs)) (sym same.0) (sym same.1))
+
+-- no burst is too long
+pub never_long : (law : Spelt) (taken n : ℕ) (held piece : List ℕ) → taken ≡ length held → TakesLong taken held piece n → ⊥
+never_long law taken n held piece is t =
+    omega (
+      arith,
+      is,
+      t.some,
+      t.within,
+      t.past,
+      unfinished_size law (held ++ take (n - 1) piece) t.unfinished,
+      length-append held (take (n - 1) piece),
+      length-take-le (n - 1) piece (omega (arith, t.within)),
+    )
+
+-- after a fault nothing is completed
+pub completes_nothing : (xs : List ℕ) → (completed skips xs ≡ []) × (held_after skips xs ≡ skips)
+completes_nothing [] = (refl, refl)
+completes_nothing (x ∷ xs) = completes_nothing xs
+
+-- What is read, by what the reader gave for these bytes.
+
+pub read_none : (unit : ℕ) (reader reader' : Option Progress) (xs : List ℕ) → reader ≡ None → reader' ≡ None → HasRead unit reader xs reader' None
+read_none unit reader reader' xs is then_is = subst (λ (r : Option Progress). HasRead unit r xs reader' None) (sym is)
+    (subst (λ (r : Option Progress). HasRead unit None xs r None) (sym then_is) (record {
+      hears = ap (map (heard_as unit)) (completes_nothing xs).0;
+      holds_then = sym (completes_nothing xs).1;
+    }))
+
+pub read_message : (law : Spelt) (unit : ℕ) (p : Progress) (piece : List ℕ) (n : ℕ) (m : Content) (h : Heard) → IsReader (Some p)
+    → Gives p piece n (message m) → h ≡ heard_as unit m → HasRead unit (Some p) (take n piece) (Some (reading 0 [])) (Some h)
+read_message law unit (reading taken held) piece n m h begun t is =
+    let c = completes law held (take n piece) m (omega (arith, t.some, length-take-le n piece t.within)) t.spelt in record {
+      hears = ap (map (heard_as unit)) c.0 ∙ ap (λ (x : Heard). x ∷ []) (sym is);
+      holds_then = sym c.1;
+    }
+read_message law unit failed piece n m h begun t is = absurd begun
+
+pub read_more : (law : Spelt) (unit : ℕ) (p : Progress) (piece : List ℕ) (n : ℕ) → IsReader (Some p)
+    → Gives p piece n more → HasRead unit (Some p) (take n piece) (Some (fed p piece n more)) None
+read_more law unit (reading taken held) piece n begun t =
+    let c = completes_none law held (take n piece) t.unfinished in
+    record { hears = ap (map (heard_as unit)) c.0; holds_then = sym c.1 }
+read_more law unit failed piece n begun t = absurd begun
+
+wrong_so : (law : Spelt) (unit : ℕ) (taken : ℕ) (held piece : List ℕ) (n : ℕ) (which : Fault) (place : ℕ) → IsUnfinished held → AreOctets piece
+    → TakesWrong taken held piece n which → Reads (held ++ take n piece) [] (fault which place)
+    → HasRead unit (Some (reading taken held)) (take n piece) None None
+wrong_so law unit taken held piece n which place u fits t r =
+    let all : AreOctets (held ++ take n piece) =
+    All-append (λ b. b < 256) held (take n piece) (unfinished_octets law held u) (All-take (λ b. b < 256) n piece fits) in
+    let c = completes_fault law held (take n piece) which place (omega (arith, t.some, length-take-le n piece t.within)) all t.first r in
+    record { hears = ap (map (heard_as unit)) c.0; holds_then = sym c.1 }
+
+wrong_by : (law : Spelt) (unit : ℕ) (taken : ℕ) (held piece : List ℕ) (n : ℕ) (which : Fault) (place : ℕ) → taken ≡ length held → IsUnfinished held
+    → AreOctets piece → TakesFault taken held piece n which → Reads (held ++ take n piece) [] (fault which place)
+    → HasRead unit (Some (reading taken held)) (take n piece) None None
+wrong_by law unit taken held piece n BadStart place is u fits t r = wrong_so law unit taken held piece n BadStart place u fits t r
+wrong_by law unit taken held piece n (BadCount count) place is u fits t r = wrong_so law unit taken held piece n (BadCount count) place u fits t r
+wrong_by law unit taken held piece n BadSum place is u fits t r = wrong_so law unit taken held piece n BadSum place u fits t r
+wrong_by law unit taken held piece n Long place is u fits t r = absurd (never_long law taken n held piece is t)
+
+pub read_wrong : (law : Spelt) (unit : ℕ) (p : Progress) (piece : List ℕ) (n : ℕ) (which : Fault) (place : ℕ) (then_is : Progress) → IsReader (Some p)
+    → AreOctets piece → Gives p piece n (wrong which place)
+    → ((burst : List ℕ) (ms : List Content) → Follows burst ms p → FollowsNext (burst ++ take n piece) ms (wrong which place) then_is)
+    → HasRead unit (Some p) (take n piece) None None
+read_wrong law unit (reading taken held) piece n which place then_is begun fits t follows =
+    let f : Follows held [] (reading taken held) =
+    subst (λ (k : ℕ). Follows held [] (reading k held)) (sym begun.0) (follows_held law held begun.1) in
+    let r : Reads ((held ++ take n piece) ++ []) [] (fault which place) = (follows held [] f).0 [] in
+    wrong_by law unit taken held piece n which place begun.0 begun.1 fits t.0
+    (subst (λ (b : List ℕ). Reads b [] (fault which place)) (append-nil (held ++ take n piece)) r)
+read_wrong law unit failed piece n which place then_is begun fits t follows = absurd begun
+
+pub begun_more : (p : Progress) (piece : List ℕ) (n : ℕ) → IsReader (Some p) → Gives p piece n more → IsReader (Some (fed p piece n more))
+begun_more (reading taken held) piece n begun t =
+    (omega (arith, begun.0, t.all, length-append held (take n piece), length-take-le n piece (omega (arith, t.all))), t.unfinished)
+begun_more failed piece n begun t = absurd begun
+
+-- whole messages, and then a beginning of one
+
+pub completes_all : (law : Spelt) (ms : List Content) (xs rest : List ℕ) → SpellsAll ms xs → IsUnfinished rest
+    → (completed (holds []) (xs ++ rest) ≡ ms) × (held_after (holds []) (xs ++ rest) ≡ holds rest)
+completes_all law [] xs rest s u = subst (λ (l : List ℕ). (completed (holds []) (l ++ rest) ≡ []) × (held_after (holds []) (l ++ rest) ≡ holds rest)) (sym s)
+    (completes_none law [] rest u)
+completes_all law (m ∷ ms) xs rest s u =
+    let first : List ℕ = s.0 in
+    let after : List ℕ = s.1 ++ rest in
+    let c = completes law [] first m (law.size m first s.2).0 s.2 in
+    let r = completes_all law ms s.1 rest s.3 u in
+    let parts : xs ++ rest ≡ first ++ after = ap (λ (l : List ℕ). l ++ rest) s.4 ∙ append_assoc first s.1 rest in (
+      ap (completed (holds [])) parts ∙ completed_both (holds []) first after
+          ∙ ap₂ (λ (l : List Content) (at : Held). l ++ completed at after) c.0 c.1 ∙ ap (λ (l : List Content). m ∷ l) r.0,
+      ap (held_after (holds [])) parts ∙ held_both (holds []) first after ∙ ap (λ (at : Held). held_after at after) c.1 ∙ r.1,
+    )

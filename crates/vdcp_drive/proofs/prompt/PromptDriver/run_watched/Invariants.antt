@@ -1,0 +1,29 @@
+use Rattle.std.proofs.Common.{List, ◌-◌, ◌≡◌, ◌≤◌}
+use Rattle.std.specs.Prelude.{Some}
+use Rattle.vdcp_auto.specs.Plan.{plan_of}
+use Rattle.vdcp_auto.specs.State.{State}
+use Rattle.vdcp_drive.specs.Driven.{GoesOn}
+use Rattle.vdcp_drive.specs.Lines.{AllListened}
+use Rattle.vdcp_drive.specs.Prompt.{IsNewPrompt}
+use Rattle.vdcp_wire.specs.Wires.{Told, IfTold}
+use Rattle.vdcp_drive.proofs.Prompted.{RunsPrompt, WatchesPrompt}
+use Rattle.vdcp_drive.proofs.prompt.PromptDriver.run_watched.Given as goal
+
+abbrev pub invariant-listens : goal.invariant-listens
+invariant-listens g l =
+    let told = g.W.Wire.told in
+    record {
+      within : l.made ≤ l.listens;
+      works : g.W.Wire.failures l.self.wire ≡ 0;
+      controller : l.self.controller ≡ record l.fn.self.controller { state = l.self.controller.state };
+      unit : l.self.unit ≡ l.fn.self.unit;
+      reached : GoesOn (plan_of g.S.Source.items l.fn.self.controller) l.fn.self.controller.state l.self.controller.state;
+      listened : (t : Told) → told l.fn.self.wire ≡ Some t → IfTold (told l.self.wire) (λ u. AllListened l.made t.came u.came);
+      runs : IsNewPrompt told l.fn.self →
+          IfTold (told l.self.wire) (λ u. RunsPrompt (plan_of g.S.Source.items l.fn.self.controller) l.fn.self.unit u l.self.controller.state l.self.reader
+          l.self.passed × ((states : List State) → g.V.Watch.watched l.fn.watcher ≡ Some states
+          → WatchesPrompt (plan_of g.S.Source.items l.fn.self.controller) l.fn.self.unit u.came states (g.V.Watch.watched l.watcher)));
+    }
+
+abbrev pub decreases-listens : goal.decreases-listens
+decreases-listens g l = l.listens - l.made

@@ -1,0 +1,9 @@
+mod Written
+mod Digits
+mod Moments
+mod Commands
+mod Told
+mod Lines
+mod CsvRows
+mod FieldTexts
+mod Journals

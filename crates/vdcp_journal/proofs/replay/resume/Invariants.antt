@@ -1,0 +1,12 @@
+-- The rows so far tell what the controller did.
+use Rattle.std.proofs.Common.{◌≡◌, take}
+use Rattle.vdcp_auto.specs.Plan.{plan_of}
+use Rattle.vdcp_auto.specs.Turn.{start}
+use Rattle.vdcp_journal.proofs.replay.resume.Given as goal
+use Rattle.vdcp_journal.specs.Resume.{AreTold, after_rows}
+
+abbrev pub invariant-loop-k : goal.invariant-loop-k
+invariant-loop-k g l = record {
+  told : AreTold (plan_of g.S.Source.items l.initial.controller) start (take l.k l.rows);
+  state : l.controller ≡ record l.initial.controller { state = after_rows (plan_of g.S.Source.items l.initial.controller) start (take l.k l.rows) };
+}

@@ -1,0 +1,5 @@
+pub mod Moments
+pub mod Times
+pub mod Rows
+pub mod Resume
+pub mod Reading

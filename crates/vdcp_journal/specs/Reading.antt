@@ -1,0 +1,56 @@
+-- What is read of a journal's bytes.
+use Rattle.std.specs.Prelude.{◌≡◌, ℕ, ◌+◌, ◌<◌, ◌≤◌, ◌^◌, ◌==◌, ⊤, Option, None, Some, List, [], ◌∷◌, ◌++◌, map, take, if◌then◌else◌}
+use Rattle.std.specs.Prelude.{All}
+use Rattle.vdcp_auto.specs.declared.exchange.Heard.{Heard}
+use Rattle.vdcp_auto.specs.declared.exchange.Heard.TheVariants as heard
+use Rattle.vdcp_auto.specs.declared.outcome.Outcome.{Outcome}
+use Rattle.vdcp_auto.specs.declared.outcome.Outcome.TheVariants.{Done, Stopped, Lost, Denied, Missing, Refused, Foreign, Strange}
+use Rattle.vdcp_journal.specs.declared.row.Heading.{Heading}
+use Rattle.vdcp_journal.specs.declared.row.Note.{Note}
+use Rattle.vdcp_journal.specs.declared.row.Note.TheVariants as note
+use Rattle.vdcp_journal.specs.declared.row.Row.{Row}
+use Rattle.vdcp_value.specs.Bytes.{AreBytes}
+use Rattle.vdcp_words.specs.Commands.{IsWritableCommand}
+use Rattle.vdcp_words.specs.Replies.{IsWritableReply}
+
+-- a byte before the whole lines after it
+abbrev pub line_before : ℕ → List ℕ → List ℕ
+line_before byte [] = if byte == 10 then byte ∷ [] else []
+line_before byte (next ∷ more) = byte ∷ next ∷ more
+
+-- the text without what follows its last line feed
+abbrev pub whole_lines : List ℕ → List ℕ
+whole_lines [] = []
+whole_lines (byte ∷ more) = line_before byte (whole_lines more)
+
+-- the event's number is one of the machine's
+abbrev pub IsWritableOutcome : Outcome → Type 0
+IsWritableOutcome Done = ⊤
+IsWritableOutcome Stopped = ⊤
+IsWritableOutcome Lost = ⊤
+IsWritableOutcome Denied = ⊤
+IsWritableOutcome (Missing k) = k < 2 ^ 64
+IsWritableOutcome (Refused k) = k < 2 ^ 64
+IsWritableOutcome (Foreign k) = k < 2 ^ 64
+IsWritableOutcome (Strange k) = k < 2 ^ 64
+
+-- the numbers are bytes, and a state has a state byte just where its bitmap asks for one, as in each that is heard
+abbrev pub IsWritableNote : Note → Type 0
+IsWritableNote (note.Sent c) = IsWritableCommand c
+IsWritableNote (note.Heard (heard.Reply r)) = IsWritableReply r
+IsWritableNote (note.Heard heard.Other) = ⊤
+IsWritableNote note.Silence = ⊤
+IsWritableNote note.Take = ⊤
+IsWritableNote note.Stop = ⊤
+IsWritableNote (note.End outcome) = IsWritableOutcome outcome
+
+abbrev pub AreWritable : List Row → Type 0
+AreWritable [] = ⊤
+AreWritable (row ∷ rows) = IsWritableNote row.note × AreWritable rows
+
+-- a digest of 32 bytes, a unit and a port of one byte each, a limit of four
+pub record IsWritableHeading (heading : Heading) : Type 0 where
+  pub digest : AreBytes 32 heading.digest
+  pub unit : heading.unit < 256
+  pub port : heading.port < 256
+  pub limit : heading.limit < 2 ^ 32

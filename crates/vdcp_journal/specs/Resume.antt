@@ -1,0 +1,102 @@
+-- What the rows of a journal make of a controller, and the log that they show.
+use Rattle.std.specs.Prelude.{◌≡◌, ℕ, IsTrue, Option, None, Some, is_some, List, [], ◌∷◌, take, slice_get}
+use Rattle.vdcp_auto.specs.Course.{Call, Tick, Receive, Take, Stop, after_call}
+use Rattle.vdcp_auto.specs.Plan.{Plan}
+use Rattle.vdcp_auto.specs.State.{State}
+use Rattle.vdcp_auto.specs.Turn.{awaited, came_to, ended_by, given, outcome_of, start}
+use Rattle.vdcp_auto.specs.declared.exchange.Exchange.{Exchange}
+use Rattle.vdcp_auto.specs.declared.exchange.Heard.{Heard}
+use Rattle.vdcp_journal.specs.declared.faults.ResumeFault.{ResumeFault}
+use Rattle.vdcp_journal.specs.declared.faults.ResumeFault.TheVariants.{Command, Unawaited, Outcome}
+use Rattle.vdcp_journal.specs.declared.row.Note.{Note}
+use Rattle.vdcp_journal.specs.declared.row.Note.TheVariants as note
+use Rattle.vdcp_journal.specs.declared.row.Row.{Row}
+use Rattle.vdcp_words.specs.declared.command.Command.{Command as Asked}
+
+-- the call of a controller that a note tells of; an end is no call
+abbrev pub call_of : Note → Option Call
+call_of (note.Sent c) = Some Tick
+call_of (note.Heard h) = Some (Receive (Some h))
+call_of note.Silence = Some (Receive None)
+call_of note.Take = Some Take
+call_of note.Stop = Some Stop
+call_of (note.End outcome) = None
+
+abbrev pub after_call_if : Plan → Option Call → State → State
+after_call_if plan None state = state
+after_call_if plan (Some call) state = after_call plan call state
+
+-- the controller after the calls that the rows tell of
+abbrev pub after_rows : Plan → State → List Row → State
+after_rows plan state [] = state
+after_rows plan state (row ∷ rows) = after_rows plan (after_call_if plan (call_of row.note) state) rows
+
+-- the note is what the controller does there: a command is the one that it gives, what came ends an exchange,
+-- the operator's calls come while it goes on, and an end is the one that it came to
+abbrev pub Tells : Plan → State → Note → Type 0
+Tells plan state (note.Sent c) = given plan state ≡ Some c
+Tells plan state (note.Heard h) = IsTrue (is_some (ended_by plan (Some h) state))
+Tells plan state note.Silence = IsTrue (is_some (ended_by plan None state))
+Tells plan state note.Take = outcome_of state.stage ≡ None
+Tells plan state note.Stop = outcome_of state.stage ≡ None
+Tells plan state (note.End outcome) = outcome_of state.stage ≡ Some outcome
+
+-- each row tells what the controller does there
+abbrev pub AreTold : Plan → State → List Row → Type 0
+AreTold plan state [] = Unit {0}
+AreTold plan state (row ∷ rows) =
+    Tells plan state row.note × AreTold plan (after_call_if plan (call_of row.note) state) rows
+
+-- the exchange that is open is timed out
+abbrev pub timed_out : Plan → State → State
+timed_out plan state = came_to plan None state
+
+-- the fault of a note that doesn't tell what the controller does
+abbrev pub fault_of : ℕ → Note → ResumeFault
+fault_of k (note.Sent c) = Command k
+fault_of k (note.Heard h) = Unawaited k
+fault_of k note.Silence = Unawaited k
+fault_of k note.Take = Unawaited k
+fault_of k note.Stop = Unawaited k
+fault_of k (note.End outcome) = Outcome k
+
+-- row k is the first that doesn't tell what the controller does there
+pub record IsResumeFault (plan : Plan) (state : State) (rows : List Row) (fault : ResumeFault) : Type 0 where
+  pub k : ℕ
+  pub row : Row
+  pub at_k : slice_get rows k ≡ Some row
+  pub told : AreTold plan state (take k rows)
+  pub untold : ¬ Tells plan (after_rows plan state (take k rows)) row.note
+  pub fault_is : fault ≡ fault_of k row.note
+
+-- The log that rows show, whatever controller they are of: each command, and what ended its exchange. The
+-- command that stands last, with nothing after it, was timed out.
+
+abbrev pub exchange_with : Option Heard → Option Asked → List Exchange → List Exchange
+exchange_with came None log = log
+exchange_with came (Some c) log = record { command = c; heard = came } ∷ log
+
+-- the command that is open after a note
+abbrev pub open_after : Option Asked → Note → Option Asked
+open_after asked (note.Sent c) = Some c
+open_after asked (note.Heard h) = None
+open_after asked note.Silence = None
+open_after asked note.Take = asked
+open_after asked note.Stop = asked
+open_after asked (note.End outcome) = asked
+
+-- the exchange that a note ends, if it ends one, before those that come after it
+abbrev pub ended_at : Option Asked → Note → List Exchange → List Exchange
+ended_at asked (note.Sent c) log = log
+ended_at asked (note.Heard h) log = exchange_with (Some h) asked log
+ended_at asked note.Silence log = exchange_with None asked log
+ended_at asked note.Take log = log
+ended_at asked note.Stop log = log
+ended_at asked (note.End outcome) log = log
+
+abbrev pub log_from : Option Asked → List Row → List Exchange
+log_from asked [] = exchange_with None asked []
+log_from asked (row ∷ rows) = ended_at asked row.note (log_from (open_after asked row.note) rows)
+
+abbrev pub log_of : List Row → List Exchange
+log_of rows = log_from None rows

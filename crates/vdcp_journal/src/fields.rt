@@ -1,0 +1,105 @@
+//! The fields of a note.
+ghost use Rattle.std.specs.Prelude.{◌≡◌, ◌≤◌, [], ◌∷◌, decimal, length};
+ghost use Rattle.hex.specs.Hex.{encode_lower};
+ghost use Rattle.vdcp_journal.specs.Rows.{note_fields, outcome_fields};
+
+use crate::row::Note;
+use arrayvec::ArrayString;
+use std::str;
+use vdcp_auto::{Heard, Outcome};
+use vdcp_words::Command;
+
+/// The fields of a note.
+#[derive(Drop)]
+pub(crate) struct NoteFields {
+    /// What is noted.
+    pub word: &'static str,
+    /// Its text, for people; or how the controller ended.
+    pub text: ArrayString<64>,
+    /// Its bytes on the line; or the number of an event.
+    pub detail: ArrayString<64>,
+}
+
+/// The fields of a note, in a journal of the server at this unit.
+pub(crate) fn fields_of(unit: u8, note: &Note) -> NoteFields
+    requires { unit ≤ 15 }
+    ensures { result.word.now ∷ result.text.bytes ∷ result.detail.bytes ∷ [] ≡ note_fields unit note.now }
+{
+    let mut text = ArrayString::new();
+    let mut detail = ArrayString::new();
+    let word = match note {
+        Note::Sent(command) => {
+            command.show(&mut text);
+            push_hex(&mut detail, command.encode(unit).as_slice());
+            "sent"
+        }
+        Note::Heard(Heard::Reply(reply)) => {
+            reply.show(&mut text);
+            push_hex(&mut detail, reply.encode(unit).as_slice());
+            "heard"
+        }
+        Note::Heard(Heard::Other) => {
+            text.push_str("other");
+            "heard"
+        }
+        Note::Silence => "silence",
+        Note::Take => "take",
+        Note::Stop => "stop",
+        Note::End(outcome) => {
+            show_outcome(outcome, &mut text, &mut detail);
+            "end"
+        }
+    };
+    NoteFields { word, text, detail }
+}
+
+/// Writes how a controller ended into two empty buffers.
+fn show_outcome(outcome: &Outcome, text: &mut ArrayString<64>, detail: &mut ArrayString<64>)
+    requires text { text.old.bytes ≡ [] }
+    requires detail { detail.old.bytes ≡ [] }
+    ensures { text.new.bytes ∷ detail.new.bytes ∷ [] ≡ outcome_fields outcome.now }
+{
+    match outcome {
+        Outcome::Done => text.push_str("done"),
+        Outcome::Stopped => text.push_str("stopped"),
+        Outcome::Lost => text.push_str("lost"),
+        Outcome::Denied => text.push_str("denied"),
+        Outcome::Missing(k) => {
+            text.push_str("missing");
+            push_number(detail, *k);
+        }
+        Outcome::Refused(k) => {
+            text.push_str("refused");
+            push_number(detail, *k);
+        }
+        Outcome::Foreign(k) => {
+            text.push_str("foreign");
+            push_number(detail, *k);
+        }
+        Outcome::Strange(k) => {
+            text.push_str("strange");
+            push_number(detail, *k);
+        }
+    }
+}
+
+/// Writes bytes, 32 at most, as lower-case hexadecimal digits into an empty buffer.
+pub(crate) fn push_hex(text: &mut ArrayString<64>, bytes: &[u8])
+    requires empty { text.old.bytes ≡ [] }
+    requires short { length bytes.now ≤ 32 }
+    ensures { text.new.bytes ≡ encode_lower bytes.now }
+{
+    let mut room = [0; 64];
+    let digits = &mut room[..2 * bytes.len()];
+    hex::encode_to_slice(bytes, digits).unwrap();
+    text.push_str(str::from_utf8(digits).unwrap());
+}
+
+/// Writes a number in decimal into an empty buffer.
+pub(crate) fn push_number(text: &mut ArrayString<64>, number: usize)
+    requires { text.old.bytes ≡ [] }
+    ensures { text.new.bytes ≡ decimal number }
+{
+    let mut buffer = itoa::Buffer::new();
+    text.push_str(buffer.format(number));
+}

@@ -1,0 +1,40 @@
+//! The laws of the definitions in `specs/`. What a law says is the contract of its function.
+
+ghost use Rattle.std.specs.Prelude.{◌≡◌, ◌≤◌, ℕ, List, take};
+ghost use Rattle.vdcp_auto.specs.Course.{Reached};
+ghost use Rattle.vdcp_auto.specs.Law.{IsLawful};
+ghost use Rattle.vdcp_auto.specs.Plan.{Plan};
+ghost use Rattle.vdcp_auto.specs.Turn.{start};
+ghost use Rattle.vdcp_journal.specs.Resume.{AreTold, after_rows, log_of, timed_out};
+ghost use Rattle.vdcp_journal.specs.Reading.{AreWritable, IsWritableHeading, whole_lines};
+ghost use Rattle.vdcp_journal.specs.Rows.{journal_fields, journal_text};
+ghost use Rattle.vdcp_journal.specs.declared.moment.Moment.{Moment};
+ghost use Rattle.vdcp_journal.specs.declared.row.Heading.{Heading};
+ghost use Rattle.vdcp_journal.specs.declared.row.Row.{Row};
+ghost use Rattle.vdcp_list.specs.Rows.{rows_of};
+
+use vdcp_auto::laws::reached_is_lawful;
+use vdcp_value::laws::an_id_has_one_text;
+
+/// Where each row tells what a new controller does, the controller that goes on is one that calls lead to,
+/// and its log is the one that the rows show. So by the law of the controller the rule book allows each
+/// command of that log where it stands, and the controller's count of settled events is what the log shows.
+pub fn what_is_told_is_lawful()
+    ensures reached { (plan : Plan) (rows : List Row) → 1 ≤ plan.limit → plan.limit ≤ 1000 → AreTold plan start rows →
+        Reached plan (timed_out plan (after_rows plan start rows)) (log_of rows) }
+    ensures lawful { (plan : Plan) (rows : List Row) → 1 ≤ plan.limit → plan.limit ≤ 1000 → AreTold plan start rows →
+        IsLawful plan (timed_out plan (after_rows plan start rows)) (log_of rows) }
+{
+    reached_is_lawful();
+}
+
+/// The whole lines of a journal, read as CSV, are its rows. Of a journal that is cut short anywhere, as by a
+/// writer that was killed, the whole lines are a front of its rows: a torn row is left out.
+pub fn a_cut_journal_is_a_front_of_its_rows()
+    ensures whole { (time : Moment) (heading : Heading) (rows : List Row) → IsWritableHeading heading → AreWritable rows →
+        rows_of (whole_lines (journal_text time heading rows)) ≡ journal_fields time heading rows }
+    ensures cut { (time : Moment) (heading : Heading) (rows : List Row) (n : ℕ) → IsWritableHeading heading → AreWritable rows →
+        (m : ℕ) × (rows_of (whole_lines (take n (journal_text time heading rows))) ≡ take m (journal_fields time heading rows)) }
+{
+    an_id_has_one_text();
+}

@@ -1,0 +1,27 @@
+//! A journal: what an automation sent and heard, and what its operator wanted, row by row in a CSV file, so
+//! that one that was killed goes on where it was.
+//!
+//! A `Heading` says what is played, and each `Row` is a `Note` with the `Moment` at which it was made.
+//! `write_heading` and `write_row` append to a writer that they are lent.
+//!
+//! `resume` gives a new controller the rows of a journal, and times out the exchange that was open.
+//!
+//! Files: `moment`, `row` (headings, rows and notes), `fields` (a note's fields), `write`, `faults`, `replay`, `laws`.
+#![tactic(auto)]
+
+mod faults;
+mod fields;
+pub mod laws;
+mod moment;
+mod replay;
+mod row;
+mod write;
+
+pub use faults::{JournalWriteFault, ResumeFault};
+pub use moment::Moment;
+pub use replay::{Resumed, resume};
+pub use row::{Heading, Note, Row};
+pub use write::{write_heading, write_row};
+
+#[cfg(test)]
+mod tests;

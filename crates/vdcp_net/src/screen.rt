@@ -1,0 +1,95 @@
+ghost use Rattle.std.specs.Io.KnownBytes.{Appends};
+ghost use Rattle.std.specs.Prelude.{◌≤◌, length, take, IfOk};
+
+use mio::unix::SourceFd;
+use mio::{Events, Interest, Poll, Token};
+use std::alloc::Global;
+use std::io::{self, ErrorKind, Write};
+use std::net::Net;
+use std::os::fd::{AsRawFd, RawFd};
+use std::time::Duration;
+
+/// Most bytes that go out at once: a pipe or a terminal that takes any takes as many.
+const PIECE: usize = 255;
+
+/// A terminal, or what stands in its place, that never makes its writer wait: where a pipe or a terminal takes nothing,
+/// since nobody reads there, a write is refused with `WouldBlock`. (A file always takes what is written.)
+#[derive(Drop)]
+pub struct Screen<W> {
+    writer: W,
+    // None where no write waits.
+    room: Option<Room>,
+}
+
+/// What the system says of the room for a write.
+#[derive(Drop)]
+struct Room {
+    poll: Poll,
+    events: Events<Global>,
+}
+
+impl<W: Write + AsRawFd> Screen<W> {
+    /// A screen on which this writer's bytes go out.
+    pub fn new<R: Net + AllocGlobal>(rt: &R, writer: W) -> Self {
+        let room = Room::of(rt, writer.as_raw_fd()).ok();
+        Screen { writer, room }
+    }
+}
+
+impl Room {
+    // Err where the system doesn't watch the descriptor, as that of a file.
+    fn of<R: Net + AllocGlobal>(rt: &R, writer: RawFd) -> io::Result<Room> {
+        let poll = Poll::new(rt)?;
+        let events = Events::with_capacity(rt.alloc(), 1)?;
+        poll.registry()
+            .register(&mut SourceFd(&writer), Token(0), Interest::WRITABLE)?;
+        Ok(Room { poll, events })
+    }
+
+    // Whether a write wouldn't wait now.
+    fn is_there(&mut self, writer: RawFd) -> io::Result<bool> {
+        // (asked anew, since an event comes at a change alone)
+        self.poll
+            .registry()
+            .reregister(&mut SourceFd(&writer), Token(0), Interest::WRITABLE)?;
+        self.poll.poll(&mut self.events, Some(Duration::ZERO))?;
+        Ok(!self.events.is_empty())
+    }
+}
+
+impl<W: Write + AsRawFd> Write for Screen<W> {
+    fn write(&mut self, bytes: &[u8]) -> io::Result<usize> {
+        let writer = self.writer.as_raw_fd();
+        if let Some(room) = &mut self.room {
+            if !room.is_there(writer)? {
+                return Err(io::Error::from(ErrorKind::WouldBlock));
+            }
+        }
+        self.writer.write(&bytes[..bytes.len().min(PIECE)])
+    }
+
+    fn flush(&mut self) -> io::Result<()> {
+        self.writer.flush()
+    }
+}
+
+/// Writes as many of the bytes as the writer takes, up to one that would wait, and says how many. Err where the writer
+/// fails.
+pub fn write_at_once<W: Write>(writer: &mut W, bytes: &[u8]) -> io::Result<usize>
+    ensures within { IfOk result (λ n. n ≤ length bytes.now) }
+    ensures beginning { IfOk result (λ n. Appends (W.contents writer.old) (W.contents writer.new) (take n bytes.now)) }
+{
+    let mut written = 0;
+    for _ in 0..u64::MAX {
+        if written == bytes.len() {
+            break;
+        }
+        match writer.write(&bytes[written..]) {
+            Ok(0) => return Err(io::Error::from(ErrorKind::WriteZero)),
+            Ok(count) => written += count,
+            Err(error) if error.kind() == ErrorKind::WouldBlock => break,
+            Err(error) => return Err(error),
+        }
+    }
+    Ok(written)
+}
