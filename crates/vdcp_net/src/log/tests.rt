@@ -200,18 +200,23 @@ fn lines_that_nobody_reads_are_counted(rt: HostRuntime) -> Result<(), Fail> {
     Ok(())
 }
 
+// A line of this many x.
+fn xs(alloc: Global, count: usize) -> Result<String, Fail> {
+    let mut line = String::new(alloc);
+    for _ in 0..count {
+        line.push('x')?;
+    }
+    Ok(line)
+}
+
 // A line has 1,024 bytes at most, its end among them.
 #[test]
 fn long_line_is_cut(rt: HostRuntime) -> Result<(), Fail> {
     let alloc = rt.alloc();
     let mut lines = Vec::new(alloc);
     let log = Log::new(&mut lines);
-    let mut long = String::new(alloc);
-    for _ in 0..1024 {
-        long.push('x')?;
-    }
-    log.tell(&&long.as_str()[..1024]);
-    log.tell(&&long.as_str()[..1023]);
+    log.tell(&xs(alloc, 1024)?.as_str());
+    log.tell(&xs(alloc, 1023)?.as_str());
     drop(log);
     assert_eq!(rt; lines.len(), 2048);
     assert_eq!(rt; lines[1023], b'\n');
