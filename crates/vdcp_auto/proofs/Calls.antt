@@ -26,7 +26,8 @@ use Rattle.vdcp_auto.proofs.Rows.{row_kept}
 
 -- What a phase sends.
 
-sends_cue : (list : List Item) (port k : ℕ) (item : Item) → slice_get list k ≡ Some item → (part : Option Part) → item.part ≡ part
+sends_cue : (list : List Item) (port k : ℕ) (item : Item) → slice_get list k ≡ Some item → (part : Option Part)
+    → item.part ≡ part
     → Sends list port (phase.Cue k) (cue_for item.id part)
 sends_cue list port k item here None is = sends_whole (rw (here, is) refl)
 sends_cue list port k item here (Some part) is = sends_part (rw (here, is) refl)
@@ -34,40 +35,57 @@ sends_cue list port k item here (Some part) is = sends_part (rw (here, is) refl)
 sends_item : (list : List Item) (port k : ℕ) (c : Command) (found : Option Item) → slice_get list k ≡ found
     → option_map (λ item. command.IdRequest item.id) found ≡ Some c → Sends list port (phase.Exists k) c
 sends_item list port k c None here e = cc
-sends_item list port k c (Some item) here e = let same : command.IdRequest item.id ≡ c = cc in subst (Sends list port (phase.Exists k)) same sends_exists
+sends_item list port k c (Some item) here e = let same : command.IdRequest item.id ≡ c = cc in
+    subst (Sends list port (phase.Exists k)) same sends_exists
 
 sends_cued : (list : List Item) (port k : ℕ) (c : Command) (found : Option Item) → slice_get list k ≡ found
     → option_map cue_of found ≡ Some c → Sends list port (phase.Cue k) c
 sends_cued list port k c None here e = cc
-sends_cued list port k c (Some item) here e = let same : cue_of item ≡ c = cc in subst (Sends list port (phase.Cue k)) same
+sends_cued list port k c (Some item) here e = let same : cue_of item ≡ c = cc in
+    subst (Sends list port (phase.Cue k)) same
     (sends_cue list port k item here item.part refl)
 
-pub sends_of : (list : List Item) (port : ℕ) (p : Phase) (c : Command) → command_in list port p ≡ Some c → Sends list port p c
-sends_of list port phase.Open c e = let same : command.Open port 1 ≡ c = cc in subst (Sends list port phase.Open) same sends_open
-sends_of list port phase.Select c e = let same : command.Select port ≡ c = cc in subst (Sends list port phase.Select) same sends_select
-sends_of list port phase.Seen c e = let same : command.Status 1 ≡ c = cc in subst (Sends list port phase.Seen) same sends_seen
+pub sends_of : (list : List Item) (port : ℕ) (p : Phase) (c : Command) → command_in list port p ≡ Some c
+    → Sends list port p c
+sends_of list port phase.Open c e = let same : command.Open port 1 ≡ c = cc in
+    subst (Sends list port phase.Open) same sends_open
+sends_of list port phase.Select c e = let same : command.Select port ≡ c = cc in
+    subst (Sends list port phase.Select) same sends_select
+sends_of list port phase.Seen c e = let same : command.Status 1 ≡ c = cc in
+    subst (Sends list port phase.Seen) same sends_seen
 sends_of list port (phase.Exists k) c e = sends_item list port k c (slice_get list k) refl e
 sends_of list port (phase.Cue k) c e = sends_cued list port k c (slice_get list k) refl e
-sends_of list port (phase.Wait k) c e = let same : command.Status 1 ≡ c = cc in subst (Sends list port (phase.Wait k)) same sends_wait
-sends_of list port (phase.Play k) c e = let same : command.Play ≡ c = cc in subst (Sends list port (phase.Play k)) same sends_play
-sends_of list port (phase.Probe k) c e = let same : command.Status 1 ≡ c = cc in subst (Sends list port (phase.Probe k)) same sends_probe
-sends_of list port (phase.Check k) c e = let same : command.ActiveId ≡ c = cc in subst (Sends list port (phase.Check k)) same sends_check
-sends_of list port phase.Drain c e = let same : command.Status 1 ≡ c = cc in subst (Sends list port phase.Drain) same sends_drain
-sends_of list port phase.Close c e = let same : command.Close port ≡ c = cc in subst (Sends list port phase.Close) same sends_close
-sends_of list port phase.Halt c e = let same : command.Stop ≡ c = cc in subst (Sends list port phase.Halt) same sends_halt
-sends_of list port phase.HaltClose c e = let same : command.Close port ≡ c = cc in subst (Sends list port phase.HaltClose) same sends_halt_close
+sends_of list port (phase.Wait k) c e = let same : command.Status 1 ≡ c = cc in
+    subst (Sends list port (phase.Wait k)) same sends_wait
+sends_of list port (phase.Play k) c e = let same : command.Play ≡ c = cc in
+    subst (Sends list port (phase.Play k)) same sends_play
+sends_of list port (phase.Probe k) c e = let same : command.Status 1 ≡ c = cc in
+    subst (Sends list port (phase.Probe k)) same sends_probe
+sends_of list port (phase.Check k) c e = let same : command.ActiveId ≡ c = cc in
+    subst (Sends list port (phase.Check k)) same sends_check
+sends_of list port phase.Drain c e = let same : command.Status 1 ≡ c = cc in
+    subst (Sends list port phase.Drain) same sends_drain
+sends_of list port phase.Close c e = let same : command.Close port ≡ c = cc in
+    subst (Sends list port phase.Close) same sends_close
+sends_of list port phase.Halt c e = let same : command.Stop ≡ c = cc in
+    subst (Sends list port phase.Halt) same sends_halt
+sends_of list port phase.HaltClose c e = let same : command.Close port ≡ c = cc in
+    subst (Sends list port phase.HaltClose) same sends_halt_close
 
 -- The calls that end no exchange.
 
 pub begun_holds : (plan : Plan) → 1 ≤ plan.limit → Holds plan blank start
-begun_holds plan some = record { settled = refl; not_early = refl; row = (refl, omega arith); stage = ((refl, refl), refl, refl, refl) }
+begun_holds plan some =
+    record { settled = refl; not_early = refl; row = (refl, omega arith); stage = ((refl, refl), refl, refl, refl) }
 
-tick_phase : (mode : Mode) (list : List Item) (m : Memo) (tries : ℕ) (stop : Bool) (p : Phase) → InPhase mode list m false stop tries p
+tick_phase : (mode : Mode) (list : List Item) (m : Memo) (tries : ℕ) (stop : Bool) (p : Phase)
+    → InPhase mode list m false stop tries p
     → InPhase mode list m true false tries (phase_to_send stop p)
 tick_phase mode list m tries true p holds = grind arith
 tick_phase mode list m tries false p holds = grind arith
 
-stop_phase : (mode : Mode) (list : List Item) (m : Memo) (awaiting stop : Bool) (tries : ℕ) (p : Phase) → InPhase mode list m awaiting stop tries p
+stop_phase : (mode : Mode) (list : List Item) (m : Memo) (awaiting stop : Bool) (tries : ℕ) (p : Phase)
+    → InPhase mode list m awaiting stop tries p
     → InPhase mode list m awaiting (if can_stop p then true else stop) tries p
 stop_phase mode list m awaiting stop tries p holds = grind arith
 
@@ -80,7 +98,8 @@ state stage take stop unanswered settled tries =
     record { stage = stage; take = take; stop = stop; unanswered = unanswered; settled = settled; tries = tries }
 
 tick_holds : (plan : Plan) (m : Memo) (stage : Stage) (take stop : Bool) (unanswered settled tries : ℕ)
-    → Holds plan m (state stage take stop unanswered settled tries) → Holds plan m (ticked (state stage take stop unanswered settled tries))
+    → Holds plan m (state stage take stop unanswered settled tries)
+    → Holds plan m (ticked (state stage take stop unanswered settled tries))
 tick_holds plan m (Awaiting p) take stop unanswered settled tries holds = holds
 tick_holds plan m (Ended outcome) take stop unanswered settled tries holds = holds
 tick_holds plan m (Ready p) take stop unanswered settled tries holds = record {
@@ -91,7 +110,8 @@ tick_holds plan m (Ready p) take stop unanswered settled tries holds = record {
 }
 
 stop_holds : (plan : Plan) (m : Memo) (stage : Stage) (take stop : Bool) (unanswered settled tries : ℕ)
-    → Holds plan m (state stage take stop unanswered settled tries) → Holds plan m (stopped (state stage take stop unanswered settled tries))
+    → Holds plan m (state stage take stop unanswered settled tries)
+    → Holds plan m (stopped (state stage take stop unanswered settled tries))
 stop_holds plan m (Ended outcome) take stop unanswered settled tries holds = record {
   settled = holds.settled;
   not_early = holds.not_early;
@@ -144,7 +164,8 @@ forgotten_holds plan m s holds =
     forget_holds plan m s.stage s.take s.stop s.unanswered s.settled s.tries holds
 
 pub taken_holds : (plan : Plan) (m : Memo) (s : State) → Holds plan m s → Holds plan m (taken s)
-taken_holds plan m s holds = record { settled = holds.settled; not_early = holds.not_early; row = holds.row; stage = holds.stage }
+taken_holds plan m s holds =
+    record { settled = holds.settled; not_early = holds.not_early; row = holds.row; stage = holds.stage }
 
 -- The calls that may end one.
 
@@ -162,7 +183,8 @@ waiting plan m p take stop tries = state (Awaiting p) take stop m.row m.count tr
 
 end_holds : (plan : Plan) (m : Memo) (p : Phase) (take stop : Bool) (tries : ℕ) (c : Command) (came : Option Heard)
     → Sends plan.list plan.port p c → is_end plan.mode c came ≡ true → Holds plan m (waiting plan m p take stop tries)
-    → Holds plan (remember plan.mode plan.limit m (exchange c came)) (ended_in plan (Awaiting p) (exchange c came) (waiting plan m p take stop tries))
+    → Holds plan (remember plan.mode plan.limit m (exchange c came))
+    (ended_in plan (Awaiting p) (exchange c came) (waiting plan m p take stop tries))
 end_holds plan m p take stop tries c came s ends holds =
     let keeps = kept plan.mode plan.list plan.limit plan.port m take stop tries s came ends holds.stage in
     record {
@@ -173,22 +195,27 @@ end_holds plan m p take stop tries c came s ends holds =
     }
 
 come_if : (plan : Plan) (m : Memo) (p : Phase) (take stop : Bool) (tries : ℕ) (c : Command) (came : Option Heard)
-    → Sends plan.list plan.port p c → Holds plan m (waiting plan m p take stop tries) → (ends : Bool) → is_end plan.mode c came ≡ ends
+    → Sends plan.list plan.port p c → Holds plan m (waiting plan m p take stop tries) → (ends : Bool)
+    → is_end plan.mode c came ≡ ends
     → Holds plan (remembered plan m (if ends then Some (exchange c came) else None))
-    (option_map_or (λ e. ended_in plan (Awaiting p) e (waiting plan m p take stop tries)) (if ends then Some (exchange c came) else None)
+    (option_map_or (λ e. ended_in plan (Awaiting p) e (waiting plan m p take stop tries))
+    (if ends then Some (exchange c came) else None)
     (waiting plan m p take stop tries))
 come_if plan m p take stop tries c came s holds true is = end_holds plan m p take stop tries c came s is holds
 come_if plan m p take stop tries c came s holds false is = holds
 
-come_for : (plan : Plan) (m : Memo) (p : Phase) (take stop : Bool) (tries : ℕ) (came : Option Heard) (c : Option Command)
+come_for : (plan : Plan) (m : Memo) (p : Phase) (take stop : Bool) (tries : ℕ) (came : Option Heard)
+    (c : Option Command)
     → command_in plan.list plan.port p ≡ c → Holds plan m (waiting plan m p take stop tries)
     → Holds plan (remembered plan m (exchange_of plan.mode came c))
-    (option_map_or (λ e. ended_in plan (Awaiting p) e (waiting plan m p take stop tries)) (exchange_of plan.mode came c) (waiting plan m p take stop tries))
+    (option_map_or (λ e. ended_in plan (Awaiting p) e (waiting plan m p take stop tries)) (exchange_of plan.mode came c)
+    (waiting plan m p take stop tries))
 come_for plan m p take stop tries came None is holds = holds
 come_for plan m p take stop tries came (Some c) is holds =
     come_if plan m p take stop tries c came (sends_of plan.list plan.port p c is) holds (is_end plan.mode c came) refl
 
-come_waiting : (plan : Plan) (m : Memo) (p : Phase) (take stop : Bool) (unanswered settled tries : ℕ) (came : Option Heard)
+come_waiting : (plan : Plan) (m : Memo) (p : Phase) (take stop : Bool) (unanswered settled tries : ℕ)
+    (came : Option Heard)
     → unanswered ≡ m.row → settled ≡ m.count
     → Holds plan m (state (Awaiting p) take stop unanswered settled tries)
     → Holds plan (remembered plan m (ended_by plan came (state (Awaiting p) take stop unanswered settled tries)))
@@ -201,7 +228,8 @@ come_waiting plan m p take stop unanswered settled tries came row count holds =
     let here : P m.row m.count = come_for plan m p take stop tries came (command_in plan.list plan.port p) refl in
     subst (λ n. P unanswered n) (sym count) (subst (λ u. P u m.count) (sym row) here) holds
 
-come_holds : (plan : Plan) (m : Memo) (stage : Stage) (take stop : Bool) (unanswered settled tries : ℕ) (came : Option Heard)
+come_holds : (plan : Plan) (m : Memo) (stage : Stage) (take stop : Bool) (unanswered settled tries : ℕ)
+    (came : Option Heard)
     → Holds plan m (state stage take stop unanswered settled tries)
     → Holds plan (remembered plan m (ended_by plan came (state stage take stop unanswered settled tries)))
     (came_to plan came (state stage take stop unanswered settled tries))

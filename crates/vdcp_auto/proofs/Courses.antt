@@ -51,28 +51,35 @@ over_course : (plan : Plan) (inputs : List Input) (s : State) → IsOver plan s.
 over_course plan [] s over = refl
 over_course plan (input.Take ∷ inputs) s over = over_course plan inputs (taken s) over
 over_course plan (input.Stop ∷ inputs) s over = over_course plan inputs (stopped s) over
-over_course plan (input.Heard h ∷ inputs) s over = if_not (is_some (awaited plan (ticked s))) _ [] (over_awaits plan s over)
-over_course plan (input.Silence ∷ inputs) s over = if_not (is_some (awaited plan (ticked s))) _ [] (over_awaits plan s over)
+over_course plan (input.Heard h ∷ inputs) s over = if_not (is_some (awaited plan (ticked s))) _ []
+    (over_awaits plan s over)
+over_course plan (input.Silence ∷ inputs) s over = if_not (is_some (awaited plan (ticked s))) _ []
+    (over_awaits plan s over)
 
 -- Where something comes, or silence.
 
 abbrev rest : Plan → Option Heard → List Input → State → List Exchange
 rest plan came inputs s = option_to_list (ended_by plan came s) ++ course_from plan (came_to plan came s) inputs
 
-rest_if : (plan : Plan) (came : Option Heard) (inputs : List Input) (s : State) → is_ready s.stage ≡ false → (c : Option Command) → awaited plan s ≡ c
+rest_if : (plan : Plan) (came : Option Heard) (inputs : List Input) (s : State) → is_ready s.stage ≡ false
+    → (c : Option Command) → awaited plan s ≡ c
     → (if is_some (awaited plan s) then rest plan came inputs s else []) ≡ rest plan came inputs s
-rest_if plan came inputs s unready (Some c) is = if_so (is_some (awaited plan s)) (rest plan came inputs s) [] (ap is_some is)
+rest_if plan came inputs s unready (Some c) is = if_so (is_some (awaited plan s)) (rest plan came inputs s) []
+    (ap is_some is)
 rest_if plan came inputs s unready None is =
     if_not (is_some (awaited plan s)) (rest plan came inputs s) [] (ap is_some is)
     ∙ sym (ap (λ c. option_to_list (exchange_of plan.mode came c) ++ course_from plan (came_to plan came s) inputs) is
     ∙ ap (λ t. course_from plan t inputs) (came_same plan came s is) ∙ over_course plan inputs s (unready, is))
 
 course_came : (plan : Plan) (came : Option Heard) (inputs : List Input) (s : State)
-    → (if is_some (awaited plan (ticked s)) then rest plan came inputs (ticked s) else []) ≡ rest plan came inputs (ticked s)
-course_came plan came inputs s = rest_if plan came inputs (ticked s) (tick_unready s.stage s refl) (awaited plan (ticked s)) refl
+    → (if is_some (awaited plan (ticked s)) then rest plan came inputs (ticked s) else [])
+    ≡ rest plan came inputs (ticked s)
+course_came plan came inputs s = rest_if plan came inputs (ticked s) (tick_unready s.stage s refl)
+    (awaited plan (ticked s)) refl
 
 course_input : (plan : Plan) (x : Input) (inputs : List Input) (s : State)
-    → course_from plan s (x ∷ inputs) ≡ option_to_list (ended_by_input plan s x) ++ course_from plan (after_input plan s x) inputs
+    → course_from plan s (x ∷ inputs) ≡ option_to_list (ended_by_input plan s x)
+    ++ course_from plan (after_input plan s x) inputs
 course_input plan input.Take inputs s = refl
 course_input plan input.Stop inputs s = refl
 course_input plan (input.Heard h) inputs s = course_came plan (Some h) inputs s
@@ -96,17 +103,20 @@ course_joined plan (x ∷ xs) ys s =
     ∙ ap (λ front. front ++ course_from plan (after_inputs_from plan next xs) ys) (sym (course_input plan x xs s))
 
 -- the course's first exchange, if there is one, joins the log
-logged_first : (log : List Exchange) (o : Option Exchange) (more : List Exchange) → logged log o ++ more ≡ log ++ (option_to_list o ++ more)
+logged_first : (log : List Exchange) (o : Option Exchange) (more : List Exchange)
+    → logged log o ++ more ≡ log ++ (option_to_list o ++ more)
 logged_first log None more = refl
 logged_first log (Some e) more = append_assoc log (e ∷ []) more
 
 pub course_more : (plan : Plan) (s : State) (xs : List Input) (x : Input)
-    → course_from plan s (xs ++ x ∷ []) ≡ logged (course_from plan s xs) (ended_by_input plan (after_inputs_from plan s xs) x)
+    → course_from plan s (xs ++ x ∷ []) ≡ logged (course_from plan s xs)
+    (ended_by_input plan (after_inputs_from plan s xs) x)
 course_more plan s xs x =
     let before = course_from plan s xs in
     let left = after_inputs_from plan s xs in
     course_joined plan xs (x ∷ []) s ∙ ap (λ more. before ++ more) (course_input plan x [] left)
-    ∙ sym (logged_first before (ended_by_input plan left x) []) ∙ append-nil (logged before (ended_by_input plan left x))
+    ∙ sym (logged_first before (ended_by_input plan left x) [])
+    ∙ append-nil (logged before (ended_by_input plan left x))
 
 -- What a course leaves is reached.
 
@@ -123,5 +133,6 @@ reached_after plan [] s log r = subst (Reached plan s) (sym (append-nil log)) r
 reached_after plan (x ∷ inputs) s log r =
     let next = after_input plan s x in
     subst (Reached plan (after_inputs_from plan next inputs))
-    (logged_first log (ended_by_input plan s x) (course_from plan next inputs) ∙ ap (λ more. log ++ more) (sym (course_input plan x inputs s)))
+    (logged_first log (ended_by_input plan s x) (course_from plan next inputs)
+    ∙ ap (λ more. log ++ more) (sym (course_input plan x inputs s)))
     (reached_after plan inputs next (logged log (ended_by_input plan s x)) (reached_input plan s log x r))

@@ -74,14 +74,16 @@ is_fresh (e ∷ es) = is_done_status e && not (list_any is_play es) || is_fresh 
 
 fresh-behind : (xs ys : List Exchange) → is_fresh ys ≡ true → is_fresh (xs ++ ys) ≡ true
 fresh-behind [] ys h = h
-fresh-behind (x ∷ xs) ys h = or_right (is_done_status x && not (list_any is_play (xs ++ ys))) (is_fresh (xs ++ ys)) (fresh-behind xs ys h)
+fresh-behind (x ∷ xs) ys h = or_right (is_done_status x && not (list_any is_play (xs ++ ys))) (is_fresh (xs ++ ys))
+    (fresh-behind xs ys h)
 
 fresh_from : (list : List Item) (log : List Exchange) → MayPlay Plain list log → is_fresh log ≡ true
 fresh_from list log m =
     let at : is_fresh (m.status ∷ m.after) ≡ true =
     or_left (is_done_status m.status && not (list_any is_play m.after)) (is_fresh m.after)
     (and_from (is_done_status m.status) (not (list_any is_play m.after)) m.done (ap not m.no_play)) in
-    ap is_fresh m.in_order ∙ fresh-behind m.before (m.cue ∷ (m.between ++ (m.status ∷ m.after))) (fresh-behind (m.cue ∷ m.between) (m.status ∷ m.after) at)
+    ap is_fresh m.in_order ∙ fresh-behind m.before (m.cue ∷ (m.between ++ (m.status ∷ m.after)))
+    (fresh-behind (m.cue ∷ m.between) (m.status ∷ m.after) at)
 
 no_play_without_a_done_status : May Plain once (cue ∷ []) command.Play → ⊥
 no_play_without_a_done_status m = true_not_false (sym (fresh_from once (cue ∷ []) m.rule))
@@ -90,16 +92,20 @@ no_play_without_a_done_status m = true_not_false (sym (fresh_from once (cue ∷ 
 no_second_play_on_one_status : May Plain once (cue ∷ done ∷ unread ∷ []) command.Play → ⊥
 no_second_play_on_one_status m = true_not_false (sym (fresh_from once (cue ∷ done ∷ unread ∷ []) m.rule))
 
-cue_at : (before log behind : List Exchange) (c : Exchange) → log ≡ before ++ (c ∷ behind) → is_cue c ≡ true → list_any is_cue log ≡ true
-cue_at before log behind c e is = ap (list_any is_cue) e ∙ any-behind is_cue before (c ∷ behind) (or_left (is_cue c) (list_any is_cue behind) is)
+cue_at : (before log behind : List Exchange) (c : Exchange) → log ≡ before ++ (c ∷ behind) → is_cue c ≡ true
+    → list_any is_cue log ≡ true
+cue_at before log behind c e is = ap (list_any is_cue) e
+    ∙ any-behind is_cue before (c ∷ behind) (or_left (is_cue c) (list_any is_cue behind) is)
 
 no_play_without_a_cue : May Plain once (done ∷ []) command.Play → ⊥
 no_play_without_a_cue m =
     let behind = m.rule.between ++ (m.rule.status ∷ m.rule.after) in
-    true_not_false (sym (cue_at m.rule.before (done ∷ []) behind m.rule.cue m.rule.in_order (ap is_cue_command m.rule.cues_next)))
+    true_not_false (sym (cue_at m.rule.before (done ∷ []) behind m.rule.cue m.rule.in_order
+    (ap is_cue_command m.rule.cues_next)))
 
 -- a PLAY that settled needs a new cue
-old_cue : (before behind : List Exchange) (c : Exchange) → (cue ∷ done ∷ played ∷ done ∷ []) ≡ before ++ (c ∷ behind) → is_cue c ≡ true
+old_cue : (before behind : List Exchange) (c : Exchange) → (cue ∷ done ∷ played ∷ done ∷ []) ≡ before ++ (c ∷ behind)
+    → is_cue c ≡ true
     → settled Plain before ≡ 1 → ⊥
 old_cue [] behind c e is n = absurd (omega arith)
 old_cue (x ∷ before) behind c e is n =

@@ -30,12 +30,15 @@ IsGoing m = (m.stopped ≡ false) × (m.closed ≡ false)
 -- what holds in each phase
 abbrev pub InPhase : Mode → List Item → Memo → Bool → Bool → ℕ → Phase → Type 0
 InPhase mode list m awaiting stop tries phase.Open = IsGoing m × (m.count ≡ 0) × (m.opened ≡ false) × (m.cued ≡ false)
-InPhase mode list m awaiting stop tries phase.Select = IsGoing m × (m.count ≡ 0) × (m.opened ≡ false) × (m.cued ≡ false) × (m.granted ≡ true)
-InPhase mode list m awaiting stop tries phase.Seen = IsGoing m × (m.count ≡ 0) × (m.opened ≡ false) × (m.cued ≡ false) × (m.granted ≡ true)
+InPhase mode list m awaiting stop tries phase.Select =
+    IsGoing m × (m.count ≡ 0) × (m.opened ≡ false) × (m.cued ≡ false) × (m.granted ≡ true)
+InPhase mode list m awaiting stop tries phase.Seen = IsGoing m × (m.count ≡ 0) × (m.opened ≡ false) × (m.cued ≡ false)
+    × (m.granted ≡ true)
 InPhase mode list m awaiting stop tries (phase.Exists k) =
     IsGoing m × (m.count ≡ k) × (k < length list) × (m.opened ≡ false) × (m.cued ≡ false) × (tries ≡ 0)
 InPhase mode list m awaiting stop tries (phase.Cue k) =
-    IsGoing m × (m.count ≡ k) × (k < length list) × (m.opened ≡ false) × (m.cued ≡ false → tries ≡ 0) × (m.cued ≡ true → TrialIs list k tries m)
+    IsGoing m × (m.count ≡ k) × (k < length list) × (m.opened ≡ false) × (m.cued ≡ false → tries ≡ 0)
+    × (m.cued ≡ true → TrialIs list k tries m)
 InPhase mode list m awaiting stop tries (phase.Wait k) =
     IsGoing m × (m.count ≡ k) × (k < length list) × (m.opened ≡ false) × TrialIs list k tries m × CueIs mode list k m
 InPhase mode list m awaiting stop tries (phase.Play k) =
@@ -47,7 +50,8 @@ InPhase mode list m awaiting stop tries (phase.Check k) =
 InPhase mode list m awaiting stop tries phase.Drain = IsGoing m × (m.count ≡ length list) × (m.opened ≡ false)
 InPhase mode list m awaiting stop tries phase.Close =
     (m.count ≡ length list) × (m.opened ≡ false) × (m.closed ≡ true → stop ≡ false) × (awaiting ≡ true → stop ≡ false)
-InPhase mode list m awaiting stop tries phase.Halt = (m.closed ≡ false) × (stop ≡ false) × (awaiting ≡ false → m.stopped ≡ true)
+InPhase mode list m awaiting stop tries phase.Halt = (m.closed ≡ false) × (stop ≡ false)
+    × (awaiting ≡ false → m.stopped ≡ true)
 InPhase mode list m awaiting stop tries phase.HaltClose = (m.stopped ≡ true) × (stop ≡ false)
 
 -- what an end means

@@ -86,13 +86,16 @@ agrees_push : (mode : Mode) (limit : ℕ) (log : List Exchange) (m : Memo) (e : 
 agrees_push mode limit log m e a = record {
   opened = has_open_play-push log e ∙ ap (λ o. opens o e) a.opened;
   count = settled-push mode log e ∙ ap (λ o. settled mode log + cond {A = ℕ} (settles_now mode o e) 1 0) a.opened
-      ∙ ap (λ n. n + cond {A = ℕ} (settles_now mode m.opened e) 1 0) a.count ∙ one_settles (settles_now mode m.opened e) m.count;
+      ∙ ap (λ n. n + cond {A = ℕ} (settles_now mode m.opened e) 1 0) a.count
+      ∙ one_settles (settles_now mode m.opened e) m.count;
   stops = any_push is_stop log e m.stopped a.stops;
   closes = any_push is_close log e m.closed a.closes;
   grants = any_push is_grant log e m.granted a.grants;
-  last = λ h. last_push mode log m.opened e m.cue m.acked m.done a.opened (none_left (settles_now mode m.opened e) (is_cue e || m.cued) h)
+  last = λ h. last_push mode log m.opened e m.cue m.acked m.done a.opened
+      (none_left (settles_now mode m.opened e) (is_cue e || m.cued) h)
       (is_cue e) refl m.cued (none_right (settles_now mode m.opened e) (is_cue e || m.cued) h) a.last;
-  first = λ h. first_push mode log m.opened e m.first m.empties a.opened (none_left (settles_now mode m.opened e) (is_cue e || m.cued) h)
+  first = λ h. first_push mode log m.opened e m.first m.empties a.opened
+      (none_left (settles_now mode m.opened e) (is_cue e || m.cued) h)
       m.cued (none_right (settles_now mode m.opened e) (is_cue e || m.cued) h) a.first;
   run = run_more mode log m.row e a.run;
   is_first = λ h. still_first mode limit log e (a.is_first (early_left limit m.row m.early h))
@@ -106,7 +109,8 @@ nothing_ends : (mode : Mode) (limit : ℕ) (log : List Exchange) (m : Memo) → 
     → (list_any is_stop log ≡ false) × (list_any is_close log ≡ false)
 nothing_ends mode limit log m a going = (a.stops ∙ going.0, a.closes ∙ going.1)
 
-may_going : (mode : Mode) (list : List Item) (log : List Exchange) (c : Command) → (list_any is_stop log ≡ false) × (list_any is_close log ≡ false)
+may_going : (mode : Mode) (list : List Item) (log : List Exchange) (c : Command)
+    → (list_any is_stop log ≡ false) × (list_any is_close log ≡ false)
     → Rule mode list log c → May mode list log c
 may_going mode list log c none rule = record { rule = rule; after_stop = λ h. cc; after_close = λ h. cc }
 
@@ -114,7 +118,8 @@ cue_named : (mode : Mode) (list : List Item) (k : ℕ) (m : Memo) → CueIs mode
 cue_named Plain list k m is = is.0
 cue_named Confirming list k m is = is
 
-taken_cue : (mode : Mode) (list : List Item) (k : ℕ) (m : Memo) (cue : Exchange) → is_acked cue ≡ m.acked → CueIs mode list k m → IsTaken mode cue
+taken_cue : (mode : Mode) (list : List Item) (k : ℕ) (m : Memo) (cue : Exchange) → is_acked cue ≡ m.acked
+    → CueIs mode list k m → IsTaken mode cue
 taken_cue Plain list k m cue acked is = acked ∙ is.1
 taken_cue Confirming list k m cue acked is = tt
 
@@ -140,23 +145,35 @@ may_play mode list log m k here is last =
       no_play = d.no_play;
     }
 
-may_send : (mode : Mode) (list : List Item) (limit port : ℕ) (log : List Exchange) (m : Memo) (stop : Bool) (tries : ℕ) {p : Phase} {c : Command}
+may_send : (mode : Mode) (list : List Item) (limit port : ℕ) (log : List Exchange) (m : Memo) (stop : Bool) (tries : ℕ)
+    {p : Phase} {c : Command}
     → Sends list port p c → Agrees mode limit log m → InPhase mode list m true stop tries p → May mode list log c
-may_send mode list limit port log m stop tries sends_open a holds = may_going mode list log _ (nothing_ends mode limit log m a holds.0) tt
-may_send mode list limit port log m stop tries sends_select a holds = may_going mode list log _ (nothing_ends mode limit log m a holds.0) (a.grants ∙ holds.4)
-may_send mode list limit port log m stop tries sends_seen a holds = may_going mode list log _ (nothing_ends mode limit log m a holds.0) tt
-may_send mode list limit port log m stop tries sends_exists a holds = may_going mode list log _ (nothing_ends mode limit log m a holds.0) tt
+may_send mode list limit port log m stop tries sends_open a holds =
+    may_going mode list log _ (nothing_ends mode limit log m a holds.0) tt
+may_send mode list limit port log m stop tries sends_select a holds =
+    may_going mode list log _ (nothing_ends mode limit log m a holds.0) (a.grants ∙ holds.4)
+may_send mode list limit port log m stop tries sends_seen a holds =
+    may_going mode list log _ (nothing_ends mode limit log m a holds.0) tt
+may_send mode list limit port log m stop tries sends_exists a holds =
+    may_going mode list log _ (nothing_ends mode limit log m a holds.0) tt
 may_send mode list limit port log m stop tries (sends_whole cues) a holds =
-    may_going mode list log _ (nothing_ends mode limit log m a holds.0) (record { cues_next = rw (a.count, holds.1) cues; no_open_play = a.opened ∙ holds.3 })
+    may_going mode list log _ (nothing_ends mode limit log m a holds.0)
+    (record { cues_next = rw (a.count, holds.1) cues; no_open_play = a.opened ∙ holds.3 })
 may_send mode list limit port log m stop tries (sends_part cues) a holds =
-    may_going mode list log _ (nothing_ends mode limit log m a holds.0) (record { cues_next = rw (a.count, holds.1) cues; no_open_play = a.opened ∙ holds.3 })
-may_send mode list limit port log m stop tries sends_wait a holds = may_going mode list log _ (nothing_ends mode limit log m a holds.0) tt
+    may_going mode list log _ (nothing_ends mode limit log m a holds.0)
+    (record { cues_next = rw (a.count, holds.1) cues; no_open_play = a.opened ∙ holds.3 })
+may_send mode list limit port log m stop tries sends_wait a holds =
+    may_going mode list log _ (nothing_ends mode limit log m a holds.0) tt
 may_send mode list limit port log m stop tries (sends_play {k}) a holds =
     may_going mode list log _ (nothing_ends mode limit log m a holds.0)
-    (may_play mode list log m k (a.count ∙ holds.1) holds.5 (subst (LastCue mode log m.cue m.acked) holds.3 (a.last holds.4.0)))
-may_send mode list limit port log m stop tries sends_probe a holds = may_going mode list log _ (nothing_ends mode limit log m a holds.0) tt
-may_send mode list limit port log m stop tries sends_check a holds = may_going mode list log _ (nothing_ends mode limit log m a holds.0) tt
-may_send mode list limit port log m stop tries sends_drain a holds = may_going mode list log _ (nothing_ends mode limit log m a holds.0) tt
+    (may_play mode list log m k (a.count ∙ holds.1) holds.5
+    (subst (LastCue mode log m.cue m.acked) holds.3 (a.last holds.4.0)))
+may_send mode list limit port log m stop tries sends_probe a holds =
+    may_going mode list log _ (nothing_ends mode limit log m a holds.0) tt
+may_send mode list limit port log m stop tries sends_check a holds =
+    may_going mode list log _ (nothing_ends mode limit log m a holds.0) tt
+may_send mode list limit port log m stop tries sends_drain a holds =
+    may_going mode list log _ (nothing_ends mode limit log m a holds.0) tt
 may_send mode list limit port log m stop tries sends_close a holds = record {
   rule = inr (a.count ∙ holds.0, a.opened ∙ holds.1);
   after_stop = λ h. refl;
@@ -190,18 +207,21 @@ record Known (plan : Plan) (state : State) (log : List Exchange) : Type 0 where
   pub holds : Holds plan memo state
   pub rules : KeepsRules plan.mode plan.list log
 
-may_next : (plan : Plan) (state : State) (log : List Exchange) (c : Command) → Known plan state log → awaited plan state ≡ Some c
+may_next : (plan : Plan) (state : State) (log : List Exchange) (c : Command) → Known plan state log
+    → awaited plan state ≡ Some c
     → May plan.mode plan.list log c
 may_next plan state log c known is =
     may_await plan log known.memo state.stop state.tries state.stage c known.agrees known.holds.stage is
 
 -- the exchange that ends is that of the awaited command
-ended_if : (came : Option Heard) (c : Command) (e : Exchange) (ends : Bool) → (if ends then Some (record { command = c; heard = came }) else None) ≡ Some e
+ended_if : (came : Option Heard) (c : Command) (e : Exchange) (ends : Bool)
+    → (if ends then Some (record { command = c; heard = came }) else None) ≡ Some e
     → c ≡ e.command
 ended_if came c e true is = let same : record { command = c; heard = came } ≡ e = cc in ap (λ x. x.command) same
 ended_if came c e false is = cc
 
-ended_command : (mode : Mode) (came : Option Heard) (c : Option Command) (e : Exchange) → exchange_of mode came c ≡ Some e → c ≡ Some e.command
+ended_command : (mode : Mode) (came : Option Heard) (c : Option Command) (e : Exchange)
+    → exchange_of mode came c ≡ Some e → c ≡ Some e.command
 ended_command mode came None e is = cc
 ended_command mode came (Some c) e is = ap Some (ended_if came c e (is_end mode c came) is)
 
@@ -209,13 +229,16 @@ rules_nil : (mode : Mode) (list : List Item) → KeepsRules mode list []
 rules_nil mode list [] e after is = cc
 rules_nil mode list (x ∷ before) e after is = cc
 
-rules_within : (mode : Mode) (list : List Item) (log before : List Exchange) (x : Exchange) (after : List Exchange) (e : Exchange) → KeepsRules mode list log
-    → (last : List Exchange) → last ≢ [] → log ≡ before ++ last → x ∷ after ≡ last ++ e ∷ [] → May mode list before x.command
+rules_within : (mode : Mode) (list : List Item) (log before : List Exchange) (x : Exchange) (after : List Exchange)
+    (e : Exchange) → KeepsRules mode list log
+    → (last : List Exchange) → last ≢ [] → log ≡ before ++ last → x ∷ after ≡ last ++ e ∷ []
+    → May mode list before x.command
 rules_within mode list log before x after e rules [] some is order = absurd (some refl)
 rules_within mode list log before x after e rules (y ∷ last) some is order =
     let same : y ≡ x = cc in rules before x last (is ∙ ap (λ z. before ++ (z ∷ last)) same)
 
-rules_push : (mode : Mode) (list : List Item) (log : List Exchange) (e : Exchange) → KeepsRules mode list log → May mode list log e.command
+rules_push : (mode : Mode) (list : List Item) (log : List Exchange) (e : Exchange) → KeepsRules mode list log
+    → May mode list log e.command
     → KeepsRules mode list (log ++ e ∷ [])
 rules_push mode list log e rules may before x after is =
     elim (cut log before (x ∷ after) e (λ h. cc) is) [
@@ -223,7 +246,8 @@ rules_push mode list log e rules may before x after is =
       | inr w ↦ rules_within mode list log before x after e rules w.last w.some w.before w.after
     ]
 
-known_more : (plan : Plan) (state : State) (log : List Exchange) (came : Option Heard) → Known plan state log → (o : Option Exchange)
+known_more : (plan : Plan) (state : State) (log : List Exchange) (came : Option Heard) → Known plan state log
+    → (o : Option Exchange)
     → ended_by plan came state ≡ o
     → Known plan (came_to plan came state) (logged log o)
 known_more plan state log came known None is =
@@ -248,9 +272,11 @@ known_came : (plan : Plan) (state : State) (log : List Exchange) (came : Option 
     → Known plan (came_to plan came state) (logged log (ended_by plan came state))
 known_came plan state log came known = known_more plan state log came known (ended_by plan came state) refl
 
-known_quiet : (plan : Plan) (old new : State) (log : List Exchange) → Known plan old log → ((m : Memo) → Holds plan m old → Holds plan m new)
+known_quiet : (plan : Plan) (old new : State) (log : List Exchange) → Known plan old log
+    → ((m : Memo) → Holds plan m old → Holds plan m new)
     → Known plan new log
-known_quiet plan old new log known keeps = record { memo = known.memo; agrees = known.agrees; rules = known.rules; holds = keeps known.memo known.holds }
+known_quiet plan old new log known keeps =
+    record { memo = known.memo; agrees = known.agrees; rules = known.rules; holds = keeps known.memo known.holds }
 
 known : (plan : Plan) {state : State} {log : List Exchange} → Reached plan state log → Known plan state log
 known plan (begun some few) = record {
@@ -259,16 +285,20 @@ known plan (begun some few) = record {
   holds = begun_holds plan some;
   rules = rules_nil plan.mode plan.list;
 }
-known plan (called {state} {log} r Tick) = known_quiet plan state (ticked state) log (known plan r) (λ m h. ticked_holds plan m state h)
+known plan (called {state} {log} r Tick) = known_quiet plan state (ticked state) log (known plan r)
+    (λ m h. ticked_holds plan m state h)
 known plan (called {state} {log} r (Receive came)) = known_came plan state log came (known plan r)
-known plan (called {state} {log} r Take) = known_quiet plan state (taken state) log (known plan r) (λ m h. taken_holds plan m state h)
-known plan (called {state} {log} r Stop) = known_quiet plan state (stopped state) log (known plan r) (λ m h. stopped_holds plan m state h)
+known plan (called {state} {log} r Take) = known_quiet plan state (taken state) log (known plan r)
+    (λ m h. taken_holds plan m state h)
+known plan (called {state} {log} r Stop) = known_quiet plan state (stopped state) log (known plan r)
+    (λ m h. stopped_holds plan m state h)
 known plan (called {state} {log} r Forget) =
     known_quiet plan state (forgotten state) log (known plan r) (λ m h. forgotten_holds plan m state h)
 
 -- The ends.
 
-lost_row : (limit row unanswered : ℕ) (stage : Stage) → RowIs limit row unanswered stage → outcome_of stage ≡ Some Lost → limit ≤ row
+lost_row : (limit row unanswered : ℕ) (stage : Stage) → RowIs limit row unanswered stage → outcome_of stage ≡ Some Lost
+    → limit ≤ row
 lost_row limit row unanswered (Ready p) is lost = cc
 lost_row limit row unanswered (Awaiting p) is lost = cc
 lost_row limit row unanswered (Ended Lost) is lost = is
@@ -280,7 +310,8 @@ lost_row limit row unanswered (Ended (Refused k)) is lost = cc
 lost_row limit row unanswered (Ended (Foreign k)) is lost = cc
 lost_row limit row unanswered (Ended (Strange k)) is lost = cc
 
-row_lost : (limit row unanswered : ℕ) (stage : Stage) → RowIs limit row unanswered stage → (row < limit → ⊥) → outcome_of stage ≡ Some Lost
+row_lost : (limit row unanswered : ℕ) (stage : Stage) → RowIs limit row unanswered stage → (row < limit → ⊥)
+    → outcome_of stage ≡ Some Lost
 row_lost limit row unanswered (Ready p) is long = absurd (long is.1)
 row_lost limit row unanswered (Awaiting p) is long = absurd (long is.1)
 row_lost limit row unanswered (Ended Lost) is long = refl
@@ -292,13 +323,16 @@ row_lost limit row unanswered (Ended (Refused k)) is long = absurd (long is)
 row_lost limit row unanswered (Ended (Foreign k)) is long = absurd (long is)
 row_lost limit row unanswered (Ended (Strange k)) is long = absurd (long is)
 
-at_outcome : (mode : Mode) (list : List Item) (limit : ℕ) (m : Memo) (stop : Bool) (tries : ℕ) (stage : Stage) (outcome : Outcome)
+at_outcome : (mode : Mode) (list : List Item) (limit : ℕ) (m : Memo) (stop : Bool) (tries : ℕ) (stage : Stage)
+    (outcome : Outcome)
     → AtStage mode list limit m stop tries stage → outcome_of stage ≡ Some outcome → AtEnd mode list limit m outcome
 at_outcome mode list limit m stop tries (Ready p) outcome holds is = cc
 at_outcome mode list limit m stop tries (Awaiting p) outcome holds is = cc
-at_outcome mode list limit m stop tries (Ended end) outcome holds is = let same : end ≡ outcome = cc in subst (AtEnd mode list limit m) same holds
+at_outcome mode list limit m stop tries (Ended end) outcome holds is = let same : end ≡ outcome = cc in
+    subst (AtEnd mode list limit m) same holds
 
-refused : (plan : Plan) (log : List Exchange) (m : Memo) (k : ℕ) → plan.mode ≡ Confirming → Agrees plan.mode plan.limit log m
+refused : (plan : Plan) (log : List Exchange) (m : Memo) (k : ℕ) → plan.mode ≡ Confirming
+    → Agrees plan.mode plan.limit log m
     → TrialIs plan.list k plan.limit m → IsRefused plan.list plan.limit log k
 refused plan log m k mode a trial =
     let f = a.first trial.0 in
@@ -328,29 +362,38 @@ lawful plan state log reached =
     let k = known plan reached in
     let a = k.agrees in
     let h = k.holds in
-    let end : (outcome : Outcome) → outcome_of state.stage ≡ Some outcome → AtEnd plan.mode plan.list plan.limit k.memo outcome =
-    λ outcome is. at_outcome plan.mode plan.list plan.limit k.memo state.stop state.tries state.stage outcome h.stage is in
+    let end : (outcome : Outcome) → outcome_of state.stage ≡ Some outcome
+    → AtEnd plan.mode plan.list plan.limit k.memo outcome =
+    λ outcome is. at_outcome plan.mode plan.list plan.limit k.memo state.stop state.tries state.stage outcome h.stage
+    is in
     record {
       keeps_rules = k.rules;
       may_await = each (awaited plan state) _ (λ c is. may_next plan state log c k is);
-      may_give = each (given plan state) _ (λ c is. may_next plan (ticked state) log c (known plan (called reached Tick))
+      may_give = each (given plan state) _ (λ c is. may_next plan (ticked state) log c
+          (known plan (called reached Tick))
           (given_awaited plan state.stage state.take state.stop state.unanswered state.settled state.tries c is));
       gives = gives_ready plan k.memo state.stop state.tries state.stage h.stage;
       awaits = awaits_answer plan k.memo state.stop state.tries state.stage h.stage;
-      is_stopped = λ p is halts. a.stops ∙ stopped_before plan.mode plan.list plan.limit k.memo state.stop state.tries state.stage p h.stage is halts;
+      is_stopped = λ p is halts. a.stops ∙ stopped_before plan.mode plan.list plan.limit k.memo state.stop state.tries
+          state.stage p h.stage is halts;
       is_settled = h.settled ∙ sym a.count;
       is_lost = (
         λ lost. record {
-          now = run_is plan.mode plan.limit log k.memo.row a.run (lost_row plan.limit k.memo.row state.unanswered state.stage h.row lost);
+          now = run_is plan.mode plan.limit log k.memo.row a.run
+              (lost_row plan.limit k.memo.row state.unanswered state.stage h.row lost);
           not_before = a.is_first h.not_early;
         },
-        λ lost. row_lost plan.limit k.memo.row state.unanswered state.stage h.row (λ short. run_has plan.mode plan.limit log k.memo.row a.run short lost.now),
+        λ lost. row_lost plan.limit k.memo.row state.unanswered state.stage h.row
+            (λ short. run_has plan.mode plan.limit log k.memo.row a.run short lost.now),
       );
-      is_refused = λ confirming place is. refused plan log k.memo place confirming a (end (Refused place) is confirming);
+      is_refused = λ confirming place is. refused plan log k.memo place confirming a
+          (end (Refused place) is confirming);
       is_done = λ is. a.count ∙ end Done is;
       is_missing = λ place is. a.count ∙ end (Missing place) is;
     }
 
 -- the rule book allows each command of a course
-pub KeepsRules-course : (plan : Plan) (inputs : List Input) → 1 ≤ plan.limit → plan.limit ≤ 1000 → KeepsRules plan.mode plan.list (course plan inputs)
-KeepsRules-course plan inputs some few = (lawful plan _ _ (reached_after plan inputs start [] (begun some few))).keeps_rules
+pub KeepsRules-course : (plan : Plan) (inputs : List Input) → 1 ≤ plan.limit → plan.limit ≤ 1000
+    → KeepsRules plan.mode plan.list (course plan inputs)
+KeepsRules-course plan inputs some few =
+    (lawful plan _ _ (reached_after plan inputs start [] (begun some few))).keeps_rules

@@ -40,8 +40,10 @@ pub slice_get-push : {X : Type 0} (xs : List X) (x : X) → slice_get (xs ++ x �
 slice_get-push [] x = refl
 slice_get-push (y ∷ ys) x = slice_get-push ys x
 
-pub count_by-range_more : (p : ℕ → Bool) (a n : ℕ) → count_by p (range_with_len a (suc n)) ≡ count_by p (range_with_len a n) + cond (p (a + n)) 1 0
-count_by-range_more p a zero = sum_by-cons (λ k. cond (p k) 1 0) a [] ∙ omega (arith, ap (λ k. cond {A = ℕ} (p k) 1 0) (add-zero a))
+pub count_by-range_more : (p : ℕ → Bool) (a n : ℕ) → count_by p (range_with_len a (suc n))
+    ≡ count_by p (range_with_len a n) + cond (p (a + n)) 1 0
+count_by-range_more p a zero = sum_by-cons (λ k. cond (p k) 1 0) a []
+    ∙ omega (arith, ap (λ k. cond {A = ℕ} (p k) 1 0) (add-zero a))
 count_by-range_more p a (suc n) =
     let one : ℕ → ℕ = λ k. cond (p k) 1 0 in
     let place : a + 1 + n ≡ a + suc n = omega arith in

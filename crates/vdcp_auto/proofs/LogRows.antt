@@ -81,7 +81,8 @@ no_cue_of_another_clip may =
     let byte : 0x32 ≡ cued_byte (command.PlayCue clip_one) = ap cued_byte same in
     absurd (omega arith)
 
-no_cue_of_another_kind : ¬ May Plain (record { id = clip_one; part = Some (record { start = []; duration = [] }) } ∷ []) (granted ∷ [])
+no_cue_of_another_kind : ¬ May Plain (record { id = clip_one; part = Some (record { start = []; duration = [] }) } ∷ [])
+    (granted ∷ [])
     (command.PlayCue clip_one)
 no_cue_of_another_kind may = let row = may.rule.cues_next in cc
 
@@ -90,10 +91,12 @@ no_cue_after_the_last_item may = may.rule.cues_next
 
 -- Silences in a row.
 
-three_silences : EndsUnanswered Plain 3 (granted ∷ silent (command.Select 1) ∷ silent (command.Select 1) ∷ silent (command.Select 1) ∷ [])
+three_silences : EndsUnanswered Plain 3 (granted ∷ silent (command.Select 1) ∷ silent (command.Select 1)
+    ∷ silent (command.Select 1) ∷ [])
 three_silences = (lit≤ tt, refl)
 
-an_answer_breaks_the_row : ¬ EndsUnanswered Plain 3 (silent (command.Open 1 1) ∷ granted ∷ silent (command.Select 1) ∷ silent (command.Select 1) ∷ [])
+an_answer_breaks_the_row : ¬ EndsUnanswered Plain 3 (silent (command.Open 1 1) ∷ granted ∷ silent (command.Select 1)
+    ∷ silent (command.Select 1) ∷ [])
 an_answer_breaks_the_row ends = let row = ends.1 in cc
 
 commands_do_not_count_in_confirm_mode : ¬ EndsUnanswered Confirming 3

@@ -19,17 +19,20 @@ use Rattle.vdcp_auto.proofs.Memo.{opens, settles_now}
 
 -- Open PLAYs.
 
-open_bools : (p s m answered opened : Bool) → p || s || m ≡ true → (p && not answered) ≡ (if p then not answered else (if s || m then false else opened))
+open_bools : (p s m answered opened : Bool) → p || s || m ≡ true
+    → (p && not answered) ≡ (if p then not answered else (if s || m then false else opened))
 open_bools p s m answered opened tells = grind arith
 
-open_others : (p s m answered opened : Bool) → p || s || m ≡ false → opened ≡ (if p then not answered else (if s || m then false else opened))
+open_others : (p s m answered opened : Bool) → p || s || m ≡ false
+    → opened ≡ (if p then not answered else (if s || m then false else opened))
 open_others p s m answered opened tells = grind arith
 
 abbrev is_open : Exchange → Bool
 is_open e = is_play e && not (is_answered e)
 
 open_push : (told : List Exchange) (e : Exchange) (tells : Bool) → tells_of_play e ≡ tells
-    → option_map_or is_open (last_or None (told ++ cond tells (e ∷ []) [])) false ≡ opens (option_map_or is_open (last_or None told) false) e
+    → option_map_or is_open (last_or None (told ++ cond tells (e ∷ []) [])) false
+    ≡ opens (option_map_or is_open (last_or None told) false) e
 open_push told e true is =
     let was_open = option_map_or is_open (last_or None told) false in
     rw last_or-push (open_bools (is_play e) (is_stop e) (is_empty_status e) (is_answered e) was_open is)
@@ -37,25 +40,31 @@ open_push told e false is =
     let was_open = option_map_or is_open (last_or None told) false in
     rw append-nil (open_others (is_play e) (is_stop e) (is_empty_status e) (is_answered e) was_open is)
 
-pub has_open_play-push : (log : List Exchange) (e : Exchange) → has_open_play (log ++ e ∷ []) ≡ opens (has_open_play log) e
+pub has_open_play-push : (log : List Exchange) (e : Exchange)
+    → has_open_play (log ++ e ∷ []) ≡ opens (has_open_play log) e
 has_open_play-push log e =
-    let told : filter tells_of_play (log ++ e ∷ []) ≡ filter tells_of_play log ++ filter tells_of_play (e ∷ []) = filter-append tells_of_play log (e ∷ []) in
-    ap (λ xs. option_map_or is_open (last_or None xs) false) told ∙ open_push (filter tells_of_play log) e (tells_of_play e) refl
+    let told : filter tells_of_play (log ++ e ∷ []) ≡ filter tells_of_play log ++ filter tells_of_play (e ∷ []) =
+    filter-append tells_of_play log (e ∷ []) in
+    ap (λ xs. option_map_or is_open (last_or None xs) false) told
+    ∙ open_push (filter tells_of_play log) e (tells_of_play e) refl
 
 -- What settles.
 
-settles_is : (mode : Mode) (log : List Exchange) (e : Exchange) → settles mode log e ≡ settles_now mode (has_open_play log) e
+settles_is : (mode : Mode) (log : List Exchange) (e : Exchange)
+    → settles mode log e ≡ settles_now mode (has_open_play log) e
 settles_is Plain log e = refl
 settles_is Confirming log e = refl
 
-settles_at_within : (mode : Mode) (log : List Exchange) (e : Exchange) (k : ℕ) → k < length log → settles_at mode (log ++ e ∷ []) k ≡ settles_at mode log k
+settles_at_within : (mode : Mode) (log : List Exchange) (e : Exchange) (k : ℕ) → k < length log
+    → settles_at mode (log ++ e ∷ []) k ≡ settles_at mode log k
 settles_at_within mode log e k below =
     let front : take k (log ++ e ∷ []) ≡ take k log = take-append-le k log (e ∷ []) (omega arith) in
     let here : slice_get (log ++ e ∷ []) k ≡ slice_get log k = slice_get-append log (e ∷ []) k below in
     ap (λ before. option_map_or (settles mode before) (slice_get (log ++ e ∷ []) k) false) front
     ∙ ap (λ found. option_map_or (settles mode (take k log)) found false) here
 
-settles_at_end : (mode : Mode) (log : List Exchange) (e : Exchange) → settles_at mode (log ++ e ∷ []) (length log) ≡ settles mode log e
+settles_at_end : (mode : Mode) (log : List Exchange) (e : Exchange)
+    → settles_at mode (log ++ e ∷ []) (length log) ≡ settles mode log e
 settles_at_end mode log e =
     let front : take (length log) (log ++ e ∷ []) ≡ log = take-append_seam log (e ∷ []) in
     ap (λ before. option_map_or (settles mode before) (slice_get (log ++ e ∷ []) (length log)) false) front
@@ -69,10 +78,13 @@ settled-push mode log e =
     ap (λ n. count_by p (range_with_len 0 n)) grown
     ∙ count_by-range_more p 0 (length log)
     ∙ ap (λ n. n + cond {A = ℕ} (p (0 + length log)) 1 0)
-    (count_by-range_same p (settles_at mode log) 0 (length log) (λ k below. settles_at_within mode log e k (omega arith)))
-    ∙ ap (λ b. settled mode log + cond {A = ℕ} b 1 0) (ap p (omega arith) ∙ settles_at_end mode log e ∙ settles_is mode log e)
+    (count_by-range_same p (settles_at mode log) 0 (length log)
+    (λ k below. settles_at_within mode log e k (omega arith)))
+    ∙ ap (λ b. settled mode log + cond {A = ℕ} b 1 0) (ap p (omega arith) ∙ settles_at_end mode log e
+    ∙ settles_is mode log e)
 
-pub settled_stays : (mode : Mode) (log : List Exchange) (opened : Bool) (e : Exchange) → has_open_play log ≡ opened → settles_now mode opened e ≡ false
+pub settled_stays : (mode : Mode) (log : List Exchange) (opened : Bool) (e : Exchange) → has_open_play log ≡ opened
+    → settles_now mode opened e ≡ false
     → settled mode (log ++ e ∷ []) ≡ settled mode log
 settled_stays mode log opened e is none =
     let now : settles_now mode (has_open_play log) e ≡ false = ap (λ o. settles_now mode o e) is ∙ none in
@@ -111,16 +123,19 @@ pub record FirstCue (mode : Mode) (log : List Exchange) (command : Command) (emp
   pub none_settles : settled mode before ≡ settled mode log
   pub is_count : empties ≤ count_by is_empty_status after
 
-in_order_push : (log before : List Exchange) (cue : Exchange) (after : List Exchange) (e : Exchange) → log ≡ before ++ (cue ∷ after)
+in_order_push : (log before : List Exchange) (cue : Exchange) (after : List Exchange) (e : Exchange)
+    → log ≡ before ++ (cue ∷ after)
     → log ++ e ∷ [] ≡ before ++ (cue ∷ (after ++ e ∷ []))
 in_order_push log before cue after e is = ap (λ xs. xs ++ e ∷ []) is ∙ append_assoc before (cue ∷ after) (e ∷ [])
 
-pub any_push : (p : Exchange → Bool) (log : List Exchange) (e : Exchange) (b : Bool) → list_any p log ≡ b → list_any p (log ++ e ∷ []) ≡ (b || p e)
+pub any_push : (p : Exchange → Bool) (log : List Exchange) (e : Exchange) (b : Bool) → list_any p log ≡ b
+    → list_any p (log ++ e ∷ []) ≡ (b || p e)
 any_push p log e b is = list_any-append p log (e ∷ []) ∙ grind arith
 
 done_push : (after : List Exchange) (e : Exchange) (done : Bool) → (done ≡ true → HasDone after) → is_play e ≡ false
     → (status : Bool) → is_done_status e ≡ status → (status || done) ≡ true → HasDone (after ++ e ∷ [])
-done_push after e done had no_play true is now = record { between = after; status = e; rest = []; in_order = refl; done = is; no_play = refl }
+done_push after e done had no_play true is now =
+    record { between = after; status = e; rest = []; in_order = refl; done = is; no_play = refl }
 done_push after e done had no_play false is now =
     let h = had now in
     record {
@@ -143,9 +158,11 @@ one_more true h = omega arith
 one_more false h = omega arith
 
 -- what the last cue is after one more exchange that doesn't settle
-pub last_push : (mode : Mode) (log : List Exchange) (opened : Bool) (e : Exchange) (command : Command) (acked done : Bool)
+pub last_push : (mode : Mode) (log : List Exchange) (opened : Bool) (e : Exchange) (command : Command)
+    (acked done : Bool)
     → has_open_play log ≡ opened → settles_now mode opened e ≡ false
-    → (cues : Bool) → is_cue e ≡ cues → (cued : Bool) → (cues || cued) ≡ true → (cued ≡ true → LastCue mode log command acked done)
+    → (cues : Bool) → is_cue e ≡ cues → (cued : Bool) → (cues || cued) ≡ true
+    → (cued ≡ true → LastCue mode log command acked done)
     → LastCue mode (log ++ e ∷ []) (if cues then e.command else command) (if cues then is_acked e else acked)
     (not (cues || is_play e) && (is_done_status e || done))
 last_push mode log opened e command acked done open_is none true is cued some had = record {
@@ -170,14 +187,16 @@ last_push mode log opened e command acked done open_is none false is cued some h
       is_taken = h.is_taken;
       last = any_push is_cue h.after e false h.last ∙ is;
       none_settles = h.none_settles ∙ sym (settled_stays mode log opened e open_is none);
-      is_done = λ now. done_push h.after e done h.is_done (no_play_in (is_play e) (is_done_status e || done) now) (is_done_status e) refl
+      is_done = λ now. done_push h.after e done h.is_done (no_play_in (is_play e) (is_done_status e || done) now)
+          (is_done_status e) refl
           (done_in (is_play e) (is_done_status e || done) now);
     }
 
 pub first_push : (mode : Mode) (log : List Exchange) (opened : Bool) (e : Exchange) (command : Command) (empties : ℕ)
     → has_open_play log ≡ opened → settles_now mode opened e ≡ false
     → (cued : Bool) → (is_cue e || cued) ≡ true → (cued ≡ true → FirstCue mode log command empties)
-    → FirstCue mode (log ++ e ∷ []) (if cued then command else e.command) (if cued then (if is_empty_status e then empties + 1 else empties) else 0)
+    → FirstCue mode (log ++ e ∷ []) (if cued then command else e.command)
+    (if cued then (if is_empty_status e then empties + 1 else empties) else 0)
 first_push mode log opened e command empties open_is none true some had =
     let h = had refl in
     record {
@@ -187,7 +206,8 @@ first_push mode log opened e command empties open_is none true some had =
       in_order = in_order_push log h.before h.cue h.after e h.in_order;
       is_command = h.is_command;
       none_settles = h.none_settles ∙ sym (settled_stays mode log opened e open_is none);
-      is_count = rw (sum_by_push (λ x. cond {A = ℕ} (is_empty_status x) 1 0) h.after e) (one_more (is_empty_status e) h.is_count);
+      is_count = rw (sum_by_push (λ x. cond {A = ℕ} (is_empty_status x) 1 0) h.after e)
+          (one_more (is_empty_status e) h.is_count);
     }
 first_push mode log opened e command empties open_is none false some had = record {
   before = log;

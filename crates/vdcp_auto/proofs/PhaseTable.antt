@@ -1,4 +1,5 @@
--- The phase table, line by line, computed from the definitions: where each kind of answer leads in each phase of both modes.
+-- The phase table, line by line, computed from the definitions: where each kind of answer leads in each phase of both
+-- modes.
 use Rattle.std.specs.Prelude.{◌≡◌, ℕ, Bool, true, false, Option, None, Some, List, [], ◌∷◌, ◌++◌, map, refl}
 use Rattle.vdcp_words.specs.declared.reply.Reply.{Reply}
 use Rattle.vdcp_words.specs.declared.reply.Reply.TheVariants as reply
@@ -110,7 +111,8 @@ abbrev in_phase : Phase → Bool → ℕ → ℕ → State
 in_phase p take unanswered tries =
     record { stage = Awaiting p; take = take; stop = false; unanswered = unanswered; settled = 0; tries = tries }
 
--- a line of the table: in this phase each of these answers leads there, where none of the exchanges before is unanswered
+-- a line of the table: in this phase each of these answers leads there, where none of the exchanges before is
+-- unanswered
 record Line : Type 0 where
   phase : Phase
   answers : List (Option Heard)
@@ -288,22 +290,27 @@ confirming_table = refl
 abbrev after : Mode → Phase → Bool → ℕ → ℕ → Option Heard → State
 after mode p take unanswered tries came = came_to (plan mode two) came (in_phase p take unanswered tries)
 
-take_over_a_playing_clip : (mode : Mode) → (after mode (phase.Wait 0) true 0 0 (heard_state 0x84)).stage ≡ Ready (phase.Play 0)
+take_over_a_playing_clip : (mode : Mode) → (after mode (phase.Wait 0) true 0 0 (heard_state 0x84)).stage
+    ≡ Ready (phase.Play 0)
 take_over_a_playing_clip Plain = refl
 take_over_a_playing_clip Confirming = refl
 
-take_with_nothing_playing : (mode : Mode) → (after mode (phase.Wait 0) true 0 0 (heard_state 0x80)).stage ≡ Ready (phase.Play 0)
+take_with_nothing_playing : (mode : Mode) → (after mode (phase.Wait 0) true 0 0 (heard_state 0x80)).stage
+    ≡ Ready (phase.Play 0)
 take_with_nothing_playing Plain = refl
 take_with_nothing_playing Confirming = refl
 
-take_waits_for_the_cue : (mode : Mode) → (after mode (phase.Wait 0) true 0 0 (heard_state 0x06)).stage ≡ Ready (phase.Wait 0)
+take_waits_for_the_cue : (mode : Mode) → (after mode (phase.Wait 0) true 0 0 (heard_state 0x06)).stage
+    ≡ Ready (phase.Wait 0)
 take_waits_for_the_cue Plain = refl
 take_waits_for_the_cue Confirming = refl
 
-take_is_spent_when_play_is_sent : (ticked (record (in_phase (phase.Play 0) true 0 0) { stage = Ready (phase.Play 0) })).take ≡ false
+take_is_spent_when_play_is_sent : (ticked (record (in_phase (phase.Play 0) true 0 0)
+    { stage = Ready (phase.Play 0) })).take ≡ false
 take_is_spent_when_play_is_sent = refl
 
-take_outlasts_other_commands : (ticked (record (in_phase (phase.Wait 0) true 0 0) { stage = Ready (phase.Wait 0) })).take ≡ true
+take_outlasts_other_commands : (ticked (record (in_phase (phase.Wait 0) true 0 0)
+    { stage = Ready (phase.Wait 0) })).take ≡ true
 take_outlasts_other_commands = refl
 
 -- What settles an event: ACK of PLAY in plain mode, an empty status after it in both.
@@ -311,7 +318,8 @@ take_outlasts_other_commands = refl
 ack_of_play_settles : (after Plain (phase.Play 1) false 0 0 (heard_reply reply.Ack)).settled ≡ 2
 ack_of_play_settles = refl
 
-ack_of_play_settles_nothing_in_confirm_mode : (after Confirming (phase.Play 1) false 0 0 (heard_reply reply.Ack)).settled ≡ 0
+ack_of_play_settles_nothing_in_confirm_mode : (after Confirming (phase.Play 1) false 0 0
+    (heard_reply reply.Ack)).settled ≡ 0
 ack_of_play_settles_nothing_in_confirm_mode = refl
 
 empty_status_settles : (mode : Mode) → (after mode (phase.Probe 1) false 0 0 (heard_state 0x04)).settled ≡ 2
@@ -323,7 +331,8 @@ empty_status_before_play_settles_nothing = refl
 
 -- Lost cues in confirm mode.
 
-second_lost_cue_is_tried_again : (after Confirming (phase.Wait 0) false 0 1 (heard_state 0x01)).stage ≡ Ready (phase.Cue 0)
+second_lost_cue_is_tried_again : (after Confirming (phase.Wait 0) false 0 1 (heard_state 0x01)).stage
+    ≡ Ready (phase.Cue 0)
 second_lost_cue_is_tried_again = refl
 
 lost_cues_are_counted : (after Confirming (phase.Wait 0) false 0 1 (heard_state 0x01)).tries ≡ 2
@@ -335,7 +344,8 @@ third_lost_cue_ends_refused = refl
 tries_stay_when_the_cue_is_sent_again : (after Confirming (phase.Cue 0) false 0 2 None).tries ≡ 2
 tries_stay_when_the_cue_is_sent_again = refl
 
-next_event_begins_with_no_tries : (after Confirming (phase.Check 0) false 0 2 (heard_reply (reply.Active None))).tries ≡ 0
+next_event_begins_with_no_tries : (after Confirming (phase.Check 0) false 0 2 (heard_reply (reply.Active None))).tries
+    ≡ 0
 next_event_begins_with_no_tries = refl
 
 -- Unanswered exchanges in a row, with limit 3.
@@ -353,7 +363,8 @@ third_unanswered_seen_ends_lost : (after Confirming phase.Seen false 2 0 None).s
 third_unanswered_seen_ends_lost = refl
 
 silent_play_counts_nothing_in_confirm_mode :
-    after Confirming (phase.Play 0) false 2 0 None ≡ record (in_phase (phase.Play 0) false 2 0) { stage = Ready (phase.Probe 0) }
+    after Confirming (phase.Play 0) false 2 0 None ≡ record (in_phase (phase.Play 0) false 2 0)
+    { stage = Ready (phase.Probe 0) }
 silent_play_counts_nothing_in_confirm_mode = refl
 
 refusal_sets_the_row_back : (after Plain phase.Halt false 2 0 (heard_reply (reply.Nak 0x01))).unanswered ≡ 0
@@ -365,7 +376,8 @@ answer_sets_the_row_back = refl
 answer_of_select_leaves_the_row_in_confirm_mode : (after Confirming phase.Select false 2 0 None).unanswered ≡ 2
 answer_of_select_leaves_the_row_in_confirm_mode = refl
 
-unfit_reply_counts : (mode : Mode) → (after mode (phase.Exists 0) false 1 0 (heard_reply (reply.Active None))).unanswered ≡ 2
+unfit_reply_counts : (mode : Mode)
+    → (after mode (phase.Exists 0) false 1 0 (heard_reply (reply.Active None))).unanswered ≡ 2
 unfit_reply_counts Plain = refl
 unfit_reply_counts Confirming = refl
 

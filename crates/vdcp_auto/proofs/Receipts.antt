@@ -15,12 +15,17 @@ no_end c None is = cc
 no_end c (Some heard.Other) is = cc
 no_end c (Some (heard.Reply r)) is = grind arith
 
-no_exchange : (came : Option Heard) (c : Option Command) → hears_receipt came ≡ true → exchange_of Confirming came c ≡ None
+no_exchange : (came : Option Heard) (c : Option Command) → hears_receipt came ≡ true
+    → exchange_of Confirming came c ≡ None
 no_exchange came None is = refl
 no_exchange came (Some c) is = rw (no_end c came is) refl
 
-pub receipt_ends_nothing : (plan : Plan) (s : State) (came : Option Heard) → plan.mode ≡ Confirming → hears_receipt came ≡ true → ended_by plan came s ≡ None
-receipt_ends_nothing plan s came mode is = ap (λ m. exchange_of m came (awaited plan s)) mode ∙ no_exchange came (awaited plan s) is
+pub receipt_ends_nothing : (plan : Plan) (s : State) (came : Option Heard) → plan.mode ≡ Confirming
+    → hears_receipt came ≡ true → ended_by plan came s ≡ None
+receipt_ends_nothing plan s came mode is = ap (λ m. exchange_of m came (awaited plan s)) mode
+    ∙ no_exchange came (awaited plan s) is
 
-pub receipt_changes_nothing : (plan : Plan) (s : State) (came : Option Heard) → plan.mode ≡ Confirming → hears_receipt came ≡ true → came_to plan came s ≡ s
-receipt_changes_nothing plan s came mode is = ap (λ o. option_map_or (λ e. ended_in plan s.stage e s) o s) (receipt_ends_nothing plan s came mode is)
+pub receipt_changes_nothing : (plan : Plan) (s : State) (came : Option Heard) → plan.mode ≡ Confirming
+    → hears_receipt came ≡ true → came_to plan came s ≡ s
+receipt_changes_nothing plan s came mode is = ap (λ o. option_map_or (λ e. ended_in plan s.stage e s) o s)
+    (receipt_ends_nothing plan s came mode is)

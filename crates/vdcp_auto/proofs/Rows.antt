@@ -56,8 +56,10 @@ row_at limit row (Ends (Strange k)) known below = below
 abbrev counted_row : ℕ → Bool → Bool → ℕ
 counted_row row counts answered = if counts then (if answered then 0 else row + 1) else row
 
-row_unanswered : (limit row : ℕ) (counts : Bool) (t : Transition) → is_loss t ≡ false → row < limit → (enough : Bool) → nat_le limit (row + 1) ≡ enough
-    → RowIs limit (counted_row row counts false) (counted_row row counts false) (stage_after (cond (counts && enough) (Ends Lost) t))
+row_unanswered : (limit row : ℕ) (counts : Bool) (t : Transition) → is_loss t ≡ false → row < limit → (enough : Bool)
+    → nat_le limit (row + 1) ≡ enough
+    → RowIs limit (counted_row row counts false) (counted_row row counts false)
+    (stage_after (cond (counts && enough) (Ends Lost) t))
 row_unanswered limit row true t known below true is = grind arith
 row_unanswered limit row true t known below false is = row_at limit (row + 1) t known (grind arith)
 row_unanswered limit row false t known below enough is = row_at limit row t known below
@@ -67,11 +69,13 @@ row_answered : (limit row : ℕ) (counts : Bool) (t : Transition) → is_loss t 
 row_answered limit row true t known below = row_at limit 0 t known (omega arith)
 row_answered limit row false t known below = row_at limit row t known below
 
-row_on : (plan : Plan) (take : Bool) (tries row : ℕ) (counts : Bool) (p : Phase) (answer : Option Reply) → row < plan.limit
+row_on : (plan : Plan) (take : Bool) (tries row : ℕ) (counts : Bool) (p : Phase) (answer : Option Reply)
+    → row < plan.limit
     → RowIs plan.limit (counted_row row counts (is_some answer)) (counted_row row counts (is_some answer))
     (stage_after (transition_on plan take tries row counts p answer))
 row_on plan take tries row counts p None below =
-    row_unanswered plan.limit row counts (on_no_answer plan.mode p) (no_loss_no_answer plan.mode p) below (nat_le plan.limit (row + 1)) refl
+    row_unanswered plan.limit row counts (on_no_answer plan.mode p) (no_loss_no_answer plan.mode p) below
+    (nat_le plan.limit (row + 1)) refl
 row_on plan take tries row counts p (Some r) below =
     row_answered plan.limit row counts _ (either (is_refusal r) _ _ (no_loss_refusal (length plan.list) p)
     (no_loss_reply plan.mode plan.list plan.limit take tries p r)) below

@@ -56,7 +56,8 @@ run_counted mode log row e false run = rw append-nil run
 pub run_more : (mode : Mode) (log : List Exchange) (row : ℕ) (e : Exchange) → Run (counted mode log) row
     → Run (counted mode (log ++ e ∷ [])) (row_after mode row e)
 run_more mode log row e run =
-    subst (λ xs. Run xs (row_after mode row e)) (sym (filter-append (is_counted mode) log (e ∷ []))) (run_counted mode log row e (is_counted mode e) run)
+    subst (λ xs. Run xs (row_after mode row e)) (sym (filter-append (is_counted mode) log (e ∷ [])))
+    (run_counted mode log row e (is_counted mode e) run)
 
 drop_any : (p : Exchange → Bool) (n : ℕ) (xs : List Exchange) → list_any p xs ≡ false → list_any p (drop n xs) ≡ false
 drop_any p zero xs h = h
@@ -71,46 +72,59 @@ drop_past (x ∷ xs) rest n (suc k) is = drop_past xs rest n k (omega arith)
 run_long : (log : List Exchange) (row limit : ℕ) → Run log row → limit ≤ row
     → (limit ≤ length log) × (list_any is_answered (drop (length log - limit) log) ≡ false)
 run_long log row limit run long =
-    let size : length log ≡ length run.front + row = ap length run.in_order ∙ length-append run.front run.rest ∙ ap (λ n. length run.front + n) run.is_row in
+    let size : length log ≡ length run.front + row = ap length run.in_order ∙ length-append run.front run.rest
+    ∙ ap (λ n. length run.front + n) run.is_row in
     let place : length log - limit ≡ length run.front + (row - limit) = omega arith in
     let tail : drop (length log - limit) log ≡ drop (row - limit) run.rest =
-    ap (drop (length log - limit)) run.in_order ∙ drop_past run.front run.rest (row - limit) (length log - limit) place in
+    ap (drop (length log - limit)) run.in_order ∙ drop_past run.front run.rest (row - limit) (length log - limit)
+    place in
     (omega arith, ap (list_any is_answered) tail ∙ drop_any is_answered (row - limit) run.rest run.unanswered)
 
 -- an answered exchange among the last ones
 found : (before rest : List Exchange) (e : Exchange) (k : ℕ) → k ≤ length before → is_answered e ≡ true
     → list_any is_answered (drop k (before ++ (e ∷ rest))) ≡ false → ⊥
 found before rest e k within is quiet =
-    let split : drop k (before ++ (e ∷ rest)) ≡ drop k before ++ (e ∷ rest) = drop-append-le k before (e ∷ rest) within in
-    let parts : list_any is_answered (drop k (before ++ (e ∷ rest))) ≡ (list_any is_answered (drop k before) || list_any is_answered (e ∷ rest)) =
+    let split : drop k (before ++ (e ∷ rest)) ≡ drop k before ++ (e ∷ rest) =
+    drop-append-le k before (e ∷ rest) within in
+    let parts : list_any is_answered (drop k (before ++ (e ∷ rest)))
+    ≡ (list_any is_answered (drop k before) || list_any is_answered (e ∷ rest)) =
     ap (list_any is_answered) split ∙ list_any-append is_answered (drop k before) (e ∷ rest) in
     grind arith
 
-run_short : (log front rest : List Exchange) (limit : ℕ) → log ≡ front ++ rest → IsAnsweredLast front → limit ≤ length log
+run_short : (log front rest : List Exchange) (limit : ℕ) → log ≡ front ++ rest → IsAnsweredLast front
+    → limit ≤ length log
     → list_any is_answered (drop (length log - limit) log) ≡ false → length rest < limit → ⊥
-run_short log [] rest limit in_order none fits quiet short = let size : length log ≡ length rest = ap length in_order in omega arith
+run_short log [] rest limit in_order none fits quiet short = let size : length log ≡ length rest = ap length in_order in
+    omega arith
 run_short log front rest limit in_order (ends before e is) fits quiet short =
     let order : log ≡ before ++ (e ∷ rest) = in_order ∙ append_assoc before (e ∷ []) rest in
-    let size : length log ≡ length before + (1 + length rest) = ap length order ∙ length-append before (e ∷ rest) ∙ omega arith in
-    found before rest e (length log - limit) (omega arith) is (ap (λ xs. list_any is_answered (drop (length log - limit) xs)) (sym order) ∙ quiet)
+    let size : length log ≡ length before + (1 + length rest) =
+    ap length order ∙ length-append before (e ∷ rest) ∙ omega arith in
+    found before rest e (length log - limit) (omega arith) is
+    (ap (λ xs. list_any is_answered (drop (length log - limit) xs)) (sym order) ∙ quiet)
 
-pub run_is : (mode : Mode) (limit : ℕ) (log : List Exchange) (row : ℕ) → Run (counted mode log) row → limit ≤ row → EndsUnanswered mode limit log
+pub run_is : (mode : Mode) (limit : ℕ) (log : List Exchange) (row : ℕ) → Run (counted mode log) row → limit ≤ row
+    → EndsUnanswered mode limit log
 run_is mode limit log row run long = run_long (counted mode log) row limit run long
 
-pub run_has : (mode : Mode) (limit : ℕ) (log : List Exchange) (row : ℕ) → Run (counted mode log) row → row < limit → EndsUnanswered mode limit log → ⊥
-run_has mode limit log row run short quiet = run_short (counted mode log) run.front run.rest limit run.in_order run.answered quiet.0 quiet.1
+pub run_has : (mode : Mode) (limit : ℕ) (log : List Exchange) (row : ℕ) → Run (counted mode log) row → row < limit
+    → EndsUnanswered mode limit log → ⊥
+run_has mode limit log row run short quiet = run_short (counted mode log) run.front run.rest limit run.in_order
+    run.answered quiet.0 quiet.1
     (omega (arith, run.is_row))
 
 -- of the fronts of the log only the whole of it ends so
 abbrev pub IsFirst : Mode → ℕ → List Exchange → Type 0
-IsFirst mode limit log = (front rest : List Exchange) → rest ≢ [] → log ≡ front ++ rest → ¬ EndsUnanswered mode limit front
+IsFirst mode limit log = (front rest : List Exchange) → rest ≢ [] → log ≡ front ++ rest
+    → ¬ EndsUnanswered mode limit front
 
 pub first_none : (mode : Mode) (limit : ℕ) → IsFirst mode limit []
 first_none mode limit [] [] some is quiet = some refl
 first_none mode limit [] (x ∷ rest) some is quiet = cc
 first_none mode limit (x ∷ front) rest some is quiet = cc
 
-pub first_push : (mode : Mode) (limit : ℕ) (log : List Exchange) (e : Exchange) → IsFirst mode limit log → ¬ EndsUnanswered mode limit log
+pub first_push : (mode : Mode) (limit : ℕ) (log : List Exchange) (e : Exchange) → IsFirst mode limit log
+    → ¬ EndsUnanswered mode limit log
     → IsFirst mode limit (log ++ e ∷ [])
 first_push mode limit log e before now front rest some is quiet =
     elim (cut log front rest e some is) [

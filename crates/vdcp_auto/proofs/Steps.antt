@@ -57,7 +57,8 @@ pub data Sends (list : List Item) (port : ℕ) : Phase → Command → Type 0 wh
   sends_select : Sends list port phase.Select (command.Select port)
   sends_seen : Sends list port phase.Seen (command.Status 1)
   sends_exists : {k : ℕ} {id : ClipId} → Sends list port (phase.Exists k) (command.IdRequest id)
-  sends_whole : {k : ℕ} {id : ClipId} → CuesItemAt list k (command.PlayCue id) → Sends list port (phase.Cue k) (command.PlayCue id)
+  sends_whole : {k : ℕ} {id : ClipId} → CuesItemAt list k (command.PlayCue id)
+      → Sends list port (phase.Cue k) (command.PlayCue id)
   sends_part : {k : ℕ} {id : ClipId} {start duration : List ℕ} → CuesItemAt list k (command.CueData id start duration)
       → Sends list port (phase.Cue k) (command.CueData id start duration)
   sends_wait : {k : ℕ} → Sends list port (phase.Wait k) (command.Status 1)
@@ -71,7 +72,8 @@ pub data Sends (list : List Item) (port : ℕ) : Phase → Command → Type 0 wh
 
 -- in plain mode
 
-silent_plain : (list : List Item) (limit port : ℕ) (m : Memo) (stop : Bool) (tries : ℕ) (h : Option Heard) {p : Phase} {c : Command}
+silent_plain : (list : List Item) (limit port : ℕ) (m : Memo) (stop : Bool) (tries : ℕ) (h : Option Heard) {p : Phase}
+    {c : Command}
     → Sends list port p c → IsMute (exchange c h) → is_answered (exchange c h) ≡ false
     → InPhase Plain list m true stop tries p
     → Kept Plain list limit m stop tries (exchange c h) (on_no_answer Plain p)
@@ -90,7 +92,8 @@ silent_plain list limit port m stop tries h sends_close mute unanswered holds = 
 silent_plain list limit port m stop tries h sends_halt mute unanswered holds = grind arith
 silent_plain list limit port m stop tries h sends_halt_close mute unanswered holds = grind arith
 
-refused_plain : (list : List Item) (limit port : ℕ) (m : Memo) (stop : Bool) (tries : ℕ) (h : Option Heard) {p : Phase} {c : Command}
+refused_plain : (list : List Item) (limit port : ℕ) (m : Memo) (stop : Bool) (tries : ℕ) (h : Option Heard) {p : Phase}
+    {c : Command}
     → Sends list port p c → IsMute (exchange c h) → is_answered (exchange c h) ≡ true
     → InPhase Plain list m true stop tries p
     → Kept Plain list limit m stop tries (exchange c h) (on_refusal (length list) p)
@@ -111,7 +114,8 @@ refused_plain list limit port m stop tries h sends_halt_close mute answered hold
 
 -- in confirm mode
 
-silent_confirming : (list : List Item) (limit port : ℕ) (m : Memo) (stop : Bool) (tries : ℕ) (h : Option Heard) {p : Phase} {c : Command}
+silent_confirming : (list : List Item) (limit port : ℕ) (m : Memo) (stop : Bool) (tries : ℕ) (h : Option Heard)
+    {p : Phase} {c : Command}
     → Sends list port p c → IsMute (exchange c h) → is_answered (exchange c h) ≡ false
     → InPhase Confirming list m true stop tries p
     → Kept Confirming list limit m stop tries (exchange c h) (on_no_answer Confirming p)
@@ -132,7 +136,8 @@ silent_confirming list limit port m stop tries h sends_halt_close mute unanswere
 
 -- a reply that fits, to a request for one of its own
 
-replied : (mode : Mode) (list : List Item) (limit port : ℕ) (m : Memo) (take stop : Bool) (tries : ℕ) {p : Phase} {c : Command}
+replied : (mode : Mode) (list : List Item) (limit port : ℕ) (m : Memo) (take stop : Bool) (tries : ℕ) {p : Phase}
+    {c : Command}
     → Sends list port p c → is_sense c ≡ true → (r : Reply) → fits c r ≡ true
     → InPhase mode list m true stop tries p
     → Kept mode list limit m stop tries (exchange c (Some (heard.Reply r))) (on_reply mode list limit take tries p r)
@@ -175,51 +180,66 @@ mute_other : (c : Command) → IsMute (exchange c (Some heard.Other))
 mute_other c = record { no_grant = grind arith; no_done = grind arith; no_empty = grind arith; no_ack = grind arith }
 
 mute_refusal : (c : Command) (r : Reply) → is_refusal r ≡ true → IsMute (exchange c (Some (heard.Reply r)))
-mute_refusal c r refusal = record { no_grant = grind arith; no_done = grind arith; no_empty = grind arith; no_ack = grind arith }
+mute_refusal c r refusal =
+    record { no_grant = grind arith; no_done = grind arith; no_empty = grind arith; no_ack = grind arith }
 
 mute_unfit : (c : Command) (r : Reply) → fits c r ≡ false → IsMute (exchange c (Some (heard.Reply r)))
-mute_unfit c r unfit = record { no_grant = grind arith; no_done = grind arith; no_empty = grind arith; no_ack = grind arith }
+mute_unfit c r unfit =
+    record { no_grant = grind arith; no_done = grind arith; no_empty = grind arith; no_ack = grind arith }
 
-silent : (mode : Mode) (list : List Item) (limit port : ℕ) (m : Memo) (stop : Bool) (tries : ℕ) (h : Option Heard) {p : Phase} {c : Command}
+silent : (mode : Mode) (list : List Item) (limit port : ℕ) (m : Memo) (stop : Bool) (tries : ℕ) (h : Option Heard)
+    {p : Phase} {c : Command}
     → Sends list port p c → IsMute (exchange c h) → is_answered (exchange c h) ≡ false
     → InPhase mode list m true stop tries p
     → Kept mode list limit m stop tries (exchange c h) (on_no_answer mode p)
 silent Plain = silent_plain
 silent Confirming = silent_confirming
 
-nothing_settles : (mode : Mode) (limit : ℕ) (m : Memo) (e : Exchange) → IsMute e → m.count ≡ (remember mode limit m e).count
+nothing_settles : (mode : Mode) (limit : ℕ) (m : Memo) (e : Exchange) → IsMute e
+    → m.count ≡ (remember mode limit m e).count
 nothing_settles Plain limit m e mute = grind arith
 nothing_settles Confirming limit m e mute = grind arith
 
-unanswered : (mode : Mode) (list : List Item) (limit port : ℕ) (m : Memo) (stop : Bool) (tries : ℕ) (h : Option Heard) {p : Phase} {c : Command}
+unanswered : (mode : Mode) (list : List Item) (limit port : ℕ) (m : Memo) (stop : Bool) (tries : ℕ) (h : Option Heard)
+    {p : Phase} {c : Command}
     → Sends list port p c → IsMute (exchange c h) → is_answered (exchange c h) ≡ false
     → InPhase mode list m true stop tries p
     → (lost : Bool) → Kept mode list limit m stop tries (exchange c h) (cond lost (Ends Lost) (on_no_answer mode p))
-unanswered mode list limit port m stop tries h {p} {c} s mute no_answer holds true = (tt, nothing_settles mode limit m (exchange c h) mute)
-unanswered mode list limit port m stop tries h s mute no_answer holds false = silent mode list limit port m stop tries h s mute no_answer holds
+unanswered mode list limit port m stop tries h {p} {c} s mute no_answer holds true =
+    (tt, nothing_settles mode limit m (exchange c h) mute)
+unanswered mode list limit port m stop tries h s mute no_answer holds false =
+    silent mode list limit port m stop tries h s mute no_answer holds
 
 -- where an exchange leads
 abbrev pub transition_at : Mode → List Item → ℕ → ℕ → Memo → Bool → ℕ → Phase → Exchange → Transition
 transition_at mode list limit port m take tries p e =
-    transition_on (record { mode = mode; list = list; port = port; limit = limit }) take tries m.row (is_counted mode e) p (answer_in e)
+    transition_on (record { mode = mode; list = list; port = port; limit = limit }) take tries m.row (is_counted mode e)
+    p (answer_in e)
 
-no_refusal_ends : (c : Command) (r : Reply) → is_refusal r ≡ true → is_end Confirming c (Some (heard.Reply r)) ≡ true → ⊥
+no_refusal_ends : (c : Command) (r : Reply) → is_refusal r ≡ true → is_end Confirming c (Some (heard.Reply r)) ≡ true
+    → ⊥
 no_refusal_ends c r refusal ends = grind arith
 
-kept_reply : (mode : Mode) (list : List Item) (limit port : ℕ) (m : Memo) (take stop : Bool) (tries : ℕ) {p : Phase} {c : Command}
-    → Sends list port p c → (r : Reply) → is_end mode c (Some (heard.Reply r)) ≡ true → is_refusal r ≡ false → fits c r ≡ true
+kept_reply : (mode : Mode) (list : List Item) (limit port : ℕ) (m : Memo) (take stop : Bool) (tries : ℕ) {p : Phase}
+    {c : Command}
+    → Sends list port p c → (r : Reply) → is_end mode c (Some (heard.Reply r)) ≡ true → is_refusal r ≡ false
+    → fits c r ≡ true
     → InPhase mode list m true stop tries p
     → (sense : Bool) → is_sense c ≡ sense
     → Kept mode list limit m stop tries (exchange c (Some (heard.Reply r))) (on_reply mode list limit take tries p r)
-kept_reply mode list limit port m take stop tries s r ends kind fit holds true sense = replied mode list limit port m take stop tries s sense r fit holds
-kept_reply Plain list limit port m take stop tries s r ends kind fit holds false control = acked_plain list limit port m take stop tries s control r fit holds
+kept_reply mode list limit port m take stop tries s r ends kind fit holds true sense =
+    replied mode list limit port m take stop tries s sense r fit holds
+kept_reply Plain list limit port m take stop tries s r ends kind fit holds false control =
+    acked_plain list limit port m take stop tries s control r fit holds
 kept_reply Confirming list limit port m take stop tries s r ends kind fit holds false control = cc
 
-kept_answer : (mode : Mode) (list : List Item) (limit port : ℕ) (m : Memo) (take stop : Bool) (tries : ℕ) {p : Phase} {c : Command}
+kept_answer : (mode : Mode) (list : List Item) (limit port : ℕ) (m : Memo) (take stop : Bool) (tries : ℕ) {p : Phase}
+    {c : Command}
     → Sends list port p c → (r : Reply) → is_end mode c (Some (heard.Reply r)) ≡ true
     → InPhase mode list m true stop tries p
     → (refusal fit : Bool) → is_refusal r ≡ refusal → fits c r ≡ fit
-    → Kept mode list limit m stop tries (exchange c (Some (heard.Reply r))) (transition_at mode list limit port m take tries p (exchange c (Some (heard.Reply r))))
+    → Kept mode list limit m stop tries (exchange c (Some (heard.Reply r)))
+    (transition_at mode list limit port m take tries p (exchange c (Some (heard.Reply r))))
 kept_answer Plain list limit port m take stop tries {p} {c} s r ends holds true fit is kind =
     let e = exchange c (Some (heard.Reply r)) in
     let same : transition_at Plain list limit port m take tries p e ≡ on_refusal (length list) p = rw (is, is) refl in
@@ -229,22 +249,28 @@ kept_answer Confirming list limit port m take stop tries {p} {c} s r ends holds 
     absurd (no_refusal_ends c r is ends)
 kept_answer mode list limit port m take stop tries {p} {c} s r ends holds false true is kind =
     let e = exchange c (Some (heard.Reply r)) in
-    let same : transition_at mode list limit port m take tries p e ≡ on_reply mode list limit take tries p r = rw (is, kind, is) refl in
+    let same : transition_at mode list limit port m take tries p e ≡ on_reply mode list limit take tries p r =
+    rw (is, kind, is) refl in
     subst (λ t. Kept mode list limit m stop tries e t) (sym same)
     (kept_reply mode list limit port m take stop tries s r ends is kind holds (is_sense c) refl)
 kept_answer mode list limit port m take stop tries {p} {c} s r ends holds false false is kind =
     let e = exchange c (Some (heard.Reply r)) in
     let lost = is_counted mode e && nat_le limit (m.row + 1) in
-    let same : transition_at mode list limit port m take tries p e ≡ cond lost (Ends Lost) (on_no_answer mode p) = rw (is, kind) refl in
+    let same : transition_at mode list limit port m take tries p e ≡ cond lost (Ends Lost) (on_no_answer mode p) =
+    rw (is, kind) refl in
     subst (λ t. Kept mode list limit m stop tries e t) (sym same)
-    (unanswered mode list limit port m stop tries (Some (heard.Reply r)) s (mute_unfit c r kind) (rw (is, kind) refl) holds lost)
+    (unanswered mode list limit port m stop tries (Some (heard.Reply r)) s (mute_unfit c r kind) (rw (is, kind) refl)
+    holds lost)
 
-pub kept : (mode : Mode) (list : List Item) (limit port : ℕ) (m : Memo) (take stop : Bool) (tries : ℕ) {p : Phase} {c : Command}
+pub kept : (mode : Mode) (list : List Item) (limit port : ℕ) (m : Memo) (take stop : Bool) (tries : ℕ) {p : Phase}
+    {c : Command}
     → Sends list port p c → (h : Option Heard) → is_end mode c h ≡ true
     → InPhase mode list m true stop tries p
-    → Kept mode list limit m stop tries (exchange c h) (transition_at mode list limit port m take tries p (exchange c h))
+    → Kept mode list limit m stop tries (exchange c h) (transition_at mode list limit port m take tries p
+    (exchange c h))
 kept mode list limit port m take stop tries {p} {c} s None ends holds =
-    unanswered mode list limit port m stop tries None s (mute_unheard c) refl holds (is_counted mode (exchange c None) && nat_le limit (m.row + 1))
+    unanswered mode list limit port m stop tries None s (mute_unheard c) refl holds
+    (is_counted mode (exchange c None) && nat_le limit (m.row + 1))
 kept mode list limit port m take stop tries {p} {c} s (Some heard.Other) ends holds =
     unanswered mode list limit port m stop tries (Some heard.Other) s (mute_other c) refl holds
     (is_counted mode (exchange c (Some heard.Other)) && nat_le limit (m.row + 1))

@@ -198,7 +198,8 @@ stop_during_play = stopped (ticked (after_inputs (plan Plain one) before_play))
 abbrev after_silent_play : State
 after_silent_play = came_to (plan Plain one) None stop_during_play
 
-stop_during_play_ends_the_play_first : option_map (λ e. e.command) (ended_by (plan Plain one) None stop_during_play) ≡ Some command.Play
+stop_during_play_ends_the_play_first : option_map (λ e. e.command) (ended_by (plan Plain one) None stop_during_play)
+    ≡ Some command.Play
 stop_during_play_ends_the_play_first = refl
 
 stop_during_play_sends_stop_and_close :
@@ -209,7 +210,8 @@ stop_during_play_sends_stop_and_close = refl
 abbrev after_stop_during_play : State
 after_stop_during_play = after_inputs_from (plan Plain one) after_silent_play (ack ∷ ack ∷ [])
 
-stop_during_play_ends_stopped : (outcome_of after_stop_during_play.stage ≡ Some Stopped) × (after_stop_during_play.settled ≡ 0)
+stop_during_play_ends_stopped : (outcome_of after_stop_during_play.stage ≡ Some Stopped)
+    × (after_stop_during_play.settled ≡ 0)
 stop_during_play_ends_stopped = (refl, refl)
 
 -- In confirm mode.

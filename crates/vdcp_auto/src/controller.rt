@@ -21,8 +21,8 @@ mod tests;
 /// false, `hear` takes what came, or `timeout` says that nothing did; and so on until `outcome`
 /// answers. `take`, `stop` and `forget` are the operator's and may come at any time.
 ///
-/// - `settled`, `outcome`, `is_ready`, `awaiting`, `awaited`, `wishes_to_stop`, `is_confirming` and `source`
-///   only look.
+/// - `settled`, `outcome`, `is_ready`, `to_send`, `awaiting`, `awaited`, `wishes_to_stop`, `is_confirming` and
+///   `source` only look.
 /// - `hear` and `timeout` bring in what happens on the line; `receive` does both, and gives the
 ///   exchange that ended.
 /// - `take` and `stop` are commands of the operator, and `forget` withdraws them.
@@ -156,6 +156,19 @@ impl<S: Source> Controller<S> {
             Position::Awaiting(_, command) => Some(command),
             Position::Ready(_) | Position::Ended(_) => None,
         }
+    }
+
+    /// The command that the next `tick` gives, without giving it.
+    pub fn to_send(&self) -> Option<Command>
+        ensures command { result ≡ turns.given (plan_of S.items self.now) self.now.state }
+        ensures ready { is_some result ≡ turns.is_ready self.now.state.stage }
+        ensures writable { IfSome result IsWritableCommand }
+    {
+        let Position::Ready(current) = self.position else {
+            return None;
+        };
+        let next = if self.stop { Phase::Halt } else { current };
+        Some(self.command_in(next))
     }
 
     /// How many events are known to have been aired. They are the first of the list.

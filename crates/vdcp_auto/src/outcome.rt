@@ -11,7 +11,8 @@ pub enum Outcome {
     Denied,
     /// The server doesn't have the clip of this event.
     Missing(usize),
-    /// NAK 01h came for a command of this event, or of Drain, numbered as one past the last event. In confirm mode: `limit` statuses showed nothing cued, though this event was.
+    /// NAK 01h came for a command of this event, or of Drain, numbered as one past the last event. In confirm mode:
+    /// `limit` statuses showed nothing cued, though this event was.
     Refused(usize),
     /// The active clip isn't this event's.
     Foreign(usize),

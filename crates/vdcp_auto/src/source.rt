@@ -24,3 +24,19 @@ pub trait Source {
     /// Start and duration of each part are four bytes.
     ghost of_bytes: { (source : Self) → All IsItem (items source) };
 }
+
+impl<S: Source> Source for &S {
+    ghost items = { λ source. S.items source.now };
+
+    fn len(&self) -> usize {
+        (**self).len()
+    }
+
+    fn at(&self, k: usize) -> Item {
+        (**self).at(k)
+    }
+
+    ghost countable = { λ source. S.countable source.now };
+
+    ghost of_bytes = { λ source. S.of_bytes source.now };
+}

@@ -2,7 +2,7 @@ use clap::{Arg, ArgAction, Command};
 use std::alloc::{AllocError, Global};
 use vdcp_options::{
     COPY, CUE_FRAMES, CUT, DAMAGE, FORGE, LIMIT, LISTENS, LOSE, LOSSY_SILENCE, PORT, RUN_LIMIT,
-    RUN_SILENCE, SEED, SERVE_SILENCE, TURNS, UNIT, WITHIN, number_option, rate_option,
+    RUN_SILENCE, SEED, SERVE_SILENCE, TURNS, UNIT, WITHIN, idle_option, number_option, rate_option,
 };
 
 // The program's version, and the toolchain that it is proved with.
@@ -96,7 +96,7 @@ fn sim<'a>(alloc: Global) -> Result<Command<'a>, AllocError> {
 
 fn serve<'a>(alloc: Global) -> Result<Command<'a>, AllocError> {
     Command::new(alloc, "serve")
-        .about("Serves a port with the clips of a catalogue to one automation, over TCP")
+        .about("Serves a port with the clips of a catalogue to an automation, over TCP")
         .after_help(SERVE_EXAMPLE)
         .arg(address(
             alloc,
@@ -109,6 +109,8 @@ fn serve<'a>(alloc: Global) -> Result<Command<'a>, AllocError> {
         .arg(number_option(alloc, &CUE_FRAMES))?
         .arg(number_option(alloc, &SERVE_SILENCE))?
         .arg(number_option(alloc, &TURNS))?
+        .arg(stay(alloc))?
+        .arg(idle_option(alloc))?
         .arg(log(
             alloc,
             "Tells standard error of each message, and of each item that goes to air",
@@ -208,6 +210,13 @@ fn late<'a>(alloc: Global) -> Arg<'a> {
         .long("late")
         .action(ArgAction::SetTrue)
         .help("The line keeps order, and may be late")
+}
+
+fn stay<'a>(alloc: Global) -> Arg<'a> {
+    Arg::new(alloc, "stay")
+        .long("stay")
+        .action(ArgAction::SetTrue)
+        .help("Keeps the port when a connection ends, and takes the next one")
 }
 
 fn asrun<'a>(alloc: Global) -> Arg<'a> {

@@ -17,7 +17,7 @@ use std::process::ExitCode;
 use std::{env, io};
 use vdcp_files::{do_check, do_vectors};
 use vdcp_lossy::do_lossy;
-use vdcp_net::{Screen, Showing, do_run, do_serve};
+use vdcp_net::{Lines, Screen, Showing, Telling, do_run, do_serve};
 use vdcp_options::{
     lossy_settings_of, open_file, rate_of, run_settings_of, serve_settings_of, sim_settings_of,
     unit_of,
@@ -86,7 +86,7 @@ fn run_named<W: Write, E: Write>(
         "sim" => run_sim(rt, matches, out, err),
         "serve" => run_serve(rt, matches, out, err),
         "run" => run_run(rt, matches, out, err),
-        "lossy" => Ok(run_lossy(rt, matches, out, err)),
+        "lossy" => Ok(run_lossy(rt, matches, err)),
         "vectors" => run_vectors(rt, matches, out, err),
         // (`clap` lets no other name through)
         _ => Ok(2),
@@ -147,10 +147,13 @@ fn run_serve<'a, W: Write, E: Write>(
     let catalogue = open_file(rt, matches, "CATALOGUE")?;
     let address = matches.get_str("ADDR").unwrap_or("");
     let settings = serve_settings_of(matches);
-    let log = matches
-        .get_flag("log")
-        .then_some(Screen::new(rt, rt.stderr()));
-    Ok(do_serve(rt, address, catalogue, settings, log, out, err))
+    let terminal = Screen::new(rt, rt.stderr());
+    let telling = if matches.get_flag("log") {
+        Telling::All(terminal)
+    } else {
+        Telling::Faults(terminal)
+    };
+    Ok(do_serve(rt, address, catalogue, settings, telling, out, err))
 }
 
 fn run_run<'a, W: Write, E: Write>(
@@ -173,16 +176,13 @@ fn run_run<'a, W: Write, E: Write>(
     Ok(do_run(rt, address, list, settings, showing, out, err))
 }
 
-fn run_lossy<W: Write, E: Write>(
-    rt: &HostRuntime,
-    matches: &ArgMatches<'_>,
-    out: &mut W,
-    err: &mut E,
-) -> u8 {
+fn run_lossy<E: Write>(rt: &HostRuntime, matches: &ArgMatches<'_>, err: &mut E) -> u8 {
     let address = matches.get_str("ADDR").unwrap_or("");
     let server = matches.get_str("SERVER").unwrap_or("");
     let settings = lossy_settings_of(matches);
-    do_lossy(rt, address, server, settings, out, err)
+    // (who doesn't read its lines doesn't hold the two ends up)
+    let mut out = Lines::new(Screen::new(rt, rt.stdout()));
+    do_lossy(rt, address, server, settings, &mut out, err)
 }
 
 fn run_vectors<'a, W: Write, E: Write>(

@@ -73,7 +73,7 @@ input_after : (plan : Plan) (s : State) (h : Option Heard) → after_input plan 
 input_after plan s None = refl
 input_after plan s (Some x) = refl
 
-input_ends : (plan : Plan) (s : State) (h : Option Heard) → ended_by_input plan s (input_of h) ≡ ended_by plan h (ticked s)
+pub input_ends : (plan : Plan) (s : State) (h : Option Heard) → ended_by_input plan s (input_of h) ≡ ended_by plan h (ticked s)
 input_ends plan s None = refl
 input_ends plan s (Some x) = refl
 
@@ -99,7 +99,7 @@ left_by plan s ends = option_map_or (λ e. ended_in plan s.stage e s) ends s
 none_ends : (plan : Plan) (h : Option Heard) (s : State) → ended_by plan h s ≡ None → KeepsAwaited plan h s
 none_ends plan h s is = ap (λ (e : Option Exchange). option_to_list (option_map command_of e) ++ option_to_list (awaited plan (left_by plan s e))) is
 
-awaits_none_in : (plan : Plan) (stage : Stage) (e : Exchange) (s : State) → awaited_in plan stage ≡ Some e.command
+pub awaits_none_in : (plan : Plan) (stage : Stage) (e : Exchange) (s : State) → awaited_in plan stage ≡ Some e.command
     → awaited plan (ended_in plan stage e s) ≡ None
 awaits_none_in plan (Ready p) e s h = cc
 awaits_none_in plan (Awaiting p) e s h = awaits_none plan (transition_of plan s p e) (unanswered_after plan.mode e s.unanswered) s
@@ -117,7 +117,7 @@ made_of : (b : Bool) (c : Command) (h : Option Heard) (e : Exchange) → (if b t
 made_of true c h e is = ap (λ (x : Option Exchange). option_map command_of x) is
 made_of false c h e is = cc
 
-exchange_is : (mode : Mode) (h : Option Heard) (c : Option Command) (e : Exchange) → exchange_of mode h c ≡ Some e → c ≡ Some e.command
+pub exchange_is : (mode : Mode) (h : Option Heard) (c : Option Command) (e : Exchange) → exchange_of mode h c ≡ Some e → c ≡ Some e.command
 exchange_is mode h None e is = cc
 exchange_is mode h (Some c) e is = made_of (is_end mode c h) c h e is
 
@@ -143,7 +143,7 @@ starts_push unit n (d ∷ commands) c =
           (bytes_of unit commands),
     )))
 
-starts_of_push : (unit : ℕ) (commands : List Command) (c : Command)
+pub starts_of_push : (unit : ℕ) (commands : List Command) (c : Command)
     → starts_of unit (commands ++ c ∷ []) ≡ starts_of unit commands ++ length (bytes_of unit commands) ∷ []
 starts_of_push unit commands c = starts_push unit 0 commands c ∙ ap (λ (m : ℕ). starts_of unit commands ++ m ∷ []) (omega arith)
 
@@ -273,7 +273,7 @@ tells_more t a told told' is h e = e ∙ ap (adds_came a) is
     ∙ ap (λ (c : List Arrival). Some (record { sent = t.sent; came = c; drops = t.drops })) (came_open t.came a h)
 
 -- bytes come: no input yet
-inputs_bytes : (unit : ℕ) (came : List Arrival) (piece : List ℕ) → has_closed came ≡ false → inputs_of unit (came ++ bytes piece ∷ []) ≡ inputs_of unit came
+pub inputs_bytes : (unit : ℕ) (came : List Arrival) (piece : List ℕ) → has_closed came ≡ false → inputs_of unit (came ++ bytes piece ∷ []) ≡ inputs_of unit came
 inputs_bytes unit came piece h = ap (map (λ b. input_of (heard_in unit b))) (finished_bytes [] came piece h)
 
 after_bytes : (plan : Plan) (unit : ℕ) (came : List Arrival) (piece : List ℕ) → has_closed came ≡ false
@@ -288,7 +288,7 @@ commands_bytes plan unit came piece state state' h same =
     ap₂ (λ (xs : List Input) (s : State). map command_of (course plan xs) ++ option_to_list (awaited plan s)) (sym (inputs_bytes unit came piece h)) (sym same)
 
 -- a silence or a close comes: the controller hears the burst
-inputs_ended : (unit : ℕ) (came came' : List Arrival) → finished_bursts came' ≡ finished_bursts came ++ open_burst came ∷ []
+pub inputs_ended : (unit : ℕ) (came came' : List Arrival) → finished_bursts came' ≡ finished_bursts came ++ open_burst came ∷ []
     → inputs_of unit came' ≡ inputs_of unit came ++ input_of (heard_in unit (open_burst came)) ∷ []
 inputs_ended unit came came' is = ap (map (λ b. input_of (heard_in unit b))) is ∙ inputs_push unit (finished_bursts came) (open_burst came)
 
@@ -412,7 +412,7 @@ given_between plan true s c h = let none = none_ticked plan s in cc
 pub broken_send : (plan : Plan) (unit : ℕ) (t : Told) (state : State) (reader : Progress) (heard : Option Heard) (told : Option Told) (state' : State)
     (told' : Option Told)
     → told ≡ Some t → RunsAt plan unit t state reader heard → HasSendBroken plan unit state state' told told'
-    → IfTold told' (λ u. (b : HasRunBroken plan unit u state') × (states_watched b ≡ states_listening plan unit t.came))
+    → IfTold told' (λ u. (b : HasRunBroken plan unit u state') × (states_watched b ≡ states_listening plan unit t.came) × (u.came ≡ t.came))
 broken_send plan unit t state reader heard told state' told' is h (sending.in_drop b) =
     let between : state ≡ state_between plan unit t.came = h.run.state_is
     ∙ given_between plan (is_within_burst t.came) (state_between plan unit t.came) b.command (ap (given plan) (sym h.run.state_is) ∙ b.gives) in
@@ -427,6 +427,7 @@ broken_send plan unit t state reader heard told state' told' is h (sending.in_dr
           sent_is = h.run.sent_is ∙ ap (bytes_of unit) before;
           drops_are = h.run.drops_are ∙ ap (starts_of unit) before;
         }),
+        refl,
         refl,
       ),
     )
@@ -452,13 +453,14 @@ broken_send plan unit t state reader heard told state' told' is h (sending.in_se
               ∙ sym (starts_of_push unit commands b.command) ∙ ap (starts_of unit) (sym after);
         }),
         refl,
+        refl,
       ),
     )
 
 pub broken_listen : (plan : Plan) (unit : ℕ) (t : Told) (state : State) (reader : Progress) (heard : Option Heard) (told : Option Told) (state' : State)
     (told' : Option Told)
     → told ≡ Some t → AwaitsAt plan unit t state reader heard → state' ≡ state → told' ≡ told
-    → IfTold told' (λ u. (b : HasRunBroken plan unit u state') × (states_watched b ≡ states_listening plan unit t.came ++ state' ∷ []))
+    → IfTold told' (λ u. (b : HasRunBroken plan unit u state') × (states_watched b ≡ states_listening plan unit t.came ++ state' ∷ []) × (u.came ≡ t.came))
 broken_listen plan unit t state reader heard told state' told' is h stays same = (
   t,
   same ∙ is,
@@ -468,6 +470,7 @@ broken_listen plan unit t state reader heard told state' told' is h stays same =
       sent_is = h.sent_is ∙ ap (λ (s : State). bytes_of unit (commands_by plan unit t.came s)) (sym stays);
       drops_are = h.drops_are ∙ ap (λ (s : State). starts_of unit (commands_by plan unit t.came s)) (sym stays);
     }),
+    refl,
     refl,
   ),
 )
@@ -625,7 +628,7 @@ pub unsent_so : {S W : Type 0} (items : S → List Item) (told : W → Option To
     → told l.wire ≡ Some t → RunsAt (plan_of items s.controller) s.unit t l.controller.state l.reader l.heard
     → HasSendBroken (plan_of items l.controller) l.unit l.controller.state n.controller.state (told l.wire) (told n.wire)
     → IfTold (told n.wire) (λ u. (b : HasRunBroken (plan_of items s.controller) s.unit u n.controller.state)
-    × (states_watched b ≡ states_listening (plan_of items s.controller) s.unit t.came))
+    × (states_watched b ≡ states_listening (plan_of items s.controller) s.unit t.came) × (u.came ≡ t.came))
 unsent_so items told s l n t same united is h e =
     broken_send (plan_of items s.controller) s.unit t l.controller.state l.reader l.heard (told l.wire) n.controller.state (told n.wire) is h
     (subst (λ (q : Plan). HasSendBroken q s.unit l.controller.state n.controller.state (told l.wire) (told n.wire)) (ap (plan_of items) same)
@@ -636,13 +639,13 @@ pub unheard_so : {S W : Type 0} (items : S → List Item) (told : W → Option T
     → told n.wire ≡ Some t → AwaitsAt (plan_of items s.controller) s.unit t n.controller.state n.reader n.heard
     → m ≡ record n { wire = m.wire } → told m.wire ≡ told n.wire
     → IfTold (told m.wire) (λ u. (b : HasRunBroken (plan_of items s.controller) s.unit u m.controller.state)
-    × (states_watched b ≡ states_listening (plan_of items s.controller) s.unit t.came ++ m.controller.state ∷ []))
+    × (states_watched b ≡ states_listening (plan_of items s.controller) s.unit t.came ++ m.controller.state ∷ []) × (u.came ≡ t.came))
 unheard_so {S} {W} items told s n m t is h keeps same =
     broken_listen (plan_of items s.controller) s.unit t n.controller.state n.reader n.heard (told n.wire) m.controller.state (told m.wire) is h
     (ap (λ (d : Driving S W). d.controller.state) keeps) same
 
 -- what a listen does, by the plan and the unit of s
-hears_so : {S W : Type 0} (items : S → List Item) (s n m : Driving S W) (a : Arrival)
+pub hears_so : {S W : Type 0} (items : S → List Item) (s n m : Driving S W) (a : Arrival)
     → n.controller ≡ record s.controller { state = n.controller.state } → n.unit ≡ s.unit
     → Hears (plan_of items n.controller) n.unit a n.controller.state n.reader n.heard m.controller.state m.reader m.heard
     → Hears (plan_of items s.controller) s.unit a n.controller.state n.reader n.heard m.controller.state m.reader m.heard

@@ -5,7 +5,7 @@ use Rattle.vdcp_value.specs.declared.part.Item.{Item}
 use Rattle.vdcp_auto.specs.Plan.{plan_of}
 use Rattle.vdcp_frame.specs.Progress.{Progress, reading}
 use Rattle.vdcp_port.specs.Clock.{ClockedPort}
-use Rattle.vdcp_drive.specs.Driven.{GoesOn, HasRunBroken, IsNew}
+use Rattle.vdcp_drive.specs.Driven.{IsReachedFrom, HasRunBroken, IsNew}
 use Rattle.vdcp_drive.specs.Hearing.{Driving}
 use Rattle.vdcp_drive.specs.Lines.{ServesTo}
 use Rattle.vdcp_drive.specs.RunLeaves.{RunLeaves}
@@ -25,7 +25,7 @@ pub run_failed : {S W : Type 0} (items : S → List Item) (told : W → Option T
     (answer : Result Ran DriveFault)
     → IsErr answer → failures old.wire ≡ 0 → failures new.wire ≡ 1
     → (IsNew told old → IfTold (told new.wire) (λ u. HasRunBroken (plan_of items old.controller) old.unit u new.controller.state))
-    → GoesOn (plan_of items old.controller) old.controller.state new.controller.state
+    → IsReachedFrom (plan_of items old.controller) old.controller.state new.controller.state
     → new.controller ≡ record old.controller { state = new.controller.state } → new.unit ≡ old.unit
     → RunLeaves items told failures listens old new answer
 run_failed items told failures listens old new (Ok a) is works fails broken reached same united = absurd cc

@@ -7,8 +7,10 @@ pub mod Standing
 pub mod Airing
 pub mod Listening
 pub mod Driving
+pub mod Asking
 pub mod Reaching
 pub mod Watching
+pub mod Keeping
 pub mod Leaving
 pub mod Completing
 pub mod Prompting

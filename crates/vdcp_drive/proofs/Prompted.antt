@@ -13,7 +13,7 @@ use Rattle.vdcp_auto.specs.Turn.{awaited, given, ticked, came_to, ended_by, is_a
 use Rattle.vdcp_auto.specs.declared.exchange.Heard.{Heard}
 use Rattle.vdcp_auto.specs.declared.outcome.Outcome.{Outcome}
 use Rattle.vdcp_auto.specs.State.{State}
-use Rattle.vdcp_drive.specs.Driven.{GoesOn, bytes_of}
+use Rattle.vdcp_drive.specs.Driven.{IsReachedFrom, bytes_of}
 use Rattle.vdcp_drive.specs.Hearing.{command_bytes}
 use Rattle.vdcp_drive.specs.Lines.{line_of, AllListened, AtMostListened}
 use Rattle.vdcp_drive.specs.Prompt.{Prompt, Prompting, HasPrompted, HasPromptBroken, HasRunPrompt, HasRunPromptBroken, HearsPrompt, IsNewPrompt, Shows}
@@ -405,7 +405,7 @@ pub run_failed : {S W : Type 0} (items : S → List Item) (told : W → Option T
     → IsErr answer → failures old.wire ≡ 0 → failures new.wire ≡ 1
     → (IsNewPrompt told old → IfTold (told new.wire) (λ u. HasRunPromptBroken (plan_of items old.controller) old.unit u new.controller.state new.reader
     new.passed))
-    → GoesOn (plan_of items old.controller) old.controller.state new.controller.state
+    → IsReachedFrom (plan_of items old.controller) old.controller.state new.controller.state
     → new.controller ≡ record old.controller { state = new.controller.state } → new.unit ≡ old.unit
     → PromptLeaves items told failures listens old new answer
 run_failed items told failures listens old new (Ok a) is works fails broken reached same united = absurd cc

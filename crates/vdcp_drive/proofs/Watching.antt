@@ -25,10 +25,10 @@ pub watches_new : (plan : Plan) (unit : ℕ) (states : List State) (watched : Op
 watches_new plan unit states watched is = is ∙ ap (λ (l : List State). Some l) (sym (append-nil states))
 
 -- one look more
-pub looks : (states more : List State) (state : State) (watched watched' : Option (List State)) → watched ≡ Some (states ++ more)
-    → watched' ≡ adds_watched state watched → watched' ≡ Some (states ++ (more ++ state ∷ []))
-looks states more state watched watched' is adds =
-    adds ∙ ap (adds_watched state) is ∙ ap (λ (l : List State). Some l) (append_assoc states more (state ∷ []))
+pub looks : {A : Type 0} (before more : List A) (one : A) (watched watched' : Option (List A)) → watched ≡ Some (before ++ more)
+    → watched' ≡ adds_watched one watched → watched' ≡ Some (before ++ (more ++ one ∷ []))
+looks {A} before more one watched watched' is adds =
+    adds ∙ ap (adds_watched one) is ∙ ap (λ (l : List A). Some l) (append_assoc before more (one ∷ []))
 
 -- a listen more
 pub watches_on : (plan : Plan) (unit : ℕ) (came came' came'' : List Arrival) (a : Arrival) (states : List State) (state : State) (watched watched' : Option

@@ -66,8 +66,8 @@ starts_of unit commands = starts_behind unit 0 commands
 
 -- whatever log a controller's state was reached with, the later state is reached too, with a log that goes on by
 -- the exchanges that ended since
-abbrev pub GoesOn : Plan → State → State → Type 0
-GoesOn plan before after = (log : List Exchange) → Reached plan before log → (since : List Exchange)
+abbrev pub IsReachedFrom : Plan → State → State → Type 0
+IsReachedFrom plan before after = (log : List Exchange) → Reached plan before log → (since : List Exchange)
     × Reached plan after (log ++ since)
 
 -- a new automation: its controller is new, nothing was heard, and its fresh wire tells its bytes

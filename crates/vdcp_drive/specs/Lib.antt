@@ -8,6 +8,9 @@ pub mod ServeLeaves
 pub mod Hearing
 pub mod Driven
 pub mod RunLeaves
+pub mod Keeping
+pub mod KeptLeaves
+pub mod Vacancy
 pub mod PromptReading
 pub mod Prompt
 pub mod PromptLeaves

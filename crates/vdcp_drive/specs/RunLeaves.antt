@@ -3,7 +3,7 @@ use Rattle.std.specs.Prelude.{ℕ, ◌≡◌, ◌↔◌, List, Option, Some, Res
 use Rattle.vdcp_value.specs.declared.part.Item.{Item}
 use Rattle.vdcp_auto.specs.Plan.{plan_of}
 use Rattle.vdcp_auto.specs.Turn.{outcome_of}
-use Rattle.vdcp_drive.specs.Driven.{GoesOn, HasRun, HasRunBroken, IsNew, IsPartlyRun}
+use Rattle.vdcp_drive.specs.Driven.{IsReachedFrom, HasRun, HasRunBroken, IsNew, IsPartlyRun}
 use Rattle.vdcp_drive.specs.Hearing.{Driving}
 use Rattle.vdcp_drive.specs.Lines.{RunsTo}
 use Rattle.vdcp_drive.specs.declared.line.DriveFault.{DriveFault}
@@ -26,7 +26,7 @@ pub record RunLeaves {S W : Type 0} (items : S → List Item) (told : W → Opti
   pub ended : IfOk answer (λ a. (a ≡ ran.Ended) ↔ IsSome (outcome_of new.controller.state.stage))
   pub answers : (t : Told) → told old.wire ≡ Some t → IfOk answer (λ a. IfTold (told new.wire) (λ u.
       RunsTo a (outcome_of new.controller.state.stage) listens t.came u.came))
-  pub reached : GoesOn (plan_of items old.controller) old.controller.state new.controller.state
+  pub reached : IsReachedFrom (plan_of items old.controller) old.controller.state new.controller.state
   pub controller : new.controller ≡ record old.controller { state = new.controller.state }
   pub unit : new.unit ≡ old.unit
   -- the wire: it fails exactly where the answer is a fault, and then for good

@@ -4,12 +4,14 @@ ghost use Rattle.vdcp_frame.specs.Progress.{reading};
 ghost use Rattle.vdcp_auto.specs.Plan.{plan_of};
 ghost use Rattle.vdcp_auto.specs.Turn as turns;
 ghost use Rattle.vdcp_auto.specs.State.{State};
-ghost use Rattle.vdcp_drive.specs.Driven.{GoesOn, IsNew, HasRunBroken, states_listening, states_watched};
+ghost use Rattle.vdcp_drive.specs.Driven.{IsReachedFrom, IsNew, HasRunBroken, states_listening, states_watched};
 ghost use Rattle.vdcp_drive.specs.Hearing.{HasSent, HasSendBroken, HasHeard, HasReceived, Hears, heard_by_then, command_bytes};
+ghost use Rattle.vdcp_drive.specs.KeptLeaves.{KeptLeaves, Keeps, OnBroken, OnUnkept};
 ghost use Rattle.vdcp_drive.specs.Lines.{line_of, ran_unless_ended};
 ghost use Rattle.vdcp_drive.specs.RunLeaves.{RunLeaves};
 ghost use Rattle.vdcp_wire.specs.Wires.{Arrival, Told, IfTold, MayCome, nothing_told, adds_sent, adds_came, SendsFront};
 
+use crate::keep::{Keep, KeepFault, KeptFault, Unkept, keep_next, note_if_ended};
 use crate::line::{DriveFault, Line, Ran};
 use crate::watch::{Unwatched, Watch};
 use std::marker::Model;
@@ -113,7 +115,7 @@ impl<S: Source, W: Wire> AutoDriver<S, W> {
         ensures breaks { W.failures self.old.wire ≡ 0 →
             OnErr result (HasSendBroken (plan_of S.items self.old.controller) self.old.unit
             self.old.controller.state self.new.controller.state (W.told self.old.wire) (W.told self.new.wire)) }
-        ensures reached { GoesOn (plan_of S.items self.old.controller) self.old.controller.state
+        ensures reached { IsReachedFrom (plan_of S.items self.old.controller) self.old.controller.state
             self.new.controller.state }
         ensures controller { self.new.controller ≡ record self.old.controller { state = self.new.controller.state } }
         ensures keeps { self.new ≡ record self.old { controller = self.new.controller; wire = self.new.wire } }
@@ -160,21 +162,61 @@ impl<S: Source, W: Wire> AutoDriver<S, W> {
             × (V.watched watcher.new ≡ Some (states ++ states_watched b)))) }
         ensures unwatched { W.failures self.old.wire ≡ 1 → watcher.new ≡ watcher.old }
     {
+        match self.run_kept(listens, watcher, &mut Unkept) {
+            Ok(ran) => Ok(ran),
+            Err(KeptFault::Drive(fault)) => Err(fault),
+            Err(KeptFault::Unkept) => unreachable!(),
+        }
+    }
+
+    /// As `run_watched`, and has `keep` keep each command before its first byte goes out, and what ended its exchange.
+    /// `Unkept` where a command can't be kept: it isn't sent then, and a later run tries again.
+    pub fn run_kept<V: Watch<S>, K: Keep>(
+        &mut self,
+        listens: u64,
+        watcher: &mut V,
+        keep: &mut K,
+    ) -> Result<Ran, KeptFault>
+        ensures leaves { KeptLeaves S.items W.told W.failures listens self.old self.new result }
+        ensures keeps { Keeps S.items W.told W.failures self.old self.new result (K.kept keep.old) (K.kept keep.new) }
+        ensures fails { OnUnkept result K.can_fail }
+        // A watcher that tells what it watched was lent the controller of a new automation in each listen.
+        ensures watched { IsNew W.told self.old → (states : List State) → V.watched watcher.old ≡ Some states →
+            OnOk result (IfTold (W.told self.new.wire) (λ u. V.watched watcher.new
+            ≡ Some (states ++ states_listening (plan_of S.items self.old.controller) self.old.unit u.came))) }
+        ensures watched_broken { IsNew W.told self.old → W.failures self.old.wire ≡ 0 →
+            (states : List State) → V.watched watcher.old ≡ Some states →
+            OnBroken result (IfTold (W.told self.new.wire) (λ u.
+            (b : HasRunBroken (plan_of S.items self.old.controller) self.old.unit u self.new.controller.state)
+            × (V.watched watcher.new ≡ Some (states ++ states_watched b)))) }
+        ensures unused { W.failures self.old.wire ≡ 1 → (watcher.new ≡ watcher.old) × (keep.new ≡ keep.old) }
+    {
         courses::courses_follow_one_another();
         bursts::one_reading();
         bursts::what_is_followed_is_read();
         bursts::what_is_fed_is_followed();
         if self.failed {
-            return Err(DriveFault::Device);
+            return Err(KeptFault::Drive(DriveFault::Device));
         }
         let mut made = 0;
         'listens: while made < listens {
-            self.send()?;
+            if let Err(KeepFault) = keep_next(&self.controller, keep) {
+                return Err(KeptFault::Unkept);
+            }
+            if let Err(fault) = self.send() {
+                return Err(KeptFault::Drive(fault));
+            }
             if !self.controller().awaiting() {
                 return Ok(Ran::Ended);
             }
             watcher.look(&self.controller);
-            if let Line::Closed = self.listen()? {
+            let heard = self.heard;
+            let line = match self.listen() {
+                Ok(line) => line,
+                Err(fault) => return Err(KeptFault::Drive(fault)),
+            };
+            note_if_ended(&self.controller, heard, keep);
+            if let Line::Closed = line {
                 return Ok(self.unless_ended(Ran::Closed));
             }
             made += 1;
@@ -203,7 +245,7 @@ impl<S: Source, W: Wire> AutoDriver<S, W> {
             × (W.told self.new.wire ≡ adds_came a (W.told self.old.wire))) }
         ensures breaks { W.failures self.old.wire ≡ 0 → OnErr result (W.told self.new.wire ≡ W.told self.old.wire) }
         ensures unchanged { OnErr result (self.new ≡ record self.old { wire = self.new.wire }) }
-        ensures reached { GoesOn (plan_of S.items self.old.controller) self.old.controller.state
+        ensures reached { IsReachedFrom (plan_of S.items self.old.controller) self.old.controller.state
             self.new.controller.state }
         ensures controller { self.new.controller ≡ record self.old.controller { state = self.new.controller.state } }
         ensures unit { self.new.unit ≡ self.old.unit }
@@ -246,7 +288,7 @@ fn send_next<S: Source, W: Wire>(
     ensures ticks { OnOk result (controller.new ≡ record controller.old { state = turns.ticked controller.old.state }) }
     ensures breaks { OnErr result (HasSendBroken (plan_of S.items controller.old) unit
         controller.old.state controller.new.state (W.told wire.old) (W.told wire.new)) }
-    ensures reached { GoesOn (plan_of S.items controller.old) controller.old.state controller.new.state }
+    ensures reached { IsReachedFrom (plan_of S.items controller.old) controller.old.state controller.new.state }
     ensures controller { controller.new ≡ record controller.old { state = controller.new.state } }
     ensures works { OnOk result (W.failures wire.new ≡ 0) }
     ensures failed { OnErr result (W.failures wire.new ≡ 1) }
@@ -293,7 +335,7 @@ fn hear<S: Source, W: Wire>(
     ensures broken { OnErr result (W.told wire.new ≡ W.told wire.old) }
     ensures unchanged { OnErr result ((controller.new ≡ controller.old) × (reader.new ≡ reader.old)
         × (heard.new ≡ heard.old)) }
-    ensures reached { GoesOn (plan_of S.items controller.old) controller.old.state controller.new.state }
+    ensures reached { IsReachedFrom (plan_of S.items controller.old) controller.old.state controller.new.state }
     ensures controller { controller.new ≡ record controller.old { state = controller.new.state } }
     ensures works { OnOk result (W.failures wire.new ≡ 0) }
     ensures failed { OnErr result (W.failures wire.new ≡ 1) }
@@ -316,7 +358,7 @@ fn hear<S: Source, W: Wire>(
 }
 
 // Takes bytes of a burst, and keeps what is heard first.
-fn take_piece(unit: u8, reader: &mut Reader, heard: &mut Option<Heard>, piece: &[u8])
+pub(crate) fn take_piece(unit: u8, reader: &mut Reader, heard: &mut Option<Heard>, piece: &[u8])
     ensures heard { HasHeard unit reader.old heard.old piece.now reader.new heard.new }
     ensures fits { AreOctets piece.now }
 {
@@ -347,7 +389,7 @@ fn end_burst<S: Source>(
 )
     ensures received { HasReceived (plan_of S.items controller.old) controller.old.state heard.old
         controller.new.state reader.new heard.new }
-    ensures reached { GoesOn (plan_of S.items controller.old) controller.old.state controller.new.state }
+    ensures reached { IsReachedFrom (plan_of S.items controller.old) controller.old.state controller.new.state }
     ensures controller { controller.new ≡ record controller.old { state = controller.new.state } }
 {
     reader.silence();

@@ -31,23 +31,30 @@
 //! `PromptDriver` has the same calls, for a line that keeps order: it hears each answer as soon as it has come, and a
 //! silence is a time-out alone.
 //!
-//! `serve_watched` and `run_watched` lend each item that airs, and the controller, to an observer.
+//! `ask_port` asks a port whether something is cued or plays there, which has to be known before a run in confirm mode.
+//!
+//! `serve_watched` and `run_watched` lend each item that airs, and the controller, to an observer. `run_kept` also has
+//! a `Keep` keep each command before it goes out, and what ended its exchange.
 //!
 //! Files: `server`, `automation` and `prompt` (the drivers), `line` (results of a turn or listen), `watch` (observers),
-//! `laws`.
+//! `keep` (what is kept of the exchanges), `vacancy` (the questions to a port), `laws`.
 #![tactic(auto)]
 
 mod automation;
+mod keep;
 pub mod laws;
 mod line;
 mod prompt;
 mod server;
+mod vacancy;
 mod watch;
 
 pub use automation::AutoDriver;
+pub use keep::{Keep, KeepFault, Kept, KeptFault, Unkept};
 pub use line::{DriveFault, Line, Ran};
 pub use prompt::PromptDriver;
 pub use server::Server;
+pub use vacancy::{Vacancy, ask_port};
 pub use vdcp_wire::{Came, Entry, PIECE, ScriptWire, StreamWire, Wire, WireFault};
 pub use watch::{Unwatched, Watch, WatchAir};
 

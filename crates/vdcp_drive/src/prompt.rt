@@ -3,7 +3,7 @@ ghost use Rattle.vdcp_frame.specs.Message.{AreOctets};
 ghost use Rattle.vdcp_auto.specs.Plan.{plan_of};
 ghost use Rattle.vdcp_auto.specs.Turn as turns;
 ghost use Rattle.vdcp_auto.specs.State.{State};
-ghost use Rattle.vdcp_drive.specs.Driven.{GoesOn};
+ghost use Rattle.vdcp_drive.specs.Driven.{IsReachedFrom};
 ghost use Rattle.vdcp_drive.specs.Lines.{line_of, ran_unless_ended};
 ghost use Rattle.vdcp_drive.specs.Prompt.{HasPrompted, HasPromptBroken, HasRunPromptBroken, HearsPrompt, IsNewPrompt, one_more, states_prompted, states_seen};
 ghost use Rattle.vdcp_drive.specs.PromptLeaves.{PromptLeaves};
@@ -123,7 +123,7 @@ impl<S: Source, W: Wire> PromptDriver<S, W> {
         ensures breaks { W.failures self.old.wire ≡ 0 →
             OnErr result (HasPromptBroken (plan_of S.items self.old.controller) self.old.unit
             self.old.controller.state self.new.controller.state (W.told self.old.wire) (W.told self.new.wire)) }
-        ensures reached { GoesOn (plan_of S.items self.old.controller) self.old.controller.state
+        ensures reached { IsReachedFrom (plan_of S.items self.old.controller) self.old.controller.state
             self.new.controller.state }
         ensures controller { self.new.controller ≡ record self.old.controller { state = self.new.controller.state } }
         ensures keeps { self.new ≡ record self.old { controller = self.new.controller; wire = self.new.wire } }
@@ -152,7 +152,7 @@ impl<S: Source, W: Wire> PromptDriver<S, W> {
             × (W.told self.new.wire ≡ adds_came a (W.told self.old.wire))) }
         ensures breaks { W.failures self.old.wire ≡ 0 → OnErr result (W.told self.new.wire ≡ W.told self.old.wire) }
         ensures unchanged { OnErr result (self.new ≡ record self.old { wire = self.new.wire }) }
-        ensures reached { GoesOn (plan_of S.items self.old.controller) self.old.controller.state
+        ensures reached { IsReachedFrom (plan_of S.items self.old.controller) self.old.controller.state
             self.new.controller.state }
         ensures controller { self.new.controller ≡ record self.old.controller { state = self.new.controller.state } }
         ensures unit { self.new.unit ≡ self.old.unit }
@@ -259,7 +259,7 @@ fn send_given<S: Source, W: Wire>(
     ensures ticks { OnOk result (controller.new ≡ record controller.old { state = turns.ticked controller.old.state }) }
     ensures breaks { OnErr result (HasPromptBroken (plan_of S.items controller.old) unit
         controller.old.state controller.new.state (W.told wire.old) (W.told wire.new)) }
-    ensures reached { GoesOn (plan_of S.items controller.old) controller.old.state controller.new.state }
+    ensures reached { IsReachedFrom (plan_of S.items controller.old) controller.old.state controller.new.state }
     ensures controller { controller.new ≡ record controller.old { state = controller.new.state } }
     ensures works { OnOk result (W.failures wire.new ≡ 0) }
     ensures failed { OnErr result (W.failures wire.new ≡ 1) }
@@ -291,7 +291,7 @@ fn hear<S: Source, W: Wire>(
     ensures broken { OnErr result (W.told wire.new ≡ W.told wire.old) }
     ensures unchanged { OnErr result ((controller.new ≡ controller.old) × (reader.new ≡ reader.old)
         × (passed.new ≡ passed.old)) }
-    ensures reached { GoesOn (plan_of S.items controller.old) controller.old.state controller.new.state }
+    ensures reached { IsReachedFrom (plan_of S.items controller.old) controller.old.state controller.new.state }
     ensures controller { controller.new ≡ record controller.old { state = controller.new.state } }
     ensures works { OnOk result (W.failures wire.new ≡ 0) }
     ensures failed { OnErr result (W.failures wire.new ≡ 1) }
@@ -337,7 +337,7 @@ fn hear_piece<S: Source>(
     ensures hears { HearsPrompt (plan_of S.items controller.old) unit (bytes piece.now)
         controller.old.state reader.old passed.old controller.new.state reader.new passed.new }
     ensures reader { IsReader reader.new }
-    ensures reached { GoesOn (plan_of S.items controller.old) controller.old.state controller.new.state }
+    ensures reached { IsReachedFrom (plan_of S.items controller.old) controller.old.state controller.new.state }
     ensures controller { controller.new ≡ record controller.old { state = controller.new.state } }
 {
     let mut at = 0;
@@ -360,7 +360,7 @@ fn hear_some<S: Source>(
     ensures hears { HearsPrompt (plan_of S.items controller.old) unit (bytes (take result piece.now))
         controller.old.state reader.old passed.old controller.new.state reader.new passed.new }
     ensures reader { IsReader reader.new }
-    ensures reached { GoesOn (plan_of S.items controller.old) controller.old.state controller.new.state }
+    ensures reached { IsReachedFrom (plan_of S.items controller.old) controller.old.state controller.new.state }
     ensures controller { controller.new ≡ record controller.old { state = controller.new.state } }
 {
     let (taken, read) = read_some(unit, reader, piece);

@@ -77,6 +77,14 @@ impl<C: Catalogue, W: Wire> Server<C, W> {
         &self.port
     }
 
+    /// Its port and its wire; the port is as its turns have left it, for another server.
+    pub fn into_parts(self) -> (Port<C>, W)
+        ensures port { result.0 ≡ self.port }
+        ensures wire { result.1 ≡ self.wire }
+    {
+        (self.port, self.wire)
+    }
+
     /// The item that the last turn put to air, if it put one there.
     pub fn aired(&self) -> Option<Item>
         ensures { result ≡ self.now.aired }

@@ -86,13 +86,14 @@ fn test_rows<'a, R: io::Read + Drop>(
     let name = file.name;
     let mut rows = rows_in(alloc, file.reader);
     let mut row = ByteRecord::new(alloc);
+    let mut burst = Vec::new(alloc);
     let mut reading = String::new(alloc);
     let mut tally = Tally::new(alloc);
     while next_row(&mut rows, &mut row).map_err(|fault| file_failure(name, fault))? {
         if tally.rows == MAX_ROWS {
             return Err(too_many(name));
         }
-        let verdict = test_row(alloc, &row, &mut reading)?;
+        let verdict = test_row(&row, &mut burst, &mut reading)?;
         tally.add(verdict)?;
     }
     Ok(tally)
@@ -131,16 +132,16 @@ impl Verdict<'_> {
     }
 }
 
-// Tests a row. `reading` is the room for what its burst reads as.
+// Tests a row. `burst` is the room for its bytes, and `reading` for what these read as.
 fn test_row<'a>(
-    alloc: Global,
     row: &ByteRecord,
+    burst: &mut Vec<u8>,
     reading: &'a mut String,
 ) -> Result<Verdict<'a>, AllocError>
     ensures { IfOk result (λ verdict. finding_of verdict ≡ finding_of_row (fields_of row.now)) }
 {
     match two_fields(row) {
-        Some((digits, expected)) => test_burst(alloc, digits, expected, reading),
+        Some((digits, expected)) => test_burst(digits, expected, burst, reading),
         None => Ok(Verdict::Columns),
     }
 }
@@ -158,24 +159,35 @@ fn two_fields(row: &ByteRecord) -> Option<(&[u8], &[u8])>
 
 // Tests the digits of a burst.
 fn test_burst<'a>(
-    alloc: Global,
     digits: &[u8],
     expected: &[u8],
+    burst: &mut Vec<u8>,
     reading: &'a mut String,
 ) -> Result<Verdict<'a>, AllocError>
     ensures { IfOk result (λ verdict. finding_of verdict ≡ finding_of_burst (decode_of digits.now) expected.now) }
 {
-    let burst = match hex::decode(alloc, digits) {
-        Ok(burst) => burst,
+    match decode(digits, burst) {
+        Ok(()) => {}
         Err(FromHexError::OutOfMemory) => return Err(AllocError),
         Err(_) => return Ok(Verdict::Hex),
-    };
+    }
     show_reading(burst.as_slice(), reading)?;
     if reading.as_bytes() == expected {
         Ok(Verdict::Right)
     } else {
         Ok(Verdict::Other(reading.as_str()))
     }
+}
+
+// Decodes digits in place of the bytes, so that no row needs memory of its own.
+fn decode(digits: &[u8], bytes: &mut Vec<u8>) -> Result<(), FromHexError>
+    ensures ok { OnOk result (decode_of digits.now ≡ Ok bytes.new.items) }
+    ensures err { IfErr result (λ e. (e ≡ FromHexError.OutOfMemory) ⊎ (decode_of digits.now ≡ Err e)) }
+{
+    if bytes.resize(digits.len() / 2, 0).is_err() {
+        return Err(FromHexError::OutOfMemory);
+    }
+    hex::decode_to_slice(digits, bytes.as_mut_slice())
 }
 
 // Writes a burst's reading, its lines joined, in place of the text.

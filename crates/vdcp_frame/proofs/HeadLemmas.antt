@@ -117,7 +117,13 @@ frame_spelt x code rest check x_fits code_fits byte fits size adds_up =
     let whole : 16 * (x / 16) + x % 16 ≡ x = omega arith in
     let two : suc (suc (length rest)) ≡ length rest + 2 = omega arith in
     record {
-      fits = record { kind_fits = omega arith; unit_fits = omega arith; code_fits = code_fits; rest_fits = fits; rest_size = size };
+      fits = record {
+        kind_fits = omega arith;
+        unit_fits = omega arith;
+        code_fits = code_fits;
+        rest_fits = fits;
+        rest_size = size;
+      };
       check = check;
       byte = byte;
       adds_up = rw whole adds_up;

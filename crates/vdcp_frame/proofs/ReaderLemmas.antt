@@ -158,4 +158,12 @@ silence_reads burst ms failed f =
 
 -- nothing has come yet
 pub follows_none : Follows [] [] (reading 0 [])
-follows_none = record { whole = []; parts = refl; spelt = refl; unfinished = Unfinished-nil; count = refl; limit = omega arith }
+follows_none = record {
+  whole = [];
+  parts = refl;
+  spelt = refl;
+  unfinished = Unfinished-nil;
+  count = refl;
+  limit = omega
+      arith;
+}

@@ -32,7 +32,13 @@ Spells-spelling ack fits = refl
 Spells-spelling (nak byte) fits = (fits, refl)
 Spells-spelling (framed kind unit code rest) fits =
     let total : ℕ = 16 * kind + unit + code + sum rest in
-    record { fits = fits; check = check_byte total; byte = check_byte-fits total; adds_up = check_byte-adds_up total; spelt = refl }
+    record {
+      fits = fits;
+      check = check_byte total;
+      byte = check_byte-fits total;
+      adds_up = check_byte-adds_up total;
+      spelt = refl;
+    }
 
 -- a spelling has a byte
 pub spelt_some : (m : Content) (bytes : List ℕ) → Spells m bytes → 0 < length bytes
@@ -160,7 +166,14 @@ module _ (limit : ℕ) (burst : List ℕ) (ms : List Content) (whole held : List
       (cond (ltb limit (length burst)) (long_end limit (unfinished_end held)) (unfinished_end held))
   reads_unfinished = record {
     short = unfinished_end held;
-    front = record { whole = whole; remainder = held; parts = parts; spelt = spelt; no_front = h.no_front; ends = ends_unfinished (length whole) held h };
+    front = record {
+      whole = whole;
+      remainder = held;
+      parts = parts;
+      spelt = spelt;
+      no_front = h.no_front;
+      ends = ends_unfinished (length whole) held h;
+    };
     long = refl;
   }
 

@@ -14,6 +14,7 @@ use Rattle.vdcp_auto.specs.declared.outcome.Outcome.{Outcome}
 use Rattle.vdcp_auto.specs.declared.outcome.Outcome.TheVariants.{Done, Stopped, Lost, Denied, Missing, Refused, Foreign, Strange}
 use Rattle.vdcp_frame.specs.Message.{spelling}
 use Rattle.vdcp_journal.proofs.CsvRows.{ArePlain}
+use Rattle.vdcp_journal.proofs.HexTexts.{spelt_some}
 use Rattle.vdcp_journal.proofs.Lines.{both-false, feed-append, has_feed, or-left, or-right}
 use Rattle.vdcp_journal.specs.Reading.{IsWritableNote, IsWritableOutcome}
 use Rattle.vdcp_journal.specs.Rows.{note_fields, outcome_fields}
@@ -150,3 +151,11 @@ note_plain v unit note.Silence h = (refl, (refl, (refl, tt)))
 note_plain v unit note.Take h = (refl, (refl, (refl, tt)))
 note_plain v unit note.Stop h = (refl, (refl, (refl, tt)))
 note_plain v unit (note.End outcome) h = (refl, outcome_plain outcome h)
+
+-- only what is no reply has no digits
+pub heard_other : (unit : ℕ) (h : Heard) (text digits : List ℕ) → note_fields unit (note.Heard h) ≡ codes "heard" ∷ text ∷ digits ∷ []
+    → length digits ≡ 0 → h ≡ heard.Other
+heard_other unit (heard.Reply r) text digits e none =
+    let same : encode_lower (spelling (reply_message unit r)) ≡ digits = cc e in
+    absurd (spelt_some (reply_message unit r) (ap length same ∙ none))
+heard_other unit heard.Other text digits e none = refl

@@ -1,9 +1,13 @@
 mod Written
 mod Digits
+mod HexTexts
+mod Messages
 mod Moments
 mod Commands
 mod Told
 mod Lines
 mod CsvRows
 mod FieldTexts
+mod JournalRows
+mod JournalSteps
 mod Journals

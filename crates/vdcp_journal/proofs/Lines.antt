@@ -1,10 +1,10 @@
 -- Lines, and what is left of a text that is cut short.
-use Rattle.std.proofs.Common.{◌≡◌, ℕ, ◌+◌, ◌-◌, ◌<◌, ◌≤◌, zero, suc, Bool, true, false, List, [], ◌∷◌, ◌++◌, length, take, refl, sym, ap, subst, ◌∙◌, append_assoc, arith, inl, inr}
-use Rattle.std.proofs.Math.Seq.{take-append-add}
+use Rattle.std.proofs.Common.{◌≡◌, ℕ, ◌+◌, ◌-◌, ◌<◌, ◌≤◌, get_or, zero, suc, Bool, true, false, List, [], ◌∷◌, ◌++◌, length, take, refl, sym, ap, subst, ◌∙◌, append_assoc, arith, inl, inr}
+use Rattle.std.proofs.Math.Seq.{take-append-add, take-suc}
 use Rattle.std.proofs.lemmas.Bool.{eq-eqb, ne_eqb}
 use Rattle.std.proofs.lemmas.List.{length-append, take-append-le}
 use Rattle.std.specs.List.{list_any}
-use Rattle.std.specs.Prelude.{◌==◌, ◌||◌, ◌⊎◌, if◌then◌else◌}
+use Rattle.std.specs.Prelude.{◌≢◌, ◌==◌, ◌||◌, ◌⊎◌, if◌then◌else◌}
 use Rattle.vdcp_journal.specs.Reading.{line_before, whole_lines}
 
 abbrev pub has_feed : List ℕ → Bool
@@ -116,3 +116,20 @@ pub beginning : (lines : List (List ℕ)) → AreLines lines → (n : ℕ) → W
 beginning [] h zero = (0, refl)
 beginning [] h (suc n) = (0, refl)
 beginning (line ∷ lines) h n = beginning-of line lines n h.0 (beginning lines h.1) (either n (length line - 1))
+
+-- ---- from the end
+
+last-plain : (xs : List ℕ) (b : ℕ) → (b == 10) ≡ false → whole_lines (xs ++ b ∷ []) ≡ whole_lines xs
+last-plain [] b e = before-none b e
+last-plain (x ∷ xs) b e = ap (line_before x) (last-plain xs b e)
+
+-- the front of k + 1 bytes, by its last one
+
+pub torn-more : (text : List ℕ) (k : ℕ) → k < length text → get_or text k 0 ≢ 10 → whole_lines (take (suc k) text) ≡ whole_lines (take k text)
+torn-more text k below ne =
+    ap whole_lines (take-suc text k 0 below) ∙ last-plain (take k text) (get_or text k 0) (ne_eqb (get_or text k 0) 10 ne)
+
+pub feed-last : (text : List ℕ) (k : ℕ) → k < length text → get_or text k 0 ≡ 10 → whole_lines (take (suc k) text) ≡ take (suc k) text
+feed-last text k below is =
+    let parts : take (suc k) text ≡ take k text ++ 10 ∷ [] = take-suc text k 0 below ∙ ap (λ b. take k text ++ b ∷ []) is in
+    ap whole_lines parts ∙ line-whole (take k text) [] ∙ sym parts

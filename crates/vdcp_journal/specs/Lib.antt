@@ -3,3 +3,4 @@ pub mod Times
 pub mod Rows
 pub mod Resume
 pub mod Reading
+pub mod Journals

@@ -4,21 +4,27 @@
 //! A `Heading` says what is played, and each `Row` is a `Note` with the `Moment` at which it was made.
 //! `write_heading` and `write_row` append to a writer that they are lent.
 //!
+//! `read_journal` reads a journal's bytes, and leaves out a last row that was torn.
+//!
 //! `resume` gives a new controller the rows of a journal, and times out the exchange that was open.
 //!
-//! Files: `moment`, `row` (headings, rows and notes), `fields` (a note's fields), `write`, `faults`, `replay`, `laws`.
+//! Files: `moment`, `row` (headings, rows and notes), `fields` (a note's fields), `texts` (what fields name), `write`,
+//! `read`, `faults`, `replay`, `laws`.
 #![tactic(auto)]
 
 mod faults;
 mod fields;
 pub mod laws;
 mod moment;
+mod read;
 mod replay;
 mod row;
+mod texts;
 mod write;
 
-pub use faults::{JournalWriteFault, ResumeFault};
+pub use faults::{JournalReadFault, JournalRowFault, JournalWriteFault, ResumeFault};
 pub use moment::Moment;
+pub use read::{Journal, read_journal};
 pub use replay::{Resumed, resume};
 pub use row::{Heading, Note, Row};
 pub use write::{write_heading, write_row};

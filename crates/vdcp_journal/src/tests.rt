@@ -4,7 +4,8 @@ ghost use Rattle.std.specs.Prelude.{◌≡◌};
 ghost use Rattle.vdcp_auto.specs.Turn.{start};
 
 use crate::{
-    Heading, JournalWriteFault, Moment, Note, ResumeFault, Row, resume, write_heading, write_row,
+    Heading, JournalReadFault, JournalRowFault, JournalWriteFault, Moment, Note, ResumeFault, Row,
+    read_journal, resume, write_heading, write_row,
 };
 use std::alloc::Global;
 use std::process::Abort;
@@ -216,6 +217,110 @@ fn what_the_controller_does_not_do_is_refused(rt: HostRuntime) {
         let rows = told(&rt, notes, alloc);
         match resume(controller(&rt, alloc), rows.as_slice()) {
             Ok(_) => panic!(rt; "the rows are refused"),
+            Err(found) => assert_eq!(rt; found, *fault),
+        }
+    }
+}
+
+// The heading of a journal of the server at this unit, and the row that begins it.
+const HEADING: &str =
+    "2026-11-24T09:30:00.125Z,list,0f0f0f0f0f0f0f0f0f0f0f0f0f0f0f0f0f0f0f0f0f0f0f0f0f0f0f0f0f0f0f0f,plain,0,1,3\n";
+
+#[test]
+fn a_journal_is_read_without_its_torn_row(rt: HostRuntime) -> Result<(), Fail> {
+    let alloc = rt.alloc();
+    let rows = "2026-11-24T09:30:00.125Z,sent,\"cue A,B\",020a2024412c4220202020206d\n\
+        2026-11-24T09:30:00.125Z,heard,nak 01,0501\n\
+        2026-11-24T09:30:00.125Z,silence,,\n\
+        2026-11-24T09:30:00.125Z,end,missing,3\n";
+    let text = format!(in alloc; "{HEADING}{rows}2026-11-24T09:3")?;
+    let Ok(journal) = read_journal(alloc, text.as_bytes()) else {
+        panic!(rt; "the journal is read");
+    };
+    let notes = [
+        Note::Sent(Command::PlayCue(ClipId::new(*b"A,B     "))),
+        Note::Heard(Heard::Reply(Reply::Nak(1))),
+        Note::Silence,
+        Note::End(Outcome::Missing(3)),
+    ];
+    assert_eq!(rt; journal.time, time(&rt));
+    assert_eq!(rt; journal.heading.digest, [0x0f; 32]);
+    assert_eq!(rt; journal.heading.limit, 3);
+    assert_eq!(rt;
+        journal.rows.as_slice(),
+        told(&rt, notes.as_slice(), alloc).as_slice()
+    );
+    assert_eq!(rt; journal.whole, HEADING.len() + rows.len());
+    Ok(())
+}
+
+#[test]
+fn a_line_that_is_no_row_is_refused(rt: HostRuntime) -> Result<(), Fail> {
+    let alloc = rt.alloc();
+    let cases: [(&str, JournalRowFault); 9] = [
+        ("2026-11-24T09:30:00.125Z,silence,", JournalRowFault::Fields),
+        ("2026-11-24 09:30,silence,,", JournalRowFault::Time),
+        ("2026-11-24T09:30:00.125Z,quiet,,", JournalRowFault::Word),
+        (
+            "2026-11-24T09:30:00.125Z,sent,play,02021001ee",
+            JournalRowFault::Command,
+        ),
+        (
+            "2026-11-24T09:30:00.125Z,sent,stop,02021001ef",
+            JournalRowFault::Command,
+        ),
+        (
+            "2026-11-24T09:30:00.125Z,heard,ack,05",
+            JournalRowFault::Reply,
+        ),
+        (
+            "2026-11-24T09:30:00.125Z,end,missing,03",
+            JournalRowFault::Outcome,
+        ),
+        (
+            "2026-11-24T09:30:00.125Z,silence,,04",
+            JournalRowFault::Detail,
+        ),
+        (
+            "2026-11-24T09:30:00.125Z,take,now,",
+            JournalRowFault::Detail,
+        ),
+    ];
+    for (line, fault) in cases.as_slice() {
+        let text = format!(in alloc; "{HEADING}2026-11-24T09:30:00.125Z,silence,,\n{line}\n")?;
+        match read_journal(alloc, text.as_bytes()) {
+            Ok(_) => panic!(rt; "the line is refused"),
+            Err(found) => assert_eq!(rt; found, JournalReadFault::Row(3, *fault)),
+        }
+    }
+    Ok(())
+}
+
+#[test]
+fn a_line_that_is_no_heading_is_refused(rt: HostRuntime) {
+    let cases: [(&str, JournalReadFault); 6] = [
+        ("", JournalReadFault::Empty),
+        ("2026-11-24T09:30:00.125Z,list", JournalReadFault::Empty),
+        (
+            "2026-11-24T09:30:00.125Z,silence,,\n",
+            JournalReadFault::Heading(JournalRowFault::Fields),
+        ),
+        (
+            "2026-11-24T09:30:00.125Z,list,0f,plain,0,1,3\n",
+            JournalReadFault::Heading(JournalRowFault::Digest),
+        ),
+        (
+            "2026-11-24T09:30:00.125Z,list,0f0f0f0f0f0f0f0f0f0f0f0f0f0f0f0f0f0f0f0f0f0f0f0f0f0f0f0f0f0f0f0f,open,0,1,3\n",
+            JournalReadFault::Heading(JournalRowFault::Mode),
+        ),
+        (
+            "2026-11-24T09:30:00.125Z,list,0f0f0f0f0f0f0f0f0f0f0f0f0f0f0f0f0f0f0f0f0f0f0f0f0f0f0f0f0f0f0f0f,plain,16,1,3\n",
+            JournalReadFault::Heading(JournalRowFault::Number),
+        ),
+    ];
+    for (text, fault) in cases.as_slice() {
+        match read_journal(rt.alloc(), text.as_bytes()) {
+            Ok(_) => panic!(rt; "the line is refused"),
             Err(found) => assert_eq!(rt; found, *fault),
         }
     }

@@ -1,7 +1,7 @@
 -- The headline, from what holds of the clips that went to air, and from the law of the controller.
-use Rattle.std.proofs.Common.{ℕ, zero, suc, ◌+◌, ◌≡◌, ◌<◌, ◌≤◌, ◌⊎◌, inl, inr, Bool, true, false, List, [], ◌∷◌, ◌++◌, length, take, drop, refl, arith, sym, ap, subst, ◌∙◌, take-append-drop, length-drop}
+use Rattle.std.proofs.Common.{ℕ, zero, suc, ◌+◌, ◌≡◌, ◌<◌, ◌≤◌, ◌⊎◌, inl, inr, Bool, true, false, List, [], ◌∷◌, ◌++◌, length, take, drop, refl, arith, sym, ap, subst, ◌∙◌, take-append-drop, length-append, length-drop, append-nil}
 use Rattle.std.proofs.Math.Seq.{take-length}
-use Rattle.std.specs.Prelude.{Option, None, Some, IfSome, IsSomeAnd, slice_get}
+use Rattle.std.specs.Prelude.{Option, None, Some, IsTrue, IfSome, IsSomeAnd, slice_get}
 use Rattle.vdcp_value.specs.declared.clip_id.ClipId.{ClipId}
 use Rattle.vdcp_value.specs.declared.part.Item.{Item}
 use Rattle.vdcp_value.specs.declared.timecode.Timecode.{Timecode}
@@ -20,7 +20,7 @@ use Rattle.vdcp_auto.specs.State.{Stage}
 use Rattle.vdcp_auto.specs.State.{Ready, Awaiting, Ended}
 use Rattle.vdcp_world.specs.Headline.{IsUnknownAt, AreReported}
 use Rattle.vdcp_late.specs.LateChannel.{LateChannel}
-use Rattle.vdcp_late.specs.LateHeadline.{IsLateRefused, LateMeans, LateHeadline, reported_of}
+use Rattle.vdcp_late.specs.LateHeadline.{IsLateRefused, LateMeans, LateHeadline, is_late_complete, reported_of}
 use Rattle.vdcp_late.proofs.Delivering.{no_item}
 use Rattle.vdcp_late.proofs.Places.{At, Near}
 use Rattle.vdcp_late.proofs.Safety.{taken}
@@ -140,3 +140,34 @@ headline c a l = record {
   may_await = l.may_await;
   ended = means_at c c.state.stage refl a.end_holds l;
 }
+
+-- ---- all that went to air is reported
+
+without_last : (aired front last : List Item) → aired ≡ front ++ last → length aired ≡ length front → aired ≡ front
+without_last aired front [] e same = e ∙ append-nil front
+without_last aired front (item ∷ last) e same = absurd (omega (arith, ap length e, length-append front (item ∷ last), same))
+
+pub complete : (c : LateChannel) → LateHeadline c
+    → IfSome (outcome_of c.state.stage) (λ outcome. IsTrue (is_late_complete c.plan.mode outcome) → c.aired ≡ reported_of c)
+complete c h = by (outcome_of c.state.stage) h.ended
+  where
+    all : (k : ℕ) → AreReported c.plan c.aired c.log k → c.aired ≡ reported_of c
+    all k a = without_last c.aired (reported_of c) h.reported.0 h.reported.1
+        (a.aired_count ∙ sym (h.count ∙ h.is_settled ∙ a.reported_count))
+
+    refused : (mode : Mode) (k : ℕ) → IsLateRefused mode c.plan c.aired c.log k
+        → IsTrue (is_late_complete mode (outcome.Refused k)) → c.aired ≡ reported_of c
+    refused Plain k m e = cc
+    refused Confirming k m e = all k m.1
+
+    by : (o : Option Outcome) → IfSome o (LateMeans c.port.clips c.plan c.aired c.log)
+        → IfSome o (λ outcome. IsTrue (is_late_complete c.plan.mode outcome) → c.aired ≡ reported_of c)
+    by None m = tt
+    by (Some outcome.Done) m = λ _. all (length c.plan.list) m.1
+    by (Some (outcome.Missing k)) m = λ _. all k m.1
+    by (Some (outcome.Refused k)) m = refused c.plan.mode k m
+    by (Some outcome.Lost) m = λ e. cc
+    by (Some outcome.Stopped) m = λ e. cc
+    by (Some outcome.Denied) m = λ e. cc
+    by (Some (outcome.Foreign k)) m = λ e. cc
+    by (Some (outcome.Strange k)) m = λ e. cc

@@ -1,7 +1,7 @@
 -- The premises of the headline are needed: runs, computed from the definitions, in which one of them is dropped and the headline
 -- fails.
 use Rattle.std.proofs.Common.{◌≡◌, ℕ, List, [], ◌∷◌, ◌++◌, refl}
-use Rattle.std.specs.Prelude.{reverse}
+use Rattle.std.specs.Prelude.{Some, reverse}
 use Rattle.vdcp_value.specs.declared.clip_id.ClipId.{ClipId}
 use Rattle.vdcp_value.specs.declared.part.Item.{Item}
 use Rattle.vdcp_value.specs.declared.rate.Rate.TheVariants.{F25}
@@ -13,11 +13,13 @@ use Rattle.vdcp_words.specs.declared.command.Command.TheVariants as command
 use Rattle.vdcp_port.specs.Clips.{whole}
 use Rattle.vdcp_port.specs.Clock.{ClockedPort, new_port}
 use Rattle.vdcp_port.specs.Port.{done}
+use Rattle.vdcp_auto.specs.Turn.{outcome_of}
+use Rattle.vdcp_auto.specs.declared.outcome.Outcome.TheVariants.{Refused}
 use Rattle.vdcp_auto.specs.declared.phase.Mode.{Mode}
 use Rattle.vdcp_auto.specs.declared.phase.Mode.TheVariants.{Plain, Confirming}
 use Rattle.vdcp_late.specs.LateChannel.{LateChannel, new_late_channel, after_late_events}
 use Rattle.vdcp_late.specs.declared.event.LateEvent.{LateEvent}
-use Rattle.vdcp_late.specs.declared.event.LateEvent.TheVariants.{Tick, Down, Up, DownCopy, UpCopy, LoseDown, Timeout, Ready}
+use Rattle.vdcp_late.specs.declared.event.LateEvent.TheVariants.{Tick, Down, Up, DownCopy, UpCopy, LoseDown, LoseUp, Timeout, Ready, ServerAnew}
 
 -- CLIP0001 and CLIP0002, ten seconds each at 25 frames a second
 
@@ -88,6 +90,19 @@ a_late_answer_does_no_harm :
     seen (after_late_events (new Plain) (to_cue ++ round ++ Ready ∷ round ++ Tick ∷ Timeout ∷ Tick ∷ Down ∷ Up ∷ Timeout ∷ round ++ Up ∷ []))
     ≡ record { aired = one; reported = 1 }
 a_late_answer_does_no_harm = refl
+
+-- ---- all that aired is reported after Done and Missing, and in confirm mode after Refused
+
+-- In plain mode a copy of the PLAY is refused by a server that was started anew since the PLAY aired.
+abbrev refused_in_plain_mode : LateChannel
+refused_in_plain_mode =
+    after_late_events (new Plain) (to_cue ++ round ++ Ready ∷ round ++ Tick ∷ DownCopy ∷ LoseUp 0 ∷ ServerAnew ∷ Down ∷ Up ∷ [])
+
+a_refusal_may_leave_one_out : seen refused_in_plain_mode ≡ record { aired = one; reported = 0 }
+a_refusal_may_leave_one_out = refl
+
+and_is_one : outcome_of refused_in_plain_mode.state.stage ≡ Some (Refused 0)
+and_is_one = refl
 
 -- ---- order
 

@@ -1,6 +1,6 @@
 -- The headline of a line that keeps order: what holds of every channel that events have led to, however late the
 -- answers came, and whichever end was started anew.
-use Rattle.std.specs.Prelude.{ℕ, ◌+◌, ◌≡◌, ◌≤◌, false, IfSome, IsSomeAnd, List, ◌++◌, length, take, slice_get}
+use Rattle.std.specs.Prelude.{ℕ, ◌+◌, ◌≡◌, ◌≤◌, Bool, true, false, IfSome, IsSomeAnd, List, ◌++◌, length, take, slice_get}
 use Rattle.vdcp_value.specs.declared.clip_id.ClipId.{ClipId}
 use Rattle.vdcp_value.specs.declared.part.Item.{Item}
 use Rattle.vdcp_value.specs.declared.timecode.Timecode.{Timecode}
@@ -34,6 +34,14 @@ LateMeans clips plan aired log outcome.Stopped = Unit {0}
 LateMeans clips plan aired log outcome.Denied = Unit {0}
 LateMeans clips plan aired log (outcome.Foreign k) = Unit {0}
 LateMeans clips plan aired log (outcome.Strange k) = Unit {0}
+
+-- the outcomes after which all that went to air is reported; in plain mode a refusal may be a stale one
+abbrev pub is_late_complete : Mode → Outcome → Bool
+is_late_complete mode outcome.Done = true
+is_late_complete mode (outcome.Missing k) = true
+is_late_complete Plain (outcome.Refused k) = false
+is_late_complete Confirming (outcome.Refused k) = true
+is_late_complete mode _ = false
 
 -- the events that are reported as aired
 abbrev pub reported_of : LateChannel → List Item

@@ -5,3 +5,4 @@ pub mod Pipe
 pub mod LateHeadline
 pub mod Runs
 pub mod Joined
+pub mod LateScript

@@ -1,3 +1,6 @@
+ghost use Rattle.std.specs.Prelude.{◌+◌, IfOk, IfSome};
+ghost use Rattle.vdcp_world.specs.Script.{WritesCount};
+
 use crate::event::LateEvent;
 use std::alloc::Global;
 use vdcp_world::{Event, ScriptEvent, ScriptFault, ScriptLine};
@@ -11,6 +14,12 @@ const AT_END: usize = usize::MAX;
 /// burst, and `lose-down N`, `lose-up N`, `junk-down HEX`, `junk-up HEX`, `server-anew` and `automation-anew`. Junk
 /// comes in at the end of its queue.
 impl ScriptEvent for LateEvent {
+    ghost use Rattle.vdcp_late.specs.LateScript.{IsLateLineOf, late_event};
+
+    ghost of = { late_event };
+
+    ghost own = { IsLateLineOf };
+
     fn of_event(event: Event) -> LateEvent {
         match event {
             Event::Tick => LateEvent::Tick,
@@ -47,7 +56,9 @@ impl ScriptEvent for LateEvent {
 }
 
 // The place that a line counts from 1.
-fn place_in(line: &ScriptLine<'_>) -> Result<usize, ScriptFault> {
+fn place_in(line: &ScriptLine<'_>) -> Result<usize, ScriptFault>
+    ensures { IfOk result (λ place. IfSome line.now.argument (λ text. WritesCount text.now (place + 1))) }
+{
     let number = line.count()?;
     Ok(number as usize - 1)
 }

@@ -1,10 +1,10 @@
-ghost use Rattle.std.specs.Prelude.{◌≡◌, ◌≤◌, ◌++◌, List, length, take, IfSome, OnOk, OnErr, bit_and};
+ghost use Rattle.std.specs.Prelude.{◌≡◌, ◌≤◌, ◌++◌, List, length, take, IsTrue, IfSome, OnOk, OnErr, bit_and};
 ghost use Rattle.vdcp_auto.specs.RuleBook.{KeepsRules};
 ghost use Rattle.vdcp_auto.specs.Settled.{settled};
 ghost use Rattle.vdcp_auto.specs.Turn.{outcome_of};
 ghost use Rattle.vdcp_auto.specs.declared.phase.Mode.TheVariants.{Plain, Confirming};
 ghost use Rattle.vdcp_late.specs.LateChannel.{after_late_event, after_late_events, new_late_channel};
-ghost use Rattle.vdcp_late.specs.LateHeadline.{LateHeadline, LateMeans};
+ghost use Rattle.vdcp_late.specs.LateHeadline.{LateHeadline, LateMeans, is_late_complete};
 ghost use Rattle.vdcp_late.specs.Runs.{LateInPart, late_make_of};
 ghost use Rattle.vdcp_port.specs.Port.{state_byte};
 ghost use Rattle.vdcp_value.specs.declared.part.Item.{Item};
@@ -120,13 +120,17 @@ impl<S: Source, C: Catalogue, A: Allocator + Copy> LateWorld<S, C, A> {
         self.link.aired()
     }
 
-    /// How many events of the playlist the controller knows to have been aired: all that went to air, or one fewer.
+    /// How many events of the playlist the controller knows to have been aired: all that went to air, or one fewer;
+    /// all once the outcome is Done or Missing, and in confirm mode Refused.
     pub fn reported(&self) -> usize
         ensures count { result ≡ self.now.state.settled }
         ensures settled { result ≡ settled self.now.plan.mode self.now.log }
         ensures beginning { (last : List Item) × (self.now.aired ≡ take result self.now.plan.list ++ last)
             × (length last ≤ 1) }
         ensures within { length (take result self.now.plan.list) ≡ result }
+        ensures complete { IfSome (outcome_of self.now.state.stage)
+            (λ outcome. IsTrue (is_late_complete self.now.plan.mode outcome) →
+            self.now.aired ≡ take result self.now.plan.list) }
     {
         a_late_line_keeps_the_headline();
         self.link.reported()

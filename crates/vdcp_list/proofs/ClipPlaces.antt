@@ -53,16 +53,19 @@ pub record Placed (clips : List (ClipId × Timecode)) (id : ClipId) (k : ℕ) : 
 one_number : (a b : ℕ) → ◌≡◌ {A = Option ℕ} (Some a) (Some b) → a ≡ b
 one_number a b e = cc
 
-placed_after : (clip : ClipId × Timecode) (clips : List (ClipId × Timecode)) (id : ClipId) → is_same_id id clip.0 ≡ false
+placed_after : (clip : ClipId × Timecode) (clips : List (ClipId × Timecode)) (id : ClipId)
+    → is_same_id id clip.0 ≡ false
     → ((k : ℕ) → place_of clips id ≡ Some k → Placed clips id k)
-    → (place : Option ℕ) → place_of clips id ≡ place → (k : ℕ) → option_map suc place ≡ Some k → Placed (clip ∷ clips) id k
+    → (place : Option ℕ) → place_of clips id ≡ place → (k : ℕ) → option_map suc place ≡ Some k
+    → Placed (clip ∷ clips) id k
 placed_after clip clips id e later None is k h = cc h
 placed_after clip clips id e later (Some j) is k h =
     let next : suc j ≡ k = one_number (suc j) k h in
     let p = later j is in
     rw (← next) (record { within = omega (arith, p.within); length_is = λ d. rw e (p.length_is d) })
 
-placed_next : (clip : ClipId × Timecode) (clips : List (ClipId × Timecode)) (id : ClipId) (b : Bool) → is_same_id id clip.0 ≡ b
+placed_next : (clip : ClipId × Timecode) (clips : List (ClipId × Timecode)) (id : ClipId) (b : Bool)
+    → is_same_id id clip.0 ≡ b
     → ((k : ℕ) → place_of clips id ≡ Some k → Placed clips id k)
     → (k : ℕ) → (if b then Some 0 else option_map suc (place_of clips id)) ≡ Some k → Placed (clip ∷ clips) id k
 placed_next clip clips id true e later k h =
@@ -77,9 +80,11 @@ placed (clip ∷ clips) id k e = placed_next clip clips id (is_same_id id clip.0
 -- no place, no length
 pub not_placed : (clips : List (ClipId × Timecode)) (id : ClipId) → place_of clips id ≡ None → length_of clips id ≡ None
 not_placed [] id e = refl
-not_placed (clip ∷ clips) id e = not_placed_next clip clips id (is_same_id id clip.0) refl (place_of clips id) refl e (not_placed clips id)
+not_placed (clip ∷ clips) id e = not_placed_next clip clips id (is_same_id id clip.0) refl (place_of clips id) refl e
+    (not_placed clips id)
   where
-    not_placed_next : (clip : ClipId × Timecode) (clips : List (ClipId × Timecode)) (id : ClipId) (b : Bool) → is_same_id id clip.0 ≡ b
+    not_placed_next : (clip : ClipId × Timecode) (clips : List (ClipId × Timecode)) (id : ClipId) (b : Bool)
+        → is_same_id id clip.0 ≡ b
         → (place : Option ℕ) → place_of clips id ≡ place → (if b then Some 0 else option_map suc place) ≡ None
         → (place_of clips id ≡ None → length_of clips id ≡ None) → length_of (clip ∷ clips) id ≡ None
     not_placed_next clip clips id true e place is h later = cc h
@@ -90,24 +95,29 @@ pub is_placed : (clips : List (ClipId × Timecode)) (id : ClipId) → length_of 
 is_placed [] id e = refl
 is_placed (clip ∷ clips) id e = is_placed_next clip clips id (is_same_id id clip.0) refl e (is_placed clips id)
   where
-    is_placed_next : (clip : ClipId × Timecode) (clips : List (ClipId × Timecode)) (id : ClipId) (b : Bool) → is_same_id id clip.0 ≡ b
+    is_placed_next : (clip : ClipId × Timecode) (clips : List (ClipId × Timecode)) (id : ClipId) (b : Bool)
+        → is_same_id id clip.0 ≡ b
         → cond b (Some clip.1) (length_of clips id) ≡ None → (length_of clips id ≡ None → place_of clips id ≡ None)
         → (if b then Some 0 else option_map suc (place_of clips id)) ≡ None
     is_placed_next clip clips id true e h later = cc h
     is_placed_next clip clips id false e h later = rw (later h) refl
 
 -- one more clip
-pub place_of-push_same : (clips : List (ClipId × Timecode)) (clip : ClipId × Timecode) (id : ClipId) → place_of clips clip.0 ≡ None → id ≡ clip.0
+pub place_of-push_same : (clips : List (ClipId × Timecode)) (clip : ClipId × Timecode) (id : ClipId)
+    → place_of clips clip.0 ≡ None → id ≡ clip.0
     → place_of (clips ++ clip ∷ []) id ≡ Some (length clips)
 place_of-push_same [] clip id e same = rw (ap (λ i. is_same_id i clip.0) same ∙ same_ids.refl clip.0) refl
 place_of-push_same (first ∷ clips) clip id e same =
-    push_same_next first clips clip id same (is_same_id clip.0 first.0) refl (place_of clips clip.0) refl e (λ none. place_of-push_same clips clip id none same)
+    push_same_next first clips clip id same (is_same_id clip.0 first.0) refl (place_of clips clip.0) refl e
+    (λ none. place_of-push_same clips clip id none same)
   where
-    push_same_next : (first : ClipId × Timecode) (clips : List (ClipId × Timecode)) (clip : ClipId × Timecode) (id : ClipId) → id ≡ clip.0
+    push_same_next : (first : ClipId × Timecode) (clips : List (ClipId × Timecode)) (clip : ClipId × Timecode)
+        (id : ClipId) → id ≡ clip.0
         → (b : Bool) → is_same_id clip.0 first.0 ≡ b → (place : Option ℕ) → place_of clips clip.0 ≡ place
         → (if b then Some 0 else option_map suc place) ≡ None
         → (place_of clips clip.0 ≡ None → place_of (clips ++ clip ∷ []) id ≡ Some (length clips))
-        → (if is_same_id id first.0 then Some 0 else option_map suc (place_of (clips ++ clip ∷ []) id)) ≡ Some (suc (length clips))
+        → (if is_same_id id first.0 then Some 0 else option_map suc (place_of (clips ++ clip ∷ []) id))
+        ≡ Some (suc (length clips))
     push_same_next first clips clip id same true is place p e later = cc e
     push_same_next first clips clip id same false is None p e later =
         rw (ap (λ i. is_same_id i first.0) same ∙ is, later p) refl
@@ -116,7 +126,8 @@ place_of-push_same (first ∷ clips) clip id e same =
 abbrev here_or_later : Bool → Option ℕ → Option ℕ
 here_or_later b place = if b then Some 0 else option_map suc place
 
-pub place_of-push_other : ((a b : ClipId) → key_of a ≡ key_of b → a ≡ b) → (clips : List (ClipId × Timecode)) (clip : ClipId × Timecode) (id : ClipId)
+pub place_of-push_other : ((a b : ClipId) → key_of a ≡ key_of b → a ≡ b)
+    → (clips : List (ClipId × Timecode)) (clip : ClipId × Timecode) (id : ClipId)
     → id ≢ clip.0
     → place_of (clips ++ clip ∷ []) id ≡ place_of clips id
 place_of-push_other one [] clip id other = push_other_here (is_same_id id clip.0) refl
@@ -128,7 +139,8 @@ place_of-push_other one (first ∷ clips) clip id other =
     ap (here_or_later (is_same_id id first.0)) (place_of-push_other one clips clip id other)
 
 -- a clip of an ID has a place and a length, or neither
-pub known : (clips : List (ClipId × Timecode)) (id : ClipId) → is_some (place_of clips id) ≡ is_some (length_of clips id)
+pub known : (clips : List (ClipId × Timecode)) (id : ClipId)
+    → is_some (place_of clips id) ≡ is_some (length_of clips id)
 known [] id = refl
 known (clip ∷ clips) id = known_next (is_same_id id clip.0) refl (place_of clips id) refl (known clips id)
   where
@@ -143,7 +155,8 @@ pub none_of : {A : Type 0} (o : Option A) → is_some o ≡ false → o ≡ None
 none_of None e = refl
 none_of (Some x) e = cc e
 
-pub no_length : (clips : List (ClipId × Timecode)) (id : ClipId) → is_some (place_of clips id) ≡ false → length_of clips id ≡ None
+pub no_length : (clips : List (ClipId × Timecode)) (id : ClipId) → is_some (place_of clips id) ≡ false
+    → length_of clips id ≡ None
 no_length clips id e = none_of (length_of clips id) (sym (known clips id) ∙ e)
 
 at_equal : (a b : ℕ) → is_at (nat_cmp a) b ≡ true → a ≡ b
@@ -154,17 +167,23 @@ equal_at a b e = grind arith
 
 -- the places after one more clip, in the entries that a map has once they are written
 pub places_push : ((a b : ClipId) → key_of a ≡ key_of b → a ≡ b)
-    → (clips : List (ClipId × Timecode)) (clip : ClipId × Timecode) (m : BTreeMap ℕ ℕ) (written entries : List (ℕ × ℕ)) (key place : ℕ)
-    → ((id : ClipId) → get nat_cmp m (key_of id) ≡ place_of clips id) → key ≡ key_of clip.0 → place ≡ length clips → place_of clips clip.0 ≡ None
-    → ((other : ℕ) → lookup (is_at (nat_cmp other)) written ≡ cond (is_at (nat_cmp key) other) (Some place) (get nat_cmp m other))
+    → (clips : List (ClipId × Timecode)) (clip : ClipId × Timecode) (m : BTreeMap ℕ ℕ) (written entries : List (ℕ × ℕ))
+    (key place : ℕ)
+    → ((id : ClipId) → get nat_cmp m (key_of id) ≡ place_of clips id) → key ≡ key_of clip.0 → place ≡ length clips
+    → place_of clips clip.0 ≡ None
+    → ((other : ℕ) → lookup (is_at (nat_cmp other)) written
+    ≡ cond (is_at (nat_cmp key) other) (Some place) (get nat_cmp m other))
     → entries ≡ written
     → (id : ClipId) → lookup (is_at (nat_cmp (key_of id))) entries ≡ place_of (clips ++ clip ∷ []) id
-places_push one clips clip m written entries key place were is size new updates same id = push_at (is_at (nat_cmp key) (key_of id)) refl
+places_push one clips clip m written entries key place were is size new updates same id =
+    push_at (is_at (nat_cmp key) (key_of id)) refl
   where
-    here : lookup (is_at (nat_cmp (key_of id))) entries ≡ cond (is_at (nat_cmp key) (key_of id)) (Some place) (get nat_cmp m (key_of id))
+    here : lookup (is_at (nat_cmp (key_of id))) entries ≡ cond (is_at (nat_cmp key) (key_of id)) (Some place)
+        (get nat_cmp m (key_of id))
     here = ap (lookup (is_at (nat_cmp (key_of id)))) same ∙ updates (key_of id)
 
-    push_at : (b : Bool) → is_at (nat_cmp key) (key_of id) ≡ b → lookup (is_at (nat_cmp (key_of id))) entries ≡ place_of (clips ++ clip ∷ []) id
+    push_at : (b : Bool) → is_at (nat_cmp key) (key_of id) ≡ b
+        → lookup (is_at (nat_cmp (key_of id))) entries ≡ place_of (clips ++ clip ∷ []) id
     push_at true e =
         let same : id ≡ clip.0 = one id clip.0 (sym (at_equal key (key_of id) e) ∙ is) in
         here ∙ rw e (ap Some size) ∙ sym (place_of-push_same clips clip id new same)

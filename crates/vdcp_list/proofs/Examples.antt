@@ -24,14 +24,19 @@ second_clip = record { id = id_of_text (codes "CLIP0002"); part = None }
 
 abbrev first_part : Item
 first_part =
-    record { id = id_of_text (codes "CLIP0001"); part = Some (record { start = 0 ∷ 2 ∷ 0 ∷ 0 ∷ []; duration = 0 ∷ 3 ∷ 0 ∷ 0 ∷ [] }) }
+    record {
+      id = id_of_text (codes "CLIP0001");
+      part = Some
+          (record { start = 0 ∷ 2 ∷ 0 ∷ 0 ∷ []; duration = 0 ∷ 3 ∷ 0 ∷ 0 ∷ [] });
+    }
 
 -- their as-run texts
 asrun_of_whole_clips : asrun_text F25 (first_clip ∷ with_comma ∷ second_clip ∷ []) 2 ≡ codes "0,CLIP0001\n1,\"A,B\"\n"
 unfolding escaped fields_text is_blank digits
 asrun_of_whole_clips = refl
 
-asrun_with_a_part : asrun_text F25 (first_part ∷ second_clip ∷ []) 2 ≡ codes "0,CLIP0001,00:00:02:00,00:00:03:00\n1,CLIP0002,,\n"
+asrun_with_a_part : asrun_text F25 (first_part ∷ second_clip ∷ []) 2
+    ≡ codes "0,CLIP0001,00:00:02:00,00:00:03:00\n1,CLIP0002,,\n"
 unfolding escaped fields_text is_blank digits
 asrun_with_a_part = refl
 

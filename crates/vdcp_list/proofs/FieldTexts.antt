@@ -36,7 +36,8 @@ IsSame a b = (a ≡ b) ⊎ (a ≡ b → ⊥)
 heads : (x y : ℕ) (xs ys : List ℕ) → ◌≡◌ {A = List ℕ} (x ∷ xs) (y ∷ ys) → (x ≡ y) × (xs ≡ ys)
 heads x y xs ys e = (cc, cc)
 
-same_more : (x y : ℕ) (xs ys : List ℕ) → ((eqb x y ≡ true) × (x ≡ y)) ⊎ ((eqb x y ≡ false) × (x ≢ y)) → IsSame xs ys → IsSame (x ∷ xs) (y ∷ ys)
+same_more : (x y : ℕ) (xs ys : List ℕ) → ((eqb x y ≡ true) × (x ≡ y)) ⊎ ((eqb x y ≡ false) × (x ≢ y)) → IsSame xs ys
+    → IsSame (x ∷ xs) (y ∷ ys)
 same_more x y xs ys (inr (f, n)) s = inr (λ e. n (heads x y xs ys e).0)
 same_more x y xs ys (inl (t, e)) (inl s) = inl (ap₂ (λ (n : ℕ) (ns : List ℕ). n ∷ ns) e s)
 same_more x y xs ys (inl (t, e)) (inr n) = inr (λ h. n (heads x y xs ys h).1)
@@ -58,7 +59,8 @@ id_or_none v text = by (same_text text (text_of_id (id_of_text text)))
     by : IsSame text (text_of_id (id_of_text text)) → IsIds text
     by (inl e) = inl (id_of_text text, e)
     by (inr n) =
-        inr (λ id e. n (e ∙ ap (λ (i : ClipId). text_of_id i) (sym (v.says id text (subst (λ t. IsTextOf t (id_bytes id)) (sym e) (v.some id))))))
+        inr (λ id e. n (e ∙ ap (λ (i : ClipId). text_of_id i)
+        (sym (v.says id text (subst (λ t. IsTextOf t (id_bytes id)) (sym e) (v.some id))))))
 
 -- a text is a time code's, or none's
 
@@ -77,23 +79,27 @@ digits_are tens units = omega arith
 digits_of : (n : ℕ) → digits (48 + n / 10) (48 + n % 10) ≡ bcd_byte n
 digits_of n = digits_are (n / 10) (n % 10)
 
-four : (a b c d p q r s : ℕ) → a ≡ p → b ≡ q → c ≡ r → d ≡ s → ◌≡◌ {A = List ℕ} (a ∷ b ∷ c ∷ d ∷ []) (p ∷ q ∷ r ∷ s ∷ [])
+four : (a b c d p q r s : ℕ) → a ≡ p → b ≡ q → c ≡ r → d ≡ s
+    → ◌≡◌ {A = List ℕ} (a ∷ b ∷ c ∷ d ∷ []) (p ∷ q ∷ r ∷ s ∷ [])
 four a b c d p q r s e f g h = rw (e, f, g, h) refl
 
 bytes_of_label : (rate : Rate) (label : Label) → bytes_in (label_text rate label) ≡ bcd_of_label label
 unfolding bytes_in
 bytes_of_label rate label =
-    four _ _ _ _ _ _ _ _ (digits_of label.frames) (digits_of label.seconds) (digits_of label.minutes) (digits_of label.hours)
+    four _ _ _ _ _ _ _ _ (digits_of label.frames) (digits_of label.seconds) (digits_of label.minutes)
+    (digits_of label.hours)
 
 own_bytes : (time : Timecode) (text : List ℕ) → text ≡ text_of time → bytes_in text ≡ bcd_of time
 own_bytes time text e = ap bytes_in e ∙ bytes_of_label (rate_of time) (label_of time)
 
 abbrev pub IsTimes : Rate → List ℕ → Type 0
 IsTimes rate text =
-    ((time : Timecode) × (rate_of time ≡ rate) × (text ≡ text_of time)) ⊎ ((time : Timecode) → rate_of time ≡ rate → text ≢ text_of time)
+    ((time : Timecode) × (rate_of time ≡ rate) × (text ≡ text_of time))
+    ⊎ ((time : Timecode) → rate_of time ≡ rate → text ≢ text_of time)
 
 pub time_or_none : TimeLaws → (rate : Rate) (text : List ℕ) → IsTimes rate text
-time_or_none v rate text = by (either (are_bytes 4 (bytes_in text))) (either (is_time rate (bytes_in text))) (same_text text (time_text rate (bytes_in text)))
+time_or_none v rate text = by (either (are_bytes 4 (bytes_in text))) (either (is_time rate (bytes_in text)))
+    (same_text text (time_text rate (bytes_in text)))
   where
     by : ((are_bytes 4 (bytes_in text) ≡ true) ⊎ (are_bytes 4 (bytes_in text) ≡ false))
         → ((is_time rate (bytes_in text) ≡ true) ⊎ (is_time rate (bytes_in text) ≡ false))
@@ -101,11 +107,14 @@ time_or_none v rate text = by (either (are_bytes 4 (bytes_in text))) (either (is
     by (inl of_bytes) (inl lawful) (inl e) =
         let t = time_of v rate (bytes_in text) of_bytes lawful in inl (t.time, t.same_rate, e ∙ sym t.text)
     by (inl of_bytes) (inl lawful) (inr n) =
-        inr (λ time r e. n (e ∙ sym (own_text v.label rate time r) ∙ ap (λ bytes. time_text rate bytes) (sym (own_bytes time text e))))
+        inr (λ time r e. n (e ∙ sym (own_text v.label rate time r)
+        ∙ ap (λ bytes. time_text rate bytes) (sym (own_bytes time text e))))
     by (inl of_bytes) (inr unlawful) s =
-        inr (λ time r e. true≢false (sym (own_is_lawful v rate time r) ∙ ap (λ bytes. is_time rate bytes) (sym (own_bytes time text e)) ∙ unlawful))
+        inr (λ time r e. true≢false (sym (own_is_lawful v rate time r)
+        ∙ ap (λ bytes. is_time rate bytes) (sym (own_bytes time text e)) ∙ unlawful))
     by (inr others) l s =
-        inr (λ time r e. true≢false (sym (v.four time) ∙ ap (λ bytes. are_bytes 4 bytes) (sym (own_bytes time text e)) ∙ others))
+        inr (λ time r e. true≢false (sym (v.four time) ∙ ap (λ bytes. are_bytes 4 bytes) (sym (own_bytes time text e))
+        ∙ others))
 
 pub none_or_some : (n : ℕ) → (n ≡ 0) ⊎ (1 ≤ n)
 none_or_some zero = inl refl
@@ -118,10 +127,13 @@ IsParts rate start duration =
     ((part : Option Part) × (part_fields rate part ≡ start ∷ duration ∷ []) × CanName rate true part)
     ⊎ ((part : Option Part) → CanName rate true part → part_fields rate part ≢ start ∷ duration ∷ [])
 
-part_of : FieldLaws → (rate : Rate) (start duration : List ℕ) → (start ≡ [] → duration ≡ [] → ⊥) → IsTimes rate start → IsTimes rate duration
+part_of : FieldLaws → (rate : Rate) (start duration : List ℕ) → (start ≡ [] → duration ≡ [] → ⊥) → IsTimes rate start
+    → IsTimes rate duration
     → IsParts rate start duration
-part_of v rate start duration some (inr n) d = inr (no_part v.times rate start duration some (λ s d rs rd ts td f. n s rs (sym ts)))
-part_of v rate start duration some (inl s) (inr n) = inr (no_part v.times rate start duration some (λ s d rs rd ts td f. n d rd (sym td)))
+part_of v rate start duration some (inr n) d =
+    inr (no_part v.times rate start duration some (λ s d rs rd ts td f. n s rs (sym ts)))
+part_of v rate start duration some (inl s) (inr n) = inr
+    (no_part v.times rate start duration some (λ s d rs rd ts td f. n d rd (sym td)))
 part_of v rate start duration some (inl (s, rs, ts)) (inl (d, rd, td)) = by (none_or_some (frames_of d))
   where
     by : (frames_of d ≡ 0) ⊎ (1 ≤ frames_of d) → IsParts rate start duration
@@ -135,6 +147,8 @@ part_of v rate start duration some (inl (s, rs, ts)) (inl (d, rd, td)) = by (non
 pub part_or_none : FieldLaws → (rate : Rate) (start duration : List ℕ) → IsParts rate start duration
 part_or_none v rate [] [] = inl (None, refl, tt)
 part_or_none v rate [] (byte ∷ more) =
-    part_of v rate [] (byte ∷ more) (λ s d. cc d) (time_or_none v.times rate []) (time_or_none v.times rate (byte ∷ more))
+    part_of v rate [] (byte ∷ more) (λ s d. cc d) (time_or_none v.times rate [])
+    (time_or_none v.times rate (byte ∷ more))
 part_or_none v rate (byte ∷ more) duration =
-    part_of v rate (byte ∷ more) duration (λ s d. cc s) (time_or_none v.times rate (byte ∷ more)) (time_or_none v.times rate duration)
+    part_of v rate (byte ∷ more) duration (λ s d. cc s) (time_or_none v.times rate (byte ∷ more))
+    (time_or_none v.times rate duration)

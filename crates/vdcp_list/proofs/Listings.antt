@@ -16,7 +16,8 @@ use Rattle.vdcp_value.specs.declared.clip_id.ClipId.{ClipId}
 use Rattle.vdcp_value.specs.declared.part.Item.{Item}
 use Rattle.vdcp_value.specs.declared.part.Part.{Part}
 
-slice_range-middle : (before middle after : List ℕ) → slice_range (before ++ (middle ++ after)) (length before) (length before + length middle) ≡ middle
+slice_range-middle : (before middle after : List ℕ) → slice_range (before ++ (middle ++ after)) (length before)
+    (length before + length middle) ≡ middle
 slice_range-middle before middle after =
     let size : length before + length middle - length before ≡ length middle = omega arith in
     ap₂ take size (drop-append_seam before (middle ++ after)) ∙ take-append_seam middle after
@@ -27,34 +28,43 @@ items_from-all : TextLaws → (before : List ℕ) (items : List Item)
 items_from-all t before [] = refl
 items_from-all t before (item ∷ items) =
     let text = text_of_id item.id in
-    let id : id_of_text (slice_range (before ++ (text ++ ids_text items)) (length before) (length before + length text)) ≡ item.id =
-    ap id_of_text (slice_range-middle before text (ids_text items)) ∙ t.says item.id (text_of_id item.id) (t.some item.id) in
-    let rest : items_from (length before + length text) (before ++ (text ++ ids_text items)) (ends_from (length before + length text) items)
+    let id : id_of_text (slice_range (before ++ (text ++ ids_text items)) (length before) (length before + length text))
+    ≡ item.id =
+    ap id_of_text (slice_range-middle before text (ids_text items))
+    ∙ t.says item.id (text_of_id item.id) (t.some item.id) in
+    let rest : items_from (length before + length text) (before ++ (text ++ ids_text items))
+    (ends_from (length before + length text) items)
     (parts_of items) ≡ items =
-    subst (λ n. items_from n (before ++ (text ++ ids_text items)) (ends_from n items) (parts_of items) ≡ items) (length-append before text)
-    (subst (λ all. items_from (length (before ++ text)) all (ends_from (length (before ++ text)) items) (parts_of items) ≡ items)
+    subst (λ n. items_from n (before ++ (text ++ ids_text items)) (ends_from n items) (parts_of items) ≡ items)
+    (length-append before text)
+    (subst (λ all. items_from (length (before ++ text)) all (ends_from (length (before ++ text)) items) (parts_of items)
+    ≡ items)
     (append_assoc before text (ids_text items))
     (items_from-all t (before ++ text) items)) in
     ap₂ (λ i is. record { id = i; part = item.part } ∷ is) id rest
 
-pub items_from-of : TextLaws → (items : List Item) → items_from 0 (ids_text items) (ends_from 0 items) (parts_of items) ≡ items
+pub items_from-of : TextLaws → (items : List Item) → items_from 0 (ids_text items) (ends_from 0 items) (parts_of items)
+    ≡ items
 items_from-of t items = items_from-all t [] items
 
 -- one more item
 ids_text-push : (items : List Item) (item : Item) → ids_text (items ++ item ∷ []) ≡ ids_text items ++ text_of_id item.id
 ids_text-push [] item = append-nil (text_of_id item.id)
 ids_text-push (first ∷ items) item =
-    ap (λ t. text_of_id first.id ++ t) (ids_text-push items item) ∙ sym (append_assoc (text_of_id first.id) (ids_text items) (text_of_id item.id))
+    ap (λ t. text_of_id first.id ++ t) (ids_text-push items item)
+    ∙ sym (append_assoc (text_of_id first.id) (ids_text items) (text_of_id item.id))
 
 ends_from-push : (start : ℕ) (items : List Item) (item : Item)
-    → ends_from start (items ++ item ∷ []) ≡ ends_from start items ++ (start + length (ids_text items ++ text_of_id item.id)) ∷ []
+    → ends_from start (items ++ item ∷ []) ≡ ends_from start items
+    ++ (start + length (ids_text items ++ text_of_id item.id)) ∷ []
 ends_from-push start [] item = refl
 ends_from-push start (first ∷ items) item =
     let t = text_of_id first.id in
     let u = ids_text items ++ text_of_id item.id in
     let size : (start + length t) + length u ≡ start + length ((t ++ ids_text items) ++ text_of_id item.id) =
     omega (arith, length-append t u, ap length (append_assoc t (ids_text items) (text_of_id item.id))) in
-    ap (λ ends. (start + length t) ∷ ends) (ends_from-push (start + length t) items item ∙ ap (λ n. ends_from (start + length t) items ++ n ∷ []) size)
+    ap (λ ends. (start + length t) ∷ ends) (ends_from-push (start + length t) items item
+    ∙ ap (λ n. ends_from (start + length t) items ++ n ∷ []) size)
 
 parts_of-push : (items : List Item) (item : Item) → parts_of (items ++ item ∷ []) ≡ parts_of items ++ item.part ∷ []
 parts_of-push [] item = refl
@@ -66,7 +76,8 @@ parts_of-items_from : (start : ℕ) (text ends : List ℕ) (parts : List (Option
 parts_of-items_from start text [] [] e = refl
 parts_of-items_from start text [] (part ∷ parts) e = absurd (omega (arith, e))
 parts_of-items_from start text (end ∷ ends) [] e = absurd (omega (arith, e))
-parts_of-items_from start text (end ∷ ends) (part ∷ parts) e = ap (λ ps. part ∷ ps) (parts_of-items_from end text ends parts (omega (arith, e)))
+parts_of-items_from start text (end ∷ ends) (part ∷ parts) e =
+    ap (λ ps. part ∷ ps) (parts_of-items_from end text ends parts (omega (arith, e)))
 
 -- what three fields hold of these items
 pub record Holds (text ends : List ℕ) (parts : List (Option Part)) (items : List Item) : Type 0 where
@@ -74,12 +85,15 @@ pub record Holds (text ends : List ℕ) (parts : List (Option Part)) (items : Li
   pub ends_are : ends ≡ ends_from 0 items
   pub parts_are : parts ≡ parts_of items
 
-pub holds_read : TextLaws → (text ends : List ℕ) (parts : List (Option Part)) (items : List Item) → Holds text ends parts items
+pub holds_read : TextLaws → (text ends : List ℕ) (parts : List (Option Part)) (items : List Item)
+    → Holds text ends parts items
     → items_from 0 text ends parts ≡ items
 holds_read t text ends parts items h = rw (h.text_is, h.ends_are, h.parts_are) (items_from-of t items)
 
-pub holds_push : (text ends : List ℕ) (parts : List (Option Part)) (items : List Item) (item : Item) → Holds text ends parts items
-    → Holds (text ++ text_of_id item.id) (ends ++ length (text ++ text_of_id item.id) ∷ []) (parts ++ item.part ∷ []) (items ++ item ∷ [])
+pub holds_push : (text ends : List ℕ) (parts : List (Option Part)) (items : List Item) (item : Item)
+    → Holds text ends parts items
+    → Holds (text ++ text_of_id item.id) (ends ++ length (text ++ text_of_id item.id) ∷ []) (parts ++ item.part ∷ [])
+    (items ++ item ∷ [])
 holds_push text ends parts items item h = record {
   text_is = ap (λ t. t ++ text_of_id item.id) h.text_is ∙ sym (ids_text-push items item);
   ends_are =
@@ -106,7 +120,8 @@ pub record Piece (first : ℕ) (text ends : List ℕ) (k : ℕ) (piece : List �
   pub within : slice_index ends k ≤ length text
   pub is : slice_range text (start_at first ends k) (slice_index ends k) ≡ piece
 
-piece_next : (first end : ℕ) (text ends : List ℕ) (k : ℕ) (piece : List ℕ) → Piece end text ends k piece → Piece first text (end ∷ ends) (suc k) piece
+piece_next : (first end : ℕ) (text ends : List ℕ) (k : ℕ) (piece : List ℕ) → Piece end text ends k piece
+    → Piece first text (end ∷ ends) (suc k) piece
 piece_next first end text ends zero piece h = record { ordered = h.ordered; within = h.within; is = h.is }
 piece_next first end text ends (suc k) piece h = record { ordered = h.ordered; within = h.within; is = h.is }
 
@@ -121,13 +136,16 @@ pieces (first ∷ items) before zero item e =
     record {
       ordered = omega arith;
       within = omega (arith, length-append before (text ++ ids_text items), length-append text (ids_text items));
-      is = slice_range-middle before text (ids_text items) ∙ ap (λ (i : Item). text_of_id i.id) (some_item first item e);
+      is = slice_range-middle before text (ids_text items)
+          ∙ ap (λ (i : Item). text_of_id i.id) (some_item first item e);
     }
 pieces (first ∷ items) before (suc k) item e =
     let text = text_of_id first.id in
-    piece_next (length before) (length before + length text) (before ++ (text ++ ids_text items)) (ends_from (length before + length text) items) k
+    piece_next (length before) (length before + length text) (before ++ (text ++ ids_text items))
+    (ends_from (length before + length text) items) k
     (text_of_id item.id)
-    (subst (λ n. Piece n (before ++ (text ++ ids_text items)) (ends_from n items) k (text_of_id item.id)) (length-append before text)
+    (subst (λ n. Piece n (before ++ (text ++ ids_text items)) (ends_from n items) k (text_of_id item.id))
+    (length-append before text)
     (subst (λ t. Piece (length (before ++ text)) t (ends_from (length (before ++ text)) items) k (text_of_id item.id))
     (append_assoc before text (ids_text items))
     (pieces items (before ++ text) k item e)))
@@ -137,12 +155,14 @@ pub piece_of : (list : Playlist) (k : ℕ) (item : Item) → slice_get (items_of
 piece_of list k item e =
     let h = held list in
     subst (λ t. Piece 0 t list.ends.items k (text_of_id item.id)) (sym h.text_is)
-    (subst (λ es. Piece 0 (ids_text (items_of list)) es k (text_of_id item.id)) (sym h.ends_are) (pieces (items_of list) [] k item e))
+    (subst (λ es. Piece 0 (ids_text (items_of list)) es k (text_of_id item.id)) (sym h.ends_are)
+    (pieces (items_of list) [] k item e))
 
 -- all texts together are ascii
 ascii_ids : ((id : ClipId) → IsAscii (text_of_id id)) → (items : List Item) → IsAscii (ids_text items)
 ascii_ids ascii [] = λ k. omega arith
-ascii_ids ascii (item ∷ items) = IsAscii-append (text_of_id item.id) (ids_text items) (ascii item.id) (ascii_ids ascii items)
+ascii_ids ascii (item ∷ items) = IsAscii-append (text_of_id item.id) (ids_text items) (ascii item.id)
+    (ascii_ids ascii items)
 
 pub ascii_text : ((id : ClipId) → IsAscii (text_of_id id)) → (list : Playlist) → IsAscii (string_bytes list.text)
 ascii_text ascii list = subst IsAscii (sym list.text_is) (ascii_ids ascii (items_of list))
@@ -156,7 +176,8 @@ pub record Pushed (list : Playlist) (item : Item) (text ends : List ℕ) (parts 
   pub ends_are : ends ≡ list.ends.items ++ length text ∷ []
   pub parts_are : parts ≡ list.parts.items ++ item.part ∷ []
 
-pub held_pushed : (list : Playlist) (item : Item) (text ends : List ℕ) (parts : List (Option Part)) → Pushed list item text ends parts
+pub held_pushed : (list : Playlist) (item : Item) (text ends : List ℕ) (parts : List (Option Part))
+    → Pushed list item text ends parts
     → Holds text ends parts (items_of list ++ item ∷ [])
 held_pushed list item text ends parts p =
     subst (λ t. Holds t ends parts (items_of list ++ item ∷ [])) (sym p.text_is)
@@ -168,11 +189,14 @@ held_pushed list item text ends parts p =
     (holds_push (string_bytes list.text) list.ends.items list.parts.items (items_of list) item (held list))))
 
 -- they read as the items and the pushed one
-pub pushed_items : TextLaws → (list : Playlist) (item : Item) (text ends : List ℕ) (parts : List (Option Part)) → Pushed list item text ends parts
+pub pushed_items : TextLaws → (list : Playlist) (item : Item) (text ends : List ℕ) (parts : List (Option Part))
+    → Pushed list item text ends parts
     → items_from 0 text ends parts ≡ items_of list ++ item ∷ []
-pushed_items t list item text ends parts p = holds_read t text ends parts (items_of list ++ item ∷ []) (held_pushed list item text ends parts p)
+pushed_items t list item text ends parts p = holds_read t text ends parts (items_of list ++ item ∷ [])
+    (held_pushed list item text ends parts p)
 
-all_pushed : (parts : List (Option Part)) (part : Option Part) → list_all part_is_of_bytes parts ≡ true → part_is_of_bytes part ≡ true
+all_pushed : (parts : List (Option Part)) (part : Option Part) → list_all part_is_of_bytes parts ≡ true
+    → part_is_of_bytes part ≡ true
     → list_all part_is_of_bytes (parts ++ part ∷ []) ≡ true
 all_pushed [] part e h = rw h refl
 all_pushed (first ∷ parts) part e h =
@@ -186,7 +210,8 @@ pub record Keeps (text ends : List ℕ) (parts : List (Option Part)) : Type 0 wh
   pub beside : length parts ≡ length ends
   pub of_bytes : list_all part_is_of_bytes parts ≡ true
 
-pub pushed_keeps : TextLaws → (list : Playlist) (item : Item) (text ends : List ℕ) (parts : List (Option Part)) → Pushed list item text ends parts
+pub pushed_keeps : TextLaws → (list : Playlist) (item : Item) (text ends : List ℕ) (parts : List (Option Part))
+    → Pushed list item text ends parts
     → part_is_of_bytes item.part ≡ true → Keeps text ends parts
 pushed_keeps t list item text ends parts p bytes =
     let h = held_pushed list item text ends parts p in
@@ -203,7 +228,8 @@ pushed_keeps t list item text ends parts p bytes =
             length-append list.parts.items (item.part ∷ []),
             length-append list.ends.items (length text ∷ []),
           );
-      of_bytes = subst (λ ps. list_all part_is_of_bytes ps ≡ true) (sym p.parts_are) (all_pushed list.parts.items item.part list.of_bytes bytes);
+      of_bytes = subst (λ ps. list_all part_is_of_bytes ps ≡ true) (sym p.parts_are)
+          (all_pushed list.parts.items item.part list.of_bytes bytes);
     }
 
 -- there is an item at each place
@@ -212,7 +238,8 @@ some_at [] k below = absurd (omega (arith, below))
 some_at (item ∷ items) zero below = (item, refl)
 some_at (item ∷ items) (suc k) below = some_at items k (omega (arith, below))
 
-parts_at : (items : List Item) (k : ℕ) (item : Item) (part : Option Part) → slice_get items k ≡ Some item → get_or (parts_of items) k part ≡ item.part
+parts_at : (items : List Item) (k : ℕ) (item : Item) (part : Option Part) → slice_get items k ≡ Some item
+    → get_or (parts_of items) k part ≡ item.part
 parts_at [] k item part e = cc e
 parts_at (first ∷ items) zero item part e = ap (λ (i : Item). i.part) (some_item first item e)
 parts_at (first ∷ items) (suc k) item part e = parts_at items k item part e
@@ -220,7 +247,8 @@ parts_at (first ∷ items) (suc k) item part e = parts_at items k item part e
 -- and its part stands beside it
 pub part_at : (list : Playlist) (k : ℕ) (item : Item) (part : Option Part) → slice_get (items_of list) k ≡ Some item
     → part ≡ get_or list.parts.items k part → part ≡ item.part
-part_at list k item part e h = h ∙ ap (λ ps. get_or ps k part) (held list).parts_are ∙ parts_at (items_of list) k item part e
+part_at list k item part e h = h ∙ ap (λ ps. get_or ps k part) (held list).parts_are
+    ∙ parts_at (items_of list) k item part e
 
 -- the text of the ID at a place, cut out of all
 pub record Cut (list : Playlist) (k start end : ℕ) : Type 0 where

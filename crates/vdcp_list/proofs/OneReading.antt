@@ -32,7 +32,8 @@ pub record OneText : Type 0 where
 
 -- ---- one list
 
-one_bytes : OneText → (rate : Rate) (a b : List ℕ) → AreBytes 4 a → AreBytes 4 b → is_time rate a ≡ true → is_time rate b ≡ true
+one_bytes : OneText → (rate : Rate) (a b : List ℕ) → AreBytes 4 a → AreBytes 4 b → is_time rate a ≡ true
+    → is_time rate b ≡ true
     → time_text rate a ≡ time_text rate b → a ≡ b
 one_bytes v rate a b p q l m e =
     let s = time_of v.times rate a p l in
@@ -40,7 +41,8 @@ one_bytes v rate a b p q l m e =
     let same = v.one_time s.time t.time (s.same_rate ∙ sym t.same_rate) (s.text ∙ e ∙ sym t.text) in
     sym s.bytes_are ∙ ap (λ (x : Timecode). bcd_of x) same ∙ t.bytes_are
 
-not_empty : OneText → (rate : Rate) (bytes : List ℕ) → AreBytes 4 bytes → is_time rate bytes ≡ true → time_text rate bytes ≡ [] → ⊥
+not_empty : OneText → (rate : Rate) (bytes : List ℕ) → AreBytes 4 bytes → is_time rate bytes ≡ true
+    → time_text rate bytes ≡ [] → ⊥
 not_empty v rate bytes p l e =
     let t = time_of v.times rate bytes p l in
     let none : length (text_of t.time) ≡ 0 = ap length (t.text ∙ e) in
@@ -56,7 +58,8 @@ lawful_both rate part with_parts can = (and-eq-true_iff (is_time rate part.start
 abbrev part_with : List ℕ → List ℕ → Option Part
 part_with start duration = Some (record { start = start; duration = duration })
 
-one_part : OneText → (rate : Rate) (p q : Option Part) → CanName rate true p → CanName rate true q → part_fields rate p ≡ part_fields rate q → p ≡ q
+one_part : OneText → (rate : Rate) (p q : Option Part) → CanName rate true p → CanName rate true q
+    → part_fields rate p ≡ part_fields rate q → p ≡ q
 one_part v rate None None cp cq e = refl
 one_part v rate None (Some q) cp cq e =
     let h = two_of [] [] (time_text rate q.start) (time_text rate q.duration) e in
@@ -65,7 +68,8 @@ one_part v rate (Some p) None cp cq e =
     let h = two_of (time_text rate p.start) (time_text rate p.duration) [] [] e in
     absurd (not_empty v rate p.start cp.1.0 (lawful_both rate p true cp).0 h.0)
 one_part v rate (Some p) (Some q) cp cq e =
-    let h = two_of (time_text rate p.start) (time_text rate p.duration) (time_text rate q.start) (time_text rate q.duration) e in
+    let h = two_of (time_text rate p.start) (time_text rate p.duration) (time_text rate q.start)
+    (time_text rate q.duration) e in
     let lp = lawful_both rate p true cp in
     let lq = lawful_both rate q true cq in
     let start = one_bytes v rate p.start q.start cp.1.0 cq.1.0 lp.0 lq.0 h.0 in
@@ -78,9 +82,12 @@ first_field a b row other e = (cc, cc)
 abbrev item_with : ClipId → Option Part → Item
 item_with id part = record { id = id; part = part }
 
-one_item : OneText → (rate : Rate) (with_parts : Bool) (i j : ClipId) (p q : Option Part) → CanName rate with_parts p → CanName rate with_parts q
-    → item_row rate with_parts (item_with i p) ≡ item_row rate with_parts (item_with j q) → item_with i p ≡ item_with j q
-one_item v rate false i j None None cp cq e = ap (λ id. item_with id None) (v.one_id i j (first_field (text_of_id i) (text_of_id j) [] [] e).0)
+one_item : OneText → (rate : Rate) (with_parts : Bool) (i j : ClipId) (p q : Option Part) → CanName rate with_parts p
+    → CanName rate with_parts q
+    → item_row rate with_parts (item_with i p) ≡ item_row rate with_parts (item_with j q)
+    → item_with i p ≡ item_with j q
+one_item v rate false i j None None cp cq e = ap (λ id. item_with id None)
+    (v.one_id i j (first_field (text_of_id i) (text_of_id j) [] [] e).0)
 one_item v rate false i j None (Some q) cp cq e = absurd (true≢false (sym cq.0))
 one_item v rate false i j (Some p) q cp cq e = absurd (true≢false (sym cp.0))
 one_item v rate true i j p q cp cq e =
@@ -90,10 +97,12 @@ one_item v rate true i j p q cp cq e =
 abbrev AllNamed : Rate → Bool → List Item → Type 0
 AllNamed rate with_parts items = All (λ (item : Item). CanName rate with_parts item.part) items
 
-first_row : (a b : FileRow) (rows others : List FileRow) → ◌≡◌ {A = List FileRow} (a ∷ rows) (b ∷ others) → (a ≡ b) × (rows ≡ others)
+first_row : (a b : FileRow) (rows others : List FileRow) → ◌≡◌ {A = List FileRow} (a ∷ rows) (b ∷ others)
+    → (a ≡ b) × (rows ≡ others)
 first_row a b rows others e = (cc, cc)
 
-same_items : OneText → (rate : Rate) (with_parts : Bool) (a b : List Item) → AllNamed rate with_parts a → AllNamed rate with_parts b
+same_items : OneText → (rate : Rate) (with_parts : Bool) (a b : List Item) → AllNamed rate with_parts a
+    → AllNamed rate with_parts b
     → map (item_row rate with_parts) a ≡ map (item_row rate with_parts) b → a ≡ b
 same_items v rate w [] [] p q e = refl
 same_items v rate w [] (y ∷ ys) p q e = cc e
@@ -103,11 +112,14 @@ same_items v rate w (x ∷ xs) (y ∷ ys) p q e =
     ap₂ (λ (i : Item) (is : List Item). i ∷ is)
     (one_item v rate w x.id y.id x.part y.part (All-head (λ (i : Item). CanName rate w i.part) x xs p)
     (All-head (λ (i : Item). CanName rate w i.part) y ys q) h.0)
-    (same_items v rate w xs ys (All-tail (λ (i : Item). CanName rate w i.part) x xs p) (All-tail (λ (i : Item). CanName rate w i.part) y ys q) h.1)
+    (same_items v rate w xs ys (All-tail (λ (i : Item). CanName rate w i.part) x xs p)
+    (All-tail (λ (i : Item). CanName rate w i.part) y ys q) h.1)
 
-pub one_list : OneText → (rate : Rate) (rows : List FileRow) (a b : List Item) → IsPlaylist rate rows a → IsPlaylist rate rows b → a ≡ b
+pub one_list : OneText → (rate : Rate) (rows : List FileRow) (a b : List Item) → IsPlaylist rate rows a
+    → IsPlaylist rate rows b → a ≡ b
 one_list v rate rows a b h g =
-    same_items v rate (has_parts (columns_of rows)) a b h.named.can_name g.named.can_name (sym h.named.rows_are ∙ g.named.rows_are)
+    same_items v rate (has_parts (columns_of rows)) a b h.named.can_name g.named.can_name
+    (sym h.named.rows_are ∙ g.named.rows_are)
 
 -- ---- a row that names an item isn't refused
 
@@ -116,7 +128,8 @@ record NamedAt (rate : Rate) (with_parts : Bool) (row : FileRow) : Type 0 where
   pub can : CanName rate with_parts item.part
   pub row_is : item_row rate with_parts item ≡ row
 
-named_at : (rate : Rate) (w : Bool) (rows : List FileRow) (n i : ℕ) (items : List Item) (row : FileRow) → take n rows ≡ map (item_row rate w) items
+named_at : (rate : Rate) (w : Bool) (rows : List FileRow) (n i : ℕ) (items : List Item) (row : FileRow)
+    → take n rows ≡ map (item_row rate w) items
     → AllNamed rate w items → i < n → slice_get rows i ≡ Some row → NamedAt rate w row
 named_at rate w [] n i items row are can below e = cc e
 named_at rate w (first ∷ rows) zero i items row are can below e = absurd (omega (arith, below))
@@ -126,23 +139,28 @@ named_at rate w (first ∷ rows) (suc n) zero (item ∷ items) row are can below
     let same : first ≡ row = cc e in
     record { item = item; can = All-head (λ (i : Item). CanName rate w i.part) item items can; row_is = sym h.0 ∙ same }
 named_at rate w (first ∷ rows) (suc n) (suc i) (item ∷ items) row are can below e =
-    named_at rate w rows n i items row (first_row first (item_row rate w item) (take n rows) (map (item_row rate w) items) are).1
+    named_at rate w rows n i items row (first_row first (item_row rate w item) (take n rows)
+    (map (item_row rate w) items) are).1
     (All-tail (λ (i : Item). CanName rate w i.part) item items can) (omega (arith, below)) e
 
-row_size : (rate : Rate) (w : Bool) (id : ClipId) (part : Option Part) → length (item_row rate w (item_with id part)) ≡ cond w 3 1
+row_size : (rate : Rate) (w : Bool) (id : ClipId) (part : Option Part)
+    → length (item_row rate w (item_with id part)) ≡ cond w 3 1
 row_size rate false id part = refl
 row_size rate true id None = refl
 row_size rate true id (Some part) = refl
 
-first_size : (rate : Rate) (w : Bool) (rows : List FileRow) (n i : ℕ) (items : List Item) (row : FileRow) → take n rows ≡ map (item_row rate w) items
+first_size : (rate : Rate) (w : Bool) (rows : List FileRow) (n i : ℕ) (items : List Item) (row : FileRow)
+    → take n rows ≡ map (item_row rate w) items
     → i < n → slice_get rows i ≡ Some row → columns_of rows ≡ cond w 3 1
 first_size rate w [] n i items row are below e = cc e
 first_size rate w (first ∷ rows) zero i items row are below e = absurd (omega (arith, below))
 first_size rate w (first ∷ rows) (suc n) i [] row are below e = cc are
 first_size rate w (first ∷ rows) (suc n) i (item ∷ items) row are below e =
-    ap length (first_row first (item_row rate w item) (take n rows) (map (item_row rate w) items) are).0 ∙ row_size rate w item.id item.part
+    ap length (first_row first (item_row rate w item) (take n rows) (map (item_row rate w) items) are).0
+    ∙ row_size rate w item.id item.part
 
-fits : (w : Bool) (columns : ℕ) (row : FileRow) → length row ≡ cond w 3 1 → columns ≡ cond w 3 1 → is_of_columns columns row ≡ true
+fits : (w : Bool) (columns : ℕ) (row : FileRow) → length row ≡ cond w 3 1 → columns ≡ cond w 3 1
+    → is_of_columns columns row ≡ true
 fits true columns row size e = rw (size, e) refl
 fits false columns row size e = rw (size, e) refl
 
@@ -192,13 +210,15 @@ record HasOneMore (rate : Rate) (rows : List FileRow) (fault : ListFault) : Type
 abbrev Stands : Rate → List FileRow → ListFault → Type 0
 Stands rate rows fault = ((k : ℕ) × RefusesRow rate rows k fault) ⊎ HasOneMore rate rows fault
 
-stands : (rate : Rate) (rows : List FileRow) (fault : ListFault) → IsPlaylistFault rate rows fault → (IsReadFault fault → ⊥) → Stands rate rows fault
+stands : (rate : Rate) (rows : List FileRow) (fault : ListFault) → IsPlaylistFault rate rows fault
+    → (IsReadFault fault → ⊥) → Stands rate rows fault
 stands rate rows (Columns k) h other = inl (k, h)
 stands rate rows (Id k) h other = inl (k, h)
 stands rate rows (Time k) h other = inl (k, h)
 stands rate rows (Twice k) h other = absurd h
 stands rate rows (TooMany k) h other =
-    let (e, many, items, named) = h in inr (record { fault_is = ap TooMany e; many = many; items = items; named = named })
+    let (e, many, items, named) = h in
+    inr (record { fault_is = ap TooMany e; many = many; items = items; named = named })
 stands rate rows Memory h other = absurd (other tt)
 stands rate rows Read h other = absurd (other tt)
 
@@ -206,7 +226,8 @@ one_row : (a b : FileRow) (o : Option FileRow) → o ≡ Some a → o ≡ Some b
 one_row a b o e h = let same : ◌≡◌ {A = Option FileRow} (Some a) (Some b) = sym e ∙ h in cc same
 
 -- of one row
-same_fault : (rate : Rate) (columns k : ℕ) (row : FileRow) (a b : ListFault) → IsItemFault rate columns row k a → IsItemFault rate columns row k b → a ≡ b
+same_fault : (rate : Rate) (columns k : ℕ) (row : FileRow) (a b : ListFault) → IsItemFault rate columns row k a
+    → IsItemFault rate columns row k b → a ≡ b
 same_fault rate columns k row (Columns i) (Columns j) f g = ap Columns (f.0 ∙ sym g.0)
 same_fault rate columns k row (Columns i) (Id j) f g = absurd (true≢false (sym g.1 ∙ f.1))
 same_fault rate columns k row (Columns i) (Time j) f g = absurd (true≢false (sym g.1 ∙ f.1))
@@ -225,7 +246,8 @@ same_fault rate columns k row (TooMany i) b f g = absurd f
 same_fault rate columns k row Memory b f g = absurd f
 same_fault rate columns k row Read b f g = absurd f
 
-earlier : (rate : Rate) (rows : List FileRow) (j k : ℕ) (a b : ListFault) → RefusesRow rate rows j a → RefusesRow rate rows k b → j < k → ⊥
+earlier : (rate : Rate) (rows : List FileRow) (j k : ℕ) (a b : ListFault) → RefusesRow rate rows j a
+    → RefusesRow rate rows k b → j < k → ⊥
 earlier rate rows j k a b (row, next, f) (row', next', f') below =
     let (items, named) = next'.fine in
     not_refused rate rows (k - 1) j items row a named (omega (arith, below, next.counted)) next.next f
@@ -233,12 +255,14 @@ earlier rate rows j k a b (row, next, f) (row', next', f') below =
 ordered : (j k : ℕ) → (j < k → ⊥) → (k < j → ⊥) → j ≡ k
 ordered j k below above = grind (arith, below, above)
 
-at_one_row : (rate : Rate) (rows : List FileRow) (k : ℕ) (a b : ListFault) → RefusesRow rate rows k a → RefusesRow rate rows k b → a ≡ b
+at_one_row : (rate : Rate) (rows : List FileRow) (k : ℕ) (a b : ListFault) → RefusesRow rate rows k a
+    → RefusesRow rate rows k b → a ≡ b
 at_one_row rate rows k a b (row, next, f) (row', next', f') =
     let same = one_row row' row (slice_get rows (k - 1)) next'.next next.next in
     same_fault rate (columns_of rows) k row a b f (subst (λ r. IsItemFault rate (columns_of rows) r k b) same f')
 
-within : (rate : Rate) (rows : List FileRow) (k : ℕ) (a b : ListFault) → RefusesRow rate rows k a → HasOneMore rate rows b → ⊥
+within : (rate : Rate) (rows : List FileRow) (k : ℕ) (a b : ListFault) → RefusesRow rate rows k a
+    → HasOneMore rate rows b → ⊥
 within rate rows k a b (row, next, f) h =
     not_refused rate rows most_rows k h.items row a h.named (omega (arith, next.counted, next.within)) next.next f
 
@@ -250,17 +274,20 @@ one_stands rate rows a b (inl (j, f)) (inr g) = absurd (within rate rows j a b f
 one_stands rate rows a b (inr f) (inl (k, g)) = absurd (within rate rows k b a g f)
 one_stands rate rows a b (inr f) (inr g) = f.fault_is ∙ sym g.fault_is
 
-pub one_fault : (rate : Rate) (rows : List FileRow) (a b : ListFault) → IsPlaylistFault rate rows a → IsPlaylistFault rate rows b
+pub one_fault : (rate : Rate) (rows : List FileRow) (a b : ListFault) → IsPlaylistFault rate rows a
+    → IsPlaylistFault rate rows b
     → (IsReadFault a → ⊥) → (IsReadFault b → ⊥) → a ≡ b
 one_fault rate rows a b f g p q = one_stands rate rows a b (stands rate rows a f p) (stands rate rows b g q)
 
 -- ---- not both
 
-refused_none : (rate : Rate) (rows : List FileRow) (items : List Item) (k : ℕ) (fault : ListFault) → IsPlaylist rate rows items
+refused_none : (rate : Rate) (rows : List FileRow) (items : List Item) (k : ℕ) (fault : ListFault)
+    → IsPlaylist rate rows items
     → RefusesRow rate rows k fault → ⊥
 refused_none rate rows items k fault h (row, next, f) =
     not_refused rate rows most_rows k items row fault
-    (subst (λ front. Names rate (has_parts (columns_of rows)) front items) (sym (take_all most_rows rows h.few)) h.named)
+    (subst (λ front. Names rate (has_parts (columns_of rows)) front items) (sym (take_all most_rows rows h.few))
+    h.named)
     (omega (arith, next.counted, next.within)) next.next f
 
 pub not_both : (rate : Rate) (rows : List FileRow) (items : List Item) (fault : ListFault) → IsPlaylist rate rows items

@@ -15,7 +15,8 @@ use Rattle.vdcp_value.specs.declared.part.Item.{Item}
 use Rattle.vdcp_value.specs.declared.rate.Rate.{Rate}
 
 -- n rows of a file were read, all of one number of columns, and they name these items
-pub record NamedSoFar (rate : Rate) (file : Option (List ℕ)) (left : Option (List FileRow)) (n columns : ℕ) (items : List Item) : Type 0 where
+pub record NamedSoFar (rate : Rate) (file : Option (List ℕ)) (left : Option (List FileRow)) (n columns : ℕ)
+    (items : List Item) : Type 0 where
   pub front : List FileRow
   pub is_front : IsFront (option_map rows_of file) left front
   pub size : n ≡ length front
@@ -43,7 +44,8 @@ names_none rate a b [] h = no_names rate b
 names_none rate a b (item ∷ items) h = cc h.rows_are
 
 -- the columns of all rows are the first one's
-columns_begin : (front more rows : List FileRow) (columns : ℕ) → 0 < length front → columns ≡ columns_of front → rows ≡ front ++ more
+columns_begin : (front more rows : List FileRow) (columns : ℕ) → 0 < length front → columns ≡ columns_of front
+    → rows ≡ front ++ more
     → columns ≡ columns_of rows
 columns_begin [] more rows columns some e is = absurd (omega (arith, some))
 columns_begin (first ∷ front) more rows columns some e is = rw is e
@@ -51,16 +53,21 @@ columns_begin (first ∷ front) more rows columns some e is = rw is e
 columns_now : (front more rows : List FileRow) (old new : ℕ) (row : FileRow) → ColumnsNow (length front) old new row
     → (0 < length front → old ≡ columns_of front) → rows ≡ (front ++ row ∷ []) ++ more → new ≡ columns_of rows
 columns_now [] more rows old new row c before is = rw is (c.0 refl)
-columns_now (first ∷ front) more rows old new row c before is = rw is (c.1 (λ e. omega (arith, e)) ∙ before (omega arith))
+columns_now (first ∷ front) more rows old new row c before is =
+    rw is (c.1 (λ e. omega (arith, e)) ∙ before (omega arith))
 
 -- the same items, of the columns now
-named_now : (rate : Rate) (front : List FileRow) (items : List Item) (old new : ℕ) (row : FileRow) → ColumnsNow (length front) old new row
+named_now : (rate : Rate) (front : List FileRow) (items : List Item) (old new : ℕ) (row : FileRow)
+    → ColumnsNow (length front) old new row
     → Names rate (has_parts old) front items → Names rate (has_parts new) front items
 named_now rate [] items old new row c h = names_none rate (has_parts old) (has_parts new) items h
-named_now rate (first ∷ front) items old new row c h = subst (λ n. Names rate (has_parts n) (first ∷ front) items) (sym (c.1 (λ e. omega (arith, e)))) h
+named_now rate (first ∷ front) items old new row c h =
+    subst (λ n. Names rate (has_parts n) (first ∷ front) items) (sym (c.1 (λ e. omega (arith, e)))) h
 
-pub names_push : (rate : Rate) (with_parts : Bool) (front : List FileRow) (items : List Item) (row : FileRow) (item : Item) → Names rate with_parts front items
-    → item_row rate with_parts item ≡ row → CanName rate with_parts item.part → Names rate with_parts (front ++ row ∷ []) (items ++ item ∷ [])
+pub names_push : (rate : Rate) (with_parts : Bool) (front : List FileRow) (items : List Item) (row : FileRow)
+    (item : Item) → Names rate with_parts front items
+    → item_row rate with_parts item ≡ row → CanName rate with_parts item.part
+    → Names rate with_parts (front ++ row ∷ []) (items ++ item ∷ [])
 names_push rate with_parts front items row item h e can = record {
   rows_are =
       ap (λ rs. rs ++ row ∷ []) h.rows_are ∙ ap (λ r. map (item_row rate with_parts) items ++ r ∷ []) (sym e)
@@ -69,7 +76,8 @@ names_push rate with_parts front items row item h e can = record {
 }
 
 -- one more row and its item
-pub named_next : (rate : Rate) (file : Option (List ℕ)) (left left' : Option (List FileRow)) (n old new : ℕ) (items : List Item) (row : FileRow) (item : Item)
+pub named_next : (rate : Rate) (file : Option (List ℕ)) (left left' : Option (List FileRow)) (n old new : ℕ)
+    (items : List Item) (row : FileRow) (item : Item)
     → NamedSoFar rate file left n old items → TakesRow left left' true row → ColumnsNow n old new row
     → item_row rate (has_parts new) item ≡ row → CanName rate (has_parts new) item.part
     → NamedSoFar rate file left' (n + 1) new (items ++ item ∷ [])
@@ -79,43 +87,58 @@ named_next rate file left left' n old new items row item h t c e can =
       front = h.front ++ row ∷ [];
       is_front = front_next (option_map rows_of file) left left' h.front row h.is_front t;
       size = omega (arith, h.size, one_more h.front row);
-      columns_are = λ _. columns_now h.front [] (h.front ++ row ∷ []) old new row now (rw h.size at h.columns_are) (sym (append-nil (h.front ++ row ∷ [])));
-      named = names_push rate (has_parts new) h.front items row item (named_now rate h.front items old new row now h.named) e can;
+      columns_are = λ _. columns_now h.front [] (h.front ++ row ∷ []) old new row now (rw h.size at h.columns_are)
+          (sym (append-nil (h.front ++ row ∷ [])));
+      named = names_push rate (has_parts new) h.front items row item
+          (named_now rate h.front items old new row now h.named) e can;
     }
 
 -- the rows read so far name the items by the columns of all
-of_columns : (rate : Rate) (front more rows : List FileRow) (columns : ℕ) (items : List Item) → (0 < length front → columns ≡ columns_of front)
-    → rows ≡ front ++ more → Names rate (has_parts columns) front items → Names rate (has_parts (columns_of rows)) front items
-of_columns rate [] more rows columns items c is h = names_none rate (has_parts columns) (has_parts (columns_of rows)) items h
+of_columns : (rate : Rate) (front more rows : List FileRow) (columns : ℕ) (items : List Item)
+    → (0 < length front → columns ≡ columns_of front)
+    → rows ≡ front ++ more → Names rate (has_parts columns) front items
+    → Names rate (has_parts (columns_of rows)) front items
+of_columns rate [] more rows columns items c is h = names_none rate (has_parts columns) (has_parts (columns_of rows))
+    items h
 of_columns rate (first ∷ front) more rows columns items c is h =
-    subst (λ n. Names rate (has_parts n) (first ∷ front) items) (columns_begin (first ∷ front) more rows columns (omega arith) (c (omega arith)) is) h
+    subst (λ n. Names rate (has_parts n) (first ∷ front) items)
+    (columns_begin (first ∷ front) more rows columns (omega arith) (c (omega arith)) is) h
 
 -- no row is left: these are the items
-pub named_all : (rate : Rate) (file : Option (List ℕ)) (left left' : Option (List FileRow)) (n old : ℕ) (items : List Item) (row : FileRow)
+pub named_all : (rate : Rate) (file : Option (List ℕ)) (left left' : Option (List FileRow)) (n old : ℕ)
+    (items : List Item) (row : FileRow)
     → NamedSoFar rate file left n old items → TakesRow left left' false row → n ≤ most_rows → IsListOf rate file items
 named_all rate file left left' n old items row h t few = (
   h.front,
   front_all file left left' h.front row h.is_front t,
   record {
     few = subst (λ m. m ≤ most_rows) h.size few;
-    named = of_columns rate h.front [] h.front old items (rw h.size at h.columns_are) (sym (append-nil h.front)) h.named;
+    named = of_columns rate h.front [] h.front old items (rw h.size at h.columns_are) (sym (append-nil h.front))
+        h.named;
   },
 )
 
 -- a row that is refused
-pub next_row : (rate : Rate) (front rows : List FileRow) (k : ℕ) (items : List Item) (row : FileRow) → Begins (front ++ row ∷ []) rows
-    → k ≡ length front + 1 → k ≤ most_rows → Names rate (has_parts (columns_of rows)) front items → IsNextRow rate rows k row
+pub next_row : (rate : Rate) (front rows : List FileRow) (k : ℕ) (items : List Item) (row : FileRow)
+    → Begins (front ++ row ∷ []) rows
+    → k ≡ length front + 1 → k ≤ most_rows → Names rate (has_parts (columns_of rows)) front items
+    → IsNextRow rate rows k row
 next_row rate front rows k items row b e few named =
     let s = next_of front rows row b in
     let back : k - 1 ≡ length front = omega (arith, e) in
     record {
       counted = omega (arith, e);
       within = few;
-      fine = (items, subst (λ fs. Names rate (has_parts (columns_of rows)) fs items) (sym (ap (λ m. take m rows) back ∙ s.before)) named);
+      fine = (
+        items,
+        subst (λ fs. Names rate (has_parts (columns_of rows)) fs items)
+            (sym (ap (λ m. take m rows) back ∙ s.before)) named,
+      );
       next = ap (slice_get rows) back ∙ s.here;
     }
 
-pub of_row : (rate : Rate) (rows : List FileRow) (k columns : ℕ) (row : FileRow) (fault : ListFault) → IsNextRow rate rows k row → columns ≡ columns_of rows
+pub of_row : (rate : Rate) (rows : List FileRow) (k columns : ℕ) (row : FileRow) (fault : ListFault)
+    → IsNextRow rate rows k row → columns ≡ columns_of rows
     → IsItemFault rate columns row k fault → IsPlaylistFault rate rows fault
 of_row rate rows k columns row (Columns j) f e h =
     let g = subst (λ n. IsItemFault rate n row k (Columns j)) e h in
@@ -133,41 +156,51 @@ of_row rate rows k columns row Read f e h = absurd h
 
 -- the columns now and the names so far, in rows that begin with those read
 pub named_refused : (rate : Rate) (file : Option (List ℕ)) (left left' : Option (List FileRow)) (n old new : ℕ)
-    → (items : List Item) (row : FileRow) (fault : ListFault) → NamedSoFar rate file left n old items → TakesRow left left' true row
+    → (items : List Item) (row : FileRow) (fault : ListFault) → NamedSoFar rate file left n old items
+    → TakesRow left left' true row
     → ColumnsNow n old new row → n < most_rows
     → IsItemFault rate new row (n + 1) fault → IsListFaultOf rate file fault
 named_refused rate file left left' n old new items row fault h t c few f =
-    let (rows, are, (more, is)) = front_begins file left' (h.front ++ row ∷ []) (front_next (option_map rows_of file) left left' h.front row h.is_front t) in
+    let (rows, are, (more, is)) = front_begins file left' (h.front ++ row ∷ [])
+    (front_next (option_map rows_of file) left left' h.front row h.is_front t) in
     let now = rw h.size at c in
     let before = rw h.size at h.columns_are in
-    let named = of_columns rate h.front (row ∷ more) rows old items before (is ∙ append_assoc h.front (row ∷ []) more) h.named in (
+    let named = of_columns rate h.front (row ∷ more) rows old items before (is ∙ append_assoc h.front (row ∷ []) more)
+    h.named in (
       rows,
       are,
-      of_row rate rows (n + 1) new row fault (next_row rate h.front rows (n + 1) items row (more, is) (omega (arith, h.size)) (omega (arith, few)) named)
+      of_row rate rows (n + 1) new row fault (next_row rate h.front rows (n + 1) items row (more, is)
+          (omega (arith, h.size)) (omega (arith, few)) named)
           (columns_now h.front more rows old new row now before is) f,
     )
 
 -- a row too many
-pub too_many : (rate : Rate) (front rows : List FileRow) (items : List Item) (row : FileRow) → Begins (front ++ row ∷ []) rows → length front ≡ most_rows
+pub too_many : (rate : Rate) (front rows : List FileRow) (items : List Item) (row : FileRow)
+    → Begins (front ++ row ∷ []) rows → length front ≡ most_rows
     → Names rate (has_parts (columns_of rows)) front items → IsPlaylistFault rate rows (TooMany (most_rows + 1))
 too_many rate front rows items row b full named =
     let s = next_of front rows row b in (
       refl,
       subst (λ m. m < length rows) full s.below,
       items,
-      subst (λ fs. Names rate (has_parts (columns_of rows)) fs items) (sym (ap (λ m. take m rows) (sym full) ∙ s.before)) named,
+      subst (λ fs. Names rate (has_parts (columns_of rows)) fs items)
+          (sym (ap (λ m. take m rows) (sym full) ∙ s.before)) named,
     )
 
-pub named_too_many : (rate : Rate) (file : Option (List ℕ)) (left left' : Option (List FileRow)) (n old : ℕ) (items : List Item) (row : FileRow)
+pub named_too_many : (rate : Rate) (file : Option (List ℕ)) (left left' : Option (List FileRow)) (n old : ℕ)
+    (items : List Item) (row : FileRow)
     → NamedSoFar rate file left n old items → TakesRow left left' true row → n ≡ most_rows
     → IsListFaultOf rate file (TooMany (most_rows + 1))
 named_too_many rate file left left' n old items row h t full =
-    let (rows, are, (more, is)) = front_begins file left' (h.front ++ row ∷ []) (front_next (option_map rows_of file) left left' h.front row h.is_front t) in
-    let named = of_columns rate h.front (row ∷ more) rows old items (rw h.size at h.columns_are) (is ∙ append_assoc h.front (row ∷ []) more) h.named in
+    let (rows, are, (more, is)) = front_begins file left' (h.front ++ row ∷ [])
+    (front_next (option_map rows_of file) left left' h.front row h.is_front t) in
+    let named = of_columns rate h.front (row ∷ more) rows old items (rw h.size at h.columns_are)
+    (is ∙ append_assoc h.front (row ∷ []) more) h.named in
     (rows, are, too_many rate h.front rows items row (more, is) (sym h.size ∙ full) named)
 
 -- a fault of the reader or of memory
-read_fault : (rate : Rate) (rows : List FileRow) (fault : ListFault) → IsReadFault fault → IsPlaylistFault rate rows fault
+read_fault : (rate : Rate) (rows : List FileRow) (fault : ListFault) → IsReadFault fault
+    → IsPlaylistFault rate rows fault
 read_fault rate rows (Columns k) h = absurd h
 read_fault rate rows (Id k) h = absurd h
 read_fault rate rows (Time k) h = absurd h
@@ -176,6 +209,7 @@ read_fault rate rows (TooMany k) h = absurd h
 read_fault rate rows Memory h = tt
 read_fault rate rows Read h = tt
 
-pub list_read_fault : (rate : Rate) (file : Option (List ℕ)) (fault : ListFault) → IsReadFault fault → IsListFaultOf rate file fault
+pub list_read_fault : (rate : Rate) (file : Option (List ℕ)) (fault : ListFault) → IsReadFault fault
+    → IsListFaultOf rate file fault
 list_read_fault rate file fault h =
     let (rows, are) = some_rows file in (rows, are, read_fault rate rows fault h)

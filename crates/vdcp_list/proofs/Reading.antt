@@ -16,13 +16,20 @@ takes_next : (s s2 : State) (xs ys : List ℕ) (o : Option Read) (found : Bool) 
     → TakesRow (Some (rows_from s xs)) (Some (rows_from s2 ys)) found fields
 takes_next s s2 xs ys None found fields e h = rw h (rows_from-none s xs e)
 takes_next s s2 xs ys (Some p) found fields e h =
-    rw h.0 (rows_from s2 ys, refl, rows_from-some s xs p e ∙ ap (λ t. t ∷ rows_from p.1 p.2) (sym h.1) ∙ rw (h.2, h.3) refl)
+    rw h.0 (
+      rows_from s2 ys,
+      refl,
+      rows_from-some s xs p e ∙ ap (λ t. t ∷ rows_from p.1 p.2) (sym h.1)
+          ∙ rw (h.2, h.3) refl,
+    )
 
-takes : (s s2 : State) (a b : Option (List ℕ)) (found : Bool) (fields : FileRow) → ReadsNext default_config s a b found fields s2
+takes : (s s2 : State) (a b : Option (List ℕ)) (found : Bool) (fields : FileRow)
+    → ReadsNext default_config s a b found fields s2
     → TakesRow (option_map (rows_from s) a) (option_map (rows_from s2) b) found fields
 takes s s2 None b found fields h = tt
 takes s s2 (Some xs) None found fields h = absurd h
-takes s s2 (Some xs) (Some ys) found fields h = takes_next s s2 xs ys (next_record default_config s [] [] xs) found fields refl h
+takes s s2 (Some xs) (Some ys) found fields h = takes_next s s2 xs ys (next_record default_config s [] [] xs) found
+    fields refl h
 
 -- what a read of a record takes of the rows left
 pub takes_row : {R : Type 0} (remaining : R → Option (List ℕ)) (old new : Reader R) (found : Bool) (fields : FileRow)
@@ -30,7 +37,8 @@ pub takes_row : {R : Type 0} (remaining : R → Option (List ℕ)) (old new : Re
     → TakesRow (rows_left remaining old) (rows_left remaining new) found fields
 takes_row remaining old new found fields config h =
     let known : source_of remaining new ≡ pending_of (remaining new.rdr) new = rw h.1 refl in
-    rw known (takes old.state new.state (source_of remaining old) (pending_of (remaining new.rdr) new) found fields (rw config at h.0))
+    rw known (takes old.state new.state (source_of remaining old) (pending_of (remaining new.rdr) new) found fields
+    (rw config at h.0))
 
 -- a failure of csv is one of the reader or of memory
 pub is_read_fault : (kind : ErrorKind) → IsReadFault (fault_of_kind kind)

@@ -19,7 +19,8 @@ is_between st.InEscape = false
 is_between st.InComment = false
 
 -- the byte that ends a record leaves the reader between two
-between_at_end : (s : State) (c : ℕ) → is_end (step default_config s c).1 ≡ true → is_between (step default_config s c).0 ≡ true
+between_at_end : (s : State) (c : ℕ) → is_end (step default_config s c).1 ≡ true
+    → is_between (step default_config s c).0 ≡ true
 between_at_end st.StartRecord c e = grind arith
 between_at_end st.AfterCr c e = grind arith
 between_at_end st.StartField c e = grind arith
@@ -37,7 +38,8 @@ record Left (p : Read) (size : ℕ) : Type 0 where
 some_is : {A : Type 0} (a b : A) → ◌≡◌ {A = Option A} (Some a) (Some b) → a ≡ b
 some_is a b e = cc
 
-ended : (fields : List (List ℕ)) (field : List ℕ) (p : Read) → ◌≡◌ {A = Option Read} (Some (fields ++ (field ∷ []), st.StartRecord, [])) (Some p) → Left p 0
+ended : (fields : List (List ℕ)) (field : List ℕ) (p : Read)
+    → ◌≡◌ {A = Option Read} (Some (fields ++ (field ∷ []), st.StartRecord, [])) (Some p) → Left p 0
 ended fields field p e =
     rw (← some_is _ p e) (record { between = refl; fewer = omega arith })
 
@@ -54,7 +56,8 @@ left_end st.InEscape fields field p e = ended fields field p e
 left_end st.InComment fields field p e = ended fields field p e
 
 left_here : (b : Bool) (s s' : State) (c : ℕ) (fields : List (List ℕ)) (rest : List ℕ) (p : Read) (more : Option Read)
-    → is_end (step default_config s c).1 ≡ b → s' ≡ (step default_config s c).0 → (b ≡ false → more ≡ Some p → Left p (length rest))
+    → is_end (step default_config s c).1 ≡ b → s' ≡ (step default_config s c).0
+    → (b ≡ false → more ≡ Some p → Left p (length rest))
     → (if b then Some (fields, s', rest) else more) ≡ Some p → Left p (suc (length rest))
 left_here true s s' c fields rest p more ends is later e =
     rw (← some_is _ p e, is) (record { between = between_at_end s c ends; fewer = omega arith })
@@ -69,7 +72,8 @@ left (c ∷ rest) s fields field p e =
     let a = (step default_config s c).1 in
     left_here (is_end a) s (step default_config s c).0 c (fields_after a fields field) rest p
     (next_record default_config (step default_config s c).0 (fields_after a fields field) (field_after a c field) rest)
-    refl refl (λ _ later. left rest (step default_config s c).0 (fields_after a fields field) (field_after a c field) p later) e
+    refl refl (λ _ later. left rest (step default_config s c).0 (fields_after a fields field) (field_after a c field) p
+    later) e
 
 -- between two records no byte is no record
 none_between : (s : State) → is_between s ≡ true → ◌≡◌ {A = Option Read} (next_record default_config s [] [] []) None
@@ -83,7 +87,8 @@ none_between st.AfterQuote e = cc
 none_between st.InEscape e = cc
 none_between st.InComment e = cc
 
-enough_next : (n m : ℕ) (next : Option Read) → ((r : Read) → next ≡ Some r → records_from default_config n r.1 r.2 ≡ records_from default_config m r.1 r.2)
+enough_next : (n m : ℕ) (next : Option Read) → ((r : Read) → next ≡ Some r
+    → records_from default_config n r.1 r.2 ≡ records_from default_config m r.1 r.2)
     → records_next (records_from default_config n) next ≡ records_next (records_from default_config m) next
 enough_next n m None h = refl
 enough_next n m (Some r) h = ap (λ t. r.0 ∷ t) (h r refl)
@@ -106,7 +111,8 @@ pub rows_from-some : (s : State) (xs : List ℕ) (p : Read) → next_record defa
 unfolding records_from
 rows_from-some s xs p e =
     let h = left xs s [] [] p e in
-    rw (add-one (length xs), e) (ap (λ t. p.0 ∷ t) (enough (length xs) (length p.2 + 1) p.1 p.2 h.between (omega arith) (omega arith)))
+    rw (add-one (length xs), e)
+    (ap (λ t. p.0 ∷ t) (enough (length xs) (length p.2 + 1) p.1 p.2 h.between (omega arith) (omega arith)))
 
 pub rows_from-none : (s : State) (xs : List ℕ) → next_record default_config s [] [] xs ≡ None → rows_from s xs ≡ []
 unfolding records_from

@@ -50,7 +50,8 @@ read_clip v rate (first ∷ second ∷ []) = by (id_or_none v.ids first) (time_o
             refl,
             (id, ap Some e),
             λ clip can h.
-                no_frames v.one_time rate time clip.1 second r t none can.0 (seconds (text_of_id clip.0) (text_of clip.1) first second h) can.1,
+                no_frames v.one_time rate time clip.1 second r t none can.0
+                (seconds (text_of_id clip.0) (text_of clip.1) first second h) can.1,
           ),
         ))
     lasting id e time r t (inr some) = inl ((id, time), ap₂ (λ (a b : List ℕ). a ∷ b ∷ []) (sym e) (sym t), (r, some))
@@ -77,7 +78,8 @@ HasReading rate rows =
     ((clips : List (ClipId × Timecode)) × IsCatalogue rate rows clips)
     ⊎ ((fault : ListFault) × IsCatalogueFault rate rows fault × ¬ IsReadFault fault)
 
-of_rows : (rate : Rate) (row : FileRow) (k : ℕ) (fault : ListFault) → IsClipFault rate row k fault → IsReadFault fault → ⊥
+of_rows : (rate : Rate) (row : FileRow) (k : ℕ) (fault : ListFault) → IsClipFault rate row k fault → IsReadFault fault
+    → ⊥
 of_rows rate row k (Columns j) f h = h
 of_rows rate row k (Id j) f h = h
 of_rows rate row k (Time j) f h = h
@@ -94,7 +96,8 @@ abbrev SameIds : Type 0
 SameIds = (a b : ClipId) → IsTrue (is_same_id a b) ↔ (a ≡ b)
 
 -- the rows of the front give these clips, and some are left
-read_from : FieldLaws → SameIds → (rate : Rate) (rows front left : List FileRow) (clips : List (ClipId × Timecode)) → rows ≡ front ++ left
+read_from : FieldLaws → SameIds → (rate : Rate) (rows front left : List FileRow) (clips : List (ClipId × Timecode))
+    → rows ≡ front ++ left
     → length front ≤ most_rows → Gives rate front clips → HasReading rate rows
 read_from v same rate rows front [] clips is few given =
     let all : rows ≡ front = is ∙ append-nil front in
@@ -106,30 +109,39 @@ read_from v same rate rows front [] clips is few given =
       },
     )
 read_from v same rate rows front (row ∷ left) clips is few given =
-    by (room (length front) most_rows few) (read_clip v rate row) (λ clip. read_from v same rate rows (front ++ row ∷ []) left (clips ++ clip ∷ []) begins)
+    by (room (length front) most_rows few) (read_clip v rate row)
+    (λ clip. read_from v same rate rows (front ++ row ∷ []) left (clips ++ clip ∷ []) begins)
   where
     begins : rows ≡ (front ++ row ∷ []) ++ left
     begins = is ∙ sym (append_assoc front (row ∷ []) left)
 
     Next : Type 0
-    Next = (clip : ClipId × Timecode) → length (front ++ row ∷ []) ≤ most_rows → Gives rate (front ++ row ∷ []) (clips ++ clip ∷ []) → HasReading rate rows
+    Next = (clip : ClipId × Timecode) → length (front ++ row ∷ []) ≤ most_rows
+        → Gives rate (front ++ row ∷ []) (clips ++ clip ∷ []) → HasReading rate rows
 
     added : length front < most_rows → (clip : ClipId × Timecode) → clip_row clip ≡ row → CanLast rate clip.1
         → (length_of clips clip.0 ≡ None) ⊎ IsSome (length_of clips clip.0) → Next → HasReading rate rows
     added below clip e can (inl new) next =
-        next clip (let size = one_more front row in omega (arith, size, below)) (gives_push rate front clips row clip given e can new)
+        next clip (let size = one_more front row in omega (arith, size, below))
+        (gives_push rate front clips row clip given e can new)
     added below clip e can (inr there) next =
-        inr (Twice (length front + 1), twice same rate front rows clips row clip (left, begins) below given e can there, λ h. h)
+        inr (
+          Twice (length front + 1),
+          twice same rate front rows clips row clip (left, begins) below given e can there,
+          λ h. h,
+        )
 
     by : (length front < most_rows) ⊎ (length front ≡ most_rows) → IsRead rate row → Next → HasReading rate rows
-    by (inr full) r next = inr (TooMany (most_rows + 1), too_many rate front rows clips row (left, begins) full given, λ h. h)
+    by (inr full) r next =
+        inr (TooMany (most_rows + 1), too_many rate front rows clips row (left, begins) full given, λ h. h)
     by (inl below) (inl (clip, e, can)) next = added below clip e can (new_or_there (length_of clips clip.0)) next
     by (inl below) (inr f) next =
         let (fault, h) = f (length front + 1) in
         inr (
           fault,
           of_row rate rows (length front + 1) row fault
-              (next_row rate front rows (length front + 1) clips row (left, begins) refl (omega (arith, below)) given) h,
+              (next_row rate front rows (length front + 1) clips row (left, begins) refl (omega (arith, below)) given)
+              h,
           of_rows rate row (length front + 1) fault h,
         )
 

@@ -22,7 +22,8 @@ use Rattle.vdcp_value.specs.declared.rate.Rate.{Rate}
 
 -- an item names the row, or the row is refused wherever it stands
 abbrev HasItem : Rate → ℕ → FileRow → Type 0
-HasItem rate columns row = (item : Item) × (item_row rate (has_parts columns) item ≡ row) × CanName rate (has_parts columns) item.part
+HasItem rate columns row = (item : Item) × (item_row rate (has_parts columns) item ≡ row)
+    × CanName rate (has_parts columns) item.part
 
 abbrev HasItemFault : Rate → ℕ → FileRow → Type 0
 HasItemFault rate columns row = (k : ℕ) → (fault : ListFault) × IsItemFault rate columns row k fault
@@ -53,7 +54,8 @@ read_part v rate (first ∷ second ∷ third ∷ fourth ∷ row) size = absurd (
 read_part v rate (first ∷ start ∷ duration ∷ []) size = by (id_or_none v.ids first) (part_or_none v rate start duration)
   where
     by : IsIds first → IsParts rate start duration → IsRead rate 3 (first ∷ start ∷ duration ∷ [])
-    by (inl (id, e)) (inl (part, f, can)) = inl (item_with id part, ap₂ (λ (t : List ℕ) (r : FileRow). t ∷ r) (sym e) f, can)
+    by (inl (id, e)) (inl (part, f, can)) =
+        inl (item_with id part, ap₂ (λ (t : List ℕ) (r : FileRow). t ∷ r) (sym e) f, can)
     by (inl (id, e)) (inr n) =
         inr (λ k. (
           Time k,
@@ -62,7 +64,8 @@ read_part v rate (first ∷ start ∷ duration ∷ []) size = by (id_or_none v.i
             refl,
             (id, ap Some e),
             λ item can f.
-                n item.part can (tails (text_of_id item.id) first (part_fields rate item.part) (start ∷ duration ∷ []) f),
+                n item.part can (tails (text_of_id item.id) first (part_fields rate item.part) (start ∷ duration ∷ [])
+                f),
           ),
         ))
     by (inr n) p = inr (λ k. (Id k, (refl, refl, λ h. n h.0 (one_some first (text_of_id h.0) h.1))))
@@ -73,10 +76,12 @@ IsSized columns row n = (length row ≡ columns) × (columns ≡ n)
 abbrev Tells : ℕ → ℕ → Type 0
 Tells a b = ((eqb a b ≡ true) × (a ≡ b)) ⊎ ((eqb a b ≡ false) × (a ≢ b))
 
-sizes : (columns : ℕ) (row : FileRow) → (IsSized columns row 1 ⊎ IsSized columns row 3) ⊎ (is_of_columns columns row ≡ false)
+sizes : (columns : ℕ) (row : FileRow) → (IsSized columns row 1 ⊎ IsSized columns row 3)
+    ⊎ (is_of_columns columns row ≡ false)
 sizes columns row = by (eqb_tells (length row) columns) (eqb_tells columns 1) (eqb_tells columns 3)
   where
-    by : Tells (length row) columns → Tells columns 1 → Tells columns 3 → (IsSized columns row 1 ⊎ IsSized columns row 3) ⊎ (is_of_columns columns row ≡ false)
+    by : Tells (length row) columns → Tells columns 1 → Tells columns 3
+        → (IsSized columns row 1 ⊎ IsSized columns row 3) ⊎ (is_of_columns columns row ≡ false)
     by (inl (t, size)) (inl (t', one)) p = inl (inl (size, one))
     by (inl (t, size)) (inr (f, n)) (inl (t', three)) = inl (inr (size, three))
     by (inl (t, size)) (inr (f, n)) (inr (f', n')) = inr (rw (t, f, f') refl)
@@ -97,7 +102,8 @@ HasReading rate rows =
     ((items : List Item) × IsPlaylist rate rows items)
     ⊎ ((fault : ListFault) × IsPlaylistFault rate rows fault × ¬ IsReadFault fault)
 
-of_rows : (rate : Rate) (columns : ℕ) (row : FileRow) (k : ℕ) (fault : ListFault) → IsItemFault rate columns row k fault → IsReadFault fault → ⊥
+of_rows : (rate : Rate) (columns : ℕ) (row : FileRow) (k : ℕ) (fault : ListFault) → IsItemFault rate columns row k fault
+    → IsReadFault fault → ⊥
 of_rows rate columns row k (Columns j) f h = h
 of_rows rate columns row k (Id j) f h = h
 of_rows rate columns row k (Time j) f h = h
@@ -117,7 +123,8 @@ room n most few = by (eqb_tells n most)
 abbrev IsFrontOf : List FileRow → List FileRow → List FileRow → Type 0
 IsFrontOf rows front left = rows ≡ front ++ left
 
-read_from : FieldLaws → (rate : Rate) (rows front left : List FileRow) (items : List Item) → IsFrontOf rows front left → length front ≤ most_rows
+read_from : FieldLaws → (rate : Rate) (rows front left : List FileRow) (items : List Item) → IsFrontOf rows front left
+    → length front ≤ most_rows
     → Names rate (has_parts (columns_of rows)) front items → HasReading rate rows
 read_from v rate rows front [] items is few named =
     let all : rows ≡ front = is ∙ append-nil front in
@@ -137,18 +144,23 @@ read_from v rate rows front (row ∷ left) items is few named =
 
     by : (length front < most_rows) ⊎ (length front ≡ most_rows) → IsRead rate (columns_of rows) row
         → ((item : Item) → length (front ++ row ∷ []) ≤ most_rows
-        → Names rate (has_parts (columns_of rows)) (front ++ row ∷ []) (items ++ item ∷ []) → HasReading rate rows) → HasReading rate rows
-    by (inr full) r next = inr (TooMany (most_rows + 1), too_many rate front rows items row (left, begins) full named, λ h. h)
+        → Names rate (has_parts (columns_of rows)) (front ++ row ∷ []) (items ++ item ∷ []) → HasReading rate rows)
+        → HasReading rate rows
+    by (inr full) r next =
+        inr (TooMany (most_rows + 1), too_many rate front rows items row (left, begins) full named, λ h. h)
     by (inl below) (inl (item, e, can)) next =
-        next item (let size = one_more front row in omega (arith, size, below)) (names_push rate (has_parts (columns_of rows)) front items row item named e can)
+        next item (let size = one_more front row in omega (arith, size, below))
+        (names_push rate (has_parts (columns_of rows)) front items row item named e can)
     by (inl below) (inr f) next =
         let (fault, h) = f (length front + 1) in
         inr (
           fault,
           of_row rate rows (length front + 1) (columns_of rows) row fault
-              (next_row rate front rows (length front + 1) items row (left, begins) refl (omega (arith, below)) named) refl h,
+              (next_row rate front rows (length front + 1) items row (left, begins) refl (omega (arith, below)) named)
+              refl h,
           of_rows rate (columns_of rows) row (length front + 1) fault h,
         )
 
 pub has_reading : FieldLaws → (rate : Rate) (rows : List FileRow) → HasReading rate rows
-has_reading v rate rows = read_from v rate rows [] rows [] refl (omega arith) (no_names rate (has_parts (columns_of rows)))
+has_reading v rate rows = read_from v rate rows [] rows [] refl (omega arith)
+    (no_names rate (has_parts (columns_of rows)))

@@ -11,7 +11,8 @@ front_first None = tt
 front_first (Some rows) = (rows, refl, refl)
 
 -- one more is read
-pub front_next : (all left left' : Option (List FileRow)) (front : List FileRow) (row : FileRow) → IsFront all left front → TakesRow left left' true row
+pub front_next : (all left left' : Option (List FileRow)) (front : List FileRow) (row : FileRow)
+    → IsFront all left front → TakesRow left left' true row
     → IsFront all left' (front ++ row ∷ [])
 front_next None left left' front row h t = tt
 front_next (Some rows) left left' front row (more, is, e) t =
@@ -31,7 +32,8 @@ abbrev pub Begins : List FileRow → List FileRow → Type 0
 Begins front rows = (more : List FileRow) × (rows ≡ front ++ more)
 
 -- a file has rows that begin with those read
-pub front_begins : (file : Option (List ℕ)) (left : Option (List FileRow)) (front : List FileRow) → IsFront (option_map rows_of file) left front
+pub front_begins : (file : Option (List ℕ)) (left : Option (List FileRow)) (front : List FileRow)
+    → IsFront (option_map rows_of file) left front
     → HasRows file (Begins front)
 front_begins None left front h = (front, tt, ([], sym (append-nil front)))
 front_begins (Some bytes) left front (more, is, e) = (rows_of bytes, refl, (more, e))

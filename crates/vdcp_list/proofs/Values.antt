@@ -1,4 +1,5 @@
--- What the laws of vdcp_value say of IDs, their texts and time codes: the lemmas of this crate take it from a body that calls them.
+-- What the laws of vdcp_value say of IDs, their texts and time codes: the lemmas of this crate take it from a body
+-- that calls them.
 use Rattle.std.proofs.Common.{◌≡◌, ◌<◌, ◌↔◌, ℕ, List, length, All}
 use Rattle.std.specs.Prelude.{IsTrue}
 use Rattle.vdcp_value.specs.Bcd.{frames_in, is_time, label_of_bcd}

@@ -18,9 +18,11 @@ pub length-items_from : (start : ℕ) (text ends : List ℕ) (parts : List (Opti
 length-items_from start text [] [] e = refl
 length-items_from start text [] (part ∷ parts) e = refl
 length-items_from start text (end ∷ ends) [] e = absurd (omega (arith, e))
-length-items_from start text (end ∷ ends) (part ∷ parts) e = ap suc (length-items_from end text ends parts (omega (arith, e)))
+length-items_from start text (end ∷ ends) (part ∷ parts) e =
+    ap suc (length-items_from end text ends parts (omega (arith, e)))
 
-part_of_bytes : (part : Option Part) (id : ClipId) → part_is_of_bytes part ≡ true → IsItem (record { id = id; part = part })
+part_of_bytes : (part : Option Part) (id : ClipId) → part_is_of_bytes part ≡ true
+    → IsItem (record { id = id; part = part })
 part_of_bytes None id e = tt
 part_of_bytes (Some part) id e = (and-eq-true_iff (are_bytes 4 part.start) (are_bytes 4 part.duration)).0 e
 
@@ -29,14 +31,23 @@ all_of_bytes : (start : ℕ) (text ends : List ℕ) (parts : List (Option Part))
 all_of_bytes start text [] parts e k d below = absurd (omega (arith, below))
 all_of_bytes start text (end ∷ ends) [] e k d below = absurd (omega (arith, below))
 all_of_bytes start text (end ∷ ends) (part ∷ parts) e zero d below =
-    part_of_bytes part (id_of_text (slice_range text start end)) ((and-eq-true_iff (part_is_of_bytes part) (list_all part_is_of_bytes parts)).0 e).0
+    part_of_bytes part (id_of_text (slice_range text start end))
+    ((and-eq-true_iff (part_is_of_bytes part) (list_all part_is_of_bytes parts)).0 e).0
 all_of_bytes start text (end ∷ ends) (part ∷ parts) e (suc k) d below =
-    all_of_bytes end text ends parts ((and-eq-true_iff (part_is_of_bytes part) (list_all part_is_of_bytes parts)).0 e).1 k d (omega (arith, below))
+    all_of_bytes end text ends parts ((and-eq-true_iff (part_is_of_bytes part) (list_all part_is_of_bytes parts)).0 e).1
+    k d (omega (arith, below))
 
 -- a playlist's items can be counted
 pub countable : (list : Playlist) → length (items_of list) < 2 ^ 64
-countable list = omega (arith, length-items_from 0 (string_bytes list.text) list.ends.items list.parts.items list.beside, list.ends.ok, list.ends.small)
+countable list = omega (
+  arith,
+  length-items_from 0 (string_bytes list.text) list.ends.items list.parts.items
+      list.beside,
+  list.ends.ok,
+  list.ends.small,
+)
 
 -- and their parts are of bytes
 pub of_bytes : (list : Playlist) → All IsItem (items_of list)
-of_bytes list k d below = all_of_bytes 0 (string_bytes list.text) list.ends.items list.parts.items list.of_bytes k d below
+of_bytes list k d below = all_of_bytes 0 (string_bytes list.text) list.ends.items list.parts.items list.of_bytes k d
+    below

@@ -76,7 +76,8 @@ IsItemFault rate columns row k Read = ⊥
 
 -- row k is the first that is refused, with this fault
 abbrev pub RefusesRow : Rate → List FileRow → ℕ → ListFault → Type 0
-RefusesRow rate rows k fault = (row : FileRow) × IsNextRow rate rows k row × IsItemFault rate (columns_of rows) row k fault
+RefusesRow rate rows k fault = (row : FileRow) × IsNextRow rate rows k row
+    × IsItemFault rate (columns_of rows) row k fault
 
 -- why the rows are no playlist: rows are tested one after another, and the first refusal counts
 abbrev pub IsPlaylistFault : Rate → List FileRow → ListFault → Type 0

@@ -32,10 +32,12 @@ pub fn write_asrun<S: Source, W: Write, A: Allocator>(
     writer: &mut W,
 ) -> Result<(), WriteFault>
     requires { reported ≤ length (S.items source.now) }
-    ensures ok { OnOk result (Appends (W.contents writer.old) (W.contents writer.new) (asrun_text rate (S.items source.now) reported)) }
+    ensures ok { OnOk result (Appends (W.contents writer.old) (W.contents writer.new)
+        (asrun_text rate (S.items source.now) reported)) }
     ensures unlawful { (k : ℕ) → (result ≡ Err (Time k)) ↔ IsUnlawful rate (S.items source.now) reported k }
     ensures kept { IfErr result (λ fault. fault ≢ Device → Keeps (W.contents writer.old) (W.contents writer.new)) }
-    ensures beginning { IfErr result (λ fault. fault ≡ Device → AppendsBeginning (W.contents writer.old) (W.contents writer.new)
+    ensures beginning { IfErr result (λ fault. fault ≡ Device
+        → AppendsBeginning (W.contents writer.old) (W.contents writer.new)
         (asrun_text rate (S.items source.now) reported)) }
 {
     let among = check_parts(source, rate, reported)?;
@@ -84,7 +86,8 @@ fn check_parts<S: Source>(source: &S, rate: Rate, reported: usize) -> Result<boo
     requires { reported ≤ length (S.items source.now) }
     ensures parts { IfOk result (λ with_parts. with_parts ≡ has_part (take reported (S.items source.now))) }
     ensures lawful { OnOk result (IsTrue (are_lawful rate (take reported (S.items source.now)))) }
-    ensures unlawful { IfErr result (λ fault. (k : ℕ) × (fault ≡ Time k) × IsUnlawful rate (S.items source.now) reported k) }
+    ensures unlawful { IfErr result (λ fault. (k : ℕ) × (fault ≡ Time k)
+        × IsUnlawful rate (S.items source.now) reported k) }
 {
     let mut with_parts = false;
     for k in 0..reported {
@@ -182,7 +185,8 @@ fn write_event<W: Write + Drop>(
     requires setup { writer_setup rows.old ≡ default_writer }
     requires ended { fields_written rows.old ≡ 0 }
     requires clean { has_written rows.old ≡ false }
-    ensures text { OnOk result (Appends (text_written W.contents rows.old) (text_written W.contents rows.new) (row_text default_writer (number.now ∷ item_row rate with_parts item.now))) }
+    ensures text { OnOk result (Appends (text_written W.contents rows.old) (text_written W.contents rows.new)
+        (row_text default_writer (number.now ∷ item_row rate with_parts item.now))) }
     ensures setup { OnOk result (writer_setup rows.new ≡ default_writer) }
     ensures ended { OnOk result (fields_written rows.new ≡ 0) }
     ensures clean { OnOk result (has_written rows.new ≡ false) }

@@ -37,7 +37,8 @@ fn last_length(row: &ByteRecord, rate: Rate) -> Option<Timecode>
     requires { length (fields_of row.now) ≡ 2 }
     ensures some { IfSome result (λ length. drop 1 (fields_of row.now) ≡ text_of length ∷ []) }
     ensures can_last { IfSome result (CanLast rate) }
-    ensures none { IfNone result ((length : Timecode) → CanLast rate length → drop 1 (fields_of row.now) ≢ text_of length ∷ []) }
+    ensures none { IfNone result ((length : Timecode) → CanLast rate length
+        → drop 1 (fields_of row.now) ≢ text_of length ∷ []) }
 {
     a_time_code_is_one();
     let Some(field) = field_at(row, 1) else {

@@ -28,13 +28,15 @@ pub fn rows_are_read_in_order()
     ensures all { (file : Option (List ℕ)) (left left' : Option (List FileRow)) (front : List FileRow) (row : FileRow) →
         IsFront (option_map rows_of file) left front → TakesRow left left' false row → AreRowsOf file front }
     ensures begins { (file : Option (List ℕ)) (left : Option (List FileRow)) (front : List FileRow) →
-        IsFront (option_map rows_of file) left front → HasRows file (λ rows. (more : List FileRow) × (rows ≡ front ++ more)) }
+        IsFront (option_map rows_of file) left front → HasRows file
+        (λ rows. (more : List FileRow) × (rows ≡ front ++ more)) }
 {}
 
 /// What is read of a playlist at a rate can be written at it: each part is lawful, so no event is one
 /// that `write_asrun` refuses.
 pub fn what_is_read_can_be_written()
-    ensures lawful { (rate : Rate) (rows : List FileRow) (items : List Item) → IsPlaylist rate rows items → IsTrue (are_lawful rate items) }
+    ensures lawful { (rate : Rate) (rows : List FileRow) (items : List Item) → IsPlaylist rate rows items
+        → IsTrue (are_lawful rate items) }
     ensures none { (rate : Rate) (file : Option (List ℕ)) (items : List Item) → IsListOf rate file items →
         (reported k : ℕ) → ¬ IsUnlawful rate items reported k }
 {}
@@ -44,10 +46,13 @@ pub fn what_is_read_can_be_written()
 pub fn rows_have_one_reading()
     ensures one_of_both { (rate : Rate) (rows : List FileRow) → ((items : List Item) × IsPlaylist rate rows items)
         ⊎ ((fault : ListFault) × IsPlaylistFault rate rows fault × ¬ IsReadFault fault) }
-    ensures one_list { (rate : Rate) (rows : List FileRow) (a b : List Item) → IsPlaylist rate rows a → IsPlaylist rate rows b → a ≡ b }
-    ensures one_fault { (rate : Rate) (rows : List FileRow) (a b : ListFault) → IsPlaylistFault rate rows a → IsPlaylistFault rate rows b →
+    ensures one_list { (rate : Rate) (rows : List FileRow) (a b : List Item) → IsPlaylist rate rows a
+        → IsPlaylist rate rows b → a ≡ b }
+    ensures one_fault { (rate : Rate) (rows : List FileRow) (a b : ListFault) → IsPlaylistFault rate rows a
+        → IsPlaylistFault rate rows b →
         ¬ IsReadFault a → ¬ IsReadFault b → a ≡ b }
-    ensures not_both { (rate : Rate) (rows : List FileRow) (items : List Item) (fault : ListFault) → IsPlaylist rate rows items →
+    ensures not_both { (rate : Rate) (rows : List FileRow) (items : List Item) (fault : ListFault)
+        → IsPlaylist rate rows items →
         IsPlaylistFault rate rows fault → IsReadFault fault }
 {
     a_text_is_of_one_id();

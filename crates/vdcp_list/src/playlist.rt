@@ -43,7 +43,8 @@ fn item_in(row: &ByteRecord, columns: usize, rate: Rate, place: usize) -> Result
 fn last_part(row: &ByteRecord, rate: Rate) -> Option<Option<Part>>
     requires { length (fields_of row.now) ≡ 3 }
     ensures some { IfSome result (λ part. (part_fields rate part ≡ drop 1 (fields_of row.now)) × CanName rate true part) }
-    ensures none { IfNone result ((part : Option Part) → CanName rate true part → part_fields rate part ≢ drop 1 (fields_of row.now)) }
+    ensures none { IfNone result ((part : Option Part) → CanName rate true part
+        → part_fields rate part ≢ drop 1 (fields_of row.now)) }
 {
     match (field_at(row, 1), field_at(row, 2)) {
         (Some(start), Some(duration)) => part_in(start, duration, rate),
@@ -53,8 +54,10 @@ fn last_part(row: &ByteRecord, rate: Rate) -> Option<Option<Part>>
 
 /// The part that two fields name; None, of a whole clip, where both are empty.
 fn part_in(start: &[u8], duration: &[u8], rate: Rate) -> Option<Option<Part>>
-    ensures some { IfSome result (λ part. (part_fields rate part ≡ start.now ∷ duration.now ∷ []) × CanName rate true part) }
-    ensures none { IfNone result ((part : Option Part) → CanName rate true part → part_fields rate part ≢ start.now ∷ duration.now ∷ []) }
+    ensures some { IfSome result (λ part. (part_fields rate part ≡ start.now ∷ duration.now ∷ [])
+        × CanName rate true part) }
+    ensures none { IfNone result ((part : Option Part) → CanName rate true part
+        → part_fields rate part ≢ start.now ∷ duration.now ∷ []) }
 {
     a_time_code_has_lawful_bytes();
     lawful_bytes_are_a_time_codes();

@@ -33,7 +33,8 @@ pub fn rows_in<R: Read>(alloc: Global, source: R) -> Reader<R>
 pub fn next_row<R: Read>(reader: &mut Reader<R>, row: &mut ByteRecord) -> Result<bool, ListFault>
     requires { IsSet reader.old }
     ensures set { IfOk result (λ found. found ≡ true → IsSet reader.new) }
-    ensures takes { IfOk result (λ found. TakesRow (rows_left R.remaining reader.old) (rows_left R.remaining reader.new) found (fields_of row.new)) }
+    ensures takes { IfOk result (λ found. TakesRow (rows_left R.remaining reader.old) (rows_left R.remaining reader.new)
+        found (fields_of row.new)) }
     ensures failed { IfErr result IsReadFault }
 {
     match reader.read_byte_record(row) {

@@ -102,7 +102,8 @@ printed t u v end a b c d none (address, listens) told same ended =
 
 -- the same after calls that may fail
 
-pub answer_told : {A E : Type 0} (result : Result A E) (d : Doing) (came : List ℕ) (t u v : Tally) (a b : Option (List ℕ))
+pub answer_told : {A E : Type 0} (result : Result A E) (d : Doing) (came : List ℕ) (t u v : Tally)
+    (a b : Option (List ℕ))
     → u ≡ with_answer t
     → OnOk result (PrintsFate way.Up d came u v a b) → OnOk result (PrintsFates t v a b)
 answer_told (Ok x) d came t u v a b counted told = tells_answer d came t u v a b counted told

@@ -8,17 +8,20 @@ use Rattle.vdcp_text.specs.Failure.{failure_line, status_of}
 use Rattle.vdcp_text.specs.declared.failure.Failure.{Failure}
 use Rattle.vdcp_text.specs.declared.failure.Failure.TheVariants.{Address}
 
-pub both : {A E : Type 0} (result : Result A E) (text server : List ℕ) → IsAddress text → IsAddress server → OnOk result (IsAddress text × IsAddress server)
+pub both : {A E : Type 0} (result : Result A E) (text server : List ℕ) → IsAddress text → IsAddress server
+    → OnOk result (IsAddress text × IsAddress server)
 both (Ok x) text server a b = (a, b)
 both (Err e) text server a b = tt
 
-pub uncarried : {A : Type 0} (result : Result A Failure) (text server : List ℕ) (out out' : Option (List ℕ)) → IsAddress text → IsAddress server
+pub uncarried : {A : Type 0} (result : Result A Failure) (text server : List ℕ) (out out' : Option (List ℕ))
+    → IsAddress text → IsAddress server
     → IfErr result (λ e. status_of e ≡ 3) → IfErr result (IsUncarried text server out out')
 uncarried (Ok x) text server out out' a b h = tt
 uncarried (Err e) text server out out' a b h = failed a b h
 
 -- a status of 2 is the failure's own
-own_status : (failure : Failure) (status : ℕ) → (status ≡ status_of failure) ⊎ (status ≡ 3) → status ≡ 2 → status_of failure ≡ 2
+own_status : (failure : Failure) (status : ℕ) → (status ≡ status_of failure) ⊎ (status ≡ 3) → status ≡ 2
+    → status_of failure ≡ 2
 own_status failure status (inl e) two = sym e ∙ two
 own_status failure status (inr three) two = absurd (omega (arith, three, two))
 

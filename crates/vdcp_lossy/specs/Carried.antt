@@ -16,7 +16,7 @@ sent_by None = None
 sent_by (Some told) = Some told.sent
 
 -- what went on of a burst that came this way is what may be done with it
-pub record GoesOn (chances : Chances) (w : Way) (came : List ℕ) (old new : Option Told) : Type 0 where
+pub record PassesOn (chances : Chances) (w : Way) (came : List ℕ) (old new : Option Told) : Type 0 where
   pub doing : Doing
   pub may : MayBeDone chances w came doing
   pub sent : Appends (sent_by old) (sent_by new) (joined (goes_on doing came))
@@ -28,9 +28,10 @@ pub record ComesOfNothing (chances : Chances) (old new : Option Told) : Type 0 w
   pub forged : IsForged doing
   pub sent : Appends (sent_by old) (sent_by new) (joined (goes_on doing []))
 
--- what went up for what a server brought: of a burst what may be done with it; of none nothing, or a receipt; else nothing
+-- what went up for what a server brought: of a burst what may be done with it; of none nothing, or a receipt; else
+-- nothing
 abbrev pub GoesUp : Chances → Brought → List ℕ → Option Told → Option Told → Type 0
-GoesUp chances (brought.Burst began) came old new = GoesOn chances way.Up came old new
+GoesUp chances (brought.Burst began) came old new = PassesOn chances way.Up came old new
 GoesUp chances brought.Long came old new = Keeps (sent_by old) (sent_by new)
 GoesUp chances brought.Nothing came old new = Keeps (sent_by old) (sent_by new) ⊎ ComesOfNothing chances old new
 GoesUp chances (brought.Over end) came old new = Keeps (sent_by old) (sent_by new)

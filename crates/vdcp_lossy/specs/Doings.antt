@@ -79,7 +79,8 @@ CanBeThrown chances throw.Damaged = (0 < chances.damage) × (chances.lose < 100)
 CanBeThrown chances throw.Forged = (0 < chances.forge) × (chances.lose < 100) × (chances.copy < 100)
     × (chances.cut < 100) × (chances.damage < 100)
 
--- what is done by them. What can't be cut or seen to be damaged is lost, and an answer that can't be copied goes through
+-- what is done by them. What can't be cut or seen to be damaged is lost, and an answer that can't be copied goes
+-- through
 abbrev pub HasChance : Chances → Doing → Type 0
 HasChance chances doing.Through = chances.lose < 100
 HasChance chances doing.Lost = 0 < chances.lose + (chances.cut + chances.damage)

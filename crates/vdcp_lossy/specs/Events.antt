@@ -32,7 +32,8 @@ events_up (doing.Cut count) came = AlterUp (take count came) ∷ Up ∷ []
 events_up (doing.Damaged bytes) came = AlterUp bytes.items ∷ Up ∷ []
 events_up (doing.Forged r) came = AlterUp (spelling (receipt_message r)) ∷ Up ∷ []
 
--- what was on the way down is gone, and these bursts have come to the port, one after another: it has answered each, and the
+-- what was on the way down is gone, and these bursts have come to the port, one after another: it has answered each,
+-- and the
 -- answer to the last is on the way up
 abbrev pub answering : Channel → List (List ℕ) → Channel
 answering c [] = record c { down = [] }

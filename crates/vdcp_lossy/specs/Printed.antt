@@ -106,7 +106,8 @@ abbrev pub end_line : CarryEnd → List ℕ
 end_line ends.Closed = line (codes "closed")
 end_line ends.Spent = line (codes "spent")
 
--- a writer gained the line of an address that was listened at, then those of some fates, how that ended, and the counts of these fates
+-- a writer gained the line of an address that was listened at, then those of some fates, how that ended, and the
+-- counts of these fates
 pub record IsPrinted (out out' : Option (List ℕ)) : Type 0 where
   pub address : SocketAddr
   pub fates : List Fate

@@ -3,7 +3,7 @@ ghost use Rattle.std.specs.Prelude.{◌≡◌, ◌⊎◌, ◌<◌, ◌≤◌, If
 ghost use Rattle.vdcp_frame.specs.Message.{spelling};
 ghost use Rattle.vdcp_wire.specs.Wires.{adds_drop, adds_sent};
 ghost use Rattle.vdcp_lossy.specs.Brought.{HasSome};
-ghost use Rattle.vdcp_lossy.specs.Carried.{GoesOn, GoesUp, sent_by};
+ghost use Rattle.vdcp_lossy.specs.Carried.{GoesUp, PassesOn, sent_by};
 ghost use Rattle.vdcp_lossy.specs.Doings.{adds_part, goes_on, joined, part_on, receipt_message};
 ghost use Rattle.vdcp_lossy.specs.Printed.{PrintsFate, PrintsFates};
 ghost use Rattle.vdcp_lossy.specs.declared.doing.Doing.{Doing};
@@ -85,7 +85,7 @@ fn ask<R: Clock, S: Wire, W: io::Write>(
 ) -> Result<Brought, CarryFault>
     requires server { S.failures server.old ≡ 0 }
     requires some { 0 < length command.now.items }
-    ensures sent { OnOk result (GoesOn session.old.settings.chances Way.Down command.now.items (S.told server.old)
+    ensures sent { OnOk result (PassesOn session.old.settings.chances Way.Down command.now.items (S.told server.old)
         (S.told server.new)) }
     ensures told { OnOk result ((d : Doing)
         × PrintsFate Way.Down d command.now.items session.old.tally session.new.tally

@@ -1,13 +1,16 @@
 -- How a line ended, by what the driver's run or turns answered.
 use Rattle.std.proofs.Common.{◌≡◌, ◌⊎◌, List, ℕ, inl, inr, refl, sym, ◌∙◌, subst}
 use Rattle.std.specs.Io.KnownBytes.{Keeps}
-use Rattle.std.specs.Prelude.{◌↔◌, IfErr, IfOk, IsSome, OnOk, Option, Result, Ok, Err}
+use Rattle.std.specs.Prelude.{◌↔◌, Bool, false, IfErr, IfOk, IsSome, OnOk, Option, Result, Ok, Err}
 use Rattle.vdcp_auto.specs.declared.outcome.Outcome.{Outcome}
 use Rattle.vdcp_drive.specs.declared.line.DriveFault.{DriveFault}
 use Rattle.vdcp_drive.specs.declared.line.Ran.{Ran}
 use Rattle.vdcp_drive.specs.declared.line.Ran.TheVariants as ran
 use Rattle.vdcp_net.specs.Run.{line_end_of}
-use Rattle.vdcp_net.specs.Serve.{EndsAs, PrintsEnd}
+use Rattle.vdcp_net.specs.Serve.{EndsAs, MayEnd, PrintsEnd, end_of}
+use Rattle.vdcp_net.specs.declared.serve.ServeEnd.{ServeEnd}
+use Rattle.vdcp_net.specs.declared.serve.ServeEnd.TheVariants as ends
+use Rattle.vdcp_net.specs.declared.serve.ServeSettings.{ServeSettings}
 use Rattle.vdcp_net.specs.declared.run.LineEnd.{LineEnd}
 use Rattle.vdcp_net.specs.declared.run.LineEnd.TheVariants as line_end
 use Rattle.vdcp_text.specs.declared.failure.Failure.{Failure}
@@ -42,16 +45,22 @@ ended_unneeded end answer outcome is h ended =
     subst (λ (e : LineEnd). (e ≡ line_end.Unneeded) ⊎ (e ≡ line_end.Failed)) (sym is) (ended_needs_none answer outcome h ended)
 
 -- what is printed of a server's turns
-pub prints_end : {A : Type 0} (answer : Result Ran DriveFault) (result : Result A Failure) (out out' : Option (List ℕ)) → EndsAs answer result out out'
-    → OnOk result ((ran : Ran) × PrintsEnd ran out out')
-prints_end (Ok ran) (Ok done) out out' h = (ran, h)
-prints_end (Ok ran) (Err failure) out out' h = tt
-prints_end (Err fault) (Ok done) out out' h = absurd h
-prints_end (Err fault) (Err failure) out out' h = tt
+pub prints_end : {A : Type 0} (answer : Result Ran DriveFault) (given_up : Bool) (result : Result A Failure) (out out' : Option (List ℕ))
+    → EndsAs answer given_up result out out' → OnOk result ((end : ServeEnd) × PrintsEnd end out out')
+prints_end (Ok ran) given_up (Ok done) out out' h = (end_of ran given_up, h)
+prints_end (Ok ran) given_up (Err failure) out out' h = tt
+prints_end (Err fault) given_up (Ok done) out out' h = absurd h
+prints_end (Err fault) given_up (Err failure) out out' h = tt
 
-pub fails_to_end : {A : Type 0} (answer : Result Ran DriveFault) (result : Result A Failure) (out out' : Option (List ℕ)) → EndsAs answer result out out'
-    → IfErr result (λ e. (e ≡ Writer) ⊎ ((e ≡ LineFailed) × Keeps out out'))
-fails_to_end (Ok ran) (Ok done) out out' h = tt
-fails_to_end (Ok ran) (Err failure) out out' h = inl h
-fails_to_end (Err fault) (Ok done) out out' h = absurd h
-fails_to_end (Err fault) (Err failure) out out' h = inr h
+pub fails_to_end : {A : Type 0} (answer : Result Ran DriveFault) (given_up : Bool) (result : Result A Failure) (out out' : Option (List ℕ))
+    → EndsAs answer given_up result out out' → IfErr result (λ e. (e ≡ Writer) ⊎ ((e ≡ LineFailed) × Keeps out out'))
+fails_to_end (Ok ran) given_up (Ok done) out out' h = tt
+fails_to_end (Ok ran) given_up (Err failure) out out' h = inl h
+fails_to_end (Err fault) given_up (Ok done) out out' h = absurd h
+fails_to_end (Err fault) given_up (Err failure) out out' h = inr h
+
+-- the server of one connection alone may end in each way
+pub may_end : (settings : ServeSettings) (end : ServeEnd) → settings.stay ≡ false → MayEnd settings end
+may_end settings ends.Closed alone = alone
+may_end settings ends.Idle alone = alone
+may_end settings ends.Spent alone = tt

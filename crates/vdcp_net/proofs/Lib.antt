@@ -1,4 +1,6 @@
 pub mod Ends
+mod GivenUp
+mod Kept
 mod Reached
 mod Unplayed
 mod Unserved

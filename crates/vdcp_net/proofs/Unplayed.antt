@@ -9,7 +9,7 @@ use Rattle.vdcp_text.specs.declared.failure.Failure.{Failure}
 use Rattle.vdcp_text.specs.declared.failure.Failure.TheVariants.{Address}
 use Rattle.vdcp_files.specs.Files.{File, file, file_failure}
 use Rattle.vdcp_wire.specs.Address.{IsAddress}
-use Rattle.vdcp_net.specs.Run.{IsListRefused, IsPlaceRefused, IsUnplayed, no_address, no_list, no_place, not_connected}
+use Rattle.vdcp_net.specs.Run.{IsListRefused, IsPlaceRefused, IsUnplayed, no_address, no_list, no_place, not_connected, not_empty, IsNotBegun}
 use Rattle.vdcp_net.specs.declared.run.RunSettings.{RunSettings}
 
 list_status : (name : Bor (List ℕ)) (fault : ListFault) → status_of (file_failure name fault) ≢ 2
@@ -57,23 +57,31 @@ told_with_2 settings text list failure status err err' (no_place some whole refu
 told_with_2 settings text list failure status err err' (not_connected some whole e) is told two =
     let three : status_of failure ≡ 3 = ap status_of e in
     absurd (omega (arith, three, own_status failure status is two))
+told_with_2 settings text list failure status err err' (not_empty some whole e) is told two =
+    let one : status_of failure ≡ 1 = ap status_of e in
+    absurd (omega (arith, one, own_status failure status is two))
 
 pub told_with_1 : (settings : RunSettings) (text : List ℕ) (list : File) (failure : Failure) (status : ℕ) (out err err' : Option (List ℕ))
     → IsUnplayed settings text list failure → (status ≡ status_of failure) ⊎ (status ≡ 3) → (status < 3 → Appends err err' (failure_line failure))
-    → status ≡ 1 → IsListRefused settings.rate list out out err err'
+    → status ≡ 1 → IsListRefused settings.rate list out out err err' ⊎ IsNotBegun settings.rate list out out err err'
 told_with_1 settings text list failure status out err err' (no_address none e) is told one =
     let two : status_of failure ≡ 2 = ap status_of e in
     absurd (omega (arith, two, own_status_1 failure status is one))
-told_with_1 settings text list failure status out err err' (no_list some refused) is told one = record {
+told_with_1 settings text list failure status out err err' (no_list some refused) is told one = inl (record {
   failure = failure;
   refused = refused;
   of_row = own_status_1 failure status is one;
   told = told (omega (arith, one));
   silent = keeps_itself out;
-}
+})
 told_with_1 settings text list failure status out err err' (no_place some whole refused) is told one =
     let three : status_of failure ≡ 3 = place_status settings.asrun failure refused in
     absurd (omega (arith, three, own_status_1 failure status is one))
 told_with_1 settings text list failure status out err err' (not_connected some whole e) is told one =
     let three : status_of failure ≡ 3 = ap status_of e in
     absurd (omega (arith, three, own_status_1 failure status is one))
+told_with_1 settings text list failure status out err err' (not_empty some whole e) is told one = inr (record {
+  whole = whole;
+  told = subst (λ (f : Failure). Appends err err' (failure_line f)) e (told (omega (arith, one)));
+  silent = keeps_itself out;
+})

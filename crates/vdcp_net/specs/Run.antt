@@ -54,6 +54,7 @@ line_failure line_end.Unneeded = None
 line_failure line_end.Closed = Some failures.LineClosed
 line_failure line_end.Spent = Some failures.Spent
 line_failure line_end.Failed = Some failures.LineFailed
+line_failure line_end.Occupied = Some failures.NotEmpty
 
 -- ---- the as-run file
 
@@ -143,7 +144,7 @@ pub record IsRun (settings : RunSettings) (list : File) (out out' : Option (List
   pub status_is : status ≡ run_status end
 
 -- why a list isn't played: the text is no address, or else the list isn't read, or else the as-run list can't be written, or
--- else nobody takes the connection
+-- else nobody takes the connection, or else the port isn't empty
 pub data IsUnplayed (settings : RunSettings) (text : List ℕ) (list : File) (failure : Failure) : Type 0 where
   no_address : ¬ IsAddress text → failure ≡ failures.Address → IsUnplayed settings text list failure
   no_list : IsAddress text → RefusesList settings.rate list failure → IsUnplayed settings text list failure
@@ -151,6 +152,14 @@ pub data IsUnplayed (settings : RunSettings) (text : List ℕ) (list : File) (fa
       IsUnplayed settings text list failure
   not_connected : IsAddress text → IsWholeList settings.rate list → failure ≡ failures.Connect →
       IsUnplayed settings text list failure
+  not_empty : IsAddress text → IsWholeList settings.rate list → failure ≡ failures.NotEmpty →
+      IsUnplayed settings text list failure
+
+-- a list isn't begun, since the port isn't empty: one writer gained the line that tells it, and the other nothing
+pub record IsNotBegun (rate : Rate) (list : File) (out out' err err' : Option (List ℕ)) : Type 0 where
+  pub whole : IsWholeList rate list
+  pub told : Appends err err' (failure_line failures.NotEmpty)
+  pub silent : Keeps out out'
 
 -- a row of the list is refused: one writer gained the line that tells it, and the other nothing
 pub record IsListRefused (rate : Rate) (list : File) (out out' err err' : Option (List ℕ)) : Type 0 where

@@ -1,17 +1,24 @@
 //! The subcommands `serve` and `run`: the two ends of a playout channel over TCP.
 //!
-//! `do_serve` waits for one automation at an address, and serves it with a new port. `do_run` connects to
-//! an address and plays a list through the port of the server there. Each fault has a line on standard error, and
-//! the exit status is given.
+//! `do_serve` waits for one automation at an address, or for one after another, and serves it with a new port.
+//! `do_run` connects to an address and plays a list through the port of the server there. Each fault has a line on
+//! standard error, and the exit status is given.
 //!
-//! Files: `serve` and `run` (a subcommand each), `asrun` (the as-run file) and `place` (how it comes to be), `log` (a line
-//! for each message), `progress` (the line of a terminal that shows how far a run is), `notice` (whether the port has
-//! answered).
+//! Files: `serve` and `run` (a subcommand each), `stay` (a port that is kept from one connection to the next),
+//! `entrance` (who takes these), `idling` (a line that is given up), `asrun` (the as-run file) and `place` (how it
+//! comes to be), `log` (a line for each message), `progress` (the line of a terminal that shows how far a run is),
+//! `statuses` (how many were answered in a row), `notice` (whether the port has answered), `lines` and `screen`
+//! (writers that don't wait), `dead` (a wire on which nothing comes). `Lines` and `Screen` are for what else is printed
+//! while a channel is up.
 #![tactic(auto)]
 
 #[cfg(test)]
 mod answers;
 mod asrun;
+mod dead;
+mod entrance;
+mod idling;
+mod lines;
 mod log;
 mod notice;
 #[cfg(test)]
@@ -21,7 +28,10 @@ mod progress;
 mod run;
 mod screen;
 mod serve;
+mod statuses;
+mod stay;
 
+pub use lines::Lines;
 pub use run::{RunSettings, Showing, do_run};
 pub use screen::Screen;
-pub use serve::{ServeSettings, do_serve};
+pub use serve::{ServeSettings, Telling, do_serve};

@@ -1,113 +1,68 @@
 ghost use Rattle.std.specs.Prelude.{◌≡◌};
 
-use crate::screen::write_at_once;
-use arrayvec::ArrayString;
+use crate::lines::Lines;
+use crate::statuses::{HINT, MANY, Statuses};
 use std::cell::Cell;
-use std::fmt::Write;
+use std::io::Write;
 use std::{fmt, io};
 use vdcp_drive::WatchAir;
-use vdcp_frame::{End, Ended, Got, Reader};
+use vdcp_frame::{End, Ended, Got, Message, Reader};
 use vdcp_text::{EndText, ItemText, MeaningText, MessageText};
 use vdcp_value::{Item, Rate};
 use vdcp_wire::{Came, PIECE, Wire, WireFault};
 
-/// Most bytes of a line; what stands further on isn't told.
-const MOST_BYTES: usize = 1024;
-
-/// The lines of a log. They go to its writer, until that fails: from then on no line goes there, and
-/// nothing else comes of the failure, since what is logged goes on without its log. Nor does it wait: where a writer
-/// takes nothing (`WouldBlock`), the line under way stays, and each further one is dropped; the next line that goes out
-/// is then `dropped` and how many.
+/// The lines of a log, as `Lines` writes them. They go to its writer, until that fails: from then on no line goes
+/// there, and nothing else comes of the failure, since what is logged goes on without its log.
 ///
 /// The writer is in a cell, since a wire and what watches over the other end of it share one log.
 #[derive(Drop)]
 pub struct Log<L: io::Write> {
     // None once it has failed.
     lines: Cell<Option<Lines<L>>>,
+    scope: Scope,
 }
 
-/// The line under way, and how many were dropped meanwhile.
-#[derive(Drop)]
-struct Lines<L> {
-    writer: L,
-    line: ArrayString<MOST_BYTES>,
-    // how many of its bytes went out
-    gone: usize,
-    dropped: u64,
+/// Which lines go to a log.
+#[derive(Clone, Copy, Debug, PartialEq, Eq)]
+enum Scope {
+    All,
+    /// Those of faults alone.
+    Faults,
 }
 
 impl<L: io::Write + Drop> Log<L> {
     /// A log with this writer.
     pub fn new(writer: L) -> Self {
+        Log::with_scope(writer, Scope::All)
+    }
+
+    /// A log of faults alone.
+    pub fn of_faults(writer: L) -> Self {
+        Log::with_scope(writer, Scope::Faults)
+    }
+
+    fn with_scope(writer: L, scope: Scope) -> Self {
         Log {
-            lines: Cell::new(Some(Lines {
-                writer,
-                line: ArrayString::new(),
-                gone: 0,
-                dropped: 0,
-            })),
+            scope,
+            lines: Cell::new(Some(Lines::new(writer))),
         }
     }
 
-    /// Adds a line.
+    /// Adds a line, unless only faults are told.
     pub fn tell<T: fmt::Display>(&self, line: &T) {
+        if let Scope::All = self.scope {
+            self.tell_fault(line);
+        }
+    }
+
+    /// Adds the line of a fault.
+    pub fn tell_fault<T: fmt::Display>(&self, line: &T) {
         let Some(mut lines) = self.lines.replace(None) else {
             return;
         };
-        if lines.tell(line).is_ok() {
+        if writeln!(lines, "{line}").is_ok() {
             let _ = self.lines.replace(Some(lines));
         }
-    }
-}
-
-impl<L: io::Write> Lines<L> {
-    // Adds a line, or counts it where the one before it is still under way.
-    fn tell<T: fmt::Display>(&mut self, line: &T) -> io::Result<()> {
-        if self.is_under_way()? {
-            self.dropped = self.dropped.saturating_add(1);
-            return Ok(());
-        }
-        if self.dropped > 0 {
-            let dropped = self.dropped;
-            self.begin(&format_args!("dropped {dropped}"));
-            self.dropped = 0;
-            if self.is_under_way()? {
-                self.dropped = 1;
-                return Ok(());
-            }
-        }
-        self.begin(line);
-        self.is_under_way()?;
-        Ok(())
-    }
-
-    // Begins a line.
-    fn begin<T: fmt::Display>(&mut self, line: &T) {
-        self.line.clear();
-        self.gone = 0;
-        let _ = write!(self.line, "{line}");
-        // (a line that is cut ends all the same)
-        if self.line.remaining_capacity() == 0 {
-            let _ = self.line.pop();
-        }
-        let _ = self.line.try_push('\n');
-    }
-
-    // Writes what the writer takes of the line, and says whether some is left.
-    fn is_under_way(&mut self) -> io::Result<bool> {
-        let line = self.line.as_bytes();
-        let left = &line[self.gone.min(line.len())..];
-        if left.is_empty() {
-            return Ok(false);
-        }
-        self.gone = self
-            .gone
-            .saturating_add(write_at_once(&mut self.writer, left)?);
-        if self.gone < self.line.len() {
-            return Ok(true);
-        }
-        self.writer.flush()?;
-        Ok(false)
     }
 }
 
@@ -128,12 +83,14 @@ impl fmt::Display for Direction {
 }
 
 /// A wire that logs each message that came by another wire or went out there, and each end of a burst that
-/// isn't clean: the lines of the burst's reading with words, but for `clean`.
+/// isn't clean: the lines of the burst's reading with words, but for `clean`. Where `MANY` statuses were answered with
+/// no other command between, a line says so.
 #[derive(Drop)]
 pub struct Logged<'a, W: Wire, L: io::Write> {
     wire: W,
     log: &'a Log<L>,
     came: Reader,
+    statuses: Statuses,
 }
 
 impl<'a, W: Wire, L: io::Write + Drop> Logged<'a, W, L> {
@@ -145,6 +102,7 @@ impl<'a, W: Wire, L: io::Write + Drop> Logged<'a, W, L> {
             wire,
             log,
             came: Reader::new(),
+            statuses: Statuses::new(),
         }
     }
 }
@@ -157,7 +115,13 @@ impl<W: Wire, L: io::Write + Drop> Wire for Logged<'_, W, L> {
     fn send(&mut self, bytes: &[u8]) -> Result<(), WireFault> {
         self.wire.send(bytes)?;
         let mut sent = Reader::new();
-        tell_piece(self.log, Direction::Out, &mut sent, bytes);
+        tell_piece(
+            self.log,
+            Direction::Out,
+            &mut sent,
+            &mut self.statuses,
+            bytes,
+        );
         tell_end(self.log, Direction::Out, &mut sent);
         Ok(())
     }
@@ -165,7 +129,16 @@ impl<W: Wire, L: io::Write + Drop> Wire for Logged<'_, W, L> {
     fn listen(&mut self, buffer: &mut [u8; PIECE]) -> Result<Came, WireFault> {
         let came = self.wire.listen(buffer)?;
         match came {
-            Came::Bytes(n) => tell_piece(self.log, Direction::In, &mut self.came, &buffer[..n]),
+            Came::Bytes(n) => {
+                let piece = &buffer[..n];
+                tell_piece(
+                    self.log,
+                    Direction::In,
+                    &mut self.came,
+                    &mut self.statuses,
+                    piece,
+                )
+            }
             Came::Silence | Came::Closed => tell_end(self.log, Direction::In, &mut self.came),
         }
         Ok(came)
@@ -214,18 +187,35 @@ fn tell_piece<L: io::Write + Drop>(
     log: &Log<L>,
     direction: Direction,
     reader: &mut Reader,
+    statuses: &mut Statuses,
     piece: &[u8],
 ) {
     let mut rest = piece;
     'piece: loop {
         match reader.next(&mut rest) {
-            Got::Message(message) => {
-                let text = MessageText(message);
-                let meaning = MeaningText(message);
-                log.tell(&format_args!("{direction} {text}{meaning}"));
-            }
-            Got::Fault(fault, place) => tell_fault(log, direction, End::Fault(fault, place)),
+            Got::Message(message) => tell_message(log, direction, statuses, message),
+            Got::Fault(fault, place) => tell_burst_fault(log, direction, End::Fault(fault, place)),
             Got::More => return,
+        }
+    }
+}
+
+// Tells a message, and where it is the answer to the last of many statuses, that there were.
+fn tell_message<L: io::Write + Drop>(
+    log: &Log<L>,
+    direction: Direction,
+    statuses: &mut Statuses,
+    message: Message<'_>,
+) {
+    let text = MessageText(message);
+    let meaning = MeaningText(message);
+    log.tell(&format_args!("{direction} {text}{meaning}"));
+    match direction {
+        Direction::Out => statuses.ask(&message),
+        Direction::In => {
+            if statuses.answer() {
+                log.tell(&format_args!("status answered {MANY} times: {HINT}"));
+            }
         }
     }
 }
@@ -233,12 +223,12 @@ fn tell_piece<L: io::Write + Drop>(
 // The burst ends: tells where it was cut.
 fn tell_end<L: io::Write + Drop>(log: &Log<L>, direction: Direction, reader: &mut Reader) {
     match reader.silence() {
-        Ended::Cut(count) => tell_fault(log, direction, End::Cut(count)),
+        Ended::Cut(count) => tell_burst_fault(log, direction, End::Cut(count)),
         Ended::Clean | Ended::AfterFault => {}
     }
 }
 
-fn tell_fault<L: io::Write + Drop>(log: &Log<L>, direction: Direction, end: End) {
+fn tell_burst_fault<L: io::Write + Drop>(log: &Log<L>, direction: Direction, end: End) {
     let end = EndText(end);
     log.tell(&format_args!("{direction} {end}"));
 }

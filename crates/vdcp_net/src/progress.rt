@@ -1,4 +1,5 @@
 use crate::screen::write_at_once;
+use crate::statuses::{HINT, MANY, Statuses, is_status};
 use arrayvec::ArrayString;
 use std::fmt::{self, Write};
 use std::io;
@@ -15,17 +16,23 @@ const REDRAWN_AFTER: u128 = 100;
 /// The columns of a line at most, so that no terminal breaks it in two.
 const MOST_COLUMNS: usize = 79;
 
+/// An answered status takes two waits: one for its bytes, and one for the silence that ends it.
+const MANY_WAITS: u32 = 2 * MANY;
+
 /// Puts the cursor at the front of its line, and erases that.
 const ERASE: &'static str = "\r\x1b[K";
 
 /// A line of a terminal that shows how far a run is: the event at hand, the command whose answer is awaited,
 /// how many events are reported, and the time so far. It is drawn again where something changed, and ten
-/// times a second at most where nothing did. Where the terminal or the clock fails, nothing more is drawn.
+/// times a second at most where nothing did. Where `MANY_WAITS` waits in a row were for the answer to a status, it says
+/// what to look at. Where the terminal or the clock fails, nothing more is drawn.
 #[derive(Drop)]
 pub struct Progress<'a, R: Clock, V: io::Write> {
     clock: &'a R,
     terminal: V,
     drawing: Drawing,
+    // (a wait counts as an answer)
+    waits: Statuses,
 }
 
 /// What stands on the terminal.
@@ -49,6 +56,8 @@ struct Glance {
     /// The event that is reported next, if one is left.
     event: Option<ClipId>,
     command: Command,
+    /// There were many waits for the answer to a status.
+    has_many: bool,
     reported: usize,
     /// How many events there are.
     events: usize,
@@ -61,6 +70,7 @@ impl<'a, R: Clock, V: io::Write> Progress<'a, R, V> {
             clock,
             terminal,
             drawing: Drawing::Blank,
+            waits: Statuses::new(),
         }
     }
 
@@ -71,6 +81,13 @@ impl<'a, R: Clock, V: io::Write> Progress<'a, R, V> {
             let _ = self.terminal.flush();
             self.drawing = Drawing::Blank;
         }
+    }
+
+    // Counts a wait for the answer to a command, and says whether there were many for a status.
+    fn count(&mut self, command: &Command) -> bool {
+        self.waits.ask_one(is_status(command));
+        let _ = self.waits.answer();
+        self.waits.answered >= MANY_WAITS
     }
 
     // Draws what is seen now, if it is to be drawn.
@@ -120,18 +137,22 @@ fn begun_before(drawing: Drawing, glance: &Glance, now: Instant) -> Option<Insta
 
 impl<S: Source, R: Clock, V: io::Write> Watch<S> for Progress<'_, R, V> {
     fn look(&mut self, controller: &Controller<S>) {
-        let Some(glance) = Glance::of(controller) else {
+        let Some(command) = controller.awaited() else {
             return;
         };
-        if self.show(glance).is_err() {
+        let has_many = self.count(&command);
+        if self
+            .show(Glance::of(controller, command, has_many))
+            .is_err()
+        {
             self.drawing = Drawing::Failed;
         }
     }
 }
 
 impl Glance {
-    // What is seen of a controller; None where it awaits no answer.
-    fn of<S: Source>(controller: &Controller<S>) -> Option<Glance> {
+    // What is seen of a controller that awaits the answer to this command.
+    fn of<S: Source>(controller: &Controller<S>, command: Command, has_many: bool) -> Glance {
         let source = controller.source();
         let reported = controller.settled();
         let events = source.len();
@@ -140,12 +161,13 @@ impl Glance {
         } else {
             None
         };
-        Some(Glance {
+        Glance {
             event,
-            command: controller.awaited()?,
+            command,
+            has_many,
             reported,
             events,
-        })
+        }
     }
 }
 
@@ -163,7 +185,11 @@ impl fmt::Display for Glance {
         let mut text = ArrayString::<64>::new();
         self.command.show(&mut text);
         let command = text.as_str();
-        write!(f, "{command}, {reported} of {events} reported")
+        write!(f, "{command}")?;
+        if self.has_many {
+            write!(f, " ({HINT})")?;
+        }
+        write!(f, ", {reported} of {events} reported")
     }
 }
 

@@ -1,18 +1,21 @@
 ghost use Rattle.std.specs.Io.KnownBytes.{Appends, Keeps};
-ghost use Rattle.std.specs.Prelude.{◌≡◌, ◌⊎◌, ◌≤◌, List, IfErr, IfOk, OnErr, OnOk, Result};
+ghost use Rattle.std.specs.Prelude.{◌≡◌, ◌≢◌, ◌⊎◌, ◌≤◌, true, false, List, IfErr, IfOk, IsSome, Ok, OnErr, OnOk, Result, Some};
 ghost use Rattle.vdcp_auto.specs.Course.{Reached};
 ghost use Rattle.vdcp_auto.specs.Plan.{plan_of};
 ghost use Rattle.vdcp_auto.specs.Turn as turns;
 ghost use Rattle.vdcp_auto.specs.declared.exchange.Exchange.{Exchange};
 ghost use Rattle.vdcp_drive.specs.RunLeaves.{RunLeaves};
+ghost use Rattle.vdcp_drive.specs.Vacancy.{HasAsked};
 ghost use Rattle.vdcp_files.specs.Files.{IsWholeList, file};
 ghost use Rattle.vdcp_files.specs.Mode.{mode_of};
 ghost use Rattle.vdcp_wire.specs.Address.{IsAddress};
-ghost use Rattle.vdcp_net.specs.Run.{IsEndOf, IsListRefused, IsPlayed, IsRun, IsUnplayed, MayBeUnwritten};
+ghost use Rattle.vdcp_wire.specs.Wires.{IfTold, nothing_told};
+ghost use Rattle.vdcp_net.specs.Run.{IsEndOf, IsListRefused, IsNotBegun, IsPlayed, IsRun, IsUnplayed, MayBeUnwritten};
 ghost use Rattle.vdcp_net.specs.Run.{end_text, fault_text, faults_text, line_end_of, line_failure, run_status};
 ghost use Rattle.vdcp_text.specs.Failure.{failure_line};
 
 use crate::asrun::{Older, save_asrun};
+use crate::dead::DeadWire;
 use crate::log::{Log, Logged};
 use crate::notice::Notice;
 use crate::place::test_place;
@@ -22,11 +25,11 @@ use std::net::{Net, OpenStream, SocketAddr};
 use std::rt::{Clock, Files};
 use std::time::Duration;
 use vdcp_auto::{Controller, Outcome, Source};
-use vdcp_drive::{AutoDriver, DriveFault, Ran, Unwatched, Watch};
+use vdcp_drive::{AutoDriver, DriveFault, Ran, Unwatched, Vacancy, Watch, ask_port};
 use vdcp_files::NamedFile;
 use vdcp_text::{Failure, OutcomeText};
 use vdcp_value::Rate;
-use vdcp_wire::{StreamWire, Wire, address_of};
+use vdcp_wire::{StreamWire, Wire, WireFault, address_of};
 
 /// What a list is played with.
 #[derive(Clone, Copy, Debug, PartialEq, Eq)]
@@ -72,6 +75,8 @@ enum LineEnd {
     Spent,
     /// It failed.
     Failed,
+    /// The port has something cued or plays something, and the list wasn't begun.
+    Occupied,
 }
 
 impl LineEnd {
@@ -96,6 +101,7 @@ impl LineEnd {
             LineEnd::Closed => Some(Failure::LineClosed),
             LineEnd::Spent => Some(Failure::Spent),
             LineEnd::Failed => Some(Failure::LineFailed),
+            LineEnd::Occupied => Some(Failure::NotEmpty),
         }
     }
 }
@@ -184,10 +190,15 @@ fn write_fault<E: io::Write>(failure: Option<Failure<'_>>, err: &mut E) -> io::R
 /// Foreign or Strange. It is 3 where it ended Lost, where the other end closed, the listens are used up or
 /// the line failed, and where the as-run list isn't written.
 ///
+/// In confirm mode the port is asked first, by OPEN, SELECT and STATUS. Where something is cued at it or plays, the
+/// run ends. Questions that aren't answered, as many as the limit in a row, end it as Lost, and an OPEN that is
+/// denied as Denied.
+///
 /// Where it doesn't come to this, no file is made, `out` gets nothing, and `err` gets one fault line. The
 /// status is 2 where the address is none, which is tested before the list is read; 1 where a row of the list
-/// is refused; and 3 where the list can't be read, memory was refused or nobody takes the connection. It is 3
-/// too where `out` or `err` failed. To a writer that failed nothing more is written.
+/// is refused, and where the port isn't empty; and 3 where the list can't be read, memory was refused or
+/// nobody takes the connection. It is 3 too where `out` or `err` failed. To a writer that failed nothing more
+/// is written.
 pub fn do_run<
     R: Net + Files + Clock + AllocGlobal,
     L: io::Read + Drop,
@@ -209,12 +220,14 @@ pub fn do_run<
     ensures run { result ≡ 0 → IsRun settings.entry (file list.entry.name (L.remaining list.entry.reader))
         (W.contents out.old) (W.contents out.new) 0 }
     ensures untold { result ≡ 0 → Keeps (E.contents err.old) (E.contents err.new) }
-    // The status is 1 for how the controller ended, and for a row that is refused.
+    // The status is 1 for how the controller ended, for a row that is refused, and for a port that isn't empty.
     ensures others { result ≡ 1 →
         (IsRun settings.entry (file list.entry.name (L.remaining list.entry.reader)) (W.contents out.old)
         (W.contents out.new) 1
         × Keeps (E.contents err.old) (E.contents err.new))
         ⊎ IsListRefused settings.entry.rate (file list.entry.name (L.remaining list.entry.reader))
+        (W.contents out.old) (W.contents out.new) (E.contents err.old) (E.contents err.new)
+        ⊎ IsNotBegun settings.entry.rate (file list.entry.name (L.remaining list.entry.reader))
         (W.contents out.old) (W.contents out.new) (E.contents err.old) (E.contents err.new) }
     // The status is 2 for an address that is none, unless this can't be told.
     ensures no_address { result ≡ 2 → ¬ IsAddress address.now
@@ -259,7 +272,11 @@ fn run_list<'a, R: Net + Files + Clock + AllocGlobal, L: io::Read + Drop, V: io:
         return Err(Failure::Connect);
     };
     let controller = new_controller(events, settings);
-    Ok(play_connected(rt, controller, stream, settings, showing))
+    let end = play_connected(rt, controller, stream, settings, showing);
+    match end.line {
+        LineEnd::Occupied => Err(Failure::NotEmpty),
+        _ => Ok(end),
+    }
 }
 
 // Plays a list over a connection.
@@ -276,7 +293,8 @@ fn play_connected<
     settings: RunSettings<'a>,
     showing: Showing<V>,
 ) -> RunEnd<'a>
-    requires { settings.unit ≤ 15 }
+    requires unit { settings.unit ≤ 15 }
+    requires some { 1 ≤ settings.limit }
     ensures unwritten { MayBeUnwritten settings.entry.asrun result.unwritten }
     // Whatever the controller's log is: from there it came to this end.
     ensures end { (log : List Exchange) → Reached (plan_of S.items controller) controller.state log →
@@ -302,6 +320,7 @@ fn play_over<
     showing: Showing<V>,
 ) -> RunEnd<'a>
     requires unit { settings.unit ≤ 15 }
+    requires some { 1 ≤ settings.limit }
     requires works { IfOk wire (λ w. W.failures w ≡ 0) }
     ensures failed { OnErr wire (result.line ≡ LineEnd.Failed) }
     ensures unwritten { MayBeUnwritten settings.entry.asrun result.unwritten }
@@ -330,31 +349,133 @@ fn play_shown<
     showing: Showing<V>,
 ) -> RunEnd<'a>
     requires unit { settings.unit ≤ 15 }
+    requires some { 1 ≤ settings.limit }
     requires works { W.failures wire ≡ 0 }
     ensures unwritten { MayBeUnwritten settings.entry.asrun result.unwritten }
     // Whatever the controller's log is: from there it came to this end.
     ensures end { (log : List Exchange) → Reached (plan_of S.items controller) controller.state log →
         IsEndOf (plan_of S.items controller) result }
 {
-    let unit = settings.unit;
     match showing {
-        Showing::Nothing => {
-            let mut driver = AutoDriver::new(controller, unit, wire);
-            play(rt, &mut driver, &mut Unwatched, settings)
-        }
+        Showing::Nothing => play_asked(rt, controller, wire, &mut Unwatched, settings),
         Showing::Progress(terminal) => {
-            let mut driver = AutoDriver::new(controller, unit, wire);
             let mut progress = Progress::new(rt, terminal);
-            let end = play(rt, &mut driver, &mut progress, settings);
+            let end = play_asked(rt, controller, wire, &mut progress, settings);
             progress.clear();
             end
         }
         Showing::Messages(writer) => {
             let log = Log::new(writer);
-            let mut driver = AutoDriver::new(controller, unit, Logged::new(wire, &log));
-            play(rt, &mut driver, &mut Unwatched, settings)
+            let wire = Logged::new(wire, &log);
+            play_asked(rt, controller, wire, &mut Unwatched, settings)
         }
     }
+}
+
+// Plays a list over a wire. In confirm mode, where another item than the list's could go to air if it was cued before,
+// the port is asked first, and the list is begun only if nothing is cued there and nothing plays.
+fn play_asked<'a, R: Files + Clock + AllocGlobal, S: Source + Drop, W: Wire + Drop, V: Watch<S>>(
+    rt: &R,
+    controller: Controller<S>,
+    mut wire: W,
+    watcher: &mut V,
+    settings: RunSettings<'a>,
+) -> RunEnd<'a>
+    requires unit { settings.unit ≤ 15 }
+    requires some { 1 ≤ settings.limit }
+    requires works { W.failures wire ≡ 0 }
+    ensures unwritten { MayBeUnwritten settings.entry.asrun result.unwritten }
+    // Whatever the controller's log is: from there it came to this end.
+    ensures end { (log : List Exchange) → Reached (plan_of S.items controller) controller.state log →
+        IsEndOf (plan_of S.items controller) result }
+{
+    let mut left = settings.listens;
+    match vacancy_for(settings, &mut left, &mut wire) {
+        // (one that was denied is denied again)
+        Ok(Vacancy::Vacant | Vacancy::Denied) => {
+            let rest = RunSettings {
+                listens: left,
+                ..settings
+            };
+            play_on(rt, controller, wire, watcher, rest)
+        }
+        Ok(Vacancy::Unanswered) => play_on(rt, controller, DeadWire, watcher, settings),
+        Ok(Vacancy::Occupied(_)) => unbegun(rt, &controller, LineEnd::Occupied, settings),
+        Ok(Vacancy::Closed) => unbegun(rt, &controller, LineEnd::Closed, settings),
+        Ok(Vacancy::Spent) => unbegun(rt, &controller, LineEnd::Spent, settings),
+        Err(WireFault) => unbegun(rt, &controller, LineEnd::Failed, settings),
+    }
+}
+
+// Asks the port whether it is empty, if that matters. `left` is how many listens may be made.
+fn vacancy_for<W: Wire>(
+    settings: RunSettings<'_>,
+    left: &mut u32,
+    wire: &mut W,
+) -> Result<Vacancy, WireFault>
+    requires unit { settings.unit ≤ 15 }
+    requires some { 1 ≤ settings.limit }
+    requires works { W.failures wire.old ≡ 0 }
+    ensures works { OnOk result (W.failures wire.new ≡ 0) }
+    ensures plain { settings.entry.confirm ≡ false → (result ≡ Ok Vacancy.Vacant) × (wire.new ≡ wire.old) }
+    ensures asks { settings.entry.confirm ≡ true → W.told wire.old ≡ Some nothing_told →
+        IfOk result (λ answer. IfTold (W.told wire.new) (λ u.
+        HasAsked settings.entry.unit settings.entry.port settings.entry.limit left.old left.new u answer)) }
+{
+    if !settings.confirm {
+        return Ok(Vacancy::Vacant);
+    }
+    ask_port(settings.unit, settings.port, settings.limit, left, wire)
+}
+
+// Plays a list over a wire, whose port it may be played through.
+fn play_on<'a, R: Files + Clock + AllocGlobal, S: Source + Drop, W: Wire + Drop, V: Watch<S>>(
+    rt: &R,
+    controller: Controller<S>,
+    wire: W,
+    watcher: &mut V,
+    settings: RunSettings<'a>,
+) -> RunEnd<'a>
+    requires unit { settings.unit ≤ 15 }
+    requires works { W.failures wire ≡ 0 }
+    ensures unwritten { MayBeUnwritten settings.entry.asrun result.unwritten }
+    // Whatever the controller's log is: from there it came to this end.
+    ensures end { (log : List Exchange) → Reached (plan_of S.items controller) controller.state log →
+        IsEndOf (plan_of S.items controller) result }
+{
+    let mut driver = AutoDriver::new(controller, settings.unit, wire);
+    play(rt, &mut driver, watcher, settings)
+}
+
+// How a run has ended whose list wasn't begun. That its controller has ended goes before that. Where the port isn't
+// empty no as-run list is written.
+fn unbegun<'a, R: Files + AllocGlobal, S: Source>(
+    rt: &R,
+    controller: &Controller<S>,
+    line: LineEnd,
+    settings: RunSettings<'a>,
+) -> RunEnd<'a>
+    requires { line ≢ LineEnd.Unneeded }
+    ensures outcome { result.outcome ≡ turns.outcome_of controller.now.state.stage }
+    ensures reported { result.reported ≡ controller.now.state.settled }
+    ensures unneeded { result.line ≡ LineEnd.Unneeded → IsSome result.outcome }
+    ensures ended { IsSome result.outcome → result.line ≡ LineEnd.Unneeded }
+    ensures unwritten { MayBeUnwritten settings.entry.asrun result.unwritten }
+{
+    let outcome = controller.outcome();
+    if outcome.is_some() {
+        return ended(rt, controller, LineEnd::Unneeded, false, settings);
+    }
+    if line == LineEnd::Occupied {
+        let reported = controller.settled();
+        return RunEnd {
+            outcome,
+            reported,
+            line,
+            unwritten: None,
+        };
+    }
+    ended(rt, controller, line, false, settings)
 }
 
 // The new controller of a list.

@@ -73,8 +73,8 @@ impl<W: Write + AsRawFd> Write for Screen<W> {
     }
 }
 
-/// Writes as many of the bytes as the writer takes, up to one that would wait, and says how many. Err where the writer
-/// fails.
+/// Writes as many of the bytes as the writer takes, up to one that would wait, and says how many. A write that was
+/// interrupted is made again. Err where the writer fails.
 pub fn write_at_once<W: Write>(writer: &mut W, bytes: &[u8]) -> io::Result<usize>
     ensures within { IfOk result (λ n. n ≤ length bytes.now) }
     ensures beginning { IfOk result (λ n. Appends (W.contents writer.old) (W.contents writer.new) (take n bytes.now)) }
@@ -88,6 +88,7 @@ pub fn write_at_once<W: Write>(writer: &mut W, bytes: &[u8]) -> io::Result<usize
             Ok(0) => return Err(io::Error::from(ErrorKind::WriteZero)),
             Ok(count) => written += count,
             Err(error) if error.kind() == ErrorKind::WouldBlock => break,
+            Err(error) if error.kind() == ErrorKind::Interrupted => continue,
             Err(error) => return Err(error),
         }
     }

@@ -1,5 +1,5 @@
-ghost use Rattle.clap.specs.Matches.{found_of};
-ghost use Rattle.std.specs.Prelude.{◌≡◌, ◌≤◌, ℕ, codes};
+ghost use Rattle.clap.specs.Matches.{first_value, found_of};
+ghost use Rattle.std.specs.Prelude.{◌≡◌, ◌≤◌, ℕ, codes, IfSome, None, Some};
 ghost use Rattle.vdcp_options.specs.Options.{GivesNumber, WritesNumber};
 
 use clap::{Arg, ArgMatches, value_parser};
@@ -41,7 +41,7 @@ pub const LIMIT: NumberOption = NumberOption {
     least: 1,
     most: 1_000,
     default: "3",
-    help: "The controller gives up after so many unanswered exchanges in a row, 1 to 1000",
+    help: "The controller gives up after this many unanswered exchanges in a row, 1 to 1000",
 };
 
 /// The limit over TCP: the port isn't given up before the system has had the time to send twice what was lost.
@@ -51,7 +51,7 @@ pub const RUN_LIMIT: NumberOption = NumberOption {
     least: 1,
     most: 1_000,
     default: "10",
-    help: "The controller gives up after so many unanswered exchanges in a row, 1 to 1000",
+    help: "The controller gives up after this many unanswered exchanges in a row, 1 to 1000",
 };
 
 pub const CUE_FRAMES: NumberOption = NumberOption {
@@ -60,7 +60,7 @@ pub const CUE_FRAMES: NumberOption = NumberOption {
     least: 1,
     most: 1_000,
     default: "1",
-    help: "A cue takes so many frames, 1 to 1000",
+    help: "How many frames a cue takes, 1 to 1000",
 };
 
 pub const SERVE_SILENCE: NumberOption = NumberOption {
@@ -69,7 +69,7 @@ pub const SERVE_SILENCE: NumberOption = NumberOption {
     least: 1,
     most: 60_000,
     default: "20",
-    help: "A command has ended, and a frame has passed, when nothing came for so many milliseconds, 1 to 60000",
+    help: "A command has ended, and a frame has passed, when nothing came for this many milliseconds, 1 to 60000",
 };
 
 pub const RUN_SILENCE: NumberOption = NumberOption {
@@ -78,7 +78,7 @@ pub const RUN_SILENCE: NumberOption = NumberOption {
     least: 1,
     most: 60_000,
     default: "100",
-    help: "An answer has ended when nothing came for so many milliseconds, 1 to 60000; more than the server's",
+    help: "An answer has ended when nothing came for this many milliseconds, 1 to 60000; more than the server's",
 };
 
 pub const TURNS: NumberOption = NumberOption {
@@ -87,7 +87,7 @@ pub const TURNS: NumberOption = NumberOption {
     least: 1,
     most: u32::MAX,
     default: "4294967295",
-    help: "Ends after so many waits for bytes or for a silence",
+    help: "Ends after this many waits for bytes or for a silence",
 };
 
 pub const LISTENS: NumberOption = NumberOption {
@@ -96,7 +96,7 @@ pub const LISTENS: NumberOption = NumberOption {
     least: 1,
     most: u32::MAX,
     default: "4294967295",
-    help: "Gives up after so many waits for bytes or for a silence",
+    help: "Gives up after this many waits for bytes or for a silence",
 };
 
 pub const SEED: NumberOption = NumberOption {
@@ -114,7 +114,7 @@ pub const LOSE: NumberOption = NumberOption {
     least: 0,
     most: 100,
     default: "10",
-    help: "Of 100 bursts so many are lost, 0 to 100",
+    help: "How many of 100 bursts are lost, 0 to 100",
 };
 
 pub const COPY: NumberOption = NumberOption {
@@ -123,7 +123,7 @@ pub const COPY: NumberOption = NumberOption {
     least: 0,
     most: 100,
     default: "10",
-    help: "Of 100 bursts so many come twice, 0 to 100",
+    help: "How many of 100 bursts come twice, 0 to 100",
 };
 
 pub const CUT: NumberOption = NumberOption {
@@ -132,7 +132,7 @@ pub const CUT: NumberOption = NumberOption {
     least: 0,
     most: 100,
     default: "5",
-    help: "Of 100 bursts so many end early, 0 to 100",
+    help: "How many of 100 bursts end early, 0 to 100",
 };
 
 pub const DAMAGE: NumberOption = NumberOption {
@@ -141,7 +141,7 @@ pub const DAMAGE: NumberOption = NumberOption {
     least: 0,
     most: 100,
     default: "5",
-    help: "Of 100 bursts so many have bytes changed, 0 to 100",
+    help: "How many of 100 bursts have bytes changed, 0 to 100",
 };
 
 pub const FORGE: NumberOption = NumberOption {
@@ -150,7 +150,7 @@ pub const FORGE: NumberOption = NumberOption {
     least: 0,
     most: 100,
     default: "0",
-    help: "Of 100 answers, or where none comes, so many are an ACK or a NAK, 0 to 100; for a run with --confirm",
+    help: "How many of 100 exchanges end with a forged ACK or NAK, 0 to 100; for a run with --confirm",
 };
 
 pub const LOSSY_SILENCE: NumberOption = NumberOption {
@@ -159,7 +159,7 @@ pub const LOSSY_SILENCE: NumberOption = NumberOption {
     least: 1,
     most: 60_000,
     default: "30",
-    help: "A burst has ended when nothing came for so many milliseconds, 1 to 60000; more than the server's",
+    help: "A burst has ended when nothing came for this many milliseconds, 1 to 60000; more than the server's",
 };
 
 pub const WITHIN: NumberOption = NumberOption {
@@ -168,7 +168,7 @@ pub const WITHIN: NumberOption = NumberOption {
     least: 1,
     most: 60_000,
     default: "80",
-    help: "Nothing goes on so many milliseconds after its command, 1 to 60000; less than the silence of the run",
+    help: "Nothing goes on this many milliseconds after its command, 1 to 60000; less than the silence of the run",
 };
 
 /// The option, for the command line.
@@ -180,6 +180,26 @@ pub fn number_option<'a>(alloc: Global, option: &NumberOption) -> Arg<'a> {
         .value_parser(value_parser!(u32).range(range))
         .default_value(option.default)
         .help(option.help)
+}
+
+/// The option `--idle`, for the command line: a number of seconds, 1 to 86400. Left out, it says none.
+pub fn idle_option<'a>(alloc: Global) -> Arg<'a> {
+    Arg::new(alloc, "idle")
+        .long("idle")
+        .value_name("S")
+        .value_parser(value_parser!(u32).range(1..=86_400))
+        .help("A connection has ended when nothing came by it for this many seconds, at most 86400")
+}
+
+/// For how many seconds a connection may be idle, if that is bounded.
+pub fn idle_of(matches: &ArgMatches) -> Option<u32>
+    ensures least { IfSome result (λ seconds. 1 ≤ seconds) }
+    ensures most { IfSome result (λ seconds. seconds ≤ 86400) }
+    ensures number { (n : ℕ) → GivesNumber (found_of matches.now) (codes "idle") 1 86400 n → result ≡ Some n }
+    ensures missing { first_value (found_of matches.now) (codes "idle") ≡ None → result ≡ None }
+{
+    let text = matches.get_str("idle")?;
+    Some(number_in(text, 1, 86_400))
 }
 
 /// The number that the option's text writes; `clap` lets no text through that writes none in the

@@ -1,11 +1,11 @@
 ghost use Rattle.clap.specs.Matches.{first_value, found_of};
-ghost use Rattle.std.specs.Prelude.{◌≡◌, ◌≤◌, ℕ, codes, false, option_map, true};
+ghost use Rattle.std.specs.Prelude.{◌≡◌, ◌≤◌, ℕ, codes, false, None, option_map, Some, true};
 ghost use Rattle.vdcp_options.specs.Options.{GivesNumber, GivesRate, HasFlag};
 ghost use Rattle.vdcp_value.specs.declared.rate.Rate.{Rate};
 
 use crate::number::{
     COPY, CUT, DAMAGE, FORGE, LISTENS, LOSE, LOSSY_SILENCE, RUN_SILENCE, SEED, SERVE_SILENCE,
-    WITHIN, cue_frames_of, limit_of, number_of, port_of, turns_of, unit_of,
+    WITHIN, cue_frames_of, idle_of, limit_of, number_of, port_of, turns_of, unit_of,
 };
 use crate::rate::rate_of;
 use clap::ArgMatches;
@@ -67,6 +67,10 @@ pub fn serve_settings_of(matches: &ArgMatches) -> ServeSettings
     ensures silences { (n : ℕ) → GivesNumber (found_of matches.now) (codes "silence") 1 60000 n → result.silence ≡ n }
     ensures turns { (n : ℕ) → GivesNumber (found_of matches.now) (codes "turns") 1 4294967295 n → result.turns ≡ n }
     ensures rates { (rate : Rate) → GivesRate (found_of matches.now) (codes "rate") rate → result.rate ≡ rate }
+    ensures stays { HasFlag (found_of matches.now) (codes "stay") true → result.stay ≡ true }
+    ensures stays_not { HasFlag (found_of matches.now) (codes "stay") false → result.stay ≡ false }
+    ensures idles { (n : ℕ) → GivesNumber (found_of matches.now) (codes "idle") 1 86400 n → result.idle ≡ Some n }
+    ensures idles_not { first_value (found_of matches.now) (codes "idle") ≡ None → result.idle ≡ None }
 {
     ServeSettings {
         unit: unit_of(matches),
@@ -75,6 +79,8 @@ pub fn serve_settings_of(matches: &ArgMatches) -> ServeSettings
         rate: rate_of(matches),
         silence: number_of(matches, &SERVE_SILENCE),
         turns: turns_of(matches),
+        stay: flag_of(matches, "stay"),
+        idle: idle_of(matches),
     }
 }
 

@@ -79,13 +79,31 @@ keeps_kept : (change : Change) (p : ClockedPort) → IsDue p.clips p.state chang
     → IsKept (after_change change p)
 keeps_kept keeps p due k = k
 keeps_kept opens p due k =
-    record { cue_takes = k.cue_takes; cued = k.cued; playing = k.playing; cue_count = k.cue_count; playing_count = k.playing_count }
+    record {
+      cue_takes = k.cue_takes;
+      cued = k.cued;
+      playing = k.playing;
+      cue_count = k.cue_count;
+      playing_count = k.playing_count;
+    }
 keeps_kept closes p due k =
     record { cue_takes = k.cue_takes; cued = tt; playing = tt; cue_count = refl; playing_count = refl }
 keeps_kept selects p due k =
-    record { cue_takes = k.cue_takes; cued = k.cued; playing = k.playing; cue_count = k.cue_count; playing_count = k.playing_count }
+    record {
+      cue_takes = k.cue_takes;
+      cued = k.cued;
+      playing = k.playing;
+      cue_count = k.cue_count;
+      playing_count = k.playing_count;
+    }
 keeps_kept (cues item) p due k =
-    record { cue_takes = k.cue_takes; cued = due; playing = k.playing; cue_count = k.cue_takes; playing_count = k.playing_count }
+    record {
+      cue_takes = k.cue_takes;
+      cued = due;
+      playing = k.playing;
+      cue_count = k.cue_takes;
+      playing_count = k.playing_count;
+    }
 keeps_kept (airs item) p due k = record {
   cue_takes = k.cue_takes;
   cued = tt;

@@ -1,6 +1,7 @@
 -- The lemmas, file by file.
 mod Examples
 pub mod Frames
+pub mod Idle
 pub mod FewMessages
 pub mod LawsBelow
 pub mod Answering

@@ -5,7 +5,7 @@ use Rattle.vdcp_value.specs.declared.part.Item.{Item}
 use Rattle.vdcp_value.specs.declared.timecode.Timecode.{Timecode}
 use Rattle.vdcp_port.specs.Clips.{is_playable}
 use Rattle.vdcp_port.specs.Clock.{ClockedPort}
-use Rattle.vdcp_port.specs.Port.{Cued, empty, cueing, done, is_cueing}
+use Rattle.vdcp_port.specs.Port.{Cued, PortState, empty, cueing, done, is_cueing}
 
 -- what is cued, and what plays, is known and fits its clip
 abbrev pub IsPlayableCue : List (ClipId × Timecode) → Cued → Type 0
@@ -35,3 +35,7 @@ cueing_from_now p item = record p {
 -- the port with the cue's count at its start, and all else as it was
 abbrev pub counting_from_now : ClockedPort → ClockedPort
 counting_from_now p = record p { counts = record { cue = p.cue_frames; playing = p.counts.playing } }
+
+-- what is cued and what plays is as at another port
+abbrev pub HasSlotsOf : PortState → PortState → Type 0
+HasSlotsOf p q = (q.cued ≡ p.cued) × (q.playing ≡ p.playing)

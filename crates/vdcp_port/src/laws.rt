@@ -22,7 +22,7 @@ ghost use Rattle.vdcp_port.specs.Port.{PortState, cueing, done, empty, is_select
 ghost use Rattle.vdcp_port.specs.Row.{cues, command_row};
 ghost use Rattle.vdcp_port.specs.Clock.{ClockedPort, new_port, row_at, answer_to, after_message, aired_by, after_ready, after_ended, after_frame, after_frames};
 ghost use Rattle.vdcp_port.specs.Answers.{answers_to, aired_on_way, after_messages, end_answers, reply_at_end, reply_bytes, answer_bytes, bytes_for, bytes_for_all, bytes_at_end, items_for, sent_for, aired_for, after_burst, most_sent, most_aired};
-ghost use Rattle.vdcp_port.specs.Kept.{IsKept, cueing_from_now, counting_from_now};
+ghost use Rattle.vdcp_port.specs.Kept.{HasSlotsOf, IsKept, cueing_from_now, counting_from_now};
 
 /// A message that comes again is answered as before, leaves what it left, and airs nothing.
 pub fn a_copy_changes_nothing()
@@ -82,6 +82,25 @@ pub fn the_state_byte()
     ensures cueing { (p : PortState) → not (bit_and (state_byte p) 2 == 0) ≡ is_cueing p.cued }
     ensures playing { (p : PortState) → (bit_and (state_byte p) 4 == 0) ≡ is_none p.playing }
     ensures done { (p : PortState) → not (bit_and (state_byte p) 128 == 0) ≡ is_done p.cued }
+{}
+
+/// A port that answers with the idle state, 01h, has nothing cued and plays nothing, so bits 1 and 7 of its state byte are
+/// off, as `vdcp_late` asks of a port at the start. OPEN, SELECT and STATUS change neither of its slots.
+pub fn an_idle_port_is_empty()
+    ensures empty { (p : ClockedPort) (m : Content) (groups : ℕ) →
+        answer_to p m ≡ Some (reply.State groups (Some 0x01)) →
+        (p.state.cued ≡ empty) × (p.state.playing ≡ None) }
+    ensures nothing_cued { (p : ClockedPort) (m : Content) (groups : ℕ) →
+        answer_to p m ≡ Some (reply.State groups (Some 0x01)) → bit_and (state_byte p.state) 0x82 ≡ 0 }
+    ensures after_open { (p : ClockedPort) (m : Content) (number lock : ℕ) →
+        asked_of p.state.unit m ≡ asked.Command (command.Open number lock) →
+        HasSlotsOf p.state (after_message p m).state }
+    ensures after_select { (p : ClockedPort) (m : Content) (number : ℕ) →
+        asked_of p.state.unit m ≡ asked.Command (command.Select number) →
+        HasSlotsOf p.state (after_message p m).state }
+    ensures after_status { (p : ClockedPort) (m : Content) (bitmap : ℕ) →
+        asked_of p.state.unit m ≡ asked.Command (command.Status bitmap) →
+        HasSlotsOf p.state (after_message p m).state }
 {}
 
 /// Each answer can be read back: its numbers are bytes, its time code four of them, and its bitmap says

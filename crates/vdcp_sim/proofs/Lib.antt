@@ -1,3 +1,4 @@
+mod Consumed
 mod Numbered
 mod Ran
 mod Refusals

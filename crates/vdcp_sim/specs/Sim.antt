@@ -1,7 +1,7 @@
 -- What sim prints, and of which channel.
 use Rattle.std.specs.Borrow.{Bor}
 use Rattle.std.specs.Io.KnownBytes.{Appends, Keeps}
-use Rattle.std.specs.Prelude.{ℕ, suc, ◌≡◌, ◌≤◌, ◌⊎◌, Bool, true, false, List, [], ◌∷◌, ◌++◌, codes, decimal, length, Option}
+use Rattle.std.specs.Prelude.{ℕ, suc, ◌≡◌, ◌≤◌, ◌⊎◌, ⊤, Bool, true, false, List, [], ◌∷◌, ◌++◌, codes, decimal, length, Option, None, Some}
 use Rattle.vdcp_value.specs.declared.clip_id.ClipId.{ClipId}
 use Rattle.vdcp_value.specs.declared.part.Item.{Item}
 use Rattle.vdcp_value.specs.declared.rate.Rate.{Rate}
@@ -25,10 +25,12 @@ use Rattle.vdcp_files.specs.Files.{File, bytes_of}
 use Rattle.vdcp_files.specs.Mode.{mode_of}
 use Rattle.vdcp_world.specs.Channel.{Channel, new_channel, after_events}
 use Rattle.vdcp_world.specs.Headline.{Headline}
+use Rattle.vdcp_world.specs.Script.{IsScript, NoOwn, same_event}
 use Rattle.vdcp_world.specs.declared.event.Event.{Event}
 use Rattle.vdcp_late.specs.Joined.{late_of}
 use Rattle.vdcp_late.specs.LateChannel.{LateChannel, after_late_events}
 use Rattle.vdcp_late.specs.LateHeadline.{LateHeadline}
+use Rattle.vdcp_late.specs.LateScript.{IsLateLineOf, late_event}
 use Rattle.vdcp_late.specs.declared.event.LateEvent.{LateEvent}
 use Rattle.vdcp_sim.specs.declared.sim.SimSettings.{SimSettings}
 
@@ -81,33 +83,40 @@ plan_for settings items =
 abbrev pub channel_of : SimSettings → List Item → List (ClipId × Timecode) → Channel
 channel_of settings items clips = new_channel (plan_for settings items) clips settings.unit settings.cue_frames
 
--- Some events of a script have led from the new channel to this one, which keeps the headline; with --late on a line
--- that keeps order, else on one that holds one burst each way.
-pub data HasRun (settings : SimSettings) (items : List Item) (clips : List (ClipId × Timecode)) (c : LateChannel) :
-    Type 0 where
-  in_time : (events : List Event) → settings.late ≡ false → length events ≤ 100000
+-- a file is a script of these events, where its bytes are known
+abbrev pub IsScriptOf : {E : Type 0} → (Event → E) → (E → List ℕ → Type 0) → Option (List ℕ) → List E → Type 0
+IsScriptOf of Own None events = ⊤
+IsScriptOf of Own (Some bytes) events = IsScript of Own bytes events
+
+-- The events of the script, a file of these bytes, have led from the new channel to this one, which keeps the headline;
+-- with --late on a line that keeps order, else on one that holds one burst each way.
+pub data HasRun (settings : SimSettings) (items : List Item) (clips : List (ClipId × Timecode)) (script : Option (List ℕ))
+    (c : LateChannel) : Type 0 where
+  in_time : (events : List Event) → settings.late ≡ false → IsScriptOf same_event NoOwn script events
+      → length events ≤ 100000
       → c ≡ late_of (after_events (channel_of settings items clips) events)
       → Headline (after_events (channel_of settings items clips) events)
-      → HasRun settings items clips c
-  late : (events : List LateEvent) → settings.late ≡ true → length events ≤ 100000
+      → HasRun settings items clips script c
+  late : (events : List LateEvent) → settings.late ≡ true → IsScriptOf late_event IsLateLineOf script events
+      → length events ≤ 100000
       → c ≡ after_late_events (late_of (channel_of settings items clips)) events
       → LateHeadline c
-      → HasRun settings items clips c
+      → HasRun settings items clips script c
 
 -- a writer gained what is printed of such a channel
 pub record IsRun (settings : SimSettings) (items : List Item) (clips : List (ClipId × Timecode))
-    (old new : Option (List ℕ)) : Type 0 where
+    (script old new : Option (List ℕ)) : Type 0 where
   pub channel : LateChannel
-  pub has_run : HasRun settings items clips channel
+  pub has_run : HasRun settings items clips script channel
   pub gained : Appends old new (channel_text settings.trace settings.rate channel)
 
--- the files are a playlist and a catalogue, and a writer gained what is printed of a run with them
-pub record IsSimulated (settings : SimSettings) (list catalogue : File) (old new : Option (List ℕ)) : Type 0 where
+-- the files are a playlist, a catalogue and a script, and a writer gained what is printed of a run with them
+pub record IsSimulated (settings : SimSettings) (list catalogue : File) (script old new : Option (List ℕ)) : Type 0 where
   pub items : List Item
   pub clips : List (ClipId × Timecode)
   pub is_playlist : IsListOf settings.rate (bytes_of list) items
   pub is_catalogue : IsCatalogueOf settings.rate (bytes_of catalogue) clips
-  pub is_run : IsRun settings items clips old new
+  pub is_run : IsRun settings items clips script old new
 
 -- ---- scripts that are refused
 

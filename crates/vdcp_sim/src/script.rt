@@ -1,5 +1,5 @@
-ghost use Rattle.std.specs.Prelude.{◌≤◌, length, IfErr, IfOk};
-ghost use Rattle.vdcp_sim.specs.Sim.{IsScriptFailure};
+ghost use Rattle.std.specs.Prelude.{◌≡◌, ◌≤◌, length, IfErr, IfOk, IfSome};
+ghost use Rattle.vdcp_sim.specs.Sim.{IsScriptFailure, IsScriptOf};
 
 use std::alloc::Global;
 use std::{io, str};
@@ -16,6 +16,7 @@ pub fn read_events<'a, E: ScriptEvent, R: io::Read + Drop>(
     script: NamedFile<'a, R>,
 ) -> Result<Vec<E>, Failure<'a>>
     ensures few { IfOk result (λ events. length events.items ≤ 100000) }
+    ensures script { IfOk result (λ events. IsScriptOf E.of E.own (R.remaining script.entry.reader) events.items) }
     ensures refused { IfErr result (IsScriptFailure script.entry.name) }
 {
     let name = script.name;
@@ -27,16 +28,18 @@ pub fn read_events<'a, E: ScriptEvent, R: io::Read + Drop>(
 }
 
 // Reads the bytes of the script of this name.
+#[tactic(auto, using(crate::proofs::Consumed::nothing_read, crate::proofs::Consumed::reads_more, crate::proofs::Consumed::reads_none, crate::proofs::Consumed::reads_all))]
 fn read_bytes<'a, R: io::Read + Drop>(
     alloc: Global,
     name: &'a str,
     mut reader: R,
 ) -> Result<Vec<u8>, Failure<'a>>
-    ensures { IfErr result (IsScriptFailure name.entry) }
+    ensures bytes { IfOk result (λ bytes. IfSome (R.remaining reader) (λ known. known ≡ bytes.items)) }
+    ensures refused { IfErr result (IsScriptFailure name.entry) }
 {
     let mut bytes = Vec::new(alloc);
     let mut piece = [0; 4096];
-    for _ in 0..MOST_READS {
+    'reads: for _ in 0..MOST_READS {
         match reader.read(&mut piece) {
             Ok(0) => return Ok(bytes),
             Ok(count) => bytes.extend_from_slice(&piece[..count])?,

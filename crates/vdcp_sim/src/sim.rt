@@ -70,7 +70,7 @@ pub fn do_sim<
     requires few_frames { settings.cue_frames ≤ 1000 }
     ensures simulated { result ≡ 0 →
         IsSimulated settings (file list.entry.name (L.remaining list.entry.reader))
-        (file catalogue.entry.name (C.remaining catalogue.entry.reader))
+        (file catalogue.entry.name (C.remaining catalogue.entry.reader)) (R.remaining script.entry.reader)
         (W.contents out.old) (W.contents out.new) }
     ensures untold { result ≡ 0 → Keeps (E.contents err.old) (E.contents err.new) }
     // The status is 1 for a row that is refused, and for a line or the whole of the script.
@@ -108,7 +108,7 @@ fn simulate<'a, L: io::Read + Drop, C: io::Read + Drop, R: io::Read + Drop, W: i
     requires few_frames { settings.cue_frames ≤ 1000 }
     ensures simulated { OnOk result
         (IsSimulated settings (file list.entry.name (L.remaining list.entry.reader))
-        (file catalogue.entry.name (C.remaining catalogue.entry.reader))
+        (file catalogue.entry.name (C.remaining catalogue.entry.reader)) (R.remaining script.entry.reader)
         (W.contents out.old) (W.contents out.new)) }
     ensures unsimulated { IfErr result
         (IsUnsimulated settings.rate (file list.entry.name (L.remaining list.entry.reader))
@@ -143,7 +143,7 @@ fn run_in_time<'a, S: Source + Drop, C: Catalogue + Drop, R: io::Read + Drop, W:
     requires few { settings.limit ≤ 1000 }
     requires some_frames { 1 ≤ settings.cue_frames }
     requires few_frames { settings.cue_frames ≤ 1000 }
-    ensures ran { OnOk result (IsRun settings (S.items source) (C.clips catalogue)
+    ensures ran { OnOk result (IsRun settings (S.items source) (C.clips catalogue) (R.remaining script.entry.reader)
         (W.contents out.old) (W.contents out.new)) }
     ensures failed { IfErr result (IsRunFailure script.entry.name (W.contents out.old) (W.contents out.new)) }
     ensures statuses { IfErr result (λ e. status_of e ≢ 2) }
@@ -172,7 +172,7 @@ fn run_late<'a, S: Source + Drop, C: Catalogue + Drop, R: io::Read + Drop, W: io
     requires few { settings.limit ≤ 1000 }
     requires some_frames { 1 ≤ settings.cue_frames }
     requires few_frames { settings.cue_frames ≤ 1000 }
-    ensures ran { OnOk result (IsRun settings (S.items source) (C.clips catalogue)
+    ensures ran { OnOk result (IsRun settings (S.items source) (C.clips catalogue) (R.remaining script.entry.reader)
         (W.contents out.old) (W.contents out.new)) }
     ensures failed { IfErr result (IsRunFailure script.entry.name (W.contents out.old) (W.contents out.new)) }
     ensures statuses { IfErr result (λ e. status_of e ≢ 2) }

@@ -36,6 +36,9 @@ no_address_line = refl
 not_connected_line : failure_line failures.Connect ≡ codes "vdcp: cannot connect\n"
 not_connected_line = refl
 
+not_empty_line : failure_line failures.NotEmpty ≡ codes "vdcp: port not empty\n"
+not_empty_line = refl
+
 not_bound_line : failure_line failures.Bind ≡ codes "vdcp: cannot bind\n"
 not_bound_line = refl
 

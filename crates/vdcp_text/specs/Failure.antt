@@ -3,7 +3,7 @@ use Rattle.std.specs.Prelude.{ℕ, List, ◌++◌, codes, decimal}
 use Rattle.vdcp_text.specs.Text.{line}
 use Rattle.vdcp_text.specs.declared.failure.Failure.{Failure}
 use Rattle.vdcp_text.specs.declared.failure.Failure.TheVariants.{Hex, Word, Arguments, Text, Open, Read, Row, ScriptLine, TooManyEvents, NotText, Write, IsList, Memory, Writer}
-use Rattle.vdcp_text.specs.declared.failure.Failure.TheVariants.{Address, Connect, Bind, LineFailed, LineClosed, Spent}
+use Rattle.vdcp_text.specs.declared.failure.Failure.TheVariants.{Address, Connect, NotEmpty, Bind, LineFailed, LineClosed, Spent}
 use Rattle.vdcp_text.specs.declared.failure.ScriptLineFault.{ScriptLineFault}
 use Rattle.vdcp_text.specs.declared.failure.ScriptLineFault.TheVariants as lines
 use Rattle.vdcp_text.specs.declared.failure.RowFault.{RowFault}
@@ -25,6 +25,7 @@ status_of (Write name) = 3
 status_of (IsList name) = 3
 status_of Address = 2
 status_of Connect = 3
+status_of NotEmpty = 1
 status_of Bind = 3
 status_of LineFailed = 3
 status_of LineClosed = 3
@@ -61,6 +62,7 @@ failure_text (Write name) = name.now ++ codes ": write"
 failure_text (IsList name) = name.now ++ codes ": exists as the list"
 failure_text Address = codes "address"
 failure_text Connect = codes "cannot connect"
+failure_text NotEmpty = codes "port not empty"
 failure_text Bind = codes "cannot bind"
 failure_text LineFailed = codes "line failed"
 failure_text LineClosed = codes "line closed"

@@ -35,6 +35,8 @@ pub enum Failure<'a> {
     Address,
     /// Nobody takes the connection.
     Connect,
+    /// Something is cued at the port that is to be played through, or plays there.
+    NotEmpty,
     /// The address can't be listened at, or no connection is taken there.
     Bind,
     /// The line to the other end failed.
@@ -52,9 +54,9 @@ pub enum Failure<'a> {
 impl Failure<'_> {
     ghost use Rattle.vdcp_text.specs.Failure.{failure_line, status_of};
 
-    /// Reports the failure to `err` in one line and gives the exit status: 1 for refused data, 2 for words
-    /// that aren't text and for an address that is none, and 3 for the others. The status is also 3 where
-    /// the line can't be written. `Writer` writes no line.
+    /// Reports the failure to `err` in one line and gives the exit status: 1 for refused data and for a port
+    /// that isn't empty, 2 for words that aren't text and for an address that is none, and 3 for the others. The
+    /// status is also 3 where the line can't be written. `Writer` writes no line.
     pub fn report<E: io::Write>(self, err: &mut E) -> u8
         ensures status { (result ≡ status_of self.entry) ⊎ (result ≡ 3) }
         ensures told { result < 3 → Appends (E.contents err.old) (E.contents err.new) (failure_line self.entry) }
@@ -74,7 +76,7 @@ impl Failure<'_> {
         ensures { result ≡ status_of self.entry }
     {
         match self {
-            Failure::Hex | Failure::Word | Failure::Arguments => 1,
+            Failure::Hex | Failure::Word | Failure::Arguments | Failure::NotEmpty => 1,
             Failure::Row(..) | Failure::ScriptLine(..) => 1,
             Failure::TooManyEvents(_) | Failure::NotText(_) => 1,
             Failure::Text | Failure::Address => 2,
@@ -108,6 +110,7 @@ impl fmt::Display for Failure<'_> {
             Failure::IsList(name) => write!(f, "{name}: exists as the list"),
             Failure::Address => write!(f, "address"),
             Failure::Connect => write!(f, "cannot connect"),
+            Failure::NotEmpty => write!(f, "port not empty"),
             Failure::Bind => write!(f, "cannot bind"),
             Failure::LineFailed => write!(f, "line failed"),
             Failure::LineClosed => write!(f, "line closed"),

@@ -4,8 +4,8 @@ use Rattle.std.proofs.lemmas.List.{length-append, length-drop, take-append-le, d
 use Rattle.std.specs.Prelude.{Some, if◌then◌else◌}
 use Rattle.vdcp_wire.specs.declared.wire.Came.{Came}
 use Rattle.vdcp_wire.specs.declared.wire.Came.TheVariants.{Bytes, Silence, Closed}
-use Rattle.vdcp_wire.specs.Scripts.{arrivals, brought, brought_in_all, closes}
-use Rattle.vdcp_wire.specs.Wires.{Arrival, bytes, Told, SendsFront, adds_came, arrival_of, has_closed}
+use Rattle.vdcp_wire.specs.Scripts.{arrivals, brought_in_all, closes}
+use Rattle.vdcp_wire.specs.Wires.{Arrival, bytes, Told, SendsFront, adds_came, arrival_of, brought, has_closed}
 use Rattle.vdcp_wire.specs.WireLaws.{closed_bytes, closed_silence, closed_close}
 
 -- what a listen gave, where more bytes stand after

@@ -3,18 +3,12 @@ use Rattle.std.specs.Prelude.{ℕ, ◌≤◌, ◌+◌, Bool, true, false, List, 
 use Rattle.std.proofs.Common.{rules}
 use Rattle.vdcp_wire.specs.declared.wire.Came.{Came}
 use Rattle.vdcp_wire.specs.declared.wire.Came.TheVariants as came
-use Rattle.vdcp_wire.specs.Wires.{Arrival, arrival_of, Told}
+use Rattle.vdcp_wire.specs.Wires.{Arrival, arrival_of, brought, Told}
 
 -- a wire that tells its bytes, and whether it failed
 pub record Script : Type 0 where
   pub told : Told
   pub failed : Bool
-
--- how many bytes a listen brought
-abbrev pub brought : Came → ℕ
-brought (came.Bytes n) = n
-brought came.Silence = 0
-brought came.Closed = 0
 
 abbrev pub brought_in_all : List Came → ℕ
 brought_in_all [] = 0

@@ -1,7 +1,8 @@
--- What a wire over a connection makes of a read, and how often it failed.
+-- What a wire over a connection makes of its bytes and of a read, and how often it failed.
 use Rattle.std.proofs.Common.{rules}
 use Rattle.std.specs.IoError.{error_kind}
-use Rattle.std.specs.Prelude.{ℕ, zero, suc, ◌≤◌, Result, Ok, Err}
+use Rattle.std.specs.Io.KnownBytes.{Consumes}
+use Rattle.std.specs.Prelude.{ℕ, zero, suc, ◌≤◌, List, Option, Result, Ok, Err}
 use Rattle.std.specs.declared.io.Error.{Error}
 use Rattle.std.specs.declared.io.ErrorKind.{ErrorKind}
 use Rattle.std.specs.declared.io.ErrorKind.TheVariants.{WouldBlock, Interrupted}
@@ -10,8 +11,19 @@ use Rattle.vdcp_wire.specs.declared.stream.Connection.TheVariants as connection
 use Rattle.vdcp_wire.specs.declared.wire.Came.{Came}
 use Rattle.vdcp_wire.specs.declared.wire.Came.TheVariants as came
 
--- what a read that failed so brought, or else the failure: it waited long enough, or it was interrupted. The system gives
--- up a connection in which nothing is acknowledged by another kind than that of a read that waited
+-- a wire over a connection: what is known of the connection, the bytes that its reads will give, and those that it
+-- holds of what was written, where the connection tells them
+pub record Streamed : Type 0 where
+  pub connection : Connection
+  pub ahead : Option (List ℕ)
+  pub written : Option (List ℕ)
+
+-- some of the next bytes, or none, were taken
+abbrev pub Takes : Option (List ℕ) → Option (List ℕ) → Type 0
+Takes old new = (bytes : List ℕ) × Consumes old new bytes
+
+-- what a read that failed so brought, or else the failure: it waited long enough, or it was interrupted. The system
+-- gives up a connection in which nothing is acknowledged by another kind than that of a read that waited
 abbrev pub came_of_kind : ErrorKind → Error → Result Came Error
 came_of_kind WouldBlock error = Ok came.Silence
 came_of_kind Interrupted error = Ok (came.Bytes 0)

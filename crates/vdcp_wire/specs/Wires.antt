@@ -14,6 +14,12 @@ arrival_of (came.Bytes n) buffer = bytes (take n buffer)
 arrival_of came.Silence buffer = silence
 arrival_of came.Closed buffer = close
 
+-- how many bytes a listen brought
+abbrev pub brought : Came → ℕ
+brought (came.Bytes n) = n
+brought came.Silence = 0
+brought came.Closed = 0
+
 -- the bytes lie in the buffer
 abbrev pub FitsBuffer : Came → Type 0
 FitsBuffer (came.Bytes n) = n ≤ 512

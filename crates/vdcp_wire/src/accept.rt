@@ -17,8 +17,30 @@ pub enum AcceptFault {
     Writer,
 }
 
-/// Listens at an address and takes the first connection; the others are refused from then on. Port 0 is one that the
-/// system chooses. Once it listens, and before it waits, `out` gets a line with the address, and is flushed.
+/// Listens at an address, of which port 0 is one that the system chooses. Once it listens, `out` gets a line with the
+/// address, and is flushed.
+pub fn listen_at<R: Net, W: io::Write>(
+    rt: &R,
+    address: SocketAddrV4,
+    out: &mut W,
+) -> Result<R::Listener, AcceptFault>
+    ensures prints { OnOk result (PrintsListening (W.contents out.old) (W.contents out.new)) }
+    ensures refused { IfErr result (λ fault. fault ≡ AcceptFault.Bind →
+        Keeps (W.contents out.old) (W.contents out.new)) }
+{
+    let Ok(listener) = rt.bind(SocketAddr::V4(address)) else {
+        return Err(AcceptFault::Bind);
+    };
+    let Ok(bound) = listener.local_addr() else {
+        return Err(AcceptFault::Bind);
+    };
+    match write_listening(bound, out) {
+        Ok(()) => Ok(listener),
+        Err(_) => Err(AcceptFault::Writer),
+    }
+}
+
+/// Listens at an address as `listen_at`, and takes the first connection; the others are refused from then on.
 pub fn accept_one<R: Net, W: io::Write>(
     rt: &R,
     address: SocketAddrV4,
@@ -28,15 +50,7 @@ pub fn accept_one<R: Net, W: io::Write>(
     ensures refused { IfErr result (λ fault. fault ≡ AcceptFault.Bind →
         Keeps (W.contents out.old) (W.contents out.new) ⊎ PrintsListening (W.contents out.old) (W.contents out.new)) }
 {
-    let Ok(listener) = rt.bind(SocketAddr::V4(address)) else {
-        return Err(AcceptFault::Bind);
-    };
-    let Ok(bound) = listener.local_addr() else {
-        return Err(AcceptFault::Bind);
-    };
-    if write_listening(bound, out).is_err() {
-        return Err(AcceptFault::Writer);
-    }
+    let listener = listen_at(rt, address, out)?;
     match listener.accept() {
         Ok((stream, _)) => Ok(stream),
         Err(_) => Err(AcceptFault::Bind),

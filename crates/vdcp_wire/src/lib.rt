@@ -2,8 +2,8 @@
 //!
 //! `StreamWire` is one over a connection. `ScriptWire` is one in memory, which gives what a script of `Entry`s
 //! says and tells its bytes. Whoever drives a wire calls `send`, `listen` and `drop_waiting` of `Wire`, and none
-//! of them again once one has failed. `address_of` reads the address of a TCP connection, and `accept_one` takes one
-//! connection there.
+//! of them again once one has failed. `address_of` reads the address of a TCP connection, `accept_one` takes one
+//! connection there, and `listen_at` gives what takes one after another.
 //!
 //! ```text
 //! let stream = accept_one(rt, address_of(text)?, out)?;
@@ -15,7 +15,7 @@
 //! ```
 //!
 //! Files: `wire` (the trait), `script` (a wire in memory), `stream` (a wire over a connection), `address` and `accept`
-//! (the text of an address; the one connection that is taken there).
+//! (the text of an address; who listens there, and takes connections).
 #![tactic(auto)]
 
 mod accept;
@@ -24,7 +24,7 @@ mod script;
 mod stream;
 mod wire;
 
-pub use accept::{AcceptFault, accept_one};
+pub use accept::{AcceptFault, accept_one, listen_at};
 pub use address::{AddressFault, address_of};
 pub use script::{Entry, ScriptWire};
 pub use stream::StreamWire;

@@ -1,6 +1,6 @@
 ghost use Rattle.std.specs.Prelude.{◌≡◌, false, length, take, OnOk, OnErr, IfOk, Some};
-ghost use Rattle.vdcp_wire.specs.Scripts.{brought, closes};
-ghost use Rattle.vdcp_wire.specs.Wires.{arrival_of, adds_came, has_closed, MayCome, FitsBuffer};
+ghost use Rattle.vdcp_wire.specs.Scripts.{closes};
+ghost use Rattle.vdcp_wire.specs.Wires.{arrival_of, adds_came, brought, has_closed, MayCome, FitsBuffer};
 
 use crate::wire::{Came, PIECE, Wire, WireFault};
 use std::alloc::{AllocError, Allocator};

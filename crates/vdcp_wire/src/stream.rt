@@ -1,6 +1,7 @@
-ghost use Rattle.std.specs.Prelude.{◌≡◌, IfOk, IsOk};
-ghost use Rattle.vdcp_wire.specs.Streams.{came_of, connection_behind, failures_of};
-ghost use Rattle.vdcp_wire.specs.Wires.{FitsBuffer};
+ghost use Rattle.std.specs.Io.KnownBytes.{Appends, Consumes, IsAtEnd, Keeps};
+ghost use Rattle.std.specs.Prelude.{◌≡◌, take, IfOk, IsOk, OnErr, OnOk};
+ghost use Rattle.vdcp_wire.specs.Streams.{came_of, connection_behind, failures_of, Takes};
+ghost use Rattle.vdcp_wire.specs.Wires.{brought, FitsBuffer};
 
 use crate::wire::{Came, PIECE, Wire, WireFault};
 use std::io::{self, ErrorKind, Read, Write};
@@ -22,10 +23,15 @@ enum Connection {
     Failed,
 }
 
-/// A wire over a connection. It doesn't tell its bytes, and `send` and `listen` may wait for the other end.
+/// A wire over a connection. `send` and `listen` may wait for the other end.
+///
+/// What it carried from its start it doesn't tell, since a read may change what a connection holds of the bytes
+/// written. But where the connection's bytes are known, `send` appends exactly its bytes, what `listen` gives is exactly
+/// what came next, and `drop_waiting` takes some of that.
 ///
 /// A read that waited for the time of a silence is one, and an interrupted read brings no bytes. A connection that
-/// the system gives up, since nothing is acknowledged any more, has failed. `drop_waiting` doesn't wait. It drops what at most 128 reads take; the rest stays.
+/// the system gives up, since nothing is acknowledged any more, has failed. `drop_waiting` doesn't wait. It drops what
+/// at most 128 reads take; the rest stays.
 #[derive(Drop)]
 pub struct StreamWire<S: Read + Write + OpenStream + Drop = TcpStream> {
     stream: S,
@@ -33,18 +39,24 @@ pub struct StreamWire<S: Read + Write + OpenStream + Drop = TcpStream> {
 }
 
 impl<S: Read + Write + OpenStream + Drop> Model for StreamWire<S> {
-    ghost use Rattle.vdcp_wire.specs.declared.stream.Connection.{Connection};
+    ghost use Rattle.vdcp_wire.specs.Streams.{Streamed};
 
-    ghost Value = { Connection };
+    ghost Value = { Streamed };
 
-    ghost view = { λ w. w.connection };
+    ghost view = { λ w. record {
+      connection = w.connection;
+      ahead = S.remaining w.stream;
+      written = S.contents w.stream;
+    } };
 }
 
 impl<S: Read + Write + OpenStream + Drop> StreamWire<S> {
     /// A wire over this connection, on which nothing comes for `silence` at the end of a burst, 1
     /// millisecond or more. What is sent goes out at once. Err where the connection refuses this.
     pub fn new(stream: S, silence: Duration) -> io::Result<Self>
-        ensures { IfOk result (λ wire. wire ≡ Connection.Open) }
+        ensures open { IfOk result (λ wire. wire.connection ≡ Connection.Open) }
+        ensures ahead { IfOk result (λ wire. wire.ahead ≡ S.remaining stream) }
+        ensures written { IfOk result (λ wire. wire.written ≡ S.contents stream) }
     {
         stream.set_nodelay(true)?;
         stream.set_read_timeout(Some(silence))?;
@@ -56,11 +68,14 @@ impl<S: Read + Write + OpenStream + Drop> StreamWire<S> {
 
     // What comes next. After a close nothing is read.
     fn receive(&mut self, buffer: &mut [u8; PIECE]) -> io::Result<Came>
-        requires { failures_of self.old ≡ 0 }
+        requires { failures_of self.old.connection ≡ 0 }
         ensures fits { IfOk result FitsBuffer }
-        ensures next { IfOk result (λ came. self.new ≡ connection_behind came self.old) }
-        ensures closed { self.old ≡ Connection.Closed → result ≡ Ok Came.Closed }
-        ensures works { failures_of self.new ≡ 0 }
+        ensures bytes { IfOk result (λ came. Consumes self.old.ahead self.new.ahead (take (brought came) buffer.new)) }
+        ensures kept { OnErr result (Keeps self.old.ahead self.new.ahead) }
+        ensures end { self.old.connection ≡ Connection.Open → result ≡ Ok Came.Closed → IsAtEnd self.new.ahead }
+        ensures next { IfOk result (λ came. self.new.connection ≡ connection_behind came self.old.connection) }
+        ensures closed { self.old.connection ≡ Connection.Closed → (result ≡ Ok Came.Closed) × (self.new ≡ self.old) }
+        ensures works { failures_of self.new.connection ≡ 0 }
     {
         if let Connection::Closed = self.connection {
             return Ok(Came::Closed);
@@ -74,9 +89,10 @@ impl<S: Read + Write + OpenStream + Drop> StreamWire<S> {
 
     // Drops what waits. After a close nothing is read.
     fn drop_reads(&mut self) -> io::Result<()>
-        requires { failures_of self.old ≡ 0 }
-        ensures closed { self.old ≡ Connection.Closed → IsOk result × (self.new ≡ self.old) }
-        ensures works { failures_of self.new ≡ 0 }
+        requires { failures_of self.old.connection ≡ 0 }
+        ensures taken { Takes self.old.ahead self.new.ahead }
+        ensures closed { self.old.connection ≡ Connection.Closed → IsOk result × (self.new ≡ self.old) }
+        ensures works { failures_of self.new.connection ≡ 0 }
     {
         if let Connection::Closed = self.connection {
             return Ok(());
@@ -90,7 +106,8 @@ impl<S: Read + Write + OpenStream + Drop> StreamWire<S> {
 
     // The fault of a call that failed. None is made again.
     fn fail(&mut self) -> WireFault
-        ensures { self.new ≡ Connection.Failed }
+        ensures failed { self.new.connection ≡ Connection.Failed }
+        ensures bytes { self.new.ahead ≡ self.old.ahead }
     {
         self.connection = Connection::Failed;
         WireFault
@@ -103,38 +120,59 @@ impl<S: Read + Write + OpenStream + Drop> Wire for StreamWire<S> {
 
     ghost told = { λ _. None };
 
-    ghost failures = { λ w. failures_of w };
+    ghost failures = { λ w. failures_of w.connection };
 
-    fn send(&mut self, bytes: &[u8]) -> Result<(), WireFault> {
+    fn send(&mut self, bytes: &[u8]) -> Result<(), WireFault>
+        requires { failures_of self.old.connection ≡ 0 }
+        ensures written { OnOk result (Appends self.old.written self.new.written bytes.now) }
+        ensures connection { OnOk result (self.new.connection ≡ self.old.connection) }
+        ensures failed { OnErr result (failures_of self.new.connection ≡ 1) }
+    {
         match self.stream.write_all(bytes) {
             Ok(()) => Ok(()),
             Err(_) => Err(self.fail()),
         }
     }
 
-    fn listen(&mut self, buffer: &mut [u8; PIECE]) -> Result<Came, WireFault> {
+    fn listen(&mut self, buffer: &mut [u8; PIECE]) -> Result<Came, WireFault>
+        requires { failures_of self.old.connection ≡ 0 }
+        ensures fits { IfOk result FitsBuffer }
+        ensures bytes { IfOk result (λ came. Consumes self.old.ahead self.new.ahead (take (brought came) buffer.new)) }
+        ensures kept { OnErr result (Keeps self.old.ahead self.new.ahead) }
+        ensures end { self.old.connection ≡ Connection.Open → result ≡ Ok Came.Closed → IsAtEnd self.new.ahead }
+        ensures next { IfOk result (λ came. self.new.connection ≡ connection_behind came self.old.connection) }
+        ensures closed { self.old.connection ≡ Connection.Closed → (result ≡ Ok Came.Closed) × (self.new ≡ self.old) }
+        ensures failed { OnErr result (failures_of self.new.connection ≡ 1) }
+    {
         match self.receive(buffer) {
             Ok(came) => Ok(came),
             Err(_) => Err(self.fail()),
         }
     }
 
-    fn drop_waiting(&mut self) -> Result<(), WireFault> {
+    fn drop_waiting(&mut self) -> Result<(), WireFault>
+        requires { failures_of self.old.connection ≡ 0 }
+        ensures taken { Takes self.old.ahead self.new.ahead }
+        ensures closed { self.old.connection ≡ Connection.Closed → IsOk result × (self.new ≡ self.old) }
+        ensures works { OnOk result (failures_of self.new.connection ≡ 0) }
+        ensures failed { OnErr result (failures_of self.new.connection ≡ 1) }
+    {
         match self.drop_reads() {
             Ok(()) => Ok(()),
             Err(_) => Err(self.fail()),
         }
     }
 
-    ghost fails_once = { λ w. counted_once w };
+    ghost fails_once = { λ w. counted_once w.connection };
 }
 
 // Reads what waits on a connection that doesn't wait, and says whether the other end has closed.
 fn read_waiting<S: Read>(stream: &mut S) -> io::Result<Connection>
-    ensures { IfOk result (λ connection. failures_of connection ≡ 0) }
+    ensures taken { Takes (S.remaining stream.old) (S.remaining stream.new) }
+    ensures works { IfOk result (λ connection. failures_of connection ≡ 0) }
 {
     let mut buffer = [0; PIECE];
-    for _ in 0..MOST_READS {
+    'reads: for _ in 0..MOST_READS {
         match came_of(stream.read(&mut buffer))? {
             Came::Bytes(_) => {}
             Came::Silence => return Ok(Connection::Open),

@@ -1,5 +1,5 @@
 -- The bounded end of every channel that events have led to.
-use Rattle.std.proofs.Common.{ℕ, zero, suc, ◌+◌, ◌-◌, ◌*◌, ◌≡◌, ◌<◌, ◌≤◌, Bool, true, false, ◌&&◌, not, List, [], ◌∷◌, All, length, refl, sym, ap, subst, ◌∙◌, arith}
+use Rattle.std.proofs.Common.{ℕ, zero, suc, nat_le, ◌+◌, ◌-◌, ◌*◌, ◌≡◌, ◌<◌, ◌≤◌, Bool, true, false, ◌&&◌, not, List, [], ◌∷◌, All, length, refl, sym, ap, subst, ◌∙◌, arith}
 use Rattle.std.proofs.Math.Seq.{take-length}
 use Rattle.std.proofs.lemmas.List.Elements.{All-get_or}
 use Rattle.std.proofs.lemmas.Option.{slice_get_within, get_or_from_slice_get}
@@ -35,10 +35,11 @@ use Rattle.vdcp_auto.specs.declared.phase.Transition.{Transition}
 use Rattle.vdcp_auto.specs.declared.phase.Transition.TheVariants as transition
 use Rattle.vdcp_world.specs.BoundedEnd.{IsDone, IsAllPlayable, CanGoOn, CanBegin, rounds_to_go_on, rounds_from_new, BoundedEnd}
 use Rattle.vdcp_world.specs.Channel.{Channel, Make, IsReached, after_events, state_hearing, state_waiting}
+use Rattle.vdcp_world.specs.InStep.{IsReadyFor, HasExecuted, IsInStep}
 use Rattle.vdcp_world.specs.Rounds.{round, good_round, times}
 use Rattle.vdcp_world.specs.declared.event.Event.TheVariants as event
 use Rattle.vdcp_world.proofs.Below.{Below}
-use Rattle.vdcp_world.proofs.ConfirmedRounds.{left_before, left_behind, left_from, Before, Executed, Comes, senses, sense_of, before_stays, Steps, sense_steps, Stays, receipt_stays}
+use Rattle.vdcp_world.proofs.ConfirmedRounds.{left_before, left_behind, left_from, senses, sense_of, before_stays, Steps, sense_steps, Stays, receipt_stays}
 use Rattle.vdcp_world.proofs.Exchanges.{sent_place, turn_by}
 use Rattle.vdcp_world.proofs.GoodRound.{Exchanged, exchanged, exchange, waits_still, hears_still, waits_over, ticks_on, gives_own, turns_on}
 use Rattle.vdcp_world.proofs.HeadlineProof.{reached_kept, controller_reached}
@@ -65,7 +66,7 @@ ended_stays_on : (n : ℕ) (c : Channel) (o : Outcome) → c.state.stage ≡ End
 ended_stays_on zero c o e = e
 ended_stays_on (suc n) c o e = ended_stays_on n (after_events c good_round) o (ap (λ (s : State). s.stage) (ended_stays c o e) ∙ e)
 
-is_done : Below → (c : Channel) → IsReached c → c.state.stage ≡ Ended outcome.Done → IsDone c
+pub is_done : Below → (c : Channel) → IsReached c → c.state.stage ≡ Ended outcome.Done → IsDone c
 is_done below c r e =
     let k = reached_kept below c r in
     let place = subst (PlaceAt c.plan.list c.port.clips c.port.state.cued c.aired c.state.settled) e k.stands.place in
@@ -77,7 +78,7 @@ is_done below c r e =
 
 -- ---- the playlist
 
-plays_at : (clips : List (ClipId × Timecode)) (list : List Item) → All (λ item. IsTrue (is_playable clips item)) list → (k : ℕ)
+pub plays_at : (clips : List (ClipId × Timecode)) (list : List Item) → All (λ item. IsTrue (is_playable clips item)) list → (k : ℕ)
     → plays clips (slice_get list k) ≡ true
 plays_at clips list all k = by (slice_get list k) refl
   where
@@ -87,7 +88,7 @@ plays_at clips list all k = by (slice_get list k) refl
         subst (λ (x : Item). is_playable clips x ≡ true) (get_or_from_slice_get list k item item e)
         (All-get_or (λ x. IsTrue (is_playable clips x)) list k item (slice_get_within list k item e) all)
 
-still_playable : (c : Channel) → IsAllPlayable c → IsAllPlayable (after_events c good_round)
+pub still_playable : (c : Channel) → IsAllPlayable c → IsAllPlayable (after_events c good_round)
 still_playable c all = subst (λ (clips : List (ClipId × Timecode)). All (λ item. IsTrue (is_playable clips item)) c.plan.list)
     (sym (ap (λ (m : Make). m.clips) (make_after_all c good_round))) all
 
@@ -157,12 +158,12 @@ plain_round below c q k plain all idle ready e none on = by (command_in c.plan.l
     by (Some d) is = go d is
 
 -- what the port waits for has come
-ready_slot : (cued : Cued) → is_cueing_slot (made_ready cued) ≡ false
+pub ready_slot : (cued : Cued) → is_cueing_slot (made_ready cued) ≡ false
 ready_slot empty = refl
 ready_slot (cueing item) = refl
 ready_slot (done item) = refl
 
-waited_kept : Below → (c : Channel) → IsKept c → IsKept (after_events c (event.Timeout ∷ event.Ready ∷ event.End ∷ []))
+pub waited_kept : Below → (c : Channel) → IsKept c → IsKept (after_events c (event.Timeout ∷ event.Ready ∷ event.End ∷ []))
 waited_kept below c k = kept_event below _ event.End (kept_event below _ event.Ready (kept_event below c event.Timeout k))
 
 plain_good_round : Below → (c : Channel) (q : Phase) → IsKept c → c.plan.mode ≡ Plain → IsAllPlayable c
@@ -227,17 +228,65 @@ plain_end below c r lawful can n enough =
 -- ---- confirm mode
 
 -- after a good round: no stop is wished for, nothing is on the way, and fewer rounds are left
-record Ahead (old : ℕ) (now : Channel) : Type 0 where
+pub record Ahead (old : ℕ) (now : Channel) : Type 0 where
   pub no_wish : now.state.stop ≡ false
   pub down : now.down ≡ []
   pub up : now.up ≡ []
-  pub comes : Comes now.port.state now.state.stage
+  pub comes : IsInStep now.port.state now.state.stage
   pub fewer : left_from (length now.plan.list - now.state.settled) now.state.stage < old
+
+-- a command that asks for a reply is answered, and the transition of that leads on
+pub sensed : (c : Channel) (q : Phase) (d : Command) (old : ℕ) → c.plan.mode ≡ Confirming → c.state.stage ≡ Ready q → c.state.stop ≡ false
+    → command_in c.plan.list c.plan.port q ≡ Some d → senses q ≡ true → (x : Exchanged c d (after_events c round))
+    → Steps (length c.plan.list) c.state.settled old (port_after c.port.clips c.port.state (command_in c.plan.list c.plan.port q)) x.answer
+    (turn_by Confirming c.plan.list c.plan.limit (take_after_sending q c.state.take) c.state.tries c.state.unanswered
+    (is_counted c.plan.mode (exchange d x.answer)) q (answer_at (command_in c.plan.list c.plan.port q) x.answer))
+    → Ahead old (after_events c round)
+sensed c q d old confirms e none is s x steps_by =
+    record {
+      no_wish = ap (λ (z : State). z.stop) leads;
+      down = x.down;
+      up = x.up;
+      comes = subst (λ (p : PortState). IsInStep p (after_events c round).state.stage) (sym (ap (λ (p : ClockedPort). p.state) x.port))
+          (subst (λ (z : State). IsInStep left z.stage) (sym leads) steps.1);
+      fewer = subst (λ (z : State). left_from (length c.plan.list - z.settled) z.stage < old) (sym leads) steps.2;
+    }
+  where
+    e_is : Exchange
+    e_is = exchange d x.answer
+
+    left : PortState
+    left = port_after c.port.clips c.port.state (Some d)
+
+    transition : Transition
+    transition = transition_of c.plan (sent q c.state) q e_is
+
+    same : turn_by Confirming c.plan.list c.plan.limit (take_after_sending q c.state.take) c.state.tries c.state.unanswered
+        (is_counted c.plan.mode e_is) q (answer_in e_is) ≡ transition
+    same =
+        ap (λ (mode : Mode). turn_by mode c.plan.list c.plan.limit (take_after_sending q c.state.take) c.state.tries c.state.unanswered
+        (is_counted c.plan.mode e_is) q (answer_in e_is)) (sym confirms)
+        ∙ turn_same c.plan (take_after_sending q c.state.take) c.state.tries c.state.unanswered (is_counted c.plan.mode e_is) q (answer_in e_is)
+
+    steps : Steps (length c.plan.list) c.state.settled old left x.answer transition
+    steps = subst (Steps (length c.plan.list) c.state.settled old left x.answer) same
+        (subst (λ (o : Option Command). Steps (length c.plan.list) c.state.settled old (port_after c.port.clips c.port.state o) x.answer
+        (turn_by Confirming c.plan.list c.plan.limit (take_after_sending q c.state.take) c.state.tries c.state.unanswered
+        (is_counted c.plan.mode e_is) q (answer_at o x.answer))) is steps_by)
+
+    over : is_end c.plan.mode d (Some (heard.Reply x.answer)) ≡ true
+    over =
+        ap (λ (mode : Mode). is_end mode d (Some (heard.Reply x.answer))) confirms
+        ∙ ap (λ (b : Bool). b && not (is_receipt x.answer)) (sense_of c.plan.list c.plan.port q d is ∙ s)
+        ∙ ap not steps.0
+
+    leads : (after_events c round).state ≡ state_after transition (unanswered_after c.plan.mode e_is c.state.unanswered) (sent q c.state)
+    leads = x.state ∙ turns_on c.plan c.state q d x.answer e none is over
 
 confirmed_round : Below → (c : Channel) (q : Phase) → IsKept c → c.plan.mode ≡ Confirming
     → ((k : ℕ) → plays c.port.clips (slice_get c.plan.list k) ≡ true)
     → c.port.state.playing ≡ None → is_cueing_slot c.port.state.cued ≡ false
-    → c.state.stage ≡ Ready q → c.state.stop ≡ false → Before c.port.state q
+    → c.state.stage ≡ Ready q → c.state.stop ≡ false → IsReadyFor c.port.state q
     → Ahead (left_before (length c.plan.list - c.state.settled) q) (after_events c round)
 confirmed_round below c q k confirms all idle ready e none before = by (command_in c.plan.list c.plan.port q) refl
   where
@@ -251,9 +300,6 @@ confirmed_round below c q k confirms all idle ready e none before = by (command_
         x : Exchanged c d (after_events c round)
         x = exchanged below c d k (gives_own c.plan c.state q e none ∙ is)
 
-        e_is : Exchange
-        e_is = exchange d x.answer
-
         left : PortState
         left = port_after c.port.clips c.port.state (Some d)
 
@@ -264,56 +310,17 @@ confirmed_round below c q k confirms all idle ready e none before = by (command_
         asked = ap (answer_after c.port.clips c.port.state) is ∙ x.answers
 
         which : (b : Bool) → senses q ≡ b → Ahead (left_before (length c.plan.list - c.state.settled) q) (after_events c round)
-        which true s =
-            record {
-              no_wish = ap (λ (z : State). z.stop) leads;
-              down = refl;
-              up = refl;
-              comes = subst (λ (p : PortState). Comes p (after_events c round).state.stage) (sym port)
-                  (subst (λ (z : State). Comes left z.stage) (sym leads) steps.1);
-              fewer = subst (λ (z : State). left_from (length c.plan.list - z.settled) z.stage < left_before (length c.plan.list - c.state.settled) q)
-                  (sym leads) steps.2;
-            }
-          where
-            transition : Transition
-            transition = transition_of c.plan (sent q c.state) q e_is
-
-            steps_by : Steps (length c.plan.list) c.state.settled (left_before (length c.plan.list - c.state.settled) q)
-                (port_after c.port.clips c.port.state (command_in c.plan.list c.plan.port q)) x.answer
-                (turn_by Confirming c.plan.list c.plan.limit (take_after_sending q c.state.take) c.state.tries c.state.unanswered
-                (is_counted c.plan.mode e_is) q (answer_at (command_in c.plan.list c.plan.port q) x.answer))
-            steps_by = sense_steps c.plan.list c.port.clips c.port.state c.aired c.state.settled c.plan.port c.plan.limit c.state.tries c.state.unanswered
-                (take_after_sending q c.state.take) (is_counted c.plan.mode e_is) q x.answer k.stands.numbered idle ready all place before s asked
-
-            same : turn_by Confirming c.plan.list c.plan.limit (take_after_sending q c.state.take) c.state.tries c.state.unanswered
-                (is_counted c.plan.mode e_is) q (answer_in e_is) ≡ transition
-            same =
-                ap (λ (mode : Mode). turn_by mode c.plan.list c.plan.limit (take_after_sending q c.state.take) c.state.tries c.state.unanswered
-                (is_counted c.plan.mode e_is) q (answer_in e_is)) (sym confirms)
-                ∙ turn_same c.plan (take_after_sending q c.state.take) c.state.tries c.state.unanswered (is_counted c.plan.mode e_is) q (answer_in e_is)
-
-            steps : Steps (length c.plan.list) c.state.settled (left_before (length c.plan.list - c.state.settled) q) left x.answer transition
-            steps = subst (Steps (length c.plan.list) c.state.settled (left_before (length c.plan.list - c.state.settled) q) left x.answer) same
-                (subst (λ (o : Option Command). Steps (length c.plan.list) c.state.settled (left_before (length c.plan.list - c.state.settled) q)
-                (port_after c.port.clips c.port.state o) x.answer
-                (turn_by Confirming c.plan.list c.plan.limit (take_after_sending q c.state.take) c.state.tries c.state.unanswered
-                (is_counted c.plan.mode e_is) q (answer_at o x.answer))) is steps_by)
-
-            over : is_end c.plan.mode d (Some (heard.Reply x.answer)) ≡ true
-            over =
-                ap (λ (mode : Mode). is_end mode d (Some (heard.Reply x.answer))) confirms
-                ∙ ap (λ (b : Bool). b && not (is_receipt x.answer)) (sense_of c.plan.list c.plan.port q d is ∙ s)
-                ∙ ap not steps.0
-
-            leads : (after_events c round).state ≡ state_after transition (unanswered_after c.plan.mode e_is c.state.unanswered) (sent q c.state)
-            leads = x.state ∙ turns_on c.plan c.state q d x.answer e none is over
+        which true s = sensed c q d (left_before (length c.plan.list - c.state.settled) q) confirms e none is s x
+            (sense_steps c.plan.list c.port.clips c.port.state c.aired c.state.settled c.plan.port c.plan.limit c.state.tries c.state.unanswered
+            (take_after_sending q c.state.take) (is_counted c.plan.mode (exchange d x.answer)) q x.answer k.stands.numbered idle ready all place before s
+            asked)
         which false s =
             record {
               no_wish = ap (λ (z : State). z.stop) leads;
               down = refl;
               up = refl;
-              comes = subst (λ (p : PortState). Comes p (after_events c round).state.stage) (sym port)
-                  (subst (λ (z : State). Comes left z.stage) (sym leads) stays.1);
+              comes = subst (λ (p : PortState). IsInStep p (after_events c round).state.stage) (sym port)
+                  (subst (λ (z : State). IsInStep left z.stage) (sym leads) stays.1);
               fewer = subst (λ (z : State). left_from (length c.plan.list - z.settled) z.stage < left_before (length c.plan.list - c.state.settled) q)
                   (sym leads) stays.2;
             }
@@ -336,9 +343,9 @@ confirmed_round below c q k confirms all idle ready e none before = by (command_
     by (Some d) is = go d is
 
 -- the round after a time-out
-confirmed_behind : Below → (c : Channel) (q : Phase) (s : State) → IsKept c → c.plan.mode ≡ Confirming → IsAllPlayable c
+pub confirmed_behind : Below → (c : Channel) (q : Phase) (s : State) → IsKept c → c.plan.mode ≡ Confirming → IsAllPlayable c
     → state_waiting c.plan c.down c.up c.state ≡ s → s.stage ≡ Ready q → s.stop ≡ false → s.settled ≡ c.state.settled
-    → Before c.port.state q
+    → IsReadyFor c.port.state q
     → Ahead (left_before (length c.plan.list - c.state.settled) q) (after_events c good_round)
 confirmed_behind below c q s k confirms all is e none same before =
     subst (λ (n : ℕ). Ahead (left_before (length c.plan.list - n) q) (after_events c good_round)) (ap (λ (z : State). z.settled) is ∙ same)
@@ -347,17 +354,21 @@ confirmed_behind below c q s k confirms all is e none same before =
     (ap (λ (z : State). z.stage) is ∙ e) (ap (λ (z : State). z.stop) is ∙ none) (before_stays c.port.state q before))
 
 -- nothing is on the way: what is awaited times out
-times_out : (c : Channel) (down up : List ℕ) (q : Phase) (d : Command) → down ≡ [] → up ≡ [] → c.plan.mode ≡ Confirming → c.state.stage ≡ Awaiting q
-    → command_in c.plan.list c.plan.port q ≡ Some d → is_sense d ≡ false
+pub times_out : (c : Channel) (down up : List ℕ) (q : Phase) (d : Command) → down ≡ [] → up ≡ [] → c.plan.mode ≡ Confirming → c.state.stage ≡ Awaiting q
+    → command_in c.plan.list c.plan.port q ≡ Some d → (is_sense d && nat_le c.plan.limit (c.state.unanswered + 1)) ≡ false
     → state_waiting c.plan down up c.state
     ≡ state_after (on_no_answer Confirming q) (unanswered_after c.plan.mode (record { command = d; heard = None }) c.state.unanswered) c.state
-times_out c [] [] q d x y confirms e is no_sense = waits_over c.plan c.state q d confirms e is no_sense
-times_out c [] (b ∷ up) q d x y confirms e is no_sense = cc
-times_out c (b ∷ down) up q d x y confirms e is no_sense = cc
+times_out c [] [] q d x y confirms e is spare = waits_over c.plan c.state q d confirms e is spare
+times_out c [] (b ∷ up) q d x y confirms e is spare = cc
+times_out c (b ∷ down) up q d x y confirms e is spare = cc
+
+-- what only a receipt answers doesn't count
+uncounted : (limit unanswered : ℕ) (d : Command) → is_sense d ≡ false → (is_sense d && nat_le limit (unanswered + 1)) ≡ false
+uncounted limit unanswered d no_sense = ap (λ (b : Bool). b && nat_le limit (unanswered + 1)) no_sense
 
 -- a receipt has answered the phase's command: it times out, and the next phase asks what came of it
 confirmed_lapse : Below → (c : Channel) (q next : Phase) → IsKept c → c.plan.mode ≡ Confirming → IsAllPlayable c → c.state.stop ≡ false
-    → c.down ≡ [] → c.up ≡ [] → c.state.stage ≡ Awaiting q → senses q ≡ false → on_no_answer Confirming q ≡ transition.Goes next → Before c.port.state next
+    → c.down ≡ [] → c.up ≡ [] → c.state.stage ≡ Awaiting q → senses q ≡ false → on_no_answer Confirming q ≡ transition.Goes next → IsReadyFor c.port.state next
     → Ahead (left_before (length c.plan.list - c.state.settled) next) (after_events c good_round)
 confirmed_lapse below c q next k confirms all none down up e no_sense leads before = by (command_in c.plan.list c.plan.port q) refl
   where
@@ -368,7 +379,8 @@ confirmed_lapse below c q next k confirms all none down up e no_sense leads befo
         (subst (PlaceAt c.plan.list c.port.clips c.port.state.cued c.aired c.state.settled) e k.stands.place) is)
     by (Some d) is =
         confirmed_behind below c next _ k confirms all
-        (times_out c c.down c.up q d down up confirms e is (sense_of c.plan.list c.plan.port q d is ∙ no_sense))
+        (times_out c c.down c.up q d down up confirms e is
+        (uncounted c.plan.limit c.state.unanswered d (sense_of c.plan.list c.plan.port q d is ∙ no_sense)))
         (ap stage_after leads) none (ap (λ (transition : Transition). settled_after transition c.state.settled) leads) before
 
 -- the port has closed, and says so by a receipt: the controller is done
@@ -378,7 +390,7 @@ confirmed_close c confirms none down up e = record {
   no_wish = ap (λ (z : State). z.stop) (ended ∙ over) ∙ none;
   down = refl;
   up = refl;
-  comes = subst (Comes (after_events c good_round).port.state) (sym (ap (λ (z : State). z.stage) (ended ∙ over))) tt;
+  comes = subst (IsInStep (after_events c good_round).port.state) (sym (ap (λ (z : State). z.stage) (ended ∙ over))) tt;
   fewer = subst (λ (stage : Stage). left_from (length c.plan.list - (after_events c good_round).state.settled) stage < 1)
       (sym (ap (λ (z : State). z.stage) (ended ∙ over))) (omega arith);
 }
@@ -393,7 +405,7 @@ confirmed_close c confirms none down up e = record {
 
 -- fewer rounds are left, wherever it is
 confirmed_awaiting : Below → (c : Channel) (q : Phase) → IsKept c → c.plan.mode ≡ Confirming → IsAllPlayable c → c.state.stop ≡ false
-    → c.down ≡ [] → c.up ≡ [] → c.state.stage ≡ Awaiting q → Executed c.port.state q
+    → c.down ≡ [] → c.up ≡ [] → c.state.stage ≡ Awaiting q → HasExecuted c.port.state q
     → Ahead (left_behind (length c.plan.list - c.state.settled) q) (after_events c good_round)
 confirmed_awaiting below c phase.Open k confirms all none down up e comes = absurd comes
 confirmed_awaiting below c phase.Select k confirms all none down up e comes =
@@ -412,8 +424,8 @@ confirmed_awaiting below c phase.Close k confirms all none down up e comes = con
 confirmed_awaiting below c phase.Halt k confirms all none down up e comes = absurd comes
 confirmed_awaiting below c phase.HaltClose k confirms all none down up e comes = absurd comes
 
-confirmed_ready : Below → (c : Channel) (q : Phase) → IsKept c → c.plan.mode ≡ Confirming → IsAllPlayable c → c.state.stop ≡ false
-    → c.state.stage ≡ Ready q → Before c.port.state q
+pub confirmed_ready : Below → (c : Channel) (q : Phase) → IsKept c → c.plan.mode ≡ Confirming → IsAllPlayable c → c.state.stop ≡ false
+    → c.state.stage ≡ Ready q → IsReadyFor c.port.state q
     → Ahead (left_before (length c.plan.list - c.state.settled) q) (after_events c good_round)
 confirmed_ready below c q k confirms all none e comes =
     confirmed_behind below c q c.state k confirms all (waits_still c.plan c.down c.up c.state (ap (awaited_in c.plan) e)) e none refl comes
@@ -421,8 +433,8 @@ confirmed_ready below c q k confirms all none e comes =
 none_fewer : {m left : ℕ} → m < left → left ≤ 0 → ⊥
 none_fewer fewer few = omega (arith, fewer, few)
 
-confirmed_rounds : Below → (n : ℕ) (c : Channel) → IsReached c → c.plan.mode ≡ Confirming → IsAllPlayable c → c.state.stop ≡ false
-    → c.down ≡ [] → c.up ≡ [] → (stage : Stage) → c.state.stage ≡ stage → Comes c.port.state stage
+pub confirmed_rounds : Below → (n : ℕ) (c : Channel) → IsReached c → c.plan.mode ≡ Confirming → IsAllPlayable c → c.state.stop ≡ false
+    → c.down ≡ [] → c.up ≡ [] → (stage : Stage) → c.state.stage ≡ stage → IsInStep c.port.state stage
     → left_from (length c.plan.list - c.state.settled) stage ≤ n
     → (after_events c (times n good_round)).state.stage ≡ Ended outcome.Done
 confirmed_rounds below n c r confirms all none down up (Ended outcome.Done) e comes few = ended_stays_on n c outcome.Done e

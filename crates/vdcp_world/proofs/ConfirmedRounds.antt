@@ -11,18 +11,18 @@ use Rattle.vdcp_words.specs.declared.command.Command.TheVariants as command
 use Rattle.vdcp_words.specs.declared.reply.Reply.{Reply}
 use Rattle.vdcp_words.specs.declared.reply.Reply.TheVariants as reply
 use Rattle.vdcp_port.specs.Clips.{length_of, is_known, is_playable}
-use Rattle.vdcp_port.specs.Port.{PortState, Cued, empty, cueing, done, is_selected, is_open, made_ready, ready_state, ended_state, is_empty as is_empty_slot, is_cueing as is_cueing_slot}
+use Rattle.vdcp_port.specs.Port.{PortState, Cued, empty, cueing, done, is_selected, made_ready, ready_state, ended_state, is_empty as is_empty_slot, is_cueing as is_cueing_slot}
 use Rattle.vdcp_auto.specs.Commands.{cue_for, cue_of, is_sense}
 use Rattle.vdcp_auto.specs.Replies.{is_receipt}
 use Rattle.vdcp_auto.specs.Table.{command_in, next}
 use Rattle.vdcp_auto.specs.Turn.{stage_after, settled_after}
-use Rattle.vdcp_auto.specs.declared.outcome.Outcome.TheVariants as outcome
 use Rattle.vdcp_auto.specs.declared.phase.Mode.TheVariants.{Confirming}
 use Rattle.vdcp_auto.specs.declared.phase.Phase.{Phase}
 use Rattle.vdcp_auto.specs.declared.phase.Phase.TheVariants as phase
 use Rattle.vdcp_auto.specs.State.{Stage}
 use Rattle.vdcp_auto.specs.State.{Ready, Awaiting, Ended}
 use Rattle.vdcp_auto.specs.declared.phase.Transition.{Transition}
+use Rattle.vdcp_world.specs.InStep.{IsReadyFor, HasExecuted, IsInStep}
 use Rattle.vdcp_world.proofs.Exchanges.{turn_by}
 use Rattle.vdcp_world.proofs.PhaseTable.{PlaceReady, answer_after, port_after}
 use Rattle.vdcp_world.proofs.RoundsLeft.{answer_at, plays, known_of}
@@ -55,42 +55,6 @@ abbrev pub left_from : ℕ → Stage → ℕ
 left_from r (Ready q) = left_before r q
 left_from r (Awaiting q) = left_behind r q
 left_from r (Ended outcome) = 0
-
--- what the port is, before the phase's command is sent
-abbrev pub Before : PortState → Phase → Type 0
-Before p phase.Open = Unit {0}
-Before p phase.Select = is_open p ≡ true
-Before p phase.Seen = is_selected p ≡ true
-Before p (phase.Exists k) = is_selected p ≡ true
-Before p (phase.Cue k) = is_selected p ≡ true
-Before p (phase.Wait k) = (is_selected p ≡ true) × (is_empty_slot p.cued ≡ false)
-Before p (phase.Play k) = is_selected p ≡ true
-Before p (phase.Probe k) = (is_selected p ≡ true) × (is_empty_slot p.cued ≡ true)
-Before p (phase.Check k) = is_selected p ≡ true
-Before p phase.Drain = is_selected p ≡ true
-Before p phase.Close = Unit {0}
-Before p phase.Halt = ⊥
-Before p phase.HaltClose = ⊥
-
--- and where it has executed a command that only a receipt answers
-abbrev pub Executed : PortState → Phase → Type 0
-Executed p phase.Select = is_selected p ≡ true
-Executed p (phase.Cue k) = (is_selected p ≡ true) × (is_empty_slot p.cued ≡ false)
-Executed p (phase.Play k) = (is_selected p ≡ true) × (is_empty_slot p.cued ≡ true)
-Executed p phase.Close = Unit {0}
-Executed p _ = ⊥
-
-abbrev pub Comes : PortState → Stage → Type 0
-Comes p (Ready q) = Before p q
-Comes p (Awaiting q) = Executed p q
-Comes p (Ended outcome.Done) = Unit {0}
-Comes p (Ended outcome.Stopped) = ⊥
-Comes p (Ended outcome.Lost) = ⊥
-Comes p (Ended outcome.Denied) = ⊥
-Comes p (Ended (outcome.Missing k)) = ⊥
-Comes p (Ended (outcome.Refused k)) = ⊥
-Comes p (Ended (outcome.Foreign k)) = ⊥
-Comes p (Ended (outcome.Strange k)) = ⊥
 
 -- the phase's command asks for a reply of its own
 abbrev pub senses : Phase → Bool
@@ -140,26 +104,26 @@ sense_of list port phase.HaltClose c e = cc
 
 -- a cue gets done, and the clip ends, before the command is sent
 
-slot_stays : (cued : Cued) → is_empty_slot (made_ready cued) ≡ is_empty_slot cued
+pub slot_stays : (cued : Cued) → is_empty_slot (made_ready cued) ≡ is_empty_slot cued
 slot_stays empty = refl
 slot_stays (cueing item) = refl
 slot_stays (done item) = refl
 
-pub before_stays : (p : PortState) (q : Phase) → Before p q → Before (ended_state (ready_state p)) q
+pub before_stays : (p : PortState) (q : Phase) → IsReadyFor p q → IsReadyFor (ended_state (ready_state p)) q
 before_stays p q h = grind (arith, slot_stays p.cued)
 
 -- ---- a command that asks for a reply
 
 -- no receipt answers it; a transition by which it goes on, with fewer rounds left
 abbrev pub Steps : ℕ → ℕ → ℕ → PortState → Reply → Transition → Type 0
-Steps n s old p r transition = (is_receipt r ≡ false) × Comes p (stage_after transition) × (left_from (n - settled_after transition s) (stage_after transition) < old)
+Steps n s old p r transition = (is_receipt r ≡ false) × IsInStep p (stage_after transition) × (left_from (n - settled_after transition s) (stage_after transition) < old)
 
 -- the next event, or the drain
 comes_next : (list : List Item) (p : PortState) (k old : ℕ) → is_selected p ≡ true → 6 * (length list - k) + 3 < old
-    → Before p (next list k) × (left_before (length list - k) (next list k) < old)
+    → IsReadyFor p (next list k) × (left_before (length list - k) (next list k) < old)
 comes_next list p k old s below = by (nat_lt k (length list))
   where
-    by : (b : Bool) → Before p (if b then phase.Exists k else phase.Drain) × (left_before (length list - k) (if b then phase.Exists k else phase.Drain) < old)
+    by : (b : Bool) → IsReadyFor p (if b then phase.Exists k else phase.Drain) × (left_before (length list - k) (if b then phase.Exists k else phase.Drain) < old)
     by true = (s, below)
     by false = (s, omega (arith, below))
 
@@ -183,7 +147,7 @@ exists_steps list clips p settled port limit tries unanswered take counts k (Som
 pub sense_steps : (list : List Item) (clips : List (ClipId × Timecode)) (p : PortState) (aired : List Item)
     (settled port limit tries unanswered : ℕ) (take counts : Bool) (q : Phase) (r : Reply)
     → p.number ≡ port → p.playing ≡ None → is_cueing_slot p.cued ≡ false → ((k : ℕ) → plays clips (slice_get list k) ≡ true)
-    → PlaceReady list p.cued aired settled q → Before p q → senses q ≡ true
+    → PlaceReady list p.cued aired settled q → IsReadyFor p q → senses q ≡ true
     → answer_after clips p (command_in list port q) ≡ Some r
     → Steps (length list) settled (left_before (length list - settled) q) (port_after clips p (command_in list port q)) r
     (turn_by Confirming list limit take tries unanswered counts q (answer_at (command_in list port q) r))
@@ -206,7 +170,7 @@ sense_steps list clips p aired settled port limit tries unanswered take counts p
 
 -- a receipt answers it, the port has executed it, and fewer rounds are left
 abbrev pub Stays : ℕ → PortState → Phase → Reply → Type 0
-Stays unsettled p q r = (is_receipt r ≡ true) × Executed p q × (left_behind unsettled q < left_before unsettled q)
+Stays unsettled p q r = (is_receipt r ≡ true) × HasExecuted p q × (left_behind unsettled q < left_before unsettled q)
 
 cue_stays : (unsettled : ℕ) (clips : List (ClipId × Timecode)) (p : PortState) (k : ℕ) (id : ClipId) (part : Option Part) (r : Reply)
     → is_selected p ≡ true → is_playable clips (record { id = id; part = part }) ≡ true → answer_after clips p (Some (cue_for id part)) ≡ Some r
@@ -222,7 +186,7 @@ cue_stays_at unsettled clips p k (Some item) r s f a = cue_stays unsettled clips
 
 pub receipt_stays : (list : List Item) (clips : List (ClipId × Timecode)) (p : PortState) (aired : List Item) (settled port : ℕ) (q : Phase) (r : Reply)
     → p.number ≡ port → ((k : ℕ) → plays clips (slice_get list k) ≡ true)
-    → PlaceReady list p.cued aired settled q → Before p q → senses q ≡ false
+    → PlaceReady list p.cued aired settled q → IsReadyFor p q → senses q ≡ false
     → answer_after clips p (command_in list port q) ≡ Some r
     → Stays (length list - settled) (port_after clips p (command_in list port q)) q r
 receipt_stays list clips p aired settled port phase.Open r n f h w on a = cc

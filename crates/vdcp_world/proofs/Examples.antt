@@ -10,6 +10,7 @@ use Rattle.vdcp_words.specs.declared.command.Command.TheVariants as command
 use Rattle.vdcp_words.specs.declared.reply.Reply.{Reply}
 use Rattle.vdcp_words.specs.declared.reply.Reply.TheVariants as reply
 use Rattle.vdcp_port.specs.Clips.{whole}
+use Rattle.vdcp_port.specs.declared.access.Access.TheVariants.{Selected}
 use Rattle.vdcp_auto.specs.Turn.{outcome_of}
 use Rattle.vdcp_auto.specs.declared.exchange.Exchange.{Exchange}
 use Rattle.vdcp_auto.specs.declared.exchange.Heard.TheVariants as heard
@@ -211,6 +212,10 @@ taken_at_a_state = refl
 played_over : exchange_at 11 taken_over ≡ answered_by command.Play reply.Ack
 played_over = refl
 
+-- a take that comes once the PLAY went out counts for the next one, though it comes before the clip goes to air
+taken_early : seen (after_events (new Plain both) (good 5 ++ Tick ∷ Take ∷ Down ∷ Up ∷ rounds 3 ++ Ready ∷ rounds 2)) ≡ ends both 2 11 None
+taken_early = refl
+
 -- a cue takes three frames
 abbrev framed_cue : Channel
 framed_cue =
@@ -334,3 +339,38 @@ cue_lost_twice = refl
 
 cue_lost_three_times : seen (lost_cue 3) ≡ ends [] 0 10 (Some (Refused 0))
 cue_lost_three_times = refl
+
+-- CLOSE is lost: it is done, and the port is still selected
+abbrev lost_close : Channel
+lost_close = after_events (new Confirming []) (good 4 ++ Tick ∷ LoseDown ∷ Timeout ∷ [])
+
+lost_close_is_done : seen lost_close ≡ ends [] 0 5 (Some Done)
+lost_close_is_done = refl
+
+lost_close_leaves_the_port_selected : lost_close.port.state.access ≡ Selected
+lost_close_leaves_the_port_selected = refl
+
+-- STOP and CLOSE are lost: it has stopped, and the clip still plays
+abbrev lost_stop_and_close : Channel
+lost_stop_and_close = after_events (new Confirming one) (good 6 ++ round ++ Stop ∷ Timeout ∷ times 2 (Tick ∷ LoseDown ∷ Timeout ∷ []))
+
+lost_stop_and_close_is_stopped : seen lost_stop_and_close ≡ ends one 0 9 (Some Stopped)
+lost_stop_and_close_is_stopped = refl
+
+lost_stop_leaves_the_clip_playing : lost_stop_and_close.port.state.playing ≡ Some (whole clip_1)
+lost_stop_leaves_the_clip_playing = refl
+
+-- SELECT is lost: the port refuses the status, and SELECT is sent again, unless that status was the last one
+abbrev lost_select : ℕ → Channel
+lost_select limit =
+    after_events (new_channel (record { mode = Confirming; list = one; port = 1; limit = limit }) two_clips 0 1)
+    (good_round ++ Tick ∷ LoseDown ∷ Timeout ∷ [])
+
+lost_select_takes_12_rounds : seen (after_events (lost_select 2) (good 12)) ≡ ends one 1 13 (Some Done)
+lost_select_takes_12_rounds = refl
+
+lost_select_is_not_done_in_11_rounds : seen (after_events (lost_select 2) (good 11)) ≡ ends one 1 12 None
+lost_select_is_not_done_in_11_rounds = refl
+
+lost_select_ends_at_the_limit : seen (after_events (lost_select 1) (good 12)) ≡ ends [] 0 3 (Some Lost)
+lost_select_ends_at_the_limit = refl

@@ -144,15 +144,15 @@ pub record Behind (mode : Mode) (list : List Item) (clips : List (ClipId × Time
   pub place : PlaceAt list clips p.cued aired (settled_after transition settled) (stage_after transition)
   pub firm : FirmIn mode list clips p (stage_after transition)
 
-either : (a b : Bool) → (a || b) ≡ true → (a ≡ true) ⊎ ((a ≡ false) × (b ≡ true))
+pub either : (a b : Bool) → (a || b) ≡ true → (a ≡ true) ⊎ ((a ≡ false) × (b ≡ true))
 either true b e = inl refl
 either false b e = inr (refl, e)
 
-on_refused : (mode : Mode) (list : List Item) (limit tries : ℕ) (take : Bool) (q : Phase) (r : Reply) → is_refusal r ≡ true
+pub on_refused : (mode : Mode) (list : List Item) (limit tries : ℕ) (take : Bool) (q : Phase) (r : Reply) → is_refusal r ≡ true
     → on_answer mode list limit take tries q r ≡ on_refusal (length list) q
 on_refused mode list limit tries take q r e = ap (λ b. if b then on_refusal (length list) q else on_reply mode list limit take tries q r) e
 
-on_replied : (mode : Mode) (list : List Item) (limit tries : ℕ) (take : Bool) (q : Phase) (r : Reply) → is_refusal r ≡ false
+pub on_replied : (mode : Mode) (list : List Item) (limit tries : ℕ) (take : Bool) (q : Phase) (r : Reply) → is_refusal r ≡ false
     → on_answer mode list limit take tries q r ≡ on_reply mode list limit take tries q r
 on_replied mode list limit tries take q r e = ap (λ b. if b then on_refusal (length list) q else on_reply mode list limit take tries q r) e
 
@@ -199,13 +199,13 @@ unanswered_place Confirming list clips p aired settled limit unanswered counts q
 }
 
 -- a reply that ends an exchange in confirm mode is no receipt
-no_receipt : (c : Command) (r : Reply) → is_end Confirming c (Some (heard.Reply r)) ≡ true → is_receipt r ≡ false
+pub no_receipt : (c : Command) (r : Reply) → is_end Confirming c (Some (heard.Reply r)) ≡ true → is_receipt r ≡ false
 no_receipt c r e = of (is_sense c) (is_receipt r) e
   where
     of : (a b : Bool) → (a && not b) ≡ true → b ≡ false
     of a b e = grind arith
 
-no_refusal : (r : Reply) → is_receipt r ≡ false → is_refusal r ≡ false
+pub no_refusal : (r : Reply) → is_receipt r ≡ false → is_refusal r ≡ false
 no_refusal r e = grind arith
 
 -- where what came leads, if it ends the exchange of the awaited command

@@ -1,5 +1,5 @@
 -- A good round, from bytes to bytes: what the controller sends, what the port answers, and what is heard.
-use Rattle.std.proofs.Common.{ℕ, ◌≡◌, Bool, true, false, List, [], ◌∷◌, refl, sym, ap, subst, ◌∙◌, arith, if◌then◌else◌}
+use Rattle.std.proofs.Common.{ℕ, ◌+◌, ◌≡◌, Bool, true, false, ◌&&◌, nat_le, List, [], ◌∷◌, refl, sym, ap, subst, ◌∙◌, arith, if◌then◌else◌}
 use Rattle.std.specs.Option.{option_map_or}
 use Rattle.std.specs.Prelude.{Option, None, Some, IfSome}
 use Rattle.vdcp_frame.specs.Burst.{messages_of}
@@ -19,6 +19,7 @@ use Rattle.vdcp_auto.specs.Turn.{awaited, awaited_in, given, given_in, ticked, t
 use Rattle.vdcp_auto.specs.declared.exchange.Exchange.{Exchange}
 use Rattle.vdcp_auto.specs.declared.exchange.Heard.{Heard}
 use Rattle.vdcp_auto.specs.declared.exchange.Heard.TheVariants as heard
+use Rattle.vdcp_auto.specs.declared.outcome.Outcome.TheVariants.{Lost}
 use Rattle.vdcp_auto.specs.declared.phase.Mode.{Mode}
 use Rattle.vdcp_auto.specs.declared.phase.Mode.TheVariants.{Confirming}
 use Rattle.vdcp_auto.specs.declared.phase.Phase.{Phase}
@@ -26,6 +27,7 @@ use Rattle.vdcp_auto.specs.State.{Stage}
 use Rattle.vdcp_auto.specs.State.{Ready, Awaiting}
 use Rattle.vdcp_auto.specs.State.{State}
 use Rattle.vdcp_auto.specs.declared.phase.Transition.{Transition}
+use Rattle.vdcp_auto.specs.declared.phase.Transition.TheVariants.{Ends}
 use Rattle.vdcp_world.specs.Channel.{Channel, after_events, down_behind, up_behind, answered, state_hearing, state_waiting}
 use Rattle.vdcp_world.specs.Rounds.{round}
 use Rattle.vdcp_world.specs.declared.event.Event.TheVariants as event
@@ -128,17 +130,17 @@ hears_still plan None state e = refl
 hears_still plan (Some h) state e =
     ap (λ (o : Option Command). option_map_or (λ x. ended_in plan state.stage x state) (exchange_of plan.mode (Some h) o) state) e
 
--- and the time-out of an exchange in confirm mode whose command a receipt answers
+-- and the time-out in confirm mode, where it isn't the last one that counts
 pub waits_over : (plan : Plan) (state : State) (q : Phase) (d : Command) → plan.mode ≡ Confirming → state.stage ≡ Awaiting q
-    → command_in plan.list plan.port q ≡ Some d → is_sense d ≡ false
+    → command_in plan.list plan.port q ≡ Some d → (is_sense d && nat_le plan.limit (state.unanswered + 1)) ≡ false
     → came_to plan None state
     ≡ state_after (on_no_answer Confirming q) (unanswered_after plan.mode (record { command = d; heard = None }) state.unanswered) state
-waits_over plan state q d confirms e is no_sense =
+waits_over plan state q d confirms e is spare =
     ap (λ (stage : Stage). option_map_or (λ x. ended_in plan stage x state) (exchange_of plan.mode None (awaited_in plan stage)) state) e
     ∙ ap (λ (o : Option Command). of (exchange_of plan.mode None o)) is
     ∙ ap (λ (mode : Mode). of (if is_end mode d None then Some silent else None)) confirms
     ∙ ap (λ (mode : Mode). to (on_unanswered mode plan.limit state.unanswered (is_counted mode silent) q)) confirms
-    ∙ ap (λ (b : Bool). to (on_unanswered Confirming plan.limit state.unanswered b q)) no_sense
+    ∙ ap (λ (b : Bool). to (if b then Ends Lost else on_no_answer Confirming q)) spare
   where
     silent : Exchange
     silent = record { command = d; heard = None }

@@ -50,7 +50,7 @@ firm_new : (mode : Mode) (list : List Item) (clips : List (ClipId × Timecode)) 
 firm_new Plain list clips p = tt
 firm_new Confirming list clips p = tt
 
-kept_new : (plan : Plan) (clips : List (ClipId × Timecode)) (unit cue_frames : ℕ) → unit ≤ 15 → plan.port < 256 → All IsItem plan.list
+pub kept_new : (plan : Plan) (clips : List (ClipId × Timecode)) (unit cue_frames : ℕ) → unit ≤ 15 → plan.port < 256 → All IsItem plan.list
     → IsKept (new_channel plan clips unit cue_frames)
 kept_new plan clips unit cue_frames u h items = record {
   unit_fits = omega (arith, u);
@@ -66,7 +66,7 @@ kept_new plan clips unit cue_frames u h items = record {
   told = tt;
 }
 
-kept_events : Below → (c : Channel) (es : List Event) → IsKept c → IsKept (after_events c es)
+pub kept_events : Below → (c : Channel) (es : List Event) → IsKept c → IsKept (after_events c es)
 kept_events below c [] k = k
 kept_events below c (e ∷ es) k = kept_events below (after_event c e) es (kept_event below c e k)
 

@@ -16,3 +16,9 @@ pub mod GoodRound
 pub mod RoundsLeft
 pub mod ConfirmedRounds
 pub mod BoundedEndProof
+pub mod Claims
+pub mod AtEndProof
+pub mod Opened
+pub mod InStepProof
+pub mod NoCutProof
+pub mod ScriptLemmas

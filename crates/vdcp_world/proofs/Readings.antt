@@ -142,12 +142,12 @@ firm_cue : (clips : List (ClipId × Timecode)) (p : PortState) (id : ClipId) (pa
 firm_cue clips p id None h = grind arith
 firm_cue clips p id (Some part) h = grind arith
 
-firm_cue_at : (clips : List (ClipId × Timecode)) (p : PortState) (o : Option Item)
+pub firm_cue_at : (clips : List (ClipId × Timecode)) (p : PortState) (o : Option Item)
     → is_selected p ≡ true → is_selected (port_after clips p (option_map cue_of o)) ≡ true
 firm_cue_at clips p None h = h
 firm_cue_at clips p (Some item) h = firm_cue clips p item.id item.part h
 
-firm_request : (clips : List (ClipId × Timecode)) (p : PortState) (o : Option Item)
+pub firm_request : (clips : List (ClipId × Timecode)) (p : PortState) (o : Option Item)
     → is_selected p ≡ true → is_selected (port_after clips p (option_map (λ item. command.IdRequest item.id) o)) ≡ true
 firm_request clips p None h = h
 firm_request clips p (Some item) h = h

@@ -1,5 +1,9 @@
 pub mod Beginnings
 pub mod Channel
 pub mod Rounds
+pub mod Script
 pub mod Headline
 pub mod BoundedEnd
+pub mod AtEnd
+pub mod InStep
+pub mod NoCut

@@ -1,4 +1,8 @@
-ghost use Rattle.std.specs.Prelude.{◌≤◌, length, IfOk};
+ghost use Rattle.hex.specs.Hex.{encode_lower};
+ghost use Rattle.std.specs.Prelude.{◌≡◌, ◌≤◌, ◌++◌, ◌∷◌, [], List, ℕ, codes, length, map, IfOk, IfSome, Some, None, IsSomeAnd, IsTrue, option_map, OnOk};
+ghost use Rattle.vdcp_world.specs.Rounds.{round, times};
+ghost use Rattle.vdcp_world.specs.Script.{IsScript, IsLineOf, SaysMore, Counts, WritesBytes, is_skipped, repeated_events, worded};
+ghost use Rattle.vdcp_world.specs.declared.event.Event.{Event};
 
 use crate::burst::Burst;
 use crate::damage::MOST_BYTES;
@@ -37,14 +41,29 @@ pub enum ScriptFault {
 /// Events that a script can have: those of the line that holds one burst each way, as they are on this one, and
 /// others that have words of their own.
 pub trait ScriptEvent: Sized + Drop {
+    /// What an event of the line that holds one burst each way is here.
+    ghost of: { Event → Self };
+
+    /// The line is the event's, with a word of its own.
+    ghost own: { Self → List ℕ → Type 0 };
+
     /// What this event is here.
-    fn of_event(event: Event) -> Self;
+    fn of_event(event: Event) -> Self
+        ensures { result ≡ of event };
 
     /// The event of a line with a word of its own; `None` where it has no such word. It is asked first.
-    fn of_line(alloc: Global, line: &ScriptLine<'_>) -> Result<Option<Self>, ScriptFault>;
+    fn of_line(alloc: Global, line: &ScriptLine<'_>) -> Result<Option<Self>, ScriptFault>
+        ensures { IfOk result (λ found. IfSome found (λ event. own event
+            (worded line.now.word.now (option_map (λ text. text.now) line.now.argument)))) };
 }
 
 impl ScriptEvent for Event {
+    ghost use Rattle.vdcp_world.specs.Script.{NoOwn, same_event};
+
+    ghost of = { same_event };
+
+    ghost own = { NoOwn };
+
     fn of_event(event: Event) -> Event {
         event
     }
@@ -52,6 +71,14 @@ impl ScriptEvent for Event {
     fn of_line(_alloc: Global, _line: &ScriptLine<'_>) -> Result<Option<Event>, ScriptFault> {
         Ok(None)
     }
+}
+
+/// What one line can repeat.
+#[derive(Clone, Copy)]
+enum Repeated {
+    Frame,
+    Round,
+    GoodRound,
 }
 
 /// A line of a script.
@@ -66,7 +93,9 @@ pub struct ScriptLine<'a> {
 }
 
 impl<'a> ScriptLine<'a> {
-    fn of_text(number: usize, text: &'a str) -> Result<ScriptLine<'a>, ScriptFault> {
+    fn of_text(number: usize, text: &'a str) -> Result<ScriptLine<'a>, ScriptFault>
+        ensures { IfOk result (λ line. worded line.word.now (option_map (λ t. t.now) line.argument) ≡ text.now) }
+    {
         let (word, argument) = match text.split_once(' ') {
             None => (text, None),
             Some((word, argument)) => (word, Some(argument)),
@@ -83,12 +112,13 @@ impl<'a> ScriptLine<'a> {
 
     /// The number that follows the word, 1 to 10,000; 1 where none does.
     pub fn count(&self) -> Result<u32, ScriptFault>
-        ensures { IfOk result (λ count. (1 ≤ count) × (count ≤ 10000)) }
+        ensures range { IfOk result (λ count. (1 ≤ count) × (count ≤ 10000)) }
+        ensures counts { IfOk result (Counts (option_map (λ text. text.now) self.now.argument)) }
     {
         let Some(digits) = self.argument else {
             return Ok(1);
         };
-        if digits.starts_with('0') || !digits.bytes().all(|byte| byte.is_ascii_digit()) {
+        if digits.starts_with('0') || digits.starts_with('+') {
             return Err(ScriptFault::Number(self.number));
         }
         match digits.parse::<u32>() {
@@ -98,7 +128,9 @@ impl<'a> ScriptLine<'a> {
     }
 
     /// The bytes whose hexadecimal digits follow the word, 1 to 1,024.
-    pub fn burst(&self, alloc: Global) -> Result<Burst, ScriptFault> {
+    pub fn burst(&self, alloc: Global) -> Result<Burst, ScriptFault>
+        ensures { IfOk result (λ bytes. IsSomeAnd self.now.argument (λ text. WritesBytes text.now bytes)) }
+    {
         let digits = self.needed()?;
         if digits.is_empty() || digits.len() > 2 * MOST_BYTES {
             return Err(ScriptFault::Hex(self.number));
@@ -111,21 +143,30 @@ impl<'a> ScriptLine<'a> {
     }
 
     // The byte whose two lower-case digits follow the word.
-    fn byte(&self) -> Result<u8, ScriptFault> {
+    fn byte(&self) -> Result<u8, ScriptFault>
+        ensures { IfOk result (λ byte. IsSomeAnd self.now.argument (λ text. text.now ≡ encode_lower (byte ∷ []))) }
+    {
         let digits = self.needed()?;
-        if digits.bytes().any(|byte| byte.is_ascii_uppercase()) {
-            return Err(ScriptFault::Hex(self.number));
-        }
         match <[u8; 1]>::from_hex(digits) {
-            Ok(bytes) => Ok(bytes[0]),
-            Err(_) => Err(ScriptFault::Hex(self.number)),
+            Ok(bytes) if is_lower(bytes[0], digits) => Ok(bytes[0]),
+            Ok(_) | Err(_) => Err(ScriptFault::Hex(self.number)),
         }
     }
 
     // What follows the word.
-    fn needed(&self) -> Result<&'a str, ScriptFault> {
+    fn needed(&self) -> Result<&'a str, ScriptFault>
+        ensures { IfOk result (λ text. self.now.argument ≡ Some text) }
+    {
         self.argument.ok_or(ScriptFault::Word(self.number))
     }
+}
+
+/// Whether a text is a byte in two lower-case digits.
+fn is_lower(byte: u8, text: &str) -> bool
+    ensures { IsTrue result → text.now ≡ encode_lower (byte ∷ []) }
+{
+    let mut lower = [0; 2];
+    hex::encode_to_slice([byte], &mut lower).is_ok() && text.as_bytes() == lower.as_slice()
 }
 
 /// Reads a script: a line for each event, or for some rounds or frames. Lines end with a line feed, or
@@ -133,37 +174,73 @@ impl<'a> ScriptLine<'a> {
 /// with `#` are skipped, and words are parted by one space. `docs/PROTOCOL.md` has the words.
 pub fn read_script<E: ScriptEvent>(alloc: Global, text: &str) -> Result<Vec<E>, ScriptFault>
     ensures few { IfOk result (λ events. length events.items ≤ 100000) }
+    ensures script { IfOk result (λ events. IsScript E.of E.own text.now events.items) }
 {
     let mut events = Vec::new(alloc);
     'lines: for (before, line) in text.lines().enumerate() {
-        if !line.is_empty() && !line.starts_with('#') {
-            read_line(alloc, &ScriptLine::of_text(before + 1, line)?, &mut events)?;
-        }
+        read_line(alloc, before + 1, line, &mut events)?;
     }
     Ok(events)
 }
 
+/// Adds what the line of this number says.
+#[tactic(auto, using(crate::proofs::ScriptLemmas::says_skipped, crate::proofs::ScriptLemmas::says_own))]
 fn read_line<E: ScriptEvent>(
+    alloc: Global,
+    number: usize,
+    text: &str,
+    events: &mut Vec<E>,
+) -> Result<(), ScriptFault>
+    requires { length events.old.items ≤ 100000 }
+    ensures few { length events.new.items ≤ 100000 }
+    ensures says { OnOk result (SaysMore E.of E.own text.now events.old.items events.new.items) }
+{
+    if is_skipped(text) {
+        return Ok(());
+    }
+    let line = ScriptLine::of_text(number, text)?;
+    match E::of_line(alloc, &line)? {
+        Some(event) => push(event, events),
+        None => read_words(alloc, &line, events),
+    }
+}
+
+/// Whether a line is blank or a comment.
+fn is_skipped(text: &str) -> bool
+    ensures { result ≡ is_skipped text.now }
+{
+    match text.as_bytes() {
+        [] => true,
+        [first, ..] => *first == b'#',
+    }
+}
+
+/// Adds what a line says that has no word of its own.
+#[tactic(auto, using(crate::proofs::ScriptLemmas::says_word, crate::proofs::ScriptLemmas::says_again))]
+fn read_words<E: ScriptEvent>(
     alloc: Global,
     line: &ScriptLine<'_>,
     events: &mut Vec<E>,
 ) -> Result<(), ScriptFault>
     requires { length events.old.items ≤ 100000 }
-    ensures { length events.new.items ≤ 100000 }
+    ensures few { length events.new.items ≤ 100000 }
+    ensures says { OnOk result (SaysMore E.of E.own
+        (worded line.now.word.now (option_map (λ t. t.now) line.now.argument)) events.old.items events.new.items) }
 {
-    if let Some(event) = E::of_line(alloc, line)? {
-        return push(event, events);
-    }
-    match line.word {
-        "frame" => push_frames(line.count()?, events),
-        "round" => push_rounds(line.count()?, events),
-        "good" => push_good_rounds(line.count()?, events),
-        _ => push(E::of_event(event_of(alloc, line)?), events),
-    }
+    let repeated = match line.word {
+        "frame" => Repeated::Frame,
+        "round" => Repeated::Round,
+        "good" => Repeated::GoodRound,
+        _ => return push(E::of_event(event_of(alloc, line)?), events),
+    };
+    push_again(repeated, line.count()?, events)
 }
 
 /// The event of a line that has one.
-fn event_of(alloc: Global, line: &ScriptLine<'_>) -> Result<Event, ScriptFault> {
+fn event_of(alloc: Global, line: &ScriptLine<'_>) -> Result<Event, ScriptFault>
+    ensures { IfOk result (λ event. IsLineOf event
+        (worded line.now.word.now (option_map (λ t. t.now) line.now.argument))) }
+{
     match line.word {
         "alter-down" => Ok(Event::AlterDown(line.burst(alloc)?)),
         "alter-up" => Ok(Event::AlterUp(line.burst(alloc)?)),
@@ -173,7 +250,10 @@ fn event_of(alloc: Global, line: &ScriptLine<'_>) -> Result<Event, ScriptFault> 
 }
 
 /// The event of a word that stands alone.
-fn event_alone(line: &ScriptLine<'_>) -> Option<Event> {
+fn event_alone(line: &ScriptLine<'_>) -> Option<Event>
+    ensures { IfSome result (λ event. IsLineOf event
+        (worded line.now.word.now (option_map (λ t. t.now) line.now.argument))) }
+{
     if line.argument.is_some() {
         return None;
     }
@@ -195,45 +275,57 @@ fn event_alone(line: &ScriptLine<'_>) -> Option<Event> {
     }
 }
 
-fn push_frames<E: ScriptEvent>(times: u32, events: &mut Vec<E>) -> Result<(), ScriptFault>
+/// Adds what is repeated, this number of times.
+#[tactic(auto, using(crate::proofs::ScriptLemmas::once_more))]
+fn push_again<E: ScriptEvent>(
+    repeated: Repeated,
+    count: u32,
+    events: &mut Vec<E>,
+) -> Result<(), ScriptFault>
     requires { length events.old.items ≤ 100000 }
-    ensures { length events.new.items ≤ 100000 }
+    ensures few { length events.new.items ≤ 100000 }
+    ensures pushed { OnOk result (events.new.items
+        ≡ events.old.items ++ map E.of (times count (repeated_events repeated))) }
 {
-    'frames: for _ in 0..times {
-        push(E::of_event(Event::Frame), events)?;
+    'times: for _ in 0..count {
+        push_once(repeated, events)?;
     }
     Ok(())
 }
 
-fn push_rounds<E: ScriptEvent>(times: u32, events: &mut Vec<E>) -> Result<(), ScriptFault>
+/// Adds what is repeated, once.
+fn push_once<E: ScriptEvent>(repeated: Repeated, events: &mut Vec<E>) -> Result<(), ScriptFault>
     requires { length events.old.items ≤ 100000 }
-    ensures { length events.new.items ≤ 100000 }
+    ensures few { length events.new.items ≤ 100000 }
+    ensures pushed { OnOk result (events.new.items ≡ events.old.items ++ map E.of (repeated_events repeated)) }
 {
-    'rounds: for _ in 0..times {
-        push(E::of_event(Event::Tick), events)?;
-        push(E::of_event(Event::Down), events)?;
-        push(E::of_event(Event::Up), events)?;
+    match repeated {
+        Repeated::Frame => push(E::of_event(Event::Frame), events),
+        Repeated::Round => push_round(events),
+        Repeated::GoodRound => {
+            push(E::of_event(Event::Timeout), events)?;
+            push(E::of_event(Event::Ready), events)?;
+            push(E::of_event(Event::End), events)?;
+            push_round(events)
+        }
     }
-    Ok(())
 }
 
-fn push_good_rounds<E: ScriptEvent>(times: u32, events: &mut Vec<E>) -> Result<(), ScriptFault>
+fn push_round<E: ScriptEvent>(events: &mut Vec<E>) -> Result<(), ScriptFault>
     requires { length events.old.items ≤ 100000 }
-    ensures { length events.new.items ≤ 100000 }
+    ensures few { length events.new.items ≤ 100000 }
+    ensures pushed { OnOk result (events.new.items ≡ events.old.items ++ map E.of round) }
 {
-    'rounds: for _ in 0..times {
-        push(E::of_event(Event::Timeout), events)?;
-        push(E::of_event(Event::Ready), events)?;
-        push(E::of_event(Event::End), events)?;
-        push_rounds(1, events)?;
-    }
-    Ok(())
+    push(E::of_event(Event::Tick), events)?;
+    push(E::of_event(Event::Down), events)?;
+    push(E::of_event(Event::Up), events)
 }
 
 /// Adds an event, where it isn't one too many.
 fn push<E: ScriptEvent>(event: E, events: &mut Vec<E>) -> Result<(), ScriptFault>
     requires { length events.old.items ≤ 100000 }
-    ensures { length events.new.items ≤ 100000 }
+    ensures few { length events.new.items ≤ 100000 }
+    ensures pushed { OnOk result (events.new.items ≡ events.old.items ++ event ∷ []) }
 {
     if events.len() >= MOST_EVENTS {
         return Err(ScriptFault::TooMany);

@@ -6,13 +6,18 @@ ghost use Rattle.vdcp_value.specs.declared.part.Item.{Item};
 ghost use Rattle.vdcp_auto.specs.declared.outcome.Outcome.TheVariants.{Denied, Foreign, Strange};
 ghost use Rattle.vdcp_auto.specs.declared.phase.Mode.TheVariants.{Plain, Confirming};
 ghost use Rattle.vdcp_world.specs.declared.event.Event.{Event};
+ghost use Rattle.vdcp_world.specs.AtEnd.{LeavesPort};
+ghost use Rattle.vdcp_world.specs.InStep.{GoesInStep, CanCatchUp, rounds_in_step};
 ghost use Rattle.vdcp_world.specs.Channel.{new_channel, after_event, after_events, make_of, HappenInPart};
 ghost use Rattle.vdcp_world.specs.Headline.{Headline, Means, is_complete};
 ghost use Rattle.vdcp_world.specs.Rounds.{good_round, times};
 ghost use Rattle.vdcp_world.specs.BoundedEnd.{IsDone, CanGoOn, CanBegin, rounds_to_go_on, rounds_from_new};
 
 use crate::event::Event;
-use crate::laws::{good_rounds_bring_all_to_air, reached_keeps_the_headline};
+use crate::laws::{
+    an_end_leaves_the_port_at_rest, good_rounds_bring_all_to_air,
+    good_rounds_bring_the_rest_to_air, reached_keeps_the_headline,
+};
 use crate::link::Link;
 use std::alloc::{AllocError, Allocator};
 use std::marker::Model;
@@ -145,7 +150,11 @@ impl<S: Source, C: Catalogue, A: Allocator + Copy> World<S, C, A> {
     ///
     /// - in plain mode (`plain_end`), whatever happened before, while nothing is awaited, the controller hasn't
     ///   ended, and no stop is wished for or was sent: five for each event that isn't reported, and four, or more;
-    /// - in confirm mode (`confirming_end`), of a new world: six for each event, and six, or more.
+    /// - in confirm mode (`confirming_end`), of a new world: six for each event, and six, or more;
+    /// - in confirm mode of any other world, six for each event that isn't reported, and six, or more: where nothing
+    ///   is on the way, no stop is wished for, and the port did what the controller's stage presumes (`in_step_end`);
+    ///   and where it is as in plain mode, and neither one empty status more nor one unanswered exchange more ends
+    ///   the controller (`catch_up_end`).
     pub fn run(&mut self, events: &[Event]) -> Result<(), AllocError>
         ensures run { OnOk result (self.new ≡ after_events self.old events.now) }
         ensures front { OnErr result (HappenInPart events.now self.old self.new) }
@@ -155,9 +164,14 @@ impl<S: Source, C: Catalogue, A: Allocator + Copy> World<S, C, A> {
             OnOk result (IsDone self.new) }
         ensures confirming_end { (n : ℕ) → events.now ≡ times n good_round → CanBegin self.old → rounds_from_new self.old ≤ n →
             OnOk result (IsDone self.new) }
+        ensures in_step_end { (n : ℕ) → events.now ≡ times n good_round → GoesInStep self.old →
+            rounds_in_step self.old ≤ n → OnOk result (IsDone self.new) }
+        ensures catch_up_end { (n : ℕ) → events.now ≡ times n good_round → CanCatchUp self.old →
+            rounds_in_step self.old ≤ n → OnOk result (IsDone self.new) }
     {
         reached_keeps_the_headline();
         good_rounds_bring_all_to_air();
+        good_rounds_bring_the_rest_to_air();
         // Read once, so that the prover knows that events have led to this world.
         let _ = &self.link;
         for event in events {
@@ -216,15 +230,19 @@ impl<S: Source, C: Catalogue, A: Allocator + Copy> World<S, C, A> {
         self.link.wishes_to_stop()
     }
 
-    /// How the controller ended; `None` while it goes on. Never Denied, Foreign or Strange.
+    /// How the controller ended; `None` while it goes on. Never Denied, Foreign or Strange. In plain mode Done and
+    /// Stopped leave the port closed, with nothing cued and nothing playing; in confirm mode Done leaves nothing
+    /// cued and nothing playing.
     pub fn outcome(&self) -> Option<Outcome>
         ensures outcome { result ≡ outcome_of self.now.state.stage }
         ensures not_denied { result ≢ Some Denied }
         ensures not_foreign { (k : ℕ) → result ≢ Some (Foreign k) }
         ensures not_strange { (k : ℕ) → result ≢ Some (Strange k) }
         ensures means { IfSome result (Means self.now.port.clips self.now.plan self.now.aired self.now.log) }
+        ensures leaves { IfSome result (LeavesPort self.now.plan.mode self.now.port.state) }
     {
         reached_keeps_the_headline();
+        an_end_leaves_the_port_at_rest();
         self.link.outcome()
     }
 }

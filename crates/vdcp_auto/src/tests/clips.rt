@@ -80,7 +80,11 @@ impl Segment {
 }
 
 impl Source for Segment {
-    ghost items = { λ c. record { id = c.id; part = Some (record { start = 0 ∷ 8 ∷ 0 ∷ 0 ∷ []; duration = 0 ∷ 3 ∷ 0 ∷ 0 ∷ [] }) } ∷ [] };
+    ghost items = { λ c. record {
+      id = c.id;
+      part = Some (record
+          { start = 0 ∷ 8 ∷ 0 ∷ 0 ∷ []; duration = 0 ∷ 3 ∷ 0 ∷ 0 ∷ [] });
+    } ∷ [] };
 
     ghost countable = { Prim.search (rules, common_steps) };
 

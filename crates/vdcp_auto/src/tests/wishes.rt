@@ -48,11 +48,20 @@ fn stop_in_each_phase(rt: HostRuntime) {
     }
 }
 
+#[test]
+fn plays_a_lent_list(rt: HostRuntime) {
+    let clips = Clips::one(ONE);
+    let controller = Controller::new(&clips, 0x01, 3);
+    assert_eq!(rt; controller.to_send(), Some(Command::Open(0x01, 0x01)));
+    assert_eq!(rt; controller.source().len(), 1);
+}
+
 /// The phase sends its command, and awaits what comes of it.
 fn check_sent(rt: &impl Abort, case: &InPhase) {
     let mut controller = Controller::new(Clips::one(ONE), 0x01, 3);
     drive(&mut controller, case.inputs);
     let sent = Some(case.command);
+    assert_eq!(rt; controller.to_send(), sent, "{}", case.phase);
     assert_eq!(rt; controller.tick(), sent, "{}", case.phase);
     assert!(rt; controller.awaiting());
     assert_eq!(rt; controller.awaited(), sent, "{}", case.phase);

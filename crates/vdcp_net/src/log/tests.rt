@@ -1,6 +1,6 @@
 use super::{AirLog, Log, Logged};
 use std::alloc::Global;
-use std::io::{self, ErrorKind, Write};
+use std::io::Write;
 use std::test::Fail;
 use vdcp_drive::{DriveFault, Ran, Server, WatchAir};
 use vdcp_list::Slots;
@@ -135,91 +135,5 @@ fn items_that_go_to_air_are_logged(rt: HostRuntime) -> Result<(), Fail> {
         lines.as_slice(),
         b"aired 0 CLIP0001\naired 1 CLIP0001 00:00:02:12 00:01:03:00\n".as_slice()
     );
-    Ok(())
-}
-
-/// A writer that takes so many bytes, and after that none until so many writes were refused.
-#[derive(Drop)]
-struct Unread<'a> {
-    taken: &'a mut Vec<u8>,
-    room: usize,
-    refused: usize,
-}
-
-impl Write for Unread<'_> {
-    fn write(&mut self, bytes: &[u8]) -> io::Result<usize> {
-        if self.room == 0 && self.refused > 0 {
-            self.refused -= 1;
-            return Err(io::Error::from(ErrorKind::WouldBlock));
-        }
-        let count = if self.room == 0 {
-            bytes.len()
-        } else {
-            bytes.len().min(self.room)
-        };
-        self.room = self.room.saturating_sub(count);
-        self.taken.extend_from_slice(&bytes[..count])?;
-        Ok(count)
-    }
-
-    fn flush(&mut self) -> io::Result<()> {
-        Ok(())
-    }
-}
-
-// What is told by a log whose writer takes five bytes, and then none until so many writes were refused.
-fn told_unread(alloc: Global, refused: usize) -> Result<Vec<u8>, Fail> {
-    let mut taken = Vec::new(alloc);
-    let log = Log::new(Unread {
-        taken: &mut taken,
-        room: 5,
-        refused,
-    });
-    for line in ["one", "two", "three", "four"] {
-        log.tell(&line);
-    }
-    drop(log);
-    Ok(taken)
-}
-
-// The line under way goes on, and how many were dropped stands where they would.
-#[test]
-fn lines_that_nobody_reads_are_counted(rt: HostRuntime) -> Result<(), Fail> {
-    let rows: [(usize, &str); 6] = [
-        (0, "one\ntwo\nthree\nfour\n"),
-        (1, "one\ntwo\nthree\nfour\n"),
-        (2, "one\ntwo\ndropped 1\nfour\n"),
-        (3, "one\nt"),
-        (4, "one\nt"),
-        (1000, "one\nt"),
-    ];
-    for (refused, text) in rows {
-        let taken = told_unread(rt.alloc(), refused)?;
-        assert_eq!(rt; taken.as_slice(), text.as_bytes(), "{refused}");
-    }
-    Ok(())
-}
-
-// A line of this many x.
-fn xs(alloc: Global, count: usize) -> Result<String, Fail> {
-    let mut line = String::new(alloc);
-    for _ in 0..count {
-        line.push('x')?;
-    }
-    Ok(line)
-}
-
-// A line has 1,024 bytes at most, its end among them.
-#[test]
-fn long_line_is_cut(rt: HostRuntime) -> Result<(), Fail> {
-    let alloc = rt.alloc();
-    let mut lines = Vec::new(alloc);
-    let log = Log::new(&mut lines);
-    log.tell(&xs(alloc, 1024)?.as_str());
-    log.tell(&xs(alloc, 1023)?.as_str());
-    drop(log);
-    assert_eq!(rt; lines.len(), 2048);
-    assert_eq!(rt; lines[1023], b'\n');
-    assert_eq!(rt; lines[2047], b'\n');
     Ok(())
 }

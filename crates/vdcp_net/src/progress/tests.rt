@@ -123,6 +123,35 @@ fn line_fits_a_narrow_terminal(rt: HostRuntime) -> Result<(), Fail> {
     Ok(())
 }
 
+// The 2,000th wait for the answer to a status asks for the silence, and so does each further one.
+#[test]
+fn many_waits_for_a_status_are_shown(rt: HostRuntime) -> Result<(), Fail> {
+    let list = read_list(rt.alloc(), TWO_EVENTS, Rate::F25)?;
+    let mut controller = Controller::new(list, 1, 3);
+    let clock = Ticking::new(1000, 5000);
+    let mut text = Vec::new(rt.alloc());
+    let mut progress = Progress::new(&clock, &mut text);
+    for heard in [
+        Reply::Opened(true),
+        Reply::Ack,
+        Reply::Present(true),
+        Reply::Ack,
+    ] {
+        let _ = controller.tick();
+        controller.hear(&Heard::Reply(heard));
+    }
+    let _ = controller.tick();
+    for _ in 0..2001 {
+        progress.look(&controller);
+    }
+    drop(progress);
+    let text = str::from_utf8(text.as_slice())?;
+    let line = "event 0 CLIP0001: status 01 (--silence too short?), 0 of 2 reported, 0:33:19";
+    assert!(rt; text.contains(line));
+    assert_eq!(rt; text.matches("too short").count(), 2);
+    Ok(())
+}
+
 // A terminal that fails is written to no more, and the run goes on.
 #[test]
 fn failing_terminal_is_left_alone(rt: HostRuntime) -> Result<(), Fail> {

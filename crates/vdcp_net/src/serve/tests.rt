@@ -1,7 +1,8 @@
 ghost use Rattle.std.specs.Prelude.{◌≡◌};
 
-use super::{ServeSettings, do_serve, serve_line};
+use super::{ServeSettings, Telling, do_serve, serve_line};
 use crate::answers::GRANTED;
+use crate::log::Log;
 use crate::output::Output;
 use std::alloc::Global;
 use std::io::{self, ErrorKind, Read, Write};
@@ -72,6 +73,8 @@ fn settings(turns: u32) -> ServeSettings
         rate: Rate::F25,
         silence: 4,
         turns,
+        stay: false,
+        idle: None,
     }
 }
 
@@ -97,8 +100,8 @@ where
         name: "clips.csv",
         reader: clips,
     };
-    let log: Option<Vec<u8>> = None;
-    do_serve(net, address, catalogue, settings, log, out, err)
+    let telling = Telling::Faults(Vec::new(net.alloc()));
+    do_serve(net, address, catalogue, settings, telling, out, err)
 }
 
 /// What is printed where the clips of a reader are served for this many turns, with this many milliseconds of silence.
@@ -294,9 +297,9 @@ fn told_of(
         wire.fail_at(call, 1);
     }
     let port = Port::new(Shelf::new(), 0, 1);
-    let log: Option<Vec<u8>> = None;
+    let log = Log::new(Vec::new(alloc));
     let mut out = Vec::new(alloc);
-    let ended = serve_line(port, wire, settings(turns), log, &mut out);
+    let ended = serve_line(port, wire, settings(turns), &log, &mut out);
     (out, ended)
 }
 
@@ -338,10 +341,10 @@ fn reset_line_has_failed(rt: HostRuntime) -> Result<(), Fail> {
     automation.peek(&mut [0])?;
     drop(automation);
     let wire = StreamWire::new(stream, Duration::from_millis(4))?;
-    let log: Option<Vec<u8>> = None;
+    let log = Log::new(Vec::new(rt.alloc()));
     let mut out = Vec::new(rt.alloc());
     let port = Port::new(Shelf::new(), 0, 1);
-    let ended = serve_line(port, wire, settings(100), log, &mut out);
+    let ended = serve_line(port, wire, settings(100), &log, &mut out);
     assert_eq!(rt; ended, Err(Failure::LineFailed));
     assert!(rt; out.is_empty());
     Ok(())

@@ -4,7 +4,7 @@ use std::process::Abort;
 use std::test::Fail;
 
 // Each failure, with the line that tells it and its status.
-const ROWS: [(Failure<'static>, &str, u8); 28] = [
+const ROWS: [(Failure<'static>, &str, u8); 29] = [
     (Failure::Hex, "vdcp: hex\n", 1),
     (Failure::Word, "vdcp: word\n", 1),
     (Failure::Arguments, "vdcp: arguments\n", 1),
@@ -76,6 +76,7 @@ const ROWS: [(Failure<'static>, &str, u8); 28] = [
     ),
     (Failure::Address, "vdcp: address\n", 2),
     (Failure::Connect, "vdcp: cannot connect\n", 3),
+    (Failure::NotEmpty, "vdcp: port not empty\n", 1),
     (Failure::Bind, "vdcp: cannot bind\n", 3),
     (Failure::LineFailed, "vdcp: line failed\n", 3),
     (Failure::LineClosed, "vdcp: line closed\n", 3),

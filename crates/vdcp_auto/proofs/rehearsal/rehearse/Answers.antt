@@ -9,7 +9,12 @@ use Rattle.vdcp_auto.proofs.rehearsal.rehearse.Goals as goal
 
 pub returns-clause-allowed : goal.returns-clause-allowed
 returns-clause-allowed g c =
-    let plan : Plan = record { mode = Plain; list = g.S.Source.items c.args.source; port = c.args.port; limit = c.args.limit } in
+    let plan : Plan = record {
+      mode = Plain;
+      list = g.S.Source.items c.args.source;
+      port = c.args.port;
+      limit = c.args.limit;
+    } in
     let inputs = c.args.inputs.now in
     IfOk-weaker c.run.result
     (λ log. log.items ≡ course_from (plan_of g.S.Source.items c.new.result) c.new.result.state inputs)

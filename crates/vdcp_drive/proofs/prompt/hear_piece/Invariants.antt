@@ -1,6 +1,6 @@
 use Rattle.std.proofs.Common.{length, ◌≡◌, ◌-◌, ◌≤◌, take}
 use Rattle.vdcp_auto.specs.Plan.{plan_of}
-use Rattle.vdcp_drive.specs.Driven.{GoesOn}
+use Rattle.vdcp_drive.specs.Driven.{IsReachedFrom}
 use Rattle.vdcp_drive.specs.Prompt.{HearsPrompt}
 use Rattle.vdcp_drive.specs.PromptReading.{IsReader}
 use Rattle.vdcp_wire.specs.Wires.{bytes}
@@ -11,7 +11,7 @@ invariant-piece g l = record {
   within : l.at ≤ length l.piece;
   reader : IsReader l.reader;
   controller : l.controller ≡ record l.fn.controller { state = l.controller.state };
-  reached : GoesOn (plan_of g.S.Source.items l.fn.controller) l.fn.controller.state l.controller.state;
+  reached : IsReachedFrom (plan_of g.S.Source.items l.fn.controller) l.fn.controller.state l.controller.state;
   hears : HearsPrompt (plan_of g.S.Source.items l.fn.controller) l.unit (bytes (take l.at l.piece)) l.fn.controller.state l.fn.reader l.fn.passed
       l.controller.state l.reader l.passed;
 }

@@ -31,7 +31,8 @@ returns-in-Found-clause-next c ms all =
 
 pub returns-in-Wrong-clause-end : goal.returns-in-Wrong-clause-end
 returns-in-Wrong-clause-end c ms all =
-    reads_wrong 4096 c.args.burst.now c.args.from c.requires.limit ms c.in-Wrong.fault c.in-Wrong.size c.requires.within all
+    reads_wrong 4096 c.args.burst.now c.args.from c.requires.limit ms c.in-Wrong.fault c.in-Wrong.size c.requires.within
+    all
     (subst (λ (r : List ℕ). IsWrong r c.in-Wrong.fault c.in-Wrong.size) c.left.ensures c.in-Wrong.ensures)
 
 pub returns-in-Part-clause-end : goal.returns-in-Part-clause-end

@@ -6,18 +6,22 @@ use Rattle.vdcp_list.proofs.asrun.asrun_text.Goals as goal
 
 pub write_event-requires-clause-lawful : goal.write_event-requires-clause-lawful
 write_event-requires-clause-lawful g c =
-    lawful_at c.args.rate (g.S.Source.items c.args.source.now) c.loop-k.k c.args.reported c.at-item.result c.at-item.ensures c.loop-k-test.true
+    lawful_at c.args.rate (g.S.Source.items c.args.source.now) c.loop-k.k c.args.reported c.at-item.result
+    c.at-item.ensures c.loop-k-test.true
     c.requires.lawful
 
 pub loop-k-preserved : goal.loop-k-preserved
 loop-k-preserved g c =
     let good : is_err c.write_event.result ≡ false = sym c.is_err-in-loop-k.ensures.value ∙ c.if-is_err-2.false in
     let shown : is_err c.show_number.result ≡ false = sym c.is_err.ensures.value ∙ c.if-is_err.false in
-    let number : c.as_str.result.now ≡ decimal c.loop-k.k = c.as_str.ensures.value ∙ on_ok c.show_number.result shown c.show_number.ensures in
+    let number : c.as_str.result.now ≡ decimal c.loop-k.k =
+    c.as_str.ensures.value ∙ on_ok c.show_number.result shown c.show_number.ensures in
     record {
       text =
-          events_step c.args.rate c.args.with_parts (g.S.Source.items c.args.source.now) c.loop-k.k c.at-item.result c.as_str.result.now
-          (text_written (λ text. Some text.items) c.loop-k.rows) (text_written (λ text. Some text.items) c.write_event.new.rows)
+          events_step c.args.rate c.args.with_parts (g.S.Source.items c.args.source.now) c.loop-k.k c.at-item.result
+          c.as_str.result.now
+          (text_written (λ text. Some text.items) c.loop-k.rows)
+          (text_written (λ text. Some text.items) c.write_event.new.rows)
           c.at-item.ensures number c.loop-k.invariant.text (on_ok c.write_event.result good c.write_event.ensures.text);
       setup = on_ok c.write_event.result good c.write_event.ensures.setup;
       ended = on_ok c.write_event.result good c.write_event.ensures.ended;

@@ -6,7 +6,8 @@ use Rattle.vdcp_list.specs.Asrun.{events_text}
 
 abbrev pub invariant-loop-k : goal.invariant-loop-k
 invariant-loop-k g l = record {
-  text : text_written (λ text. Some text.items) l.rows ≡ Some (events_text l.rate l.with_parts 0 (take l.k (g.S.Source.items l.source)));
+  text : text_written (λ text. Some text.items) l.rows ≡ Some
+      (events_text l.rate l.with_parts 0 (take l.k (g.S.Source.items l.source)));
   setup : writer_setup l.rows ≡ default_writer;
   ended : fields_written l.rows ≡ 0;
   clean : has_written l.rows ≡ false;

@@ -25,5 +25,6 @@ loop-k-preserved g c =
     let item = c.at-item.result in
     let lawful : is_lawful_event c.args.rate item.part ≡ true = grind (arith, common_steps) in (
       lawful_more c.args.rate items c.loop-k.k c.at-item.result c.at-item.ensures c.loop-k.invariant.0 lawful,
-      ap₂ (λ a b. a || b) c.loop-k.invariant.1 c.is_some-with_parts.ensures ∙ sym (parts_more items c.loop-k.k item c.at-item.ensures),
+      ap₂ (λ a b. a || b) c.loop-k.invariant.1 c.is_some-with_parts.ensures
+          ∙ sym (parts_more items c.loop-k.k item c.at-item.ensures),
     )

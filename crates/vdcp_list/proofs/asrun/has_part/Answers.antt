@@ -8,8 +8,10 @@ returns-then-among g c =
 
 pub returns-then-is_some : goal.returns-then-is_some
 returns-then-is_some g c =
-    sym (part_at (g.S.Source.items c.args.source.now) c.loop-k.k c.at.result c.at.ensures (sym c.is_some.ensures ∙ c.if-is_some.true))
+    sym (part_at (g.S.Source.items c.args.source.now) c.loop-k.k c.at.result c.at.ensures
+    (sym c.is_some.ensures ∙ c.if-is_some.true))
 
 pub loop-k-preserved : goal.loop-k-preserved
 loop-k-preserved g c =
-    no_part_more (g.S.Source.items c.args.source.now) c.loop-k.k c.at.result c.at.ensures c.loop-k.invariant (sym c.is_some.ensures ∙ c.if-is_some.false)
+    no_part_more (g.S.Source.items c.args.source.now) c.loop-k.k c.at.result c.at.ensures c.loop-k.invariant
+    (sym c.is_some.ensures ∙ c.if-is_some.false)

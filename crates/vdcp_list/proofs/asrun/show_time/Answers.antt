@@ -8,4 +8,5 @@ pub returns : goal.returns
 returns c =
     let rate : rate_of c.unwrap.result ≡ c.args.rate = rw c.unwrap.ensures at c.from_bcd.ensures.same_rate in
     let bytes : bcd_of c.unwrap.result ≡ c.args.bytes = rw c.unwrap.ensures at c.from_bcd.ensures.read in
-    c.show.ensures ∙ sym (own_text c.a_time_code_has_lawful_bytes.ensures.label c.args.rate c.unwrap.result rate) ∙ ap (time_text c.args.rate) bytes
+    c.show.ensures ∙ sym (own_text c.a_time_code_has_lawful_bytes.ensures.label c.args.rate c.unwrap.result rate)
+    ∙ ap (time_text c.args.rate) bytes

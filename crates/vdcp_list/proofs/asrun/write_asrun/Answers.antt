@@ -12,10 +12,12 @@ returns-in_err-among-clause-unlawful g c =
 pub returns-in_err-text-clause-unlawful : goal.returns-in_err-text-clause-unlawful
 returns-in_err-text-clause-unlawful g c =
     let p = err_from_is_err_and c.from_residual-in_err-text.result c.from_residual-in_err-text.ensures.1 in
-    rw (p.1, p.2) (untold_memory c.args.rate (g.S.Source.items c.args.source.now) c.args.reported c.in_err-text.field-0.0 c.in_err-text.ensures.memory
+    rw (p.1, p.2) (untold_memory c.args.rate (g.S.Source.items c.args.source.now) c.args.reported
+    c.in_err-text.field-0.0 c.in_err-text.ensures.memory
     c.in_ok-among.ensures.lawful)
 
 pub returns-clause-unlawful : goal.returns-clause-unlawful
 returns-clause-unlawful g c =
-    untold_device c.args.rate (g.S.Source.items c.args.source.now) c.args.reported c.write_out.result c.write_out.ensures.device
+    untold_device c.args.rate (g.S.Source.items c.args.source.now) c.args.reported c.write_out.result
+    c.write_out.ensures.device
     c.in_ok-among.ensures.lawful

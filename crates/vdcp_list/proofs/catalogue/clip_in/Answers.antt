@@ -5,5 +5,10 @@ use Rattle.vdcp_list.proofs.catalogue.clip_in.Goals as goal
 
 pub returns-in_default-last_length-clause-fault : goal.returns-in_default-last_length-clause-fault
 returns-in_default-last_length-clause-fault c =
-    let two : length (fields_of c.args.row.now) ≡ 2 = grind arith in
-    (refl, two, (c.in-Some.id, c.in-Some.ensures.some), λ clip can e. c.in_default-last_length.ensures.none clip.1 can (ap (drop 1) (sym e)))
+    let two : length (fields_of c.args.row.now) ≡ 2 = grind arith in (
+      refl,
+      two,
+      (c.in-Some.id, c.in-Some.ensures.some),
+      λ clip can e. c.in_default-last_length.ensures.none clip.1 can
+          (ap (drop 1) (sym e)),
+    )

@@ -11,7 +11,8 @@ use Rattle.vdcp_list.specs.declared.faults.ListFault.TheVariants.{Memory}
 pub loop-read-init : goal.loop-read-init
 loop-read-init g c = record {
   set = c.rows_in-rows.ensures.set;
-  given = rw (c.new-table.ensures, c.rows_in-rows.ensures.rows) (given_first c.args.rate (g.R.Read.remaining c.args.reader));
+  given = rw (c.new-table.ensures, c.rows_in-rows.ensures.rows)
+      (given_first c.args.rate (g.R.Read.remaining c.args.reader));
 }
 
 pub returns-then-not-branch-clause-clips : goal.returns-then-not-branch-clause-clips
@@ -19,7 +20,8 @@ returns-then-not-branch-clause-clips g c =
     let none : c.in_ok-next_row.field-0 ≡ false = grind (arith, common_steps) in
     let few : c.loop-read.read ≤ most_rows = omega arith in
     given_all c.args.rate (g.R.Read.remaining c.args.reader) (rows_left g.R.Read.remaining c.loop-read.rows)
-    (rows_left g.R.Read.remaining c.next_row.new.reader) c.loop-read.read c.loop-read.table (fields_of c.next_row.new.row)
+    (rows_left g.R.Read.remaining c.next_row.new.reader) c.loop-read.read c.loop-read.table
+    (fields_of c.next_row.new.row)
     c.loop-read.invariant.given (rw none at c.in_ok-next_row.ensures.takes) few
 
 pub returns-in_err-id-clause-refused : goal.returns-in_err-id-clause-refused
@@ -29,28 +31,36 @@ returns-in_err-id-clause-refused g c =
     let few : c.loop-read.read < most_rows = omega arith in
     rw (p.1, p.2)
     ((given_refused c.args.rate (g.R.Read.remaining c.args.reader) (rows_left g.R.Read.remaining c.loop-read.rows)
-    (rows_left g.R.Read.remaining c.next_row.new.reader) c.loop-read.read c.loop-read.table (fields_of c.next_row.new.row) c.in_err-id.field-0.0
+    (rows_left g.R.Read.remaining c.next_row.new.reader) c.loop-read.read c.loop-read.table
+    (fields_of c.next_row.new.row) c.in_err-id.field-0.0
     c.loop-read.invariant.given (rw some at c.in_ok-next_row.ensures.takes) few c.in_err-id.ensures.fault))
 
 pub returns-in-Ok-false-clause-refused : goal.returns-in-Ok-false-clause-refused
 returns-in-Ok-false-clause-refused g c =
     let some : c.in_ok-next_row.field-0 ≡ true = grind (arith, common_steps) in
     let few : c.loop-read.read < most_rows = omega arith in
-    given_twice c.an_id_is_its_bytes.ensures.same c.args.rate (g.R.Read.remaining c.args.reader) (rows_left g.R.Read.remaining c.loop-read.rows)
-    (rows_left g.R.Read.remaining c.next_row.new.reader) c.loop-read.read c.loop-read.table (fields_of c.next_row.new.row) (c.in_ok-id.id, c.in_ok-id.length)
-    c.loop-read.invariant.given (rw some at c.in_ok-next_row.ensures.takes) few c.in_ok-id.ensures.row c.in_ok-id.ensures.can_last
+    given_twice c.an_id_is_its_bytes.ensures.same c.args.rate (g.R.Read.remaining c.args.reader)
+    (rows_left g.R.Read.remaining c.loop-read.rows)
+    (rows_left g.R.Read.remaining c.next_row.new.reader) c.loop-read.read c.loop-read.table
+    (fields_of c.next_row.new.row) (c.in_ok-id.id, c.in_ok-id.length)
+    c.loop-read.invariant.given (rw some at c.in_ok-next_row.ensures.takes) few c.in_ok-id.ensures.row
+    c.in_ok-id.ensures.can_last
     (c.in-Ok-false.ensures.there c.in-Ok-false.field-0-test)
 
 pub loop-read-preserved : goal.loop-read-preserved
 loop-read-preserved g c =
     let some : c.in_ok-next_row.field-0 ≡ true = grind (arith, common_steps) in
-    let pushed : c.add.new.self ≡ c.loop-read.table ++ (c.in_ok-id.id, c.in_ok-id.length) ∷ [] = c.in-Ok-true.ensures.added c.in-Ok-true.field-0-test in
+    let pushed : c.add.new.self ≡ c.loop-read.table ++ (c.in_ok-id.id, c.in_ok-id.length) ∷ [] =
+    c.in-Ok-true.ensures.added c.in-Ok-true.field-0-test in
     record {
       set = c.in_ok-next_row.ensures.set some;
       given =
-          rw pushed (given_next c.args.rate (g.R.Read.remaining c.args.reader) (rows_left g.R.Read.remaining c.loop-read.rows)
-          (rows_left g.R.Read.remaining c.next_row.new.reader) c.loop-read.read c.loop-read.table (fields_of c.next_row.new.row)
-          (c.in_ok-id.id, c.in_ok-id.length) c.loop-read.invariant.given (rw some at c.in_ok-next_row.ensures.takes) c.in_ok-id.ensures.row
+          rw pushed (given_next c.args.rate (g.R.Read.remaining c.args.reader)
+          (rows_left g.R.Read.remaining c.loop-read.rows)
+          (rows_left g.R.Read.remaining c.next_row.new.reader) c.loop-read.read c.loop-read.table
+          (fields_of c.next_row.new.row)
+          (c.in_ok-id.id, c.in_ok-id.length) c.loop-read.invariant.given (rw some at c.in_ok-next_row.ensures.takes)
+          c.in_ok-id.ensures.row
           c.in_ok-id.ensures.can_last (c.in-Ok-true.ensures.new c.in-Ok-true.field-0-test));
     }
 
@@ -59,7 +69,8 @@ returns-then-branch-clause-refused g c =
     let some : c.in_ok-next_row-2.field-0 ≡ true = grind (arith, common_steps) in
     let full : c.loop-read.read ≡ most_rows = omega arith in
     given_too_many c.args.rate (g.R.Read.remaining c.args.reader) (rows_left g.R.Read.remaining c.loop-read.rows)
-    (rows_left g.R.Read.remaining c.next_row-2.new.reader) c.loop-read.read c.loop-read.table (fields_of c.next_row-2.new.row)
+    (rows_left g.R.Read.remaining c.next_row-2.new.reader) c.loop-read.read c.loop-read.table
+    (fields_of c.next_row-2.new.row)
     c.loop-read.invariant.given (rw some at c.in_ok-next_row-2.ensures.takes) full
 
 pub returns-clause-clips : goal.returns-clause-clips
@@ -67,14 +78,16 @@ returns-clause-clips g c =
     let none : c.in_ok-next_row-2.field-0 ≡ false = grind (arith, common_steps) in
     let few : c.loop-read.read ≤ most_rows = omega arith in
     given_all c.args.rate (g.R.Read.remaining c.args.reader) (rows_left g.R.Read.remaining c.loop-read.rows)
-    (rows_left g.R.Read.remaining c.next_row-2.new.reader) c.loop-read.read c.loop-read.table (fields_of c.next_row-2.new.row)
+    (rows_left g.R.Read.remaining c.next_row-2.new.reader) c.loop-read.read c.loop-read.table
+    (fields_of c.next_row-2.new.row)
     c.loop-read.invariant.given (rw none at c.in_ok-next_row-2.ensures.takes) few
 
 -- the reader or memory failed
 pub returns-in_err-next_row-clause-refused : goal.returns-in_err-next_row-clause-refused
 returns-in_err-next_row-clause-refused g c =
     let p = err_from_is_err_and c.from_residual.result c.from_residual.ensures.1 in
-    rw (p.1, p.2) (catalogue_read_fault c.args.rate (g.R.Read.remaining c.args.reader) c.in_err-next_row.field-0.0 c.in_err-next_row.ensures.failed)
+    rw (p.1, p.2) (catalogue_read_fault c.args.rate (g.R.Read.remaining c.args.reader) c.in_err-next_row.field-0.0
+    c.in_err-next_row.ensures.failed)
 
 pub returns-in-Err-clause-refused : goal.returns-in-Err-clause-refused
 returns-in-Err-clause-refused g c = catalogue_read_fault c.args.rate (g.R.Read.remaining c.args.reader) Memory tt
@@ -82,4 +95,5 @@ returns-in-Err-clause-refused g c = catalogue_read_fault c.args.rate (g.R.Read.r
 pub returns-in_err-next_row-2-clause-refused : goal.returns-in_err-next_row-2-clause-refused
 returns-in_err-next_row-2-clause-refused g c =
     let p = err_from_is_err_and c.from_residual-in_err-next_row-2.result c.from_residual-in_err-next_row-2.ensures.1 in
-    rw (p.1, p.2) (catalogue_read_fault c.args.rate (g.R.Read.remaining c.args.reader) c.in_err-next_row-2.field-0.0 c.in_err-next_row-2.ensures.failed)
+    rw (p.1, p.2) (catalogue_read_fault c.args.rate (g.R.Read.remaining c.args.reader) c.in_err-next_row-2.field-0.0
+    c.in_err-next_row-2.ensures.failed)

@@ -11,4 +11,5 @@ unwrap-requires-2 c =
     let text : c.unwrap.result.now ≡ text_of_id id =
     one_some c.unwrap.result.now (text_of_id id) (sym (ap option_copied c.unwrap.ensures) ∙ c.field_at.ensures ∙ e) in
     ok_unless c.from_utf8.result _ _ c.from_utf8.ensures.cases
-    (λ error not_text. not_text.0 (subst IsUtf8 (sym text) (utf8_of (text_of_id id) (c.the_text_of_an_id_is_short.ensures.ascii id))))
+    (λ error not_text. not_text.0 (subst IsUtf8 (sym text)
+    (utf8_of (text_of_id id) (c.the_text_of_an_id_is_short.ensures.ascii id))))

@@ -14,11 +14,17 @@ returns-then-columns-eq1-clause-row c =
 pub returns-in-Some-last_part-clause-row : goal.returns-in-Some-last_part-clause-row
 returns-in-Some-last_part-clause-row c =
     let three : c.args.columns ≡ 3 = grind (arith, common_steps) in
-    part_row c.args.rate c.args.columns (fields_of c.args.row.now) c.in-Some.id c.in-Some-last_part.part three c.in-Some.ensures.some
+    part_row c.args.rate c.args.columns (fields_of c.args.row.now) c.in-Some.id c.in-Some-last_part.part three
+    c.in-Some.ensures.some
     c.in-Some-last_part.ensures.some.0
 
 pub returns-in-None-clause-fault : goal.returns-in-None-clause-fault
 returns-in-None-clause-fault c =
     let three : c.args.columns ≡ 3 = grind (arith, common_steps) in
-    let columns : IsTrue (is_of_columns c.args.columns (fields_of c.args.row.now)) = grind (arith, common_steps) in
-    (refl, columns, (c.in-Some.id, c.in-Some.ensures.some), no_item c.args.rate c.args.columns (fields_of c.args.row.now) three c.in-None.ensures.none)
+    let columns : IsTrue (is_of_columns c.args.columns (fields_of c.args.row.now)) = grind (arith, common_steps) in (
+      refl,
+      columns,
+      (c.in-Some.id, c.in-Some.ensures.some),
+      no_item c.args.rate c.args.columns
+          (fields_of c.args.row.now) three c.in-None.ensures.none,
+    )

@@ -17,7 +17,8 @@ returns-in_default-clause-none c =
       label = c.a_time_code_has_lawful_bytes.ensures.label;
       number = c.a_time_code_has_lawful_bytes.ensures.number;
       of_bytes = c.lawful_bytes_are_a_time_codes.ensures;
-    }) c.args.rate c.args.start.now c.args.duration.now some (λ s d rs rd ts td f. c.in_default.ensures.none s rs (sym ts))
+    }) c.args.rate c.args.start.now c.args.duration.now some
+    (λ s d rs rd ts td f. c.in_default.ensures.none s rs (sym ts))
 
 pub returns-in_default-time_in-clause-none : goal.returns-in_default-time_in-clause-none
 returns-in_default-time_in-clause-none c =
@@ -31,7 +32,8 @@ returns-in_default-time_in-clause-none c =
       label = c.a_time_code_has_lawful_bytes.ensures.label;
       number = c.a_time_code_has_lawful_bytes.ensures.number;
       of_bytes = c.lawful_bytes_are_a_time_codes.ensures;
-    }) c.args.rate c.args.start.now c.args.duration.now some (λ s d rs rd ts td f. c.in_default-time_in.ensures.none d rd (sym td))
+    }) c.args.rate c.args.start.now c.args.duration.now some
+    (λ s d rs rd ts td f. c.in_default-time_in.ensures.none d rd (sym td))
 
 pub returns-then-frames-eq0-clause-none : goal.returns-then-frames-eq0-clause-none
 returns-then-frames-eq0-clause-none c =
@@ -46,19 +48,23 @@ returns-then-frames-eq0-clause-none c =
       number = c.a_time_code_has_lawful_bytes.ensures.number;
       of_bytes = c.lawful_bytes_are_a_time_codes.ensures;
     }) c.args.rate c.args.start.now c.args.duration.now some (λ s d rs rd ts td f.
-    no_frames c.a_time_code_is_one.ensures.by_text c.args.rate c.in-Some-time_in.duration d c.args.duration.now c.in-Some-time_in.ensures.same_rate
+    no_frames c.a_time_code_is_one.ensures.by_text c.args.rate c.in-Some-time_in.duration d c.args.duration.now
+    c.in-Some-time_in.ensures.same_rate
     c.in-Some-time_in.ensures.some
     (sym c.frames.ensures.number ∙ c.if-frames-eq0.true) rd td f)
 
 pub returns-clause-some : goal.returns-clause-some
 returns-clause-some c =
-    let some : 1 ≤ frames_of c.in-Some-time_in.duration = grind (arith, c.frames.ensures.number, c.if-frames-eq0.false) in
+    let some : 1 ≤ frames_of c.in-Some-time_in.duration =
+    grind (arith, c.frames.ensures.number, c.if-frames-eq0.false) in
     part_read (record {
       four = c.a_time_code_has_lawful_bytes.ensures.four;
       lawful = c.a_time_code_has_lawful_bytes.ensures.lawful;
       label = c.a_time_code_has_lawful_bytes.ensures.label;
       number = c.a_time_code_has_lawful_bytes.ensures.number;
       of_bytes = c.lawful_bytes_are_a_time_codes.ensures;
-    }) c.args.rate c.in-Some.start c.in-Some-time_in.duration c.to_bcd.result c.to_bcd-2.result c.args.start.now c.args.duration.now
-    c.to_bcd.ensures c.to_bcd-2.ensures c.in-Some.ensures.same_rate c.in-Some-time_in.ensures.same_rate c.in-Some.ensures.some
+    }) c.args.rate c.in-Some.start c.in-Some-time_in.duration c.to_bcd.result c.to_bcd-2.result c.args.start.now
+    c.args.duration.now
+    c.to_bcd.ensures c.to_bcd-2.ensures c.in-Some.ensures.same_rate c.in-Some-time_in.ensures.same_rate
+    c.in-Some.ensures.some
     c.in-Some-time_in.ensures.some some

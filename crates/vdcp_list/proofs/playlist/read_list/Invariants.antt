@@ -7,5 +7,6 @@ use Rattle.vdcp_list.specs.Reading.{IsSet, rows_left}
 abbrev pub invariant-loop-read : goal.invariant-loop-read
 invariant-loop-read g l = record {
   set : IsSet l.rows;
-  named : NamedSoFar l.rate (g.R.Read.remaining l.fn.reader) (rows_left g.R.Read.remaining l.rows) l.read l.columns (items_of l.list);
+  named : NamedSoFar l.rate (g.R.Read.remaining l.fn.reader) (rows_left g.R.Read.remaining l.rows) l.read l.columns
+      (items_of l.list);
 }

@@ -10,4 +10,5 @@ returns-in-Ok-clause-takes g c =
     (c.in-Ok.ensures.reads c.requires.trims c.requires.ready)
 
 pub returns-in-Err-clause-failed : goal.returns-in-Err-clause-failed
-returns-in-Err-clause-failed g c = subst IsReadFault (sym c.fault_of.ensures) (is_read_fault (error_kind c.in-Err.error))
+returns-in-Err-clause-failed g c = subst IsReadFault (sym c.fault_of.ensures)
+    (is_read_fault (error_kind c.in-Err.error))

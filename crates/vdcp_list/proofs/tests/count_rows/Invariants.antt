@@ -8,6 +8,7 @@ abbrev pub invariant-loop-read : goal.invariant-loop-read
 invariant-loop-read g l = record {
   set : IsSet l.rows;
   front :
-      (front : List FileRow) × IsFront (option_map rows_of (g.R.Read.remaining l.fn.source)) (rows_left g.R.Read.remaining l.rows) front
+      (front : List FileRow) × IsFront (option_map rows_of (g.R.Read.remaining l.fn.source))
+      (rows_left g.R.Read.remaining l.rows) front
       × (l.read ≡ length front);
 }

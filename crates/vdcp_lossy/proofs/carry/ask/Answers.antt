@@ -4,5 +4,7 @@ use Rattle.vdcp_lossy.specs.declared.doing.Way.TheVariants.{Down}
 
 pub returns-in-Copied-clause-sent : goal.returns-in-Copied-clause-sent
 returns-in-Copied-clause-sent g c =
-    asked_twice c.ask_twice.result c.args.session.now.settings.chances Down c.args.command.now.items _ c.in_ok-doing.doing _ _ _ _ c.in-Copied.is
-    c.in_ok-doing.ensures c.in_ok-drop_waiting.ensures.dropped c.as_slice.ensures.value c.in_ok-send_once.ensures.sent c.ask_twice.ensures.sent
+    asked_twice c.ask_twice.result c.args.session.now.settings.chances Down c.args.command.now.items _
+    c.in_ok-doing.doing _ _ _ _ c.in-Copied.is
+    c.in_ok-doing.ensures c.in_ok-drop_waiting.ensures.dropped c.as_slice.ensures.value c.in_ok-send_once.ensures.sent
+    c.ask_twice.ensures.sent

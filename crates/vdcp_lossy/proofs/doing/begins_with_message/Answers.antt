@@ -13,5 +13,6 @@ begins None ms walk first is = absurd cc
 
 pub returns : goal.returns
 returns c = λ is.
-    let first = begins c.next.result (coming c.of.result) c.next.new.self c.next.ensures.some (sym c.is_some.ensures ∙ is) in
+    let first = begins c.next.result (coming c.of.result) c.next.new.self c.next.ensures.some
+    (sym c.is_some.ensures ∙ is) in
     (first.0, first.1, sym c.of.ensures.all ∙ first.2)

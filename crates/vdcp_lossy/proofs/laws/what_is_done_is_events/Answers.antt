@@ -6,4 +6,8 @@ returns-clause-down c = down
 
 pub returns-clause-up : goal.returns-clause-up
 returns-clause-up c =
-    up (record { some = c.one_reading.ensures.some; size = c.what_is_spelt_is_bytes.ensures.size; first = c.written_is_read.ensures.first })
+    up (record {
+      some = c.one_reading.ensures.some;
+      size = c.what_is_spelt_is_bytes.ensures.size;
+      first = c.written_is_read.ensures.first;
+    })

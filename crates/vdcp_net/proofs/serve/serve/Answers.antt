@@ -1,17 +1,12 @@
 use Rattle.std.proofs.lemmas.Result.{err_from_is_err_and}
-use Rattle.vdcp_net.proofs.Unserved.{keeps_itself, served_there, unserved_line}
+use Rattle.vdcp_net.proofs.Unserved.{keeps_itself, unserved_port}
 use Rattle.vdcp_net.proofs.serve.serve.Goals as goal
 use Rattle.vdcp_net.specs.Serve.{no_catalogue}
 
-pub returns-clause-served : goal.returns-clause-served
-returns-clause-served g c =
-    served_there c.args.settings.rate _ _ _ _ c.serve_line.result (c.in_ok-clips.clips, c.in_ok-clips.ensures.clips) c.in-Ok-accept_one.ensures.prints
-    c.serve_line.ensures.ended
-
 pub returns-clause-unserved : goal.returns-clause-unserved
 returns-clause-unserved g c =
-    unserved_line c.args.settings.rate c.args.address.now _ _ _ _ c.serve_line.result
-    (c.in-Ok.address, c.in-Ok.ensures.address) (c.in_ok-clips.clips, c.in_ok-clips.ensures.clips) c.in-Ok-accept_one.ensures.prints c.serve_line.ensures.failed
+    unserved_port c.args.settings.rate c.args.address.now _ _ _ c.serve_port.result
+    (c.in-Ok.address, c.in-Ok.ensures.address) (c.in_ok-clips.clips, c.in_ok-clips.ensures.clips) c.serve_port.ensures.unheard
 
 pub returns-in_err-clips-clause-unserved : goal.returns-in_err-clips-clause-unserved
 returns-in_err-clips-clause-unserved g c =

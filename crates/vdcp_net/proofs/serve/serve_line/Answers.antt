@@ -1,17 +1,13 @@
 use Rattle.vdcp_net.proofs.Ends.{fails_to_end, prints_end}
 use Rattle.vdcp_net.proofs.serve.serve_line.Goals as goal
+use Rattle.vdcp_net.specs.Idle.{has_given_up}
 
-pub returns-in-None-clause-failed : goal.returns-in-None-clause-failed
-returns-in-None-clause-failed g c =
-    let e = c.serve_turns.ensures.leaves in
-    fails_to_end e.0 c.serve_turns.result _ _ e.2
+pub returns-clause-ended : goal.returns-clause-ended
+returns-clause-ended g c =
+    prints_end c.serve_turns.ensures.leaves.0 (has_given_up c.serve_turns.new.server.wire.patience) c.serve_turns.result
+    (g.W.Write.contents c.args.out.now) (g.W.Write.contents c.serve_turns.new.out) c.serve_turns.ensures.leaves.2
 
-pub returns-in-Some-clause-ended : goal.returns-in-Some-clause-ended
-returns-in-Some-clause-ended g c =
-    let e = c.serve_turns-in-Some.ensures.leaves in
-    prints_end e.0 c.serve_turns-in-Some.result _ _ e.2
-
-pub returns-in-Some-clause-failed : goal.returns-in-Some-clause-failed
-returns-in-Some-clause-failed g c =
-    let e = c.serve_turns-in-Some.ensures.leaves in
-    fails_to_end e.0 c.serve_turns-in-Some.result _ _ e.2
+pub returns-clause-failed : goal.returns-clause-failed
+returns-clause-failed g c =
+    fails_to_end c.serve_turns.ensures.leaves.0 (has_given_up c.serve_turns.new.server.wire.patience) c.serve_turns.result
+    (g.W.Write.contents c.args.out.now) (g.W.Write.contents c.serve_turns.new.out) c.serve_turns.ensures.leaves.2

@@ -2,7 +2,7 @@ use Rattle.std.proofs.Common.{List, ◌-◌, ◌≡◌, ◌≤◌}
 use Rattle.std.specs.Prelude.{Some}
 use Rattle.vdcp_auto.specs.Plan.{plan_of}
 use Rattle.vdcp_auto.specs.State.{State}
-use Rattle.vdcp_drive.specs.Driven.{GoesOn}
+use Rattle.vdcp_drive.specs.Driven.{IsReachedFrom}
 use Rattle.vdcp_drive.specs.Lines.{AllListened}
 use Rattle.vdcp_drive.specs.Prompt.{IsNewPrompt}
 use Rattle.vdcp_wire.specs.Wires.{Told, IfTold}
@@ -17,7 +17,7 @@ invariant-listens g l =
       works : g.W.Wire.failures l.self.wire ≡ 0;
       controller : l.self.controller ≡ record l.fn.self.controller { state = l.self.controller.state };
       unit : l.self.unit ≡ l.fn.self.unit;
-      reached : GoesOn (plan_of g.S.Source.items l.fn.self.controller) l.fn.self.controller.state l.self.controller.state;
+      reached : IsReachedFrom (plan_of g.S.Source.items l.fn.self.controller) l.fn.self.controller.state l.self.controller.state;
       listened : (t : Told) → told l.fn.self.wire ≡ Some t → IfTold (told l.self.wire) (λ u. AllListened l.made t.came u.came);
       runs : IsNewPrompt told l.fn.self →
           IfTold (told l.self.wire) (λ u. RunsPrompt (plan_of g.S.Source.items l.fn.self.controller) l.fn.self.unit u l.self.controller.state l.self.reader

@@ -28,13 +28,15 @@ returns-in-Failed c =
 
 pub further-requires : goal.further-requires
 further-requires c = further_part
-    (is_reading c.self.inside.place c.self.inside.buffer c.args.self.now c.in-Reading.taken c.in-Reading.held c.in-Reading.needs
+    (is_reading c.self.inside.place c.self.inside.buffer c.args.self.now c.in-Reading.taken c.in-Reading.held
+    c.in-Reading.needs
     c.self.view_is c.self.invariant c.in-Reading.is) c.fill-count.ensures
 
 pub overflow_sub-count : goal.overflow_sub-count
 overflow_sub-count c = omega (
   arith,
-  found_after (is_reading c.self.inside.place c.self.inside.buffer c.args.self.now c.in-Reading.taken c.in-Reading.held c.in-Reading.needs
+  found_after (is_reading c.self.inside.place c.self.inside.buffer c.args.self.now c.in-Reading.taken c.in-Reading.held
+      c.in-Reading.needs
       c.self.view_is c.self.invariant c.in-Reading.is) c.fill-count.ensures
       (content_of c.in-Found.message) c.in-Found.size c.in-Found.ensures,
 )
@@ -42,15 +44,18 @@ overflow_sub-count c = omega (
 pub overflow_sub-count-in-Wrong : goal.overflow_sub-count-in-Wrong
 overflow_sub-count-in-Wrong c = omega (
   arith,
-  wrong_after (is_reading c.self.inside.place c.self.inside.buffer c.args.self.now c.in-Reading.taken c.in-Reading.held c.in-Reading.needs
-      c.self.view_is c.self.invariant c.in-Reading.is) c.fill-count.ensures c.in-Wrong.fault c.in-Wrong.size c.in-Wrong.ensures,
+  wrong_after (is_reading c.self.inside.place c.self.inside.buffer c.args.self.now c.in-Reading.taken c.in-Reading.held
+      c.in-Reading.needs
+      c.self.view_is c.self.invariant c.in-Reading.is) c.fill-count.ensures c.in-Wrong.fault c.in-Wrong.size
+      c.in-Wrong.ensures,
 )
 
 pub invariant_of-self-in-Found : goal.invariant_of-self-in-Found
 invariant_of-self-in-Found c =
     subst (λ (p : Place). IsPlace p c.fill-count.new.buffer) (sym c.after-self-inside.ensures)
     (between (c.in-Reading.taken + (c.in-Found.size - c.in-Reading.held)) c.fill-count.new.buffer
-    (message_limit (is_reading c.self.inside.place c.self.inside.buffer c.args.self.now c.in-Reading.taken c.in-Reading.held c.in-Reading.needs
+    (message_limit (is_reading c.self.inside.place c.self.inside.buffer c.args.self.now c.in-Reading.taken
+    c.in-Reading.held c.in-Reading.needs
     c.self.view_is c.self.invariant c.in-Reading.is) c.fill-count.ensures
     (content_of c.in-Found.message) c.in-Found.size c.in-Found.ensures))
 
@@ -60,7 +65,8 @@ returns-in-Found c =
     let piece : List ℕ = c.args.piece.now in
     let n : ℕ = c.in-Found.size - c.in-Reading.held in
     let answer : Answer = message (content_of c.in-Found.message) in
-    let f = message_fed (is_reading c.self.inside.place c.self.inside.buffer c.args.self.now c.in-Reading.taken c.in-Reading.held c.in-Reading.needs
+    let f = message_fed (is_reading c.self.inside.place c.self.inside.buffer c.args.self.now c.in-Reading.taken
+    c.in-Reading.held c.in-Reading.needs
     c.self.view_is c.self.invariant c.in-Reading.is) c.fill-count.ensures
     (content_of c.in-Found.message) c.in-Found.size c.in-Found.ensures in (
       (
@@ -84,8 +90,10 @@ returns-in-Wrong c =
     let piece : List ℕ = c.args.piece.now in
     let n : ℕ = c.in-Wrong.size - c.in-Reading.held in
     let answer : Answer = wrong c.in-Wrong.fault (c.in-Reading.taken + n) in
-    let f = wrong_fed (is_reading c.self.inside.place c.self.inside.buffer c.args.self.now c.in-Reading.taken c.in-Reading.held c.in-Reading.needs
-    c.self.view_is c.self.invariant c.in-Reading.is) c.fill-count.ensures c.in-Wrong.fault c.in-Wrong.size c.in-Wrong.ensures in (
+    let f = wrong_fed (is_reading c.self.inside.place c.self.inside.buffer c.args.self.now c.in-Reading.taken
+    c.in-Reading.held c.in-Reading.needs
+    c.self.view_is c.self.invariant c.in-Reading.is) c.fill-count.ensures c.in-Wrong.fault c.in-Wrong.size
+    c.in-Wrong.ensures in (
       (refl, (λ _. tt), f.after),
       record {
         within = gives_within now piece n answer f.gives;
@@ -101,8 +109,10 @@ returns-in-Part c =
     let now : Progress = c.args.self.now in
     let piece : List ℕ = c.args.piece.now in
     let n : ℕ = c.fill-count.result in
-    let f = more_fed (is_reading c.self.inside.place c.self.inside.buffer c.args.self.now c.in-Reading.taken c.in-Reading.held c.in-Reading.needs
-    c.self.view_is c.self.invariant c.in-Reading.is) c.fill-count.ensures c.in-Part.needs c.in-Part.ensures c.if-count-piece.true in (
+    let f = more_fed (is_reading c.self.inside.place c.self.inside.buffer c.args.self.now c.in-Reading.taken
+    c.in-Reading.held c.in-Reading.needs
+    c.self.view_is c.self.invariant c.in-Reading.is) c.fill-count.ensures c.in-Part.needs c.in-Part.ensures
+    c.if-count-piece.true in (
       (refl, (λ _. tt), f.after),
       record {
         within = gives_within now piece n more f.gives;
@@ -119,8 +129,10 @@ returns-in-Part-2 c =
     let piece : List ℕ = c.args.piece.now in
     let n : ℕ = c.fill-count.result + 1 in
     let answer : Answer = wrong Long 4097 in
-    let f = long_fed (is_reading c.self.inside.place c.self.inside.buffer c.args.self.now c.in-Reading.taken c.in-Reading.held c.in-Reading.needs
-    c.self.view_is c.self.invariant c.in-Reading.is) c.fill-count.ensures c.in-Part-2.field-0 c.in-Part-2.ensures c.if-count-piece.false in (
+    let f = long_fed (is_reading c.self.inside.place c.self.inside.buffer c.args.self.now c.in-Reading.taken
+    c.in-Reading.held c.in-Reading.needs
+    c.self.view_is c.self.invariant c.in-Reading.is) c.fill-count.ensures c.in-Part-2.field-0 c.in-Part-2.ensures
+    c.if-count-piece.false in (
       (refl, (λ _. tt), f.after),
       record {
         within = gives_within now piece n answer f.gives;

@@ -46,7 +46,8 @@ pub returns-in-Fault-clause-none : goal.returns-in-Fault-clause-none
 returns-in-Fault-clause-none c =
     let all = c.self.invariant.0.whole in
     ap coming (sym c.self.view_is)
-    ∙ none_coming c.self.inside.place c.self.inside.burst.now all.0 (fault c.in-Fault.fault c.in-Fault.place) c.self.invariant.0.limit
+    ∙ none_coming c.self.inside.place c.self.inside.burst.now all.0 (fault c.in-Fault.fault c.in-Fault.place)
+    c.self.invariant.0.limit
     c.self.invariant.0.fits all.1 (c.in-Fault.ensures.end all.0 all.1)
 
 pub returns-in-Fault-clause-end : goal.returns-in-Fault-clause-end

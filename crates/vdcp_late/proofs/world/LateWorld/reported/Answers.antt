@@ -1,3 +1,4 @@
+use Rattle.vdcp_late.proofs.HeadlineProof.{complete}
 use Rattle.vdcp_late.proofs.world.LateWorld.reported.Goals as goal
 
 pub returns-clause-settled : goal.returns-clause-settled
@@ -11,3 +12,7 @@ returns-clause-beginning g c =
 pub returns-clause-within : goal.returns-clause-within
 returns-clause-within g c =
     rw (← c.self.view_is, c.reported.ensures) (c.a_late_line_keeps_the_headline.ensures _ c.self.invariant).count
+
+pub returns-clause-complete : goal.returns-clause-complete
+returns-clause-complete g c =
+    rw (← c.self.view_is, c.reported.ensures) (complete _ (c.a_late_line_keeps_the_headline.ensures _ c.self.invariant))

@@ -8,7 +8,8 @@ use Rattle.vdcp_list.proofs.list.List.push.Goals as goal
 pub invariant_of-self-2 : goal.invariant_of-self-2
 invariant_of-self-2 c =
     let t : TextLaws = record { some = c.an_id_has_one_text.ensures.some; says = c.a_text_says_its_id.ensures } in
-    let p : Pushed c.args.self.now c.args.item (string_bytes c.push_str.new.self) c.push.new.self.items c.push-2.new.self.items = record {
+    let p : Pushed c.args.self.now c.args.item (string_bytes c.push_str.new.self) c.push.new.self.items
+    c.push-2.new.self.items = record {
       text_is = grind (arith, common_steps);
       ends_are = grind (arith, common_steps);
       parts_are = grind (arith, common_steps);
@@ -19,7 +20,8 @@ invariant_of-self-2 c =
 pub returns-clause-ok : goal.returns-clause-ok
 returns-clause-ok c =
     let t : TextLaws = record { some = c.an_id_has_one_text.ensures.some; says = c.a_text_says_its_id.ensures } in
-    let p : Pushed c.args.self.now c.args.item (string_bytes c.push_str.new.self) c.push.new.self.items c.push-2.new.self.items = record {
+    let p : Pushed c.args.self.now c.args.item (string_bytes c.push_str.new.self) c.push.new.self.items
+    c.push-2.new.self.items = record {
       text_is = grind (arith, common_steps);
       ends_are = grind (arith, common_steps);
       parts_are = grind (arith, common_steps);

@@ -22,7 +22,8 @@ messages-preserved g c =
       walked = walks_on c.args.self.now now c.answer_message.new.self all rest message
           (written c.args.out.now) (written c.messages.out) (written c.answer_message.new.out)
           c.messages.aired c.answer_message.result c.or-aired.result
-          (subst (λ (ms : List Content). Walked c.args.self.now now all ms (written c.args.out.now) (written c.messages.out) c.messages.aired)
+          (subst (λ (ms : List Content). Walked c.args.self.now now all ms (written c.args.out.now)
+          (written c.messages.out) c.messages.aired)
           next_is c.messages.invariant.walked)
           c.answer_message.ensures.sent c.answer_message.ensures.aired c.answer_message.ensures.next c.or-aired.ensures;
       room = omega (

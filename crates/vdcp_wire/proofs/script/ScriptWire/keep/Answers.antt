@@ -1,8 +1,8 @@
 use Rattle.std.proofs.Common.{◌≡◌, ◌++◌, ℕ, List, [], ◌∷◌, false, refl, sym, ap, ◌∙◌, length, take}
 use Rattle.std.specs.Prelude.{Some}
 use Rattle.vdcp_wire.specs.declared.wire.Came.{Came}
-use Rattle.vdcp_wire.specs.Scripts.{Script, arrivals, brought}
-use Rattle.vdcp_wire.specs.Wires.{Told, adds_came, arrival_of, has_closed}
+use Rattle.vdcp_wire.specs.Scripts.{Script, arrivals}
+use Rattle.vdcp_wire.specs.Wires.{Told, adds_came, arrival_of, brought, has_closed}
 use Rattle.vdcp_wire.proofs.Scripting.{arrivals_push, comes_behind, counts_push, closed_by}
 use Rattle.vdcp_wire.proofs.script.ScriptWire.keep.Goals as goal
 

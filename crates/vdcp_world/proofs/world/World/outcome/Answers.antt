@@ -17,3 +17,7 @@ returns-clause-not_foreign g c = λ k is.
 pub returns-clause-not_strange : goal.returns-clause-not_strange
 returns-clause-not_strange g c = λ k is.
     never _ (Strange k) (c.reached_keeps_the_headline.ensures _ c.self.invariant) (sym c.outcome.ensures ∙ is)
+
+pub returns-clause-leaves : goal.returns-clause-leaves
+returns-clause-leaves g c =
+    rw (← c.self.view_is, c.outcome.ensures) (c.an_end_leaves_the_port_at_rest.ensures _ c.self.invariant)

@@ -42,3 +42,19 @@ returns-clause-confirming_end g c = λ n is can enough.
     c.loop-event.auto.event-index-end c.loop-event.invariant in
     subst IsDone (sym (happened ∙ ap (after_events c.args.self.now) is))
     ((c.good_rounds_bring_all_to_air.ensures c.args.self.now reached).confirming can n enough)
+
+pub returns-clause-in_step_end : goal.returns-clause-in_step_end
+returns-clause-in_step_end g c = λ n is can enough.
+    let reached : IsReached c.args.self.now = rw (← c.self.view_is) c.self.invariant in
+    let happened = all_happened c.args.self.now c.loop-event.self c.args.events.now c.loop-event.event-index c.loop-event-test.false
+    c.loop-event.auto.event-index-end c.loop-event.invariant in
+    subst IsDone (sym (happened ∙ ap (after_events c.args.self.now) is))
+    ((c.good_rounds_bring_the_rest_to_air.ensures c.args.self.now reached).in_step can n enough)
+
+pub returns-clause-catch_up_end : goal.returns-clause-catch_up_end
+returns-clause-catch_up_end g c = λ n is can enough.
+    let reached : IsReached c.args.self.now = rw (← c.self.view_is) c.self.invariant in
+    let happened = all_happened c.args.self.now c.loop-event.self c.args.events.now c.loop-event.event-index c.loop-event-test.false
+    c.loop-event.auto.event-index-end c.loop-event.invariant in
+    subst IsDone (sym (happened ∙ ap (after_events c.args.self.now) is))
+    ((c.good_rounds_bring_the_rest_to_air.ensures c.args.self.now reached).catches_up can n enough)

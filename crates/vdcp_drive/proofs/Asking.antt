@@ -1,0 +1,541 @@
+-- A port that is asked, after one more listen and after one more burst.
+use Rattle.std.proofs.Common.{ℕ, ◌≡◌, ◌≤◌, ◌<◌, ◌+◌, ◌*◌, List, [], ◌∷◌, ◌++◌, Bool, true, false, map, length, refl, sym, ap, ap₂, subst, ◌∙◌, append_assoc, append-nil, length-append, arith}
+use Rattle.std.specs.Prelude.{Option, Some, None, nat_eq, nat_lt, if◌then◌else◌}
+use Rattle.std.proofs.lemmas.Bool.{eqb-true, ltb-true}
+use Rattle.std.proofs.lemmas.List.{map-append}
+use Rattle.std.proofs.lemmas.List.Elements.{All-append, All-nil}
+use Rattle.vdcp_frame.specs.Burst.{messages_of}
+use Rattle.vdcp_frame.specs.Message.{Content, AreOctets}
+use Rattle.vdcp_frame.specs.Progress.{Progress, reading}
+use Rattle.vdcp_frame.specs.Reader.{Follows}
+use Rattle.vdcp_auto.specs.Heard.{heard_first, heard_in}
+use Rattle.vdcp_auto.specs.declared.exchange.Heard.{Heard}
+use Rattle.vdcp_drive.specs.Bursts.{ended_bursts, open_burst}
+use Rattle.vdcp_drive.specs.Driven.{bytes_of, starts_of}
+use Rattle.vdcp_drive.specs.Hearing.{HasHeard, heard_by_then, command_bytes}
+use Rattle.vdcp_auto.specs.declared.exchange.Heard.TheVariants as heard
+use Rattle.vdcp_words.specs.declared.command.Command.{Command}
+use Rattle.vdcp_words.specs.declared.reply.Reply.{Reply}
+use Rattle.vdcp_words.specs.declared.reply.Reply.TheVariants as reply
+use Rattle.vdcp_drive.specs.Vacancy.{heard_of, IsBetween, HearsBurst, BreaksBurst, vacancy_of, led_by, led_on, unless_led, asking_after, asking_from}
+use Rattle.vdcp_drive.specs.Vacancy.{asked_from, asked_now, asking_by, questions_by, commands_asked, first_asking, question_command, HasSaid, IsSaid, CameTo, HasAsked, IsPartlyAsked}
+use Rattle.vdcp_drive.specs.declared.vacancy.Asking.{Asking}
+use Rattle.vdcp_drive.specs.declared.vacancy.Asking.TheVariants.{Asks, Over}
+use Rattle.vdcp_drive.specs.declared.vacancy.Question.{Question}
+use Rattle.vdcp_drive.specs.declared.vacancy.Question.TheVariants as question
+use Rattle.vdcp_drive.specs.declared.vacancy.Vacancy.{Vacancy}
+use Rattle.vdcp_drive.specs.declared.vacancy.Vacancy.TheVariants as vacancy
+use Rattle.vdcp_drive.specs.declared.vacancy.Burst.TheVariants as burst
+use Rattle.vdcp_wire.specs.Wires.{Arrival, bytes, silence, close, Told, IfTold, SendsFront, adds_came, adds_drop, adds_sent, has_closed, nothing_told}
+use Rattle.vdcp_wire.specs.WireLaws.{closed_bytes, closed_silence, closed_close}
+use Rattle.vdcp_drive.proofs.Below.{Read, Fed}
+use Rattle.vdcp_drive.proofs.Cutting.{ended_bytes, open_bytes, ended_silence, open_silence, ended_close}
+use Rattle.vdcp_drive.proofs.Driving.{tells_more, bytes_push, starts_of_push}
+use Rattle.vdcp_drive.proofs.Listening.{heard_more}
+
+-- ---- one burst
+
+-- a burst is listened to, which has begun since this was told
+pub record HearsAt (unit total left : ℕ) (t u : Told) (reader : Progress) (heard : Option Heard) : Type 0 where
+  pub sent_is : u.sent ≡ t.sent
+  pub drops_are : u.drops ≡ t.drops
+  pub no_close : has_closed u.came ≡ false
+  pub ended_are : ended_bursts u.came ≡ ended_bursts t.came
+  pub bytes_fit : AreOctets (open_burst u.came)
+  pub follows : Follows (open_burst u.came) (messages_of (open_burst u.came)) reader
+  pub hears : heard ≡ heard_first unit (messages_of (open_burst u.came))
+  pub listened : length u.came + left ≡ total
+
+pub hears_none : (fed : Fed) (unit left : ℕ) (t : Told) (told : Option Told) → told ≡ Some t → IsBetween t.came
+    → IfTold told (λ u. HearsAt unit (length t.came + left) left t u (reading 0 []) None)
+hears_none fed unit left t told is h = (
+  t,
+  is,
+  record {
+    sent_is = refl;
+    drops_are = refl;
+    no_close = h.no_close;
+    ended_are = refl;
+    bytes_fit = subst AreOctets (sym h.none_begun) (All-nil (λ b. b < 256));
+    follows = subst (λ (b : List ℕ). Follows b (messages_of b) (reading 0 [])) (sym h.none_begun) fed.start;
+    hears = ap (λ (b : List ℕ). heard_first unit (messages_of b)) (sym h.none_begun);
+    listened = refl;
+  },
+)
+
+one_more : (came : List Arrival) (a : Arrival) (total left left' : ℕ) → length came + left ≡ total → left' + 1 ≡ left
+    → length (came ++ a ∷ []) + left' ≡ total
+one_more came a total left left' h less = omega (arith, h, less, length-append came (a ∷ []))
+
+pub hears_bytes : (read : Read) (unit total left left' : ℕ) (t u : Told) (reader : Progress) (heard : Option Heard) (piece : List ℕ)
+    (reader' : Progress) (heard' : Option Heard) (told told' : Option Told)
+    → told ≡ Some u → HearsAt unit total left t u reader heard → left' + 1 ≡ left → AreOctets piece
+    → HasHeard unit reader heard piece reader' heard' → told' ≡ adds_came (bytes piece) told
+    → IfTold told' (λ v. HearsAt unit total left' t v reader' heard')
+hears_bytes read unit total left left' t u reader heard piece reader' heard' told told' is h less fits e more =
+    let begun : List ℕ = open_burst u.came in
+    let mo : List Content = messages_of begun in
+    let came' : List Arrival = u.came ++ bytes piece ∷ [] in
+    let opened : open_burst came' ≡ begun ++ piece = open_bytes [] u.came piece h.no_close in
+    let all : AreOctets (begun ++ piece) = All-append (λ b. b < 256) begun piece h.bytes_fit fits in
+    let f : Follows (begun ++ piece) (mo ++ e.messages) reader' = e.follows begun mo h.follows in
+    let same : mo ++ e.messages ≡ messages_of (begun ++ piece) = read.messages (begun ++ piece) (mo ++ e.messages) reader' all f in (
+      record { sent = u.sent; came = came'; drops = u.drops },
+      tells_more u (bytes piece) told told' is h.no_close more,
+      record {
+        sent_is = h.sent_is;
+        drops_are = h.drops_are;
+        no_close = closed_bytes u.came piece ∙ h.no_close;
+        ended_are = ended_bytes [] u.came piece h.no_close ∙ h.ended_are;
+        bytes_fit = subst AreOctets (sym opened) all;
+        follows = subst (λ (b : List ℕ). Follows b (messages_of b) reader') (sym opened) (subst (λ (l : List Content). Follows (begun ++ piece) l
+            reader') same f);
+        hears = e.hears ∙ ap (λ (x : Option Heard). heard_by_then unit x e.messages) h.hears ∙ heard_more unit mo e.messages
+            ∙ ap (heard_first unit) same
+            ∙ ap (λ (b : List ℕ). heard_first unit (messages_of b)) (sym opened);
+        listened = one_more u.came (bytes piece) total left left' h.listened less;
+      },
+    )
+
+pub hears_silence : (unit listens left left' : ℕ) (t u : Told) (reader : Progress) (heard : Option Heard) (told told' : Option Told)
+    → told ≡ Some u → HearsAt unit (length t.came + listens) left t u reader heard → left' + 1 ≡ left → told' ≡ adds_came silence told
+    → IfTold told' (λ v. HearsBurst unit listens left' t v (burst.Ended heard))
+hears_silence unit listens left left' t u reader heard told told' is h less more = (
+  record { sent = u.sent; came = u.came ++ silence ∷ []; drops = u.drops },
+  tells_more u silence told told' is h.no_close more,
+  record {
+    sent_stays = h.sent_is;
+    drops_stay = h.drops_are;
+    adds = (
+      record { no_close = closed_silence u.came ∙ h.no_close; none_begun = open_silence [] u.came h.no_close },
+      ap (map (heard_in unit)) (ended_silence [] u.came h.no_close)
+          ∙ map-append (heard_in unit) (ended_bursts u.came) (open_burst u.came ∷ [])
+          ∙ ap₂ (λ (bs : List (List ℕ)) (x : Option Heard). map (heard_in unit) bs ++ x ∷ []) h.ended_are (sym h.hears),
+    );
+    listened = one_more u.came silence (length t.came + listens) left left' h.listened less;
+  },
+)
+
+pub hears_close : (unit listens left left' : ℕ) (t u : Told) (reader : Progress) (heard : Option Heard) (told told' : Option Told)
+    → told ≡ Some u → HearsAt unit (length t.came + listens) left t u reader heard → left' + 1 ≡ left → told' ≡ adds_came close told
+    → IfTold told' (λ v. HearsBurst unit listens left' t v burst.Closed)
+hears_close unit listens left left' t u reader heard told told' is h less more = (
+  record { sent = u.sent; came = u.came ++ close ∷ []; drops = u.drops },
+  tells_more u close told told' is h.no_close more,
+  record {
+    sent_stays = h.sent_is;
+    drops_stay = h.drops_are;
+    adds = (closed_close u.came, ap (map (heard_in unit)) (ended_close [] u.came ∙ h.ended_are));
+    listened = one_more u.came close (length t.came + listens) left left' h.listened less;
+  },
+)
+
+pub hears_spent : (unit listens left : ℕ) (t u : Told) (reader : Progress) (heard : Option Heard) (told : Option Told)
+    → told ≡ Some u → HearsAt unit (length t.came + listens) left t u reader heard → left ≡ 0
+    → IfTold told (λ v. HearsBurst unit listens left t v burst.Spent)
+hears_spent unit listens left t u reader heard told is h none = (
+  u,
+  is,
+  record {
+    sent_stays = h.sent_is;
+    drops_stay = h.drops_are;
+    adds = (none, ap (map (heard_in unit)) h.ended_are);
+    listened = h.listened;
+  },
+)
+
+pub breaks_burst : (unit total left : ℕ) (t u : Told) (reader : Progress) (heard : Option Heard) (told told' : Option Told)
+    → told ≡ Some u → HearsAt unit total left t u reader heard → told' ≡ told
+    → IfTold told' (BreaksBurst unit t)
+breaks_burst unit total left t u reader heard told told' is h same =
+    (u, same ∙ is, record { sent_stays = h.sent_is; heard_stays = ap (map (heard_in unit)) h.ended_are })
+
+-- ---- the questions
+
+asking_push : (limit : ℕ) (hs : List (Option Heard)) (h : Option Heard) (asking : Asking)
+    → asking_from limit (hs ++ h ∷ []) asking ≡ asking_from limit (h ∷ []) (asking_from limit hs asking)
+asking_push limit [] h asking = refl
+asking_push limit (x ∷ []) h (Over v) = refl
+asking_push limit (x ∷ y ∷ hs) h (Over v) = refl
+asking_push limit (x ∷ hs) h (Asks q n) = asking_push limit hs h (asking_after limit q n x)
+
+asked_push : (limit : ℕ) (hs : List (Option Heard)) (h : Option Heard) (asking : Asking)
+    → asked_from limit (hs ++ h ∷ []) asking ≡ asked_from limit hs asking ++ asked_now (asking_from limit hs asking)
+asked_push limit [] h (Over v) = refl
+asked_push limit [] h (Asks q n) = refl
+asked_push limit (x ∷ hs) h (Over v) = refl
+asked_push limit (x ∷ hs) h (Asks q n) = ap (λ (l : List Question). q ∷ l) (asked_push limit hs h (asking_after limit q n x))
+
+-- how many exchanges there were at most before a question
+abbrev room : ℕ → Question → ℕ
+room limit question.Open = 0
+room limit question.Select = limit
+room limit question.Status = limit + limit
+
+-- what was heard before a question
+abbrev granted : Option Heard
+granted = Some (heard.Reply (reply.Opened true))
+
+abbrev acked : Option Heard
+acked = Some (heard.Reply reply.Ack)
+
+abbrev Passed : Question → List (Option Heard) → Type 0
+Passed question.Open hs = Unit {0}
+Passed question.Select hs = (a : List (Option Heard)) × (b : List (Option Heard)) × (hs ≡ a ++ granted ∷ b)
+Passed question.Status hs = (a : List (Option Heard)) × (b : List (Option Heard)) × (c : List (Option Heard)) ×
+    (hs ≡ a ++ granted ∷ (b ++ acked ∷ c))
+
+passed_more : (q : Question) (hs : List (Option Heard)) (h : Option Heard) → Passed q hs → Passed q (hs ++ h ∷ [])
+passed_more question.Open hs h p = tt
+passed_more question.Select hs h (a, b, e) =
+    (a, b ++ h ∷ [], ap (λ (l : List (Option Heard)). l ++ h ∷ []) e ∙ append_assoc a (granted ∷ b) (h ∷ []))
+passed_more question.Status hs h (a, b, c, e) = (
+  a,
+  b,
+  c ++ h ∷ [],
+  ap (λ (l : List (Option Heard)). l ++ h ∷ []) e ∙ append_assoc a (granted ∷ (b ++ acked ∷ c)) (h ∷ [])
+      ∙ ap (λ (l : List (Option Heard)). a ++ granted ∷ l) (append_assoc b (acked ∷ c) (h ∷ [])),
+)
+
+-- what an answer to a question says, and where it leads
+abbrev IsLed : Question → Option Heard → Asking → Type 0
+IsLed question.Open h (Asks q n) = (h ≡ granted) × (q ≡ question.Select) × (n ≡ 0)
+IsLed question.Select h (Asks q n) = (h ≡ acked) × (q ≡ question.Status) × (n ≡ 0)
+IsLed question.Status h (Asks q n) = ⊥
+IsLed question.Open h (Over v) = v ≡ vacancy.Denied
+IsLed question.Select h (Over v) = ⊥
+IsLed question.Status h (Over v) = (groups : ℕ) × (state : ℕ) × (h ≡ Some (heard.Reply (reply.State groups (Some state)))) × (v ≡ vacancy_of state)
+
+of_some : (a b : Asking) → Some a ≡ Some b → a ≡ b
+of_some a b e = cc
+
+led_open : (given : Bool) (next : Asking) → led_by question.Open (reply.Opened given) ≡ Some next
+    → IsLed question.Open (Some (heard.Reply (reply.Opened given))) next
+led_open true next e = subst (IsLed question.Open granted) (of_some (Asks question.Select 0) next e) (refl, refl, refl)
+led_open false next e =
+    subst (IsLed question.Open (Some (heard.Reply (reply.Opened false)))) (of_some (Over vacancy.Denied) next e) refl
+
+led_reply : (q : Question) (r : Reply) (next : Asking) → led_by q r ≡ Some next → IsLed q (Some (heard.Reply r)) next
+led_reply question.Open (reply.Opened given) next e = led_open given next e
+led_reply question.Open reply.Ack next e = cc
+led_reply question.Open (reply.Nak b) next e = cc
+led_reply question.Open (reply.State g s) next e = cc
+led_reply question.Open (reply.Active id) next e = cc
+led_reply question.Open (reply.Present p) next e = cc
+led_reply question.Open (reply.Size s) next e = cc
+led_reply question.Select reply.Ack next e = subst (IsLed question.Select acked) (of_some (Asks question.Status 0) next e) (refl, refl, refl)
+led_reply question.Select (reply.Opened given) next e = cc
+led_reply question.Select (reply.Nak b) next e = cc
+led_reply question.Select (reply.State g s) next e = cc
+led_reply question.Select (reply.Active id) next e = cc
+led_reply question.Select (reply.Present p) next e = cc
+led_reply question.Select (reply.Size s) next e = cc
+led_reply question.Status (reply.State g (Some s)) next e =
+    subst (IsLed question.Status (Some (heard.Reply (reply.State g (Some s))))) (of_some (Over (vacancy_of s)) next e) (g, s, refl, refl)
+led_reply question.Status (reply.State g None) next e = cc
+led_reply question.Status reply.Ack next e = cc
+led_reply question.Status (reply.Opened given) next e = cc
+led_reply question.Status (reply.Nak b) next e = cc
+led_reply question.Status (reply.Active id) next e = cc
+led_reply question.Status (reply.Present p) next e = cc
+led_reply question.Status (reply.Size s) next e = cc
+
+led_heard : (q : Question) (h : Option Heard) (next : Asking) → led_on q h ≡ Some next → IsLed q h next
+led_heard q None next e = cc
+led_heard q (Some heard.Other) next e = cc
+led_heard q (Some (heard.Reply r)) next e = led_reply q r next e
+
+-- what holds after one exchange more, in which this was heard
+abbrev HoldsOn : ℕ → List (Option Heard) → ℕ → Asking → Type 0
+HoldsOn limit hs count (Asks q n) = (n < limit) × (count ≤ room limit q + n) × Passed q hs
+HoldsOn limit hs count (Over v) = (count ≤ 3 * limit) × IsSaid hs v
+
+within : (limit : ℕ) (q : Question) (n count : ℕ) → n < limit → count ≤ room limit q + n → count + 1 ≤ 3 * limit
+within limit question.Open n count less few = omega (arith, less, few)
+within limit question.Select n count less few = omega (arith, less, few)
+within limit question.Status n count less few = omega (arith, less, few)
+
+missed_by : (b : Bool) (limit : ℕ) (q : Question) (n count : ℕ) (hs : List (Option Heard)) (h : Option Heard)
+    → nat_lt (n + 1) limit ≡ b → n < limit → count ≤ room limit q + n → Passed q hs
+    → HoldsOn limit (hs ++ h ∷ []) (count + 1) (if b then Asks q (n + 1) else Over vacancy.Unanswered)
+missed_by true limit q n count hs h is less few passed =
+    (ltb-true (n + 1) limit is, omega (arith, few), passed_more q hs h passed)
+missed_by false limit q n count hs h is less few passed = (within limit q n count less few, tt)
+
+said_so : (b : Bool) (state : ℕ) (hs : List (Option Heard)) → nat_eq state 1 ≡ b → HasSaid hs state
+    → IsSaid hs (if b then vacancy.Vacant else vacancy.Occupied state)
+said_so true state hs is said = subst (HasSaid hs) (eqb-true state 1 is) said
+said_so false state hs is said = said
+
+led_so : (limit : ℕ) (q : Question) (n count : ℕ) (hs : List (Option Heard)) (h : Option Heard) (next : Asking)
+    → IsLed q h next → n < limit → count ≤ room limit q + n → Passed q hs
+    → HoldsOn limit (hs ++ h ∷ []) (count + 1) next
+led_so limit question.Open n count hs h (Asks q m) (heard_is, q_is, m_is) less few passed =
+    subst (λ (q' : Question). HoldsOn limit (hs ++ h ∷ []) (count + 1) (Asks q' m)) (sym q_is)
+    (omega (arith, m_is, less), omega (arith, m_is, less, few), (hs, [], ap (λ (x : Option Heard). hs ++ x ∷ []) heard_is))
+led_so limit question.Select n count hs h (Asks q m) (heard_is, q_is, m_is) less few (a, b, e) =
+    subst (λ (q' : Question). HoldsOn limit (hs ++ h ∷ []) (count + 1) (Asks q' m)) (sym q_is) (
+      omega (arith, m_is, less),
+      omega (arith, m_is, less, few),
+      (
+        a,
+        b,
+        [],
+        ap₂ (λ (l : List (Option Heard)) (x : Option Heard). l ++ x ∷ []) e heard_is ∙ append_assoc a (granted ∷ b) (acked ∷ []),
+      ),
+    )
+led_so limit question.Status n count hs h (Asks q m) led less few passed = absurd led
+led_so limit question.Open n count hs h (Over v) led less few passed =
+    subst (λ (v' : Vacancy). HoldsOn limit (hs ++ h ∷ []) (count + 1) (Over v')) (sym led) (within limit question.Open n count less few, tt)
+led_so limit question.Select n count hs h (Over v) led less few passed = absurd led
+led_so limit question.Status n count hs h (Over v) (groups, state, heard_is, v_is) less few (a, b, c, e) =
+    let said : HasSaid (hs ++ h ∷ []) state = record {
+      before = a;
+      opened = b;
+      selected = c;
+      groups = groups;
+      parts = ap₂ (λ (l : List (Option Heard)) (x : Option Heard). l ++ x ∷ []) e heard_is
+          ∙ append_assoc a (granted ∷ (b ++ acked ∷ c)) (Some (heard.Reply (reply.State groups (Some state))) ∷ [])
+          ∙ ap (λ (l : List (Option Heard)). a ++ granted ∷ l) (append_assoc b (acked ∷ c) (Some (heard.Reply (reply.State groups (Some state))) ∷ []));
+    } in
+    subst (λ (v' : Vacancy). HoldsOn limit (hs ++ h ∷ []) (count + 1) (Over v')) (sym v_is)
+    (within limit question.Status n count less few, said_so (nat_eq state 1) state (hs ++ h ∷ []) refl said)
+
+holds_by : (limit : ℕ) (q : Question) (n count : ℕ) (hs : List (Option Heard)) (h : Option Heard) (o : Option Asking)
+    → led_on q h ≡ o → n < limit → count ≤ room limit q + n → Passed q hs
+    → HoldsOn limit (hs ++ h ∷ []) (count + 1) (unless_led limit q n o)
+holds_by limit q n count hs h None is less few passed = missed_by (nat_lt (n + 1) limit) limit q n count hs h refl less few passed
+holds_by limit q n count hs h (Some next) is less few passed = led_so limit q n count hs h next (led_heard q h next is) less few passed
+
+-- some exchanges that come before a question
+passes : (q : Question) → (hs : List (Option Heard)) × Passed q hs
+passes question.Open = ([], tt)
+passes question.Select = (granted ∷ [], ([], [], refl))
+passes question.Status = (granted ∷ acked ∷ [], ([], [], [], refl))
+
+pub stays_under : (limit : ℕ) (q q' : Question) (n n' : ℕ) (h : Option Heard) → asking_after limit q n h ≡ Asks q' n' → n < limit → n' < limit
+stays_under limit q q' n n' h is less =
+    let p = passes q in
+    let held = holds_by limit q n 0 p.0 h (led_on q h) refl less (omega arith) p.1 in
+    (subst (HoldsOn limit (p.0 ++ h ∷ []) 1) is held).0
+
+-- the questions of the exchanges that ended, and their commands
+abbrev ended_questions : ℕ → ℕ → List Arrival → List Question
+ended_questions unit limit came = asked_from limit (heard_of unit came) first_asking
+
+abbrev ended_commands : ℕ → ℕ → ℕ → List Arrival → List Command
+ended_commands unit port limit came = map (question_command port) (ended_questions unit limit came)
+
+-- the commands of all questions, by what was heard
+abbrev commands_heard : ℕ → ℕ → List (Option Heard) → List Command
+commands_heard port limit hs =
+    map (question_command port) (asked_from limit hs first_asking ++ asked_now (asking_from limit hs first_asking))
+
+-- a question is to be asked
+pub record AsksAt (unit port limit listens left : ℕ) (q : Question) (n : ℕ) (u : Told) : Type 0 where
+  pub asking_is : asking_by unit limit u.came ≡ Asks q n
+  pub sent_is : u.sent ≡ bytes_of unit (ended_commands unit port limit u.came)
+  pub drops_are : u.drops ≡ starts_of unit (ended_commands unit port limit u.came)
+  pub between : IsBetween u.came
+  pub listened : length u.came + left ≡ listens
+  pub few : length (ended_questions unit limit u.came) ≤ room limit q + n
+  pub passed : Passed q (heard_of unit u.came)
+
+-- it is asked, and its answer not listened to yet
+pub record AskedAt (unit port limit listens left : ℕ) (q : Question) (n : ℕ) (u : Told) : Type 0 where
+  pub asking_is : asking_by unit limit u.came ≡ Asks q n
+  pub sent_is : u.sent ≡ bytes_of unit (commands_asked unit port limit u.came)
+  pub drops_are : u.drops ≡ starts_of unit (commands_asked unit port limit u.came)
+  pub between : IsBetween u.came
+  pub listened : length u.came + left ≡ listens
+  pub few : length (ended_questions unit limit u.came) ≤ room limit q + n
+  pub passed : Passed q (heard_of unit u.came)
+
+pub asks_first : (unit port limit listens : ℕ) → AsksAt unit port limit listens listens question.Open 0 nothing_told
+asks_first unit port limit listens = record {
+  asking_is = refl;
+  sent_is = refl;
+  drops_are = refl;
+  between = record { no_close = refl; none_begun = refl };
+  listened = omega arith;
+  few = omega arith;
+  passed = tt;
+}
+
+one_command : (unit port limit : ℕ) (came : List Arrival) (q : Question) (n : ℕ) → asking_by unit limit came ≡ Asks q n
+    → commands_asked unit port limit came ≡ ended_commands unit port limit came ++ question_command port q ∷ []
+one_command unit port limit came q n is =
+    ap (λ (a : Asking). map (question_command port) (ended_questions unit limit came ++ asked_now a)) is
+    ∙ map-append (question_command port) (ended_questions unit limit came) (q ∷ [])
+
+pub asked_so : (unit port limit listens left : ℕ) (q : Question) (n : ℕ) (u : Told) (told told₁ told₂ : Option Told)
+    → told ≡ Some u → AsksAt unit port limit listens left q n u → told₁ ≡ adds_drop told
+    → told₂ ≡ adds_sent (command_bytes unit (question_command port q)) told₁
+    → IfTold told₂ (AskedAt unit port limit listens left q n)
+asked_so unit port limit listens left q n u told told₁ told₂ is h drops sends =
+    let c : Command = question_command port q in
+    let before : List Command = ended_commands unit port limit u.came in
+    let more = one_command unit port limit u.came q n h.asking_is in (
+      record { sent = u.sent ++ command_bytes unit c; came = u.came; drops = u.drops ++ length u.sent ∷ [] },
+      sends ∙ ap (adds_sent (command_bytes unit c)) (drops ∙ ap adds_drop is),
+      record {
+        asking_is = h.asking_is;
+        sent_is = ap (λ (l : List ℕ). l ++ command_bytes unit c) h.sent_is ∙ sym (bytes_push unit before c) ∙ ap (bytes_of unit) (sym more);
+        drops_are = ap₂ (λ (l : List ℕ) (m : ℕ). l ++ m ∷ []) h.drops_are (ap length h.sent_is) ∙ sym (starts_of_push unit before c)
+            ∙ ap (starts_of unit) (sym more);
+        between = h.between;
+        listened = h.listened;
+        few = h.few;
+        passed = h.passed;
+      },
+    )
+
+-- The wire failed.
+
+pub partly_dropped : (unit port limit listens left : ℕ) (q : Question) (n : ℕ) (u : Told) (told told' : Option Told)
+    → told ≡ Some u → AsksAt unit port limit listens left q n u → told' ≡ told
+    → IfTold told' (IsPartlyAsked unit port limit)
+partly_dropped unit port limit listens left q n u told told' is h same =
+    let c : Command = question_command port q in
+    let before : List Command = ended_commands unit port limit u.came in (
+      u,
+      same ∙ is,
+      (
+        command_bytes unit c,
+        ap (bytes_of unit) (one_command unit port limit u.came q n h.asking_is) ∙ bytes_push unit before c
+            ∙ ap (λ (l : List ℕ). l ++ command_bytes unit c) (sym h.sent_is),
+      ),
+    )
+
+pub partly_sent : (unit port limit listens left : ℕ) (q : Question) (n : ℕ) (u : Told) (told told₁ told' : Option Told)
+    → told ≡ Some u → AsksAt unit port limit listens left q n u → told₁ ≡ adds_drop told
+    → SendsFront (command_bytes unit (question_command port q)) told₁ told'
+    → IfTold told' (IsPartlyAsked unit port limit)
+partly_sent unit port limit listens left q n u told told₁ told' is h drops front =
+    let c : Command = question_command port q in
+    let before : List Command = ended_commands unit port limit u.came in (
+      record { sent = u.sent ++ front.front; came = u.came; drops = u.drops ++ length u.sent ∷ [] },
+      front.told ∙ ap (adds_sent front.front) (drops ∙ ap adds_drop is),
+      (
+        front.rest,
+        ap (bytes_of unit) (one_command unit port limit u.came q n h.asking_is) ∙ bytes_push unit before c
+            ∙ ap₂ (λ (l m : List ℕ). l ++ m) (sym h.sent_is) front.parts
+            ∙ sym (append_assoc u.sent front.front front.rest),
+      ),
+    )
+
+pub partly_heard : (unit port limit listens left : ℕ) (q : Question) (n : ℕ) (u : Told) (told' : Option Told)
+    → AskedAt unit port limit listens left q n u → IfTold told' (BreaksBurst unit u)
+    → IfTold told' (IsPartlyAsked unit port limit)
+partly_heard unit port limit listens left q n u told' h (v, is, b) = (
+  v,
+  is,
+  (
+    [],
+    ap (λ (hs : List (Option Heard)). bytes_of unit (commands_heard port limit hs)) b.heard_stays
+        ∙ sym h.sent_is ∙ sym b.sent_stays ∙ sym (append-nil v.sent),
+  ),
+)
+
+-- The next question.
+
+-- what a burst leaves, after which this is asked
+record AfterBurst (unit port limit listens left : ℕ) (next : Asking) (v : Told) : Type 0 where
+  pub asking_is : asking_by unit limit v.came ≡ next
+  pub sent_is : v.sent ≡ bytes_of unit (ended_commands unit port limit v.came)
+  pub drops_are : v.drops ≡ starts_of unit (ended_commands unit port limit v.came)
+  pub between : IsBetween v.came
+  pub listened : length v.came + left ≡ listens
+  pub holds : HoldsOn limit (heard_of unit v.came) (length (ended_questions unit limit v.came)) next
+
+after_burst : (unit port limit listens left left' : ℕ) (q : Question) (n : ℕ) (h : Option Heard) (u v : Told) → n < limit
+    → AskedAt unit port limit listens left q n u → HearsBurst unit left left' u v (burst.Ended h)
+    → AfterBurst unit port limit listens left' (asking_after limit q n h) v
+after_burst unit port limit listens left left' q n h u v less a b =
+    let hs : List (Option Heard) = heard_of unit u.came in
+    let heard_is : heard_of unit v.came ≡ hs ++ h ∷ [] = b.adds.1 in
+    let asked_is : ended_questions unit limit v.came ≡ questions_by unit limit u.came =
+    ap (λ (l : List (Option Heard)). asked_from limit l first_asking) heard_is ∙ asked_push limit hs h first_asking in
+    let counted : length (ended_questions unit limit u.came) + 1 ≡ length (ended_questions unit limit v.came) =
+    sym (length-append (ended_questions unit limit u.came) (q ∷ []))
+    ∙ ap (λ (x : Asking). length (ended_questions unit limit u.came ++ asked_now x)) (sym a.asking_is) ∙ ap length (sym asked_is) in
+    let held = holds_by limit q n (length (ended_questions unit limit u.came)) hs h (led_on q h) refl less a.few a.passed in record {
+      asking_is = ap (λ (l : List (Option Heard)). asking_from limit l first_asking) heard_is ∙ asking_push limit hs h first_asking
+          ∙ ap (asking_from limit (h ∷ [])) a.asking_is;
+      sent_is = b.sent_stays ∙ a.sent_is ∙ ap (λ (qs : List Question). bytes_of unit (map (question_command port) qs)) (sym asked_is);
+      drops_are = b.drops_stay ∙ a.drops_are ∙ ap (λ (qs : List Question). starts_of unit (map (question_command port) qs)) (sym asked_is);
+      between = b.adds.0;
+      listened = b.listened ∙ a.listened;
+      holds = subst (λ (l : List (Option Heard)). HoldsOn limit l (length (ended_questions unit limit v.came)) (asking_after limit q n h)) (sym heard_is)
+          (subst (λ (m : ℕ). HoldsOn limit (hs ++ h ∷ []) m (asking_after limit q n h)) counted held);
+    }
+
+pub asks_on : (unit port limit listens left left' : ℕ) (q q' : Question) (n n' : ℕ) (h : Option Heard) (u : Told) (told' : Option Told)
+    → n < limit → AskedAt unit port limit listens left q n u → IfTold told' (λ v. HearsBurst unit left left' u v (burst.Ended h))
+    → asking_after limit q n h ≡ Asks q' n' → IfTold told' (AsksAt unit port limit listens left' q' n')
+asks_on unit port limit listens left left' q q' n n' h u told' less a (v, is, b) next =
+    let e = subst (λ (x : Asking). AfterBurst unit port limit listens left' x v) next
+    (after_burst unit port limit listens left left' q n h u v less a b) in (
+      v,
+      is,
+      record {
+        asking_is = e.asking_is;
+        sent_is = e.sent_is;
+        drops_are = e.drops_are;
+        between = e.between;
+        listened = e.listened;
+        few = e.holds.1;
+        passed = e.holds.2;
+      },
+    )
+
+pub asks_out : (unit port limit listens left left' : ℕ) (q : Question) (n : ℕ) (h : Option Heard) (answer : Vacancy) (u : Told) (told' : Option Told)
+    → n < limit → AskedAt unit port limit listens left q n u → IfTold told' (λ v. HearsBurst unit left left' u v (burst.Ended h))
+    → asking_after limit q n h ≡ Over answer → IfTold told' (λ v. HasAsked unit port limit listens left' v answer)
+asks_out unit port limit listens left left' q n h answer u told' less a (v, is, b) next =
+    let e = subst (λ (x : Asking). AfterBurst unit port limit listens left' x v) next
+    (after_burst unit port limit listens left left' q n h u v less a b) in
+    let all : ended_questions unit limit v.came ≡ questions_by unit limit v.came =
+    sym (append-nil (ended_questions unit limit v.came))
+    ∙ ap (λ (x : Asking). ended_questions unit limit v.came ++ asked_now x) (sym e.asking_is) in (
+      v,
+      is,
+      record {
+        sent_is = e.sent_is ∙ ap (λ (qs : List Question). bytes_of unit (map (question_command port) qs)) all;
+        drops_are = e.drops_are ∙ ap (λ (qs : List Question). starts_of unit (map (question_command port) qs)) all;
+        answer_is = subst (λ (x : Asking). CameTo x v.came left' answer) (sym e.asking_is) refl;
+        said = e.holds.1;
+        few = subst (λ (qs : List Question). length qs ≤ 3 * limit) all e.holds.0;
+        listened = e.listened;
+      },
+    )
+
+-- where the other end has closed, or no listen is left
+stops : (unit port limit listens left left' : ℕ) (q : Question) (n : ℕ) (answer : Vacancy) (u v : Told) → n < limit
+    → AskedAt unit port limit listens left q n u → v.sent ≡ u.sent → v.drops ≡ u.drops → heard_of unit v.came ≡ heard_of unit u.came
+    → length v.came + left' ≡ length u.came + left → CameTo (Asks q n) v.came left' answer → IsSaid (heard_of unit v.came) answer
+    → HasAsked unit port limit listens left' v answer
+stops unit port limit listens left left' q n answer u v less a sent drops same listened came said = record {
+  sent_is = sent ∙ a.sent_is ∙ ap (λ (hs : List (Option Heard)). bytes_of unit (commands_heard port limit hs)) (sym same);
+  drops_are = drops ∙ a.drops_are ∙ ap (λ (hs : List (Option Heard)). starts_of unit (commands_heard port limit hs)) (sym same);
+  answer_is = subst (λ (x : Asking). CameTo x v.came left' answer)
+      (sym (ap (λ (hs : List (Option Heard)). asking_from limit hs first_asking) same ∙ a.asking_is)) came;
+  said = said;
+  few = subst (λ (hs : List (Option Heard)). length (asked_from limit hs first_asking ++ asked_now (asking_from limit hs first_asking)) ≤ 3 * limit)
+      (sym same)
+      (subst (λ (x : Asking). length (ended_questions unit limit u.came ++ asked_now x) ≤ 3 * limit) (sym a.asking_is)
+      (rw (length-append (ended_questions unit limit u.came) (q ∷ [])) (within limit q n (length (ended_questions unit limit u.came)) less a.few)));
+  listened = listened ∙ a.listened;
+}
+
+pub asks_closed : (unit port limit listens left left' : ℕ) (q : Question) (n : ℕ) (u : Told) (told' : Option Told) → n < limit
+    → AskedAt unit port limit listens left q n u → IfTold told' (λ v. HearsBurst unit left left' u v burst.Closed)
+    → IfTold told' (λ v. HasAsked unit port limit listens left' v vacancy.Closed)
+asks_closed unit port limit listens left left' q n u told' less a (v, is, b) =
+    (v, is, stops unit port limit listens left left' q n vacancy.Closed u v less a b.sent_stays b.drops_stay b.adds.1 b.listened b.adds.0 tt)
+
+pub asks_spent : (unit port limit listens left left' : ℕ) (q : Question) (n : ℕ) (u : Told) (told' : Option Told) → n < limit
+    → AskedAt unit port limit listens left q n u → IfTold told' (λ v. HearsBurst unit left left' u v burst.Spent)
+    → IfTold told' (λ v. HasAsked unit port limit listens left' v vacancy.Spent)
+asks_spent unit port limit listens left left' q n u told' less a (v, is, b) =
+    (v, is, stops unit port limit listens left left' q n vacancy.Spent u v less a b.sent_stays b.drops_stay b.adds.1 b.listened b.adds.0 tt)

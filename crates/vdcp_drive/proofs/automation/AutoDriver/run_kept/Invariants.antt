@@ -1,0 +1,35 @@
+use Rattle.std.proofs.Common.{List, ◌-◌, ◌≡◌, ◌≤◌, []}
+use Rattle.std.specs.Prelude.{Some}
+use Rattle.vdcp_auto.specs.Course.{course}
+use Rattle.vdcp_auto.specs.Plan.{plan_of}
+use Rattle.vdcp_auto.specs.State.{State}
+use Rattle.vdcp_drive.specs.Driven.{IsReachedFrom, IsNew, inputs_of}
+use Rattle.vdcp_drive.specs.Lines.{AllListened}
+use Rattle.vdcp_drive.specs.declared.keep.Kept.{Kept}
+use Rattle.vdcp_wire.specs.Wires.{Told, IfTold}
+use Rattle.vdcp_drive.proofs.Driving.{RunsAt}
+use Rattle.vdcp_drive.proofs.Keeping.{KeepsAt}
+use Rattle.vdcp_drive.proofs.Watching.{WatchesAt}
+use Rattle.vdcp_drive.proofs.automation.AutoDriver.run_kept.Given as goal
+
+abbrev pub invariant-listens : goal.invariant-listens
+invariant-listens g l =
+    let told = g.W.Wire.told in
+    record {
+      within : l.made ≤ l.listens;
+      works : g.W.Wire.failures l.self.wire ≡ 0;
+      controller : l.self.controller ≡ record l.fn.self.controller { state = l.self.controller.state };
+      unit : l.self.unit ≡ l.fn.self.unit;
+      reached : IsReachedFrom (plan_of g.S.Source.items l.fn.self.controller) l.fn.self.controller.state l.self.controller.state;
+      listened : (t : Told) → told l.fn.self.wire ≡ Some t → IfTold (told l.self.wire) (λ u. AllListened l.made t.came u.came);
+      runs : IsNew told l.fn.self →
+          IfTold (told l.self.wire) (λ u. RunsAt (plan_of g.S.Source.items l.fn.self.controller) l.fn.self.unit u l.self.controller.state l.self.reader
+          l.self.heard × AllListened l.made [] u.came × ((states : List State) → g.V.Watch.watched l.fn.watcher ≡ Some states
+          → WatchesAt (plan_of g.S.Source.items l.fn.self.controller) l.fn.self.unit u.came states (g.V.Watch.watched l.watcher))
+          × ((before : List Kept) → g.K.Keep.kept l.fn.keep ≡ Some before
+          → KeepsAt (plan_of g.S.Source.items l.fn.self.controller) (course (plan_of g.S.Source.items l.fn.self.controller) (inputs_of l.fn.self.unit u.came))
+          l.self.controller.state before (g.K.Keep.kept l.keep)));
+    }
+
+abbrev pub decreases-listens : goal.decreases-listens
+decreases-listens g l = l.listens - l.made

@@ -1,0 +1,107 @@
+//! What is kept of an automation's exchanges, each command before it goes out.
+ghost use Rattle.std.specs.Prelude.{◌≡◌, OnErr, OnOk};
+ghost use Rattle.vdcp_auto.specs.Plan.{plan_of};
+ghost use Rattle.vdcp_auto.specs.Turn as turns;
+ghost use Rattle.vdcp_drive.specs.Keeping.{adds_end_once_ended, adds_given, HasLostGiven};
+
+use crate::line::DriveFault;
+use thiserror::Error;
+use vdcp_auto::{Controller, Heard, Source};
+use vdcp_words::Command;
+
+/// What is kept of an exchange.
+#[derive(Clone, Copy, Debug, PartialEq, Eq)]
+pub enum Kept {
+    /// Its command, before it goes out.
+    Sent(Command),
+    /// What was heard, which ended it.
+    Heard(Heard),
+    /// That nothing came in time, which ended it.
+    Silence,
+}
+
+/// A command isn't kept.
+#[derive(Clone, Copy, Debug, PartialEq, Eq, Error)]
+#[error("the command isn't kept")]
+pub struct KeepFault;
+
+/// Why a driver gives up that has its exchanges kept.
+#[derive(Clone, Copy, Debug, PartialEq, Eq, Error)]
+pub enum KeptFault {
+    /// The wire failed, in this call or an earlier one: the driver sends nothing any more.
+    #[error("the line failed")]
+    Drive(DriveFault),
+    /// The next command couldn't be kept: nothing of it was sent.
+    #[error("the command isn't kept")]
+    Unkept,
+}
+
+/// Keeps the exchanges of an automation, so that they outlast it.
+pub trait Keep {
+    ghost use Rattle.std.specs.Prelude.{◌≡◌, List, Option, None, OnErr, OnOk, ⊤};
+    ghost use Rattle.vdcp_drive.specs.declared.keep.Kept.{Kept};
+    ghost use Rattle.vdcp_drive.specs.Keeping.{adds_command, adds_end, HasLost};
+
+    /// What it keeps, in order, if it tells that.
+    ghost kept: { Self → Option (List Kept) } = { λ _. None };
+
+    /// Whether it can fail.
+    ghost can_fail: { Type 0 } = { ⊤ };
+
+    /// It is given a command before its first byte goes out, and makes it safe, with all that it noted before. Where
+    /// it fails, the command may be missing, and the end of the exchange before it.
+    fn keep_sent(&mut self, command: &Command) -> Result<(), KeepFault>
+        ensures kept { OnOk result (kept self.new ≡ adds_command command.now (kept self.old)) }
+        ensures lost { OnErr result (HasLost command.now (kept self.old) (kept self.new)) }
+        ensures fails { OnErr result can_fail };
+
+    /// It notes what ended an exchange: what was heard, or that nothing came in time. This is safe once the next
+    /// command is.
+    fn note_end(&mut self, heard: Option<Heard>)
+        ensures { kept self.new ≡ adds_end heard (kept self.old) };
+}
+
+/// Keeps nothing.
+#[derive(Drop)]
+pub struct Unkept;
+
+impl Keep for Unkept {
+    ghost can_fail = { ⊥ };
+
+    fn keep_sent(&mut self, _command: &Command) -> Result<(), KeepFault> {
+        Ok(())
+    }
+
+    fn note_end(&mut self, _heard: Option<Heard>) {}
+}
+
+/// Has the command kept that goes out next, if one does.
+pub(crate) fn keep_next<S: Source, K: Keep>(
+    controller: &Controller<S>,
+    keep: &mut K,
+) -> Result<(), KeepFault>
+    ensures kept { OnOk result (K.kept keep.new ≡ adds_given (turns.given (plan_of S.items controller.now)
+        controller.now.state) (K.kept keep.old)) }
+    ensures lost { OnErr result (HasLostGiven (turns.given (plan_of S.items controller.now) controller.now.state)
+        (K.kept keep.old) (K.kept keep.new)) }
+    ensures fails { OnErr result K.can_fail }
+{
+    match controller.to_send() {
+        Some(command) => keep.keep_sent(&command),
+        None => Ok(()),
+    }
+}
+
+/// Has the end of the exchange noted, if it has ended.
+pub(crate) fn note_if_ended<S: Source, K: Keep>(
+    controller: &Controller<S>,
+    heard: Option<Heard>,
+    keep: &mut K,
+)
+    ensures { K.kept keep.new ≡ adds_end_once_ended (turns.is_awaiting controller.now.state.stage) heard
+        (K.kept keep.old) }
+{
+    if !controller.awaiting() {
+        keep.note_end(heard);
+    }
+}

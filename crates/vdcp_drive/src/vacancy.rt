@@ -1,0 +1,182 @@
+ghost use Rattle.std.specs.Prelude.{◌≡◌, ◌≤◌, ◌<◌, IfOk, OnOk, OnErr, Some};
+ghost use Rattle.vdcp_drive.specs.Vacancy.{question_command, vacancy_of, led_on, asking_after, HasAsked, IsPartlyAsked};
+ghost use Rattle.vdcp_drive.specs.Vacancy.{IsBetween, HearsBurst, BreaksBurst, Lowers};
+ghost use Rattle.vdcp_wire.specs.Wires.{IfTold, Told, nothing_told};
+
+use crate::automation::{send_command, take_piece};
+use vdcp_auto::Heard;
+use vdcp_frame::{Reader, laws as bursts};
+use vdcp_wire::{Came, PIECE, Wire, WireFault};
+use vdcp_words::{Command, Reply};
+
+/// What the questions to a port came to.
+#[derive(Clone, Copy, Debug, PartialEq, Eq)]
+pub enum Vacancy {
+    /// It is open and selected, nothing is cued, and nothing plays.
+    Vacant,
+    /// Something is cued, is being cued or plays: its state byte.
+    Occupied(u8),
+    /// OPEN was denied.
+    Denied,
+    /// As many exchanges as the limit, one directly after the other, were unanswered.
+    Unanswered,
+    /// The other end has closed.
+    Closed,
+    /// No listen is left.
+    Spent,
+}
+
+/// What a port is asked.
+#[derive(Clone, Copy, Debug, PartialEq, Eq)]
+enum Question {
+    Open,
+    Select,
+    Status,
+}
+
+/// How far the questions are.
+#[derive(Clone, Copy, Debug, PartialEq, Eq)]
+enum Asking {
+    /// This one is asked, and the last exchanges, as many as this, were unanswered.
+    Asks(Question, u32),
+    /// They came to this.
+    Over(Vacancy),
+}
+
+impl Vacancy {
+    // What a state byte says.
+    fn of_state(state: u8) -> Vacancy
+        ensures { result ≡ vacancy_of state }
+    {
+        match state {
+            0x01 => Vacancy::Vacant,
+            _ => Vacancy::Occupied(state),
+        }
+    }
+}
+
+impl Question {
+    // The command that asks it.
+    fn command(self, port: u8) -> Command
+        ensures { result ≡ question_command port self }
+    {
+        match self {
+            Question::Open => Command::Open(port, 0x01),
+            Question::Select => Command::Select(port),
+            Question::Status => Command::Status(0x01),
+        }
+    }
+
+    // Where this leads, if it answers the question.
+    fn led_on(self, heard: Option<Heard>) -> Option<Asking>
+        ensures { result ≡ led_on self heard }
+    {
+        let Some(Heard::Reply(reply)) = heard else {
+            return None;
+        };
+        match (self, reply) {
+            (Question::Open, Reply::Opened(true)) => Some(Asking::Asks(Question::Select, 0)),
+            (Question::Open, Reply::Opened(false)) => Some(Asking::Over(Vacancy::Denied)),
+            (Question::Select, Reply::Ack) => Some(Asking::Asks(Question::Status, 0)),
+            (Question::Status, Reply::State(_, Some(state))) => {
+                Some(Asking::Over(Vacancy::of_state(state)))
+            }
+            _ => None,
+        }
+    }
+
+    // Where an exchange leads in which this was heard, after some that were unanswered.
+    fn after(self, unanswered: u32, limit: u32, heard: Option<Heard>) -> Asking
+        requires { unanswered < limit }
+        ensures { result ≡ asking_after limit self unanswered heard }
+    {
+        match self.led_on(heard) {
+            Some(next) => next,
+            None if unanswered + 1 < limit => Asking::Asks(self, unanswered + 1),
+            None => Asking::Over(Vacancy::Unanswered),
+        }
+    }
+}
+
+/// Asks the port of this number whether anything is cued or plays: by OPEN, SELECT and STATUS, each an exchange of
+/// its own. For each it drops what waits, sends the command, and listens until the answer's burst has ended, of
+/// which the first message counts. An exchange that isn't answered, or by another message, is made again, up to
+/// `limit` of them, one directly after the other. `left` is how many listens may be made, and is lowered by each.
+///
+/// It never sends PLAY or a cue, and makes at most three times `limit` exchanges. It is meant for a wire that is
+/// used no other way before.
+pub fn ask_port<W: Wire>(
+    unit: u8,
+    port: u8,
+    limit: u32,
+    left: &mut u32,
+    wire: &mut W,
+) -> Result<Vacancy, WireFault>
+    requires unit { unit ≤ 15 }
+    requires some { 1 ≤ limit }
+    requires works { W.failures wire.old ≡ 0 }
+    ensures asks { W.told wire.old ≡ Some nothing_told → IfOk result (λ answer. IfTold (W.told wire.new) (λ u.
+        HasAsked unit port limit left.old left.new u answer)) }
+    ensures breaks { W.told wire.old ≡ Some nothing_told →
+        OnErr result (IfTold (W.told wire.new) (IsPartlyAsked unit port limit)) }
+    ensures works { OnOk result (W.failures wire.new ≡ 0) }
+    ensures failed { OnErr result (W.failures wire.new ≡ 1) }
+{
+    let mut question = Question::Open;
+    let mut unanswered = 0;
+    'asking: loop {
+        wire.drop_waiting()?;
+        send_command(&question.command(port), unit, wire)?;
+        let heard = match hear_burst(unit, left, wire)? {
+            Burst::Ended(heard) => heard,
+            Burst::Closed => return Ok(Vacancy::Closed),
+            Burst::Spent => return Ok(Vacancy::Spent),
+        };
+        match question.after(unanswered, limit, heard) {
+            Asking::Asks(next, count) => {
+                question = next;
+                unanswered = count;
+            }
+            Asking::Over(answer) => return Ok(answer),
+        }
+    }
+}
+
+/// What a burst came to.
+#[derive(Clone, Copy, Debug, PartialEq, Eq)]
+enum Burst {
+    /// A silence ended it, and this is heard of it.
+    Ended(Option<Heard>),
+    /// The other end has closed.
+    Closed,
+    /// No listen is left.
+    Spent,
+}
+
+// Listens until a burst has ended.
+fn hear_burst<W: Wire>(unit: u8, left: &mut u32, wire: &mut W) -> Result<Burst, WireFault>
+    requires { W.failures wire.old ≡ 0 }
+    ensures hears { (t : Told) → W.told wire.old ≡ Some t → IsBetween t.came → IfOk result (λ burst.
+        IfTold (W.told wire.new) (λ u. HearsBurst unit left.old left.new t u burst)) }
+    ensures breaks { (t : Told) → W.told wire.old ≡ Some t → IsBetween t.came →
+        OnErr result (IfTold (W.told wire.new) (BreaksBurst unit t)) }
+    ensures lowers { IfOk result (λ burst. Lowers burst left.old left.new) }
+    ensures works { OnOk result (W.failures wire.new ≡ 0) }
+    ensures failed { OnErr result (W.failures wire.new ≡ 1) }
+{
+    bursts::one_reading();
+    bursts::what_is_followed_is_read();
+    bursts::what_is_fed_is_followed();
+    let mut reader = Reader::new();
+    let mut heard = None;
+    let mut buffer = [0; PIECE];
+    'burst: while *left > 0 {
+        *left -= 1;
+        match wire.listen(&mut buffer)? {
+            Came::Bytes(n) => take_piece(unit, &mut reader, &mut heard, &buffer[..n]),
+            Came::Silence => return Ok(Burst::Ended(heard)),
+            Came::Closed => return Ok(Burst::Closed),
+        }
+    }
+    Ok(Burst::Spent)
+}

@@ -1,0 +1,292 @@
+ghost use Rattle.csv.specs.Records.{fields_of};
+ghost use Rattle.std.specs.Prelude.{Bool, List, ◌≡◌, ◌≢◌, ◌≤◌, ◌<◌, ◌^◌, ◌∷◌, ◌↔◌, [], ℕ, IfErr, IfOk, IfSome, IfNone, IsTrue, Some, codes, decimal, length, slice_get, take};
+ghost use Rattle.vdcp_journal.specs.Journals.{AreLinesOf, IsFaultOfWord, IsHeading, IsHeadingFault, IsJournal, IsJournalFault, IsLinesFault, IsRow, IsRowFault};
+ghost use Rattle.vdcp_journal.specs.Reading.{IsWritableNote, whole_lines};
+ghost use Rattle.vdcp_journal.specs.Rows.{mode_text, note_fields};
+ghost use Rattle.vdcp_journal.specs.Rows.{Fields};
+ghost use Rattle.vdcp_list.specs.Reading.{IsReadFault};
+ghost use Rattle.vdcp_list.specs.Rows.{HasRows};
+
+use crate::faults::{JournalReadFault, JournalRowFault};
+use crate::fields::fields_of;
+use crate::moment::Moment;
+use crate::row::{Heading, Note, Row};
+use crate::texts::{digest_in, note_in, number_in};
+use csv::ByteRecord;
+use std::alloc::Global;
+use std::io::Read;
+use vdcp_list::laws::rows_are_read_in_order;
+use vdcp_list::{ListFault, next_row, rows_in};
+
+/// What was read of a journal.
+#[derive(Debug, Drop)]
+pub struct Journal {
+    /// When it was begun.
+    pub time: Moment,
+    /// What it is of.
+    pub heading: Heading,
+    /// Its rows, the heading apart.
+    pub rows: Vec<Row>,
+    /// How many bytes its whole lines are. What follows them is a torn row, or nothing.
+    pub whole: usize,
+}
+
+/// Whether these are a note's fields.
+fn is_written(unit: u8, note: &Note, word: &[u8], text: &[u8], detail: &[u8]) -> bool
+    requires { unit ≤ 15 }
+    ensures { IsTrue result ↔ (note_fields unit note.now ≡ word.now ∷ text.now ∷ detail.now ∷ []) }
+{
+    let fields = fields_of(unit, note);
+    fields.word.as_bytes() == word
+        && fields.text.as_bytes() == text
+        && fields.detail.as_bytes() == detail
+}
+
+/// What is wrong with a row of this word that isn't a note's.
+fn fault_of(word: &[u8]) -> JournalRowFault
+    ensures { IsFaultOfWord word.now result }
+{
+    match word {
+        b"sent" => JournalRowFault::Command,
+        b"heard" => JournalRowFault::Reply,
+        b"end" => JournalRowFault::Outcome,
+        b"silence" | b"take" | b"stop" => JournalRowFault::Detail,
+        _ => JournalRowFault::Word,
+    }
+}
+
+/// The row whose fields these four are.
+fn row_of(
+    unit: u8,
+    time: &[u8],
+    word: &[u8],
+    text: &[u8],
+    detail: &[u8],
+) -> Result<Row, JournalRowFault>
+    requires { unit ≤ 15 }
+    ensures row { IfOk result (IsRow unit (time.now ∷ word.now ∷ text.now ∷ detail.now ∷ [])) }
+    ensures fault { IfErr result (IsRowFault unit (time.now ∷ word.now ∷ text.now ∷ detail.now ∷ [])) }
+{
+    let Some(time) = Moment::parse(time) else {
+        return Err(JournalRowFault::Time);
+    };
+    let Some(note) = note_in(unit, word, text, detail) else {
+        return Err(fault_of(word));
+    };
+    if !is_written(unit, &note, word, text, detail) {
+        return Err(fault_of(word));
+    }
+    Ok(Row { time, note })
+}
+
+/// The number that a field names, up to a greatest one.
+fn number_up_to(text: &[u8], most: usize) -> Option<usize>
+    ensures some { IfSome result (λ number. (decimal number ≡ text.now) × (number ≤ most)) }
+    ensures none { IfNone result ((number : ℕ) → number ≤ most → decimal number ≢ text.now) }
+{
+    let Some(number) = number_in(text) else {
+        return None;
+    };
+    if number > most {
+        return None;
+    }
+    Some(number)
+}
+
+/// The mode that a field names.
+fn is_confirming(text: &[u8]) -> Option<bool>
+    ensures some { IfSome result (λ confirming. mode_text confirming ≡ text.now) }
+    ensures none { IfNone result ((confirming : Bool) → mode_text confirming ≢ text.now) }
+{
+    match text {
+        b"plain" => Some(false),
+        b"confirm" => Some(true),
+        _ => None,
+    }
+}
+
+/// The heading whose fields these seven are, and its time.
+fn heading_of(
+    time: &[u8],
+    word: &[u8],
+    digest: &[u8],
+    mode: &[u8],
+    unit: &[u8],
+    port: &[u8],
+    limit: &[u8],
+) -> Result<(Moment, Heading), JournalRowFault>
+    ensures heading { IfOk result (λ read. IsHeading
+        (time.now ∷ word.now ∷ digest.now ∷ mode.now ∷ unit.now ∷ port.now ∷ limit.now ∷ []) read.0 read.1) }
+    ensures fault { IfErr result (IsHeadingFault
+        (time.now ∷ word.now ∷ digest.now ∷ mode.now ∷ unit.now ∷ port.now ∷ limit.now ∷ [])) }
+{
+    let Some(time) = Moment::parse(time) else {
+        return Err(JournalRowFault::Time);
+    };
+    if word != b"list".as_slice() {
+        return Err(JournalRowFault::Word);
+    }
+    let Some(digest) = digest_in(digest) else {
+        return Err(JournalRowFault::Digest);
+    };
+    let Some(confirming) = is_confirming(mode) else {
+        return Err(JournalRowFault::Mode);
+    };
+    let Some(unit) = number_up_to(unit, 15) else {
+        return Err(JournalRowFault::Number);
+    };
+    let Some(port) = number_up_to(port, 255) else {
+        return Err(JournalRowFault::Number);
+    };
+    let Some(limit) = number_up_to(limit, 0xFFFF_FFFF) else {
+        return Err(JournalRowFault::Number);
+    };
+    let heading = Heading {
+        digest,
+        confirming,
+        unit: unit as u8,
+        port: port as u8,
+        limit: limit as u32,
+    };
+    Ok((time, heading))
+}
+
+/// The field at a place of a row.
+fn field_at(row: &ByteRecord, place: usize) -> &[u8]
+    requires { place < length (fields_of row.now) }
+    ensures { slice_get (fields_of row.now) place ≡ Some result.now }
+{
+    row.get(place).unwrap()
+}
+
+/// The heading that a row is, and its time.
+fn heading_in(row: &ByteRecord) -> Result<(Moment, Heading), JournalRowFault>
+    ensures heading { IfOk result (λ read. IsHeading (fields_of row.now) read.0 read.1) }
+    ensures fault { IfErr result (IsHeadingFault (fields_of row.now)) }
+{
+    if row.len() != 7 {
+        return Err(JournalRowFault::Fields);
+    }
+    heading_of(
+        field_at(row, 0),
+        field_at(row, 1),
+        field_at(row, 2),
+        field_at(row, 3),
+        field_at(row, 4),
+        field_at(row, 5),
+        field_at(row, 6),
+    )
+}
+
+/// The row of a journal that a row of a file is.
+fn row_in(row: &ByteRecord, unit: u8) -> Result<Row, JournalRowFault>
+    requires { unit ≤ 15 }
+    ensures row { IfOk result (IsRow unit (fields_of row.now)) }
+    ensures fault { IfErr result (IsRowFault unit (fields_of row.now)) }
+{
+    if row.len() != 4 {
+        return Err(JournalRowFault::Fields);
+    }
+    row_of(
+        unit,
+        field_at(row, 0),
+        field_at(row, 1),
+        field_at(row, 2),
+        field_at(row, 3),
+    )
+}
+
+fn fault_in(fault: ListFault) -> JournalReadFault
+    requires { IsReadFault fault }
+    ensures { (lines : List Fields) → IsLinesFault lines result }
+{
+    if fault == ListFault::Memory {
+        JournalReadFault::Memory
+    } else {
+        JournalReadFault::Device
+    }
+}
+
+/// Heading and rows, and when the journal was begun.
+#[derive(Drop)]
+struct Lines {
+    time: Moment,
+    heading: Heading,
+    rows: Vec<Row>,
+}
+
+/// Reads whole lines.
+fn read_lines<R: Read + Drop>(alloc: Global, reader: R) -> Result<Lines, JournalReadFault>
+    ensures lines { IfOk result (λ read. HasRows (R.remaining reader) (λ lines. AreLinesOf lines read.time read.heading read.rows.items)) }
+    ensures fault { IfErr result (λ fault. HasRows (R.remaining reader) (λ lines. IsLinesFault lines fault)) }
+{
+    rows_are_read_in_order();
+    let mut lines = rows_in(alloc, reader);
+    let mut line = ByteRecord::new(alloc);
+    match next_row(&mut lines, &mut line) {
+        Ok(true) => {}
+        Ok(false) => return Err(JournalReadFault::Empty),
+        Err(fault) => return Err(fault_in(fault)),
+    }
+    let (time, heading) = match heading_in(&line) {
+        Ok(read) => read,
+        Err(fault) => return Err(JournalReadFault::Heading(fault)),
+    };
+    let mut rows = Vec::new(alloc);
+    for read in 0..usize::MAX - 1 {
+        match next_row(&mut lines, &mut line) {
+            Ok(true) => {}
+            Ok(false) => {
+                return Ok(Lines {
+                    time,
+                    heading,
+                    rows,
+                });
+            }
+            Err(fault) => return Err(fault_in(fault)),
+        }
+        let row = match row_in(&line, heading.unit) {
+            Ok(row) => row,
+            Err(fault) => return Err(JournalReadFault::Row(read + 2, fault)),
+        };
+        if rows.push(row).is_err() {
+            return Err(JournalReadFault::Memory);
+        }
+    }
+    Err(JournalReadFault::Device)
+}
+
+/// How many bytes the whole lines at the beginning of a text are.
+fn whole_size(text: &[u8]) -> usize
+    ensures within { result ≤ length text.now }
+    ensures whole { take result text.now ≡ whole_lines text.now }
+{
+    for torn in 0..text.len() {
+        if text[text.len() - 1 - torn] == b'\n' {
+            return text.len() - torn;
+        }
+    }
+    0
+}
+
+/// Reads a journal from its bytes: the whole lines, as CSV. What follows the last line feed is a row that was
+/// torn when its writer was killed, and is left out.
+///
+/// The first line that isn't the row of a journal of one server is refused, with what is wrong.
+pub fn read_journal(alloc: Global, bytes: &[u8]) -> Result<Journal, JournalReadFault>
+    ensures journal { IfOk result (IsJournal bytes.now) }
+    ensures refused { IfErr result (IsJournalFault bytes.now) }
+{
+    let whole = whole_size(bytes);
+    let Lines {
+        time,
+        heading,
+        rows,
+    } = read_lines(alloc, &bytes[..whole])?;
+    Ok(Journal {
+        time,
+        heading,
+        rows,
+        whole,
+    })
+}

@@ -1,0 +1,134 @@
+-- Where the port is open and where it is selected, in each phase of the controller, in both modes.
+use Rattle.std.proofs.Common.{◌≡◌, ℕ, Bool, true, false, List, length, Some, refl, sym, subst, arith}
+use Rattle.std.specs.Prelude.{slice_get}
+use Rattle.vdcp_value.specs.declared.clip_id.ClipId.{ClipId}
+use Rattle.vdcp_value.specs.declared.part.Item.{Item}
+use Rattle.vdcp_value.specs.declared.timecode.Timecode.{Timecode}
+use Rattle.vdcp_words.specs.declared.reply.Reply.{Reply}
+use Rattle.vdcp_words.specs.declared.reply.Reply.TheVariants as reply
+use Rattle.vdcp_port.specs.Port.{PortState, ready_state, ended_state, is_open, is_selected}
+use Rattle.vdcp_auto.specs.Commands.{is_state}
+use Rattle.vdcp_auto.specs.Replies.{is_ack, is_granted, is_refusal}
+use Rattle.vdcp_auto.specs.Table.{command_in, on_reply, on_refusal}
+use Rattle.vdcp_auto.specs.Turn.{phase_to_send, stage_after, on_unanswered}
+use Rattle.vdcp_auto.specs.declared.phase.Mode.{Mode}
+use Rattle.vdcp_auto.specs.declared.phase.Mode.TheVariants.{Plain, Confirming}
+use Rattle.vdcp_auto.specs.declared.phase.Phase.{Phase}
+use Rattle.vdcp_auto.specs.declared.phase.Phase.TheVariants as phase
+use Rattle.vdcp_auto.specs.State.{Stage}
+use Rattle.vdcp_auto.specs.State.{Ready, Awaiting, Ended}
+use Rattle.vdcp_world.specs.Channel.{Channel, IsReached, new_channel}
+use Rattle.vdcp_world.proofs.Below.{Below}
+use Rattle.vdcp_world.proofs.Claims.{Closed, claim_events}
+use Rattle.vdcp_world.proofs.HeadlineProof.{kept_new}
+use Rattle.vdcp_world.proofs.PhaseTable.{is_asked, port_after, answer_after}
+use Rattle.vdcp_world.proofs.Readings.{firm_cue_at, firm_request}
+
+abbrev pub Opened : PortState → Phase → Type 0
+Opened p phase.Open = Unit {0}
+Opened p phase.Select = is_open p ≡ true
+Opened p phase.Seen = is_open p ≡ true
+Opened p (phase.Exists k) = is_selected p ≡ true
+Opened p (phase.Cue k) = is_selected p ≡ true
+Opened p (phase.Wait k) = is_selected p ≡ true
+Opened p (phase.Play k) = is_selected p ≡ true
+Opened p (phase.Probe k) = is_selected p ≡ true
+Opened p (phase.Check k) = is_selected p ≡ true
+Opened p phase.Drain = is_selected p ≡ true
+Opened p phase.Close = Unit {0}
+Opened p phase.Halt = Unit {0}
+Opened p phase.HaltClose = Unit {0}
+
+abbrev pub OpenedAt : PortState → Stage → Type 0
+OpenedAt p (Ready q) = Opened p q
+OpenedAt p (Awaiting q) = Opened p q
+OpenedAt p (Ended outcome) = Unit {0}
+
+abbrev TellsOpened : PortState → Phase → Reply → Type 0
+TellsOpened p phase.Open r = is_granted r ≡ true → is_open p ≡ true
+TellsOpened p phase.Select r = is_ack r ≡ true → is_selected p ≡ true
+TellsOpened p phase.Seen r = is_state r ≡ true → is_selected p ≡ true
+TellsOpened p _ r = Unit {0}
+
+naks_opened : (p : PortState) (q : Phase) (byte : ℕ) → is_refusal (reply.Nak byte) ≡ false
+    → TellsOpened p q (reply.Nak byte)
+naks_opened p q byte e = grind arith
+
+reads_opened : (list : List Item) (clips : List (ClipId × Timecode)) (p : PortState) (port : ℕ) (q : Phase)
+    → p.number ≡ port
+    → Opened p q → Opened (port_after clips p (command_in list port q)) q
+reads_opened list clips p port phase.Open n h = tt
+reads_opened list clips p port phase.Select n h = grind arith
+reads_opened list clips p port phase.Seen n h = grind arith
+reads_opened list clips p port (phase.Exists k) n h = firm_request clips p (slice_get list k) h
+reads_opened list clips p port (phase.Cue k) n h = firm_cue_at clips p (slice_get list k) h
+reads_opened list clips p port (phase.Wait k) n h = grind arith
+reads_opened list clips p port (phase.Play k) n h = grind arith
+reads_opened list clips p port (phase.Probe k) n h = grind arith
+reads_opened list clips p port (phase.Check k) n h = grind arith
+reads_opened list clips p port phase.Drain n h = grind arith
+reads_opened list clips p port phase.Close n h = tt
+reads_opened list clips p port phase.Halt n h = tt
+reads_opened list clips p port phase.HaltClose n h = tt
+
+reads_tell_opened : (list : List Item) (clips : List (ClipId × Timecode)) (p : PortState) (port : ℕ) (q : Phase)
+    (r : Reply) → p.number ≡ port
+    → answer_after clips p (command_in list port q) ≡ Some r → TellsOpened (port_after clips p (command_in list port q))
+    q r
+reads_tell_opened list clips p port phase.Open r n a = grind arith
+reads_tell_opened list clips p port phase.Select r n a = grind arith
+reads_tell_opened list clips p port phase.Seen r n a = grind arith
+reads_tell_opened list clips p port _ r n a = tt
+
+refused_opened : (n : ℕ) (p : PortState) (q : Phase) → OpenedAt p (stage_after (on_refusal n q))
+refused_opened n p q = grind arith
+
+replied_opened : (mode : Mode) (list : List Item) (limit tries : ℕ) (take : Bool) (p : PortState) (q : Phase)
+    (r : Reply) → is_asked q r ≡ true
+    → TellsOpened p q r → Opened p q → OpenedAt p (stage_after (on_reply mode list limit take tries q r))
+replied_opened Plain list limit tries take p q r e t h = grind arith
+replied_opened Confirming list limit tries take p q r e t h = grind arith
+
+silent_opened : (mode : Mode) (limit unanswered : ℕ) (counts : Bool) (p : PortState) (q : Phase) → Opened p q
+    → OpenedAt p (stage_after (on_unanswered mode limit unanswered counts q))
+silent_opened Plain limit unanswered counts p q h = grind arith
+silent_opened Confirming limit unanswered counts p q h = grind arith
+
+sends_opened : (stop : Bool) (p : PortState) (q : Phase) → Opened p q → Opened p (phase_to_send stop q)
+sends_opened true p q h = tt
+sends_opened false p q h = h
+
+-- neither a cue nor a clip opens or closes the port
+same_opened : (p now : PortState) (stage : Stage) → p.access ≡ now.access → OpenedAt p stage → OpenedAt now stage
+same_opened p now stage e h = grind arith
+
+same_tells : (p now : PortState) (q : Phase) (r : Reply) → p.access ≡ now.access → TellsOpened p q r
+    → TellsOpened now q r
+same_tells p now q r e t = grind arith
+
+closed_opened : (mode : Mode) (list : List Item) (port limit : ℕ) (clips : List (ClipId × Timecode))
+    → Closed mode list port limit clips (λ take p aired stage. OpenedAt p stage) TellsOpened
+closed_opened mode list port limit clips = record {
+  naks = naks_opened;
+  ready = λ take p aired stage h. same_opened p (ready_state p) stage refl h;
+  ready_tells = λ p q r t. same_tells p (ready_state p) q r refl t;
+  ended = λ take p aired stage h. same_opened p (ended_state p) stage refl h;
+  ended_tells = λ p q r t. same_tells p (ended_state p) q r refl t;
+  sends = λ take stop p aired q h. sends_opened stop p q h;
+  reads = λ take p aired settled q n place h. reads_opened list clips p port q n h;
+  reads_tell = λ take p aired settled q r n place h a. reads_tell_opened list clips p port q r n a;
+  refused = λ take p aired q r plain e t h. refused_opened (length list) p q;
+  replied = λ take p aired tries q r asked receipt t h. replied_opened mode list limit tries take p q r asked t h;
+  silent = λ take p aired unanswered counts q h. silent_opened mode limit unanswered counts p q h;
+}
+
+pub reached_opened : Below → (c : Channel) → IsReached c → OpenedAt c.port.state c.state.stage
+reached_opened below c r =
+    subst (λ (x : Channel). OpenedAt x.port.state x.state.stage) (sym r.led)
+    (claim_events below (λ take p aired stage. OpenedAt p stage) TellsOpened new r.events
+    (closed_opened r.plan.mode r.plan.list r.plan.port r.plan.limit r.clips)
+    (kept_new r.plan r.clips r.unit r.cue_frames r.unit_fits r.port_fits r.of_bytes) (λ some take p aired stage h. h)
+    (record { stands = tt; told = tt })).stands
+  where
+    new : Channel
+    new = new_channel r.plan r.clips r.unit r.cue_frames
