@@ -67,7 +67,8 @@ one_more : (came : List Arrival) (a : Arrival) (total left left' : ℕ) → leng
     → length (came ++ a ∷ []) + left' ≡ total
 one_more came a total left left' h less = omega (arith, h, less, length-append came (a ∷ []))
 
-pub hears_bytes : (read : Read) (unit total left left' : ℕ) (t u : Told) (reader : Progress) (heard : Option Heard) (piece : List ℕ)
+pub hears_bytes : (read : Read) (unit total left left' : ℕ) (t u : Told) (reader : Progress) (heard : Option Heard)
+    (piece : List ℕ)
     (reader' : Progress) (heard' : Option Heard) (told told' : Option Told)
     → told ≡ Some u → HearsAt unit total left t u reader heard → left' + 1 ≡ left → AreOctets piece
     → HasHeard unit reader heard piece reader' heard' → told' ≡ adds_came (bytes piece) told
@@ -79,7 +80,8 @@ hears_bytes read unit total left left' t u reader heard piece reader' heard' tol
     let opened : open_burst came' ≡ begun ++ piece = open_bytes [] u.came piece h.no_close in
     let all : AreOctets (begun ++ piece) = All-append (λ b. b < 256) begun piece h.bytes_fit fits in
     let f : Follows (begun ++ piece) (mo ++ e.messages) reader' = e.follows begun mo h.follows in
-    let same : mo ++ e.messages ≡ messages_of (begun ++ piece) = read.messages (begun ++ piece) (mo ++ e.messages) reader' all f in (
+    let same : mo ++ e.messages ≡ messages_of (begun ++ piece) =
+    read.messages (begun ++ piece) (mo ++ e.messages) reader' all f in (
       record { sent = u.sent; came = came'; drops = u.drops },
       tells_more u (bytes piece) told told' is h.no_close more,
       record {
@@ -88,17 +90,21 @@ hears_bytes read unit total left left' t u reader heard piece reader' heard' tol
         no_close = closed_bytes u.came piece ∙ h.no_close;
         ended_are = ended_bytes [] u.came piece h.no_close ∙ h.ended_are;
         bytes_fit = subst AreOctets (sym opened) all;
-        follows = subst (λ (b : List ℕ). Follows b (messages_of b) reader') (sym opened) (subst (λ (l : List Content). Follows (begun ++ piece) l
+        follows = subst (λ (b : List ℕ). Follows b (messages_of b) reader') (sym opened)
+            (subst (λ (l : List Content). Follows (begun ++ piece) l
             reader') same f);
-        hears = e.hears ∙ ap (λ (x : Option Heard). heard_by_then unit x e.messages) h.hears ∙ heard_more unit mo e.messages
+        hears = e.hears ∙ ap (λ (x : Option Heard). heard_by_then unit x e.messages) h.hears
+            ∙ heard_more unit mo e.messages
             ∙ ap (heard_first unit) same
             ∙ ap (λ (b : List ℕ). heard_first unit (messages_of b)) (sym opened);
         listened = one_more u.came (bytes piece) total left left' h.listened less;
       },
     )
 
-pub hears_silence : (unit listens left left' : ℕ) (t u : Told) (reader : Progress) (heard : Option Heard) (told told' : Option Told)
-    → told ≡ Some u → HearsAt unit (length t.came + listens) left t u reader heard → left' + 1 ≡ left → told' ≡ adds_came silence told
+pub hears_silence : (unit listens left left' : ℕ) (t u : Told) (reader : Progress) (heard : Option Heard)
+    (told told' : Option Told)
+    → told ≡ Some u → HearsAt unit (length t.came + listens) left t u reader heard → left' + 1 ≡ left
+    → told' ≡ adds_came silence told
     → IfTold told' (λ v. HearsBurst unit listens left' t v (burst.Ended heard))
 hears_silence unit listens left left' t u reader heard told told' is h less more = (
   record { sent = u.sent; came = u.came ++ silence ∷ []; drops = u.drops },
@@ -116,8 +122,10 @@ hears_silence unit listens left left' t u reader heard told told' is h less more
   },
 )
 
-pub hears_close : (unit listens left left' : ℕ) (t u : Told) (reader : Progress) (heard : Option Heard) (told told' : Option Told)
-    → told ≡ Some u → HearsAt unit (length t.came + listens) left t u reader heard → left' + 1 ≡ left → told' ≡ adds_came close told
+pub hears_close : (unit listens left left' : ℕ) (t u : Told) (reader : Progress) (heard : Option Heard)
+    (told told' : Option Told)
+    → told ≡ Some u → HearsAt unit (length t.came + listens) left t u reader heard → left' + 1 ≡ left
+    → told' ≡ adds_came close told
     → IfTold told' (λ v. HearsBurst unit listens left' t v burst.Closed)
 hears_close unit listens left left' t u reader heard told told' is h less more = (
   record { sent = u.sent; came = u.came ++ close ∷ []; drops = u.drops },
@@ -144,7 +152,8 @@ hears_spent unit listens left t u reader heard told is h none = (
   },
 )
 
-pub breaks_burst : (unit total left : ℕ) (t u : Told) (reader : Progress) (heard : Option Heard) (told told' : Option Told)
+pub breaks_burst : (unit total left : ℕ) (t u : Told) (reader : Progress) (heard : Option Heard)
+    (told told' : Option Told)
     → told ≡ Some u → HearsAt unit total left t u reader heard → told' ≡ told
     → IfTold told' (BreaksBurst unit t)
 breaks_burst unit total left t u reader heard told told' is h same =
@@ -164,7 +173,8 @@ asked_push : (limit : ℕ) (hs : List (Option Heard)) (h : Option Heard) (asking
 asked_push limit [] h (Over v) = refl
 asked_push limit [] h (Asks q n) = refl
 asked_push limit (x ∷ hs) h (Over v) = refl
-asked_push limit (x ∷ hs) h (Asks q n) = ap (λ (l : List Question). q ∷ l) (asked_push limit hs h (asking_after limit q n x))
+asked_push limit (x ∷ hs) h (Asks q n) =
+    ap (λ (l : List Question). q ∷ l) (asked_push limit hs h (asking_after limit q n x))
 
 -- how many exchanges there were at most before a question
 abbrev room : ℕ → Question → ℕ
@@ -204,7 +214,8 @@ IsLed question.Select h (Asks q n) = (h ≡ acked) × (q ≡ question.Status) ×
 IsLed question.Status h (Asks q n) = ⊥
 IsLed question.Open h (Over v) = v ≡ vacancy.Denied
 IsLed question.Select h (Over v) = ⊥
-IsLed question.Status h (Over v) = (groups : ℕ) × (state : ℕ) × (h ≡ Some (heard.Reply (reply.State groups (Some state)))) × (v ≡ vacancy_of state)
+IsLed question.Status h (Over v) =
+    (groups : ℕ) × (state : ℕ) × (h ≡ Some (heard.Reply (reply.State groups (Some state)))) × (v ≡ vacancy_of state)
 
 of_some : (a b : Asking) → Some a ≡ Some b → a ≡ b
 of_some a b e = cc
@@ -223,7 +234,8 @@ led_reply question.Open (reply.State g s) next e = cc
 led_reply question.Open (reply.Active id) next e = cc
 led_reply question.Open (reply.Present p) next e = cc
 led_reply question.Open (reply.Size s) next e = cc
-led_reply question.Select reply.Ack next e = subst (IsLed question.Select acked) (of_some (Asks question.Status 0) next e) (refl, refl, refl)
+led_reply question.Select reply.Ack next e =
+    subst (IsLed question.Select acked) (of_some (Asks question.Status 0) next e) (refl, refl, refl)
 led_reply question.Select (reply.Opened given) next e = cc
 led_reply question.Select (reply.Nak b) next e = cc
 led_reply question.Select (reply.State g s) next e = cc
@@ -231,7 +243,8 @@ led_reply question.Select (reply.Active id) next e = cc
 led_reply question.Select (reply.Present p) next e = cc
 led_reply question.Select (reply.Size s) next e = cc
 led_reply question.Status (reply.State g (Some s)) next e =
-    subst (IsLed question.Status (Some (heard.Reply (reply.State g (Some s))))) (of_some (Over (vacancy_of s)) next e) (g, s, refl, refl)
+    subst (IsLed question.Status (Some (heard.Reply (reply.State g (Some s))))) (of_some (Over (vacancy_of s)) next e)
+    (g, s, refl, refl)
 led_reply question.Status (reply.State g None) next e = cc
 led_reply question.Status reply.Ack next e = cc
 led_reply question.Status (reply.Opened given) next e = cc
@@ -271,8 +284,11 @@ led_so : (limit : ℕ) (q : Question) (n count : ℕ) (hs : List (Option Heard))
     → IsLed q h next → n < limit → count ≤ room limit q + n → Passed q hs
     → HoldsOn limit (hs ++ h ∷ []) (count + 1) next
 led_so limit question.Open n count hs h (Asks q m) (heard_is, q_is, m_is) less few passed =
-    subst (λ (q' : Question). HoldsOn limit (hs ++ h ∷ []) (count + 1) (Asks q' m)) (sym q_is)
-    (omega (arith, m_is, less), omega (arith, m_is, less, few), (hs, [], ap (λ (x : Option Heard). hs ++ x ∷ []) heard_is))
+    subst (λ (q' : Question). HoldsOn limit (hs ++ h ∷ []) (count + 1) (Asks q' m)) (sym q_is) (
+      omega (arith, m_is, less),
+      omega (arith, m_is, less, few),
+      (hs, [], ap (λ (x : Option Heard). hs ++ x ∷ []) heard_is),
+    )
 led_so limit question.Select n count hs h (Asks q m) (heard_is, q_is, m_is) less few (a, b, e) =
     subst (λ (q' : Question). HoldsOn limit (hs ++ h ∷ []) (count + 1) (Asks q' m)) (sym q_is) (
       omega (arith, m_is, less),
@@ -281,12 +297,14 @@ led_so limit question.Select n count hs h (Asks q m) (heard_is, q_is, m_is) less
         a,
         b,
         [],
-        ap₂ (λ (l : List (Option Heard)) (x : Option Heard). l ++ x ∷ []) e heard_is ∙ append_assoc a (granted ∷ b) (acked ∷ []),
+        ap₂ (λ (l : List (Option Heard)) (x : Option Heard). l ++ x ∷ []) e heard_is
+            ∙ append_assoc a (granted ∷ b) (acked ∷ []),
       ),
     )
 led_so limit question.Status n count hs h (Asks q m) led less few passed = absurd led
 led_so limit question.Open n count hs h (Over v) led less few passed =
-    subst (λ (v' : Vacancy). HoldsOn limit (hs ++ h ∷ []) (count + 1) (Over v')) (sym led) (within limit question.Open n count less few, tt)
+    subst (λ (v' : Vacancy). HoldsOn limit (hs ++ h ∷ []) (count + 1) (Over v')) (sym led)
+    (within limit question.Open n count less few, tt)
 led_so limit question.Select n count hs h (Over v) led less few passed = absurd led
 led_so limit question.Status n count hs h (Over v) (groups, state, heard_is, v_is) less few (a, b, c, e) =
     let said : HasSaid (hs ++ h ∷ []) state = record {
@@ -296,7 +314,8 @@ led_so limit question.Status n count hs h (Over v) (groups, state, heard_is, v_i
       groups = groups;
       parts = ap₂ (λ (l : List (Option Heard)) (x : Option Heard). l ++ x ∷ []) e heard_is
           ∙ append_assoc a (granted ∷ (b ++ acked ∷ c)) (Some (heard.Reply (reply.State groups (Some state))) ∷ [])
-          ∙ ap (λ (l : List (Option Heard)). a ++ granted ∷ l) (append_assoc b (acked ∷ c) (Some (heard.Reply (reply.State groups (Some state))) ∷ []));
+          ∙ ap (λ (l : List (Option Heard)). a ++ granted ∷ l)
+          (append_assoc b (acked ∷ c) (Some (heard.Reply (reply.State groups (Some state))) ∷ []));
     } in
     subst (λ (v' : Vacancy). HoldsOn limit (hs ++ h ∷ []) (count + 1) (Over v')) (sym v_is)
     (within limit question.Status n count less few, said_so (nat_eq state 1) state (hs ++ h ∷ []) refl said)
@@ -304,8 +323,10 @@ led_so limit question.Status n count hs h (Over v) (groups, state, heard_is, v_i
 holds_by : (limit : ℕ) (q : Question) (n count : ℕ) (hs : List (Option Heard)) (h : Option Heard) (o : Option Asking)
     → led_on q h ≡ o → n < limit → count ≤ room limit q + n → Passed q hs
     → HoldsOn limit (hs ++ h ∷ []) (count + 1) (unless_led limit q n o)
-holds_by limit q n count hs h None is less few passed = missed_by (nat_lt (n + 1) limit) limit q n count hs h refl less few passed
-holds_by limit q n count hs h (Some next) is less few passed = led_so limit q n count hs h next (led_heard q h next is) less few passed
+holds_by limit q n count hs h None is less few passed =
+    missed_by (nat_lt (n + 1) limit) limit q n count hs h refl less few passed
+holds_by limit q n count hs h (Some next) is less few passed =
+    led_so limit q n count hs h next (led_heard q h next is) less few passed
 
 -- some exchanges that come before a question
 passes : (q : Question) → (hs : List (Option Heard)) × Passed q hs
@@ -313,7 +334,8 @@ passes question.Open = ([], tt)
 passes question.Select = (granted ∷ [], ([], [], refl))
 passes question.Status = (granted ∷ acked ∷ [], ([], [], [], refl))
 
-pub stays_under : (limit : ℕ) (q q' : Question) (n n' : ℕ) (h : Option Heard) → asking_after limit q n h ≡ Asks q' n' → n < limit → n' < limit
+pub stays_under : (limit : ℕ) (q q' : Question) (n n' : ℕ) (h : Option Heard) → asking_after limit q n h ≡ Asks q' n'
+    → n < limit → n' < limit
 stays_under limit q q' n n' h is less =
     let p = passes q in
     let held = holds_by limit q n 0 p.0 h (led_on q h) refl less (omega arith) p.1 in
@@ -380,8 +402,10 @@ asked_so unit port limit listens left q n u told told₁ told₂ is h drops send
       sends ∙ ap (adds_sent (command_bytes unit c)) (drops ∙ ap adds_drop is),
       record {
         asking_is = h.asking_is;
-        sent_is = ap (λ (l : List ℕ). l ++ command_bytes unit c) h.sent_is ∙ sym (bytes_push unit before c) ∙ ap (bytes_of unit) (sym more);
-        drops_are = ap₂ (λ (l : List ℕ) (m : ℕ). l ++ m ∷ []) h.drops_are (ap length h.sent_is) ∙ sym (starts_of_push unit before c)
+        sent_is = ap (λ (l : List ℕ). l ++ command_bytes unit c) h.sent_is ∙ sym (bytes_push unit before c)
+            ∙ ap (bytes_of unit) (sym more);
+        drops_are = ap₂ (λ (l : List ℕ) (m : ℕ). l ++ m ∷ []) h.drops_are (ap length h.sent_is)
+            ∙ sym (starts_of_push unit before c)
             ∙ ap (starts_of unit) (sym more);
         between = h.between;
         listened = h.listened;
@@ -448,7 +472,8 @@ record AfterBurst (unit port limit listens left : ℕ) (next : Asking) (v : Told
   pub listened : length v.came + left ≡ listens
   pub holds : HoldsOn limit (heard_of unit v.came) (length (ended_questions unit limit v.came)) next
 
-after_burst : (unit port limit listens left left' : ℕ) (q : Question) (n : ℕ) (h : Option Heard) (u v : Told) → n < limit
+after_burst : (unit port limit listens left left' : ℕ) (q : Question) (n : ℕ) (h : Option Heard) (u v : Told)
+    → n < limit
     → AskedAt unit port limit listens left q n u → HearsBurst unit left left' u v (burst.Ended h)
     → AfterBurst unit port limit listens left' (asking_after limit q n h) v
 after_burst unit port limit listens left left' q n h u v less a b =
@@ -458,20 +483,28 @@ after_burst unit port limit listens left left' q n h u v less a b =
     ap (λ (l : List (Option Heard)). asked_from limit l first_asking) heard_is ∙ asked_push limit hs h first_asking in
     let counted : length (ended_questions unit limit u.came) + 1 ≡ length (ended_questions unit limit v.came) =
     sym (length-append (ended_questions unit limit u.came) (q ∷ []))
-    ∙ ap (λ (x : Asking). length (ended_questions unit limit u.came ++ asked_now x)) (sym a.asking_is) ∙ ap length (sym asked_is) in
-    let held = holds_by limit q n (length (ended_questions unit limit u.came)) hs h (led_on q h) refl less a.few a.passed in record {
-      asking_is = ap (λ (l : List (Option Heard)). asking_from limit l first_asking) heard_is ∙ asking_push limit hs h first_asking
+    ∙ ap (λ (x : Asking). length (ended_questions unit limit u.came ++ asked_now x)) (sym a.asking_is)
+    ∙ ap length (sym asked_is) in
+    let held = holds_by limit q n (length (ended_questions unit limit u.came)) hs h (led_on q h) refl less a.few
+    a.passed in record {
+      asking_is = ap (λ (l : List (Option Heard)). asking_from limit l first_asking) heard_is
+          ∙ asking_push limit hs h first_asking
           ∙ ap (asking_from limit (h ∷ [])) a.asking_is;
-      sent_is = b.sent_stays ∙ a.sent_is ∙ ap (λ (qs : List Question). bytes_of unit (map (question_command port) qs)) (sym asked_is);
-      drops_are = b.drops_stay ∙ a.drops_are ∙ ap (λ (qs : List Question). starts_of unit (map (question_command port) qs)) (sym asked_is);
+      sent_is = b.sent_stays ∙ a.sent_is ∙ ap (λ (qs : List Question). bytes_of unit (map (question_command port) qs))
+          (sym asked_is);
+      drops_are = b.drops_stay ∙ a.drops_are ∙ ap (λ (qs : List Question). starts_of unit
+          (map (question_command port) qs)) (sym asked_is);
       between = b.adds.0;
       listened = b.listened ∙ a.listened;
-      holds = subst (λ (l : List (Option Heard)). HoldsOn limit l (length (ended_questions unit limit v.came)) (asking_after limit q n h)) (sym heard_is)
+      holds = subst (λ (l : List (Option Heard)). HoldsOn limit l (length (ended_questions unit limit v.came))
+          (asking_after limit q n h)) (sym heard_is)
           (subst (λ (m : ℕ). HoldsOn limit (hs ++ h ∷ []) m (asking_after limit q n h)) counted held);
     }
 
-pub asks_on : (unit port limit listens left left' : ℕ) (q q' : Question) (n n' : ℕ) (h : Option Heard) (u : Told) (told' : Option Told)
-    → n < limit → AskedAt unit port limit listens left q n u → IfTold told' (λ v. HearsBurst unit left left' u v (burst.Ended h))
+pub asks_on : (unit port limit listens left left' : ℕ) (q q' : Question) (n n' : ℕ) (h : Option Heard) (u : Told)
+    (told' : Option Told)
+    → n < limit → AskedAt unit port limit listens left q n u
+    → IfTold told' (λ v. HearsBurst unit left left' u v (burst.Ended h))
     → asking_after limit q n h ≡ Asks q' n' → IfTold told' (AsksAt unit port limit listens left' q' n')
 asks_on unit port limit listens left left' q q' n n' h u told' less a (v, is, b) next =
     let e = subst (λ (x : Asking). AfterBurst unit port limit listens left' x v) next
@@ -489,8 +522,10 @@ asks_on unit port limit listens left left' q q' n n' h u told' less a (v, is, b)
       },
     )
 
-pub asks_out : (unit port limit listens left left' : ℕ) (q : Question) (n : ℕ) (h : Option Heard) (answer : Vacancy) (u : Told) (told' : Option Told)
-    → n < limit → AskedAt unit port limit listens left q n u → IfTold told' (λ v. HearsBurst unit left left' u v (burst.Ended h))
+pub asks_out : (unit port limit listens left left' : ℕ) (q : Question) (n : ℕ) (h : Option Heard) (answer : Vacancy)
+    (u : Told) (told' : Option Told)
+    → n < limit → AskedAt unit port limit listens left q n u
+    → IfTold told' (λ v. HearsBurst unit left left' u v (burst.Ended h))
     → asking_after limit q n h ≡ Over answer → IfTold told' (λ v. HasAsked unit port limit listens left' v answer)
 asks_out unit port limit listens left left' q n h answer u told' less a (v, is, b) next =
     let e = subst (λ (x : Asking). AfterBurst unit port limit listens left' x v) next
@@ -512,30 +547,46 @@ asks_out unit port limit listens left left' q n h answer u told' less a (v, is, 
 
 -- where the other end has closed, or no listen is left
 stops : (unit port limit listens left left' : ℕ) (q : Question) (n : ℕ) (answer : Vacancy) (u v : Told) → n < limit
-    → AskedAt unit port limit listens left q n u → v.sent ≡ u.sent → v.drops ≡ u.drops → heard_of unit v.came ≡ heard_of unit u.came
-    → length v.came + left' ≡ length u.came + left → CameTo (Asks q n) v.came left' answer → IsSaid (heard_of unit v.came) answer
+    → AskedAt unit port limit listens left q n u → v.sent ≡ u.sent → v.drops ≡ u.drops
+    → heard_of unit v.came ≡ heard_of unit u.came
+    → length v.came + left' ≡ length u.came + left → CameTo (Asks q n) v.came left' answer
+    → IsSaid (heard_of unit v.came) answer
     → HasAsked unit port limit listens left' v answer
 stops unit port limit listens left left' q n answer u v less a sent drops same listened came said = record {
-  sent_is = sent ∙ a.sent_is ∙ ap (λ (hs : List (Option Heard)). bytes_of unit (commands_heard port limit hs)) (sym same);
-  drops_are = drops ∙ a.drops_are ∙ ap (λ (hs : List (Option Heard)). starts_of unit (commands_heard port limit hs)) (sym same);
+  sent_is = sent ∙ a.sent_is ∙ ap (λ (hs : List (Option Heard)). bytes_of unit (commands_heard port limit hs))
+      (sym same);
+  drops_are = drops ∙ a.drops_are ∙ ap (λ (hs : List (Option Heard)). starts_of unit (commands_heard port limit hs))
+      (sym same);
   answer_is = subst (λ (x : Asking). CameTo x v.came left' answer)
       (sym (ap (λ (hs : List (Option Heard)). asking_from limit hs first_asking) same ∙ a.asking_is)) came;
   said = said;
-  few = subst (λ (hs : List (Option Heard)). length (asked_from limit hs first_asking ++ asked_now (asking_from limit hs first_asking)) ≤ 3 * limit)
+  few = subst (λ (hs : List (Option Heard)). length
+      (asked_from limit hs first_asking ++ asked_now (asking_from limit hs first_asking)) ≤ 3 * limit)
       (sym same)
       (subst (λ (x : Asking). length (ended_questions unit limit u.came ++ asked_now x) ≤ 3 * limit) (sym a.asking_is)
-      (rw (length-append (ended_questions unit limit u.came) (q ∷ [])) (within limit q n (length (ended_questions unit limit u.came)) less a.few)));
+      (rw (length-append (ended_questions unit limit u.came) (q ∷ []))
+      (within limit q n (length (ended_questions unit limit u.came)) less a.few)));
   listened = listened ∙ a.listened;
 }
 
-pub asks_closed : (unit port limit listens left left' : ℕ) (q : Question) (n : ℕ) (u : Told) (told' : Option Told) → n < limit
+pub asks_closed : (unit port limit listens left left' : ℕ) (q : Question) (n : ℕ) (u : Told) (told' : Option Told)
+    → n < limit
     → AskedAt unit port limit listens left q n u → IfTold told' (λ v. HearsBurst unit left left' u v burst.Closed)
     → IfTold told' (λ v. HasAsked unit port limit listens left' v vacancy.Closed)
-asks_closed unit port limit listens left left' q n u told' less a (v, is, b) =
-    (v, is, stops unit port limit listens left left' q n vacancy.Closed u v less a b.sent_stays b.drops_stay b.adds.1 b.listened b.adds.0 tt)
+asks_closed unit port limit listens left left' q n u told' less a (v, is, b) = (
+  v,
+  is,
+  stops unit port limit listens left left' q n vacancy.Closed u v less a b.sent_stays b.drops_stay b.adds.1
+      b.listened b.adds.0 tt,
+)
 
-pub asks_spent : (unit port limit listens left left' : ℕ) (q : Question) (n : ℕ) (u : Told) (told' : Option Told) → n < limit
+pub asks_spent : (unit port limit listens left left' : ℕ) (q : Question) (n : ℕ) (u : Told) (told' : Option Told)
+    → n < limit
     → AskedAt unit port limit listens left q n u → IfTold told' (λ v. HearsBurst unit left left' u v burst.Spent)
     → IfTold told' (λ v. HasAsked unit port limit listens left' v vacancy.Spent)
-asks_spent unit port limit listens left left' q n u told' less a (v, is, b) =
-    (v, is, stops unit port limit listens left left' q n vacancy.Spent u v less a b.sent_stays b.drops_stay b.adds.1 b.listened b.adds.0 tt)
+asks_spent unit port limit listens left left' q n u told' less a (v, is, b) = (
+  v,
+  is,
+  stops unit port limit listens left left' q n vacancy.Spent u v less a b.sent_stays b.drops_stay b.adds.1
+      b.listened b.adds.0 tt,
+)

@@ -41,11 +41,13 @@ front_unfinished xs ys u = record {
     more = ys ++ u.begins.more;
     spelt = subst (Spells u.begins.message) (append_assoc xs ys u.begins.more) u.begins.spelt;
   };
-  no_front = λ m front rest s is. u.no_front m front (rest ++ ys) s (ap (λ (l : List ℕ). l ++ ys) is ∙ append_assoc front rest ys);
+  no_front = λ m front rest s is. u.no_front m front (rest ++ ys) s
+      (ap (λ (l : List ℕ). l ++ ys) is ∙ append_assoc front rest ys);
 }
 
 unfinished_octets : (law : Spelt) (xs : List ℕ) → IsUnfinished xs → AreOctets xs
-unfinished_octets law xs u = octets_front xs u.begins.more (law.octets u.begins.message (xs ++ u.begins.more) u.begins.spelt)
+unfinished_octets law xs u =
+    octets_front xs u.begins.more (law.octets u.begins.message (xs ++ u.begins.more) u.begins.spelt)
 
 unfinished_size : (law : Spelt) (xs : List ℕ) → IsUnfinished xs → length xs ≤ 258
 unfinished_size law xs u =
@@ -62,11 +64,17 @@ follows_held law held u = record {
   limit = omega (arith, unfinished_size law held u);
 }
 
-reads_as : (law : Spelt) (xs : List ℕ) → IsUnfinished xs → (end : End) × (Reads xs [] end) × (held_with xs [] end ≡ holds xs)
+reads_as : (law : Spelt) (xs : List ℕ) → IsUnfinished xs
+    → (end : End) × (Reads xs [] end) × (held_with xs [] end ≡ holds xs)
 reads_as law [] u = (clean, law.read [] [] (reading 0 []) (follows_held law [] u), refl)
-reads_as law (x ∷ xs) u = (cut (length (x ∷ xs)), law.read (x ∷ xs) [] (reading (length (x ∷ xs)) (x ∷ xs)) (follows_held law (x ∷ xs) u), refl)
+reads_as law (x ∷ xs) u = (
+  cut (length (x ∷ xs)),
+  law.read (x ∷ xs) [] (reading (length (x ∷ xs)) (x ∷ xs)) (follows_held law (x ∷ xs) u),
+  refl,
+)
 
-reads_unfinished : (law : Spelt) (xs : List ℕ) → IsUnfinished xs → (messages_of xs ≡ []) × (held_with xs (messages_of xs) (end_of xs) ≡ holds xs)
+reads_unfinished : (law : Spelt) (xs : List ℕ) → IsUnfinished xs
+    → (messages_of xs ≡ []) × (held_with xs (messages_of xs) (end_of xs) ≡ holds xs)
 reads_unfinished law xs u =
     let r = reads_as law xs u in
     let same = law.computed xs [] r.0 (unfinished_octets law xs u) r.1 in
@@ -74,11 +82,13 @@ reads_unfinished law xs u =
 
 -- Bytes one after another.
 
-pub completed_both : (at : Held) (xs ys : List ℕ) → completed at (xs ++ ys) ≡ completed at xs ++ completed (held_after at xs) ys
+pub completed_both : (at : Held) (xs ys : List ℕ) → completed at (xs ++ ys)
+    ≡ completed at xs ++ completed (held_after at xs) ys
 completed_both at [] ys = refl
 completed_both at (x ∷ xs) ys =
     ap (λ (l : List Content). completed_by at x ++ l) (completed_both (held_after_byte at x) xs ys)
-    ∙ sym (append_assoc (completed_by at x) (completed (held_after_byte at x) xs) (completed (held_after (held_after_byte at x) xs) ys))
+    ∙ sym (append_assoc (completed_by at x) (completed (held_after_byte at x) xs)
+    (completed (held_after (held_after_byte at x) xs) ys))
 
 pub held_both : (at : Held) (xs ys : List ℕ) → held_after at (xs ++ ys) ≡ held_after (held_after at xs) ys
 held_both at [] ys = refl
@@ -145,7 +155,8 @@ spelling_unfinished : (law : Spelt) (m : Content) (xs : List ℕ) (x : ℕ) → 
 spelling_unfinished law m xs x s = record {
   begins = record { message = m; more = x ∷ []; spelt = s };
   no_front = λ n front rest t is.
-      let e = law.no_other n m front (xs ++ x ∷ []) (rest ++ x ∷ []) t s (ap (λ (l : List ℕ). l ++ x ∷ []) is ∙ append_assoc front rest (x ∷ [])) in
+      let e = law.no_other n m front (xs ++ x ∷ []) (rest ++ x ∷ []) t s
+      (ap (λ (l : List ℕ). l ++ x ∷ []) is ∙ append_assoc front rest (x ∷ [])) in
       absurd (omega (arith, ap (length {A = ℕ}) e.1, length-append rest (x ∷ [])));
 }
 
@@ -154,7 +165,8 @@ pub completes : (law : Spelt) (held xs : List ℕ) (m : Content) → 0 < length 
     → (completed (holds held) xs ≡ m ∷ []) × (held_after (holds held) xs ≡ holds [])
 completes law held xs m some s =
     let l = has_last xs some in
-    let d = decided law held xs l (spelling_unfinished law m (held ++ l.before) l.last (subst (Spells m) (parts_of held xs l) s)) in
+    let d = decided law held xs l (spelling_unfinished law m (held ++ l.before) l.last
+    (subst (Spells m) (parts_of held xs l) s)) in
     let o = law.only m (held ++ xs) s in
     let is : messages_of (held ++ xs) ≡ m ∷ [] = ap messages_of o.1 ∙ law.alone m o.0 in
     (d.gives ∙ is, d.leaves ∙ ap (λ (ms : List Content). held_with (held ++ xs) ms (end_of (held ++ xs))) is)
@@ -165,26 +177,32 @@ pub completes_none : (law : Spelt) (held xs : List ℕ) → IsUnfinished (held +
 completes_none law held xs u = let h = are_held law held xs u in (h.none, h.all)
 
 -- the last of them shows a fault
-wrong_unfinished : (xs : List ℕ) (x : ℕ) (which : Fault) (n : ℕ) → n ≡ length (xs ++ x ∷ []) → IsWrong (xs ++ x ∷ []) which n → IsUnfinished xs
+wrong_unfinished : (xs : List ℕ) (x : ℕ) (which : Fault) (n : ℕ) → n ≡ length (xs ++ x ∷ [])
+    → IsWrong (xs ++ x ∷ []) which n → IsUnfinished xs
 wrong_unfinished xs x which n is w = record {
-  begins = subst Begins (take-append_seam xs (x ∷ [])) (w.first.shorter (length xs) (omega (arith, is, length-append xs (x ∷ []))));
-  no_front = λ m front rest s parts. w.no_front m front (rest ++ x ∷ []) s (ap (λ (l : List ℕ). l ++ x ∷ []) parts ∙ append_assoc front rest (x ∷ []));
+  begins = subst Begins (take-append_seam xs (x ∷ []))
+      (w.first.shorter (length xs) (omega (arith, is, length-append xs (x ∷ []))));
+  no_front = λ m front rest s parts. w.no_front m front (rest ++ x ∷ []) s
+      (ap (λ (l : List ℕ). l ++ x ∷ []) parts ∙ append_assoc front rest (x ∷ []));
 }
 
-pub completes_fault : (law : Spelt) (held xs : List ℕ) (which : Fault) (place : ℕ) → 0 < length xs → AreOctets (held ++ xs)
+pub completes_fault : (law : Spelt) (held xs : List ℕ) (which : Fault) (place : ℕ) → 0 < length xs
+    → AreOctets (held ++ xs)
     → IsWrong (held ++ xs) which (length (held ++ xs)) → Reads (held ++ xs) [] (fault which place)
     → (completed (holds held) xs ≡ []) × (held_after (holds held) xs ≡ skips)
 completes_fault law held xs which place some fits w r =
     let l = has_last xs some in
     let p = parts_of held xs l in
-    let v : IsUnfinished (held ++ l.before) = wrong_unfinished (held ++ l.before) l.last which (length (held ++ xs)) (ap (length {A = ℕ}) p)
+    let v : IsUnfinished (held ++ l.before) =
+    wrong_unfinished (held ++ l.before) l.last which (length (held ++ xs)) (ap (length {A = ℕ}) p)
     (subst (λ (b : List ℕ). IsWrong b which (length (held ++ xs))) p w) in
     let d = decided law held xs l v in
     let same = law.computed (held ++ xs) [] (fault which place) fits r in
     (d.gives ∙ sym same.0, d.leaves ∙ ap₂ (held_with (held ++ xs)) (sym same.0) (sym same.1))
 
 -- no burst is too long
-pub never_long : (law : Spelt) (taken n : ℕ) (held piece : List ℕ) → taken ≡ length held → TakesLong taken held piece n → ⊥
+pub never_long : (law : Spelt) (taken n : ℕ) (held piece : List ℕ) → taken ≡ length held → TakesLong taken held piece n
+    → ⊥
 never_long law taken n held piece is t =
     omega (
       arith,
@@ -204,17 +222,21 @@ completes_nothing (x ∷ xs) = completes_nothing xs
 
 -- What is read, by what the reader gave for these bytes.
 
-pub read_none : (unit : ℕ) (reader reader' : Option Progress) (xs : List ℕ) → reader ≡ None → reader' ≡ None → HasRead unit reader xs reader' None
+pub read_none : (unit : ℕ) (reader reader' : Option Progress) (xs : List ℕ) → reader ≡ None → reader' ≡ None
+    → HasRead unit reader xs reader' None
 read_none unit reader reader' xs is then_is = subst (λ (r : Option Progress). HasRead unit r xs reader' None) (sym is)
     (subst (λ (r : Option Progress). HasRead unit None xs r None) (sym then_is) (record {
       hears = ap (map (heard_as unit)) (completes_nothing xs).0;
       holds_then = sym (completes_nothing xs).1;
     }))
 
-pub read_message : (law : Spelt) (unit : ℕ) (p : Progress) (piece : List ℕ) (n : ℕ) (m : Content) (h : Heard) → IsReader (Some p)
-    → Gives p piece n (message m) → h ≡ heard_as unit m → HasRead unit (Some p) (take n piece) (Some (reading 0 [])) (Some h)
+pub read_message : (law : Spelt) (unit : ℕ) (p : Progress) (piece : List ℕ) (n : ℕ) (m : Content) (h : Heard)
+    → IsReader (Some p)
+    → Gives p piece n (message m) → h ≡ heard_as unit m
+    → HasRead unit (Some p) (take n piece) (Some (reading 0 [])) (Some h)
 read_message law unit (reading taken held) piece n m h begun t is =
-    let c = completes law held (take n piece) m (omega (arith, t.some, length-take-le n piece t.within)) t.spelt in record {
+    let c = completes law held (take n piece) m (omega (arith, t.some, length-take-le n piece t.within)) t.spelt
+    in record {
       hears = ap (map (heard_as unit)) c.0 ∙ ap (λ (x : Heard). x ∷ []) (sym is);
       holds_then = sym c.1;
     }
@@ -227,26 +249,35 @@ read_more law unit (reading taken held) piece n begun t =
     record { hears = ap (map (heard_as unit)) c.0; holds_then = sym c.1 }
 read_more law unit failed piece n begun t = absurd begun
 
-wrong_so : (law : Spelt) (unit : ℕ) (taken : ℕ) (held piece : List ℕ) (n : ℕ) (which : Fault) (place : ℕ) → IsUnfinished held → AreOctets piece
+wrong_so : (law : Spelt) (unit : ℕ) (taken : ℕ) (held piece : List ℕ) (n : ℕ) (which : Fault) (place : ℕ)
+    → IsUnfinished held → AreOctets piece
     → TakesWrong taken held piece n which → Reads (held ++ take n piece) [] (fault which place)
     → HasRead unit (Some (reading taken held)) (take n piece) None None
 wrong_so law unit taken held piece n which place u fits t r =
     let all : AreOctets (held ++ take n piece) =
-    All-append (λ b. b < 256) held (take n piece) (unfinished_octets law held u) (All-take (λ b. b < 256) n piece fits) in
-    let c = completes_fault law held (take n piece) which place (omega (arith, t.some, length-take-le n piece t.within)) all t.first r in
+    All-append (λ b. b < 256) held (take n piece) (unfinished_octets law held u) (All-take (λ b. b < 256) n piece fits)
+    in
+    let c = completes_fault law held (take n piece) which place (omega (arith, t.some, length-take-le n piece t.within))
+    all t.first r in
     record { hears = ap (map (heard_as unit)) c.0; holds_then = sym c.1 }
 
-wrong_by : (law : Spelt) (unit : ℕ) (taken : ℕ) (held piece : List ℕ) (n : ℕ) (which : Fault) (place : ℕ) → taken ≡ length held → IsUnfinished held
+wrong_by : (law : Spelt) (unit : ℕ) (taken : ℕ) (held piece : List ℕ) (n : ℕ) (which : Fault) (place : ℕ)
+    → taken ≡ length held → IsUnfinished held
     → AreOctets piece → TakesFault taken held piece n which → Reads (held ++ take n piece) [] (fault which place)
     → HasRead unit (Some (reading taken held)) (take n piece) None None
-wrong_by law unit taken held piece n BadStart place is u fits t r = wrong_so law unit taken held piece n BadStart place u fits t r
-wrong_by law unit taken held piece n (BadCount count) place is u fits t r = wrong_so law unit taken held piece n (BadCount count) place u fits t r
-wrong_by law unit taken held piece n BadSum place is u fits t r = wrong_so law unit taken held piece n BadSum place u fits t r
+wrong_by law unit taken held piece n BadStart place is u fits t r =
+    wrong_so law unit taken held piece n BadStart place u fits t r
+wrong_by law unit taken held piece n (BadCount count) place is u fits t r =
+    wrong_so law unit taken held piece n (BadCount count) place u fits t r
+wrong_by law unit taken held piece n BadSum place is u fits t r =
+    wrong_so law unit taken held piece n BadSum place u fits t r
 wrong_by law unit taken held piece n Long place is u fits t r = absurd (never_long law taken n held piece is t)
 
-pub read_wrong : (law : Spelt) (unit : ℕ) (p : Progress) (piece : List ℕ) (n : ℕ) (which : Fault) (place : ℕ) (then_is : Progress) → IsReader (Some p)
+pub read_wrong : (law : Spelt) (unit : ℕ) (p : Progress) (piece : List ℕ) (n : ℕ) (which : Fault) (place : ℕ)
+    (then_is : Progress) → IsReader (Some p)
     → AreOctets piece → Gives p piece n (wrong which place)
-    → ((burst : List ℕ) (ms : List Content) → Follows burst ms p → FollowsNext (burst ++ take n piece) ms (wrong which place) then_is)
+    → ((burst : List ℕ) (ms : List Content) → Follows burst ms p
+    → FollowsNext (burst ++ take n piece) ms (wrong which place) then_is)
     → HasRead unit (Some p) (take n piece) None None
 read_wrong law unit (reading taken held) piece n which place then_is begun fits t follows =
     let f : Follows held [] (reading taken held) =
@@ -256,16 +287,21 @@ read_wrong law unit (reading taken held) piece n which place then_is begun fits 
     (subst (λ (b : List ℕ). Reads b [] (fault which place)) (append-nil (held ++ take n piece)) r)
 read_wrong law unit failed piece n which place then_is begun fits t follows = absurd begun
 
-pub begun_more : (p : Progress) (piece : List ℕ) (n : ℕ) → IsReader (Some p) → Gives p piece n more → IsReader (Some (fed p piece n more))
-begun_more (reading taken held) piece n begun t =
-    (omega (arith, begun.0, t.all, length-append held (take n piece), length-take-le n piece (omega (arith, t.all))), t.unfinished)
+pub begun_more : (p : Progress) (piece : List ℕ) (n : ℕ) → IsReader (Some p) → Gives p piece n more
+    → IsReader (Some (fed p piece n more))
+begun_more (reading taken held) piece n begun t = (
+  omega (arith, begun.0, t.all, length-append held (take n piece), length-take-le n piece (omega (arith, t.all))),
+  t.unfinished,
+)
 begun_more failed piece n begun t = absurd begun
 
 -- whole messages, and then a beginning of one
 
 pub completes_all : (law : Spelt) (ms : List Content) (xs rest : List ℕ) → SpellsAll ms xs → IsUnfinished rest
     → (completed (holds []) (xs ++ rest) ≡ ms) × (held_after (holds []) (xs ++ rest) ≡ holds rest)
-completes_all law [] xs rest s u = subst (λ (l : List ℕ). (completed (holds []) (l ++ rest) ≡ []) × (held_after (holds []) (l ++ rest) ≡ holds rest)) (sym s)
+completes_all law [] xs rest s u =
+    subst (λ (l : List ℕ). (completed (holds []) (l ++ rest) ≡ []) × (held_after (holds []) (l ++ rest) ≡ holds rest))
+    (sym s)
     (completes_none law [] rest u)
 completes_all law (m ∷ ms) xs rest s u =
     let first : List ℕ = s.0 in
@@ -274,6 +310,8 @@ completes_all law (m ∷ ms) xs rest s u =
     let r = completes_all law ms s.1 rest s.3 u in
     let parts : xs ++ rest ≡ first ++ after = ap (λ (l : List ℕ). l ++ rest) s.4 ∙ append_assoc first s.1 rest in (
       ap (completed (holds [])) parts ∙ completed_both (holds []) first after
-          ∙ ap₂ (λ (l : List Content) (at : Held). l ++ completed at after) c.0 c.1 ∙ ap (λ (l : List Content). m ∷ l) r.0,
-      ap (held_after (holds [])) parts ∙ held_both (holds []) first after ∙ ap (λ (at : Held). held_after at after) c.1 ∙ r.1,
+          ∙ ap₂ (λ (l : List Content) (at : Held). l ++ completed at after) c.0 c.1
+          ∙ ap (λ (l : List Content). m ∷ l) r.0,
+      ap (held_after (holds [])) parts ∙ held_both (holds []) first after ∙ ap (λ (at : Held). held_after at after) c.1
+          ∙ r.1,
     )

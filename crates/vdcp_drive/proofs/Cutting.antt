@@ -34,7 +34,8 @@ ended_silence s (bytes b ∷ came) h = ended_silence (s ++ b) came h
 ended_silence s (silence ∷ came) h = ap (λ (l : List (List ℕ)). s ∷ l) (ended_silence [] came h)
 ended_silence s (close ∷ came) h = cc
 
-pub open_silence : (s : List ℕ) (came : List Arrival) → has_closed came ≡ false → open_behind s (came ++ silence ∷ []) ≡ []
+pub open_silence : (s : List ℕ) (came : List Arrival) → has_closed came ≡ false
+    → open_behind s (came ++ silence ∷ []) ≡ []
 open_silence s [] h = refl
 open_silence s (bytes b ∷ came) h = open_silence (s ++ b) came h
 open_silence s (silence ∷ came) h = open_silence [] came h
@@ -92,7 +93,8 @@ pub data Counts (came : List Arrival) (a : Arrival) : Type 0 where
   counted : has_closed came ≡ false → came_with came a ≡ came ++ a ∷ [] → Counts came a
   behind : has_closed came ≡ true → a ≡ close → came_with came a ≡ came → Counts came a
 
-counts_by : (b : Bool) (came : List Arrival) (a : Arrival) → has_closed came ≡ b → (IsTrue (has_closed came) → a ≡ close) → Counts came a
+counts_by : (b : Bool) (came : List Arrival) (a : Arrival) → has_closed came ≡ b
+    → (IsTrue (has_closed came) → a ≡ close) → Counts came a
 counts_by false came a is may = counted is (rw is refl)
 counts_by true came a is may = behind is (may is) (rw is refl)
 

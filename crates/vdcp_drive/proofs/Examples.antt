@@ -34,7 +34,8 @@ abbrev port : ClockedPort
 port = new_port [] 0 1 1
 
 -- OPEN; SELECT in two pieces; STATUS; the close
-opening_is_served : served port (bytes open_bytes ∷ silence ∷ bytes (0x02 ∷ 0x03 ∷ 0x20 ∷ []) ∷ bytes (0x22 ∷ 0x01 ∷ 0xBD ∷ []) ∷ silence
+opening_is_served : served port (bytes open_bytes ∷ silence ∷ bytes (0x02 ∷ 0x03 ∷ 0x20 ∷ []) ∷ bytes
+    (0x22 ∷ 0x01 ∷ 0xBD ∷ []) ∷ silence
     ∷ bytes status_bytes ∷ silence ∷ close ∷ []) ≡ granted_bytes ++ 0x04 ∷ idle_bytes
 opening_is_served = refl
 
@@ -49,13 +50,15 @@ ended_burst_is_answered : served (after_bursts port (open_bytes ∷ select_bytes
 ended_burst_is_answered = refl
 
 -- the bursts of what came
-bursts_are_cut_at_silences : ended_bursts (bytes (1 ∷ []) ∷ bytes (2 ∷ []) ∷ silence ∷ silence ∷ bytes (3 ∷ []) ∷ []) ≡ (1 ∷ 2 ∷ []) ∷ [] ∷ []
+bursts_are_cut_at_silences : ended_bursts (bytes (1 ∷ []) ∷ bytes (2 ∷ []) ∷ silence ∷ silence ∷ bytes (3 ∷ []) ∷ [])
+    ≡ (1 ∷ 2 ∷ []) ∷ [] ∷ []
 bursts_are_cut_at_silences = refl
 
 last_burst_is_open : open_burst (bytes (1 ∷ []) ∷ silence ∷ bytes (2 ∷ []) ∷ bytes (3 ∷ []) ∷ []) ≡ 2 ∷ 3 ∷ []
 last_burst_is_open = refl
 
-close_finishes_a_burst : finished_bursts (bytes (1 ∷ []) ∷ silence ∷ bytes (2 ∷ []) ∷ close ∷ []) ≡ (1 ∷ []) ∷ (2 ∷ []) ∷ []
+close_finishes_a_burst : finished_bursts (bytes (1 ∷ []) ∷ silence ∷ bytes (2 ∷ []) ∷ close ∷ [])
+    ≡ (1 ∷ []) ∷ (2 ∷ []) ∷ []
 close_finishes_a_burst = refl
 
 -- the plan of an empty playlist for port 1, with limit 3
@@ -64,24 +67,29 @@ plan mode = record { mode = mode; list = []; port = 1; limit = 3 }
 
 -- an answer and a silence for each command
 abbrev answers : List Arrival
-answers = bytes granted_bytes ∷ silence ∷ bytes (0x04 ∷ []) ∷ silence ∷ bytes idle_bytes ∷ silence ∷ bytes (0x04 ∷ []) ∷ silence ∷ []
+answers = bytes granted_bytes ∷ silence ∷ bytes (0x04 ∷ []) ∷ silence ∷ bytes idle_bytes ∷ silence ∷ bytes (0x04 ∷ [])
+    ∷ silence ∷ []
 
 empty_playlist_is_played : bytes_of 0 (commands_by (plan Plain) 0 answers (state_after (plan Plain) 0 answers))
     ≡ open_bytes ++ select_bytes ++ status_bytes ++ close_bytes
 empty_playlist_is_played = refl
 
-each_command_has_a_drop : starts_of 0 (commands_by (plan Plain) 0 answers (state_after (plan Plain) 0 answers)) ≡ 0 ∷ 7 ∷ 13 ∷ 19 ∷ []
+each_command_has_a_drop : starts_of 0 (commands_by (plan Plain) 0 answers (state_after (plan Plain) 0 answers))
+    ≡ 0 ∷ 7 ∷ 13 ∷ 19 ∷ []
 each_command_has_a_drop = refl
 
 -- in confirm mode the three answers after SELECT end nothing, and SELECT is still awaited
-receipts_confirm_nothing : bytes_of 0 (commands_by (plan Confirming) 0 answers (state_after (plan Confirming) 0 answers)) ≡ open_bytes ++ select_bytes
+receipts_confirm_nothing : bytes_of 0 (commands_by (plan Confirming) 0 answers
+    (state_after (plan Confirming) 0 answers)) ≡ open_bytes ++ select_bytes
 receipts_confirm_nothing = refl
 
 -- the commands that only a receipt answers end at a silence
 abbrev confirmed : List Arrival
-confirmed = bytes granted_bytes ∷ silence ∷ silence ∷ bytes idle_bytes ∷ silence ∷ bytes idle_bytes ∷ silence ∷ silence ∷ []
+confirmed = bytes granted_bytes ∷ silence ∷ silence ∷ bytes idle_bytes ∷ silence ∷ bytes idle_bytes ∷ silence ∷ silence
+    ∷ []
 
-empty_playlist_is_confirmed : bytes_of 0 (commands_by (plan Confirming) 0 confirmed (state_after (plan Confirming) 0 confirmed))
+empty_playlist_is_confirmed : bytes_of 0 (commands_by (plan Confirming) 0 confirmed
+    (state_after (plan Confirming) 0 confirmed))
     ≡ open_bytes ++ select_bytes ++ status_bytes ++ status_bytes ++ close_bytes
 empty_playlist_is_confirmed = refl
 

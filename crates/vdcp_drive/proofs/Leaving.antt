@@ -21,17 +21,20 @@ use Rattle.vdcp_drive.proofs.Standing.{at_start}
 use Rattle.vdcp_wire.specs.Wires.{IfTold, Told, nothing_told}
 
 -- a run whose wire failed
-pub run_failed : {S W : Type 0} (items : S → List Item) (told : W → Option Told) (failures : W → ℕ) (listens : ℕ) (old new : Driving S W)
+pub run_failed : {S W : Type 0} (items : S → List Item) (told : W → Option Told) (failures : W → ℕ) (listens : ℕ)
+    (old new : Driving S W)
     (answer : Result Ran DriveFault)
     → IsErr answer → failures old.wire ≡ 0 → failures new.wire ≡ 1
-    → (IsNew told old → IfTold (told new.wire) (λ u. HasRunBroken (plan_of items old.controller) old.unit u new.controller.state))
+    → (IsNew told old → IfTold (told new.wire) (λ u. HasRunBroken (plan_of items old.controller) old.unit u
+    new.controller.state))
     → IsReachedFrom (plan_of items old.controller) old.controller.state new.controller.state
     → new.controller ≡ record old.controller { state = new.controller.state } → new.unit ≡ old.unit
     → RunLeaves items told failures listens old new answer
 run_failed items told failures listens old new (Ok a) is works fails broken reached same united = absurd cc
 run_failed items told failures listens old new (Err fault) is works fails broken reached same united = record {
   run = λ _. tt;
-  broken = λ begun _. with_front (plan_of items old.controller) old.unit new.controller.state (told new.wire) (broken begun);
+  broken = λ begun _. with_front (plan_of items old.controller) old.unit new.controller.state (told new.wire)
+      (broken begun);
   ended = tt;
   answers = λ _ _. tt;
   reached = reached;
@@ -43,7 +46,8 @@ run_failed items told failures listens old new (Err fault) is works fails broken
 }
 
 -- a new server over a fresh wire has served what came: nothing
-pub fresh : (fed : Fed) (start : ClockedPort) (reader : Progress) → reader ≡ reading 0 [] → IsServed start nothing_told start reader
+pub fresh : (fed : Fed) (start : ClockedPort) (reader : Progress) → reader ≡ reading 0 []
+    → IsServed start nothing_told start reader
 fresh fed start reader r = subst (λ (x : Progress). IsServed start nothing_told start x) (sym r) (at_start fed start)
 
 -- what a server has served that began with some port
@@ -52,7 +56,8 @@ ServesOn told old new = (start : ClockedPort) (t : Told) → told old.wire ≡ S
     → IfTold (told new.wire) (λ u. IsServed start u new.port new.reader)
 
 -- turns that were made, or after which the other end closed
-pub serve_made : {W : Type 0} (fed : Fed) (told : W → Option Told) (failures : W → ℕ) (turns : ℕ) (old new : Serving W) (a : Ran)
+pub serve_made : {W : Type 0} (fed : Fed) (told : W → Option Told) (failures : W → ℕ) (turns : ℕ) (old new : Serving W)
+    (a : Ran)
     → a ≢ ran.Ended → failures old.wire ≡ 0 → failures new.wire ≡ 0 → ServesOn told old new
     → ((t : Told) → told old.wire ≡ Some t → IfTold (told new.wire) (λ u. ServesTo a turns t.came u.came))
     → ((t : Told) → told old.wire ≡ Some t → IfTold (told new.wire) (λ u. u.drops ≡ t.drops))
@@ -76,7 +81,8 @@ serve_made fed told failures turns old new a goes works worked serves answers dr
 }
 
 -- turns in one of which the wire failed
-pub serve_failed : {W : Type 0} (fed : Fed) (told : W → Option Told) (failures : W → ℕ) (turns : ℕ) (old new : Serving W) (answer : Result Ran DriveFault)
+pub serve_failed : {W : Type 0} (fed : Fed) (told : W → Option Told) (failures : W → ℕ) (turns : ℕ)
+    (old new : Serving W) (answer : Result Ran DriveFault)
     → IsErr answer → failures old.wire ≡ 0 → failures new.wire ≡ 1
     → ((start : ClockedPort) (t : Told) → told old.wire ≡ Some t → IsServed start t old.port old.reader
     → IfTold (told new.wire) (λ u. HasBrokenOff start u new.port × IsPartlySent start u))

@@ -37,7 +37,8 @@ abbrev sent_after : List Arrival → List ℕ
 sent_after came = bytes_of 0 (commands_in (plan Plain) (gives (prompted (plan Plain) 0 came)))
 
 -- no silence is needed
-answers_are_heard_at_once : sent_after (bytes granted_bytes ∷ bytes (0x04 ∷ []) ∷ bytes idle_bytes ∷ bytes (0x04 ∷ []) ∷ [])
+answers_are_heard_at_once : sent_after (bytes granted_bytes ∷ bytes (0x04 ∷ []) ∷ bytes idle_bytes ∷ bytes (0x04 ∷ []) ∷
+    [])
     ≡ open_bytes ++ select_bytes ++ status_bytes ++ close_bytes
 answers_are_heard_at_once = refl
 
@@ -71,5 +72,6 @@ receipt_and_state_are_heard : bytes_of 0 (commands_in (plan Confirming) (gives (
 receipt_and_state_are_heard = refl
 
 -- the close is a time-out
-close_is_a_time_out : bytes_of 0 (commands_in (plan Plain) (prompted (plan Plain) 0 (bytes (0x02 ∷ []) ∷ close ∷ []))) ≡ open_bytes
+close_is_a_time_out : bytes_of 0 (commands_in (plan Plain) (prompted (plan Plain) 0 (bytes (0x02 ∷ []) ∷ close ∷ [])))
+    ≡ open_bytes
 close_is_a_time_out = refl

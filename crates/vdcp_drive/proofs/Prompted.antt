@@ -39,23 +39,28 @@ prompted_push plan unit p [] a = refl
 prompted_push plan unit p (b ∷ came) a = prompted_push plan unit (listens plan unit b (gives p)) came a
 
 states_more : (plan : Plan) (unit : ℕ) (p : Prompt) (came : List Arrival) (a : Arrival)
-    → states_from plan unit p (came ++ a ∷ []) ≡ states_from plan unit p came ++ ticked (prompted_from plan unit p came).state ∷ []
+    → states_from plan unit p (came ++ a ∷ []) ≡ states_from plan unit p came
+    ++ ticked (prompted_from plan unit p came).state ∷ []
 states_more plan unit p [] a = refl
-states_more plan unit p (b ∷ came) a = ap (λ (l : List State). ticked p.state ∷ l) (states_more plan unit (listens plan unit b (gives p)) came a)
+states_more plan unit p (b ∷ came) a =
+    ap (λ (l : List State). ticked p.state ∷ l) (states_more plan unit (listens plan unit b (gives p)) came a)
 
 -- Commands.
 
 gives_none : (plan : Plan) (p : Prompt) → given plan p.state ≡ None → commands_in plan (gives p) ≡ commands_in plan p
 gives_none plan p h = ap (λ (c : Option Command). map command_of p.log ++ option_to_list c) (none_given plan p.state h)
 
-gives_some : (plan : Plan) (p : Prompt) (c : Command) → given plan p.state ≡ Some c → commands_in plan (gives p) ≡ commands_in plan p ++ c ∷ []
+gives_some : (plan : Plan) (p : Prompt) (c : Command) → given plan p.state ≡ Some c
+    → commands_in plan (gives p) ≡ commands_in plan p ++ c ∷ []
 gives_some plan p c h =
     let both = some_given plan p.state c h in
     let made : List Command = map command_of p.log in
-    let before : commands_in plan p ≡ made = ap (λ (x : Option Command). made ++ option_to_list x) both.0 ∙ append-nil made in
+    let before : commands_in plan p ≡ made =
+    ap (λ (x : Option Command). made ++ option_to_list x) both.0 ∙ append-nil made in
     ap (λ (x : Option Command). made ++ option_to_list x) both.1 ∙ ap (λ (l : List Command). l ++ c ∷ []) (sym before)
 
-commands_receives : (plan : Plan) (h : Option Heard) (p : Prompt) → commands_in plan (receives plan h p) ≡ commands_in plan p
+commands_receives : (plan : Plan) (h : Option Heard) (p : Prompt)
+    → commands_in plan (receives plan h p) ≡ commands_in plan p
 commands_receives plan h p =
     let made : List Command = map command_of p.log in
     let rest : List Command = option_to_list (awaited plan (came_to plan h p.state)) in
@@ -63,18 +68,23 @@ commands_receives plan h p =
     ∙ append_assoc made (option_to_list (option_map command_of (ended_by plan h p.state))) rest
     ∙ ap (λ (l : List Command). made ++ l) (keeps_awaited plan h p.state (ended_by plan h p.state) refl)
 
-commands_hears : (plan : Plan) (unit : ℕ) (m : Content) (p : Prompt) → commands_in plan (hears plan unit m p) ≡ commands_in plan p
+commands_hears : (plan : Plan) (unit : ℕ) (m : Content) (p : Prompt)
+    → commands_in plan (hears plan unit m p) ≡ commands_in plan p
 commands_hears plan unit m p = by (is_awaiting p.state.stage) where
-  by : (b : Bool) → commands_in plan (if b then receives plan (Some (heard_as unit m)) p else passes p) ≡ commands_in plan p
+  by : (b : Bool) → commands_in plan (if b then receives plan (Some (heard_as unit m)) p else passes p)
+      ≡ commands_in plan p
   by true = commands_receives plan (Some (heard_as unit m)) p
   by false = refl
 
-commands_hears_all : (plan : Plan) (unit : ℕ) (ms : List Content) (p : Prompt) → commands_in plan (hears_all plan unit ms p) ≡ commands_in plan p
+commands_hears_all : (plan : Plan) (unit : ℕ) (ms : List Content) (p : Prompt)
+    → commands_in plan (hears_all plan unit ms p) ≡ commands_in plan p
 commands_hears_all plan unit [] p = refl
-commands_hears_all plan unit (m ∷ ms) p = commands_hears_all plan unit ms (hears plan unit m p) ∙ commands_hears plan unit m p
+commands_hears_all plan unit (m ∷ ms) p =
+    commands_hears_all plan unit ms (hears plan unit m p) ∙ commands_hears plan unit m p
 
 -- a listen sends nothing
-commands_listens : (plan : Plan) (unit : ℕ) (a : Arrival) (p : Prompt) → commands_in plan (listens plan unit a p) ≡ commands_in plan p
+commands_listens : (plan : Plan) (unit : ℕ) (a : Arrival) (p : Prompt)
+    → commands_in plan (listens plan unit a p) ≡ commands_in plan p
 commands_listens plan unit (bytes piece) p = commands_hears_all plan unit (completed p.held piece) p
 commands_listens plan unit silence p = commands_receives plan None p
 commands_listens plan unit close p = commands_receives plan None p
@@ -82,24 +92,30 @@ commands_listens plan unit close p = commands_receives plan None p
 -- One more command.
 
 -- what came is heard, and the next command not sent yet
-pub record RunsPrompt (plan : Plan) (unit : ℕ) (t : Told) (state : State) (reader : Option Progress) (passed : ℕ) : Type 0 where
+pub record RunsPrompt (plan : Plan) (unit : ℕ) (t : Told) (state : State) (reader : Option Progress) (passed : ℕ) : Type
+    0 where
   pub run : HasRunPrompt plan unit t state reader passed
   pub no_close : has_closed t.came ≡ false
 
 -- a command is awaited, or the controller has ended
-pub record AwaitsPrompt (plan : Plan) (unit : ℕ) (t : Told) (state : State) (reader : Option Progress) (passed : ℕ) : Type 0 where
+pub record AwaitsPrompt (plan : Plan) (unit : ℕ) (t : Told) (state : State) (reader : Option Progress) (passed : ℕ) :
+    Type 0 where
   pub shows : Shows (gives (prompted plan unit t.came)) state reader passed
   pub sent_is : t.sent ≡ bytes_of unit (commands_in plan (gives (prompted plan unit t.came)))
   pub drops_none : t.drops ≡ []
   pub no_close : has_closed t.came ≡ false
 
-ticks_shown : (p : Prompt) (state state' : State) (reader : Option Progress) (passed : ℕ) → Shows p state reader passed → state' ≡ ticked state
+ticks_shown : (p : Prompt) (state state' : State) (reader : Option Progress) (passed : ℕ) → Shows p state reader passed
+    → state' ≡ ticked state
     → Shows (gives p) state' reader passed
-ticks_shown p state state' reader passed h is = record { state_is = is ∙ ap ticked h.state_is; held_is = h.held_is; passed_is = h.passed_is }
+ticks_shown p state state' reader passed h is =
+    record { state_is = is ∙ ap ticked h.state_is; held_is = h.held_is; passed_is = h.passed_is }
 
-awaits_by : (plan : Plan) (unit : ℕ) (t : Told) (state : State) (reader : Option Progress) (passed : ℕ) (given_is : Option Command) (is_sent : Bool)
+awaits_by : (plan : Plan) (unit : ℕ) (t : Told) (state : State) (reader : Option Progress) (passed : ℕ)
+    (given_is : Option Command) (is_sent : Bool)
     (told : Option Told) (state' : State) (told' : Option Told)
-    → told ≡ Some t → RunsPrompt plan unit t state reader passed → given plan state ≡ given_is → HasPrompted unit given_is is_sent told told'
+    → told ≡ Some t → RunsPrompt plan unit t state reader passed → given plan state ≡ given_is
+    → HasPrompted unit given_is is_sent told told'
     → state' ≡ ticked state → IfTold told' (λ u. AwaitsPrompt plan unit u state' reader passed × (u.came ≡ t.came))
 awaits_by plan unit t state reader passed None is_sent told state' told' is h gives_is e ticks =
     let p : Prompt = prompted plan unit t.came in
@@ -124,7 +140,8 @@ awaits_by plan unit t state reader passed (Some c) is_sent told state' told' is 
       (
         record {
           shows = ticks_shown p state state' reader passed h.run.shows ticks;
-          sent_is = ap (λ (l : List ℕ). l ++ command_bytes unit c) h.run.sent_is ∙ sym (bytes_push unit (commands_in plan p) c)
+          sent_is = ap (λ (l : List ℕ). l ++ command_bytes unit c) h.run.sent_is
+              ∙ sym (bytes_push unit (commands_in plan p) c)
               ∙ ap (bytes_of unit) (sym (gives_some plan p c some));
           drops_none = h.run.drops_none;
           no_close = h.no_close;
@@ -134,10 +151,12 @@ awaits_by plan unit t state reader passed (Some c) is_sent told state' told' is 
     )
 
 -- the wire failed in it
-unsent : (plan : Plan) (unit : ℕ) (t : Told) (state : State) (reader : Option Progress) (passed : ℕ) (told : Option Told) (state' : State) (told' : Option
+unsent : (plan : Plan) (unit : ℕ) (t : Told) (state : State) (reader : Option Progress) (passed : ℕ)
+    (told : Option Told) (state' : State) (told' : Option
     Told)
     → told ≡ Some t → RunsPrompt plan unit t state reader passed → HasPromptBroken plan unit state state' told told'
-    → IfTold told' (λ u. (b : HasRunPromptBroken plan unit u state' reader passed) × (states_seen b ≡ states_prompted plan unit t.came))
+    → IfTold told' (λ u. (b : HasRunPromptBroken plan unit u state' reader passed)
+    × (states_seen b ≡ states_prompted plan unit t.came))
 unsent plan unit t state reader passed told state' told' is h b =
     let p : Prompt = prompted plan unit t.came in (
       record { sent = t.sent ++ b.sends.front; came = t.came; drops = t.drops },
@@ -159,18 +178,22 @@ unsent plan unit t state reader passed told state' told' is h b =
 
 -- One more listen.
 
-has_run : (plan : Plan) (unit : ℕ) (t : Told) (a : Arrival) (state state' : State) (reader reader' : Option Progress) (passed passed' : ℕ)
+has_run : (plan : Plan) (unit : ℕ) (t : Told) (a : Arrival) (state state' : State) (reader reader' : Option Progress)
+    (passed passed' : ℕ)
     → AwaitsPrompt plan unit t state reader passed → HearsPrompt plan unit a state reader passed state' reader' passed'
     → HasRunPrompt plan unit (record { sent = t.sent; came = t.came ++ a ∷ []; drops = t.drops }) state' reader' passed'
 has_run plan unit t a state state' reader reader' passed passed' h e =
     let g : Prompt = gives (prompted plan unit t.came) in
-    let push : listens plan unit a g ≡ prompted plan unit (t.came ++ a ∷ []) = sym (prompted_push plan unit new_prompt t.came a) in record {
-      shows = subst (λ (p : Prompt). Shows p state' reader' passed') (ap (listens plan unit a) (shown g state reader passed h.shows) ∙ push) (e.shows g.log);
+    let push : listens plan unit a g ≡ prompted plan unit (t.came ++ a ∷ []) =
+    sym (prompted_push plan unit new_prompt t.came a) in record {
+      shows = subst (λ (p : Prompt). Shows p state' reader' passed')
+          (ap (listens plan unit a) (shown g state reader passed h.shows) ∙ push) (e.shows g.log);
       sent_is = h.sent_is ∙ ap (bytes_of unit) (sym (commands_listens plan unit a g) ∙ ap (commands_in plan) push);
       drops_none = h.drops_none;
     }
 
-runs_on : (plan : Plan) (unit : ℕ) (t : Told) (a : Arrival) (state state' : State) (reader reader' : Option Progress) (passed passed' : ℕ) (told told' :
+runs_on : (plan : Plan) (unit : ℕ) (t : Told) (a : Arrival) (state state' : State) (reader reader' : Option Progress)
+    (passed passed' : ℕ) (told told' :
     Option Told)
     → told ≡ Some t → AwaitsPrompt plan unit t state reader passed → line_of a ≢ line.Closed
     → HearsPrompt plan unit a state reader passed state' reader' passed' → told' ≡ adds_came a told
@@ -199,7 +222,8 @@ runs_on plan unit t silence state state' reader reader' passed passed' told told
 )
 runs_on plan unit t close state state' reader reader' passed passed' told told' is h not e more = absurd (not refl)
 
-runs_out : (plan : Plan) (unit : ℕ) (t : Told) (a : Arrival) (state state' : State) (reader reader' : Option Progress) (passed passed' : ℕ) (told told' :
+runs_out : (plan : Plan) (unit : ℕ) (t : Told) (a : Arrival) (state state' : State) (reader reader' : Option Progress)
+    (passed passed' : ℕ) (told told' :
     Option Told)
     → told ≡ Some t → AwaitsPrompt plan unit t state reader passed
     → HearsPrompt plan unit a state reader passed state' reader' passed' → told' ≡ adds_came a told
@@ -211,9 +235,11 @@ runs_out plan unit t a state state' reader reader' passed passed' told told' is 
 )
 
 -- the wire failed in it
-unheard : (plan : Plan) (unit : ℕ) (t : Told) (state state' : State) (reader : Option Progress) (passed : ℕ) (told told' : Option Told)
+unheard : (plan : Plan) (unit : ℕ) (t : Told) (state state' : State) (reader : Option Progress) (passed : ℕ)
+    (told told' : Option Told)
     → told ≡ Some t → AwaitsPrompt plan unit t state reader passed → state' ≡ state → told' ≡ told
-    → IfTold told' (λ u. (b : HasRunPromptBroken plan unit u state' reader passed) × (states_seen b ≡ states_prompted plan unit t.came ++ state' ∷ []))
+    → IfTold told' (λ u. (b : HasRunPromptBroken plan unit u state' reader passed)
+    × (states_seen b ≡ states_prompted plan unit t.came ++ state' ∷ []))
 unheard plan unit t state state' reader passed told told' is h stays same = (
   t,
   same ∙ is,
@@ -239,18 +265,23 @@ prompted_came unit (Some c) is_sent u told told' is e = (
   refl,
 )
 
-pub listened_on : (made : ℕ) (t u : Told) (unit : ℕ) (given_is : Option Command) (is_sent : Bool) (a : Arrival) (told told' told'' : Option Told)
-    → told ≡ Some u → AllListened made t.came u.came → HasPrompted unit given_is is_sent told told' → line_of a ≢ line.Closed → MayCome a told'
+pub listened_on : (made : ℕ) (t u : Told) (unit : ℕ) (given_is : Option Command) (is_sent : Bool) (a : Arrival)
+    (told told' told'' : Option Told)
+    → told ≡ Some u → AllListened made t.came u.came → HasPrompted unit given_is is_sent told told'
+    → line_of a ≢ line.Closed → MayCome a told'
     → told'' ≡ adds_came a told' → IfTold told'' (λ v. AllListened (made + 1) t.came v.came)
 listened_on made t u unit given_is is_sent a told told' told'' is l e not may more =
     let s = prompted_came unit given_is is_sent u told told' is e in (
       record { sent = s.0.sent; came = came_with s.0.came a; drops = s.0.drops },
       more ∙ ap (adds_came a) s.1,
-      listened_so made a t.came s.0.came (subst (λ (c : List Arrival). AllListened made t.came c) (sym s.2) l) (counts s.0 a (subst (MayCome a) s.1 may)) not,
+      listened_so made a t.came s.0.came (subst (λ (c : List Arrival). AllListened made t.came c) (sym s.2) l)
+          (counts s.0 a (subst (MayCome a) s.1 may)) not,
     )
 
-pub closed_on : (made listens : ℕ) (t u : Told) (unit : ℕ) (given_is : Option Command) (is_sent : Bool) (a : Arrival) (told told' told'' : Option Told)
-    → told ≡ Some u → AllListened made t.came u.came → made + 1 ≤ listens → HasPrompted unit given_is is_sent told told' → line_of a ≡ line.Closed
+pub closed_on : (made listens : ℕ) (t u : Told) (unit : ℕ) (given_is : Option Command) (is_sent : Bool) (a : Arrival)
+    (told told' told'' : Option Told)
+    → told ≡ Some u → AllListened made t.came u.came → made + 1 ≤ listens → HasPrompted unit given_is is_sent told told'
+    → line_of a ≡ line.Closed
     → MayCome a told' → told'' ≡ adds_came a told'
     → IfTold told'' (λ v. IsTrue (has_closed v.came) × AtMostListened listens t.came v.came)
 closed_on made listens t u unit given_is is_sent a told told' told'' is l within e closed may more =
@@ -260,30 +291,43 @@ closed_on made listens t u unit given_is is_sent a told told' told'' is l within
       more ∙ ap (adds_came a) s.1,
       (
         closed_so s.0.came a k closed,
-        at_most_so made listens a t.came s.0.came (subst (λ (c : List Arrival). AllListened made t.came c) (sym s.2) l) within k,
+        at_most_so made listens a t.came s.0.came (subst (λ (c : List Arrival). AllListened made t.came c) (sym s.2) l)
+            within k,
       ),
     )
 
-pub ended_on : (made listens : ℕ) (t u : Told) (unit : ℕ) (given_is : Option Command) (is_sent : Bool) (o : Option Outcome) (told told' : Option Told)
-    → told ≡ Some u → AllListened made t.came u.came → made ≤ listens → HasPrompted unit given_is is_sent told told' → IsSome o
+pub ended_on : (made listens : ℕ) (t u : Told) (unit : ℕ) (given_is : Option Command) (is_sent : Bool)
+    (o : Option Outcome) (told told' : Option Told)
+    → told ≡ Some u → AllListened made t.came u.came → made ≤ listens → HasPrompted unit given_is is_sent told told'
+    → IsSome o
     → IfTold told' (λ v. IsSome o × AtMostListened listens t.came v.came)
 ended_on made listens t u unit given_is is_sent o told told' is l within e ended =
-    let s = prompted_came unit given_is is_sent u told told' is e in
-    (s.0, s.1, (ended, at_most_all made listens t.came s.0.came (subst (λ (c : List Arrival). AllListened made t.came c) (sym s.2) l) within))
+    let s = prompted_came unit given_is is_sent u told told' is e in (
+      s.0,
+      s.1,
+      (
+        ended,
+        at_most_all made listens t.came s.0.came
+            (subst (λ (c : List Arrival). AllListened made t.came c) (sym s.2) l) within,
+      ),
+    )
 
 -- Who watches.
 
 abbrev pub WatchesPrompt : Plan → ℕ → List Arrival → List State → Option (List State) → Type 0
 WatchesPrompt plan unit came states watched = watched ≡ Some (states ++ states_prompted plan unit came)
 
-pub watches_none : (plan : Plan) (unit : ℕ) (states : List State) (watched : Option (List State)) → watched ≡ Some states
+pub watches_none : (plan : Plan) (unit : ℕ) (states : List State) (watched : Option (List State))
+    → watched ≡ Some states
     → WatchesPrompt plan unit [] states watched
 watches_none plan unit states watched is = is ∙ ap (λ (l : List State). Some l) (sym (append-nil states))
 
 -- a listen more
-pub watches_on : (plan : Plan) (unit : ℕ) (came came' came'' : List Arrival) (a : Arrival) (states : List State) (state : State) (watched watched' : Option
+pub watches_on : (plan : Plan) (unit : ℕ) (came came' came'' : List Arrival) (a : Arrival) (states : List State)
+    (state : State) (watched watched' : Option
     (List State))
-    → WatchesPrompt plan unit came states watched → came' ≡ came → state ≡ ticked (prompted plan unit came').state → watched' ≡ adds_watched state watched
+    → WatchesPrompt plan unit came states watched → came' ≡ came → state ≡ ticked (prompted plan unit came').state
+    → watched' ≡ adds_watched state watched
     → came'' ≡ came' ++ a ∷ [] → WatchesPrompt plan unit came'' states watched'
 watches_on plan unit came came' came'' a states state watched watched' is same at adds more =
     looks states (states_prompted plan unit came) state watched watched' is adds
@@ -295,24 +339,32 @@ watches_on plan unit came came' came'' a states state watched watched' is same a
 -- The same of whole automations, where the one that a run began with gives the plan and the unit.
 
 -- what is sent, where l sends and n is left
-pub sent_so : {S W : Type 0} (items : S → List Item) (told : W → Option Told) (s l n : Prompting S W) (t : Told) (is_sent : Bool)
+pub sent_so : {S W : Type 0} (items : S → List Item) (told : W → Option Told) (s l n : Prompting S W) (t : Told)
+    (is_sent : Bool)
     → l.controller ≡ record s.controller { state = l.controller.state } → l.unit ≡ s.unit
     → told l.wire ≡ Some t → RunsPrompt (plan_of items s.controller) s.unit t l.controller.state l.reader l.passed
     → HasPrompted l.unit (given (plan_of items l.controller) l.controller.state) is_sent (told l.wire) (told n.wire)
-    → n.controller ≡ record l.controller { state = ticked l.controller.state } → n ≡ record l { controller = n.controller; wire = n.wire }
-    → IfTold (told n.wire) (λ u. AwaitsPrompt (plan_of items s.controller) s.unit u n.controller.state n.reader n.passed × (u.came ≡ t.came))
+    → n.controller ≡ record l.controller { state = ticked l.controller.state }
+    → n ≡ record l { controller = n.controller; wire = n.wire }
+    → IfTold (told n.wire) (λ u. AwaitsPrompt (plan_of items s.controller) s.unit u n.controller.state n.reader n.passed
+    × (u.came ≡ t.came))
 sent_so {S} {W} items told s l n t is_sent same united is h e ticks keeps =
     let plan : Plan = plan_of items s.controller in
-    let w = awaits_by plan s.unit t l.controller.state l.reader l.passed (given plan l.controller.state) is_sent (told l.wire) n.controller.state
+    let w = awaits_by plan s.unit t l.controller.state l.reader l.passed (given plan l.controller.state) is_sent
+    (told l.wire) n.controller.state
     (told n.wire) is h refl
-    (subst (λ (q : Plan). HasPrompted s.unit (given q l.controller.state) is_sent (told l.wire) (told n.wire)) (ap (plan_of items) same)
-    (subst (λ (m : ℕ). HasPrompted m (given (plan_of items l.controller) l.controller.state) is_sent (told l.wire) (told n.wire)) united e))
+    (subst (λ (q : Plan). HasPrompted s.unit (given q l.controller.state) is_sent (told l.wire) (told n.wire))
+    (ap (plan_of items) same)
+    (subst (λ (m : ℕ). HasPrompted m (given (plan_of items l.controller) l.controller.state) is_sent (told l.wire)
+    (told n.wire)) united e))
     (ap (λ (v : View S). v.state) ticks) in (
       w.0,
       w.1,
       (
-        subst (λ (k : ℕ). AwaitsPrompt plan s.unit w.0 n.controller.state n.reader k) (sym (ap (λ (d : Prompting S W). d.passed) keeps))
-            (subst (λ (q : Option Progress). AwaitsPrompt plan s.unit w.0 n.controller.state q l.passed) (sym (ap (λ (d : Prompting S W). d.reader) keeps))
+        subst (λ (k : ℕ). AwaitsPrompt plan s.unit w.0 n.controller.state n.reader k)
+            (sym (ap (λ (d : Prompting S W). d.passed) keeps))
+            (subst (λ (q : Option Progress). AwaitsPrompt plan s.unit w.0 n.controller.state q l.passed)
+            (sym (ap (λ (d : Prompting S W). d.reader) keeps))
             w.2.0),
         w.2.1,
       ),
@@ -322,9 +374,11 @@ sent_so {S} {W} items told s l n t is_sent same united is h e ticks keeps =
 pub unsent_so : {S W : Type 0} (items : S → List Item) (told : W → Option Told) (s l n : Prompting S W) (t : Told)
     → l.controller ≡ record s.controller { state = l.controller.state } → l.unit ≡ s.unit
     → told l.wire ≡ Some t → RunsPrompt (plan_of items s.controller) s.unit t l.controller.state l.reader l.passed
-    → HasPromptBroken (plan_of items l.controller) l.unit l.controller.state n.controller.state (told l.wire) (told n.wire)
+    → HasPromptBroken (plan_of items l.controller) l.unit l.controller.state n.controller.state (told l.wire)
+    (told n.wire)
     → n ≡ record l { controller = n.controller; wire = n.wire }
-    → IfTold (told n.wire) (λ u. (b : HasRunPromptBroken (plan_of items s.controller) s.unit u n.controller.state n.reader n.passed)
+    → IfTold (told n.wire) (λ u. (b : HasRunPromptBroken (plan_of items s.controller) s.unit u n.controller.state
+    n.reader n.passed)
     × (states_seen b ≡ states_prompted (plan_of items s.controller) s.unit t.came))
 unsent_so {S} {W} items told s l n t same united is h e keeps =
     let plan : Plan = plan_of items s.controller in
@@ -333,14 +387,17 @@ unsent_so {S} {W} items told s l n t same united is h e keeps =
     unsent plan s.unit t l.controller.state n.reader n.passed (told l.wire) n.controller.state (told n.wire) is
     (subst (λ (m : ℕ). RunsPrompt plan s.unit t l.controller.state n.reader m) k
     (subst (λ (q : Option Progress). RunsPrompt plan s.unit t l.controller.state q l.passed) r h))
-    (subst (λ (q : Plan). HasPromptBroken q s.unit l.controller.state n.controller.state (told l.wire) (told n.wire)) (ap (plan_of items) same)
-    (subst (λ (m : ℕ). HasPromptBroken (plan_of items l.controller) m l.controller.state n.controller.state (told l.wire) (told n.wire)) united e))
+    (subst (λ (q : Plan). HasPromptBroken q s.unit l.controller.state n.controller.state (told l.wire) (told n.wire))
+    (ap (plan_of items) same)
+    (subst (λ (m : ℕ). HasPromptBroken (plan_of items l.controller) m l.controller.state n.controller.state
+    (told l.wire) (told n.wire)) united e))
 
 -- where it failed in the listen after it, which leaves m
 pub unheard_so : {S W : Type 0} (items : S → List Item) (told : W → Option Told) (s n m : Prompting S W) (t : Told)
     → told n.wire ≡ Some t → AwaitsPrompt (plan_of items s.controller) s.unit t n.controller.state n.reader n.passed
     → m ≡ record n { wire = m.wire } → told m.wire ≡ told n.wire
-    → IfTold (told m.wire) (λ u. (b : HasRunPromptBroken (plan_of items s.controller) s.unit u m.controller.state m.reader m.passed)
+    → IfTold (told m.wire) (λ u. (b : HasRunPromptBroken (plan_of items s.controller) s.unit u m.controller.state
+    m.reader m.passed)
     × (states_seen b ≡ states_prompted (plan_of items s.controller) s.unit t.came ++ m.controller.state ∷ []))
 unheard_so {S} {W} items told s n m t is h keeps same =
     let plan : Plan = plan_of items s.controller in
@@ -354,35 +411,49 @@ unheard_so {S} {W} items told s n m t is h keeps same =
 -- what a listen does, by the plan and the unit of s
 hears_so : {S W : Type 0} (items : S → List Item) (s n m : Prompting S W) (a : Arrival)
     → n.controller ≡ record s.controller { state = n.controller.state } → n.unit ≡ s.unit
-    → HearsPrompt (plan_of items n.controller) n.unit a n.controller.state n.reader n.passed m.controller.state m.reader m.passed
-    → HearsPrompt (plan_of items s.controller) s.unit a n.controller.state n.reader n.passed m.controller.state m.reader m.passed
+    → HearsPrompt (plan_of items n.controller) n.unit a n.controller.state n.reader n.passed m.controller.state m.reader
+    m.passed
+    → HearsPrompt (plan_of items s.controller) s.unit a n.controller.state n.reader n.passed m.controller.state m.reader
+    m.passed
 hears_so items s n m a same united e =
-    subst (λ (q : Plan). HearsPrompt q s.unit a n.controller.state n.reader n.passed m.controller.state m.reader m.passed) (ap (plan_of items) same)
-    (subst (λ (u : ℕ). HearsPrompt (plan_of items n.controller) u a n.controller.state n.reader n.passed m.controller.state m.reader m.passed) united e)
+    subst (λ (q : Plan). HearsPrompt q s.unit a n.controller.state n.reader n.passed m.controller.state m.reader
+    m.passed) (ap (plan_of items) same)
+    (subst (λ (u : ℕ). HearsPrompt (plan_of items n.controller) u a n.controller.state n.reader n.passed
+    m.controller.state m.reader m.passed) united e)
 
-pub on_so : {S W : Type 0} (items : S → List Item) (told : W → Option Told) (s n m : Prompting S W) (t : Told) (a : Arrival)
-    → n.controller ≡ record s.controller { state = n.controller.state } → n.unit ≡ s.unit
-    → told n.wire ≡ Some t → AwaitsPrompt (plan_of items s.controller) s.unit t n.controller.state n.reader n.passed → line_of a ≢ line.Closed
-    → HearsPrompt (plan_of items n.controller) n.unit a n.controller.state n.reader n.passed m.controller.state m.reader m.passed
-    → told m.wire ≡ adds_came a (told n.wire)
-    → IfTold (told m.wire) (λ u. RunsPrompt (plan_of items s.controller) s.unit u m.controller.state m.reader m.passed × (u.came ≡ t.came ++ a ∷ []))
-on_so items told s n m t a same united is h not e more =
-    runs_on (plan_of items s.controller) s.unit t a n.controller.state m.controller.state n.reader m.reader n.passed m.passed (told n.wire) (told m.wire) is h
-    not (hears_so items s n m a same united e) more
-
-pub out_so : {S W : Type 0} (items : S → List Item) (told : W → Option Told) (s n m : Prompting S W) (t : Told) (a : Arrival)
+pub on_so : {S W : Type 0} (items : S → List Item) (told : W → Option Told) (s n m : Prompting S W) (t : Told)
+    (a : Arrival)
     → n.controller ≡ record s.controller { state = n.controller.state } → n.unit ≡ s.unit
     → told n.wire ≡ Some t → AwaitsPrompt (plan_of items s.controller) s.unit t n.controller.state n.reader n.passed
-    → HearsPrompt (plan_of items n.controller) n.unit a n.controller.state n.reader n.passed m.controller.state m.reader m.passed
+    → line_of a ≢ line.Closed
+    → HearsPrompt (plan_of items n.controller) n.unit a n.controller.state n.reader n.passed m.controller.state m.reader
+    m.passed
     → told m.wire ≡ adds_came a (told n.wire)
-    → IfTold (told m.wire) (λ u. HasRunPrompt (plan_of items s.controller) s.unit u m.controller.state m.reader m.passed × (u.came ≡ t.came ++ a ∷ []))
+    → IfTold (told m.wire) (λ u. RunsPrompt (plan_of items s.controller) s.unit u m.controller.state m.reader m.passed
+    × (u.came ≡ t.came ++ a ∷ []))
+on_so items told s n m t a same united is h not e more =
+    runs_on (plan_of items s.controller) s.unit t a n.controller.state m.controller.state n.reader m.reader n.passed
+    m.passed (told n.wire) (told m.wire) is h
+    not (hears_so items s n m a same united e) more
+
+pub out_so : {S W : Type 0} (items : S → List Item) (told : W → Option Told) (s n m : Prompting S W) (t : Told)
+    (a : Arrival)
+    → n.controller ≡ record s.controller { state = n.controller.state } → n.unit ≡ s.unit
+    → told n.wire ≡ Some t → AwaitsPrompt (plan_of items s.controller) s.unit t n.controller.state n.reader n.passed
+    → HearsPrompt (plan_of items n.controller) n.unit a n.controller.state n.reader n.passed m.controller.state m.reader
+    m.passed
+    → told m.wire ≡ adds_came a (told n.wire)
+    → IfTold (told m.wire) (λ u. HasRunPrompt (plan_of items s.controller) s.unit u m.controller.state m.reader m.passed
+    × (u.came ≡ t.came ++ a ∷ []))
 out_so items told s n m t a same united is h e more =
-    runs_out (plan_of items s.controller) s.unit t a n.controller.state m.controller.state n.reader m.reader n.passed m.passed (told n.wire) (told m.wire) is
+    runs_out (plan_of items s.controller) s.unit t a n.controller.state m.controller.state n.reader m.reader n.passed
+    m.passed (told n.wire) (told m.wire) is
     h (hears_so items s n m a same united e) more
 
 -- a new automation runs from its beginning
 pub begins : {S W : Type 0} (items : S → List Item) (told : W → Option Told) (d : Prompting S W) → IsNewPrompt told d
-    → IfTold (told d.wire) (λ u. RunsPrompt (plan_of items d.controller) d.unit u d.controller.state d.reader d.passed × (u.came ≡ []))
+    → IfTold (told d.wire) (λ u. RunsPrompt (plan_of items d.controller) d.unit u d.controller.state d.reader d.passed
+    × (u.came ≡ []))
 begins items told d n = (
   nothing_told,
   n.fresh,
@@ -400,10 +471,12 @@ begins items told d n = (
 )
 
 -- a run whose wire failed
-pub run_failed : {S W : Type 0} (items : S → List Item) (told : W → Option Told) (failures : W → ℕ) (listens : ℕ) (old new : Prompting S W)
+pub run_failed : {S W : Type 0} (items : S → List Item) (told : W → Option Told) (failures : W → ℕ) (listens : ℕ)
+    (old new : Prompting S W)
     (answer : Result Ran DriveFault)
     → IsErr answer → failures old.wire ≡ 0 → failures new.wire ≡ 1
-    → (IsNewPrompt told old → IfTold (told new.wire) (λ u. HasRunPromptBroken (plan_of items old.controller) old.unit u new.controller.state new.reader
+    → (IsNewPrompt told old → IfTold (told new.wire)
+    (λ u. HasRunPromptBroken (plan_of items old.controller) old.unit u new.controller.state new.reader
     new.passed))
     → IsReachedFrom (plan_of items old.controller) old.controller.state new.controller.state
     → new.controller ≡ record old.controller { state = new.controller.state } → new.unit ≡ old.unit

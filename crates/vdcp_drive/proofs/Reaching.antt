@@ -11,16 +11,21 @@ use Rattle.vdcp_drive.specs.Driven.{IsReachedFrom}
 
 -- where nothing is called
 pub stays_there : (plan : Plan) (before after : State) → after ≡ before → IsReachedFrom plan before after
-stays_there plan before after is log reached =
-    ([], subst (λ (l : List Exchange). Reached plan after l) (sym (append-nil log)) (subst (λ (s : State). Reached plan s log) (sym is) reached))
+stays_there plan before after is log reached = (
+  [],
+  subst (λ (l : List Exchange). Reached plan after l) (sym (append-nil log))
+      (subst (λ (s : State). Reached plan s log) (sym is) reached),
+)
 
 -- what a log gained by one call
-logged_behind : (log : List Exchange) (ended : Option Exchange) → (since : List Exchange) × (logged log ended ≡ log ++ since)
+logged_behind : (log : List Exchange) (ended : Option Exchange)
+    → (since : List Exchange) × (logged log ended ≡ log ++ since)
 logged_behind log None = ([], sym (append-nil log))
 logged_behind log (Some e) = (e ∷ [], refl)
 
 -- by one call
-pub goes_by_call : (plan : Plan) (call : Call) (before after : State) → after ≡ after_call plan call before → IsReachedFrom plan before after
+pub goes_by_call : (plan : Plan) (call : Call) (before after : State) → after ≡ after_call plan call before
+    → IsReachedFrom plan before after
 goes_by_call plan call before after is log reached =
     let more = logged_behind log (ended_by_call plan call before) in (
       more.0,
@@ -29,7 +34,8 @@ goes_by_call plan call before after is log reached =
     )
 
 -- and then further, where the plan is the same
-pub goes_further : (plan plan' : Plan) (before between after : State) → plan' ≡ plan → IsReachedFrom plan before between → IsReachedFrom plan' between after
+pub goes_further : (plan plan' : Plan) (before between after : State) → plan' ≡ plan → IsReachedFrom plan before between
+    → IsReachedFrom plan' between after
     → IsReachedFrom plan before after
 goes_further plan plan' before between after same first then log reached =
     let a = first log reached in
@@ -39,5 +45,6 @@ goes_further plan plan' before between after same first then log reached =
 pub goes_by_tick : (plan : Plan) (before after : State) → after ≡ ticked before → IsReachedFrom plan before after
 goes_by_tick plan before after is = goes_by_call plan Tick before after is
 
-pub goes_by_what_came : (plan : Plan) (came : Option Heard) (before after : State) → after ≡ came_to plan came before → IsReachedFrom plan before after
+pub goes_by_what_came : (plan : Plan) (came : Option Heard) (before after : State) → after ≡ came_to plan came before
+    → IsReachedFrom plan before after
 goes_by_what_came plan came before after is = goes_by_call plan (Receive came) before after is

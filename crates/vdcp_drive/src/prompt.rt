@@ -407,7 +407,8 @@ fn hear_or_pass<S: Source>(controller: &mut Controller<S>, passed: &mut u64, hea
     ensures state { controller.new ≡ record controller.old {
       state = turns.came_to (plan_of S.items controller.old) (Some heard.now) controller.old.state;
     } }
-    ensures passed { passed.new ≡ (if turns.is_awaiting controller.old.state.stage then passed.old else one_more passed.old) }
+    ensures passed { passed.new
+        ≡ (if turns.is_awaiting controller.old.state.stage then passed.old else one_more passed.old) }
 {
     if controller.awaiting() {
         controller.hear(heard);

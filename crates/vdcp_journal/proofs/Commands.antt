@@ -20,6 +20,8 @@ pub same_command : ((m : Content) → Fits m → messages_of (spelling m) ≡ m 
     → (unit : ℕ) (a b : Command) → unit ≤ 15 → IsWritableCommand a → IsWritableCommand b
     → spelling (command_message unit a) ≡ spelling (command_message unit b) → a ≡ b
 same_command messages fits computed unit a b low p q e =
-    let m : command_message unit a ≡ command_message unit b = first_of_one (command_message unit a) (command_message unit b)
-    (sym (messages (command_message unit a) (fits unit a low p)) ∙ ap messages_of e ∙ messages (command_message unit b) (fits unit b low q)) in
+    let m : command_message unit a ≡ command_message unit b =
+    first_of_one (command_message unit a) (command_message unit b)
+    (sym (messages (command_message unit a) (fits unit a low p)) ∙ ap messages_of e
+    ∙ messages (command_message unit b) (fits unit b low q)) in
     one_value a b (sym (computed unit a p) ∙ ap command_of m ∙ computed unit b q)

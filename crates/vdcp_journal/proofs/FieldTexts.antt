@@ -41,7 +41,8 @@ digit : (n : ℕ) → (hex_digit n == 10) ≡ false
 digit n = grind (arith, nat_tests)
 
 pair : (byte : ℕ) → has_feed (hex_pair byte) ≡ false
-pair byte = both-false (hex_digit (byte / 16) == 10) (has_feed (hex_digit (byte % 16) ∷ [])) (digit (byte / 16)) (both-false (hex_digit (byte % 16) == 10) false (digit (byte % 16)) refl)
+pair byte = both-false (hex_digit (byte / 16) == 10) (has_feed (hex_digit (byte % 16) ∷ [])) (digit (byte / 16))
+    (both-false (hex_digit (byte % 16) == 10) false (digit (byte % 16)) refl)
 
 pairs : (bytes : List ℕ) → has_feed (flat_map hex_pair bytes) ≡ false
 pairs [] = refl
@@ -86,7 +87,9 @@ third true false c d e = cc e
 third false b c d e = cc e
 
 of_id : (text bytes : List ℕ) → IsTextOf text bytes → has_feed text ≡ false
-of_id text bytes (inl h) = plain_bytes text (third (nat_le 1 (length text)) (nat_le (length text) 8) (list_all is_plain_byte text) (not (has_edge_space text)) h.0)
+of_id text bytes (inl h) =
+    plain_bytes text (third (nat_le 1 (length text)) (nat_le (length text) 8) (list_all is_plain_byte text)
+    (not (has_edge_space text)) h.0)
 of_id text bytes (inr h) = ap has_feed h.1 ∙ pairs bytes
 
 id_plain : IdTexts → (id : ClipId) → has_feed (text_of_id id) ≡ false
@@ -100,7 +103,8 @@ named v word id p = feed-append word (text_of_id id) p (id_plain v id)
 pub command_plain : IdTexts → (c : Command) → has_feed (command_text c) ≡ false
 command_plain v (Open port lock) =
     feed-append (codes "open ") (hex_pair port ++ codes " " ++ hex_pair lock) refl
-    (feed-append (hex_pair port) (codes " " ++ hex_pair lock) (pair port) (feed-append (codes " ") (hex_pair lock) refl (pair lock)))
+    (feed-append (hex_pair port) (codes " " ++ hex_pair lock) (pair port)
+    (feed-append (codes " ") (hex_pair lock) refl (pair lock)))
 command_plain v (Close port) = feed-append (codes "close ") (hex_pair port) refl (pair port)
 command_plain v (Select port) = feed-append (codes "select ") (hex_pair port) refl (pair port)
 command_plain v (PlayCue id) = named v (codes "cue ") id refl
@@ -109,7 +113,8 @@ command_plain v (CueData id start duration) =
     let front = named_clip ++ codes " " in
     let begun = front ++ hex_text start in
     feed-append (begun ++ codes " ") (hex_text duration)
-    (feed-append begun (codes " ") (feed-append front (hex_text start) (feed-append named_clip (codes " ") (named v (codes "cue-data ") id refl) refl) (pairs start)) refl)
+    (feed-append begun (codes " ") (feed-append front (hex_text start)
+    (feed-append named_clip (codes " ") (named v (codes "cue-data ") id refl) refl) (pairs start)) refl)
     (pairs duration)
 command_plain v Play = refl
 command_plain v Stop = refl
@@ -145,7 +150,8 @@ outcome_plain (Strange k) h = (refl, (numeral k h, tt))
 
 pub note_plain : IdTexts → (unit : ℕ) (n : Note) → IsWritableNote n → ArePlain (note_fields unit n)
 note_plain v unit (note.Sent c) h = (refl, (command_plain v c, (encoded (spelling (command_message unit c)), tt)))
-note_plain v unit (note.Heard (heard.Reply r)) h = (refl, (reply_plain v r, (encoded (spelling (reply_message unit r)), tt)))
+note_plain v unit (note.Heard (heard.Reply r)) h =
+    (refl, (reply_plain v r, (encoded (spelling (reply_message unit r)), tt)))
 note_plain v unit (note.Heard heard.Other) h = (refl, (refl, (refl, tt)))
 note_plain v unit note.Silence h = (refl, (refl, (refl, tt)))
 note_plain v unit note.Take h = (refl, (refl, (refl, tt)))
@@ -153,7 +159,8 @@ note_plain v unit note.Stop h = (refl, (refl, (refl, tt)))
 note_plain v unit (note.End outcome) h = (refl, outcome_plain outcome h)
 
 -- only what is no reply has no digits
-pub heard_other : (unit : ℕ) (h : Heard) (text digits : List ℕ) → note_fields unit (note.Heard h) ≡ codes "heard" ∷ text ∷ digits ∷ []
+pub heard_other : (unit : ℕ) (h : Heard) (text digits : List ℕ)
+    → note_fields unit (note.Heard h) ≡ codes "heard" ∷ text ∷ digits ∷ []
     → length digits ≡ 0 → h ≡ heard.Other
 heard_other unit (heard.Reply r) text digits e none =
     let same : encode_lower (spelling (reply_message unit r)) ≡ digits = cc e in

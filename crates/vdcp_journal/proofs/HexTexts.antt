@@ -20,9 +20,11 @@ are_bytes (x ∷ xs) h (suc i) = are_bytes xs (All-tail (λ b. b < 256) x xs h) 
 
 -- what the decoder says of room for these bytes
 abbrev pub Decodes : List ℕ → ℕ → Result (Unit {0}) FromHexError → List ℕ → Type 0
-Decodes text n result new = MatchResult (decode_sized text n) (λ bytes. (result ≡ Ok tt) × (new ≡ bytes)) (λ e. result ≡ Err e)
+Decodes text n result new =
+    MatchResult (decode_sized text n) (λ bytes. (result ≡ Ok tt) × (new ≡ bytes)) (λ e. result ≡ Err e)
 
-pub read_back : (named text : List ℕ) (n : ℕ) (result : Result (Unit {0}) FromHexError) (new : List ℕ) → All (λ b. b < 256) named
+pub read_back : (named text : List ℕ) (n : ℕ) (result : Result (Unit {0}) FromHexError) (new : List ℕ)
+    → All (λ b. b < 256) named
     → length named ≡ n → encode_lower named ≡ text → Decodes text n result new → (result ≡ Ok tt) × (new ≡ named)
 read_back named text n result new below size e h =
     subst (λ r. MatchResult r (λ bytes. (result ≡ Ok tt) × (new ≡ bytes)) (λ e. result ≡ Err e))

@@ -35,7 +35,8 @@ none_left : (xs : Fields) → length xs ≡ 0 → xs ≡ []
 none_left [] e = refl
 none_left (x ∷ xs) e = absurd (omega (arith, e))
 
-pub four : (xs : Fields) (a b c d : List ℕ) → length xs ≡ 4 → slice_get xs 0 ≡ Some a → slice_get xs 1 ≡ Some b → slice_get xs 2 ≡ Some c
+pub four : (xs : Fields) (a b c d : List ℕ) → length xs ≡ 4 → slice_get xs 0 ≡ Some a → slice_get xs 1 ≡ Some b
+    → slice_get xs 2 ≡ Some c
     → slice_get xs 3 ≡ Some d → xs ≡ a ∷ b ∷ c ∷ d ∷ []
 four xs a b c d size e0 e1 e2 e3 =
     first_is xs (b ∷ c ∷ d ∷ []) a 3 size e0 (λ xs1 size1 at1.
@@ -43,14 +44,16 @@ four xs a b c d size e0 e1 e2 e3 =
     first_is xs2 (d ∷ []) c 1 size2 (at2 0 ∙ at1 1 ∙ e2) (λ xs3 size3 at3.
     first_is xs3 [] d 0 size3 (at3 0 ∙ at2 1 ∙ at1 2 ∙ e3) (λ xs4 size4 at4. none_left xs4 size4))))
 
-pub seven : (xs : Fields) (a b c d e f g : List ℕ) → length xs ≡ 7 → slice_get xs 0 ≡ Some a → slice_get xs 1 ≡ Some b → slice_get xs 2 ≡ Some c
+pub seven : (xs : Fields) (a b c d e f g : List ℕ) → length xs ≡ 7 → slice_get xs 0 ≡ Some a → slice_get xs 1 ≡ Some b
+    → slice_get xs 2 ≡ Some c
     → slice_get xs 3 ≡ Some d → slice_get xs 4 ≡ Some e → slice_get xs 5 ≡ Some f → slice_get xs 6 ≡ Some g
     → xs ≡ a ∷ b ∷ c ∷ d ∷ e ∷ f ∷ g ∷ []
 seven xs a b c d e f g size e0 e1 e2 e3 e4 e5 e6 =
     first_is xs (b ∷ c ∷ d ∷ e ∷ f ∷ g ∷ []) a 6 size e0 (λ xs1 size1 at1.
     first_is xs1 (c ∷ d ∷ e ∷ f ∷ g ∷ []) b 5 size1 (at1 0 ∙ e1) (λ xs2 size2 at2.
     first_is xs2 (d ∷ e ∷ f ∷ g ∷ []) c 4 size2 (at2 0 ∙ at1 1 ∙ e2) (λ xs3 size3 at3.
-    four xs3 d e f g size3 (at3 0 ∙ at2 1 ∙ at1 2 ∙ e3) (at3 1 ∙ at2 2 ∙ at1 3 ∙ e4) (at3 2 ∙ at2 3 ∙ at1 4 ∙ e5) (at3 3 ∙ at2 4 ∙ at1 5 ∙ e6))))
+    four xs3 d e f g size3 (at3 0 ∙ at2 1 ∙ at1 2 ∙ e3) (at3 1 ∙ at2 2 ∙ at1 3 ∙ e4) (at3 2 ∙ at2 3 ∙ at1 4 ∙ e5)
+    (at3 3 ∙ at2 4 ∙ at1 5 ∙ e6))))
 
 -- ---- places
 

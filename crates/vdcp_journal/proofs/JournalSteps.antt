@@ -22,11 +22,13 @@ abbrev pub NoneRead : Type 0
 NoneRead = (all : Left) → IsFront all all []
 
 abbrev pub MoreRead : Type 0
-MoreRead = (all left left' : Left) (front : List Fields) (row : Fields) → IsFront all left front → TakesRow left left' true row
+MoreRead = (all left left' : Left) (front : List Fields) (row : Fields) → IsFront all left front
+    → TakesRow left left' true row
     → IsFront all left' (front ++ row ∷ [])
 
 abbrev pub AllRead : Type 0
-AllRead = (file : Option (List ℕ)) (left left' : Left) (front : List Fields) (row : Fields) → IsFront (option_map rows_of file) left front
+AllRead = (file : Option (List ℕ)) (left left' : Left) (front : List Fields) (row : Fields)
+    → IsFront (option_map rows_of file) left front
     → TakesRow left left' false row → AreRowsOf file front
 
 abbrev pub BeginsRead : Type 0
@@ -34,39 +36,50 @@ BeginsRead = (file : Option (List ℕ)) (left : Left) (front : List Fields) → 
     → HasRows file (λ rows. (more : List Fields) × (rows ≡ front ++ more))
 
 -- the rows that were read, the heading apart
-pub record ReadSoFar (file : Option (List ℕ)) (left : Left) (n : ℕ) (time : Moment) (heading : Heading) (rows : List Row) : Type 0 where
+pub record ReadSoFar (file : Option (List ℕ)) (left : Left) (n : ℕ) (time : Moment) (heading : Heading)
+    (rows : List Row) : Type 0 where
   pub is_front : IsFront (option_map rows_of file) left (journal_fields time heading rows)
   pub writable_heading : IsWritableHeading heading
   pub unit : heading.unit ≤ 15
   pub writable : AreWritable rows
   pub size : n ≡ length rows
 
-pub so_far_first : NoneRead → MoreRead → (file : Option (List ℕ)) (left left' : Left) (row : Fields) (time : Moment) (heading : Heading)
-    → left ≡ option_map rows_of file → TakesRow left left' true row → IsHeading row time heading → ReadSoFar file left' 0 time heading []
+pub so_far_first : NoneRead → MoreRead → (file : Option (List ℕ)) (left left' : Left) (row : Fields) (time : Moment)
+    (heading : Heading)
+    → left ≡ option_map rows_of file → TakesRow left left' true row → IsHeading row time heading
+    → ReadSoFar file left' 0 time heading []
 so_far_first none more file left left' row time heading is t h = record {
   is_front =
       subst (λ f. IsFront (option_map rows_of file) left' (f ∷ [])) (sym h.fields_are)
-      (more (option_map rows_of file) left left' [] row (subst (λ l. IsFront (option_map rows_of file) l []) (sym is) (none (option_map rows_of file))) t);
+      (more (option_map rows_of file) left left' [] row
+      (subst (λ l. IsFront (option_map rows_of file) l []) (sym is) (none (option_map rows_of file))) t);
   writable_heading = h.writable;
   unit = h.unit;
   writable = tt;
   size = refl;
 }
 
-written_more : (rows : List Row) (row : Row) → AreWritable rows → IsWritableNote row.note → AreWritable (rows ++ row ∷ [])
+written_more : (rows : List Row) (row : Row) → AreWritable rows → IsWritableNote row.note
+    → AreWritable (rows ++ row ∷ [])
 written_more [] row h w = (w, tt)
 written_more (first ∷ rows) row h w = (h.0, written_more rows row h.1 w)
 
 fields_more : (time : Moment) (heading : Heading) (rows : List Row) (row : Row)
-    → journal_fields time heading (rows ++ row ∷ []) ≡ journal_fields time heading rows ++ row_fields heading.unit row ∷ []
-fields_more time heading rows row = ap (λ l. heading_fields time heading ∷ l) (map-append (row_fields heading.unit) rows (row ∷ []))
+    → journal_fields time heading (rows ++ row ∷ [])
+    ≡ journal_fields time heading rows ++ row_fields heading.unit row ∷ []
+fields_more time heading rows row =
+    ap (λ l. heading_fields time heading ∷ l) (map-append (row_fields heading.unit) rows (row ∷ []))
 
-pub so_far_next : MoreRead → (file : Option (List ℕ)) (left left' : Left) (n : ℕ) (time : Moment) (heading : Heading) (rows : List Row) (fields : Fields)
-    (row : Row) → ReadSoFar file left n time heading rows → TakesRow left left' true fields → IsRow heading.unit fields row
+pub so_far_next : MoreRead → (file : Option (List ℕ)) (left left' : Left) (n : ℕ) (time : Moment) (heading : Heading)
+    (rows : List Row) (fields : Fields)
+    (row : Row) → ReadSoFar file left n time heading rows → TakesRow left left' true fields
+    → IsRow heading.unit fields row
     → ReadSoFar file left' (n + 1) time heading (rows ++ row ∷ [])
 so_far_next more file left left' n time heading rows fields row h t r =
-    let front : IsFront (option_map rows_of file) left' (journal_fields time heading rows ++ row_fields heading.unit row ∷ []) =
-    more (option_map rows_of file) left left' (journal_fields time heading rows) (row_fields heading.unit row) h.is_front
+    let front : IsFront (option_map rows_of file) left'
+    (journal_fields time heading rows ++ row_fields heading.unit row ∷ []) =
+    more (option_map rows_of file) left left' (journal_fields time heading rows) (row_fields heading.unit row)
+    h.is_front
     (subst (λ f. TakesRow left left' true f) (sym r.1) t) in
     record {
       is_front = subst (λ l. IsFront (option_map rows_of file) left' l) (sym (fields_more time heading rows row)) front;
@@ -77,8 +90,10 @@ so_far_next more file left left' n time heading rows fields row h t r =
     }
 
 -- none is left: they are all
-pub so_far_all : AllRead → (file : Option (List ℕ)) (left left' : Left) (n : ℕ) (time : Moment) (heading : Heading) (rows : List Row) (row : Fields)
-    → ReadSoFar file left n time heading rows → TakesRow left left' false row → HasRows file (λ lines. AreLinesOf lines time heading rows)
+pub so_far_all : AllRead → (file : Option (List ℕ)) (left left' : Left) (n : ℕ) (time : Moment) (heading : Heading)
+    (rows : List Row) (row : Fields)
+    → ReadSoFar file left n time heading rows → TakesRow left left' false row
+    → HasRows file (λ lines. AreLinesOf lines time heading rows)
 so_far_all all file left left' n time heading rows row h t =
     let of = all file left left' (journal_fields time heading rows) row h.is_front t in (
       journal_fields time heading rows,
@@ -86,7 +101,8 @@ so_far_all all file left left' n time heading rows row h t =
       record { writable_heading = h.writable_heading; unit = h.unit; writable = h.writable; lines_are = refl },
     )
 
-pub none_of : NoneRead → AllRead → (file : Option (List ℕ)) (left left' : Left) (row : Fields) → left ≡ option_map rows_of file
+pub none_of : NoneRead → AllRead → (file : Option (List ℕ)) (left left' : Left) (row : Fields)
+    → left ≡ option_map rows_of file
     → TakesRow left left' false row → HasRows file (λ lines. lines ≡ [])
 none_of none all file left left' row is t =
     let first : IsFront (option_map rows_of file) left [] =
@@ -95,7 +111,8 @@ none_of none all file left left' row is t =
     ([], of, refl)
 
 -- whatever the rows are
-pub whatever : NoneRead → BeginsRead → (file : Option (List ℕ)) (P : List Fields → Type 0) → ((lines : List Fields) → P lines) → HasRows file P
+pub whatever : NoneRead → BeginsRead → (file : Option (List ℕ)) (P : List Fields → Type 0)
+    → ((lines : List Fields) → P lines) → HasRows file P
 whatever none begins file P h =
     let (rows, of, some) = begins file (option_map rows_of file) [] (none (option_map rows_of file)) in
     (rows, of, h rows)
@@ -115,17 +132,21 @@ after_front (first ∷ front) more row =
 after_of : (front more rows : List Fields) (row : Fields) → rows ≡ (front ++ row ∷ []) ++ more → After front rows row
 after_of front more rows row e = rw (e ∙ append_assoc front (row ∷ []) more) (after_front front more row)
 
-pub bad_heading : NoneRead → MoreRead → BeginsRead → (file : Option (List ℕ)) (left left' : Left) (row : Fields) (fault : JournalRowFault)
+pub bad_heading : NoneRead → MoreRead → BeginsRead → (file : Option (List ℕ)) (left left' : Left) (row : Fields)
+    (fault : JournalRowFault)
     → left ≡ option_map rows_of file → TakesRow left left' true row → IsHeadingFault row fault
     → HasRows file (λ lines. IsLinesFault lines (BadHeading fault))
 bad_heading none more begins file left left' row fault is t wrong =
     let first : IsFront (option_map rows_of file) left [] =
     subst (λ l. IsFront (option_map rows_of file) l []) (sym is) (none (option_map rows_of file)) in
-    let (rows, of, (others, e)) = begins file left' (row ∷ []) (more (option_map rows_of file) left left' [] row first t) in
+    let (rows, of, (others, e)) =
+    begins file left' (row ∷ []) (more (option_map rows_of file) left left' [] row first t) in
     (rows, of, (row, (after_of [] others rows row e).here, wrong))
 
-pub bad_row : MoreRead → BeginsRead → (file : Option (List ℕ)) (left left' : Left) (n : ℕ) (time : Moment) (heading : Heading) (rows : List Row)
-    (fields : Fields) (fault : JournalRowFault) → ReadSoFar file left n time heading rows → TakesRow left left' true fields
+pub bad_row : MoreRead → BeginsRead → (file : Option (List ℕ)) (left left' : Left) (n : ℕ) (time : Moment)
+    (heading : Heading) (rows : List Row)
+    (fields : Fields) (fault : JournalRowFault) → ReadSoFar file left n time heading rows
+    → TakesRow left left' true fields
     → IsRowFault heading.unit fields fault → HasRows file (λ lines. IsLinesFault lines (BadRow (n + 2) fault))
 bad_row more begins file left left' n time heading rows fields fault h t wrong =
     let front = journal_fields time heading rows in

@@ -46,9 +46,11 @@ digit_unmarked byte e = grind (arith, nat_tests, e)
 
 form_unmarked : (form text : List ℕ) → has_form (48 ∷ form) text ≡ true → Unmarked text
 form_unmarked form [] e = cc e
-form_unmarked form (byte ∷ text) e = digit_unmarked byte ((and-eq-true_iff (fits_place 48 byte) (has_form form text)).0 e).0
+form_unmarked form (byte ∷ text) e =
+    digit_unmarked byte ((and-eq-true_iff (fits_place 48 byte) (has_form form text)).0 e).0
 
-if_unmarked : (b : Bool) (quoted text more : List ℕ) → Unmarked text → Unmarked ((if b then 34 ∷ quoted else text) ++ more)
+if_unmarked : (b : Bool) (quoted text more : List ℕ) → Unmarked text
+    → Unmarked ((if b then 34 ∷ quoted else text) ++ more)
 if_unmarked true quoted text more u = refl
 if_unmarked false quoted [] more u = absurd u
 if_unmarked false quoted (byte ∷ text) more u = u
@@ -60,12 +62,15 @@ append_unmarked (byte ∷ a) b u = u
 row_unmarked : (field : List ℕ) (fields : Fields) → Unmarked field → Unmarked (fields_text (field ∷ fields))
 row_unmarked field fields u =
     append_unmarked (field_text default_writer field ++ more_text default_writer fields) _
-    (if_unmarked (needs_quotes default_writer field) (escaped default_writer field ++ 34 ∷ []) field (more_text default_writer fields) u)
+    (if_unmarked (needs_quotes default_writer field) (escaped default_writer field ++ 34 ∷ []) field
+    (more_text default_writer fields) u)
 
-time_unmarked : (time : Moment) (fields : Fields) (more : List ℕ) → Unmarked (fields_text (moment_text time ∷ fields) ++ more)
+time_unmarked : (time : Moment) (fields : Fields) (more : List ℕ)
+    → Unmarked (fields_text (moment_text time ∷ fields) ++ more)
 time_unmarked time fields more =
     append_unmarked (fields_text (moment_text time ∷ fields)) more
-    (row_unmarked (moment_text time) fields (form_unmarked (codes "000-00-00T00:00:00.000Z") (moment_text time) time.formed))
+    (row_unmarked (moment_text time) fields (form_unmarked (codes "000-00-00T00:00:00.000Z") (moment_text time)
+    time.formed))
 
 no_bom : (text : List ℕ) → Unmarked text → strip_bom text ≡ text
 no_bom [] u = absurd u
@@ -86,7 +91,10 @@ heading_plain time heading h = (
       encoded heading.digest,
       (
         mode_plain heading.confirming,
-        (numeral heading.unit (omega (arith, h.unit)), (numeral heading.port (omega (arith, h.port)), (numeral heading.limit (omega (arith, h.limit)), tt))),
+        (
+          numeral heading.unit (omega (arith, h.unit)),
+          (numeral heading.port (omega (arith, h.port)), (numeral heading.limit (omega (arith, h.limit)), tt)),
+        ),
       ),
     ),
   ),
@@ -94,9 +102,11 @@ heading_plain time heading h = (
 
 rows_plain : IdTexts → (unit : ℕ) (rows : List Row) → AreWritable rows → AreRows (map (row_fields unit) rows)
 rows_plain v unit [] h = tt
-rows_plain v unit (row ∷ rows) h = ((moment_plain row.time, note_plain v unit row.note h.0), tt, rows_plain v unit rows h.1)
+rows_plain v unit (row ∷ rows) h =
+    ((moment_plain row.time, note_plain v unit row.note h.0), tt, rows_plain v unit rows h.1)
 
-are_rows : IdTexts → (time : Moment) (heading : Heading) (rows : List Row) → IsWritableHeading heading → AreWritable rows
+are_rows : IdTexts → (time : Moment) (heading : Heading) (rows : List Row) → IsWritableHeading heading
+    → AreWritable rows
     → AreRows (journal_fields time heading rows)
 are_rows v time heading rows h w = (heading_plain time heading h, tt, rows_plain v heading.unit rows w)
 
@@ -121,7 +131,8 @@ front_text (suc n) [] = refl
 front_text (suc n) (fields ∷ rows) = ap (λ l. fields_text fields ∷ l) (front_text n rows)
 
 front_read : (n : ℕ) (time : Moment) (first : Fields) (rows : List Fields) → AreRows ((moment_text time ∷ first) ∷ rows)
-    → rows_of (joined (map fields_text (take n ((moment_text time ∷ first) ∷ rows)))) ≡ take n ((moment_text time ∷ first) ∷ rows)
+    → rows_of (joined (map fields_text (take n ((moment_text time ∷ first) ∷ rows))))
+    ≡ take n ((moment_text time ∷ first) ∷ rows)
 unfolding strip_bom
 front_read zero time first rows h = rows-read [] tt refl
 front_read (suc n) time first rows h =
@@ -129,22 +140,27 @@ front_read (suc n) time first rows h =
     (no_bom _ (time_unmarked time first (joined (map fields_text (take n rows)))))
 
 -- whatever is left of a journal that is cut short reads as a front of its rows
-pub beginning_read : IdTexts → (time : Moment) (heading : Heading) (rows : List Row) (n : ℕ) → IsWritableHeading heading → AreWritable rows
-    → (m : ℕ) × (rows_of (whole_lines (take n (journal_text time heading rows))) ≡ take m (journal_fields time heading rows))
+pub beginning_read : IdTexts → (time : Moment) (heading : Heading) (rows : List Row) (n : ℕ) → IsWritableHeading heading
+    → AreWritable rows
+    → (m : ℕ) × (rows_of (whole_lines (take n (journal_text time heading rows)))
+    ≡ take m (journal_fields time heading rows))
 beginning_read v time heading rows n h w =
     let all = journal_fields time heading rows in
     let rs = are_rows v time heading rows h w in
     let (m, is) = beginning (map fields_text all) (are_lines all rs) n in (
       m,
-      ap (λ l. rows_of (whole_lines (take n l))) (text_joined time heading rows) ∙ ap rows_of (is ∙ ap joined (front_text m all))
+      ap (λ l. rows_of (whole_lines (take n l))) (text_joined time heading rows)
+          ∙ ap rows_of (is ∙ ap joined (front_text m all))
           ∙ front_read m time _ (map (row_fields heading.unit) rows) rs,
     )
 
 -- and the whole as all of them
-pub whole_read : IdTexts → (time : Moment) (heading : Heading) (rows : List Row) → IsWritableHeading heading → AreWritable rows
+pub whole_read : IdTexts → (time : Moment) (heading : Heading) (rows : List Row) → IsWritableHeading heading
+    → AreWritable rows
     → rows_of (whole_lines (journal_text time heading rows)) ≡ journal_fields time heading rows
 whole_read v time heading rows h w =
     let all = journal_fields time heading rows in
     let rs = are_rows v time heading rows h w in
-    ap (λ l. rows_of (whole_lines l)) (text_joined time heading rows) ∙ ap rows_of (all-whole (map fields_text all) (are_lines all rs))
+    ap (λ l. rows_of (whole_lines l)) (text_joined time heading rows)
+    ∙ ap rows_of (all-whole (map fields_text all) (are_lines all rs))
     ∙ rows-read all rs (no_bom _ (time_unmarked time _ (joined (map fields_text (map (row_fields heading.unit) rows)))))

@@ -38,12 +38,16 @@ both-false true b p q = cc p
 
 pub feed-append : (xs ys : List ℕ) → has_feed xs ≡ false → has_feed ys ≡ false → has_feed (xs ++ ys) ≡ false
 feed-append [] ys p q = q
-feed-append (x ∷ xs) ys p q = both-false (x == 10) (has_feed (xs ++ ys)) (or-left (x == 10) (has_feed xs) p) (feed-append xs ys (or-right (x == 10) (has_feed xs) p) q)
+feed-append (x ∷ xs) ys p q =
+    both-false (x == 10) (has_feed (xs ++ ys)) (or-left (x == 10) (has_feed xs) p)
+    (feed-append xs ys (or-right (x == 10) (has_feed xs) p) q)
 
 feed-take : (n : ℕ) (xs : List ℕ) → has_feed xs ≡ false → has_feed (take n xs) ≡ false
 feed-take zero xs p = refl
 feed-take (suc n) [] p = refl
-feed-take (suc n) (x ∷ xs) p = both-false (x == 10) (has_feed (take n xs)) (or-left (x == 10) (has_feed xs) p) (feed-take n xs (or-right (x == 10) (has_feed xs) p))
+feed-take (suc n) (x ∷ xs) p =
+    both-false (x == 10) (has_feed (take n xs)) (or-left (x == 10) (has_feed xs) p)
+    (feed-take n xs (or-right (x == 10) (has_feed xs) p))
 
 -- ---- whole lines
 
@@ -52,7 +56,8 @@ before-none byte e = rw e refl
 
 pub none-whole : (xs : List ℕ) → has_feed xs ≡ false → whole_lines xs ≡ []
 none-whole [] p = refl
-none-whole (x ∷ xs) p = ap (line_before x) (none-whole xs (or-right (x == 10) (has_feed xs) p)) ∙ before-none x (or-left (x == 10) (has_feed xs) p)
+none-whole (x ∷ xs) p = ap (line_before x) (none-whole xs (or-right (x == 10) (has_feed xs) p))
+    ∙ before-none x (or-left (x == 10) (has_feed xs) p)
 
 before-feed : (w : List ℕ) → line_before 10 w ≡ 10 ∷ w
 before-feed [] = refl
@@ -68,7 +73,8 @@ line-whole (x ∷ body) rest = ap (line_before x) (line-whole body rest) ∙ bef
 
 line-first : (line rest : List ℕ) → IsLine line → whole_lines (line ++ rest) ≡ line ++ whole_lines rest
 line-first line rest h =
-    ap (λ l. whole_lines (l ++ rest)) h.is ∙ ap whole_lines (append_assoc h.body (10 ∷ []) rest) ∙ line-whole h.body rest
+    ap (λ l. whole_lines (l ++ rest)) h.is ∙ ap whole_lines (append_assoc h.body (10 ∷ []) rest)
+    ∙ line-whole h.body rest
     ∙ sym (append_assoc h.body (10 ∷ []) (whole_lines rest)) ∙ ap (λ l. l ++ whole_lines rest) (sym h.is)
 
 pub all-whole : (lines : List (List ℕ)) → AreLines lines → whole_lines (joined lines) ≡ joined lines
@@ -84,22 +90,29 @@ WholeOf lines text = (m : ℕ) × (whole_lines text ≡ joined (take m lines))
 size-line : (body : List ℕ) → length (body ++ 10 ∷ []) ≡ length body + 1
 size-line body = length-append body (10 ∷ [])
 
-cut-short : (body rest : List ℕ) (n : ℕ) → has_feed body ≡ false → n ≤ length body → whole_lines (take n ((body ++ 10 ∷ []) ++ rest)) ≡ []
+cut-short : (body rest : List ℕ) (n : ℕ) → has_feed body ≡ false → n ≤ length body
+    → whole_lines (take n ((body ++ 10 ∷ []) ++ rest)) ≡ []
 cut-short body rest n p below =
-    ap (λ l. whole_lines (take n l)) (append_assoc body (10 ∷ []) rest) ∙ ap whole_lines (take-append-le n body (10 ∷ rest) below)
+    ap (λ l. whole_lines (take n l)) (append_assoc body (10 ∷ []) rest)
+    ∙ ap whole_lines (take-append-le n body (10 ∷ rest) below)
     ∙ none-whole (take n body) (feed-take n body p)
 
-beginning-of : (line : List ℕ) (lines : List (List ℕ)) (n : ℕ) → IsLine line → ((k : ℕ) → WholeOf lines (take k (joined lines)))
+beginning-of : (line : List ℕ) (lines : List (List ℕ)) (n : ℕ) → IsLine line
+    → ((k : ℕ) → WholeOf lines (take k (joined lines)))
     → ((n ≤ length line - 1) ⊎ (length line - 1 < n)) → WholeOf (line ∷ lines) (take n (line ++ joined lines))
 beginning-of line lines n h more (inl short) =
-    let size : length line ≡ length h.body + 1 = ap length h.is ∙ size-line h.body in
-    (0, ap (λ l. whole_lines (take n (l ++ joined lines))) h.is ∙ cut-short h.body (joined lines) n h.plain (omega (arith, short, size)))
+    let size : length line ≡ length h.body + 1 = ap length h.is ∙ size-line h.body in (
+      0,
+      ap (λ l. whole_lines (take n (l ++ joined lines))) h.is
+          ∙ cut-short h.body (joined lines) n h.plain (omega (arith, short, size)),
+    )
 beginning-of line lines n h more (inr long) =
     let size : length line ≡ length h.body + 1 = ap length h.is ∙ size-line h.body in
     let k : n ≡ length line + (n - length line) = omega (arith, long, size) in
     let (m, is) = more (n - length line) in (
       suc m,
-      ap (λ (x : ℕ). whole_lines (take x (line ++ joined lines))) k ∙ ap whole_lines (take-append-add line (joined lines) (n - length line))
+      ap (λ (x : ℕ). whole_lines (take x (line ++ joined lines))) k
+          ∙ ap whole_lines (take-append-add line (joined lines) (n - length line))
           ∙ line-first line (take (n - length line) (joined lines)) h ∙ ap (λ l. line ++ l) is,
     )
 
@@ -125,11 +138,15 @@ last-plain (x ∷ xs) b e = ap (line_before x) (last-plain xs b e)
 
 -- the front of k + 1 bytes, by its last one
 
-pub torn-more : (text : List ℕ) (k : ℕ) → k < length text → get_or text k 0 ≢ 10 → whole_lines (take (suc k) text) ≡ whole_lines (take k text)
+pub torn-more : (text : List ℕ) (k : ℕ) → k < length text → get_or text k 0 ≢ 10
+    → whole_lines (take (suc k) text) ≡ whole_lines (take k text)
 torn-more text k below ne =
-    ap whole_lines (take-suc text k 0 below) ∙ last-plain (take k text) (get_or text k 0) (ne_eqb (get_or text k 0) 10 ne)
+    ap whole_lines (take-suc text k 0 below) ∙ last-plain (take k text) (get_or text k 0)
+    (ne_eqb (get_or text k 0) 10 ne)
 
-pub feed-last : (text : List ℕ) (k : ℕ) → k < length text → get_or text k 0 ≡ 10 → whole_lines (take (suc k) text) ≡ take (suc k) text
+pub feed-last : (text : List ℕ) (k : ℕ) → k < length text → get_or text k 0 ≡ 10
+    → whole_lines (take (suc k) text) ≡ take (suc k) text
 feed-last text k below is =
-    let parts : take (suc k) text ≡ take k text ++ 10 ∷ [] = take-suc text k 0 below ∙ ap (λ b. take k text ++ b ∷ []) is in
+    let parts : take (suc k) text ≡ take k text ++ 10 ∷ [] =
+    take-suc text k 0 below ∙ ap (λ b. take k text ++ b ∷ []) is in
     ap whole_lines parts ∙ line-whole (take k text) [] ∙ sym parts

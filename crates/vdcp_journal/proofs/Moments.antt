@@ -20,4 +20,5 @@ pub form_size : (form text : List ℕ) → has_form form text ≡ true → lengt
 form_size [] [] e = refl
 form_size [] (byte ∷ text) e = cc e
 form_size (place ∷ form) [] e = cc e
-form_size (place ∷ form) (byte ∷ text) e = ap suc (form_size form text ((and-eq-true_iff (fits_place place byte) (has_form form text)).0 e).1)
+form_size (place ∷ form) (byte ∷ text) e =
+    ap suc (form_size form text ((and-eq-true_iff (fits_place place byte) (has_form form text)).0 e).1)

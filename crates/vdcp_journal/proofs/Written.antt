@@ -7,13 +7,15 @@ use Rattle.std.specs.Prelude.{Option}
 use Rattle.vdcp_journal.specs.Rows.{AppendsBeginning}
 
 -- one more piece of what is left
-pub taken_more : (a b c : Option (List ℕ)) (text : List ℕ) (n m : ℕ) → Appends a b (take n text) → Appends b c (take m (take (length text - n) (drop n text)))
+pub taken_more : (a b c : Option (List ℕ)) (text : List ℕ) (n m : ℕ) → Appends a b (take n text)
+    → Appends b c (take m (take (length text - n) (drop n text)))
     → Appends a c (take (n + m) text)
 taken_more a b c text n m p q =
     subst (λ bytes. Appends a c bytes) (sym (take-add n m text))
     (Appends-trans a b c (take n text) (take m (drop n text)) p (rw (take_rest text n) at q))
 
-pub more_within : (text : List ℕ) (n m : ℕ) → n ≤ length text → m ≤ length (take (length text - n) (drop n text)) → n + m ≤ length text
+pub more_within : (text : List ℕ) (n m : ℕ) → n ≤ length text → m ≤ length (take (length text - n) (drop n text))
+    → n + m ≤ length text
 more_within text n m p q =
     let left : m ≤ length (drop n text) = rw (take_rest text n) at q in
     omega (arith, p, left, length-drop n text)

@@ -31,7 +31,8 @@ abbrev pub IsHeadingFault : Fields → JournalRowFault → Type 0
 IsHeadingFault fields wrong.Fields = length fields ≢ 7
 IsHeadingFault fields wrong.Time = HasNoTime fields
 IsHeadingFault fields wrong.Word = slice_get fields 1 ≢ Some (codes "list")
-IsHeadingFault fields wrong.Digest = (digest : List ℕ) → AreBytes 32 digest → slice_get fields 2 ≢ Some (encode_lower digest)
+IsHeadingFault fields wrong.Digest =
+    (digest : List ℕ) → AreBytes 32 digest → slice_get fields 2 ≢ Some (encode_lower digest)
 IsHeadingFault fields wrong.Mode = (confirming : Bool) → slice_get fields 3 ≢ Some (mode_text confirming)
 IsHeadingFault fields wrong.Number = (unit port limit : ℕ) → unit ≤ 15 → port < 256 → limit < 2 ^ 32 →
     drop 4 fields ≢ decimal unit ∷ decimal port ∷ decimal limit ∷ []

@@ -31,10 +31,13 @@ pub fn what_is_told_is_lawful()
 /// The whole lines of a journal, read as CSV, are its rows. Of a journal that is cut short anywhere, as by a
 /// writer that was killed, the whole lines are a front of its rows: a torn row is left out.
 pub fn a_cut_journal_is_a_front_of_its_rows()
-    ensures whole { (time : Moment) (heading : Heading) (rows : List Row) → IsWritableHeading heading → AreWritable rows →
+    ensures whole { (time : Moment) (heading : Heading) (rows : List Row) → IsWritableHeading heading
+        → AreWritable rows →
         rows_of (whole_lines (journal_text time heading rows)) ≡ journal_fields time heading rows }
-    ensures cut { (time : Moment) (heading : Heading) (rows : List Row) (n : ℕ) → IsWritableHeading heading → AreWritable rows →
-        (m : ℕ) × (rows_of (whole_lines (take n (journal_text time heading rows))) ≡ take m (journal_fields time heading rows)) }
+    ensures cut { (time : Moment) (heading : Heading) (rows : List Row) (n : ℕ) → IsWritableHeading heading
+        → AreWritable rows →
+        (m : ℕ) × (rows_of (whole_lines (take n (journal_text time heading rows)))
+        ≡ take m (journal_fields time heading rows)) }
 {
     an_id_has_one_text();
 }

@@ -217,7 +217,8 @@ struct Lines {
 
 /// Reads whole lines.
 fn read_lines<R: Read + Drop>(alloc: Global, reader: R) -> Result<Lines, JournalReadFault>
-    ensures lines { IfOk result (λ read. HasRows (R.remaining reader) (λ lines. AreLinesOf lines read.time read.heading read.rows.items)) }
+    ensures lines { IfOk result (λ read. HasRows (R.remaining reader)
+        (λ lines. AreLinesOf lines read.time read.heading read.rows.items)) }
     ensures fault { IfErr result (λ fault. HasRows (R.remaining reader) (λ lines. IsLinesFault lines fault)) }
 {
     rows_are_read_in_order();

@@ -40,7 +40,8 @@ pub fn resume<S: Source + Drop>(
     }) }
     ensures open { IfOk result (λ resumed. resumed.open
         ≡ awaited (plan_of S.items controller) (after_rows (plan_of S.items controller) start rows.now)) }
-    ensures lawful { IfOk result (λ resumed. IsLawful (plan_of S.items controller) resumed.controller.state (log_of rows.now)) }
+    ensures lawful { IfOk result
+        (λ resumed. IsLawful (plan_of S.items controller) resumed.controller.state (log_of rows.now)) }
     ensures refused { IfErr result (IsResumeFault (plan_of S.items controller) start rows.now) }
 {
     what_is_told_is_lawful();

@@ -160,7 +160,8 @@ fn heard_in(unit: u8, text: &[u8], digits: &[u8]) -> Option<Heard>
 /// The end that these two fields name.
 fn outcome_in(text: &[u8], detail: &[u8]) -> Option<Outcome>
     ensures writable { IfSome result IsWritableOutcome }
-    ensures found { (outcome : Outcome) → IsWritableOutcome outcome → outcome_fields outcome ≡ text.now ∷ detail.now ∷ [] →
+    ensures found { (outcome : Outcome) → IsWritableOutcome outcome
+        → outcome_fields outcome ≡ text.now ∷ detail.now ∷ [] →
         result ≡ Some outcome }
 {
     match text {
@@ -180,7 +181,8 @@ fn outcome_in(text: &[u8], detail: &[u8]) -> Option<Outcome>
 pub(crate) fn note_in(unit: u8, word: &[u8], text: &[u8], detail: &[u8]) -> Option<Note>
     requires { unit ≤ 15 }
     ensures writable { IfSome result IsWritableNote }
-    ensures found { (note : Note) → IsWritableNote note → note_fields unit note ≡ word.now ∷ text.now ∷ detail.now ∷ [] →
+    ensures found { (note : Note) → IsWritableNote note
+        → note_fields unit note ≡ word.now ∷ text.now ∷ detail.now ∷ [] →
         result ≡ Some note }
 {
     match word {

@@ -20,9 +20,11 @@ pub fn write_heading<W: Write, A: Allocator>(
     heading: &Heading,
     writer: &mut W,
 ) -> Result<(), JournalWriteFault>
-    ensures ok { OnOk result (Appends (W.contents writer.old) (W.contents writer.new) (fields_text (heading_fields time.now heading.now))) }
+    ensures ok { OnOk result (Appends (W.contents writer.old) (W.contents writer.new)
+        (fields_text (heading_fields time.now heading.now))) }
     ensures memory { IfErr result (λ fault. fault ≡ Memory → Keeps (W.contents writer.old) (W.contents writer.new)) }
-    ensures device { IfErr result (λ fault. fault ≡ Device → AppendsBeginning (W.contents writer.old) (W.contents writer.new)
+    ensures device { IfErr result (λ fault. fault ≡ Device
+        → AppendsBeginning (W.contents writer.old) (W.contents writer.new)
         (fields_text (heading_fields time.now heading.now))) }
 {
     let mut digest = ArrayString::new();
@@ -67,9 +69,11 @@ pub fn write_row<W: Write, A: Allocator>(
     writer: &mut W,
 ) -> Result<(), JournalWriteFault>
     requires { unit ≤ 15 }
-    ensures ok { OnOk result (Appends (W.contents writer.old) (W.contents writer.new) (fields_text (row_fields unit row.now))) }
+    ensures ok { OnOk result (Appends (W.contents writer.old) (W.contents writer.new)
+        (fields_text (row_fields unit row.now))) }
     ensures memory { IfErr result (λ fault. fault ≡ Memory → Keeps (W.contents writer.old) (W.contents writer.new)) }
-    ensures device { IfErr result (λ fault. fault ≡ Device → AppendsBeginning (W.contents writer.old) (W.contents writer.new)
+    ensures device { IfErr result (λ fault. fault ≡ Device
+        → AppendsBeginning (W.contents writer.old) (W.contents writer.new)
         (fields_text (row_fields unit row.now))) }
 {
     let note = fields_of(unit, &row.note);
@@ -94,7 +98,8 @@ fn write_four<W: Write, A: Allocator>(
     ensures ok { OnOk result (Appends (W.contents writer.old) (W.contents writer.new)
         (fields_text (time.now ∷ word.now ∷ text.now ∷ detail.now ∷ []))) }
     ensures memory { IfErr result (λ fault. fault ≡ Memory → Keeps (W.contents writer.old) (W.contents writer.new)) }
-    ensures device { IfErr result (λ fault. fault ≡ Device → AppendsBeginning (W.contents writer.old) (W.contents writer.new)
+    ensures device { IfErr result (λ fault. fault ≡ Device
+        → AppendsBeginning (W.contents writer.old) (W.contents writer.new)
         (fields_text (time.now ∷ word.now ∷ text.now ∷ detail.now ∷ []))) }
 {
     write_fields(alloc, &[time, word, text, detail], writer)
@@ -105,9 +110,11 @@ fn write_fields<W: Write, A: Allocator>(
     fields: &[&[u8]],
     writer: &mut W,
 ) -> Result<(), JournalWriteFault>
-    ensures ok { OnOk result (Appends (W.contents writer.old) (W.contents writer.new) (fields_text (map (λ f. f.now) fields.now))) }
+    ensures ok { OnOk result (Appends (W.contents writer.old) (W.contents writer.new)
+        (fields_text (map (λ f. f.now) fields.now))) }
     ensures memory { IfErr result (λ fault. fault ≡ Memory → Keeps (W.contents writer.old) (W.contents writer.new)) }
-    ensures device { IfErr result (λ fault. fault ≡ Device → AppendsBeginning (W.contents writer.old) (W.contents writer.new)
+    ensures device { IfErr result (λ fault. fault ≡ Device
+        → AppendsBeginning (W.contents writer.old) (W.contents writer.new)
         (fields_text (map (λ f. f.now) fields.now))) }
 {
     let text = text_of(alloc, fields)?;

@@ -69,7 +69,8 @@ reports : (list aired : List Item) (settled : ℕ) → Near list aired settled
 reports list aired settled n =
     let front : take settled aired ≡ take settled list = ap (take settled) n.aired_is ∙ take_within settled
     (length aired) list n.low in
-    let size : length (drop settled aired) + settled ≡ length aired = omega (arith, length-drop settled aired, n.low) in (
+    let size : length (drop settled aired) + settled ≡ length aired =
+    omega (arith, length-drop settled aired, n.low) in (
       drop settled aired,
       sym (take-append-drop settled aired) ∙ ap (λ (x : List Item). x ++ drop settled aired) front,
       omega (arith, size, n.high),
@@ -145,10 +146,12 @@ headline c a l = record {
 
 without_last : (aired front last : List Item) → aired ≡ front ++ last → length aired ≡ length front → aired ≡ front
 without_last aired front [] e same = e ∙ append-nil front
-without_last aired front (item ∷ last) e same = absurd (omega (arith, ap length e, length-append front (item ∷ last), same))
+without_last aired front (item ∷ last) e same =
+    absurd (omega (arith, ap length e, length-append front (item ∷ last), same))
 
 pub complete : (c : LateChannel) → LateHeadline c
-    → IfSome (outcome_of c.state.stage) (λ outcome. IsTrue (is_late_complete c.plan.mode outcome) → c.aired ≡ reported_of c)
+    → IfSome (outcome_of c.state.stage) (λ outcome. IsTrue (is_late_complete c.plan.mode outcome) → c.aired ≡
+    reported_of c)
 complete c h = by (outcome_of c.state.stage) h.ended
   where
     all : (k : ℕ) → AreReported c.plan c.aired c.log k → c.aired ≡ reported_of c

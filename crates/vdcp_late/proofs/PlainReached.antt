@@ -133,6 +133,7 @@ pub plain_airs : Below → (plan : Plan) (port : ClockedPort) (events : List Lat
     → (c : LateChannel) → c ≡ after_late_events (new_late_channel plan port) events
     → Airs c.plan.mode c.plan.list c.port.clips c.aired c.state.settled c.state.stage
 plain_airs below plan port events plain u h items c led =
-    subst (λ (x : LateChannel). Airs x.plan.mode x.plan.list x.port.clips x.aired x.state.settled x.state.stage) (sym led)
+    subst (λ (x : LateChannel). Airs x.plan.mode x.plan.list x.port.clips x.aired x.state.settled x.state.stage)
+    (sym led)
     (airs (after_late_events (new_late_channel plan port) events)
     (kept_events below (new_late_channel plan port) events (kept_new plan port plain u h items)))

@@ -1,4 +1,5 @@
--- The premises of the headline are needed: runs, computed from the definitions, in which one of them is dropped and the headline
+-- The premises of the headline are needed: runs, computed from the definitions, in which one of them is dropped and the
+-- headline
 -- fails.
 use Rattle.std.proofs.Common.{◌≡◌, ℕ, List, [], ◌∷◌, ◌++◌, refl}
 use Rattle.std.specs.Prelude.{Some, reverse}
@@ -35,7 +36,8 @@ ten_seconds = record { rate = F25; label = record { hours = 0; minutes = 0; seco
 abbrev two_clips : List (ClipId × Timecode)
 two_clips = (clip_1, ten_seconds) ∷ (clip_2, ten_seconds) ∷ []
 
--- the playlist of one event, and a new channel of unit 0 and port 1, whose controller gives up after three unanswered exchanges
+-- the playlist of one event, and a new channel of unit 0 and port 1, whose controller gives up after three unanswered
+-- exchanges
 
 abbrev one : List Item
 one = whole clip_1 ∷ []
@@ -71,7 +73,8 @@ another_aired = record { aired = whole clip_2 ∷ []; reported = 0 }
 abbrev round : List LateEvent
 round = Tick ∷ Down ∷ Up ∷ []
 
--- in plain mode from a new channel to Cue(0), and in confirm mode, where SELECT times out and a status shows that the port is
+-- in plain mode from a new channel to Cue(0), and in confirm mode, where SELECT times out and a status shows that the
+-- port is
 -- selected
 
 abbrev to_cue : List LateEvent
@@ -83,11 +86,13 @@ to_cue_confirmed = round ++ Tick ∷ Down ∷ Up ∷ Timeout ∷ round ++ round
 -- ---- with all premises
 
 a_run_keeps_it :
-    seen (after_late_events (new Plain) (to_cue ++ round ++ Ready ∷ round ++ round)) ≡ record { aired = one; reported = 1 }
+    seen (after_late_events (new Plain) (to_cue ++ round ++ Ready ∷ round ++ round))
+    ≡ record { aired = one; reported = 1 }
 a_run_keeps_it = refl
 
 a_late_answer_does_no_harm :
-    seen (after_late_events (new Plain) (to_cue ++ round ++ Ready ∷ round ++ Tick ∷ Timeout ∷ Tick ∷ Down ∷ Up ∷ Timeout ∷ round ++ Up ∷ []))
+    seen (after_late_events (new Plain) (to_cue ++ round ++ Ready ∷ round ++ Tick ∷ Timeout ∷ Tick ∷ Down ∷ Up ∷ Timeout
+    ∷ round ++ Up ∷ []))
     ≡ record { aired = one; reported = 1 }
 a_late_answer_does_no_harm = refl
 
@@ -96,7 +101,8 @@ a_late_answer_does_no_harm = refl
 -- In plain mode a copy of the PLAY is refused by a server that was started anew since the PLAY aired.
 abbrev refused_in_plain_mode : LateChannel
 refused_in_plain_mode =
-    after_late_events (new Plain) (to_cue ++ round ++ Ready ∷ round ++ Tick ∷ DownCopy ∷ LoseUp 0 ∷ ServerAnew ∷ Down ∷ Up ∷ [])
+    after_late_events (new Plain) (to_cue ++ round ++ Ready ∷ round ++ Tick ∷ DownCopy ∷ LoseUp 0 ∷ ServerAnew ∷ Down ∷
+    Up ∷ [])
 
 a_refusal_may_leave_one_out : seen refused_in_plain_mode ≡ record { aired = one; reported = 0 }
 a_refusal_may_leave_one_out = refl
@@ -111,15 +117,18 @@ abbrev swaps : LateChannel → LateChannel
 swaps c = record c { up = reverse c.up }
 
 order_is_needed :
-    seen (after_late_events (swaps (after_late_events (new Plain) (to_cue ++ Tick ∷ DownCopy ∷ Down ∷ Up ∷ Ready ∷ Tick ∷ Down ∷ [])))
+    seen (after_late_events (swaps (after_late_events (new Plain)
+    (to_cue ++ Tick ∷ DownCopy ∷ Down ∷ Up ∷ Ready ∷ Tick ∷ Down ∷ [])))
     (Up ∷ Tick ∷ Up ∷ [])) ≡ reported_alone
 order_is_needed = refl
 
--- A status that shows that nothing is cued is copied, and the copy comes after a newer one, which shows the cue to be done.
+-- A status that shows that nothing is cued is copied, and the copy comes after a newer one, which shows the cue to be
+-- done.
 order_is_needed_in_confirm_mode :
     seen (after_late_events
     (swaps (after_late_events (new Confirming)
-    (to_cue_confirmed ++ Tick ∷ LoseDown 0 ∷ Timeout ∷ Tick ∷ Down ∷ UpCopy ∷ Tick ∷ Down ∷ Timeout ∷ Ready ∷ Tick ∷ Down ∷ [])))
+    (to_cue_confirmed ++ Tick ∷ LoseDown 0 ∷ Timeout ∷ Tick ∷ Down ∷ UpCopy ∷ Tick ∷ Down ∷ Timeout ∷ Ready ∷ Tick
+    ∷ Down ∷ [])))
     (Up ∷ Tick ∷ Timeout ∷ Tick ∷ Up ∷ Up ∷ [])) ≡ reported_alone
 order_is_needed_in_confirm_mode = refl
 
@@ -135,7 +144,8 @@ damage_has_to_show :
 damage_has_to_show = refl
 
 damage_has_to_show_in_confirm_mode :
-    seen (after_late_events (becomes (command.PlayCue clip_2) (after_late_events (new Confirming) (to_cue_confirmed ++ Tick ∷ [])))
+    seen (after_late_events (becomes (command.PlayCue clip_2)
+    (after_late_events (new Confirming) (to_cue_confirmed ++ Tick ∷ [])))
     (Down ∷ Up ∷ Timeout ∷ Ready ∷ round ++ Tick ∷ Down ∷ [])) ≡ another_aired
 damage_has_to_show_in_confirm_mode = refl
 
@@ -157,7 +167,8 @@ with_a_cue port = record port { state = record port.state { cued = done (whole c
 -- The own cue is lost, and the status shows the other one to be done.
 nothing_may_be_cued_at_the_start :
     seen (after_late_events
-    (new_late_channel (record { mode = Confirming; list = one; port = 1; limit = 3 }) (with_a_cue (new_port two_clips 0 1 1)))
+    (new_late_channel (record { mode = Confirming; list = one; port = 1; limit = 3 })
+    (with_a_cue (new_port two_clips 0 1 1)))
     (to_cue_confirmed ++ Tick ∷ LoseDown 0 ∷ Timeout ∷ round ++ Tick ∷ Down ∷ [])) ≡ another_aired
 nothing_may_be_cued_at_the_start = refl
 

@@ -89,7 +89,8 @@ goes_once chances w came d old dropped new later may is_dropped is_sent keeps = 
 pub goes_twice : (chances : Chances) (w : Way) (came : List ℕ) (old dropped new later : Option Told)
     → MayBeDone chances w came doing.Copied
     → dropped ≡ adds_drop old → new ≡ adds_part (Some came) dropped
-    → Keeps (sent_by new) (sent_by later) ⊎ Appends (sent_by new) (sent_by later) came → PassesOn chances w came old later
+    → Keeps (sent_by new) (sent_by later) ⊎ Appends (sent_by new) (sent_by later) came
+    → PassesOn chances w came old later
 goes_twice chances w came old dropped new later may is_dropped is_sent (inl keeps) =
     goes_once chances w came doing.Copied old dropped new later may is_dropped is_sent keeps
 goes_twice chances w came old dropped new later may is_dropped is_sent (inr gains) = record {

@@ -20,14 +20,16 @@ use Rattle.vdcp_text.specs.declared.failure.Failure.TheVariants.{LineFailed, Wri
 abbrev EndedWith : Result Ran DriveFault → Option Outcome → Type 0
 EndedWith answer outcome = IfOk answer (λ a. (a ≡ ran.Ended) ↔ IsSome outcome)
 
-ends_unneeded : (answer : Result Ran DriveFault) (outcome : Option Outcome) → EndedWith answer outcome → line_end_of answer ≡ line_end.Unneeded
+ends_unneeded : (answer : Result Ran DriveFault) (outcome : Option Outcome) → EndedWith answer outcome
+    → line_end_of answer ≡ line_end.Unneeded
     → IsSome outcome
 ends_unneeded (Ok ran.Ended) outcome h is = h.0 refl
 ends_unneeded (Ok ran.Closed) outcome h is = cc
 ends_unneeded (Ok ran.Spent) outcome h is = cc
 ends_unneeded (Err fault) outcome h is = cc
 
-ended_needs_none : (answer : Result Ran DriveFault) (outcome : Option Outcome) → EndedWith answer outcome → IsSome outcome
+ended_needs_none : (answer : Result Ran DriveFault) (outcome : Option Outcome) → EndedWith answer outcome
+    → IsSome outcome
     → (line_end_of answer ≡ line_end.Unneeded) ⊎ (line_end_of answer ≡ line_end.Failed)
 ended_needs_none (Ok ran.Ended) outcome h ended = inl refl
 ended_needs_none (Ok ran.Closed) outcome h ended = let is = h.1 ended in cc
@@ -35,24 +37,29 @@ ended_needs_none (Ok ran.Spent) outcome h ended = let is = h.1 ended in cc
 ended_needs_none (Err fault) outcome h ended = inr refl
 
 -- a line that isn't needed is one whose controller has ended
-pub unneeded_ended : (end : LineEnd) (answer : Result Ran DriveFault) (outcome : Option Outcome) → end ≡ line_end_of answer → EndedWith answer outcome
+pub unneeded_ended : (end : LineEnd) (answer : Result Ran DriveFault) (outcome : Option Outcome)
+    → end ≡ line_end_of answer → EndedWith answer outcome
     → end ≡ line_end.Unneeded → IsSome outcome
 unneeded_ended end answer outcome is h unneeded = ends_unneeded answer outcome h (sym is ∙ unneeded)
 
-pub ended_unneeded : (end : LineEnd) (answer : Result Ran DriveFault) (outcome : Option Outcome) → end ≡ line_end_of answer → EndedWith answer outcome
+pub ended_unneeded : (end : LineEnd) (answer : Result Ran DriveFault) (outcome : Option Outcome)
+    → end ≡ line_end_of answer → EndedWith answer outcome
     → IsSome outcome → (end ≡ line_end.Unneeded) ⊎ (end ≡ line_end.Failed)
 ended_unneeded end answer outcome is h ended =
-    subst (λ (e : LineEnd). (e ≡ line_end.Unneeded) ⊎ (e ≡ line_end.Failed)) (sym is) (ended_needs_none answer outcome h ended)
+    subst (λ (e : LineEnd). (e ≡ line_end.Unneeded) ⊎ (e ≡ line_end.Failed)) (sym is)
+    (ended_needs_none answer outcome h ended)
 
 -- what is printed of a server's turns
-pub prints_end : {A : Type 0} (answer : Result Ran DriveFault) (given_up : Bool) (result : Result A Failure) (out out' : Option (List ℕ))
+pub prints_end : {A : Type 0} (answer : Result Ran DriveFault) (given_up : Bool) (result : Result A Failure)
+    (out out' : Option (List ℕ))
     → EndsAs answer given_up result out out' → OnOk result ((end : ServeEnd) × PrintsEnd end out out')
 prints_end (Ok ran) given_up (Ok done) out out' h = (end_of ran given_up, h)
 prints_end (Ok ran) given_up (Err failure) out out' h = tt
 prints_end (Err fault) given_up (Ok done) out out' h = absurd h
 prints_end (Err fault) given_up (Err failure) out out' h = tt
 
-pub fails_to_end : {A : Type 0} (answer : Result Ran DriveFault) (given_up : Bool) (result : Result A Failure) (out out' : Option (List ℕ))
+pub fails_to_end : {A : Type 0} (answer : Result Ran DriveFault) (given_up : Bool) (result : Result A Failure)
+    (out out' : Option (List ℕ))
     → EndsAs answer given_up result out out' → IfErr result (λ e. (e ≡ Writer) ⊎ ((e ≡ LineFailed) × Keeps out out'))
 fails_to_end (Ok ran) given_up (Ok done) out out' h = tt
 fails_to_end (Ok ran) given_up (Err failure) out out' h = inl h

@@ -7,7 +7,8 @@ use Rattle.vdcp_net.specs.Idle.{has_given_up, told_with}
 use Rattle.vdcp_net.specs.declared.idling.Patience.{Patience}
 use Rattle.vdcp_net.specs.declared.idling.Patience.TheVariants as patience
 
-closed_with : (came : List Arrival) (closed : Bool) → has_closed came ≡ closed → has_closed (came_with came close) ≡ true
+closed_with : (came : List Arrival) (closed : Bool) → has_closed came ≡ closed
+    → has_closed (came_with came close) ≡ true
 closed_with came true is = rw is is
 closed_with came false is = rw is (closed_close came)
 
@@ -21,6 +22,7 @@ closed_again (Some t) =
     (stays_closed (came_with t.came close) (closed_with t.came (has_closed t.came) refl))
 
 -- what is told of it doesn't change any more
-pub given_up_stays : (p : Patience) (t : Option Told) → has_given_up p ≡ true → told_with p t ≡ adds_came close (told_with p t)
+pub given_up_stays : (p : Patience) (t : Option Told) → has_given_up p ≡ true
+    → told_with p t ≡ adds_came close (told_with p t)
 given_up_stays (patience.Waits silences) t is = cc
 given_up_stays patience.GaveUp t is = closed_again t

@@ -23,7 +23,8 @@ use Rattle.vdcp_net.specs.declared.run.RunSettings.{RunSettings}
 use Rattle.vdcp_value.specs.declared.part.Item.{Item}
 
 -- a driver that was made with this controller has run, and the end is that of its controller
-pub is_end_so : {S W : Type 0} (items : S → List Item) (told : W → Option Told) (failures : W → ℕ) (listens : ℕ) (controller : View S)
+pub is_end_so : {S W : Type 0} (items : S → List Item) (told : W → Option Told) (failures : W → ℕ) (listens : ℕ)
+    (controller : View S)
     (old new : Driving S W) (answer : Result Ran DriveFault) (end : RunEnd) (log : List Exchange)
     → old.controller ≡ controller → RunLeaves items told failures listens old new answer → end.line ≡ line_end_of answer
     → end.outcome ≡ outcome_of new.controller.state.stage → end.reported ≡ new.controller.state.settled
@@ -43,12 +44,16 @@ is_end_so {S} items told failures listens controller old new answer end log same
     }
 
 -- the controller is new
-pub new_ends_so : {S : Type 0} (items : S → List Item) (source : S) (settings : RunSettings) (controller : View S) (end : RunEnd)
-    → controller ≡ new_controller source (mode_of settings.confirm) settings.port settings.limit → 1 ≤ settings.limit → settings.limit ≤ 1000
-    → ((log : List Exchange) → Reached (plan_of items controller) controller.state log → IsEndOf (plan_of items controller) end)
+pub new_ends_so : {S : Type 0} (items : S → List Item) (source : S) (settings : RunSettings) (controller : View S)
+    (end : RunEnd)
+    → controller ≡ new_controller source (mode_of settings.confirm) settings.port settings.limit → 1 ≤ settings.limit
+    → settings.limit ≤ 1000
+    → ((log : List Exchange) → Reached (plan_of items controller) controller.state log
+    → IsEndOf (plan_of items controller) end)
     → IsEndOf (plan_for settings (items source)) end
 new_ends_so {S} items source settings controller end is some few ends =
-    subst (λ (v : View S). (log : List Exchange) → Reached (plan_of items v) v.state log → IsEndOf (plan_of items v) end) is ends [] (begun some few)
+    subst (λ (v : View S). (log : List Exchange) → Reached (plan_of items v) v.state log
+    → IsEndOf (plan_of items v) end) is ends [] (begun some few)
 
 -- a run has ended before its controller's first command
 pub unbegun_ends_so : {S : Type 0} (items : S → List Item) (controller : View S) (end : RunEnd) (log : List Exchange)

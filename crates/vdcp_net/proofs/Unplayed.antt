@@ -22,12 +22,14 @@ list_status name lists.Memory e = omega (arith, e)
 list_status name lists.Read e = omega (arith, e)
 
 -- a status of 2 is the failure's own
-own_status : (failure : Failure) (status : ℕ) → (status ≡ status_of failure) ⊎ (status ≡ 3) → status ≡ 2 → status_of failure ≡ 2
+own_status : (failure : Failure) (status : ℕ) → (status ≡ status_of failure) ⊎ (status ≡ 3) → status ≡ 2
+    → status_of failure ≡ 2
 own_status failure status (inl e) two = sym e ∙ two
 own_status failure status (inr three) two = absurd (omega (arith, three, two))
 
 -- so is one of 1
-own_status_1 : (failure : Failure) (status : ℕ) → (status ≡ status_of failure) ⊎ (status ≡ 3) → status ≡ 1 → status_of failure ≡ 1
+own_status_1 : (failure : Failure) (status : ℕ) → (status ≡ status_of failure) ⊎ (status ≡ 3) → status ≡ 1
+    → status_of failure ≡ 1
 own_status_1 failure status (inl e) one = sym e ∙ one
 own_status_1 failure status (inr three) one = absurd (omega (arith, three, one))
 
@@ -43,8 +45,10 @@ place_status (Some name) failure (inr (inl e)) = ap status_of e
 place_status (Some name) failure (inr (inr (inl e))) = ap status_of e
 place_status (Some name) failure (inr (inr (inr e))) = ap status_of e
 
-pub told_with_2 : (settings : RunSettings) (text : List ℕ) (list : File) (failure : Failure) (status : ℕ) (err err' : Option (List ℕ))
-    → IsUnplayed settings text list failure → (status ≡ status_of failure) ⊎ (status ≡ 3) → (status < 3 → Appends err err' (failure_line failure))
+pub told_with_2 : (settings : RunSettings) (text : List ℕ) (list : File) (failure : Failure) (status : ℕ)
+    (err err' : Option (List ℕ))
+    → IsUnplayed settings text list failure → (status ≡ status_of failure) ⊎ (status ≡ 3)
+    → (status < 3 → Appends err err' (failure_line failure))
     → status ≡ 2 → (¬ IsAddress text) × Appends err err' (failure_line Address)
 told_with_2 settings text list failure status err err' (no_address none e) is told two =
     let P : Failure → Type 0 = λ f. Appends err err' (failure_line f) in
@@ -61,8 +65,10 @@ told_with_2 settings text list failure status err err' (not_empty some whole e) 
     let one : status_of failure ≡ 1 = ap status_of e in
     absurd (omega (arith, one, own_status failure status is two))
 
-pub told_with_1 : (settings : RunSettings) (text : List ℕ) (list : File) (failure : Failure) (status : ℕ) (out err err' : Option (List ℕ))
-    → IsUnplayed settings text list failure → (status ≡ status_of failure) ⊎ (status ≡ 3) → (status < 3 → Appends err err' (failure_line failure))
+pub told_with_1 : (settings : RunSettings) (text : List ℕ) (list : File) (failure : Failure) (status : ℕ)
+    (out err err' : Option (List ℕ))
+    → IsUnplayed settings text list failure → (status ≡ status_of failure) ⊎ (status ≡ 3)
+    → (status < 3 → Appends err err' (failure_line failure))
     → status ≡ 1 → IsListRefused settings.rate list out out err err' ⊎ IsNotBegun settings.rate list out out err err'
 told_with_1 settings text list failure status out err err' (no_address none e) is told one =
     let two : status_of failure ≡ 2 = ap status_of e in

@@ -117,8 +117,10 @@ run_status end = status_unless end.unwritten (status_unless (line_failure end.li
 
 -- ---- the whole
 
--- this is the end of a controller that was made with this plan: some calls led it to this state, and its log has the exchanges that
--- they ended. The outcome and the count of reported events are the state's. The line was unneeded only where the controller has
+-- this is the end of a controller that was made with this plan: some calls led it to this state, and its log has the
+-- exchanges that
+-- they ended. The outcome and the count of reported events are the state's. The line was unneeded only where the
+-- controller has
 -- ended, and where it has, the line was unneeded or it failed
 pub record IsEndOf (plan : Plan) (end : RunEnd) : Type 0 where
   pub log : List Exchange
@@ -143,7 +145,8 @@ pub record IsRun (settings : RunSettings) (list : File) (out out' : Option (List
   pub gained : Appends out out' (end_text end)
   pub status_is : status ≡ run_status end
 
--- why a list isn't played: the text is no address, or else the list isn't read, or else the as-run list can't be written, or
+-- why a list isn't played: the text is no address, or else the list isn't read, or else the as-run list can't be
+-- written, or
 -- else nobody takes the connection, or else the port isn't empty
 pub data IsUnplayed (settings : RunSettings) (text : List ℕ) (list : File) (failure : Failure) : Type 0 where
   no_address : ¬ IsAddress text → failure ≡ failures.Address → IsUnplayed settings text list failure

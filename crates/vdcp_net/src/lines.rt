@@ -8,8 +8,8 @@ const MOST_BYTES: usize = 1024;
 
 /// Lines that never wait for who reads them. Each goes to the writer once it has ended, or has more than 1,023 bytes.
 /// Where the writer takes nothing (`WouldBlock`), the line that is going out goes on later, and each further one is
-/// dropped meanwhile; the next line that goes out is then `dropped` and how many. (Of a longer line the rest is left out
-/// then.)
+/// dropped meanwhile; the next line that goes out is then `dropped` and how many. (Of a longer line the rest is left
+/// out then.)
 ///
 /// Err where the writer fails.
 #[derive(Drop)]

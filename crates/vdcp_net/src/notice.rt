@@ -4,8 +4,8 @@ use vdcp_words::Command;
 
 /// Notices whether the port has ever answered, and lends what it watches to another watcher.
 ///
-/// An automation sends OPEN until that is answered. So where anything else is awaited, or the controller has ended as only
-/// an answer lets it, there was one.
+/// An automation sends OPEN until that is answered. So where anything else is awaited, or the controller has ended as
+/// only an answer lets it, there was one.
 #[derive(Drop)]
 pub struct Notice<'a, V> {
     watcher: &'a mut V,

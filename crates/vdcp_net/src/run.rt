@@ -512,7 +512,8 @@ fn play<'a, R: Files + AllocGlobal, S: Source, W: Wire, V: Watch<S>>(
     ended(rt, driver.controller(), line, is_answered, settings)
 }
 
-// How a run has ended, by its controller and its line, and by whether the port has answered. The as-run list is written.
+// How a run has ended, by its controller and its line, and by whether the port has answered. The as-run list is
+// written.
 fn ended<'a, R: Files + AllocGlobal, S: Source>(
     rt: &R,
     controller: &Controller<S>,

@@ -23,7 +23,8 @@ use Rattle.vdcp_port.specs.Row.{Row, play_row, size_row, state_reply, command_ro
 abbrev Tells : PortState → Option Reply → Type 0
 Tells p answer = (groups : ℕ) → answer ≡ Some (reply.State groups (Some 1)) → state_byte p ≡ 1
 
-tells_if : (p : PortState) (b : Bool) (r s : Row) → Tells p r.answer → Tells p s.answer → Tells p (if b then r else s).answer
+tells_if : (p : PortState) (b : Bool) (r s : Row) → Tells p r.answer → Tells p s.answer
+    → Tells p (if b then r else s).answer
 tells_if p true r s x y = x
 tells_if p false r s x y = y
 
@@ -41,21 +42,26 @@ state_of (Some (reply.State groups (Some state))) = state
 state_of _ = 0
 
 tells_state : (p : PortState) (b : Bool) (groups : ℕ)
-    → Some (if b then reply.State 1 (Some (state_byte p)) else reply.State 0 None) ≡ Some (reply.State groups (Some 1)) → state_byte p ≡ 1
+    → Some (if b then reply.State 1 (Some (state_byte p)) else reply.State 0 None) ≡ Some (reply.State groups (Some 1))
+    → state_byte p ≡ 1
 unfolding state_of
 tells_state p true groups e = ap state_of e
 tells_state p false groups e = cc
 
-tells_command : (clips : List (ClipId × Timecode)) (p : PortState) (c : Command) → Tells p (command_row clips p c).answer
+tells_command : (clips : List (ClipId × Timecode)) (p : PortState) (c : Command)
+    → Tells p (command_row clips p c).answer
 tells_command clips p (Open number lock) = tells_if p (nat_eq number p.number) _ _ (λ groups e. cc) (λ groups e. cc)
 tells_command clips p (Close number) = tells_if p (nat_eq number p.number) _ _ (λ groups e. cc) (λ groups e. cc)
-tells_command clips p (Select number) = tells_if p (nat_eq number p.number && is_open p) _ _ (λ groups e. cc) (λ groups e. cc)
-tells_command clips p (PlayCue id) = tells_if p (is_selected p && is_playable clips (whole id)) _ _ (λ groups e. cc) (λ groups e. cc)
+tells_command clips p (Select number) =
+    tells_if p (nat_eq number p.number && is_open p) _ _ (λ groups e. cc) (λ groups e. cc)
+tells_command clips p (PlayCue id) =
+    tells_if p (is_selected p && is_playable clips (whole id)) _ _ (λ groups e. cc) (λ groups e. cc)
 tells_command clips p (CueData id start duration) =
     tells_if p (is_selected p && is_playable clips (part_of id start duration)) _ _ (λ groups e. cc) (λ groups e. cc)
 tells_command clips p Play = tells_if p (is_selected p) _ _ (tells_play p p.cued) (λ groups e. cc)
 tells_command clips p Stop = tells_if p (is_selected p) _ _ (λ groups e. cc) (λ groups e. cc)
-tells_command clips p (Status bitmap) = tells_if p (is_selected p) _ _ (tells_state p (has_bit_0 bitmap)) (λ groups e. cc)
+tells_command clips p (Status bitmap) =
+    tells_if p (is_selected p) _ _ (tells_state p (has_bit_0 bitmap)) (λ groups e. cc)
 tells_command clips p ActiveId = tells_if p (is_selected p) _ _ (λ groups e. cc) (λ groups e. cc)
 tells_command clips p (IdRequest id) = λ groups e. cc
 tells_command clips p (IdSize id) = tells_size p (length_of clips id)
@@ -65,7 +71,8 @@ tells_asked clips p asked.Nothing = λ groups e. cc
 tells_asked clips p asked.NoCommand = λ groups e. cc
 tells_asked clips p (asked.Command c) = tells_command clips p c
 
-pub tells_byte : (p : ClockedPort) (m : Content) (groups : ℕ) → answer_to p m ≡ Some (reply.State groups (Some 1)) → state_byte p.state ≡ 1
+pub tells_byte : (p : ClockedPort) (m : Content) (groups : ℕ) → answer_to p m ≡ Some (reply.State groups (Some 1))
+    → state_byte p.state ≡ 1
 tells_byte p m = tells_asked p.clips p.state (asked_of p.state.unit m)
 
 empty_slots : (cued : Cued) (playing : Option Item) → state_byte_of cued playing ≡ 1 → (cued ≡ empty) × (playing ≡ None)
@@ -83,22 +90,29 @@ pub none_cued : (p : PortState) → state_byte p ≡ 1 → bit_and (state_byte p
 none_cued p e = ap (λ b. bit_and b 0x82) e
 
 -- what OPEN, SELECT and STATUS leave
-slots_if : (p : PortState) (b : Bool) (r s : Row) → HasSlotsOf p (changed r.change p) → HasSlotsOf p (changed s.change p)
+slots_if : (p : PortState) (b : Bool) (r s : Row) → HasSlotsOf p (changed r.change p)
+    → HasSlotsOf p (changed s.change p)
     → HasSlotsOf p (changed (if b then r else s).change p)
 slots_if p true r s x y = x
 slots_if p false r s x y = y
 
-pub open_leaves : (p : ClockedPort) (m : Content) (number lock : ℕ) → asked_of p.state.unit m ≡ asked.Command (Open number lock)
+pub open_leaves : (p : ClockedPort) (m : Content) (number lock : ℕ)
+    → asked_of p.state.unit m ≡ asked.Command (Open number lock)
     → HasSlotsOf p.state (after_message p m).state
 open_leaves p m number lock is =
-    rw is (slots_if p.state (nat_eq number p.state.number) (row (reply.Opened true) opens) (row (reply.Opened false) keeps) (refl, refl) (refl, refl))
+    rw is (slots_if p.state (nat_eq number p.state.number) (row (reply.Opened true) opens)
+    (row (reply.Opened false) keeps) (refl, refl) (refl, refl))
 
-pub select_leaves : (p : ClockedPort) (m : Content) (number : ℕ) → asked_of p.state.unit m ≡ asked.Command (Select number)
+pub select_leaves : (p : ClockedPort) (m : Content) (number : ℕ)
+    → asked_of p.state.unit m ≡ asked.Command (Select number)
     → HasSlotsOf p.state (after_message p m).state
 select_leaves p m number is =
-    rw is (slots_if p.state (nat_eq number p.state.number && is_open p.state) (row reply.Ack selects) refused (refl, refl) (refl, refl))
+    rw is (slots_if p.state (nat_eq number p.state.number && is_open p.state) (row reply.Ack selects) refused
+    (refl, refl) (refl, refl))
 
-pub status_leaves : (p : ClockedPort) (m : Content) (bitmap : ℕ) → asked_of p.state.unit m ≡ asked.Command (Status bitmap)
+pub status_leaves : (p : ClockedPort) (m : Content) (bitmap : ℕ)
+    → asked_of p.state.unit m ≡ asked.Command (Status bitmap)
     → HasSlotsOf p.state (after_message p m).state
 status_leaves p m bitmap is =
-    rw is (slots_if p.state (is_selected p.state) (row (state_reply bitmap (state_byte p.state)) keeps) refused (refl, refl) (refl, refl))
+    rw is (slots_if p.state (is_selected p.state) (row (state_reply bitmap (state_byte p.state)) keeps) refused
+    (refl, refl) (refl, refl))

@@ -37,7 +37,8 @@ pub ran_in_time : (settings : SimSettings) (items : List Item) (clips : List (Cl
     → log ≡ c.log → aired ≡ c.aired → reported ≡ c.state.settled → outcome ≡ outcome_of c.state.stage
     → Appends old new (run_text settings.trace settings.rate log aired reported outcome)
     → IsRun settings items clips script old new
-ran_in_time settings items clips events c script old new log aired reported outcome in_time is_script few led headline l a r o gained =
+ran_in_time settings items clips events c script old new log aired reported outcome in_time is_script few led headline l
+    a r o gained =
     record {
       channel = late_of c;
       has_run = sim.in_time events in_time is_script few (ap late_of led) (subst Headline led headline);
@@ -52,7 +53,8 @@ pub ran_late : (settings : SimSettings) (items : List Item) (clips : List (ClipI
     → log ≡ c.log → aired ≡ c.aired → reported ≡ c.state.settled → outcome ≡ outcome_of c.state.stage
     → Appends old new (run_text settings.trace settings.rate log aired reported outcome)
     → IsRun settings items clips script old new
-ran_late settings items clips events c script old new log aired reported outcome late is_script few led headline l a r o gained =
+ran_late settings items clips events c script old new log aired reported outcome late is_script few led headline l a r o
+    gained =
     record {
       channel = c;
       has_run = sim.late events late is_script few led headline;

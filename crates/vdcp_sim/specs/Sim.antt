@@ -90,7 +90,8 @@ IsScriptOf of Own (Some bytes) events = IsScript of Own bytes events
 
 -- The events of the script, a file of these bytes, have led from the new channel to this one, which keeps the headline;
 -- with --late on a line that keeps order, else on one that holds one burst each way.
-pub data HasRun (settings : SimSettings) (items : List Item) (clips : List (ClipId × Timecode)) (script : Option (List ℕ))
+pub data HasRun (settings : SimSettings) (items : List Item) (clips : List (ClipId × Timecode))
+    (script : Option (List ℕ))
     (c : LateChannel) : Type 0 where
   in_time : (events : List Event) → settings.late ≡ false → IsScriptOf same_event NoOwn script events
       → length events ≤ 100000
@@ -111,12 +112,13 @@ pub record IsRun (settings : SimSettings) (items : List Item) (clips : List (Cli
   pub gained : Appends old new (channel_text settings.trace settings.rate channel)
 
 -- the files are a playlist, a catalogue and a script, and a writer gained what is printed of a run with them
-pub record IsSimulated (settings : SimSettings) (list catalogue : File) (script old new : Option (List ℕ)) : Type 0 where
-  pub items : List Item
-  pub clips : List (ClipId × Timecode)
-  pub is_playlist : IsListOf settings.rate (bytes_of list) items
-  pub is_catalogue : IsCatalogueOf settings.rate (bytes_of catalogue) clips
-  pub is_run : IsRun settings items clips script old new
+pub record IsSimulated (settings : SimSettings) (list catalogue : File) (script old new : Option (List ℕ)) : Type 0
+  where
+    pub items : List Item
+    pub clips : List (ClipId × Timecode)
+    pub is_playlist : IsListOf settings.rate (bytes_of list) items
+    pub is_catalogue : IsCatalogueOf settings.rate (bytes_of catalogue) clips
+    pub is_run : IsRun settings items clips script old new
 
 -- ---- scripts that are refused
 

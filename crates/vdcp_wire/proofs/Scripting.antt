@@ -26,12 +26,15 @@ no_bytes (x ∷ l) h = cc
 pub arrivals_push : (given : List Came) (c : Came) (all buffer : List ℕ) → brought_in_all given ≡ length all
     → arrivals (given ++ c ∷ []) (all ++ take (brought c) buffer) ≡ arrivals given all ++ arrival_of c buffer ∷ []
 arrivals_push [] c all buffer h =
-    ap (λ (l : List ℕ). arrival_of c (l ++ take (brought c) buffer) ∷ []) (no_bytes all h) ∙ ap (λ (a : Arrival). a ∷ []) (itself c buffer)
+    ap (λ (l : List ℕ). arrival_of c (l ++ take (brought c) buffer) ∷ []) (no_bytes all h)
+    ∙ ap (λ (a : Arrival). a ∷ []) (itself c buffer)
 arrivals_push (d ∷ given) c all buffer h =
     let piece : List ℕ = take (brought c) buffer in
     let within : brought d ≤ length all = omega (arith, h) in
-    let left : brought_in_all given ≡ length (drop (brought d) all) = omega (arith, h) ∙ sym (length-drop (brought d) all) in
-    ap (λ (a : Arrival). a ∷ arrivals (given ++ c ∷ []) (drop (brought d) (all ++ piece))) (front_stays d all piece within)
+    let left : brought_in_all given ≡ length (drop (brought d) all) =
+    omega (arith, h) ∙ sym (length-drop (brought d) all) in
+    ap (λ (a : Arrival). a ∷ arrivals (given ++ c ∷ []) (drop (brought d) (all ++ piece)))
+    (front_stays d all piece within)
     ∙ ap (λ (l : List ℕ). arrival_of d all ∷ arrivals (given ++ c ∷ []) l) (drop-append-le (brought d) all piece within)
     ∙ ap (λ (l : List Arrival). arrival_of d all ∷ l) (arrivals_push given c (drop (brought d) all) buffer left)
 
@@ -39,7 +42,12 @@ arrivals_push (d ∷ given) c all buffer h =
 pub comes_behind : (t : Told) (given : List Came) (c : Came) (all buffer : List ℕ) → brought_in_all given ≡ length all
     → t.came ≡ arrivals given all
     → has_closed t.came ≡ false
-    → Some (record { sent = t.sent; came = arrivals (given ++ c ∷ []) (all ++ take (brought c) buffer); drops = t.drops })
+    → Some (record {
+      sent = t.sent;
+      came =
+          arrivals (given ++ c ∷ []) (all ++ take (brought c) buffer);
+      drops = t.drops;
+    })
     ≡ adds_came (arrival_of c buffer) (Some t)
 comes_behind t given c all buffer h is still = rw (arrivals_push given c all buffer h) (rw (sym is) (rw still refl))
 
@@ -47,17 +55,20 @@ brought_push : (given : List Came) (c : Came) → brought_in_all (given ++ c ∷
 brought_push [] c = omega arith
 brought_push (d ∷ given) c = ap (λ (n : ℕ). brought d + n) (brought_push given c) ∙ omega arith
 
-pub counts_push : (given : List Came) (c : Came) (all piece : List ℕ) → brought_in_all given ≡ length all → length piece ≡ brought c
+pub counts_push : (given : List Came) (c : Came) (all piece : List ℕ) → brought_in_all given ≡ length all
+    → length piece ≡ brought c
     → brought_in_all (given ++ c ∷ []) ≡ length (all ++ piece)
 counts_push given c all piece h is = omega (arith, h, is, brought_push given c, length-append all piece)
 
-pub closed_by : (arrived : List Arrival) (c : Came) (buffer : List ℕ) → has_closed arrived ≡ false → closes c ≡ has_closed (arrived ++ arrival_of c buffer ∷ [])
+pub closed_by : (arrived : List Arrival) (c : Came) (buffer : List ℕ) → has_closed arrived ≡ false
+    → closes c ≡ has_closed (arrived ++ arrival_of c buffer ∷ [])
 closed_by arrived (Bytes n) buffer h = sym (closed_bytes arrived (take n buffer) ∙ h)
 closed_by arrived Silence buffer h = sym (closed_silence arrived ∙ h)
 closed_by arrived Closed buffer h = sym (closed_close arrived)
 
 -- a beginning of the bytes, or nothing where there was no room
-pub sends_some : (t : Told) (octets piece rest sent : List ℕ) (grown : Bool) → octets ≡ piece ++ rest → sent ≡ (if grown then t.sent ++ piece else t.sent)
+pub sends_some : (t : Told) (octets piece rest sent : List ℕ) (grown : Bool) → octets ≡ piece ++ rest
+    → sent ≡ (if grown then t.sent ++ piece else t.sent)
     → SendsFront octets (Some t) (Some (record { sent = sent; came = t.came; drops = t.drops }))
 sends_some t octets piece rest sent true parts is = record {
   front = piece;

@@ -26,8 +26,8 @@ enum Connection {
 /// A wire over a connection. `send` and `listen` may wait for the other end.
 ///
 /// What it carried from its start it doesn't tell, since a read may change what a connection holds of the bytes
-/// written. But where the connection's bytes are known, `send` appends exactly its bytes, what `listen` gives is exactly
-/// what came next, and `drop_waiting` takes some of that.
+/// written. But where the connection's bytes are known, `send` appends exactly its bytes, what `listen` gives is
+/// exactly what came next, and `drop_waiting` takes some of that.
 ///
 /// A read that waited for the time of a silence is one, and an interrupted read brings no bytes. A connection that
 /// the system gives up, since nothing is acknowledged any more, has failed. `drop_waiting` doesn't wait. It drops what

@@ -50,7 +50,8 @@ is_beginning_of (m ∷ ms) (n ∷ ns) e =
     let (others, more) = is_beginning_of ms ns (right_of (is_same_message m n) (is_beginning ms ns) e) in
     (others, ap₂ (λ x xs. x ∷ xs) (sym (same_message m n (left_of (is_same_message m n) (is_beginning ms ns) e))) more)
 
-beginning_of : (ms others : List Content) (whole : List ℕ) → SpellsAll (ms ++ others) whole → (a b : List ℕ) × SpellsAll ms a × (whole ≡ a ++ b)
+beginning_of : (ms others : List Content) (whole : List ℕ) → SpellsAll (ms ++ others) whole
+    → (a b : List ℕ) × SpellsAll ms a × (whole ≡ a ++ b)
 beginning_of [] others whole all = ([], whole, refl, refl)
 beginning_of (m ∷ ms) others whole (first, rest, spelt, more, e) =
     let (a, b, s, f) = beginning_of ms others rest more in

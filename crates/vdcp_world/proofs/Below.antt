@@ -25,13 +25,15 @@ use Rattle.vdcp_auto.specs.State.{State}
 pub record Below : Type 0 where
   -- what is spelt reads as its message, alone and with bytes after it
   pub alone : (m : Content) → Fits m → messages_of (spelling m) ≡ m ∷ []
-  pub before : (m : Content) (more : List ℕ) → Fits m → AreOctets more → (others : List Content) × (messages_of (spelling m ++ more) ≡ m ∷ others)
+  pub before : (m : Content) (more : List ℕ) → Fits m → AreOctets more
+      → (others : List Content) × (messages_of (spelling m ++ more) ≡ m ∷ others)
   -- commands and replies
   pub command_fits : (unit : ℕ) (c : Command) → unit ≤ 15 → IsWritableCommand c → Fits (command_message unit c)
   pub reply_fits : (unit : ℕ) (r : Reply) → unit ≤ 15 → IsWritableReply r → Fits (reply_message unit r)
   pub reply_read : (unit : ℕ) (r : Reply) → IsWritableReply r → reply_of (reply_message unit r) ≡ Ok r
   -- the port
-  pub own_row : (p : ClockedPort) (c : Command) → IsWritableCommand c → row_at p (command_message p.state.unit c) ≡ command_row p.clips p.state c
+  pub own_row : (p : ClockedPort) (c : Command) → IsWritableCommand c
+      → row_at p (command_message p.state.unit c) ≡ command_row p.clips p.state c
   pub answered : (clips : List (ClipId × Timecode)) (p : PortState) (c : Command)
       → (reply : Reply) × ((command_row clips p c).answer ≡ Some reply) × IsWritableReply reply
   pub none_sent : (p : ClockedPort) (burst : List ℕ) → messages_of burst ≡ []
@@ -40,11 +42,16 @@ pub record Below : Type 0 where
   pub none_left : (p : ClockedPort) (burst : List ℕ) → messages_of burst ≡ [] → after_burst p burst ≡ p
   pub one_sent : (p : ClockedPort) (m : Content) (burst : List ℕ) → messages_of burst ≡ m ∷ []
       → sent_for p burst ≡ bytes_for p m ++ answer_bytes p.state.unit (end_answers (end_of burst))
-  pub one_aired : (p : ClockedPort) (m : Content) (burst : List ℕ) → messages_of burst ≡ m ∷ [] → aired_for p burst ≡ items_for p m
-  pub one_left : (p : ClockedPort) (m : Content) (burst : List ℕ) → messages_of burst ≡ m ∷ [] → after_burst p burst ≡ after_message p m
+  pub one_aired : (p : ClockedPort) (m : Content) (burst : List ℕ) → messages_of burst ≡ m ∷ []
+      → aired_for p burst ≡ items_for p m
+  pub one_left : (p : ClockedPort) (m : Content) (burst : List ℕ) → messages_of burst ≡ m ∷ []
+      → after_burst p burst ≡ after_message p m
   pub unit_frame : (p : ClockedPort) → (after_frame p).state.unit ≡ p.state.unit
   -- the controller
-  pub awaited_written : (plan : Plan) (state : State) → All IsItem plan.list → plan.port < 256 → IfSome (awaited plan state) IsWritableCommand
-  pub given_written : (plan : Plan) (state : State) → All IsItem plan.list → plan.port < 256 → IfSome (given plan state) IsWritableCommand
-  pub receipt_stays : (plan : Plan) (state : State) (came : Option Heard) → plan.mode ≡ Confirming → hears_receipt came ≡ true
+  pub awaited_written : (plan : Plan) (state : State) → All IsItem plan.list → plan.port < 256
+      → IfSome (awaited plan state) IsWritableCommand
+  pub given_written : (plan : Plan) (state : State) → All IsItem plan.list → plan.port < 256
+      → IfSome (given plan state) IsWritableCommand
+  pub receipt_stays : (plan : Plan) (state : State) (came : Option Heard) → plan.mode ≡ Confirming
+      → hears_receipt came ≡ true
       → came_to plan came state ≡ state

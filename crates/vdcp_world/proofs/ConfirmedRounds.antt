@@ -72,7 +72,8 @@ senses phase.Close = false
 senses phase.Halt = false
 senses phase.HaltClose = false
 
-pub sense_of : (list : List Item) (port : ℕ) (q : Phase) (c : Command) → command_in list port q ≡ Some c → is_sense c ≡ senses q
+pub sense_of : (list : List Item) (port : ℕ) (q : Phase) (c : Command) → command_in list port q ≡ Some c
+    → is_sense c ≡ senses q
 sense_of list port phase.Open c e = cc
 sense_of list port phase.Select c e = cc
 sense_of list port phase.Seen c e = cc
@@ -116,23 +117,28 @@ before_stays p q h = grind (arith, slot_stays p.cued)
 
 -- no receipt answers it; a transition by which it goes on, with fewer rounds left
 abbrev pub Steps : ℕ → ℕ → ℕ → PortState → Reply → Transition → Type 0
-Steps n s old p r transition = (is_receipt r ≡ false) × IsInStep p (stage_after transition) × (left_from (n - settled_after transition s) (stage_after transition) < old)
+Steps n s old p r transition = (is_receipt r ≡ false) × IsInStep p (stage_after transition)
+    × (left_from (n - settled_after transition s) (stage_after transition) < old)
 
 -- the next event, or the drain
 comes_next : (list : List Item) (p : PortState) (k old : ℕ) → is_selected p ≡ true → 6 * (length list - k) + 3 < old
     → IsReadyFor p (next list k) × (left_before (length list - k) (next list k) < old)
 comes_next list p k old s below = by (nat_lt k (length list))
   where
-    by : (b : Bool) → IsReadyFor p (if b then phase.Exists k else phase.Drain) × (left_before (length list - k) (if b then phase.Exists k else phase.Drain) < old)
+    by : (b : Bool) → IsReadyFor p (if b then phase.Exists k else phase.Drain)
+        × (left_before (length list - k) (if b then phase.Exists k else phase.Drain) < old)
     by true = (s, below)
     by false = (s, omega (arith, below))
 
-exists_steps : (list : List Item) (clips : List (ClipId × Timecode)) (p : PortState) (settled port limit tries unanswered : ℕ) (take counts : Bool)
+exists_steps : (list : List Item) (clips : List (ClipId × Timecode)) (p : PortState)
+    (settled port limit tries unanswered : ℕ) (take counts : Bool)
     (k : ℕ) (o : Option Item) (r : Reply)
     → is_selected p ≡ true → plays clips o ≡ true
     → answer_after clips p (option_map (λ item. command.IdRequest item.id) o) ≡ Some r
-    → Steps (length list) settled (6 * (length list - settled) + 3) (port_after clips p (option_map (λ item. command.IdRequest item.id) o)) r
-    (turn_by Confirming list limit take tries unanswered counts (phase.Exists k) (answer_at (option_map (λ item. command.IdRequest item.id) o) r))
+    → Steps (length list) settled (6 * (length list - settled) + 3)
+    (port_after clips p (option_map (λ item. command.IdRequest item.id) o)) r
+    (turn_by Confirming list limit take tries unanswered counts (phase.Exists k)
+    (answer_at (option_map (λ item. command.IdRequest item.id) o) r))
 exists_steps list clips p settled port limit tries unanswered take counts k None r s f a = cc
 exists_steps list clips p settled port limit tries unanswered take counts k (Some item) r s f a = by known r a
   where
@@ -141,27 +147,36 @@ exists_steps list clips p settled port limit tries unanswered take counts k (Som
 
     by : is_known clips item.id ≡ true → (r : Reply) → Some (reply.Present (is_known clips item.id)) ≡ Some r
         → Steps (length list) settled (6 * (length list - settled) + 3) p r
-        (turn_by Confirming list limit take tries unanswered counts (phase.Exists k) (answer_at (Some (command.IdRequest item.id)) r))
+        (turn_by Confirming list limit take tries unanswered counts (phase.Exists k)
+        (answer_at (Some (command.IdRequest item.id)) r))
     by known r a = grind arith
 
 pub sense_steps : (list : List Item) (clips : List (ClipId × Timecode)) (p : PortState) (aired : List Item)
     (settled port limit tries unanswered : ℕ) (take counts : Bool) (q : Phase) (r : Reply)
-    → p.number ≡ port → p.playing ≡ None → is_cueing_slot p.cued ≡ false → ((k : ℕ) → plays clips (slice_get list k) ≡ true)
+    → p.number ≡ port → p.playing ≡ None → is_cueing_slot p.cued ≡ false
+    → ((k : ℕ) → plays clips (slice_get list k) ≡ true)
     → PlaceReady list p.cued aired settled q → IsReadyFor p q → senses q ≡ true
     → answer_after clips p (command_in list port q) ≡ Some r
-    → Steps (length list) settled (left_before (length list - settled) q) (port_after clips p (command_in list port q)) r
+    → Steps (length list) settled (left_before (length list - settled) q) (port_after clips p (command_in list port q))
+    r
     (turn_by Confirming list limit take tries unanswered counts q (answer_at (command_in list port q) r))
-sense_steps list clips p aired settled port limit tries unanswered take counts phase.Open r n i j f h w on a = grind arith
+sense_steps list clips p aired settled port limit tries unanswered take counts phase.Open r n i j f h w on a =
+    grind arith
 sense_steps list clips p aired settled port limit tries unanswered take counts phase.Select r n i j f h w on a = cc
-sense_steps list clips p aired settled port limit tries unanswered take counts phase.Seen r n i j f h w on a = grind (arith, comes_next)
+sense_steps list clips p aired settled port limit tries unanswered take counts phase.Seen r n i j f h w on a =
+    grind (arith, comes_next)
 sense_steps list clips p aired settled port limit tries unanswered take counts (phase.Exists k) r n i j f h w on a =
     exists_steps list clips p settled port limit tries unanswered take counts k (slice_get list k) r w (f k) a
 sense_steps list clips p aired settled port limit tries unanswered take counts (phase.Cue k) r n i j f h w on a = cc
-sense_steps list clips p aired settled port limit tries unanswered take counts (phase.Wait k) r n i j f h w on a = grind arith
+sense_steps list clips p aired settled port limit tries unanswered take counts (phase.Wait k) r n i j f h w on a =
+    grind arith
 sense_steps list clips p aired settled port limit tries unanswered take counts (phase.Play k) r n i j f h w on a = cc
-sense_steps list clips p aired settled port limit tries unanswered take counts (phase.Probe k) r n i j f h w on a = grind arith
-sense_steps list clips p aired settled port limit tries unanswered take counts (phase.Check k) r n i j f h w on a = grind (arith, comes_next)
-sense_steps list clips p aired settled port limit tries unanswered take counts phase.Drain r n i j f h w on a = grind arith
+sense_steps list clips p aired settled port limit tries unanswered take counts (phase.Probe k) r n i j f h w on a =
+    grind arith
+sense_steps list clips p aired settled port limit tries unanswered take counts (phase.Check k) r n i j f h w on a =
+    grind (arith, comes_next)
+sense_steps list clips p aired settled port limit tries unanswered take counts phase.Drain r n i j f h w on a =
+    grind arith
 sense_steps list clips p aired settled port limit tries unanswered take counts phase.Close r n i j f h w on a = cc
 sense_steps list clips p aired settled port limit tries unanswered take counts phase.Halt r n i j f h w on a = cc
 sense_steps list clips p aired settled port limit tries unanswered take counts phase.HaltClose r n i j f h w on a = cc
@@ -172,8 +187,10 @@ sense_steps list clips p aired settled port limit tries unanswered take counts p
 abbrev pub Stays : ℕ → PortState → Phase → Reply → Type 0
 Stays unsettled p q r = (is_receipt r ≡ true) × HasExecuted p q × (left_behind unsettled q < left_before unsettled q)
 
-cue_stays : (unsettled : ℕ) (clips : List (ClipId × Timecode)) (p : PortState) (k : ℕ) (id : ClipId) (part : Option Part) (r : Reply)
-    → is_selected p ≡ true → is_playable clips (record { id = id; part = part }) ≡ true → answer_after clips p (Some (cue_for id part)) ≡ Some r
+cue_stays : (unsettled : ℕ) (clips : List (ClipId × Timecode)) (p : PortState) (k : ℕ) (id : ClipId)
+    (part : Option Part) (r : Reply)
+    → is_selected p ≡ true → is_playable clips (record { id = id; part = part }) ≡ true
+    → answer_after clips p (Some (cue_for id part)) ≡ Some r
     → Stays unsettled (port_after clips p (Some (cue_for id part))) (phase.Cue k) r
 cue_stays unsettled clips p k id None r s f a = grind arith
 cue_stays unsettled clips p k id (Some part) r s f a = grind arith
@@ -184,7 +201,8 @@ cue_stays_at : (unsettled : ℕ) (clips : List (ClipId × Timecode)) (p : PortSt
 cue_stays_at unsettled clips p k None r s f a = cc
 cue_stays_at unsettled clips p k (Some item) r s f a = cue_stays unsettled clips p k item.id item.part r s f a
 
-pub receipt_stays : (list : List Item) (clips : List (ClipId × Timecode)) (p : PortState) (aired : List Item) (settled port : ℕ) (q : Phase) (r : Reply)
+pub receipt_stays : (list : List Item) (clips : List (ClipId × Timecode)) (p : PortState) (aired : List Item)
+    (settled port : ℕ) (q : Phase) (r : Reply)
     → p.number ≡ port → ((k : ℕ) → plays clips (slice_get list k) ≡ true)
     → PlaceReady list p.cued aired settled q → IsReadyFor p q → senses q ≡ false
     → answer_after clips p (command_in list port q) ≡ Some r

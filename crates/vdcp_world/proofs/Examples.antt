@@ -138,7 +138,8 @@ lost_stop = refl
 
 -- PLAY is lost while the clip before still plays, and is sent again
 abbrev lost_play : Channel
-lost_play = after_events (new Plain twice) (good 6 ++ rounds 3 ++ Ready ∷ Take ∷ round ++ Tick ∷ LoseDown ∷ Timeout ∷ rounds 2 ++ good 3)
+lost_play = after_events (new Plain twice) (good 6 ++ rounds 3 ++ Ready ∷ Take ∷ round ++ Tick ∷ LoseDown ∷ Timeout ∷
+    rounds 2 ++ good 3)
 
 lost_play_ends : seen lost_play ≡ ends twice 2 16 (Some Done)
 lost_play_ends = refl
@@ -181,16 +182,19 @@ copied = good 5 ++ Tick ∷ DownCopy ∷ DownCopy ∷ Down ∷ UpCopy ∷ Up ∷
 copies_of_play_and_its_answer : seen (after_events (new Plain one) copied) ≡ ends one 1 9 (Some Done)
 copies_of_play_and_its_answer = refl
 
-missing_clip : seen (after_events (new Plain (whole clip_1 ∷ whole clip_9 ∷ [])) (good 20)) ≡ ends one 1 8 (Some (Missing 1))
+missing_clip : seen (after_events (new Plain (whole clip_1 ∷ whole clip_9 ∷ [])) (good 20))
+    ≡ ends one 1 8 (Some (Missing 1))
 missing_clip = refl
 
 two_lost_commands : seen (after_events (new Plain one) (times 2 (Tick ∷ LoseDown ∷ Timeout ∷ []))) ≡ ends [] 0 2 None
 two_lost_commands = refl
 
-three_lost_commands : seen (after_events (new Plain one) (times 3 (Tick ∷ LoseDown ∷ Timeout ∷ []))) ≡ ends [] 0 3 (Some Lost)
+three_lost_commands : seen (after_events (new Plain one) (times 3 (Tick ∷ LoseDown ∷ Timeout ∷ [])))
+    ≡ ends [] 0 3 (Some Lost)
 three_lost_commands = refl
 
-stopped_while_play_is_awaited : seen (after_events (new Plain one) (good 5 ++ Tick ∷ Down ∷ LoseUp ∷ Stop ∷ Timeout ∷ good 2)) ≡ ends one 0 8 (Some Stopped)
+stopped_while_play_is_awaited : seen (after_events (new Plain one)
+    (good 5 ++ Tick ∷ Down ∷ LoseUp ∷ Stop ∷ Timeout ∷ good 2)) ≡ ends one 0 8 (Some Stopped)
 stopped_while_play_is_awaited = refl
 
 -- the next event waits for the clip that plays, and then for the operator
@@ -213,7 +217,8 @@ played_over : exchange_at 11 taken_over ≡ answered_by command.Play reply.Ack
 played_over = refl
 
 -- a take that comes once the PLAY went out counts for the next one, though it comes before the clip goes to air
-taken_early : seen (after_events (new Plain both) (good 5 ++ Tick ∷ Take ∷ Down ∷ Up ∷ rounds 3 ++ Ready ∷ rounds 2)) ≡ ends both 2 11 None
+taken_early : seen (after_events (new Plain both) (good 5 ++ Tick ∷ Take ∷ Down ∷ Up ∷ rounds 3 ++ Ready ∷ rounds 2))
+    ≡ ends both 2 11 None
 taken_early = refl
 
 -- a cue takes three frames
@@ -285,7 +290,8 @@ deliveries = Down ∷ DownCopy ∷ Up ∷ UpCopy ∷ LoseDown ∷ LoseUp ∷ Alt
 abbrev other_events : List Event
 other_events = Timeout ∷ Ready ∷ End ∷ Frame ∷ StrayAck ∷ StrayNak 0x01 ∷ []
 
-no_event_in_a_new_channel : map (after_event (new Plain one)) (deliveries ++ other_events) ≡ replicate 14 (new Plain one)
+no_event_in_a_new_channel : map (after_event (new Plain one)) (deliveries ++ other_events)
+    ≡ replicate 14 (new Plain one)
 no_event_in_a_new_channel = refl
 
 second_tick : after_event asked Tick ≡ asked
@@ -308,7 +314,8 @@ nothing_confirmed = refl
 nothing_is_not_confirmed_in_5_rounds : seen (after_events (new Confirming []) (good 5)) ≡ ends [] 0 4 None
 nothing_is_not_confirmed_in_5_rounds = refl
 
-receipts_from_nowhere : seen (after_events (new Confirming one) (Tick ∷ StrayNak 0x01 ∷ AlterUp (0x04 ∷ []) ∷ Up ∷ [])) ≡ ends [] 0 0 None
+receipts_from_nowhere : seen (after_events (new Confirming one) (Tick ∷ StrayNak 0x01 ∷ AlterUp (0x04 ∷ []) ∷ Up ∷ []))
+    ≡ ends [] 0 0 None
 receipts_from_nowhere = refl
 
 forged_receipt_is_on_the_way : (after_events (new Confirming one) (Tick ∷ AlterUp (0x04 ∷ []) ∷ [])).up ≡ 0x04 ∷ []
@@ -352,7 +359,8 @@ lost_close_leaves_the_port_selected = refl
 
 -- STOP and CLOSE are lost: it has stopped, and the clip still plays
 abbrev lost_stop_and_close : Channel
-lost_stop_and_close = after_events (new Confirming one) (good 6 ++ round ++ Stop ∷ Timeout ∷ times 2 (Tick ∷ LoseDown ∷ Timeout ∷ []))
+lost_stop_and_close = after_events (new Confirming one)
+    (good 6 ++ round ++ Stop ∷ Timeout ∷ times 2 (Tick ∷ LoseDown ∷ Timeout ∷ []))
 
 lost_stop_and_close_is_stopped : seen lost_stop_and_close ≡ ends one 0 9 (Some Stopped)
 lost_stop_and_close_is_stopped = refl

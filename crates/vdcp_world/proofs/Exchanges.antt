@@ -29,7 +29,8 @@ pub taken : (list : List Item) (k : ℕ) → k ≤ length list → length (take 
 taken list k l = simp length-take (omega arith)
 
 -- each phase keeps what is said of aired and settled
-pub near : (list : List Item) (cued : Cued) (aired : List Item) (settled : ℕ) (q : Phase) → Place list cued aired settled q → Near list aired settled
+pub near : (list : List Item) (cued : Cued) (aired : List Item) (settled : ℕ) (q : Phase)
+    → Place list cued aired settled q → Near list aired settled
 near list cued aired settled q h = grind (arith, taken)
 
 -- in Wait, plain mode hears of a cue
@@ -39,10 +40,12 @@ HearsCue mode q r = Unit {0}
 
 -- ---- an answer
 
-pub replied_place : (list : List Item) (clips : List (ClipId × Timecode)) (cued : Cued) (aired : List Item) (mode : Mode) (settled limit tries : ℕ)
+pub replied_place : (list : List Item) (clips : List (ClipId × Timecode)) (cued : Cued) (aired : List Item)
+    (mode : Mode) (settled limit tries : ℕ)
     (wish : Bool) (q : Phase) (r : Reply)
     → Place list cued aired settled q → Tells list clips cued aired q r → HearsCue mode q r → is_asked q r ≡ true
-    → PlaceAt list clips cued aired (settled_after (on_reply mode list limit wish tries q r) settled) (stage_after (on_reply mode list limit wish tries q r))
+    → PlaceAt list clips cued aired (settled_after (on_reply mode list limit wish tries q r) settled)
+    (stage_after (on_reply mode list limit wish tries q r))
 replied_place list clips cued aired mode settled limit tries wish phase.Open r h t c f = grind (arith, near)
 replied_place list clips cued aired mode settled limit tries wish phase.Select r h t c f = grind (arith, near)
 replied_place list clips cued aired mode settled limit tries wish phase.Seen r h t c f = grind (arith, near)
@@ -58,12 +61,15 @@ replied_place list clips cued aired mode settled limit tries wish phase.Close r 
 replied_place list clips cued aired mode settled limit tries wish phase.Halt r h t c f = grind (arith, near)
 replied_place list clips cued aired mode settled limit tries wish phase.HaltClose r h t c f = grind (arith, near)
 
-pub refused_place : (list : List Item) (clips : List (ClipId × Timecode)) (p : PortState) (aired : List Item) (settled : ℕ) (q : Phase) (r : Reply)
+pub refused_place : (list : List Item) (clips : List (ClipId × Timecode)) (p : PortState) (aired : List Item)
+    (settled : ℕ) (q : Phase) (r : Reply)
     → Place list p.cued aired settled q → Firm list clips p q → FirmTells list clips p q r → is_refusal r ≡ true
-    → PlaceAt list clips p.cued aired (settled_after (on_refusal (length list) q) settled) (stage_after (on_refusal (length list) q))
+    → PlaceAt list clips p.cued aired (settled_after (on_refusal (length list) q) settled)
+    (stage_after (on_refusal (length list) q))
 refused_place list clips p aired settled q r h firm t e = grind (arith, near)
 
-pub replied_firm : (list : List Item) (clips : List (ClipId × Timecode)) (p : PortState) (aired : List Item) (limit tries : ℕ) (wish : Bool) (q : Phase)
+pub replied_firm : (list : List Item) (clips : List (ClipId × Timecode)) (p : PortState) (aired : List Item)
+    (limit tries : ℕ) (wish : Bool) (q : Phase)
     (r : Reply)
     → Firm list clips p q → Tells list clips p.cued aired q r → FirmTells list clips p q r → is_asked q r ≡ true
     → FirmAt list clips p (stage_after (on_reply Plain list limit wish tries q r))
@@ -76,18 +82,21 @@ refused_firm list clips p q r h t e = grind arith
 
 -- ---- silence, and a tick
 
-pub silence_place : (list : List Item) (clips : List (ClipId × Timecode)) (cued : Cued) (aired : List Item) (mode : Mode) (settled limit unanswered : ℕ)
+pub silence_place : (list : List Item) (clips : List (ClipId × Timecode)) (cued : Cued) (aired : List Item)
+    (mode : Mode) (settled limit unanswered : ℕ)
     (counts : Bool) (q : Phase)
     → Place list cued aired settled q
     → PlaceAt list clips cued aired (settled_after (on_unanswered mode limit unanswered counts q) settled)
     (stage_after (on_unanswered mode limit unanswered counts q))
 silence_place list clips cued aired mode settled limit unanswered counts q h = grind (arith, near)
 
-pub silence_firm : (list : List Item) (clips : List (ClipId × Timecode)) (p : PortState) (limit unanswered : ℕ) (counts : Bool) (q : Phase)
+pub silence_firm : (list : List Item) (clips : List (ClipId × Timecode)) (p : PortState) (limit unanswered : ℕ)
+    (counts : Bool) (q : Phase)
     → Firm list clips p q → FirmAt list clips p (stage_after (on_unanswered Plain limit unanswered counts q))
 silence_firm list clips p limit unanswered counts q h = grind arith
 
-pub sent_place : (list : List Item) (cued : Cued) (aired : List Item) (settled : ℕ) (q : Phase) → PlaceReady list cued aired settled q
+pub sent_place : (list : List Item) (cued : Cued) (aired : List Item) (settled : ℕ) (q : Phase)
+    → PlaceReady list cued aired settled q
     → Place list cued aired settled q
 sent_place list cued aired settled q h = grind arith
 
@@ -96,7 +105,8 @@ pub tick_place : (list : List Item) (cued : Cued) (aired : List Item) (settled :
 tick_place list cued aired settled true q h = near list cued aired settled q (sent_place list cued aired settled q h)
 tick_place list cued aired settled false q h = sent_place list cued aired settled q h
 
-pub tick_firm : (list : List Item) (clips : List (ClipId × Timecode)) (p : PortState) (stop : Bool) (q : Phase) → Firm list clips p q
+pub tick_firm : (list : List Item) (clips : List (ClipId × Timecode)) (p : PortState) (stop : Bool) (q : Phase)
+    → Firm list clips p q
     → Firm list clips p (phase_to_send stop q)
 tick_firm list clips p true q h = tt
 tick_firm list clips p false q h = h
@@ -104,7 +114,8 @@ tick_firm list clips p false q h = h
 -- ---- the end of an awaited exchange
 
 -- the reply is of the kind that the phase's command asks for
-pub fits_asked : (list : List Item) (port : ℕ) (q : Phase) (c : Command) (r : Reply) → command_in list port q ≡ Some c → fits c r ≡ true → is_asked q r ≡ true
+pub fits_asked : (list : List Item) (port : ℕ) (q : Phase) (c : Command) (r : Reply) → command_in list port q ≡ Some c
+    → fits c r ≡ true → is_asked q r ≡ true
 fits_asked list port phase.Open c r e f = cc
 fits_asked list port phase.Select c r e f = cc
 fits_asked list port phase.Seen c r e f = cc
@@ -139,7 +150,8 @@ abbrev pub turn_by : Mode → List Item → ℕ → Bool → ℕ → ℕ → Boo
 turn_by mode list limit take tries unanswered counts q (Some r) = on_answer mode list limit take tries q r
 turn_by mode list limit take tries unanswered counts q None = on_unanswered mode limit unanswered counts q
 
-pub record Behind (mode : Mode) (list : List Item) (clips : List (ClipId × Timecode)) (p : PortState) (aired : List Item) (settled : ℕ)
+pub record Behind (mode : Mode) (list : List Item) (clips : List (ClipId × Timecode)) (p : PortState)
+    (aired : List Item) (settled : ℕ)
     (transition : Transition) : Type 0 where
   pub place : PlaceAt list clips p.cued aired (settled_after transition settled) (stage_after transition)
   pub firm : FirmIn mode list clips p (stage_after transition)
@@ -148,44 +160,57 @@ pub either : (a b : Bool) → (a || b) ≡ true → (a ≡ true) ⊎ ((a ≡ fal
 either true b e = inl refl
 either false b e = inr (refl, e)
 
-pub on_refused : (mode : Mode) (list : List Item) (limit tries : ℕ) (take : Bool) (q : Phase) (r : Reply) → is_refusal r ≡ true
+pub on_refused : (mode : Mode) (list : List Item) (limit tries : ℕ) (take : Bool) (q : Phase) (r : Reply)
+    → is_refusal r ≡ true
     → on_answer mode list limit take tries q r ≡ on_refusal (length list) q
-on_refused mode list limit tries take q r e = ap (λ b. if b then on_refusal (length list) q else on_reply mode list limit take tries q r) e
+on_refused mode list limit tries take q r e =
+    ap (λ b. if b then on_refusal (length list) q else on_reply mode list limit take tries q r) e
 
-pub on_replied : (mode : Mode) (list : List Item) (limit tries : ℕ) (take : Bool) (q : Phase) (r : Reply) → is_refusal r ≡ false
+pub on_replied : (mode : Mode) (list : List Item) (limit tries : ℕ) (take : Bool) (q : Phase) (r : Reply)
+    → is_refusal r ≡ false
     → on_answer mode list limit take tries q r ≡ on_reply mode list limit take tries q r
-on_replied mode list limit tries take q r e = ap (λ b. if b then on_refusal (length list) q else on_reply mode list limit take tries q r) e
+on_replied mode list limit tries take q r e =
+    ap (λ b. if b then on_refusal (length list) q else on_reply mode list limit take tries q r) e
 
-hears_cue : (list : List Item) (clips : List (ClipId × Timecode)) (p : PortState) (q : Phase) (r : Reply) → FirmTells list clips p q r → HearsCue Plain q r
+hears_cue : (list : List Item) (clips : List (ClipId × Timecode)) (p : PortState) (q : Phase) (r : Reply)
+    → FirmTells list clips p q r → HearsCue Plain q r
 hears_cue list clips p q r t = grind arith
 
-answered_plain : (list : List Item) (clips : List (ClipId × Timecode)) (p : PortState) (aired : List Item) (settled limit tries : ℕ) (take : Bool) (q : Phase)
+answered_plain : (list : List Item) (clips : List (ClipId × Timecode)) (p : PortState) (aired : List Item)
+    (settled limit tries : ℕ) (take : Bool) (q : Phase)
     (r : Reply)
-    → Place list p.cued aired settled q → Firm list clips p q → Tells list clips p.cued aired q r → FirmTells list clips p q r
+    → Place list p.cued aired settled q → Firm list clips p q → Tells list clips p.cued aired q r
+    → FirmTells list clips p q r
     → (is_refusal r ≡ true) ⊎ ((is_refusal r ≡ false) × (is_asked q r ≡ true))
     → Behind Plain list clips p aired settled (on_answer Plain list limit take tries q r)
 answered_plain list clips p aired settled limit tries take q r h firm t u (inl e) =
-    subst (λ transition. Behind Plain list clips p aired settled transition) (sym (on_refused Plain list limit tries take q r e)) (record {
+    subst (λ transition. Behind Plain list clips p aired settled transition)
+    (sym (on_refused Plain list limit tries take q r e)) (record {
       place = refused_place list clips p aired settled q r h firm u e;
       firm = refused_firm list clips p q r firm u e;
     })
 answered_plain list clips p aired settled limit tries take q r h firm t u (inr (e, asked)) =
-    subst (λ transition. Behind Plain list clips p aired settled transition) (sym (on_replied Plain list limit tries take q r e)) (record {
-      place = replied_place list clips p.cued aired Plain settled limit tries take q r h t (hears_cue list clips p q r u) asked;
+    subst (λ transition. Behind Plain list clips p aired settled transition)
+    (sym (on_replied Plain list limit tries take q r e)) (record {
+      place = replied_place list clips p.cued aired Plain settled limit tries take q r h t
+          (hears_cue list clips p q r u) asked;
       firm = replied_firm list clips p aired limit tries take q r firm t u asked;
     })
 
-answered_confirming : (list : List Item) (clips : List (ClipId × Timecode)) (p : PortState) (aired : List Item) (settled limit tries : ℕ) (take : Bool)
+answered_confirming : (list : List Item) (clips : List (ClipId × Timecode)) (p : PortState) (aired : List Item)
+    (settled limit tries : ℕ) (take : Bool)
     (q : Phase) (r : Reply)
     → Place list p.cued aired settled q → Tells list clips p.cued aired q r → is_refusal r ≡ false → is_asked q r ≡ true
     → Behind Confirming list clips p aired settled (on_answer Confirming list limit take tries q r)
 answered_confirming list clips p aired settled limit tries take q r h t e asked =
-    subst (λ transition. Behind Confirming list clips p aired settled transition) (sym (on_replied Confirming list limit tries take q r e)) (record {
+    subst (λ transition. Behind Confirming list clips p aired settled transition)
+    (sym (on_replied Confirming list limit tries take q r e)) (record {
       place = replied_place list clips p.cued aired Confirming settled limit tries take q r h t tt asked;
       firm = tt;
     })
 
-unanswered_place : (mode : Mode) (list : List Item) (clips : List (ClipId × Timecode)) (p : PortState) (aired : List Item) (settled limit unanswered : ℕ)
+unanswered_place : (mode : Mode) (list : List Item) (clips : List (ClipId × Timecode)) (p : PortState)
+    (aired : List Item) (settled limit unanswered : ℕ)
     (counts : Bool) (q : Phase)
     → Place list p.cued aired settled q → FirmIn mode list clips p (Awaiting q)
     → Behind mode list clips p aired settled (on_unanswered mode limit unanswered counts q)
@@ -216,15 +241,19 @@ pub turn_place : (mode : Mode) (list : List Item) (clips : List (ClipId × Timec
     → Behind mode list clips p aired settled (turn_by mode list limit take tries unanswered counts q (answer_to c came))
 turn_place mode list clips p aired settled port limit tries unanswered take counts q c None e ends h firm told =
     unanswered_place mode list clips p aired settled limit unanswered counts q h firm
-turn_place mode list clips p aired settled port limit tries unanswered take counts q c (Some heard.Other) e ends h firm told =
+turn_place mode list clips p aired settled port limit tries unanswered take counts q c (Some heard.Other) e ends h firm
+    told =
     unanswered_place mode list clips p aired settled limit unanswered counts q h firm
-turn_place mode list clips p aired settled port limit tries unanswered take counts q c (Some (heard.Reply r)) e ends h firm told =
+turn_place mode list clips p aired settled port limit tries unanswered take counts q c (Some (heard.Reply r)) e ends h
+    firm told =
     by (is_refusal r || fits c r) refl
   where
-    answered : (mode : Mode) → is_end mode c (Some (heard.Reply r)) ≡ true → FirmIn mode list clips p (Awaiting q) → TellsIn mode list clips p aired q r
+    answered : (mode : Mode) → is_end mode c (Some (heard.Reply r)) ≡ true → FirmIn mode list clips p (Awaiting q)
+        → TellsIn mode list clips p aired q r
         → (is_refusal r ≡ true) ⊎ ((is_refusal r ≡ false) × (is_asked q r ≡ true))
         → Behind mode list clips p aired settled (on_answer mode list limit take tries q r)
-    answered Plain ends firm t which = answered_plain list clips p aired settled limit tries take q r h firm t.0 t.1 which
+    answered Plain ends firm t which =
+        answered_plain list clips p aired settled limit tries take q r h firm t.0 t.1 which
     answered Confirming ends firm t (inl refused) =
         let none = no_refusal r (no_receipt c r ends) in
         absurd (impossible (sym refused ∙ none))
@@ -234,11 +263,13 @@ turn_place mode list clips p aired settled port limit tries unanswered take coun
     answered Confirming ends firm t (inr (none, asked)) =
         answered_confirming list clips p aired settled limit tries take q r h (t (no_receipt c r ends)) none asked
 
-    asked_of : (is_refusal r ≡ true) ⊎ ((is_refusal r ≡ false) × (fits c r ≡ true)) → (is_refusal r ≡ true) ⊎ ((is_refusal r ≡ false) × (is_asked q r ≡ true))
+    asked_of : (is_refusal r ≡ true) ⊎ ((is_refusal r ≡ false) × (fits c r ≡ true))
+        → (is_refusal r ≡ true) ⊎ ((is_refusal r ≡ false) × (is_asked q r ≡ true))
     asked_of (inl e) = inl e
     asked_of (inr (none, f)) = inr (none, fits_asked list port q c r e f)
 
     by : (b : Bool) → (is_refusal r || fits c r) ≡ b
-        → Behind mode list clips p aired settled (turn_by mode list limit take tries unanswered counts q (if b then Some r else None))
+        → Behind mode list clips p aired settled (turn_by mode list limit take tries unanswered counts q
+        (if b then Some r else None))
     by true f = answered mode ends firm (told r refl) (asked_of (either (is_refusal r) (fits c r) f))
     by false f = unanswered_place mode list clips p aired settled limit unanswered counts q h firm

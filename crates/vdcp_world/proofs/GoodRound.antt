@@ -51,16 +51,19 @@ abbrev sent_in : Channel → Option Command → Channel
 sent_in c g =
     record c { state = ticked c.state; down = down_behind c.port.state.unit g c.down; up = up_behind g c.up }
 
-answers_all : (p : ClockedPort) (down up : List ℕ) (m : Content) → messages_of down ≡ m ∷ [] → answered p down up ≡ sent_for p down
+answers_all : (p : ClockedPort) (down up : List ℕ) (m : Content) → messages_of down ≡ m ∷ []
+    → answered p down up ≡ sent_for p down
 answers_all p [] up m e = absurd (impossible e)
   where
     impossible : [] ≡ m ∷ [] → ⊥
     impossible e = cc
 answers_all p (b ∷ down) up m e = refl
 
-pub exchanged : Below → (c : Channel) (d : Command) → IsKept c → given c.plan c.state ≡ Some d → Exchanged c d (after_events c round)
+pub exchanged : Below → (c : Channel) (d : Command) → IsKept c → given c.plan c.state ≡ Some d
+    → Exchanged c d (after_events c round)
 exchanged below c d k g =
-    subst (λ (x : Channel). Exchanged c d (after_events x (event.Down ∷ event.Up ∷ []))) (sym (ap (sent_in c) g)) (record {
+    subst (λ (x : Channel). Exchanged c d (after_events x (event.Down ∷ event.Up ∷ []))) (sym (ap (sent_in c) g))
+    (record {
       answer = read.answer;
       answers = read.answers;
       state = ap (λ (h : Option Heard). state_hearing c.plan h (ticked c.state)) hears;
@@ -70,19 +73,22 @@ exchanged below c d k g =
     })
   where
     w : IsWritableCommand d
-    w = subst (λ (o : Option Command). IfSome o IsWritableCommand) g (below.given_written c.plan c.state k.of_bytes k.port_fits)
+    w = subst (λ (o : Option Command). IfSome o IsWritableCommand) g
+        (below.given_written c.plan c.state k.of_bytes k.port_fits)
 
     bytes : List ℕ
     bytes = spelling (command_message c.port.state.unit d)
 
     alone : messages_of bytes ≡ command_message c.port.state.unit d ∷ []
-    alone = below.alone (command_message c.port.state.unit d) (below.command_fits c.port.state.unit d (omega (arith, k.unit_fits)) w)
+    alone = below.alone (command_message c.port.state.unit d)
+        (below.command_fits c.port.state.unit d (omega (arith, k.unit_fits)) w)
 
     read : ReadsCommand c.port bytes d
     read = reads_command below c.port bytes d k.unit_fits w alone
 
     same_unit : (after_burst c.port bytes).state.unit ≡ c.port.state.unit
-    same_unit = ap (λ (p : ClockedPort). p.state.unit) read.leaves ∙ keeps_unit (command_row c.port.clips c.port.state d).change c.port
+    same_unit = ap (λ (p : ClockedPort). p.state.unit) read.leaves
+        ∙ keeps_unit (command_row c.port.clips c.port.state d).change c.port
 
     hears : heard_in (after_burst c.port bytes).state.unit (answered c.port bytes []) ≡ Some (heard.Reply read.answer)
     hears =
@@ -93,9 +99,11 @@ exchanged below c d k g =
 -- ---- the controller
 
 -- where nothing is awaited, nothing times out
-pub waits_still : (plan : Plan) (down up : List ℕ) (state : State) → awaited plan state ≡ None → state_waiting plan down up state ≡ state
+pub waits_still : (plan : Plan) (down up : List ℕ) (state : State) → awaited plan state ≡ None
+    → state_waiting plan down up state ≡ state
 waits_still plan [] [] state e =
-    ap (λ (o : Option Command). option_map_or (λ x. ended_in plan state.stage x state) (exchange_of plan.mode None o) state) e
+    ap (λ (o : Option Command). option_map_or (λ x. ended_in plan state.stage x state) (exchange_of plan.mode None o)
+    state) e
 waits_still plan [] (b ∷ up) state e = refl
 waits_still plan (b ∷ down) up state e = refl
 
@@ -113,10 +121,12 @@ gives_own plan state q e none =
     ∙ ap (λ (stop : Bool). command_in plan.list plan.port (phase_to_send stop q)) none
 
 -- where a tick and a reply lead, which ends the exchange
-pub turns_on : (plan : Plan) (state : State) (q : Phase) (d : Command) (r : Reply) → state.stage ≡ Ready q → state.stop ≡ false
+pub turns_on : (plan : Plan) (state : State) (q : Phase) (d : Command) (r : Reply) → state.stage ≡ Ready q
+    → state.stop ≡ false
     → command_in plan.list plan.port q ≡ Some d → is_end plan.mode d (Some (heard.Reply r)) ≡ true
     → came_to plan (Some (heard.Reply r)) (ticked state)
-    ≡ state_after (transition_of plan (sent q state) q (exchange d r)) (unanswered_after plan.mode (exchange d r) state.unanswered) (sent q state)
+    ≡ state_after (transition_of plan (sent q state) q (exchange d r))
+    (unanswered_after plan.mode (exchange d r) state.unanswered) (sent q state)
 turns_on plan state q d r e none is over =
     ap (came_to plan (Some (heard.Reply r))) (ticks_on state q e none)
     ∙ ap (λ (o : Option Command). of (exchange_of plan.mode (Some (heard.Reply r)) o)) is
@@ -125,18 +135,23 @@ turns_on plan state q d r e none is over =
     of : Option Exchange → State
     of o = option_map_or (λ x. ended_in plan (Awaiting q) x (sent q state)) o (sent q state)
 
-pub hears_still : (plan : Plan) (h : Option Heard) (state : State) → awaited plan state ≡ None → state_hearing plan h state ≡ state
+pub hears_still : (plan : Plan) (h : Option Heard) (state : State) → awaited plan state ≡ None
+    → state_hearing plan h state ≡ state
 hears_still plan None state e = refl
 hears_still plan (Some h) state e =
-    ap (λ (o : Option Command). option_map_or (λ x. ended_in plan state.stage x state) (exchange_of plan.mode (Some h) o) state) e
+    ap (λ (o : Option Command). option_map_or (λ x. ended_in plan state.stage x state)
+    (exchange_of plan.mode (Some h) o) state) e
 
 -- and the time-out in confirm mode, where it isn't the last one that counts
-pub waits_over : (plan : Plan) (state : State) (q : Phase) (d : Command) → plan.mode ≡ Confirming → state.stage ≡ Awaiting q
+pub waits_over : (plan : Plan) (state : State) (q : Phase) (d : Command) → plan.mode ≡ Confirming
+    → state.stage ≡ Awaiting q
     → command_in plan.list plan.port q ≡ Some d → (is_sense d && nat_le plan.limit (state.unanswered + 1)) ≡ false
     → came_to plan None state
-    ≡ state_after (on_no_answer Confirming q) (unanswered_after plan.mode (record { command = d; heard = None }) state.unanswered) state
+    ≡ state_after (on_no_answer Confirming q) (unanswered_after plan.mode (record { command = d; heard = None })
+    state.unanswered) state
 waits_over plan state q d confirms e is spare =
-    ap (λ (stage : Stage). option_map_or (λ x. ended_in plan stage x state) (exchange_of plan.mode None (awaited_in plan stage)) state) e
+    ap (λ (stage : Stage). option_map_or (λ x. ended_in plan stage x state)
+    (exchange_of plan.mode None (awaited_in plan stage)) state) e
     ∙ ap (λ (o : Option Command). of (exchange_of plan.mode None o)) is
     ∙ ap (λ (mode : Mode). of (if is_end mode d None then Some silent else None)) confirms
     ∙ ap (λ (mode : Mode). to (on_unanswered mode plan.limit state.unanswered (is_counted mode silent) q)) confirms

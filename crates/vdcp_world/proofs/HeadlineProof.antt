@@ -46,11 +46,13 @@ none_taken : (list : List Item) → [] ≡ take 0 list
 none_taken [] = refl
 none_taken (item ∷ list) = refl
 
-firm_new : (mode : Mode) (list : List Item) (clips : List (ClipId × Timecode)) (p : PortState) → FirmIn mode list clips p (Ready Open)
+firm_new : (mode : Mode) (list : List Item) (clips : List (ClipId × Timecode)) (p : PortState)
+    → FirmIn mode list clips p (Ready Open)
 firm_new Plain list clips p = tt
 firm_new Confirming list clips p = tt
 
-pub kept_new : (plan : Plan) (clips : List (ClipId × Timecode)) (unit cue_frames : ℕ) → unit ≤ 15 → plan.port < 256 → All IsItem plan.list
+pub kept_new : (plan : Plan) (clips : List (ClipId × Timecode)) (unit cue_frames : ℕ) → unit ≤ 15 → plan.port < 256
+    → All IsItem plan.list
     → IsKept (new_channel plan clips unit cue_frames)
 kept_new plan clips unit cue_frames u h items = record {
   unit_fits = omega (arith, u);
@@ -92,7 +94,8 @@ strays_reached : (mode : Mode) (plan : Plan) (state : State) (log : List Exchang
 strays_reached Plain plan state log h r = r
 strays_reached Confirming plan state log h r = called r (Receive (Some (heard.Reply h)))
 
-controller_event : (c : Channel) (e : Event) → Reached c.plan c.state c.log → Reached (after_event c e).plan (after_event c e).state (after_event c e).log
+controller_event : (c : Channel) (e : Event) → Reached c.plan c.state c.log
+    → Reached (after_event c e).plan (after_event c e).state (after_event c e).log
 controller_event c event.Tick r = called r call.Tick
 controller_event c event.Down r = r
 controller_event c event.Up r = hears_reached c.plan c.state c.log (heard_in c.port.state.unit c.up) r
@@ -133,9 +136,11 @@ near_aired list aired settled k a e =
       high = omega (arith, size, e);
     }
 
-near_at : (list : List Item) (clips : List (ClipId × Timecode)) (cued : Cued) (aired : List Item) (settled : ℕ) (stage : Stage)
+near_at : (list : List Item) (clips : List (ClipId × Timecode)) (cued : Cued) (aired : List Item) (settled : ℕ)
+    (stage : Stage)
     → PlaceAt list clips cued aired settled stage → Near list aired settled
-near_at list clips cued aired settled (Ready q) h = near list cued aired settled q (sent_place list cued aired settled q h)
+near_at list clips cued aired settled (Ready q) h =
+    near list cued aired settled q (sent_place list cued aired settled q h)
 near_at list clips cued aired settled (Awaiting q) h = near list cued aired settled q h
 near_at list clips cued aired settled (Ended outcome.Done) h = near_aired list aired settled (length list) h.0 h.1
 near_at list clips cued aired settled (Ended outcome.Stopped) h = h
@@ -147,8 +152,11 @@ near_at list clips cued aired settled (Ended (outcome.Foreign k)) h = absurd h
 near_at list clips cued aired settled (Ended (outcome.Strange k)) h = absurd h
 
 begins : (list aired : List Item) (settled : ℕ) → Near list aired settled → (more : List Item) × (list ≡ aired ++ more)
-begins list aired settled n =
-    (drop (length aired) list, sym (take-append-drop (length aired) list) ∙ ap (λ (front : List Item). front ++ drop (length aired) list) (sym n.aired_is))
+begins list aired settled n = (
+  drop (length aired) list,
+  sym (take-append-drop (length aired) list)
+      ∙ ap (λ (front : List Item). front ++ drop (length aired) list) (sym n.aired_is),
+)
 
 take_within : {A : Type 0} → (s a : ℕ) (xs : List A) → s ≤ a → take s (take a xs) ≡ take s xs
 take_within zero a xs l = refl
@@ -161,7 +169,8 @@ reports : (list aired : List Item) (settled : ℕ) → Near list aired settled
 reports list aired settled n =
     let front : take settled aired ≡ take settled list =
     ap (take settled) n.aired_is ∙ take_within settled (length aired) list n.low in
-    let size : length (drop settled aired) + settled ≡ length aired = omega (arith, length-drop settled aired, n.low) in (
+    let size : length (drop settled aired) + settled ≡ length aired =
+    omega (arith, length-drop settled aired, n.low) in (
       drop settled aired,
       sym (take-append-drop settled aired) ∙ ap (λ (x : List Item). x ++ drop settled aired) front,
       omega (arith, size, n.high),
@@ -171,16 +180,19 @@ reports list aired settled n =
 
 without_last : (aired front last : List Item) → aired ≡ front ++ last → length aired ≡ length front → aired ≡ front
 without_last aired front [] e same = e ∙ append-nil front
-without_last aired front (item ∷ last) e same = absurd (omega (arith, ap length e, length-append front (item ∷ last), same))
+without_last aired front (item ∷ last) e same =
+    absurd (omega (arith, ap length e, length-append front (item ∷ last), same))
 
-pub complete : (c : Channel) → Headline c → IfSome (outcome_of c.state.stage) (λ outcome. IsTrue (is_complete outcome) → c.aired ≡ reported_of c)
+pub complete : (c : Channel) → Headline c → IfSome (outcome_of c.state.stage)
+    (λ outcome. IsTrue (is_complete outcome) → c.aired ≡ reported_of c)
 complete c h = by (outcome_of c.state.stage) h.ended
   where
     all : (k : ℕ) → AreReported c.plan c.aired c.log k → c.aired ≡ reported_of c
     all k a = without_last c.aired (reported_of c) h.reported.0 h.reported.1
         (a.aired_count ∙ sym (h.count ∙ h.is_settled ∙ a.reported_count))
 
-    by : (o : Option Outcome) → IfSome o (Means c.port.clips c.plan c.aired c.log) → IfSome o (λ outcome. IsTrue (is_complete outcome) → c.aired ≡ reported_of c)
+    by : (o : Option Outcome) → IfSome o (Means c.port.clips c.plan c.aired c.log)
+        → IfSome o (λ outcome. IsTrue (is_complete outcome) → c.aired ≡ reported_of c)
     by None m = tt
     by (Some outcome.Done) m = λ _. all (length c.plan.list) m.1
     by (Some (outcome.Missing k)) m = λ _. all k m.1
@@ -200,15 +212,18 @@ but_one c h = omega (arith, ap length h.reported.1, length-append (reported_of c
 -- ---- no other outcome
 
 -- what never comes
-pub never : (c : Channel) (o : Outcome) → Headline c → outcome_of c.state.stage ≡ Some o → Means c.port.clips c.plan c.aired c.log o
+pub never : (c : Channel) (o : Outcome) → Headline c → outcome_of c.state.stage ≡ Some o
+    → Means c.port.clips c.plan c.aired c.log o
 never c o h e = subst (λ (x : Option Outcome). IfSome x (Means c.port.clips c.plan c.aired c.log)) e h.ended
 
 -- ---- what the outcome means
 
-unknown_at : (clips : List (ClipId × Timecode)) (list : List Item) (k : ℕ) (o : Option Item) → slice_get list k ≡ o → k < length list
+unknown_at : (clips : List (ClipId × Timecode)) (list : List Item) (k : ℕ) (o : Option Item) → slice_get list k ≡ o
+    → k < length list
     → knows clips o ≡ false → IsUnknownAt clips list k
 unknown_at clips list k None is below e = absurd (no_item list k below is)
-unknown_at clips list k (Some item) is below e = subst (λ (o : Option Item). IsSomeAnd o (λ item. is_known clips item.id ≡ false)) (sym is) e
+unknown_at clips list k (Some item) is below e =
+    subst (λ (o : Option Item). IsSomeAnd o (λ item. is_known clips item.id ≡ false)) (sym is) e
 
 outside : (clips : List (ClipId × Timecode)) (item : Item) → refuses clips (Some item) ≡ true → IsOutside clips item
 outside clips item e = record {
@@ -229,33 +244,44 @@ outside clips item e = record {
     part None (Some clip) e = cc
     part (Some p) clip e = refl
 
-outside_at : (clips : List (ClipId × Timecode)) (list : List Item) (k : ℕ) (o : Option Item) → slice_get list k ≡ o → refuses clips o ≡ true
+outside_at : (clips : List (ClipId × Timecode)) (list : List Item) (k : ℕ) (o : Option Item) → slice_get list k ≡ o
+    → refuses clips o ≡ true
     → IsSomeAnd (slice_get list k) (IsOutside clips)
 outside_at clips list k None is e = cc
-outside_at clips list k (Some item) is e = subst (λ (o : Option Item). IsSomeAnd o (IsOutside clips)) (sym is) (outside clips item e)
+outside_at clips list k (Some item) is e =
+    subst (λ (o : Option Item). IsSomeAnd o (IsOutside clips)) (sym is) (outside clips item e)
 
-exactly : (plan : Plan) (aired : List Item) (log : List Exchange) (reported k : ℕ) → Aired plan.list aired k → reported ≡ k → reported ≡ settled plan.mode log
+exactly : (plan : Plan) (aired : List Item) (log : List Exchange) (reported k : ℕ) → Aired plan.list aired k
+    → reported ≡ k → reported ≡ settled plan.mode log
     → AreReported plan aired log k
 exactly plan aired log reported k a e counted = record {
   aired_count = ap length a.aired_is ∙ taken plan.list k a.within;
   reported_count = sym counted ∙ e;
 }
 
-refused_in : (mode : Mode) (clips : List (ClipId × Timecode)) (plan : Plan) (log : List Exchange) (p : PortState) (k : ℕ)
-    → FirmIn mode plan.list clips p (Ended (outcome.Refused k)) → (mode ≡ Confirming → IsRefused plan.list plan.limit log k) → IsRefusedIn mode clips plan log k
+refused_in : (mode : Mode) (clips : List (ClipId × Timecode)) (plan : Plan) (log : List Exchange) (p : PortState)
+    (k : ℕ)
+    → FirmIn mode plan.list clips p (Ended (outcome.Refused k))
+    → (mode ≡ Confirming → IsRefused plan.list plan.limit log k) → IsRefusedIn mode clips plan log k
 refused_in Plain clips plan log p k firm by_log = outside_at clips plan.list k (slice_get plan.list k) refl firm
 refused_in Confirming clips plan log p k firm by_log = by_log refl
 
 means : (c : Channel) (o : Outcome) → PlaceEnded c.plan.list c.port.clips c.aired c.state.settled o
     → FirmIn c.plan.mode c.plan.list c.port.clips c.port.state (Ended o)
     → IsLawful c.plan c.state c.log → outcome_of c.state.stage ≡ Some o → Means c.port.clips c.plan c.aired c.log o
-means c outcome.Done h firm l e =
-    (h.0.aired_is ∙ take-length c.plan.list, exactly c.plan c.aired c.log c.state.settled (length c.plan.list) h.0 h.1 l.is_settled)
+means c outcome.Done h firm l e = (
+  h.0.aired_is ∙ take-length c.plan.list,
+  exactly c.plan c.aired c.log c.state.settled (length c.plan.list) h.0 h.1
+      l.is_settled,
+)
 means c outcome.Stopped h firm l e = tt
 means c outcome.Lost h firm l e = l.is_lost.0 e
 means c outcome.Denied h firm l e = h
-means c (outcome.Missing k) h firm l e =
-    (unknown_at c.port.clips c.plan.list k (slice_get c.plan.list k) refl h.2 h.3, exactly c.plan c.aired c.log c.state.settled k h.0 h.1 l.is_settled)
+means c (outcome.Missing k) h firm l e = (
+  unknown_at c.port.clips c.plan.list k (slice_get c.plan.list k) refl h.2 h.3,
+  exactly c.plan c.aired c.log
+      c.state.settled k h.0 h.1 l.is_settled,
+)
 means c (outcome.Refused k) h firm l e = (
   refused_in c.plan.mode c.port.clips c.plan c.log c.port.state k firm (λ confirms. l.is_refused confirms k e),
   exactly c.plan c.aired c.log c.state.settled k h.0 h.1 l.is_settled,
@@ -263,7 +289,8 @@ means c (outcome.Refused k) h firm l e = (
 means c (outcome.Foreign k) h firm l e = h
 means c (outcome.Strange k) h firm l e = h
 
-means_at : (c : Channel) (stage : Stage) → c.state.stage ≡ stage → Stands c.plan c.port.clips c.port.state c.aired c.state.settled stage
+means_at : (c : Channel) (stage : Stage) → c.state.stage ≡ stage
+    → Stands c.plan c.port.clips c.port.state c.aired c.state.settled stage
     → IsLawful c.plan c.state c.log
     → IfSome (outcome_of stage) (Means c.port.clips c.plan c.aired c.log)
 means_at c (Ready q) e s l = tt
@@ -272,7 +299,8 @@ means_at c (Ended o) e s l = means c o s.place s.firm l (ap outcome_of e)
 
 pub headline : (c : Channel) → IsKept c → IsLawful c.plan c.state c.log → Headline c
 headline c k l =
-    let near = near_at c.plan.list c.port.clips c.port.state.cued c.aired c.state.settled c.state.stage k.stands.place in
+    let near = near_at c.plan.list c.port.clips c.port.state.cued c.aired c.state.settled c.state.stage k.stands.place
+    in
     record {
       beginning = begins c.plan.list c.aired c.state.settled near;
       reported = reports c.plan.list c.aired c.state.settled near;

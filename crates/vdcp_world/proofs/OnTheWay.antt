@@ -21,7 +21,8 @@ use Rattle.vdcp_auto.specs.Heard.{heard_in}
 pub record ReadsNothing (p : ClockedPort) (down : List ℕ) : Type 0 where
   pub stays : after_burst p down ≡ p
   pub airs : aired_for p down ≡ []
-  pub says : (sent_for p down ≡ []) ⊎ ((byte : ℕ) × (byte ≢ 0x01) × (heard_in p.state.unit (sent_for p down) ≡ Some (heard.Reply (reply.Nak byte))))
+  pub says : (sent_for p down ≡ []) ⊎ ((byte : ℕ) × (byte ≢ 0x01) ×
+      (heard_in p.state.unit (sent_for p down) ≡ Some (heard.Reply (reply.Nak byte))))
 
 -- the port reads a command, and does what its row says
 pub record ReadsCommand (p : ClockedPort) (down : List ℕ) (c : Command) : Type 0 where
@@ -38,8 +39,10 @@ IsQuiet Plain (Some h) = ⊥
 IsQuiet Confirming (Some heard.Other) = ⊥
 IsQuiet Confirming (Some (heard.Reply r)) = is_receipt r ≡ true
 
--- nothing is read of what is on the way down, or exactly the command that is awaited, and then nothing that ends its exchange is on the way up
+-- nothing is read of what is on the way down, or exactly the command that is awaited, and then nothing that ends its
+-- exchange is on the way up
 abbrev pub Way : Mode → ℕ → Option Command → List ℕ → List ℕ → Type 0
 Way mode unit awaited down up =
     (messages_of down ≡ [])
-    ⊎ ((c : Command) × (awaited ≡ Some c) × (messages_of down ≡ command_message unit c ∷ []) × IsQuiet mode (heard_in unit up))
+    ⊎ ((c : Command) × (awaited ≡ Some c) × (messages_of down ≡ command_message unit c ∷ [])
+    × IsQuiet mode (heard_in unit up))

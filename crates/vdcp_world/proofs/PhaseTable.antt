@@ -82,10 +82,14 @@ Place list cued aired settled phase.Open = Idle list cued aired 0 × (settled �
 Place list cued aired settled phase.Select = Idle list cued aired 0 × (settled ≡ 0)
 Place list cued aired settled phase.Seen = Idle list cued aired 0 × (settled ≡ 0)
 Place list cued aired settled (phase.Exists k) = Idle list cued aired k × (settled ≡ k) × (k < length list)
-Place list cued aired settled (phase.Cue k) = (Idle list cued aired k ⊎ Coming list cued aired k) × (settled ≡ k) × (k < length list)
-Place list cued aired settled (phase.Wait k) = (Idle list cued aired k ⊎ Coming list cued aired k) × (settled ≡ k) × (k < length list)
-Place list cued aired settled (phase.Play k) = (Standing list cued aired k ⊎ Idle list cued aired (k + 1)) × (settled ≡ k)
-Place list cued aired settled (phase.Probe k) = (Standing list cued aired k ⊎ Idle list cued aired (k + 1)) × (settled ≡ k)
+Place list cued aired settled (phase.Cue k) =
+    (Idle list cued aired k ⊎ Coming list cued aired k) × (settled ≡ k) × (k < length list)
+Place list cued aired settled (phase.Wait k) =
+    (Idle list cued aired k ⊎ Coming list cued aired k) × (settled ≡ k) × (k < length list)
+Place list cued aired settled (phase.Play k) =
+    (Standing list cued aired k ⊎ Idle list cued aired (k + 1)) × (settled ≡ k)
+Place list cued aired settled (phase.Probe k) =
+    (Standing list cued aired k ⊎ Idle list cued aired (k + 1)) × (settled ≡ k)
 Place list cued aired settled (phase.Check k) = Idle list cued aired (k + 1) × (settled ≡ k + 1)
 Place list cued aired settled phase.Drain = Idle list cued aired (length list) × (settled ≡ length list)
 Place list cued aired settled phase.Close = Idle list cued aired (length list) × (settled ≡ length list)
@@ -103,7 +107,8 @@ PlaceEnded list clips aired settled outcome.Done = Aired list aired (length list
 PlaceEnded list clips aired settled outcome.Stopped = Near list aired settled
 PlaceEnded list clips aired settled outcome.Lost = Near list aired settled
 PlaceEnded list clips aired settled outcome.Denied = ⊥
-PlaceEnded list clips aired settled (outcome.Missing k) = Aired list aired k × (settled ≡ k) × (k < length list) × (knows clips (slice_get list k) ≡ false)
+PlaceEnded list clips aired settled (outcome.Missing k) =
+    Aired list aired k × (settled ≡ k) × (k < length list) × (knows clips (slice_get list k) ≡ false)
 PlaceEnded list clips aired settled (outcome.Refused k) = Aired list aired k × (settled ≡ k) × (k < length list)
 PlaceEnded list clips aired settled (outcome.Foreign k) = ⊥
 PlaceEnded list clips aired settled (outcome.Strange k) = ⊥
@@ -119,7 +124,8 @@ Tells list clips cued aired phase.Open r = is_opened r ≡ true → is_granted r
 Tells list clips cued aired (phase.Exists k) r = is_presence r ≡ true → is_present r ≡ knows clips (slice_get list k)
 Tells list clips cued aired (phase.Wait k) r = is_done r ≡ true → Standing list cued aired k
 Tells list clips cued aired (phase.Play k) r = is_ack r ≡ true → Idle list cued aired (k + 1)
-Tells list clips cued aired (phase.Probe k) r = (is_done r ≡ true → Standing list cued aired k) × (is_empty r ≡ true → Idle list cued aired (k + 1))
+Tells list clips cued aired (phase.Probe k) r =
+    (is_done r ≡ true → Standing list cued aired k) × (is_empty r ≡ true → Idle list cued aired (k + 1))
 Tells list clips cued aired (phase.Check k) r = names_other (slice_get list k) r ≡ false
 Tells list clips cued aired phase.Drain r = (is_cueing r || is_done r) ≡ false
 Tells list clips cued aired _ r = Unit {0}
@@ -131,7 +137,8 @@ Firm list clips p phase.Select = is_open p ≡ true
 Firm list clips p phase.Seen = ⊥
 Firm list clips p (phase.Exists k) = is_selected p ≡ true
 Firm list clips p (phase.Cue k) = (is_selected p ≡ true) × (knows clips (slice_get list k) ≡ true)
-Firm list clips p (phase.Wait k) = (is_selected p ≡ true) × (knows clips (slice_get list k) ≡ true) × (is_empty_slot p.cued ≡ false)
+Firm list clips p (phase.Wait k) =
+    (is_selected p ≡ true) × (knows clips (slice_get list k) ≡ true) × (is_empty_slot p.cued ≡ false)
 Firm list clips p (phase.Play k) = (is_selected p ≡ true) × (knows clips (slice_get list k) ≡ true)
 Firm list clips p (phase.Probe k) = (is_selected p ≡ true) × (knows clips (slice_get list k) ≡ true)
 Firm list clips p (phase.Check k) = is_selected p ≡ true

@@ -16,7 +16,8 @@ use Rattle.vdcp_world.specs.Channel.{Channel, Make, make_of, new_channel, after_
 use Rattle.vdcp_world.specs.declared.event.Event.{Event}
 use Rattle.vdcp_world.specs.declared.event.Event.TheVariants as event
 
-pub after_all : (c : Channel) (events more : List Event) → after_events c (events ++ more) ≡ after_events (after_events c events) more
+pub after_all : (c : Channel) (events more : List Event)
+    → after_events c (events ++ more) ≡ after_events (after_events c events) more
 after_all c [] more = refl
 after_all c (e ∷ events) more = after_all (after_event c e) events more
 
@@ -33,7 +34,8 @@ step_reached c e r = record {
   port_fits = r.port_fits;
   cue_takes = r.cue_takes;
   of_bytes = r.of_bytes;
-  led = ap (λ x. after_event x e) r.led ∙ sym (after_all (new_channel r.plan r.clips r.unit r.cue_frames) r.events (e ∷ []));
+  led = ap (λ x. after_event x e) r.led ∙ sym (after_all (new_channel r.plan r.clips r.unit r.cue_frames) r.events
+      (e ∷ []));
 }
 
 pub events_reached : (c : Channel) (events : List Event) → IsReached c → IsReached (after_events c events)
@@ -46,7 +48,8 @@ pub after_step : {A E : Type 0} (result : Result A E) (old now : Channel) (e : E
 after_step (Ok a) old now e ok err r = subst IsReached (sym ok) (step_reached old e r)
 after_step (Err x) old now e ok err r = subst IsReached (sym err) r
 
-pub new_reached : (plan : Plan) (clips : List (ClipId × Timecode)) (unit cue_frames : ℕ) → 1 ≤ plan.limit → plan.limit ≤ 1000 → unit ≤ 15
+pub new_reached : (plan : Plan) (clips : List (ClipId × Timecode)) (unit cue_frames : ℕ) → 1 ≤ plan.limit
+    → plan.limit ≤ 1000 → unit ≤ 15
     → plan.port < 256 → 1 ≤ cue_frames → All IsItem plan.list → IsReached (new_channel plan clips unit cue_frames)
 new_reached plan clips unit cue_frames some few unit_fits port_fits cue_takes of_bytes = record {
   plan = plan;
@@ -67,17 +70,22 @@ new_reached plan clips unit cue_frames some few unit_fits port_fits cue_takes of
 pub one_more : (c : Channel) (es : List Event) (i : ℕ) (e : Event) → i < length es → e ≡ get_or es i e
     → after_events c (take (i + 1) es) ≡ after_event (after_events c (take i es)) e
 one_more c es i e below is =
-    let taken : take (i + 1) es ≡ take i es ++ e ∷ [] = take_more es i e below ∙ ap (λ x. take i es ++ x ∷ []) (sym is) in
+    let taken : take (i + 1) es ≡ take i es ++ e ∷ [] =
+    take_more es i e below ∙ ap (λ x. take i es ++ x ∷ []) (sym is) in
     ap (after_events c) taken ∙ after_all c (take i es) (e ∷ [])
 
 -- the events before one of a list, it, and those after it
-split_at_event : (es : List Event) (i : ℕ) (e : Event) → i < length es → e ≡ get_or es i e → es ≡ take i es ++ e ∷ drop (i + 1) es
+split_at_event : (es : List Event) (i : ℕ) (e : Event) → i < length es → e ≡ get_or es i e
+    → es ≡ take i es ++ e ∷ drop (i + 1) es
 split_at_event es i e below is =
-    let taken : take (i + 1) es ≡ take i es ++ e ∷ [] = take_more es i e below ∙ ap (λ x. take i es ++ x ∷ []) (sym is) in
-    sym (take-append-drop (i + 1) es) ∙ ap (λ front. front ++ drop (i + 1) es) taken ∙ append_assoc (take i es) (e ∷ []) (drop (i + 1) es)
+    let taken : take (i + 1) es ≡ take i es ++ e ∷ [] =
+    take_more es i e below ∙ ap (λ x. take i es ++ x ∷ []) (sym is) in
+    sym (take-append-drop (i + 1) es) ∙ ap (λ front. front ++ drop (i + 1) es) taken
+    ∙ append_assoc (take i es) (e ∷ []) (drop (i + 1) es)
 
 -- an error after some events of a list
-pub in_part : {A E : Type 0} (result : Result A E) (old now : Channel) (es : List Event) (i : ℕ) (e : Event) → i < length es → e ≡ get_or es i e
+pub in_part : {A E : Type 0} (result : Result A E) (old now : Channel) (es : List Event) (i : ℕ) (e : Event)
+    → i < length es → e ≡ get_or es i e
     → now ≡ after_events old (take i es) → OnErr result (HappenInPart es old now)
 in_part (Ok a) old now es i e below is happened = tt
 in_part (Err x) old now es i e below is happened = record {
@@ -89,7 +97,8 @@ in_part (Err x) old now es i e below is happened = record {
 }
 
 -- all events of a list
-pub all_happened : (c now : Channel) (es : List Event) (i : ℕ) → length es ≤ i → i ≤ length es → now ≡ after_events c (take i es) → now ≡ after_events c es
+pub all_happened : (c now : Channel) (es : List Event) (i : ℕ) → length es ≤ i → i ≤ length es
+    → now ≡ after_events c (take i es) → now ≡ after_events c es
 all_happened c now es i low high is =
     let all : i ≡ length es = omega (arith, low, high) in
     is ∙ ap (λ (n : ℕ). after_events c (take n es)) all ∙ ap (after_events c) (take-length es)
@@ -100,7 +109,8 @@ abbrev port_make : Plan → ClockedPort → Make
 port_make plan p =
     record { plan = plan; clips = p.clips; unit = p.state.unit; number = p.state.number; cue_frames = p.cue_frames }
 
-make_change : (plan : Plan) (change : Change) (p : ClockedPort) → port_make plan (after_change change p) ≡ port_make plan p
+make_change : (plan : Plan) (change : Change) (p : ClockedPort)
+    → port_make plan (after_change change p) ≡ port_make plan p
 make_change plan keeps p = refl
 make_change plan opens p = refl
 make_change plan closes p = refl
@@ -109,18 +119,21 @@ make_change plan (cues item) p = refl
 make_change plan (airs item) p = refl
 make_change plan stops p = refl
 
-make_messages : (plan : Plan) (ms : List Content) (p : ClockedPort) → port_make plan (after_messages p ms) ≡ port_make plan p
+make_messages : (plan : Plan) (ms : List Content) (p : ClockedPort)
+    → port_make plan (after_messages p ms) ≡ port_make plan p
 make_messages plan [] p = refl
 make_messages plan (m ∷ ms) p = make_messages plan ms (after_message p m) ∙ make_change plan (row_at p m).change p
 
-make_if : (plan : Plan) (b : Bool) (p q : ClockedPort) → port_make plan q ≡ port_make plan p → port_make plan (if b then q else p) ≡ port_make plan p
+make_if : (plan : Plan) (b : Bool) (p q : ClockedPort) → port_make plan q ≡ port_make plan p
+    → port_make plan (if b then q else p) ≡ port_make plan p
 make_if plan true p q e = e
 make_if plan false p q e = refl
 
 make_frame : (plan : Plan) (p : ClockedPort) → port_make plan (after_frame p) ≡ port_make plan p
 make_frame plan p =
     let cued : ClockedPort = if completes_cue p then after_ready (counted_down p) else counted_down p in
-    make_if plan (ends_clip p) cued (after_ended cued) refl ∙ make_if plan (completes_cue p) (counted_down p) (after_ready (counted_down p)) refl
+    make_if plan (ends_clip p) cued (after_ended cued) refl
+    ∙ make_if plan (completes_cue p) (counted_down p) (after_ready (counted_down p)) refl
 
 pub make_stays : (c : Channel) (e : Event) → make_of (after_event c e) ≡ make_of c
 make_stays c event.Tick = refl

@@ -27,27 +27,34 @@ use Rattle.vdcp_world.proofs.PhaseTable.{Idle, Coming, Standing, PlaysLast, Plac
 none_more : (xs : List Item) → xs ++ [] ≡ xs
 none_more xs = append-nil xs
 
-airs_next : (list : List Item) (k : ℕ) (item : Item) → k < length list → slice_get list k ≡ Some item → take k list ++ item ∷ [] ≡ take (k + 1) list
-airs_next list k item below is = sym (take_more list k item below ∙ ap (λ x. take k list ++ x ∷ []) (get_or_from_slice_get list k item item is))
+airs_next : (list : List Item) (k : ℕ) (item : Item) → k < length list → slice_get list k ≡ Some item
+    → take k list ++ item ∷ [] ≡ take (k + 1) list
+airs_next list k item below is =
+    sym (take_more list k item below ∙ ap (λ x. take k list ++ x ∷ []) (get_or_from_slice_get list k item item is))
 
 -- ---- where the port is
 
-cue_part : (list : List Item) (clips : List (ClipId × Timecode)) (p : PortState) (aired : List Item) (k : ℕ) (id : ClipId) (part : Option Part)
+cue_part : (list : List Item) (clips : List (ClipId × Timecode)) (p : PortState) (aired : List Item) (k : ℕ)
+    (id : ClipId) (part : Option Part)
     → slice_get list k ≡ Some (record { id = id; part = part }) → k < length list
     → Idle list p.cued aired k ⊎ Coming list p.cued aired k
-    → Idle list (port_after clips p (Some (cue_for id part))).cued (aired ++ aired_after clips p (Some (cue_for id part))) k
-    ⊎ Coming list (port_after clips p (Some (cue_for id part))).cued (aired ++ aired_after clips p (Some (cue_for id part))) k
+    → Idle list (port_after clips p (Some (cue_for id part))).cued
+    (aired ++ aired_after clips p (Some (cue_for id part))) k
+    ⊎ Coming list (port_after clips p (Some (cue_for id part))).cued
+    (aired ++ aired_after clips p (Some (cue_for id part))) k
 cue_part list clips p aired k id None e b q = grind (arith, none_more)
 cue_part list clips p aired k id (Some part) e b q = grind (arith, none_more)
 
-cue_place : (list : List Item) (clips : List (ClipId × Timecode)) (p : PortState) (aired : List Item) (k : ℕ) (o : Option Item) → slice_get list k ≡ o
+cue_place : (list : List Item) (clips : List (ClipId × Timecode)) (p : PortState) (aired : List Item) (k : ℕ)
+    (o : Option Item) → slice_get list k ≡ o
     → k < length list → Idle list p.cued aired k ⊎ Coming list p.cued aired k
     → Idle list (port_after clips p (option_map cue_of o)).cued (aired ++ aired_after clips p (option_map cue_of o)) k
     ⊎ Coming list (port_after clips p (option_map cue_of o)).cued (aired ++ aired_after clips p (option_map cue_of o)) k
 cue_place list clips p aired k None e b q = grind (arith, none_more)
 cue_place list clips p aired k (Some item) e b q = cue_part list clips p aired k item.id item.part e b q
 
-play_place : (list : List Item) (clips : List (ClipId × Timecode)) (p : PortState) (aired : List Item) (k : ℕ) (cued : Cued) → p.cued ≡ cued
+play_place : (list : List Item) (clips : List (ClipId × Timecode)) (p : PortState) (aired : List Item) (k : ℕ)
+    (cued : Cued) → p.cued ≡ cued
     → Standing list cued aired k ⊎ Idle list cued aired (k + 1)
     → Standing list (port_after clips p (Some command.Play)).cued (aired ++ aired_after clips p (Some command.Play)) k
     ⊎ Idle list (port_after clips p (Some command.Play)).cued (aired ++ aired_after clips p (Some command.Play)) (k + 1)
@@ -55,14 +62,17 @@ play_place list clips p aired k empty e q = grind (arith, none_more)
 play_place list clips p aired k (cueing item) e q = grind (arith, none_more)
 play_place list clips p aired k (done item) e q = grind (arith, none_more, airs_next)
 
-pub reads_place : (list : List Item) (clips : List (ClipId × Timecode)) (p : PortState) (aired : List Item) (settled port : ℕ) (q : Phase)
+pub reads_place : (list : List Item) (clips : List (ClipId × Timecode)) (p : PortState) (aired : List Item)
+    (settled port : ℕ) (q : Phase)
     → Place list p.cued aired settled q
-    → Place list (port_after clips p (command_in list port q)).cued (aired ++ aired_after clips p (command_in list port q)) settled q
+    → Place list (port_after clips p (command_in list port q)).cued
+    (aired ++ aired_after clips p (command_in list port q)) settled q
 reads_place list clips p aired settled port phase.Open h = grind (arith, none_more)
 reads_place list clips p aired settled port phase.Select h = grind (arith, none_more)
 reads_place list clips p aired settled port phase.Seen h = grind (arith, none_more)
 reads_place list clips p aired settled port (phase.Exists k) h = grind (arith, none_more)
-reads_place list clips p aired settled port (phase.Cue k) h = (cue_place list clips p aired k (slice_get list k) refl h.2 h.0, h.1, h.2)
+reads_place list clips p aired settled port (phase.Cue k) h =
+    (cue_place list clips p aired k (slice_get list k) refl h.2 h.0, h.1, h.2)
 reads_place list clips p aired settled port (phase.Wait k) h = grind (arith, none_more)
 reads_place list clips p aired settled port (phase.Play k) h = (play_place list clips p aired k p.cued refl h.0, h.1)
 reads_place list clips p aired settled port (phase.Probe k) h = grind (arith, none_more)
@@ -74,38 +84,46 @@ reads_place list clips p aired settled port phase.HaltClose h = grind (arith, no
 
 -- ---- what plays
 
-plays_cue : (list : List Item) (clips : List (ClipId × Timecode)) (p : PortState) (aired : List Item) (id : ClipId) (part : Option Part)
+plays_cue : (list : List Item) (clips : List (ClipId × Timecode)) (p : PortState) (aired : List Item) (id : ClipId)
+    (part : Option Part)
     → PlaysLast list p.playing aired
-    → PlaysLast list (port_after clips p (Some (cue_for id part))).playing (aired ++ aired_after clips p (Some (cue_for id part)))
+    → PlaysLast list (port_after clips p (Some (cue_for id part))).playing
+    (aired ++ aired_after clips p (Some (cue_for id part)))
 plays_cue list clips p aired id None h = grind (arith, none_more)
 plays_cue list clips p aired id (Some part) h = grind (arith, none_more)
 
-plays_cue_at : (list : List Item) (clips : List (ClipId × Timecode)) (p : PortState) (aired : List Item) (o : Option Item)
+plays_cue_at : (list : List Item) (clips : List (ClipId × Timecode)) (p : PortState) (aired : List Item)
+    (o : Option Item)
     → PlaysLast list p.playing aired
-    → PlaysLast list (port_after clips p (option_map cue_of o)).playing (aired ++ aired_after clips p (option_map cue_of o))
+    → PlaysLast list (port_after clips p (option_map cue_of o)).playing
+    (aired ++ aired_after clips p (option_map cue_of o))
 plays_cue_at list clips p aired None h = grind (arith, none_more)
 plays_cue_at list clips p aired (Some item) h = plays_cue list clips p aired item.id item.part h
 
 one_more : (aired : List Item) (item : Item) → length (aired ++ item ∷ []) ≡ length aired + 1
 one_more aired item = simp length-append
 
-plays_new : (list aired : List Item) (k : ℕ) (item : Item) → aired ≡ take k list → k < length list → slice_get list k ≡ Some item
+plays_new : (list aired : List Item) (k : ℕ) (item : Item) → aired ≡ take k list → k < length list
+    → slice_get list k ≡ Some item
     → PlaysLast list (Some item) (aired ++ item ∷ [])
 plays_new list aired k item e below is =
     let size : length aired ≡ k = ap length e ∙ taken list k (omega (arith, below)) in
     let at : length (aired ++ item ∷ []) - 1 ≡ k = omega (arith, one_more aired item, size) in
     (omega (arith, one_more aired item), ap (slice_get list) at ∙ is)
 
-plays_next : (list : List Item) (clips : List (ClipId × Timecode)) (p : PortState) (aired : List Item) (k : ℕ) (cued : Cued) → p.cued ≡ cued
+plays_next : (list : List Item) (clips : List (ClipId × Timecode)) (p : PortState) (aired : List Item) (k : ℕ)
+    (cued : Cued) → p.cued ≡ cued
     → Standing list cued aired k ⊎ Idle list cued aired (k + 1) → PlaysLast list p.playing aired
     → PlaysLast list (port_after clips p (Some command.Play)).playing (aired ++ aired_after clips p (Some command.Play))
 plays_next list clips p aired k empty e q h = grind (arith, none_more)
 plays_next list clips p aired k (cueing item) e q h = grind (arith, none_more)
 plays_next list clips p aired k (done item) e q h = grind (arith, none_more, plays_new)
 
-pub reads_plays : (list : List Item) (clips : List (ClipId × Timecode)) (p : PortState) (aired : List Item) (settled port : ℕ) (q : Phase)
+pub reads_plays : (list : List Item) (clips : List (ClipId × Timecode)) (p : PortState) (aired : List Item)
+    (settled port : ℕ) (q : Phase)
     → Place list p.cued aired settled q → PlaysLast list p.playing aired
-    → PlaysLast list (port_after clips p (command_in list port q)).playing (aired ++ aired_after clips p (command_in list port q))
+    → PlaysLast list (port_after clips p (command_in list port q)).playing
+    (aired ++ aired_after clips p (command_in list port q))
 reads_plays list clips p aired settled port phase.Open h l = grind (arith, none_more)
 reads_plays list clips p aired settled port phase.Select h l = grind (arith, none_more)
 reads_plays list clips p aired settled port phase.Seen h l = grind (arith, none_more)
@@ -131,7 +149,8 @@ keeps_number (cues item) p = refl
 keeps_number (airs item) p = refl
 keeps_number stops p = refl
 
-pub reads_number : (clips : List (ClipId × Timecode)) (p : PortState) (o : Option Command) → (port_after clips p o).number ≡ p.number
+pub reads_number : (clips : List (ClipId × Timecode)) (p : PortState) (o : Option Command)
+    → (port_after clips p o).number ≡ p.number
 reads_number clips p None = refl
 reads_number clips p (Some c) = keeps_number (command_row clips p c).change p
 
@@ -171,24 +190,34 @@ reads_firm list clips p port phase.HaltClose n h = tt
 -- ---- what the answer tells
 
 presence_tells : (clips : List (ClipId × Timecode)) (p : PortState) (o : Option Item) (r : Reply)
-    → answer_after clips p (option_map (λ item. command.IdRequest item.id) o) ≡ Some r → r ≡ reply.Present (knows clips o)
+    → answer_after clips p (option_map (λ item. command.IdRequest item.id) o) ≡ Some r
+    → r ≡ reply.Present (knows clips o)
 presence_tells clips p None r e = cc
 presence_tells clips p (Some item) r e = cc
 
-play_tells : (list : List Item) (clips : List (ClipId × Timecode)) (p : PortState) (aired : List Item) (k : ℕ) (r : Reply)
-    → Standing list p.cued aired k ⊎ Idle list p.cued aired (k + 1) → answer_after clips p (Some command.Play) ≡ Some r → is_ack r ≡ true
+play_tells : (list : List Item) (clips : List (ClipId × Timecode)) (p : PortState) (aired : List Item) (k : ℕ)
+    (r : Reply)
+    → Standing list p.cued aired k ⊎ Idle list p.cued aired (k + 1) → answer_after clips p (Some command.Play) ≡ Some r
+    → is_ack r ≡ true
     → Idle list (port_after clips p (Some command.Play)).cued (aired ++ aired_after clips p (Some command.Play)) (k + 1)
 play_tells list clips p aired k r q a t = grind (arith, none_more, airs_next)
 
-status_tells : (list : List Item) (clips : List (ClipId × Timecode)) (p : PortState) (aired : List Item) (k : ℕ) (r : Reply)
-    → Idle list p.cued aired k ⊎ Coming list p.cued aired k → answer_after clips p (Some (command.Status 1)) ≡ Some r → is_done r ≡ true
-    → Standing list (port_after clips p (Some (command.Status 1))).cued (aired ++ aired_after clips p (Some (command.Status 1))) k
+status_tells : (list : List Item) (clips : List (ClipId × Timecode)) (p : PortState) (aired : List Item) (k : ℕ)
+    (r : Reply)
+    → Idle list p.cued aired k ⊎ Coming list p.cued aired k → answer_after clips p (Some (command.Status 1)) ≡ Some r
+    → is_done r ≡ true
+    → Standing list (port_after clips p (Some (command.Status 1))).cued
+    (aired ++ aired_after clips p (Some (command.Status 1))) k
 status_tells list clips p aired k r q a t = grind (arith, none_more)
 
-probe_tells : (list : List Item) (clips : List (ClipId × Timecode)) (p : PortState) (aired : List Item) (k : ℕ) (r : Reply)
-    → Standing list p.cued aired k ⊎ Idle list p.cued aired (k + 1) → answer_after clips p (Some (command.Status 1)) ≡ Some r
-    → (is_done r ≡ true → Standing list (port_after clips p (Some (command.Status 1))).cued (aired ++ aired_after clips p (Some (command.Status 1))) k)
-    × (is_empty r ≡ true → Idle list (port_after clips p (Some (command.Status 1))).cued (aired ++ aired_after clips p (Some (command.Status 1))) (k + 1))
+probe_tells : (list : List Item) (clips : List (ClipId × Timecode)) (p : PortState) (aired : List Item) (k : ℕ)
+    (r : Reply)
+    → Standing list p.cued aired k ⊎ Idle list p.cued aired (k + 1)
+    → answer_after clips p (Some (command.Status 1)) ≡ Some r
+    → (is_done r ≡ true → Standing list (port_after clips p (Some (command.Status 1))).cued
+    (aired ++ aired_after clips p (Some (command.Status 1))) k)
+    × (is_empty r ≡ true → Idle list (port_after clips p (Some (command.Status 1))).cued
+    (aired ++ aired_after clips p (Some (command.Status 1))) (k + 1))
 probe_tells list clips p aired k r q a = grind (arith, none_more)
 
 same_itself : (id : ClipId) → is_same_id id id ≡ true
@@ -204,7 +233,8 @@ names_same (Some other) item e =
     let same : other ≡ item = cc in
     ap (λ (x : Item). not (is_same_id item.id x.id)) same ∙ ap not (same_itself item.id)
 
-active_tells : (list : List Item) (aired : List Item) (k : ℕ) (playing : Option Item) → aired ≡ take (k + 1) list → k + 1 ≤ length list
+active_tells : (list : List Item) (aired : List Item) (k : ℕ) (playing : Option Item) → aired ≡ take (k + 1) list
+    → k + 1 ≤ length list
     → PlaysLast list playing aired
     → names_other (slice_get list k) (reply.Active (option_map (λ item. item.id) playing)) ≡ false
 active_tells list aired k None e within h = names_none (slice_get list k)
@@ -212,32 +242,41 @@ active_tells list aired k (Some item) e within h =
     let at : length aired - 1 ≡ k = omega (arith, ap length e, taken list (k + 1) within) in
     names_same (slice_get list k) item (sym (ap (slice_get list) at) ∙ h.1)
 
-check_tells : (list : List Item) (clips : List (ClipId × Timecode)) (p : PortState) (aired : List Item) (k : ℕ) (r : Reply) (selected : Bool)
+check_tells : (list : List Item) (clips : List (ClipId × Timecode)) (p : PortState) (aired : List Item) (k : ℕ)
+    (r : Reply) (selected : Bool)
     → is_selected p ≡ selected
-    → Idle list p.cued aired (k + 1) → PlaysLast list p.playing aired → answer_after clips p (Some command.ActiveId) ≡ Some r
+    → Idle list p.cued aired (k + 1) → PlaysLast list p.playing aired
+    → answer_after clips p (Some command.ActiveId) ≡ Some r
     → names_other (slice_get list k) r ≡ false
-check_tells list clips p aired k r true s h l a = grind (arith, active_tells list aired k p.playing h.aired_is h.within l)
+check_tells list clips p aired k r true s h l a =
+    grind (arith, active_tells list aired k p.playing h.aired_is h.within l)
 check_tells list clips p aired k r false s h l a = grind arith
 
-pub reads_tells : (list : List Item) (clips : List (ClipId × Timecode)) (p : PortState) (aired : List Item) (settled port : ℕ) (q : Phase) (r : Reply)
-    → p.number ≡ port → Place list p.cued aired settled q → PlaysLast list p.playing aired → answer_after clips p (command_in list port q) ≡ Some r
-    → Tells list clips (port_after clips p (command_in list port q)).cued (aired ++ aired_after clips p (command_in list port q)) q r
+pub reads_tells : (list : List Item) (clips : List (ClipId × Timecode)) (p : PortState) (aired : List Item)
+    (settled port : ℕ) (q : Phase) (r : Reply)
+    → p.number ≡ port → Place list p.cued aired settled q → PlaysLast list p.playing aired
+    → answer_after clips p (command_in list port q) ≡ Some r
+    → Tells list clips (port_after clips p (command_in list port q)).cued
+    (aired ++ aired_after clips p (command_in list port q)) q r
 reads_tells list clips p aired settled port phase.Open r n h l a = grind arith
 reads_tells list clips p aired settled port phase.Select r n h l a = tt
 reads_tells list clips p aired settled port phase.Seen r n h l a = tt
-reads_tells list clips p aired settled port (phase.Exists k) r n h l a = grind (arith, presence_tells clips p (slice_get list k) r a)
+reads_tells list clips p aired settled port (phase.Exists k) r n h l a =
+    grind (arith, presence_tells clips p (slice_get list k) r a)
 reads_tells list clips p aired settled port (phase.Cue k) r n h l a = tt
 reads_tells list clips p aired settled port (phase.Wait k) r n h l a = status_tells list clips p aired k r h.0 a
 reads_tells list clips p aired settled port (phase.Play k) r n h l a = play_tells list clips p aired k r h.0 a
 reads_tells list clips p aired settled port (phase.Probe k) r n h l a = probe_tells list clips p aired k r h.0 a
-reads_tells list clips p aired settled port (phase.Check k) r n h l a = check_tells list clips p aired k r (is_selected p) refl h.0 l a
+reads_tells list clips p aired settled port (phase.Check k) r n h l a =
+    check_tells list clips p aired k r (is_selected p) refl h.0 l a
 reads_tells list clips p aired settled port phase.Drain r n h l a = grind arith
 reads_tells list clips p aired settled port phase.Close r n h l a = tt
 reads_tells list clips p aired settled port phase.Halt r n h l a = tt
 reads_tells list clips p aired settled port phase.HaltClose r n h l a = tt
 
 cue_refusal : (clips : List (ClipId × Timecode)) (p : PortState) (id : ClipId) (part : Option Part) (r : Reply)
-    → is_selected p ≡ true → knows clips (Some (record { id = id; part = part })) ≡ true → answer_after clips p (Some (cue_for id part)) ≡ Some r
+    → is_selected p ≡ true → knows clips (Some (record { id = id; part = part })) ≡ true
+    → answer_after clips p (Some (cue_for id part)) ≡ Some r
     → (is_refusal r ≡ true → refuses clips (Some (record { id = id; part = part })) ≡ true)
     × (is_ack r ≡ true → is_empty_slot (port_after clips p (Some (cue_for id part))).cued ≡ false)
 cue_refusal clips p id None r s k a = grind arith
@@ -250,13 +289,15 @@ cue_refusal_at : (clips : List (ClipId × Timecode)) (p : PortState) (o : Option
 cue_refusal_at clips p None r s k a = cc
 cue_refusal_at clips p (Some item) r s k a = cue_refusal clips p item.id item.part r s k a
 
-pub reads_firm_tells : (list : List Item) (clips : List (ClipId × Timecode)) (p : PortState) (port : ℕ) (q : Phase) (r : Reply)
+pub reads_firm_tells : (list : List Item) (clips : List (ClipId × Timecode)) (p : PortState) (port : ℕ) (q : Phase)
+    (r : Reply)
     → p.number ≡ port → Firm list clips p q → answer_after clips p (command_in list port q) ≡ Some r
     → FirmTells list clips (port_after clips p (command_in list port q)) q r
 reads_firm_tells list clips p port phase.Open r n h a = grind arith
 reads_firm_tells list clips p port phase.Select r n h a = grind arith
 reads_firm_tells list clips p port phase.Seen r n h a = tt
-reads_firm_tells list clips p port (phase.Exists k) r n h a = grind (arith, presence_tells clips p (slice_get list k) r a)
+reads_firm_tells list clips p port (phase.Exists k) r n h a =
+    grind (arith, presence_tells clips p (slice_get list k) r a)
 reads_firm_tells list clips p port (phase.Cue k) r n h a = cue_refusal_at clips p (slice_get list k) r h.0 h.1 a
 reads_firm_tells list clips p port (phase.Wait k) r n h a = grind arith
 reads_firm_tells list clips p port (phase.Play k) r n h a = grind arith

@@ -63,7 +63,8 @@ Goes (Ended (outcome.Strange k)) = ⊥
 
 -- a transition by which it does, with fewer rounds left
 abbrev pub Nears : ℕ → ℕ → ℕ → Transition → Type 0
-Nears n s old transition = Goes (stage_after transition) × (left_at (n - settled_after transition s) (stage_after transition) < old)
+Nears n s old transition =
+    Goes (stage_after transition) × (left_at (n - settled_after transition s) (stage_after transition) < old)
 
 -- the reply that answers a command, if there is one
 abbrev pub answer_at : Option Command → Reply → Option Reply
@@ -87,13 +88,15 @@ goes_next : (list : List Item) (k old : ℕ) → 5 * (length list - k) + 2 < old
 goes_next list k old below = by (nat_lt k (length list))
   where
     by : (b : Bool)
-        → (is_halting (if b then phase.Exists k else phase.Drain) ≡ false) × (left (length list - k) (if b then phase.Exists k else phase.Drain) < old)
+        → (is_halting (if b then phase.Exists k else phase.Drain) ≡ false)
+        × (left (length list - k) (if b then phase.Exists k else phase.Drain) < old)
     by true = (refl, below)
     by false = (refl, omega (arith, below))
 
 -- ---- plain mode
 
-cue_nears : (list : List Item) (clips : List (ClipId × Timecode)) (p : PortState) (settled port limit tries unanswered : ℕ) (take counts : Bool)
+cue_nears : (list : List Item) (clips : List (ClipId × Timecode)) (p : PortState)
+    (settled port limit tries unanswered : ℕ) (take counts : Bool)
     (k : ℕ) (id : ClipId) (part : Option Part) (r : Reply)
     → is_selected p ≡ true → is_playable clips (record { id = id; part = part }) ≡ true → settled ≡ k → k < length list
     → answer_after clips p (Some (cue_for id part)) ≡ Some r
@@ -102,7 +105,8 @@ cue_nears : (list : List Item) (clips : List (ClipId × Timecode)) (p : PortStat
 cue_nears list clips p settled port limit tries unanswered take counts k id None r s f e b a = grind arith
 cue_nears list clips p settled port limit tries unanswered take counts k id (Some part) r s f e b a = grind arith
 
-cue_nears_at : (list : List Item) (clips : List (ClipId × Timecode)) (p : PortState) (settled port limit tries unanswered : ℕ) (take counts : Bool)
+cue_nears_at : (list : List Item) (clips : List (ClipId × Timecode)) (p : PortState)
+    (settled port limit tries unanswered : ℕ) (take counts : Bool)
     (k : ℕ) (o : Option Item) (r : Reply)
     → is_selected p ≡ true → plays clips o ≡ true → settled ≡ k → k < length list
     → answer_after clips p (option_map cue_of o) ≡ Some r
@@ -112,12 +116,14 @@ cue_nears_at list clips p settled port limit tries unanswered take counts k None
 cue_nears_at list clips p settled port limit tries unanswered take counts k (Some item) r s f e b a =
     cue_nears list clips p settled port limit tries unanswered take counts k item.id item.part r s f e b a
 
-exists_nears : (list : List Item) (clips : List (ClipId × Timecode)) (p : PortState) (settled port limit tries unanswered : ℕ) (take counts : Bool)
+exists_nears : (list : List Item) (clips : List (ClipId × Timecode)) (p : PortState)
+    (settled port limit tries unanswered : ℕ) (take counts : Bool)
     (k : ℕ) (o : Option Item) (r : Reply)
     → plays clips o ≡ true → settled ≡ k → k < length list
     → answer_after clips p (option_map (λ item. command.IdRequest item.id) o) ≡ Some r
     → Nears (length list) settled (5 * (length list - settled) + 2)
-    (turn_by Plain list limit take tries unanswered counts (phase.Exists k) (answer_at (option_map (λ item. command.IdRequest item.id) o) r))
+    (turn_by Plain list limit take tries unanswered counts (phase.Exists k)
+    (answer_at (option_map (λ item. command.IdRequest item.id) o) r))
 exists_nears list clips p settled port limit tries unanswered take counts k None r f e b a = cc
 exists_nears list clips p settled port limit tries unanswered take counts k (Some item) r f e b a = by known r a
   where
@@ -126,29 +132,40 @@ exists_nears list clips p settled port limit tries unanswered take counts k (Som
 
     by : is_known clips item.id ≡ true → (r : Reply) → Some (reply.Present (is_known clips item.id)) ≡ Some r
         → Nears (length list) settled (5 * (length list - settled) + 2)
-        (turn_by Plain list limit take tries unanswered counts (phase.Exists k) (answer_at (Some (command.IdRequest item.id)) r))
+        (turn_by Plain list limit take tries unanswered counts (phase.Exists k)
+        (answer_at (Some (command.IdRequest item.id)) r))
     by known r a = grind arith
 
 pub plain_nears : (list : List Item) (clips : List (ClipId × Timecode)) (p : PortState) (aired : List Item)
     (settled port limit tries unanswered : ℕ) (take counts : Bool) (q : Phase) (r : Reply)
-    → p.number ≡ port → p.playing ≡ None → is_cueing_slot p.cued ≡ false → ((k : ℕ) → plays clips (slice_get list k) ≡ true)
+    → p.number ≡ port → p.playing ≡ None → is_cueing_slot p.cued ≡ false
+    → ((k : ℕ) → plays clips (slice_get list k) ≡ true)
     → PlaceReady list p.cued aired settled q → Firm list clips p q → is_halting q ≡ false
     → answer_after clips p (command_in list port q) ≡ Some r
     → Nears (length list) settled (left (length list - settled) q)
     (turn_by Plain list limit take tries unanswered counts q (answer_at (command_in list port q) r))
-plain_nears list clips p aired settled port limit tries unanswered take counts phase.Open r n i j f h w none a = grind arith
-plain_nears list clips p aired settled port limit tries unanswered take counts phase.Select r n i j f h w none a = grind (arith, goes_next)
-plain_nears list clips p aired settled port limit tries unanswered take counts phase.Seen r n i j f h w none a = absurd w
+plain_nears list clips p aired settled port limit tries unanswered take counts phase.Open r n i j f h w none a =
+    grind arith
+plain_nears list clips p aired settled port limit tries unanswered take counts phase.Select r n i j f h w none a =
+    grind (arith, goes_next)
+plain_nears list clips p aired settled port limit tries unanswered take counts phase.Seen r n i j f h w none a =
+    absurd w
 plain_nears list clips p aired settled port limit tries unanswered take counts (phase.Exists k) r n i j f h w none a =
     exists_nears list clips p settled port limit tries unanswered take counts k (slice_get list k) r (f k) h.1 h.2 a
 plain_nears list clips p aired settled port limit tries unanswered take counts (phase.Cue k) r n i j f h w none a =
     cue_nears_at list clips p settled port limit tries unanswered take counts k (slice_get list k) r w.0 (f k) h.1 h.2 a
-plain_nears list clips p aired settled port limit tries unanswered take counts (phase.Wait k) r n i j f h w none a = grind arith
-plain_nears list clips p aired settled port limit tries unanswered take counts (phase.Play k) r n i j f h w none a = grind arith
-plain_nears list clips p aired settled port limit tries unanswered take counts (phase.Probe k) r n i j f h w none a = grind arith
-plain_nears list clips p aired settled port limit tries unanswered take counts (phase.Check k) r n i j f h w none a = grind (arith, goes_next)
-plain_nears list clips p aired settled port limit tries unanswered take counts phase.Drain r n i j f h w none a = grind arith
-plain_nears list clips p aired settled port limit tries unanswered take counts phase.Close r n i j f h w none a = grind arith
+plain_nears list clips p aired settled port limit tries unanswered take counts (phase.Wait k) r n i j f h w none a =
+    grind arith
+plain_nears list clips p aired settled port limit tries unanswered take counts (phase.Play k) r n i j f h w none a =
+    grind arith
+plain_nears list clips p aired settled port limit tries unanswered take counts (phase.Probe k) r n i j f h w none a =
+    grind arith
+plain_nears list clips p aired settled port limit tries unanswered take counts (phase.Check k) r n i j f h w none a =
+    grind (arith, goes_next)
+plain_nears list clips p aired settled port limit tries unanswered take counts phase.Drain r n i j f h w none a =
+    grind arith
+plain_nears list clips p aired settled port limit tries unanswered take counts phase.Close r n i j f h w none a =
+    grind arith
 plain_nears list clips p aired settled port limit tries unanswered take counts phase.Halt r n i j f h w none a = cc
 plain_nears list clips p aired settled port limit tries unanswered take counts phase.HaltClose r n i j f h w none a = cc
 

@@ -15,13 +15,15 @@ use Rattle.vdcp_world.proofs.PhaseTable.{Place, PlaceAt, Tells, Firm, FirmAt, Fi
 
 -- ---- the cue is done
 
-ready_place : (list : List Item) (cued : Cued) (aired : List Item) (settled : ℕ) (q : Phase) → Place list cued aired settled q
+ready_place : (list : List Item) (cued : Cued) (aired : List Item) (settled : ℕ) (q : Phase)
+    → Place list cued aired settled q
     → Place list (made_ready cued) aired settled q
 ready_place list empty aired settled q h = h
 ready_place list (cueing item) aired settled q h = grind arith
 ready_place list (done item) aired settled q h = h
 
-pub ready_place_at : (list : List Item) (clips : List (ClipId × Timecode)) (cued : Cued) (aired : List Item) (settled : ℕ) (stage : Stage)
+pub ready_place_at : (list : List Item) (clips : List (ClipId × Timecode)) (cued : Cued) (aired : List Item)
+    (settled : ℕ) (stage : Stage)
     → PlaceAt list clips cued aired settled stage → PlaceAt list clips (made_ready cued) aired settled stage
 ready_place_at list clips empty aired settled stage h = h
 ready_place_at list clips (cueing item) aired settled (Ready q) h = grind arith
@@ -29,13 +31,15 @@ ready_place_at list clips (cueing item) aired settled (Awaiting q) h = ready_pla
 ready_place_at list clips (cueing item) aired settled (Ended outcome) h = h
 ready_place_at list clips (done item) aired settled stage h = h
 
-ready_tells : (list : List Item) (clips : List (ClipId × Timecode)) (cued : Cued) (aired : List Item) (q : Phase) (r : Reply)
+ready_tells : (list : List Item) (clips : List (ClipId × Timecode)) (cued : Cued) (aired : List Item) (q : Phase)
+    (r : Reply)
     → Tells list clips cued aired q r → Tells list clips (made_ready cued) aired q r
 ready_tells list clips empty aired q r h = h
 ready_tells list clips (cueing item) aired q r h = grind arith
 ready_tells list clips (done item) aired q r h = h
 
-ready_firm : (list : List Item) (clips : List (ClipId × Timecode)) (p : PortState) (cued : Cued) (q : Phase) → p.cued ≡ cued
+ready_firm : (list : List Item) (clips : List (ClipId × Timecode)) (p : PortState) (cued : Cued) (q : Phase)
+    → p.cued ≡ cued
     → Firm list clips p q → Firm list clips (ready_state p) q
 ready_firm list clips p empty q e h = grind arith
 ready_firm list clips p (cueing item) q e h = grind arith
@@ -52,18 +56,23 @@ pub ready_firm_in : (mode : Mode) (list : List Item) (clips : List (ClipId × Ti
 ready_firm_in Plain list clips p stage h = ready_firm_at list clips p stage h
 ready_firm_in Confirming list clips p stage h = tt
 
-ready_firm_tells : (list : List Item) (clips : List (ClipId × Timecode)) (p : PortState) (cued : Cued) (q : Phase) (r : Reply) → p.cued ≡ cued
+ready_firm_tells : (list : List Item) (clips : List (ClipId × Timecode)) (p : PortState) (cued : Cued) (q : Phase)
+    (r : Reply) → p.cued ≡ cued
     → FirmTells list clips p q r → FirmTells list clips (ready_state p) q r
 ready_firm_tells list clips p empty q r e h = grind arith
 ready_firm_tells list clips p (cueing item) q r e h = grind arith
 ready_firm_tells list clips p (done item) q r e h = grind arith
 
-ready_tells_in : (mode : Mode) (list : List Item) (clips : List (ClipId × Timecode)) (p : PortState) (aired : List Item) (q : Phase) (r : Reply)
+ready_tells_in : (mode : Mode) (list : List Item) (clips : List (ClipId × Timecode)) (p : PortState) (aired : List Item)
+    (q : Phase) (r : Reply)
     → TellsIn mode list clips p aired q r → TellsIn mode list clips (ready_state p) aired q r
-ready_tells_in Plain list clips p aired q r h = (ready_tells list clips p.cued aired q r h.0, ready_firm_tells list clips p p.cued q r refl h.1)
-ready_tells_in Confirming list clips p aired q r h = λ no_receipt. ready_tells list clips p.cued aired q r (h no_receipt)
+ready_tells_in Plain list clips p aired q r h =
+    (ready_tells list clips p.cued aired q r h.0, ready_firm_tells list clips p p.cued q r refl h.1)
+ready_tells_in Confirming list clips p aired q r h =
+    λ no_receipt. ready_tells list clips p.cued aired q r (h no_receipt)
 
-pub ready_told : (mode : Mode) (list : List Item) (clips : List (ClipId × Timecode)) (p : PortState) (aired : List Item) (stage : Stage) (h : Option Heard)
+pub ready_told : (mode : Mode) (list : List Item) (clips : List (ClipId × Timecode)) (p : PortState) (aired : List Item)
+    (stage : Stage) (h : Option Heard)
     → ToldAt mode list clips p aired stage h → ToldAt mode list clips (ready_state p) aired stage h
 ready_told mode list clips p aired (Ready q) h told = tt
 ready_told mode list clips p aired (Awaiting q) h told = λ r e. ready_tells_in mode list clips p aired q r (told r e)
@@ -71,7 +80,8 @@ ready_told mode list clips p aired (Ended outcome) h told = tt
 
 -- ---- the clip has ended
 
-ended_firm : (list : List Item) (clips : List (ClipId × Timecode)) (p : PortState) (q : Phase) → Firm list clips p q → Firm list clips (ended_state p) q
+ended_firm : (list : List Item) (clips : List (ClipId × Timecode)) (p : PortState) (q : Phase) → Firm list clips p q
+    → Firm list clips (ended_state p) q
 ended_firm list clips p q h = grind arith
 
 ended_firm_at : (list : List Item) (clips : List (ClipId × Timecode)) (p : PortState) (stage : Stage)
@@ -89,12 +99,14 @@ ended_firm_tells : (list : List Item) (clips : List (ClipId × Timecode)) (p : P
     → FirmTells list clips p q r → FirmTells list clips (ended_state p) q r
 ended_firm_tells list clips p q r h = grind arith
 
-ended_tells_in : (mode : Mode) (list : List Item) (clips : List (ClipId × Timecode)) (p : PortState) (aired : List Item) (q : Phase) (r : Reply)
+ended_tells_in : (mode : Mode) (list : List Item) (clips : List (ClipId × Timecode)) (p : PortState) (aired : List Item)
+    (q : Phase) (r : Reply)
     → TellsIn mode list clips p aired q r → TellsIn mode list clips (ended_state p) aired q r
 ended_tells_in Plain list clips p aired q r h = (h.0, ended_firm_tells list clips p q r h.1)
 ended_tells_in Confirming list clips p aired q r h = h
 
-pub ended_told : (mode : Mode) (list : List Item) (clips : List (ClipId × Timecode)) (p : PortState) (aired : List Item) (stage : Stage) (h : Option Heard)
+pub ended_told : (mode : Mode) (list : List Item) (clips : List (ClipId × Timecode)) (p : PortState) (aired : List Item)
+    (stage : Stage) (h : Option Heard)
     → ToldAt mode list clips p aired stage h → ToldAt mode list clips (ended_state p) aired stage h
 ended_told mode list clips p aired (Ready q) h told = tt
 ended_told mode list clips p aired (Awaiting q) h told = λ r e. ended_tells_in mode list clips p aired q r (told r e)

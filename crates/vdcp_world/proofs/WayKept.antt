@@ -27,7 +27,8 @@ use Rattle.vdcp_world.proofs.Below.{Below}
 -- ---- a tick
 
 -- what a tick gives is awaited then, and where it gives nothing, what was awaited before
-pub given_awaited : (plan : Plan) (state : State) (c : Command) → given plan state ≡ Some c → awaited plan (ticked state) ≡ Some c
+pub given_awaited : (plan : Plan) (state : State) (c : Command) → given plan state ≡ Some c
+    → awaited plan (ticked state) ≡ Some c
 given_awaited plan state c e = by state.stage e
   where
     by : (stage : Stage) → given_in plan state.stop stage ≡ Some c → awaited plan (tick_in stage state) ≡ Some c
@@ -35,7 +36,8 @@ given_awaited plan state c e = by state.stage e
     by (Awaiting q) e = cc
     by (Ended outcome) e = cc
 
-none_awaited : (plan : Plan) (state : State) (c : Command) → given plan state ≡ None → awaited plan state ≡ Some c → awaited plan (ticked state) ≡ Some c
+none_awaited : (plan : Plan) (state : State) (c : Command) → given plan state ≡ None → awaited plan state ≡ Some c
+    → awaited plan (ticked state) ≡ Some c
 none_awaited plan state c e aw = by state.stage aw
   where
     by : (stage : Stage) → awaited_in plan stage ≡ Some c → awaited plan (tick_in stage state) ≡ Some c
@@ -43,23 +45,34 @@ none_awaited plan state c e aw = by state.stage aw
     by (Awaiting q) a = aw
     by (Ended outcome) a = cc
 
-pub tick_way : Below → (mode : Mode) (unit : ℕ) (plan : Plan) (state : State) (down up : List ℕ) (g : Option Command) → given plan state ≡ g
+pub tick_way : Below → (mode : Mode) (unit : ℕ) (plan : Plan) (state : State) (down up : List ℕ) (g : Option Command)
+    → given plan state ≡ g
     → unit < 16 → All IsItem plan.list → plan.port < 256 → Way mode unit (awaited plan state) down up
     → Way mode unit (awaited plan (ticked state)) (down_behind unit g down) (up_behind g up)
 tick_way below mode unit plan state down up None e u items h (inl nothing) = inl nothing
-tick_way below mode unit plan state down up None e u items h (inr (c, aw, ms, quiet)) = inr (c, none_awaited plan state c e aw, ms, quiet)
+tick_way below mode unit plan state down up None e u items h (inr (c, aw, ms, quiet)) =
+    inr (c, none_awaited plan state c e aw, ms, quiet)
 tick_way below mode unit plan state down up (Some c) e u items h way =
     let w : IsWritableCommand c = subst (λ o. IfSome o IsWritableCommand) e (below.given_written plan state items h) in
-    inr (c, given_awaited plan state c e, below.alone (command_message unit c) (below.command_fits unit c (omega (arith, u)) w), tt)
+    inr (
+      c,
+      given_awaited plan state c e,
+      below.alone (command_message unit c)
+          (below.command_fits unit c (omega (arith, u)) w),
+      tt,
+    )
 
 -- ---- what is heard
 
-pub hear_way : Below → (mode : Mode) (unit : ℕ) (plan : Plan) (state : State) (down up : List ℕ) (h : Option Heard) → plan.mode ≡ mode → heard_in unit up ≡ h
+pub hear_way : Below → (mode : Mode) (unit : ℕ) (plan : Plan) (state : State) (down up : List ℕ) (h : Option Heard)
+    → plan.mode ≡ mode → heard_in unit up ≡ h
     → Way mode unit (awaited plan state) down up → Way mode unit (awaited plan (state_hearing plan h state)) down up
 hear_way below mode unit plan state down up None m e way = way
 hear_way below mode unit plan state down up (Some h) m e (inl nothing) = inl nothing
-hear_way below Plain unit plan state down up (Some h) m e (inr (c, aw, ms, quiet)) = absurd (subst (IsQuiet Plain) e quiet)
-hear_way below Confirming unit plan state down up (Some heard.Other) m e (inr (c, aw, ms, quiet)) = absurd (subst (IsQuiet Confirming) e quiet)
+hear_way below Plain unit plan state down up (Some h) m e (inr (c, aw, ms, quiet)) =
+    absurd (subst (IsQuiet Plain) e quiet)
+hear_way below Confirming unit plan state down up (Some heard.Other) m e (inr (c, aw, ms, quiet)) =
+    absurd (subst (IsQuiet Confirming) e quiet)
 hear_way below Confirming unit plan state down up (Some (heard.Reply r)) m e (inr (c, aw, ms, quiet)) =
     let stays = below.receipt_stays plan state (Some (heard.Reply r)) m (subst (IsQuiet Confirming) e quiet) in
     inr (c, ap (awaited plan) stays ∙ aw, ms, quiet)
@@ -83,7 +96,8 @@ front_of_one n (m ∷ k ∷ ms) others e = cc
 pub left_of : (a b : Bool) → (a && b) ≡ true → b ≡ true
 left_of a b e = grind arith
 
-pub alter_down : (mode : Mode) (unit : ℕ) (o : Option Command) (down up bytes : List ℕ) (can : Bool) → can_become down bytes ≡ can
+pub alter_down : (mode : Mode) (unit : ℕ) (o : Option Command) (down up bytes : List ℕ) (can : Bool)
+    → can_become down bytes ≡ can
     → Way mode unit o down up → Way mode unit o (altered can down bytes) up
 alter_down mode unit o down up bytes false e way = way
 alter_down mode unit o down up bytes true e way =
@@ -91,15 +105,18 @@ alter_down mode unit o down up bytes true e way =
     (left_of (is_short bytes) (is_beginning (messages_of bytes) (messages_of down)) e) in
     by others is way
   where
-    by : (others : List Content) → messages_of down ≡ messages_of bytes ++ others → Way mode unit o down up → Way mode unit o bytes up
+    by : (others : List Content) → messages_of down ≡ messages_of bytes ++ others → Way mode unit o down up
+        → Way mode unit o bytes up
     by others is (inl nothing) = inl (front_of_none (messages_of bytes) others (sym nothing ∙ is))
-    by others is (inr (c, aw, ms, quiet)) = one (front_of_one (command_message unit c) (messages_of bytes) others (sym ms ∙ is))
+    by others is (inr (c, aw, ms, quiet)) =
+        one (front_of_one (command_message unit c) (messages_of bytes) others (sym ms ∙ is))
       where
         one : (messages_of bytes ≡ []) ⊎ (messages_of bytes ≡ command_message unit c ∷ []) → Way mode unit o bytes up
         one (inl none) = inl none
         one (inr same) = inr (c, aw, same, quiet)
 
-quiet_front : (mode : Mode) (unit : ℕ) (ms others : List Content) → IsQuiet mode (heard_first unit (ms ++ others)) → IsQuiet mode (heard_first unit ms)
+quiet_front : (mode : Mode) (unit : ℕ) (ms others : List Content) → IsQuiet mode (heard_first unit (ms ++ others))
+    → IsQuiet mode (heard_first unit ms)
 quiet_front mode unit [] others q = tt
 quiet_front mode unit (m ∷ ms) others q = q
 
@@ -108,13 +125,15 @@ quiet_receipt None e = tt
 quiet_receipt (Some heard.Other) e = cc
 quiet_receipt (Some (heard.Reply r)) e = e
 
-pub alter_up : (mode : Mode) (unit : ℕ) (o : Option Command) (down up bytes : List ℕ) (can : Bool) → can_become_up mode unit up bytes ≡ can
+pub alter_up : (mode : Mode) (unit : ℕ) (o : Option Command) (down up bytes : List ℕ) (can : Bool)
+    → can_become_up mode unit up bytes ≡ can
     → Way mode unit o down up → Way mode unit o down (altered can up bytes)
 alter_up mode unit o down up bytes false e way = way
 alter_up mode unit o down up bytes true e (inl nothing) = inl nothing
 alter_up mode unit o down up bytes true e (inr (c, aw, ms, quiet)) = inr (c, aw, ms, still mode quiet e)
   where
-    front : (mode : Mode) → IsQuiet mode (heard_in unit up) → can_become up bytes ≡ true → IsQuiet mode (heard_in unit bytes)
+    front : (mode : Mode) → IsQuiet mode (heard_in unit up) → can_become up bytes ≡ true
+        → IsQuiet mode (heard_in unit bytes)
     front mode quiet e =
         let (others, is) = is_beginning_of (messages_of bytes) (messages_of up)
         (left_of (is_short bytes) (is_beginning (messages_of bytes) (messages_of up)) e) in
@@ -124,24 +143,30 @@ alter_up mode unit o down up bytes true e (inr (c, aw, ms, quiet)) = inr (c, aw,
     both true b e = inl refl
     both false b e = inr e
 
-    which : IsQuiet Confirming (heard_in unit up) → (can_become up bytes ≡ true) ⊎ ((is_short bytes && hears_receipt (heard_in unit bytes)) ≡ true)
+    which : IsQuiet Confirming (heard_in unit up) → (can_become up bytes ≡ true)
+        ⊎ ((is_short bytes && hears_receipt (heard_in unit bytes)) ≡ true)
         → IsQuiet Confirming (heard_in unit bytes)
     which quiet (inl can) = front Confirming quiet can
-    which quiet (inr receipt) = quiet_receipt (heard_in unit bytes) (left_of (is_short bytes) (hears_receipt (heard_in unit bytes)) receipt)
+    which quiet (inr receipt) =
+        quiet_receipt (heard_in unit bytes) (left_of (is_short bytes) (hears_receipt (heard_in unit bytes)) receipt)
 
-    still : (mode : Mode) → IsQuiet mode (heard_in unit up) → can_become_up mode unit up bytes ≡ true → IsQuiet mode (heard_in unit bytes)
+    still : (mode : Mode) → IsQuiet mode (heard_in unit up) → can_become_up mode unit up bytes ≡ true
+        → IsQuiet mode (heard_in unit bytes)
     still Plain quiet e = front Plain quiet e
-    still Confirming quiet e = which quiet (both (can_become up bytes) (is_short bytes && hears_receipt (heard_in unit bytes)) e)
+    still Confirming quiet e =
+        which quiet (both (can_become up bytes) (is_short bytes && hears_receipt (heard_in unit bytes)) e)
 
 -- ---- silence, and receipts from nowhere
 
 pub wait_way : (mode : Mode) (unit : ℕ) (plan : Plan) (state : State) (down up : List ℕ)
-    → Way mode unit (awaited plan state) down up → Way mode unit (awaited plan (state_waiting plan down up state)) down up
+    → Way mode unit (awaited plan state) down up → Way mode unit (awaited plan (state_waiting plan down up state)) down
+    up
 wait_way mode unit plan state [] [] way = inl refl
 wait_way mode unit plan state [] (b ∷ up) way = way
 wait_way mode unit plan state (b ∷ down) up way = way
 
-pub stray_same : Below → (mode : Mode) (plan : Plan) (state : State) (r : Reply) → plan.mode ≡ mode → is_receipt r ≡ true
+pub stray_same : Below → (mode : Mode) (plan : Plan) (state : State) (r : Reply) → plan.mode ≡ mode
+    → is_receipt r ≡ true
     → state_straying mode plan r state ≡ state
 stray_same below Plain plan state r m e = refl
 stray_same below Confirming plan state r m e = below.receipt_stays plan state (Some (heard.Reply r)) m e

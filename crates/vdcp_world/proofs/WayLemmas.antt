@@ -25,7 +25,8 @@ IsByte byte = byte < 256
 
 -- ---- what is heard of a reply
 
-heard_if : (same : Bool) (o : Result Reply WordFault) (r : Reply) → same ≡ true → o ≡ Ok r → (if same then heard_by o else heard.Other) ≡ heard.Reply r
+heard_if : (same : Bool) (o : Result Reply WordFault) (r : Reply) → same ≡ true → o ≡ Ok r
+    → (if same then heard_by o else heard.Other) ≡ heard.Reply r
 heard_if true o r s e = ap heard_by e
 heard_if false o r s e = cc
 
@@ -35,19 +36,27 @@ same_unit unit = grind arith
 heard_own : Below → (unit : ℕ) (r : Reply) → IsWritableReply r → heard_as unit (reply_message unit r) ≡ heard.Reply r
 heard_own below unit reply.Ack w = refl
 heard_own below unit (reply.Nak byte) w = refl
-heard_own below unit (reply.Opened granted) w = heard_if (nat_eq unit unit) _ _ (same_unit unit) (below.reply_read unit (reply.Opened granted) w)
-heard_own below unit (reply.State bitmap None) w = heard_if (nat_eq unit unit) _ _ (same_unit unit) (below.reply_read unit (reply.State bitmap None) w)
+heard_own below unit (reply.Opened granted) w =
+    heard_if (nat_eq unit unit) _ _ (same_unit unit) (below.reply_read unit (reply.Opened granted) w)
+heard_own below unit (reply.State bitmap None) w =
+    heard_if (nat_eq unit unit) _ _ (same_unit unit) (below.reply_read unit (reply.State bitmap None) w)
 heard_own below unit (reply.State bitmap (Some state)) w = heard_if (nat_eq unit unit) _ _ (same_unit unit)
     (below.reply_read unit (reply.State bitmap (Some state)) w)
-heard_own below unit (reply.Active None) w = heard_if (nat_eq unit unit) _ _ (same_unit unit) (below.reply_read unit (reply.Active None) w)
-heard_own below unit (reply.Active (Some id)) w = heard_if (nat_eq unit unit) _ _ (same_unit unit) (below.reply_read unit (reply.Active (Some id)) w)
-heard_own below unit (reply.Size time) w = heard_if (nat_eq unit unit) _ _ (same_unit unit) (below.reply_read unit (reply.Size time) w)
-heard_own below unit (reply.Present there) w = heard_if (nat_eq unit unit) _ _ (same_unit unit) (below.reply_read unit (reply.Present there) w)
+heard_own below unit (reply.Active None) w =
+    heard_if (nat_eq unit unit) _ _ (same_unit unit) (below.reply_read unit (reply.Active None) w)
+heard_own below unit (reply.Active (Some id)) w =
+    heard_if (nat_eq unit unit) _ _ (same_unit unit) (below.reply_read unit (reply.Active (Some id)) w)
+heard_own below unit (reply.Size time) w =
+    heard_if (nat_eq unit unit) _ _ (same_unit unit) (below.reply_read unit (reply.Size time) w)
+heard_own below unit (reply.Present there) w =
+    heard_if (nat_eq unit unit) _ _ (same_unit unit) (below.reply_read unit (reply.Present there) w)
 
 end_bytes : (unit : ℕ) (end : End) → AreOctets (answer_bytes unit (end_answers end))
 end_bytes unit clean = All-nil IsByte
-end_bytes unit (cut count) = All-cons IsByte 0x05 (0x80 ∷ []) (lit< tt) (All-cons IsByte 0x80 [] (lit< tt) (All-nil IsByte))
-end_bytes unit (fault kind place) = All-cons IsByte 0x05 (0x04 ∷ []) (lit< tt) (All-cons IsByte 0x04 [] (lit< tt) (All-nil IsByte))
+end_bytes unit (cut count) =
+    All-cons IsByte 0x05 (0x80 ∷ []) (lit< tt) (All-cons IsByte 0x80 [] (lit< tt) (All-nil IsByte))
+end_bytes unit (fault kind place) =
+    All-cons IsByte 0x05 (0x04 ∷ []) (lit< tt) (All-cons IsByte 0x04 [] (lit< tt) (All-nil IsByte))
 
 -- a reply is heard, whatever bytes stand after it
 heard_reply : Below → (unit : ℕ) (r : Reply) (more : List ℕ) → unit < 16 → IsWritableReply r → AreOctets more
@@ -66,9 +75,11 @@ reads_nothing below p down e = record {
 }
   where
     Says : List ℕ → Type 0
-    Says sent = (sent ≡ []) ⊎ ((byte : ℕ) × (byte ≢ 0x01) × (heard_in p.state.unit sent ≡ Some (heard.Reply (reply.Nak byte))))
+    Says sent = (sent ≡ []) ⊎ ((byte : ℕ) × (byte ≢ 0x01) ×
+        (heard_in p.state.unit sent ≡ Some (heard.Reply (reply.Nak byte))))
 
-    says : ((sent_for p down ≡ []) ⊎ (sent_for p down ≡ 0x05 ∷ 0x04 ∷ []) ⊎ (sent_for p down ≡ 0x05 ∷ 0x80 ∷ [])) → Says (sent_for p down)
+    says : ((sent_for p down ≡ []) ⊎ (sent_for p down ≡ 0x05 ∷ 0x04 ∷ []) ⊎ (sent_for p down ≡ 0x05 ∷ 0x80 ∷ []))
+        → Says (sent_for p down)
     says (inl none) = inl none
     says (inr (inl bad)) = inr (0x04, grind arith, ap (heard_in p.state.unit) bad)
     says (inr (inr short)) = inr (0x80, grind arith, ap (heard_in p.state.unit) short)
@@ -84,11 +95,13 @@ reads_command below p down c u w e =
     ∙ ap (λ (o : Option Reply). answer_bytes p.state.unit (option_to_list o)) answers
     ∙ append-nil (reply_bytes p.state.unit answer) in
     let rest = answer_bytes p.state.unit (end_answers (end_of down)) in
-    let sent : sent_for p down ≡ reply_bytes p.state.unit answer ++ rest = below.one_sent p m down e ∙ ap (λ (b : List ℕ). b ++ rest) own in
+    let sent : sent_for p down ≡ reply_bytes p.state.unit answer ++ rest =
+    below.one_sent p m down e ∙ ap (λ (b : List ℕ). b ++ rest) own in
     record {
       answer = answer;
       answers = answers;
       leaves = below.one_left p m down e ∙ ap (λ (x : Row). after_change x.change p) row_is;
       airs = below.one_aired p m down e ∙ ap (λ (x : Row). option_to_list (on_air x.change)) row_is;
-      heard = ap (heard_in p.state.unit) sent ∙ heard_reply below p.state.unit answer rest u writable (end_bytes p.state.unit (end_of down));
+      heard = ap (heard_in p.state.unit) sent ∙ heard_reply below p.state.unit answer rest u writable
+          (end_bytes p.state.unit (end_of down));
     }

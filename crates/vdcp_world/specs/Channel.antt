@@ -110,7 +110,8 @@ can_become way bytes = is_short bytes && is_beginning (messages_of bytes) (messa
 
 abbrev pub can_become_up : Mode → ℕ → List ℕ → List ℕ → Bool
 can_become_up Plain unit way bytes = can_become way bytes
-can_become_up Confirming unit way bytes = can_become way bytes || (is_short bytes && hears_receipt (heard_in unit bytes))
+can_become_up Confirming unit way bytes =
+    can_become way bytes || (is_short bytes && hears_receipt (heard_in unit bytes))
 
 abbrev pub altered : Bool → List ℕ → List ℕ → List ℕ
 altered can way bytes = if can then bytes else way

@@ -81,7 +81,8 @@ pub data Says {E : Type 0} (of : Event → E) (Own : E → List ℕ → Type 0) 
       → Counts argument count → Says of Own line (map of (times count (repeated_events kind)))
 
 -- events, and then those that a line says
-pub record SaysMore {E : Type 0} (of : Event → E) (Own : E → List ℕ → Type 0) (line : List ℕ) (events more : List E) : Type 0
+pub record SaysMore {E : Type 0} (of : Event → E) (Own : E → List ℕ → Type 0) (line : List ℕ) (events more : List E) :
+    Type 0
   where
     pub said : List E
     pub more_are : more ≡ events ++ said

@@ -178,8 +178,10 @@ fn tick<S: Source>(
 )
     requires { unit ≤ 15 }
     ensures controller { controller.new ≡ record controller.old { state = turns.ticked controller.old.state } }
-    ensures down { down.new.items ≡ down_behind unit (turns.given (plan_of S.items controller.old) controller.old.state) down.old.items }
-    ensures up { up.new.items ≡ up_behind (turns.given (plan_of S.items controller.old) controller.old.state) up.old.items }
+    ensures down { down.new.items ≡ down_behind unit (turns.given (plan_of S.items controller.old) controller.old.state)
+        down.old.items }
+    ensures up { up.new.items ≡ up_behind (turns.given (plan_of S.items controller.old) controller.old.state)
+        up.old.items }
 {
     if let Some(command) = controller.tick() {
         put_command(&command, unit, down);

@@ -160,9 +160,11 @@ impl<S: Source, C: Catalogue, A: Allocator + Copy> World<S, C, A> {
         ensures front { OnErr result (HappenInPart events.now self.old self.new) }
         ensures make { make_of self.new ≡ make_of self.old }
         ensures headline { Headline self.new }
-        ensures plain_end { (n : ℕ) → events.now ≡ times n good_round → CanGoOn self.old → rounds_to_go_on self.old ≤ n →
+        ensures plain_end { (n : ℕ) → events.now ≡ times n good_round → CanGoOn self.old
+            → rounds_to_go_on self.old ≤ n →
             OnOk result (IsDone self.new) }
-        ensures confirming_end { (n : ℕ) → events.now ≡ times n good_round → CanBegin self.old → rounds_from_new self.old ≤ n →
+        ensures confirming_end { (n : ℕ) → events.now ≡ times n good_round → CanBegin self.old
+            → rounds_from_new self.old ≤ n →
             OnOk result (IsDone self.new) }
         ensures in_step_end { (n : ℕ) → events.now ≡ times n good_round → GoesInStep self.old →
             rounds_in_step self.old ≤ n → OnOk result (IsDone self.new) }

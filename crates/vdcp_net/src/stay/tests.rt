@@ -50,8 +50,8 @@ impl Connections<ScriptWire<Global>> for Visits {
     }
 }
 
-/// Serves these lines for this many turns; three silences are an idle line. What is told, all of it or the faults alone,
-/// and then the port's state, or that nobody can be waited for.
+/// Serves these lines for this many turns; three silences are an idle line. What is told, all of it or the faults
+/// alone, and then the port's state, or that nobody can be waited for.
 fn stayed(
     alloc: Global,
     visits: &'static [Visit],

@@ -93,7 +93,11 @@ impl EarlyPart {
 }
 
 impl Source for EarlyPart {
-    ghost items = { λ c. record { id = c.first; part = Some (record { start = 0 ∷ 2 ∷ 0 ∷ 0 ∷ []; duration = 0 ∷ 3 ∷ 0 ∷ 0 ∷ [] }) }
+    ghost items = { λ c. record {
+      id = c.first;
+      part = Some
+          (record { start = 0 ∷ 2 ∷ 0 ∷ 0 ∷ []; duration = 0 ∷ 3 ∷ 0 ∷ 0 ∷ [] });
+    }
         ∷ record { id = c.second; part = None } ∷ [] };
 
     ghost countable = { Prim.search (rules, common_steps) };
@@ -138,7 +142,11 @@ impl LatePart {
 }
 
 impl Source for LatePart {
-    ghost items = { λ c. record { id = c.id; part = Some (record { start = 0 ∷ 8 ∷ 0 ∷ 0 ∷ []; duration = 0 ∷ 3 ∷ 0 ∷ 0 ∷ [] }) } ∷ [] };
+    ghost items = { λ c. record {
+      id = c.id;
+      part = Some
+          (record { start = 0 ∷ 8 ∷ 0 ∷ 0 ∷ []; duration = 0 ∷ 3 ∷ 0 ∷ 0 ∷ [] });
+    } ∷ [] };
 
     ghost countable = { Prim.search (rules, common_steps) };
 

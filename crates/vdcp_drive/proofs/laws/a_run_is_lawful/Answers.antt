@@ -20,7 +20,8 @@ pub returns-clause-run : goal.returns-clause-run
 returns-clause-run c plan unit told state some few h =
     let log : List Exchange = course plan (inputs_of unit told.came) in
     subst (λ (s : State). IsLawful plan s log) (sym h.state_is)
-    (c.reached_is_lawful.ensures plan _ log (given_since plan _ log (is_within_burst told.came) (c.a_course_is_reached.ensures plan (inputs_of unit told.came)
+    (c.reached_is_lawful.ensures plan _ log (given_since plan _ log (is_within_burst told.came)
+    (c.a_course_is_reached.ensures plan (inputs_of unit told.came)
     some few)))
 
 pub returns-clause-broken : goal.returns-clause-broken
@@ -31,8 +32,10 @@ returns-clause-broken c plan unit told state some few (in_drop b) =
 returns-clause-broken c plan unit told state some few (in_send b) =
     let log : List Exchange = course plan (inputs_of unit told.came) in
     subst (λ (s : State). IsLawful plan s log) (sym b.state_is)
-    (c.reached_is_lawful.ensures plan _ log (given_since plan _ log true (c.a_course_is_reached.ensures plan (inputs_of unit told.came) some few)))
+    (c.reached_is_lawful.ensures plan _ log (given_since plan _ log true
+    (c.a_course_is_reached.ensures plan (inputs_of unit told.came) some few)))
 returns-clause-broken c plan unit told state some few (in_listen b) =
     let log : List Exchange = course plan (inputs_of unit told.came) in
     subst (λ (s : State). IsLawful plan s log) (sym b.state_is)
-    (c.reached_is_lawful.ensures plan _ log (given_since plan _ log true (c.a_course_is_reached.ensures plan (inputs_of unit told.came) some few)))
+    (c.reached_is_lawful.ensures plan _ log (given_since plan _ log true
+    (c.a_course_is_reached.ensures plan (inputs_of unit told.came) some few)))

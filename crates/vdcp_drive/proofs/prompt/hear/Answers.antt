@@ -8,4 +8,5 @@ pub returns-in-Silence-clause-reached : goal.returns-in-Silence-clause-reached
 returns-in-Silence-clause-reached g c = goes_by_what_came _ None _ _ (ap (λ (v : View _). v.state) c.timeout.ensures)
 
 pub returns-in-Closed-clause-reached : goal.returns-in-Closed-clause-reached
-returns-in-Closed-clause-reached g c = goes_by_what_came _ None _ _ (ap (λ (v : View _). v.state) c.timeout-in-Closed.ensures)
+returns-in-Closed-clause-reached g c =
+    goes_by_what_came _ None _ _ (ap (λ (v : View _). v.state) c.timeout-in-Closed.ensures)

@@ -29,7 +29,8 @@ piece-preserved g c =
     let planned : plan_of items c.piece.controller ≡ plan = ap (plan_of items) inv.controller in
     let piece : List ℕ = s.piece.now in
     let n : ℕ = c.hear_some-at.result in
-    let rest : take (length piece - c.piece.at) (drop c.piece.at piece) ≡ drop c.piece.at piece = take_rest piece c.piece.at in
+    let rest : take (length piece - c.piece.at) (drop c.piece.at piece) ≡ drop c.piece.at piece =
+    take_rest piece c.piece.at in
     let more : List ℕ = take n (take (length piece - c.piece.at) (drop c.piece.at piece)) in
     let front : take c.piece.at piece ++ more ≡ take (c.piece.at + n) piece =
     ap (λ (b : List ℕ). take c.piece.at piece ++ take n b) rest ∙ sym (take-add c.piece.at n piece) in record {
@@ -37,17 +38,21 @@ piece-preserved g c =
       reader = e.reader;
       controller = e.controller ∙ ap (λ (v : View _). record v { state = t.controller.state }) inv.controller;
       reached = goes_further plan _ _ _ _ planned inv.reached e.reached;
-      hears = subst (λ (b : List ℕ). HearsPrompt plan s.unit (bytes b) s.controller.now.state s.reader.now s.passed.now t.controller.state t.reader t.passed)
+      hears = subst (λ (b : List ℕ). HearsPrompt plan s.unit (bytes b) s.controller.now.state s.reader.now s.passed.now
+          t.controller.state t.reader t.passed)
           front
-          (heard_further plan s.unit (take c.piece.at piece) more s.controller.now.state c.piece.controller.state t.controller.state s.reader.now
+          (heard_further plan s.unit (take c.piece.at piece) more s.controller.now.state c.piece.controller.state
+          t.controller.state s.reader.now
           c.piece.reader t.reader s.passed.now c.piece.passed t.passed inv.hears
-          (subst (λ (q : Plan). HearsPrompt q s.unit (bytes more) c.piece.controller.state c.piece.reader c.piece.passed t.controller.state t.reader
+          (subst (λ (q : Plan). HearsPrompt q s.unit (bytes more) c.piece.controller.state c.piece.reader c.piece.passed
+          t.controller.state t.reader
           t.passed) planned e.hears));
     }
 
 pub returns-clause-hears : goal.returns-clause-hears
 returns-clause-hears g c =
     let s = c.args in
-    subst (λ (b : List ℕ). HearsPrompt (plan_of g.S.Source.items s.controller.now) s.unit (bytes b) s.controller.now.state s.reader.now s.passed.now
+    subst (λ (b : List ℕ). HearsPrompt (plan_of g.S.Source.items s.controller.now) s.unit (bytes b)
+    s.controller.now.state s.reader.now s.passed.now
     c.piece.controller.state c.piece.reader c.piece.passed)
     (take_all c.piece.at s.piece.now (omega (arith, c.piece-test.false))) c.piece.invariant.hears

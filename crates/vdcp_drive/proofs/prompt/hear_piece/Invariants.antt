@@ -12,7 +12,8 @@ invariant-piece g l = record {
   reader : IsReader l.reader;
   controller : l.controller ≡ record l.fn.controller { state = l.controller.state };
   reached : IsReachedFrom (plan_of g.S.Source.items l.fn.controller) l.fn.controller.state l.controller.state;
-  hears : HearsPrompt (plan_of g.S.Source.items l.fn.controller) l.unit (bytes (take l.at l.piece)) l.fn.controller.state l.fn.reader l.fn.passed
+  hears : HearsPrompt (plan_of g.S.Source.items l.fn.controller) l.unit (bytes (take l.at l.piece))
+      l.fn.controller.state l.fn.reader l.fn.passed
       l.controller.state l.reader l.passed;
 }
 

@@ -43,7 +43,8 @@ piece-preserved-in-Continue-1 g c =
       parts_on s.piece.now i.1 rest left r.count i.2 r.leaves,
       taken_on law s.port.now p.port t.port s.reader.now p.reader new s.aired.now p.aired t.aired (told s.wire.now)
           (told p.wire) (told t.wire) i.1 rest left (message m) i.3 r answers.next
-          (answers.airs ∙ ap (λ (items : List Item). last_aired p.aired items) (sym (c.one_alone.ensures.aired p.port m)))
+          (answers.airs ∙ ap (λ (items : List Item). last_aired p.aired items)
+          (sym (c.one_alone.ensures.aired p.port m)))
           (answers.sent ∙ ap (λ (b : List ℕ). adds_sent b (told p.wire)) (sym (c.one_alone.ensures.sent p.port m))),
     )
 

@@ -19,14 +19,16 @@ asking-init g c = record {
 pub returns-in_err-drop_waiting-clause-breaks : goal.returns-in_err-drop_waiting-clause-breaks
 returns-in_err-drop_waiting-clause-breaks g c is =
     let h = c.asking.invariant.asks is in
-    on_err_of c.from_residual.result (partly_dropped c.args.unit c.args.port c.args.limit _ _ _ _ h.0 _ _ h.1 h.2 c.in_err-drop_waiting.ensures.kept)
+    on_err_of c.from_residual.result (partly_dropped c.args.unit c.args.port c.args.limit _ _ _ _ h.0 _ _ h.1 h.2
+    c.in_err-drop_waiting.ensures.kept)
 
 pub returns-in_err-send_command-clause-breaks : goal.returns-in_err-send_command-clause-breaks
 returns-in_err-send_command-clause-breaks g c is =
     let h = c.asking.invariant.asks is in
     on_err_of c.from_residual-in_err-send_command.result
     (partly_sent c.args.unit c.args.port c.args.limit _ _ _ _ h.0 _ _ _ h.1 h.2 c.in_ok-drop_waiting.ensures.dropped
-    (subst (λ (k : Command). SendsFront (command_bytes c.args.unit k) (g.W.Wire.told c.drop_waiting.new.self) (g.W.Wire.told c.send_command.new.wire))
+    (subst (λ (k : Command). SendsFront (command_bytes c.args.unit k) (g.W.Wire.told c.drop_waiting.new.self)
+    (g.W.Wire.told c.send_command.new.wire))
     c.command.ensures c.in_err-send_command.ensures.front))
 
 pub returns-in_err-heard-clause-breaks : goal.returns-in_err-heard-clause-breaks
@@ -34,17 +36,21 @@ returns-in_err-heard-clause-breaks g c is =
     let h = c.asking.invariant.asks is in
     let a = asked_so c.args.unit c.args.port c.args.limit _ _ _ _ h.0 _ _ _ h.1 h.2 c.in_ok-drop_waiting.ensures.dropped
     (c.in_ok-send_command.ensures.sent
-    ∙ ap (λ (k : Command). adds_sent (command_bytes c.args.unit k) (g.W.Wire.told c.drop_waiting.new.self)) c.command.ensures) in
+    ∙ ap (λ (k : Command). adds_sent (command_bytes c.args.unit k) (g.W.Wire.told c.drop_waiting.new.self))
+    c.command.ensures) in
     on_err_of c.from_residual-in_err-heard.result
-    (partly_heard c.args.unit c.args.port c.args.limit _ _ _ _ a.0 _ a.2 (c.in_err-heard.ensures.breaks a.0 a.1 a.2.between))
+    (partly_heard c.args.unit c.args.port c.args.limit _ _ _ _ a.0 _ a.2
+    (c.in_err-heard.ensures.breaks a.0 a.1 a.2.between))
 
 pub returns-in-Closed-clause-asks : goal.returns-in-Closed-clause-asks
 returns-in-Closed-clause-asks g c is =
     let h = c.asking.invariant.asks is in
     let a = asked_so c.args.unit c.args.port c.args.limit _ _ _ _ h.0 _ _ _ h.1 h.2 c.in_ok-drop_waiting.ensures.dropped
     (c.in_ok-send_command.ensures.sent
-    ∙ ap (λ (k : Command). adds_sent (command_bytes c.args.unit k) (g.W.Wire.told c.drop_waiting.new.self)) c.command.ensures) in
-    let e = subst (λ (b : Burst). IfTold (g.W.Wire.told c.hear_burst.new.wire) (λ v. HearsBurst c.args.unit c.asking.left c.hear_burst.new.left a.0 v b))
+    ∙ ap (λ (k : Command). adds_sent (command_bytes c.args.unit k) (g.W.Wire.told c.drop_waiting.new.self))
+    c.command.ensures) in
+    let e = subst (λ (b : Burst). IfTold (g.W.Wire.told c.hear_burst.new.wire)
+    (λ v. HearsBurst c.args.unit c.asking.left c.hear_burst.new.left a.0 v b))
     c.in-Closed.is (c.in_ok-heard.ensures.hears a.0 a.1 a.2.between) in
     asks_closed c.args.unit c.args.port c.args.limit _ _ _ _ _ a.0 _ c.asking.invariant.less a.2 e
 
@@ -53,8 +59,10 @@ returns-in-Spent-clause-asks g c is =
     let h = c.asking.invariant.asks is in
     let a = asked_so c.args.unit c.args.port c.args.limit _ _ _ _ h.0 _ _ _ h.1 h.2 c.in_ok-drop_waiting.ensures.dropped
     (c.in_ok-send_command.ensures.sent
-    ∙ ap (λ (k : Command). adds_sent (command_bytes c.args.unit k) (g.W.Wire.told c.drop_waiting.new.self)) c.command.ensures) in
-    let e = subst (λ (b : Burst). IfTold (g.W.Wire.told c.hear_burst.new.wire) (λ v. HearsBurst c.args.unit c.asking.left c.hear_burst.new.left a.0 v b))
+    ∙ ap (λ (k : Command). adds_sent (command_bytes c.args.unit k) (g.W.Wire.told c.drop_waiting.new.self))
+    c.command.ensures) in
+    let e = subst (λ (b : Burst). IfTold (g.W.Wire.told c.hear_burst.new.wire)
+    (λ v. HearsBurst c.args.unit c.asking.left c.hear_burst.new.left a.0 v b))
     c.in-Spent.is (c.in_ok-heard.ensures.hears a.0 a.1 a.2.between) in
     asks_spent c.args.unit c.args.port c.args.limit _ _ _ _ _ a.0 _ c.asking.invariant.less a.2 e
 
@@ -65,10 +73,13 @@ asking-preserved g c =
       less = stays_under c.args.limit _ _ _ _ _ next c.asking.invariant.less;
       asks = λ is.
           let h = c.asking.invariant.asks is in
-          let a = asked_so c.args.unit c.args.port c.args.limit _ _ _ _ h.0 _ _ _ h.1 h.2 c.in_ok-drop_waiting.ensures.dropped
+          let a = asked_so c.args.unit c.args.port c.args.limit _ _ _ _ h.0 _ _ _ h.1 h.2
+          c.in_ok-drop_waiting.ensures.dropped
           (c.in_ok-send_command.ensures.sent
-          ∙ ap (λ (k : Command). adds_sent (command_bytes c.args.unit k) (g.W.Wire.told c.drop_waiting.new.self)) c.command.ensures) in
-          let e = subst (λ (b : Burst). IfTold (g.W.Wire.told c.hear_burst.new.wire) (λ v. HearsBurst c.args.unit c.asking.left
+          ∙ ap (λ (k : Command). adds_sent (command_bytes c.args.unit k) (g.W.Wire.told c.drop_waiting.new.self))
+          c.command.ensures) in
+          let e = subst (λ (b : Burst). IfTold (g.W.Wire.told c.hear_burst.new.wire)
+          (λ v. HearsBurst c.args.unit c.asking.left
           c.hear_burst.new.left a.0 v b)) c.in-Ended.is (c.in_ok-heard.ensures.hears a.0 a.1 a.2.between) in
           asks_on c.args.unit c.args.port c.args.limit _ _ _ _ _ _ _ _ a.0 _ c.asking.invariant.less a.2 e next;
     }
@@ -78,8 +89,10 @@ returns-in-Over-clause-asks g c is =
     let h = c.asking.invariant.asks is in
     let a = asked_so c.args.unit c.args.port c.args.limit _ _ _ _ h.0 _ _ _ h.1 h.2 c.in_ok-drop_waiting.ensures.dropped
     (c.in_ok-send_command.ensures.sent
-    ∙ ap (λ (k : Command). adds_sent (command_bytes c.args.unit k) (g.W.Wire.told c.drop_waiting.new.self)) c.command.ensures) in
-    let e = subst (λ (b : Burst). IfTold (g.W.Wire.told c.hear_burst.new.wire) (λ v. HearsBurst c.args.unit c.asking.left c.hear_burst.new.left a.0 v b))
+    ∙ ap (λ (k : Command). adds_sent (command_bytes c.args.unit k) (g.W.Wire.told c.drop_waiting.new.self))
+    c.command.ensures) in
+    let e = subst (λ (b : Burst). IfTold (g.W.Wire.told c.hear_burst.new.wire)
+    (λ v. HearsBurst c.args.unit c.asking.left c.hear_burst.new.left a.0 v b))
     c.in-Ended.is (c.in_ok-heard.ensures.hears a.0 a.1 a.2.between) in
     asks_out c.args.unit c.args.port c.args.limit _ _ _ _ _ _ c.in-Over.answer a.0 _ c.asking.invariant.less a.2 e
     (sym c.after.ensures ∙ c.in-Over.is)

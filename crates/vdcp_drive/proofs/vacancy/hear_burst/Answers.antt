@@ -9,11 +9,16 @@ use Rattle.vdcp_wire.specs.declared.wire.Came.{Came}
 
 pub burst-init : goal.burst-init
 burst-init g c =
-    let fed : Fed = record { start = c.what_is_fed_is_followed.ensures.start; next = c.what_is_fed_is_followed.ensures.next } in record {
+    let fed : Fed = record {
+      start =
+          c.what_is_fed_is_followed.ensures.start;
+      next = c.what_is_fed_is_followed.ensures.next;
+    } in record {
       works = c.requires;
       within = omega arith;
       hears = λ t is between.
-          subst (λ (r : Progress). IfTold (g.W.Wire.told c.args.wire.now) (λ u. HearsAt c.args.unit (length t.came + c.args.left.now) c.args.left.now t u
+          subst (λ (r : Progress). IfTold (g.W.Wire.told c.args.wire.now)
+          (λ u. HearsAt c.args.unit (length t.came + c.args.left.now) c.args.left.now t u
           r None)) (sym c.new-reader.ensures.new) (hears_none fed c.args.unit c.args.left.now t _ is between);
     }
 
@@ -34,22 +39,26 @@ burst-preserved g c =
       within = omega (arith, c.burst.invariant.within);
       hears = λ t is between.
           let h = c.burst.invariant.hears t is between in
-          hears_bytes read c.args.unit _ _ _ t h.0 _ _ _ _ _ _ _ h.1 h.2 (omega (arith, c.burst-test.true)) c.take_piece.ensures.fits
+          hears_bytes read c.args.unit _ _ _ t h.0 _ _ _ _ _ _ _ h.1 h.2 (omega (arith, c.burst-test.true))
+          c.take_piece.ensures.fits
           c.take_piece.ensures.heard
-          (c.in_ok-n.ensures.came ∙ ap (λ (k : Came). adds_came (arrival_of k c.listen.new.buffer) (g.W.Wire.told c.burst.wire)) c.in-Bytes.is);
+          (c.in_ok-n.ensures.came ∙ ap (λ (k : Came). adds_came (arrival_of k c.listen.new.buffer)
+          (g.W.Wire.told c.burst.wire)) c.in-Bytes.is);
     }
 
 pub returns-in-Silence-clause-hears : goal.returns-in-Silence-clause-hears
 returns-in-Silence-clause-hears g c t is between =
     let h = c.burst.invariant.hears t is between in
     hears_silence c.args.unit _ _ _ t h.0 _ _ _ _ h.1 h.2 (omega (arith, c.burst-test.true))
-    (c.in_ok-n.ensures.came ∙ ap (λ (k : Came). adds_came (arrival_of k c.listen.new.buffer) (g.W.Wire.told c.burst.wire)) c.in-Silence.is)
+    (c.in_ok-n.ensures.came ∙ ap (λ (k : Came). adds_came (arrival_of k c.listen.new.buffer)
+    (g.W.Wire.told c.burst.wire)) c.in-Silence.is)
 
 pub returns-in-Closed-clause-hears : goal.returns-in-Closed-clause-hears
 returns-in-Closed-clause-hears g c t is between =
     let h = c.burst.invariant.hears t is between in
     hears_close c.args.unit _ _ _ t h.0 _ _ _ _ h.1 h.2 (omega (arith, c.burst-test.true))
-    (c.in_ok-n.ensures.came ∙ ap (λ (k : Came). adds_came (arrival_of k c.listen.new.buffer) (g.W.Wire.told c.burst.wire)) c.in-Closed.is)
+    (c.in_ok-n.ensures.came ∙ ap (λ (k : Came). adds_came (arrival_of k c.listen.new.buffer)
+    (g.W.Wire.told c.burst.wire)) c.in-Closed.is)
 
 pub returns-clause-hears : goal.returns-clause-hears
 returns-clause-hears g c t is between =

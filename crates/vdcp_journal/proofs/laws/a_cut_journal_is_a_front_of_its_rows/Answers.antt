@@ -5,4 +5,5 @@ pub returns-clause-whole : goal.returns-clause-whole
 returns-clause-whole c = λ time heading rows h w. whole_read c.an_id_has_one_text.ensures.some time heading rows h w
 
 pub returns-clause-cut : goal.returns-clause-cut
-returns-clause-cut c = λ time heading rows n h w. beginning_read c.an_id_has_one_text.ensures.some time heading rows n h w
+returns-clause-cut c = λ time heading rows n h w. beginning_read c.an_id_has_one_text.ensures.some time heading rows n h
+    w

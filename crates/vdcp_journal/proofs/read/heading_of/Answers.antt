@@ -5,7 +5,8 @@ use Rattle.vdcp_journal.proofs.read.heading_of.Goals as goal
 
 pub returns-clause-heading : goal.returns-clause-heading
 returns-clause-heading c =
-    let word : c.args.word.now ≡ codes "list" = same_unless _ _ c.ne.result c.if-ne.false c.ne.ensures ∙ c.as_slice.ensures in
+    let word : c.args.word.now ≡ codes "list" =
+    same_unless _ _ c.ne.result c.if-ne.false c.ne.ensures ∙ c.as_slice.ensures in
     let unit = c.in-Some-number_up_to.ensures.some in
     let port = c.in-Some-number_up_to-2.ensures.some in
     let limit = c.in-Some-number_up_to-3.ensures.some in
@@ -18,5 +19,13 @@ returns-clause-heading c =
       };
       unit = unit.1;
       fields_are =
-          cc (c.in-Some.ensures.read, word, c.in-Some-digest_in.ensures.some, c.in-Some-is_confirming.ensures.some, unit.0, port.0, limit.0);
+          cc (
+            c.in-Some.ensures.read,
+            word,
+            c.in-Some-digest_in.ensures.some,
+            c.in-Some-is_confirming.ensures.some,
+            unit.0,
+            port.0,
+            limit.0,
+          );
     }

@@ -6,5 +6,6 @@ use Rattle.vdcp_list.specs.Reading.{IsSet, rows_left}
 abbrev pub invariant-loop-read : goal.invariant-loop-read
 invariant-loop-read g l = record {
   set : IsSet l.lines;
-  so_far : ReadSoFar (g.R.Read.remaining l.fn.reader) (rows_left g.R.Read.remaining l.lines) l.read l.time l.heading l.rows.items;
+  so_far : ReadSoFar (g.R.Read.remaining l.fn.reader) (rows_left g.R.Read.remaining l.lines) l.read l.time l.heading
+      l.rows.items;
 }

@@ -24,11 +24,16 @@ pub loop-k-preserved : goal.loop-k-preserved
 loop-k-preserved g c =
     let below : c.loop-k.k < length c.args.rows.now = omega arith in
     let plan = plan_of g.S.Source.items c.args.controller in
-    let told : Tells plan (after_rows plan start (take c.loop-k.k c.args.rows.now)) (get_or c.args.rows.now c.loop-k.k c.index-rows-k.result).note =
+    let told : Tells plan (after_rows plan start (take c.loop-k.k c.args.rows.now))
+    (get_or c.args.rows.now c.loop-k.k c.index-rows-k.result).note =
     rw c.loop-k.invariant.state at c.if-not-goes_on.ensures.told (refl {a = true}) in
     let after = c.if-not-goes_on.ensures.after (refl {a = true}) in
     record {
       told = told_front plan start c.args.rows.now c.loop-k.k c.index-rows-k.result below c.loop-k.invariant.told told;
       state =
-          rw (c.loop-k.invariant.state, sym (after_front plan start c.args.rows.now c.loop-k.k c.index-rows-k.result below)) at after;
+          rw (
+            c.loop-k.invariant.state,
+            sym (after_front plan start c.args.rows.now c.loop-k.k c.index-rows-k.result
+                below),
+          ) at after;
     }

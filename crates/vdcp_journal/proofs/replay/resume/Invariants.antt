@@ -8,5 +8,6 @@ use Rattle.vdcp_journal.specs.Resume.{AreTold, after_rows}
 abbrev pub invariant-loop-k : goal.invariant-loop-k
 invariant-loop-k g l = record {
   told : AreTold (plan_of g.S.Source.items l.initial.controller) start (take l.k l.rows);
-  state : l.controller ≡ record l.initial.controller { state = after_rows (plan_of g.S.Source.items l.initial.controller) start (take l.k l.rows) };
+  state : l.controller ≡ record l.initial.controller
+      { state = after_rows (plan_of g.S.Source.items l.initial.controller) start (take l.k l.rows) };
 }

@@ -10,11 +10,13 @@ returns-then-count-gt-LONGEST c = λ bytes below short e.
 pub returns-then-is_err : goal.returns-then-is_err
 returns-then-is_err c = λ bytes below short e.
     let fits : length bytes ≤ length c.args.room.now = omega (arith, short, c.told-room) in
-    let back = read_back bytes _ _ _ _ below (room_for bytes _ c.args.room.now e fits) e c.decode_to_slice.ensures.value in
+    let back = read_back bytes _ _ _ _ below (room_for bytes _ c.args.room.now e fits) e c.decode_to_slice.ensures.value
+    in
     absurd (no_error _ back.0 (sym c.is_err.ensures.value ∙ c.if-is_err.true))
 
 pub returns : goal.returns
 returns c = λ bytes below short e.
     let fits : length bytes ≤ length c.args.room.now = omega (arith, short, c.told-room) in
-    let back = read_back bytes _ _ _ _ below (room_for bytes _ c.args.room.now e fits) e c.decode_to_slice.ensures.value in
+    let back = read_back bytes _ _ _ _ below (room_for bytes _ c.args.room.now e fits) e c.decode_to_slice.ensures.value
+    in
     ap Some back.1

@@ -13,5 +13,6 @@ returns-in-Clean c = λ message fits e.
     let some = c.in-Some.ensures (spelling message) octets size.1 e in
     let bytes : c.in-Some.bytes.now ≡ spelling message = cc some in
     let (end, reads) = ended c.read_at.result _ (not_message c.read_at.result c.in-Clean.is) c.read_at.ensures.end in
-    let alone = c.a_spelling_is_its_message.ensures.alone message [] end fits (subst (λ b. Reads b [] end) bytes (reads [] refl)) in
+    let alone = c.a_spelling_is_its_message.ensures.alone message [] end fits
+    (subst (λ b. Reads b [] end) bytes (reads [] refl)) in
     absurd (cc alone.0)

@@ -19,7 +19,8 @@ pub returns-then-ne-clause-found : goal.returns-then-ne-clause-found
 returns-then-ne-clause-found c = λ n small e.
     let read = parse-decimal 64 n _ _ small small (c.in-Ok.ensures.cases.0 ∙ sym e) c.parse.ensures.value.0 in
     let same : c.in-Ok-parse.number ≡ n = cc (read, c.in-Ok-parse.is) in
-    absurd (differ _ _ c.ne.result c.if-ne.true c.ne.ensures (c.format.ensures.text ∙ ap decimal same ∙ e ∙ sym c.in-Ok.ensures.cases.0))
+    absurd (differ _ _ c.ne.result c.if-ne.true c.ne.ensures
+    (c.format.ensures.text ∙ ap decimal same ∙ e ∙ sym c.in-Ok.ensures.cases.0))
 
 pub returns-clause-found : goal.returns-clause-found
 returns-clause-found c = λ n small e.

@@ -14,13 +14,16 @@ loop-preserved g c =
       | in-Ok w ↦
           let count : c.match-write.written ≡ c.loop.written + w.in-Ok.count = w.written-is in
           record {
-            within = rw count (more_within text c.loop.written w.in-Ok.count c.loop.invariant.within w.in-Ok.ensures.bound);
-            taken = rw count (taken_more old middle new text c.loop.written w.in-Ok.count c.loop.invariant.taken w.in-Ok.ensures.bytes);
+            within = rw count (more_within text c.loop.written w.in-Ok.count c.loop.invariant.within
+                w.in-Ok.ensures.bound);
+            taken = rw count (taken_more old middle new text c.loop.written w.in-Ok.count c.loop.invariant.taken
+                w.in-Ok.ensures.bytes);
           }
       | in-Err w ↦
           let same : c.match-write.written ≡ c.loop.written = w.written-is in
           record {
             within = rw same c.loop.invariant.within;
-            taken = rw same (Appends-kept old middle new (take c.loop.written text) c.loop.invariant.taken w.in-Err.ensures.bytes);
+            taken = rw same (Appends-kept old middle new (take c.loop.written text) c.loop.invariant.taken
+                w.in-Err.ensures.bytes);
           }
     ]

@@ -10,7 +10,8 @@ loop-preserved g c =
     let new = g.W.Write.contents c.write.new.self in
     record {
       within = more_within c.args.bytes.now c.loop.written c.in-Ok.count c.loop.invariant.within c.in-Ok.ensures.bound;
-      taken = taken_more old middle new c.args.bytes.now c.loop.written c.in-Ok.count c.loop.invariant.taken c.in-Ok.ensures.bytes;
+      taken = taken_more old middle new c.args.bytes.now c.loop.written c.in-Ok.count c.loop.invariant.taken
+          c.in-Ok.ensures.bytes;
     }
 
 pub returns-in-Err-clause-beginning : goal.returns-in-Err-clause-beginning

@@ -6,7 +6,8 @@ use Rattle.vdcp_net.specs.Serve.{no_catalogue}
 pub returns-clause-unserved : goal.returns-clause-unserved
 returns-clause-unserved g c =
     unserved_port c.args.settings.rate c.args.address.now _ _ _ c.serve_port.result
-    (c.in-Ok.address, c.in-Ok.ensures.address) (c.in_ok-clips.clips, c.in_ok-clips.ensures.clips) c.serve_port.ensures.unheard
+    (c.in-Ok.address, c.in-Ok.ensures.address) (c.in_ok-clips.clips, c.in_ok-clips.ensures.clips)
+    c.serve_port.ensures.unheard
 
 pub returns-in_err-clips-clause-unserved : goal.returns-in_err-clips-clause-unserved
 returns-in_err-clips-clause-unserved g c =

@@ -9,5 +9,6 @@ returns-clause-ended g c =
 
 pub returns-clause-failed : goal.returns-clause-failed
 returns-clause-failed g c =
-    fails_to_end c.serve_turns.ensures.leaves.0 (has_given_up c.serve_turns.new.server.wire.patience) c.serve_turns.result
+    fails_to_end c.serve_turns.ensures.leaves.0 (has_given_up c.serve_turns.new.server.wire.patience)
+    c.serve_turns.result
     (g.W.Write.contents c.args.out.now) (g.W.Write.contents c.serve_turns.new.out) c.serve_turns.ensures.leaves.2

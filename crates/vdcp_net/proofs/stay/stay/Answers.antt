@@ -22,8 +22,10 @@ pub turns-preserved : goal.turns-preserved
 turns-preserved g c =
     let one : c.turns.left ≡ suc (c.turns.left - 1) = omega (arith, c.turns-test.true) in
     let failures = g.W.Wire.failures in
-    let works = ap (λ (w : Idling g.row.W.Denot). failures w.wire) c.new-server.ensures.wire ∙ (ap failures c.new.ensures.wire
+    let works = ap (λ (w : Idling g.row.W.Denot). failures w.wire) c.new-server.ensures.wire
+    ∙ (ap failures c.new.ensures.wire
     ∙ c.in_ok-wait.ensures.works c.in-Line.line c.in-Line.is) in
     let e = c.serve_one-kept.ensures in
-    rw (e.3, e.4) (kept_over c.turns.port c.turns.left (c.turns.left - 1) one c.turns.invariant c.new-server.result e.0 e.1
+    rw (e.3, e.4) (kept_over c.turns.port c.turns.left (c.turns.left - 1) one c.turns.invariant c.new-server.result e.0
+    e.1
     (record { port_is = c.new-server.ensures.port; at_start = c.new-server.ensures.reader; works = works }) e.2)

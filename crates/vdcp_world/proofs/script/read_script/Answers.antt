@@ -8,7 +8,8 @@ use Rattle.vdcp_world.proofs.script.read_script.Goals as goal
 
 pub returns-clause-script : goal.returns-clause-script
 returns-clause-script g c =
-    let end = YieldsList-end (YieldsList-from_enumerate (YieldsList-from_lines c.args.text.now cc) cc) c.lines.yielded _ c.lines.yielded_by _ _
+    let end = YieldsList-end (YieldsList-from_enumerate (YieldsList-from_lines c.args.text.now cc) cc) c.lines.yielded _
+    c.lines.yielded_by _ _
     c.in-None.is c.next.ensures.steps in
     subst (λ l. SayAll g.E.ScriptEvent.of g.E.ScriptEvent.own l c.lines.events.items)
     (all_lines c.lines.yielded (lines c.args.text.now) end.0) c.lines.invariant.1
@@ -22,6 +23,7 @@ lines-init g c = (
 pub lines-preserved : goal.lines-preserved
 lines-preserved g c = (
   c.read_line.ensures.few,
-  more_lines g.E.ScriptEvent.of g.E.ScriptEvent.own c.lines.yielded (c.in-Some.before, c.in-Some.line) c.in-Some.line.now
+  more_lines g.E.ScriptEvent.of g.E.ScriptEvent.own c.lines.yielded (c.in-Some.before, c.in-Some.line)
+      c.in-Some.line.now
       c.lines.events.items c.read_line.new.events.items refl c.lines.invariant.1 c.in_ok-read_line.ensures.says,
 )

@@ -27,7 +27,8 @@ returns-in-Err-clause-keeps g c is works before was =
     let h = inv.runs is in (
       h.0,
       h.1,
-      lost_so items s l _ (course (plan_of items s.controller) (inputs_of s.unit h.0.came)) before (g.K.Keep.kept c.listens.keep) (g.K.Keep.kept
+      lost_so items s l _ (course (plan_of items s.controller) (inputs_of s.unit h.0.came)) before
+          (g.K.Keep.kept c.listens.keep) (g.K.Keep.kept
           c.keep_next.new.keep) inv.controller c.self-in-listens.view_is (h.2.3 before was) c.in-Err.ensures.lost,
     )
 
@@ -57,7 +58,8 @@ pub returns-in-Err-send-clause-watched_broken : goal.returns-in-Err-send-clause-
 returns-in-Err-send-clause-watched_broken g c is works states was =
     let inv = c.listens.invariant in
     let h = inv.runs is in
-    let b = unsent_so g.S.Source.items g.W.Wire.told c.args.self.now c.listens.self c.send.new.self h.0 inv.controller inv.unit h.1 h.2.0
+    let b = unsent_so g.S.Source.items g.W.Wire.told c.args.self.now c.listens.self c.send.new.self h.0 inv.controller
+    inv.unit h.1 h.2.0
     (c.in-Err-send.ensures.breaks inv.works) in
     (b.0, b.1, (b.2.0, h.2.2 states was ∙ ap (λ (l : List State). Some (states ++ l)) (sym b.2.1)))
 
@@ -71,11 +73,13 @@ returns-in-Err-send-clause-keeps g c is works before was =
     let h = inv.runs is in
     let e = c.in-Err-send.ensures.breaks inv.works in
     let b = unsent_so items g.W.Wire.told s l n h.0 inv.controller inv.unit h.1 h.2.0 e in
-    let k = given_so items s l _ (course (plan_of items s.controller) (inputs_of s.unit h.0.came)) before (g.K.Keep.kept c.listens.keep) (g.K.Keep.kept
+    let k = given_so items s l _ (course (plan_of items s.controller) (inputs_of s.unit h.0.came)) before
+    (g.K.Keep.kept c.listens.keep) (g.K.Keep.kept
     c.keep_next.new.keep) inv.controller c.self-in-listens.view_is (h.2.3 before was) c.in_default.ensures.kept in (
       b.0,
       b.1,
-      keeps_same (plan_of items s.controller) s.unit h.0.came b.0.came (ticked l.controller.state) (ticked n.controller.state) before _ k b.2.2
+      keeps_same (plan_of items s.controller) s.unit h.0.came b.0.came (ticked l.controller.state)
+          (ticked n.controller.state) before _ k b.2.2
           (still_given _ _ _ _ _ _ e),
     )
 
@@ -93,13 +97,16 @@ returns-in-Err-listen-clause-leaves g c =
     let planned : plan_of items c.listens.self.controller ≡ plan = ap (plan_of items) inv.controller in
     let worked : g.W.Wire.failures s.wire ≡ 0 = grind (arith, common_steps) in
     record {
-      driven = run_failed items told g.W.Wire.failures c.args.listens s m (Err c.in-Err-listen.fault) refl worked e.device
+      driven = run_failed items told g.W.Wire.failures c.args.listens s m (Err c.in-Err-listen.fault) refl worked
+          e.device
           (λ is.
           let h = inv.runs is in
-          let w = sent_so items told s c.listens.self n h.0 c.in_default-send.field-0 inv.controller inv.unit h.1 h.2.0 o.sends o.ticks o.keeps in
+          let w = sent_so items told s c.listens.self n h.0 c.in_default-send.field-0 inv.controller inv.unit h.1 h.2.0
+          o.sends o.ticks o.keeps in
           let b = unheard_so items told s n m w.0 w.1 w.2.0 e.unchanged (e.breaks o.works) in
           (b.0, b.1, b.2.0))
-          (goes_further plan _ _ _ _ (ap (plan_of items) o.controller ∙ planned) (goes_further plan _ _ _ _ planned inv.reached o.reached) e.reached)
+          (goes_further plan _ _ _ _ (ap (plan_of items) o.controller ∙ planned)
+          (goes_further plan _ _ _ _ planned inv.reached o.reached) e.reached)
           (e.controller ∙ ap (λ (v : View _). record v { state = m.controller.state }) o.controller
           ∙ ap (λ (v : View _). record v { state = m.controller.state }) inv.controller)
           (e.unit ∙ ap (λ (d : Driving _ _). d.unit) o.keeps ∙ inv.unit);
@@ -116,15 +123,21 @@ returns-in-Err-listen-clause-watched_broken g c is works states was =
     let inv = c.listens.invariant in
     let h = inv.runs is in
     let o = c.in_default-send.ensures in
-    let w = sent_so items told s c.listens.self n h.0 c.in_default-send.field-0 inv.controller inv.unit h.1 h.2.0 o.sends o.ticks o.keeps in
-    let b = unheard_so items told s n m w.0 w.1 w.2.0 c.in-Err-listen.ensures.unchanged (c.in-Err-listen.ensures.breaks o.works) in
+    let w = sent_so items told s c.listens.self n h.0 c.in_default-send.field-0 inv.controller inv.unit h.1 h.2.0
+    o.sends o.ticks o.keeps in
+    let b = unheard_so items told s n m w.0 w.1 w.2.0 c.in-Err-listen.ensures.unchanged
+    (c.in-Err-listen.ensures.breaks o.works) in
     let watched = g.V.Watch.watched in
-    let looked = c.look.ensures ∙ ap (λ (d : Driving _ _). adds_watched d.controller.state (watched c.listens.watcher)) c.self-in-listens-2.view_is in
+    let looked = c.look.ensures ∙ ap (λ (d : Driving _ _). adds_watched d.controller.state (watched c.listens.watcher))
+    c.self-in-listens-2.view_is in
     let plan : Plan = plan_of items s.controller in
-    let more = looks states (states_listening plan s.unit h.0.came) n.controller.state (watched c.listens.watcher) (watched c.look.new.self) (h.2.2 states
+    let more = looks states (states_listening plan s.unit h.0.came) n.controller.state (watched c.listens.watcher)
+    (watched c.look.new.self) (h.2.2 states
     was) looked
-    ∙ ap (λ (came : List Arrival). Some (states ++ (states_listening plan s.unit came ++ n.controller.state ∷ []))) (sym w.2.1)
-    ∙ ap (λ (d : Driving _ _). Some (states ++ (states_listening plan s.unit w.0.came ++ d.controller.state ∷ []))) (sym c.in-Err-listen.ensures.unchanged)
+    ∙ ap (λ (came : List Arrival). Some (states ++ (states_listening plan s.unit came ++ n.controller.state ∷ [])))
+    (sym w.2.1)
+    ∙ ap (λ (d : Driving _ _). Some (states ++ (states_listening plan s.unit w.0.came ++ d.controller.state ∷ [])))
+    (sym c.in-Err-listen.ensures.unchanged)
     ∙ ap (λ (l : List State). Some (states ++ l)) (sym b.2.1) in
     (b.0, b.1, (b.2.0, more))
 
@@ -140,20 +153,28 @@ returns-in-Err-listen-clause-keeps g c is works before was =
     let h = inv.runs is in
     let o = c.in_default-send.ensures in
     let e = c.in-Err-listen.ensures in
-    let w = sent_so items told s l n h.0 c.in_default-send.field-0 inv.controller inv.unit h.1 h.2.0 o.sends o.ticks o.keeps in
+    let w = sent_so items told s l n h.0 c.in_default-send.field-0 inv.controller inv.unit h.1 h.2.0 o.sends o.ticks
+    o.keeps in
     let b = unheard_so items told s n m w.0 w.1 w.2.0 e.unchanged (e.breaks o.works) in
-    let k = given_so items s l _ (course (plan_of items s.controller) (inputs_of s.unit h.0.came)) before (g.K.Keep.kept c.listens.keep) (g.K.Keep.kept
+    let k = given_so items s l _ (course (plan_of items s.controller) (inputs_of s.unit h.0.came)) before
+    (g.K.Keep.kept c.listens.keep) (g.K.Keep.kept
     c.keep_next.new.keep) inv.controller c.self-in-listens.view_is (h.2.3 before was) c.in_default.ensures.kept in (
       b.0,
       b.1,
-      keeps_same (plan_of items s.controller) s.unit h.0.came b.0.came (ticked l.controller.state) (ticked m.controller.state) before _ k
-          (b.2.2 ∙ w.2.1) (ap (λ (d : Driving _ _). ticked d.controller.state) e.unchanged ∙ ap (λ (v : View _). ticked v.state) o.ticks
+      keeps_same (plan_of items s.controller) s.unit h.0.came b.0.came (ticked l.controller.state)
+          (ticked m.controller.state) before _ k
+          (b.2.2 ∙ w.2.1) (ap (λ (d : Driving _ _). ticked d.controller.state) e.unchanged
+          ∙ ap (λ (v : View _). ticked v.state) o.ticks
           ∙ ticked_twice l.controller.state),
     )
 
 pub returns-in-Closed-clause-leaves : goal.returns-in-Closed-clause-leaves
 returns-in-Closed-clause-leaves g c =
-    let law : OneMore = record { logs = c.courses_follow_one_another.ensures.one_more; leaves = c.courses_follow_one_another.ensures.left_by_one_more } in
+    let law : OneMore = record {
+      logs = c.courses_follow_one_another.ensures.one_more;
+      leaves =
+          c.courses_follow_one_another.ensures.left_by_one_more;
+    } in
     let items = g.S.Source.items in
     let told = g.W.Wire.told in
     let s = c.args.self.now in
@@ -175,17 +196,20 @@ returns-in-Closed-clause-leaves g c =
       driven = record {
         run = λ is.
             let h = inv.runs is in
-            let w = sent_so items told s l n h.0 c.in_default-send.field-0 inv.controller inv.unit h.1 h.2.0 o.sends o.ticks o.keeps in
+            let w = sent_so items told s l n h.0 c.in_default-send.field-0 inv.controller inv.unit h.1 h.2.0 o.sends
+            o.ticks o.keeps in
             let r = out_so law items told s n m w.0 e.0 same united w.1 w.2.0 closed e.3 e.4 in
             (r.0, r.1, r.2.0);
         broken = λ _ _. tt;
         ended = grind (arith, common_steps);
         answers = λ t is.
             let h = inv.listened t is in
-            let u = closed_on c.listens.made c.args.listens t h.0 l.unit (given (plan_of items l.controller) l.controller.state) c.in_default-send.field-0 e.0
+            let u = closed_on c.listens.made c.args.listens t h.0 l.unit
+            (given (plan_of items l.controller) l.controller.state) c.in_default-send.field-0 e.0
             (told l.wire) (told n.wire) (told m.wire) h.1 h.2 (omega arith) o.sends closed e.2 e.4 in
             (u.0, u.1, rw c.unless_ended.ensures (closes_to _ c.args.listens t.came u.0.came u.2.0 u.2.1));
-        reached = goes_further plan _ _ _ _ (ap (plan_of items) o.controller ∙ planned) (goes_further plan _ _ _ _ planned inv.reached o.reached)
+        reached = goes_further plan _ _ _ _ (ap (plan_of items) o.controller ∙ planned)
+            (goes_further plan _ _ _ _ planned inv.reached o.reached)
             i.reached;
         controller = i.controller ∙ ap (λ (v : View _). record v { state = m.controller.state }) same;
         unit = i.unit ∙ united;
@@ -198,7 +222,11 @@ returns-in-Closed-clause-leaves g c =
 
 pub returns-in-Closed-clause-keeps : goal.returns-in-Closed-clause-keeps
 returns-in-Closed-clause-keeps g c is works before was =
-    let law : OneMore = record { logs = c.courses_follow_one_another.ensures.one_more; leaves = c.courses_follow_one_another.ensures.left_by_one_more } in
+    let law : OneMore = record {
+      logs = c.courses_follow_one_another.ensures.one_more;
+      leaves =
+          c.courses_follow_one_another.ensures.left_by_one_more;
+    } in
     let items = g.S.Source.items in
     let told = g.W.Wire.told in
     let s = c.args.self.now in
@@ -208,25 +236,34 @@ returns-in-Closed-clause-keeps g c is works before was =
     let inv = c.listens.invariant in
     let h = inv.runs is in
     let o = c.in_default-send.ensures in
-    let w = sent_so items told s l n h.0 c.in_default-send.field-0 inv.controller inv.unit h.1 h.2.0 o.sends o.ticks o.keeps in
+    let w = sent_so items told s l n h.0 c.in_default-send.field-0 inv.controller inv.unit h.1 h.2.0 o.sends o.ticks
+    o.keeps in
     let same : n.controller ≡ record s.controller { state = n.controller.state } =
     o.controller ∙ ap (λ (v : View _). record v { state = n.controller.state }) inv.controller in
     let united : n.unit ≡ s.unit = ap (λ (d : Driving _ _). d.unit) o.keeps ∙ inv.unit in
     let e = c.in-Ok.ensures.hears in
     let r = out_so law items told s n m w.0 e.0 same united w.1 w.2.0 (sym e.1 ∙ c.in-Closed.is) e.3 e.4 in
     let awaits : is_awaiting n.controller.state.stage ≡ true = grind (arith, common_steps) in
-    let k = keeps_same (plan_of items s.controller) s.unit h.0.came w.0.came (ticked l.controller.state) n.controller.state before _ (given_so items s l _
-    (course (plan_of items s.controller) (inputs_of s.unit h.0.came)) before (g.K.Keep.kept c.listens.keep) (g.K.Keep.kept c.keep_next.new.keep)
-    inv.controller c.self-in-listens.view_is (h.2.3 before was) c.in_default.ensures.kept) w.2.1 (ap (λ (v : View _). v.state) o.ticks) in (
+    let k = keeps_same (plan_of items s.controller) s.unit h.0.came w.0.came (ticked l.controller.state)
+    n.controller.state before _ (given_so items s l _
+    (course (plan_of items s.controller) (inputs_of s.unit h.0.came)) before (g.K.Keep.kept c.listens.keep)
+    (g.K.Keep.kept c.keep_next.new.keep)
+    inv.controller c.self-in-listens.view_is (h.2.3 before was) c.in_default.ensures.kept) w.2.1
+    (ap (λ (v : View _). v.state) o.ticks) in (
       r.0,
       r.1,
-      noted_so law items s n m _ _ w.0 e.0 r.0.came before _ (g.K.Keep.kept c.note_if_ended.new.keep) same united w.2.0 awaits e.3 k
+      noted_so law items s n m _ _ w.0 e.0 r.0.came before _ (g.K.Keep.kept c.note_if_ended.new.keep) same united w.2.0
+          awaits e.3 k
           c.self-in-listens-2.view_is c.self-in-listens-3.view_is c.note_if_ended.ensures r.2.2,
     )
 
 pub returns-in-Closed-clause-watched : goal.returns-in-Closed-clause-watched
 returns-in-Closed-clause-watched g c is states was =
-    let law : OneMore = record { logs = c.courses_follow_one_another.ensures.one_more; leaves = c.courses_follow_one_another.ensures.left_by_one_more } in
+    let law : OneMore = record {
+      logs = c.courses_follow_one_another.ensures.one_more;
+      leaves =
+          c.courses_follow_one_another.ensures.left_by_one_more;
+    } in
     let items = g.S.Source.items in
     let told = g.W.Wire.told in
     let s = c.args.self.now in
@@ -235,17 +272,20 @@ returns-in-Closed-clause-watched g c is states was =
     let inv = c.listens.invariant in
     let h = inv.runs is in
     let o = c.in_default-send.ensures in
-    let w = sent_so items told s c.listens.self n h.0 c.in_default-send.field-0 inv.controller inv.unit h.1 h.2.0 o.sends o.ticks o.keeps in
+    let w = sent_so items told s c.listens.self n h.0 c.in_default-send.field-0 inv.controller inv.unit h.1 h.2.0
+    o.sends o.ticks o.keeps in
     let same : n.controller ≡ record s.controller { state = n.controller.state } =
     o.controller ∙ ap (λ (v : View _). record v { state = n.controller.state }) inv.controller in
     let united : n.unit ≡ s.unit = ap (λ (d : Driving _ _). d.unit) o.keeps ∙ inv.unit in
     let e = c.in-Ok.ensures.hears in
     let r = out_so law items told s n m w.0 e.0 same united w.1 w.2.0 (sym e.1 ∙ c.in-Closed.is) e.3 e.4 in
     let watched = g.V.Watch.watched in
-    let looked = c.look.ensures ∙ ap (λ (d : Driving _ _). adds_watched d.controller.state (watched c.listens.watcher)) c.self-in-listens-2.view_is in (
+    let looked = c.look.ensures ∙ ap (λ (d : Driving _ _). adds_watched d.controller.state (watched c.listens.watcher))
+    c.self-in-listens-2.view_is in (
       r.0,
       r.1,
-      watches_on (plan_of items s.controller) s.unit h.0.came w.0.came r.0.came e.0 states n.controller.state (watched c.listens.watcher) (watched
+      watches_on (plan_of items s.controller) s.unit h.0.came w.0.came r.0.came e.0 states n.controller.state
+          (watched c.listens.watcher) (watched
           c.look.new.self) (h.2.2 states was) w.2.1 w.2.0.state_is looked r.2.2,
     )
 
@@ -254,24 +294,35 @@ listens-preserved g c = record {
   within = omega arith;
   works = c.in-Ok.ensures.works;
   controller = c.in-Ok.ensures.controller
-      ∙ ap (λ (v : View _). record v { state = c.listen.new.self.controller.state }) c.in_default-send.ensures.controller
+      ∙ ap (λ (v : View _). record v { state = c.listen.new.self.controller.state })
+      c.in_default-send.ensures.controller
       ∙ ap (λ (v : View _). record v { state = c.listen.new.self.controller.state }) c.listens.invariant.controller;
-  unit = c.in-Ok.ensures.unit ∙ ap (λ (d : Driving _ _). d.unit) c.in_default-send.ensures.keeps ∙ c.listens.invariant.unit;
+  unit = c.in-Ok.ensures.unit ∙ ap (λ (d : Driving _ _). d.unit) c.in_default-send.ensures.keeps
+      ∙ c.listens.invariant.unit;
   reached =
       let plan : Plan = plan_of g.S.Source.items c.args.self.now.controller in
-      let planned : plan_of g.S.Source.items c.listens.self.controller ≡ plan = ap (plan_of g.S.Source.items) c.listens.invariant.controller in
-      let replanned : plan_of g.S.Source.items c.send.new.self.controller ≡ plan = ap (plan_of g.S.Source.items) c.in_default-send.ensures.controller ∙ planned in
-      goes_further plan _ _ _ _ replanned (goes_further plan _ _ _ _ planned c.listens.invariant.reached c.in_default-send.ensures.reached)
+      let planned : plan_of g.S.Source.items c.listens.self.controller ≡ plan =
+      ap (plan_of g.S.Source.items) c.listens.invariant.controller in
+      let replanned : plan_of g.S.Source.items c.send.new.self.controller ≡ plan =
+      ap (plan_of g.S.Source.items) c.in_default-send.ensures.controller ∙ planned in
+      goes_further plan _ _ _ _ replanned (goes_further plan _ _ _ _ planned c.listens.invariant.reached
+      c.in_default-send.ensures.reached)
       c.in-Ok.ensures.reached;
   listened = λ t is.
       let told = g.W.Wire.told in
       let l = c.listens.self in
       let h = c.listens.invariant.listened t is in
       let e = c.in-Ok.ensures.hears in
-      listened_on c.listens.made t h.0 l.unit (given (plan_of g.S.Source.items l.controller) l.controller.state) c.in_default-send.field-0 e.0 (told l.wire)
-      (told c.send.new.self.wire) (told c.listen.new.self.wire) h.1 h.2 c.in_default-send.ensures.sends (λ x. c.in_default-line.not-Closed (e.1 ∙ x)) e.2 e.4;
+      listened_on c.listens.made t h.0 l.unit (given (plan_of g.S.Source.items l.controller) l.controller.state)
+      c.in_default-send.field-0 e.0 (told l.wire)
+      (told c.send.new.self.wire) (told c.listen.new.self.wire) h.1 h.2 c.in_default-send.ensures.sends
+      (λ x. c.in_default-line.not-Closed (e.1 ∙ x)) e.2 e.4;
   runs = λ is.
-      let law : OneMore = record { logs = c.courses_follow_one_another.ensures.one_more; leaves = c.courses_follow_one_another.ensures.left_by_one_more } in
+      let law : OneMore = record {
+        logs = c.courses_follow_one_another.ensures.one_more;
+        leaves =
+            c.courses_follow_one_another.ensures.left_by_one_more;
+      } in
       let read : Read = record {
         some = c.one_reading.ensures.some;
         read = c.what_is_followed_is_read.ensures.read;
@@ -279,7 +330,11 @@ listens-preserved g c = record {
             c.what_is_followed_is_read.ensures.messages;
         further = c.what_is_followed_is_read.ensures.further;
       } in
-      let fed : Fed = record { start = c.what_is_fed_is_followed.ensures.start; next = c.what_is_fed_is_followed.ensures.next } in
+      let fed : Fed = record {
+        start =
+            c.what_is_fed_is_followed.ensures.start;
+        next = c.what_is_fed_is_followed.ensures.next;
+      } in
       let items = g.S.Source.items in
       let told = g.W.Wire.told in
       let s = c.args.self.now in
@@ -290,26 +345,34 @@ listens-preserved g c = record {
       let h = inv.runs is in
       let awaits : is_awaiting n.controller.state.stage ≡ true = grind (arith, common_steps) in
       let o = c.in_default-send.ensures in
-      let w = sent_so items told s c.listens.self n h.0 c.in_default-send.field-0 inv.controller inv.unit h.1 h.2.0 o.sends o.ticks o.keeps in
+      let w = sent_so items told s c.listens.self n h.0 c.in_default-send.field-0 inv.controller inv.unit h.1 h.2.0
+      o.sends o.ticks o.keeps in
       let same : n.controller ≡ record s.controller { state = n.controller.state } =
       o.controller ∙ ap (λ (v : View _). record v { state = n.controller.state }) inv.controller in
       let united : n.unit ≡ s.unit = ap (λ (d : Driving _ _). d.unit) o.keeps ∙ inv.unit in
       let e = c.in-Ok.ensures.hears in
       let watched = g.V.Watch.watched in
-      let looked = c.look.ensures ∙ ap (λ (d : Driving _ _). adds_watched d.controller.state (watched c.listens.watcher)) c.self-in-listens-2.view_is in
-      let r = on_so read fed law c.listens.made items told s n m w.0 e.0 same united w.1 w.2.0 (subst (λ (x : List Arrival). AllListened c.listens.made [] x)
+      let looked = c.look.ensures ∙ ap (λ (d : Driving _ _). adds_watched d.controller.state
+      (watched c.listens.watcher)) c.self-in-listens-2.view_is in
+      let r = on_so read fed law c.listens.made items told s n m w.0 e.0 same united w.1 w.2.0
+      (subst (λ (x : List Arrival). AllListened c.listens.made [] x)
       (sym w.2.1) h.2.1) (λ x. c.in_default-line.not-Closed (e.1 ∙ x)) e.3 e.4 in (
         r.0,
         r.1,
         (
           r.2.0,
           r.2.1,
-          λ states was. watches_on (plan_of items s.controller) s.unit h.0.came w.0.came r.0.came e.0 states n.controller.state (watched c.listens.watcher)
+          λ states was. watches_on (plan_of items s.controller) s.unit h.0.came w.0.came r.0.came e.0 states
+              n.controller.state (watched c.listens.watcher)
               (watched c.look.new.self) (h.2.2 states was) w.2.1 w.2.0.state_is looked r.2.2,
-          λ before was. noted_so law items s n m _ _ w.0 e.0 r.0.came before _ (g.K.Keep.kept c.note_if_ended.new.keep) same united w.2.0 awaits e.3
-              (keeps_same (plan_of items s.controller) s.unit h.0.came w.0.came (ticked l.controller.state) n.controller.state before _ (given_so items s l _
-              (course (plan_of items s.controller) (inputs_of s.unit h.0.came)) before (g.K.Keep.kept c.listens.keep) (g.K.Keep.kept c.keep_next.new.keep)
-              inv.controller c.self-in-listens.view_is (h.2.3 before was) c.in_default.ensures.kept) w.2.1 (ap (λ (v : View _). v.state) o.ticks))
+          λ before was. noted_so law items s n m _ _ w.0 e.0 r.0.came before _ (g.K.Keep.kept c.note_if_ended.new.keep)
+              same united w.2.0 awaits e.3
+              (keeps_same (plan_of items s.controller) s.unit h.0.came w.0.came (ticked l.controller.state)
+              n.controller.state before _ (given_so items s l _
+              (course (plan_of items s.controller) (inputs_of s.unit h.0.came)) before (g.K.Keep.kept c.listens.keep)
+              (g.K.Keep.kept c.keep_next.new.keep)
+              inv.controller c.self-in-listens.view_is (h.2.3 before was) c.in_default.ensures.kept) w.2.1
+              (ap (λ (v : View _). v.state) o.ticks))
               c.self-in-listens-2.view_is c.self-in-listens-3.view_is c.note_if_ended.ensures r.2.2,
         ),
       );

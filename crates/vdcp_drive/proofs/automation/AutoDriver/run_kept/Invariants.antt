@@ -20,14 +20,20 @@ invariant-listens g l =
       works : g.W.Wire.failures l.self.wire ≡ 0;
       controller : l.self.controller ≡ record l.fn.self.controller { state = l.self.controller.state };
       unit : l.self.unit ≡ l.fn.self.unit;
-      reached : IsReachedFrom (plan_of g.S.Source.items l.fn.self.controller) l.fn.self.controller.state l.self.controller.state;
-      listened : (t : Told) → told l.fn.self.wire ≡ Some t → IfTold (told l.self.wire) (λ u. AllListened l.made t.came u.came);
+      reached : IsReachedFrom (plan_of g.S.Source.items l.fn.self.controller) l.fn.self.controller.state
+          l.self.controller.state;
+      listened : (t : Told) → told l.fn.self.wire ≡ Some t
+          → IfTold (told l.self.wire) (λ u. AllListened l.made t.came u.came);
       runs : IsNew told l.fn.self →
-          IfTold (told l.self.wire) (λ u. RunsAt (plan_of g.S.Source.items l.fn.self.controller) l.fn.self.unit u l.self.controller.state l.self.reader
-          l.self.heard × AllListened l.made [] u.came × ((states : List State) → g.V.Watch.watched l.fn.watcher ≡ Some states
-          → WatchesAt (plan_of g.S.Source.items l.fn.self.controller) l.fn.self.unit u.came states (g.V.Watch.watched l.watcher))
+          IfTold (told l.self.wire) (λ u. RunsAt (plan_of g.S.Source.items l.fn.self.controller) l.fn.self.unit u
+          l.self.controller.state l.self.reader
+          l.self.heard × AllListened l.made [] u.came
+          × ((states : List State) → g.V.Watch.watched l.fn.watcher ≡ Some states
+          → WatchesAt (plan_of g.S.Source.items l.fn.self.controller) l.fn.self.unit u.came states
+          (g.V.Watch.watched l.watcher))
           × ((before : List Kept) → g.K.Keep.kept l.fn.keep ≡ Some before
-          → KeepsAt (plan_of g.S.Source.items l.fn.self.controller) (course (plan_of g.S.Source.items l.fn.self.controller) (inputs_of l.fn.self.unit u.came))
+          → KeepsAt (plan_of g.S.Source.items l.fn.self.controller)
+          (course (plan_of g.S.Source.items l.fn.self.controller) (inputs_of l.fn.self.unit u.came))
           l.self.controller.state before (g.K.Keep.kept l.keep)));
     }
 

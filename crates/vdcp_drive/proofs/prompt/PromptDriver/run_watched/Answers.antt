@@ -27,7 +27,8 @@ returns-in_err-send-clause-leaves g c =
     run_failed items told g.W.Wire.failures c.args.listens s n c.from_residual.result (search rules) worked e.device
     (λ is.
     let h = inv.runs is in
-    let b = unsent_so items told s c.listens.self n h.0 inv.controller inv.unit h.1 h.2.0 (e.breaks inv.works) e.keeps in
+    let b = unsent_so items told s c.listens.self n h.0 inv.controller inv.unit h.1 h.2.0 (e.breaks inv.works) e.keeps
+    in
     (b.0, b.1, b.2.0))
     (goes_further plan _ _ _ _ (ap (plan_of items) inv.controller) inv.reached e.reached)
     (e.controller ∙ ap (λ (v : View _). record v { state = n.controller.state }) inv.controller)
@@ -37,9 +38,18 @@ pub returns-in_err-send-clause-watched_broken : goal.returns-in_err-send-clause-
 returns-in_err-send-clause-watched_broken g c is works states was =
     let inv = c.listens.invariant in
     let h = inv.runs is in
-    let b = unsent_so g.S.Source.items g.W.Wire.told c.args.self.now c.listens.self c.send.new.self h.0 inv.controller inv.unit h.1 h.2.0
+    let b = unsent_so g.S.Source.items g.W.Wire.told c.args.self.now c.listens.self c.send.new.self h.0 inv.controller
+    inv.unit h.1 h.2.0
     (c.in_err-send.ensures.breaks inv.works) c.in_err-send.ensures.keeps in
-    on_err_of c.from_residual.result (b.0, b.1, (b.2.0, h.2.1 states was ∙ ap (λ (l : List State). Some (states ++ l)) (sym b.2.1)))
+    on_err_of c.from_residual.result (
+      b.0,
+      b.1,
+      (
+        b.2.0,
+        h.2.1 states was ∙ ap (λ (l : List State). Some (states ++ l))
+            (sym b.2.1),
+      ),
+    )
 
 pub returns-in_err-listen-clause-leaves : goal.returns-in_err-listen-clause-leaves
 returns-in_err-listen-clause-leaves g c =
@@ -54,13 +64,16 @@ returns-in_err-listen-clause-leaves g c =
     let plan : Plan = plan_of items s.controller in
     let planned : plan_of items c.listens.self.controller ≡ plan = ap (plan_of items) inv.controller in
     let worked : g.W.Wire.failures s.wire ≡ 0 = grind (arith, common_steps) in
-    run_failed items told g.W.Wire.failures c.args.listens s m c.from_residual-in_err-listen.result (search rules) worked e.device
+    run_failed items told g.W.Wire.failures c.args.listens s m c.from_residual-in_err-listen.result (search rules)
+    worked e.device
     (λ is.
     let h = inv.runs is in
-    let w = sent_so items told s c.listens.self n h.0 c.in_ok-send.field-0 inv.controller inv.unit h.1 h.2.0 o.sends o.ticks o.keeps in
+    let w = sent_so items told s c.listens.self n h.0 c.in_ok-send.field-0 inv.controller inv.unit h.1 h.2.0 o.sends
+    o.ticks o.keeps in
     let b = unheard_so items told s n m w.0 w.1 w.2.0 e.unchanged (e.breaks o.works) in
     (b.0, b.1, b.2.0))
-    (goes_further plan _ _ _ _ (ap (plan_of items) o.controller ∙ planned) (goes_further plan _ _ _ _ planned inv.reached o.reached) e.reached)
+    (goes_further plan _ _ _ _ (ap (plan_of items) o.controller ∙ planned)
+    (goes_further plan _ _ _ _ planned inv.reached o.reached) e.reached)
     (e.controller ∙ ap (λ (v : View _). record v { state = m.controller.state }) o.controller
     ∙ ap (λ (v : View _). record v { state = m.controller.state }) inv.controller)
     (e.unit ∙ ap (λ (d : Prompting _ _). d.unit) o.keeps ∙ inv.unit)
@@ -75,15 +88,21 @@ returns-in_err-listen-clause-watched_broken g c is works states was =
     let inv = c.listens.invariant in
     let h = inv.runs is in
     let o = c.in_ok-send.ensures in
-    let w = sent_so items told s c.listens.self n h.0 c.in_ok-send.field-0 inv.controller inv.unit h.1 h.2.0 o.sends o.ticks o.keeps in
-    let b = unheard_so items told s n m w.0 w.1 w.2.0 c.in_err-listen.ensures.unchanged (c.in_err-listen.ensures.breaks o.works) in
+    let w = sent_so items told s c.listens.self n h.0 c.in_ok-send.field-0 inv.controller inv.unit h.1 h.2.0 o.sends
+    o.ticks o.keeps in
+    let b = unheard_so items told s n m w.0 w.1 w.2.0 c.in_err-listen.ensures.unchanged
+    (c.in_err-listen.ensures.breaks o.works) in
     let watched = g.V.Watch.watched in
-    let looked = c.look.ensures ∙ ap (λ (d : Prompting _ _). adds_watched d.controller.state (watched c.listens.watcher)) c.self-in-listens.view_is in
+    let looked = c.look.ensures ∙ ap (λ (d : Prompting _ _). adds_watched d.controller.state
+    (watched c.listens.watcher)) c.self-in-listens.view_is in
     let plan : Plan = plan_of items s.controller in
-    let more = looks states (states_prompted plan s.unit h.0.came) n.controller.state (watched c.listens.watcher) (watched c.look.new.self) (h.2.1 states
+    let more = looks states (states_prompted plan s.unit h.0.came) n.controller.state (watched c.listens.watcher)
+    (watched c.look.new.self) (h.2.1 states
     was) looked
-    ∙ ap (λ (came : List Arrival). Some (states ++ (states_prompted plan s.unit came ++ n.controller.state ∷ []))) (sym w.2.1)
-    ∙ ap (λ (d : Prompting _ _). Some (states ++ (states_prompted plan s.unit w.0.came ++ d.controller.state ∷ []))) (sym c.in_err-listen.ensures.unchanged)
+    ∙ ap (λ (came : List Arrival). Some (states ++ (states_prompted plan s.unit came ++ n.controller.state ∷ [])))
+    (sym w.2.1)
+    ∙ ap (λ (d : Prompting _ _). Some (states ++ (states_prompted plan s.unit w.0.came ++ d.controller.state ∷ [])))
+    (sym c.in_err-listen.ensures.unchanged)
     ∙ ap (λ (l : List State). Some (states ++ l)) (sym b.2.1) in
     on_err_of c.from_residual-in_err-listen.result (b.0, b.1, (b.2.0, more))
 
@@ -109,17 +128,20 @@ returns-in-Closed-clause-leaves g c =
     record {
       run = λ is.
           let h = inv.runs is in
-          let w = sent_so items told s l n h.0 c.in_ok-send.field-0 inv.controller inv.unit h.1 h.2.0 o.sends o.ticks o.keeps in
+          let w = sent_so items told s l n h.0 c.in_ok-send.field-0 inv.controller inv.unit h.1 h.2.0 o.sends o.ticks
+          o.keeps in
           let r = out_so items told s n m w.0 e.0 same united w.1 w.2.0 e.3 e.4 in
           (r.0, r.1, r.2.0);
       broken = λ _ _. tt;
       ended = grind (arith, common_steps);
       answers = λ t is.
           let h = inv.listened t is in
-          let u = closed_on c.listens.made c.args.listens t h.0 l.unit (given (plan_of items l.controller) l.controller.state) c.in_ok-send.field-0 e.0
+          let u = closed_on c.listens.made c.args.listens t h.0 l.unit
+          (given (plan_of items l.controller) l.controller.state) c.in_ok-send.field-0 e.0
           (told l.wire) (told n.wire) (told m.wire) h.1 h.2 (omega arith) o.sends closed e.2 e.4 in
           (u.0, u.1, rw c.unless_ended.ensures (closes_to _ c.args.listens t.came u.0.came u.2.0 u.2.1));
-      reached = goes_further plan _ _ _ _ (ap (plan_of items) o.controller ∙ planned) (goes_further plan _ _ _ _ planned inv.reached o.reached)
+      reached = goes_further plan _ _ _ _ (ap (plan_of items) o.controller ∙ planned)
+          (goes_further plan _ _ _ _ planned inv.reached o.reached)
           i.reached;
       controller = i.controller ∙ ap (λ (v : View _). record v { state = m.controller.state }) same;
       unit = i.unit ∙ united;
@@ -138,17 +160,20 @@ returns-in-Closed-clause-watched g c is states was =
     let inv = c.listens.invariant in
     let h = inv.runs is in
     let o = c.in_ok-send.ensures in
-    let w = sent_so items told s c.listens.self n h.0 c.in_ok-send.field-0 inv.controller inv.unit h.1 h.2.0 o.sends o.ticks o.keeps in
+    let w = sent_so items told s c.listens.self n h.0 c.in_ok-send.field-0 inv.controller inv.unit h.1 h.2.0 o.sends
+    o.ticks o.keeps in
     let same : n.controller ≡ record s.controller { state = n.controller.state } =
     o.controller ∙ ap (λ (v : View _). record v { state = n.controller.state }) inv.controller in
     let united : n.unit ≡ s.unit = ap (λ (d : Prompting _ _). d.unit) o.keeps ∙ inv.unit in
     let e = c.in_ok-listen.ensures.hears in
     let r = out_so items told s n m w.0 e.0 same united w.1 w.2.0 e.3 e.4 in
     let watched = g.V.Watch.watched in
-    let looked = c.look.ensures ∙ ap (λ (d : Prompting _ _). adds_watched d.controller.state (watched c.listens.watcher)) c.self-in-listens.view_is in (
+    let looked = c.look.ensures ∙ ap (λ (d : Prompting _ _). adds_watched d.controller.state
+    (watched c.listens.watcher)) c.self-in-listens.view_is in (
       r.0,
       r.1,
-      watches_on (plan_of items s.controller) s.unit h.0.came w.0.came r.0.came e.0 states n.controller.state (watched c.listens.watcher) (watched
+      watches_on (plan_of items s.controller) s.unit h.0.came w.0.came r.0.came e.0 states n.controller.state
+          (watched c.listens.watcher) (watched
           c.look.new.self) (h.2.1 states was) w.2.1 w.2.0.shows.state_is looked r.2.1,
     )
 
@@ -159,20 +184,26 @@ listens-preserved g c = record {
   controller = c.in_ok-listen.ensures.controller
       ∙ ap (λ (v : View _). record v { state = c.listen.new.self.controller.state }) c.in_ok-send.ensures.controller
       ∙ ap (λ (v : View _). record v { state = c.listen.new.self.controller.state }) c.listens.invariant.controller;
-  unit = c.in_ok-listen.ensures.unit ∙ ap (λ (d : Prompting _ _). d.unit) c.in_ok-send.ensures.keeps ∙ c.listens.invariant.unit;
+  unit = c.in_ok-listen.ensures.unit ∙ ap (λ (d : Prompting _ _). d.unit) c.in_ok-send.ensures.keeps
+      ∙ c.listens.invariant.unit;
   reached =
       let plan : Plan = plan_of g.S.Source.items c.args.self.now.controller in
-      let planned : plan_of g.S.Source.items c.listens.self.controller ≡ plan = ap (plan_of g.S.Source.items) c.listens.invariant.controller in
-      let replanned : plan_of g.S.Source.items c.send.new.self.controller ≡ plan = ap (plan_of g.S.Source.items) c.in_ok-send.ensures.controller ∙ planned in
-      goes_further plan _ _ _ _ replanned (goes_further plan _ _ _ _ planned c.listens.invariant.reached c.in_ok-send.ensures.reached)
+      let planned : plan_of g.S.Source.items c.listens.self.controller ≡ plan =
+      ap (plan_of g.S.Source.items) c.listens.invariant.controller in
+      let replanned : plan_of g.S.Source.items c.send.new.self.controller ≡ plan =
+      ap (plan_of g.S.Source.items) c.in_ok-send.ensures.controller ∙ planned in
+      goes_further plan _ _ _ _ replanned (goes_further plan _ _ _ _ planned c.listens.invariant.reached
+      c.in_ok-send.ensures.reached)
       c.in_ok-listen.ensures.reached;
   listened = λ t is.
       let told = g.W.Wire.told in
       let l = c.listens.self in
       let h = c.listens.invariant.listened t is in
       let e = c.in_ok-listen.ensures.hears in
-      listened_on c.listens.made t h.0 l.unit (given (plan_of g.S.Source.items l.controller) l.controller.state) c.in_ok-send.field-0 e.0 (told l.wire)
-      (told c.send.new.self.wire) (told c.listen.new.self.wire) h.1 h.2 c.in_ok-send.ensures.sends (λ x. c.in_default.not-Closed (e.1 ∙ x)) e.2 e.4;
+      listened_on c.listens.made t h.0 l.unit (given (plan_of g.S.Source.items l.controller) l.controller.state)
+      c.in_ok-send.field-0 e.0 (told l.wire)
+      (told c.send.new.self.wire) (told c.listen.new.self.wire) h.1 h.2 c.in_ok-send.ensures.sends
+      (λ x. c.in_default.not-Closed (e.1 ∙ x)) e.2 e.4;
   runs = λ is.
       let items = g.S.Source.items in
       let told = g.W.Wire.told in
@@ -182,19 +213,22 @@ listens-preserved g c = record {
       let inv = c.listens.invariant in
       let h = inv.runs is in
       let o = c.in_ok-send.ensures in
-      let w = sent_so items told s c.listens.self n h.0 c.in_ok-send.field-0 inv.controller inv.unit h.1 h.2.0 o.sends o.ticks o.keeps in
+      let w = sent_so items told s c.listens.self n h.0 c.in_ok-send.field-0 inv.controller inv.unit h.1 h.2.0 o.sends
+      o.ticks o.keeps in
       let same : n.controller ≡ record s.controller { state = n.controller.state } =
       o.controller ∙ ap (λ (v : View _). record v { state = n.controller.state }) inv.controller in
       let united : n.unit ≡ s.unit = ap (λ (d : Prompting _ _). d.unit) o.keeps ∙ inv.unit in
       let e = c.in_ok-listen.ensures.hears in
       let watched = g.V.Watch.watched in
-      let looked = c.look.ensures ∙ ap (λ (d : Prompting _ _). adds_watched d.controller.state (watched c.listens.watcher)) c.self-in-listens.view_is in
+      let looked = c.look.ensures ∙ ap (λ (d : Prompting _ _). adds_watched d.controller.state
+      (watched c.listens.watcher)) c.self-in-listens.view_is in
       let r = on_so items told s n m w.0 e.0 same united w.1 w.2.0 (λ x. c.in_default.not-Closed (e.1 ∙ x)) e.3 e.4 in (
         r.0,
         r.1,
         (
           r.2.0,
-          λ states was. watches_on (plan_of items s.controller) s.unit h.0.came w.0.came r.0.came e.0 states n.controller.state (watched c.listens.watcher)
+          λ states was. watches_on (plan_of items s.controller) s.unit h.0.came w.0.came r.0.came e.0 states
+              n.controller.state (watched c.listens.watcher)
               (watched c.look.new.self) (h.2.1 states was) w.2.1 w.2.0.shows.state_is looked r.2.1,
         ),
       );

@@ -17,12 +17,16 @@ invariant-listens g l =
       works : g.W.Wire.failures l.self.wire ≡ 0;
       controller : l.self.controller ≡ record l.fn.self.controller { state = l.self.controller.state };
       unit : l.self.unit ≡ l.fn.self.unit;
-      reached : IsReachedFrom (plan_of g.S.Source.items l.fn.self.controller) l.fn.self.controller.state l.self.controller.state;
-      listened : (t : Told) → told l.fn.self.wire ≡ Some t → IfTold (told l.self.wire) (λ u. AllListened l.made t.came u.came);
+      reached : IsReachedFrom (plan_of g.S.Source.items l.fn.self.controller) l.fn.self.controller.state
+          l.self.controller.state;
+      listened : (t : Told) → told l.fn.self.wire ≡ Some t
+          → IfTold (told l.self.wire) (λ u. AllListened l.made t.came u.came);
       runs : IsNewPrompt told l.fn.self →
-          IfTold (told l.self.wire) (λ u. RunsPrompt (plan_of g.S.Source.items l.fn.self.controller) l.fn.self.unit u l.self.controller.state l.self.reader
+          IfTold (told l.self.wire) (λ u. RunsPrompt (plan_of g.S.Source.items l.fn.self.controller) l.fn.self.unit u
+          l.self.controller.state l.self.reader
           l.self.passed × ((states : List State) → g.V.Watch.watched l.fn.watcher ≡ Some states
-          → WatchesPrompt (plan_of g.S.Source.items l.fn.self.controller) l.fn.self.unit u.came states (g.V.Watch.watched l.watcher)));
+          → WatchesPrompt (plan_of g.S.Source.items l.fn.self.controller) l.fn.self.unit u.came states
+          (g.V.Watch.watched l.watcher)));
     }
 
 abbrev pub decreases-listens : goal.decreases-listens

@@ -13,11 +13,15 @@ invariant-turns g l =
     record {
       within : l.made ≤ l.turns;
       works : g.W.Wire.failures l.self.wire ≡ 0;
-      served : (start : ClockedPort) (t : Told) → told l.fn.self.wire ≡ Some t → IsServed start t l.fn.self.port l.fn.self.reader →
+      served : (start : ClockedPort) (t : Told) → told l.fn.self.wire ≡ Some t
+          → IsServed start t l.fn.self.port l.fn.self.reader →
           IfTold (told l.self.wire) (λ u. IsServed start u l.self.port l.self.reader);
-      watched : (start : ClockedPort) (t : Told) (items : List Item) → told l.fn.self.wire ≡ Some t → IsServed start t l.fn.self.port l.fn.self.reader
-          → g.V.WatchAir.watched l.fn.watcher ≡ Some items → IfTold (told l.self.wire) (λ u. HasWatched start t u items (g.V.WatchAir.watched l.watcher));
-      listened : (t : Told) → told l.fn.self.wire ≡ Some t → IfTold (told l.self.wire) (λ u. AllListened l.made t.came u.came × (u.drops ≡ t.drops));
+      watched : (start : ClockedPort) (t : Told) (items : List Item) → told l.fn.self.wire ≡ Some t
+          → IsServed start t l.fn.self.port l.fn.self.reader
+          → g.V.WatchAir.watched l.fn.watcher ≡ Some items
+          → IfTold (told l.self.wire) (λ u. HasWatched start t u items (g.V.WatchAir.watched l.watcher));
+      listened : (t : Told) → told l.fn.self.wire ≡ Some t
+          → IfTold (told l.self.wire) (λ u. AllListened l.made t.came u.came × (u.drops ≡ t.drops));
     }
 
 abbrev pub decreases-turns : goal.decreases-turns

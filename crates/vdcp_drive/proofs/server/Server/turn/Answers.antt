@@ -30,13 +30,20 @@ returns-in-Ok-clause-served g c start t is h =
             c.what_is_followed_is_read.ensures.messages;
         further = c.what_is_followed_is_read.ensures.further;
       };
-      ends = record { sent = c.a_burst_is_answered_as_it_ended.ensures.sent; one = c.one_answer_to_the_end.ensures; unit = c.the_unit_stays.ensures.messages };
+      ends = record {
+        sent = c.a_burst_is_answered_as_it_ended.ensures.sent;
+        one =
+            c.one_answer_to_the_end.ensures;
+        unit = c.the_unit_stays.ensures.messages;
+      };
     } in
     let s = c.self.inside in
-    let inside : IsServed start t s.port s.reader = subst (λ (v : Serving _). IsServed start t v.port v.reader) (sym c.self.view_is) h in
+    let inside : IsServed start t s.port s.reader =
+    subst (λ (v : Serving _). IsServed start t v.port v.reader) (sym c.self.view_is) h in
     let tells : told s.wire ≡ Some t = ap (λ (v : Serving _). told v.wire) c.self.view_is ∙ is in
     let e = c.in-Ok.ensures.serves in
-    one_more below start e.0 t (told s.wire) s.port s.reader c.hear.new.port c.hear.new.reader c.hear.new.aired (told c.hear.new.wire) tells e.2 inside e.3
+    one_more below start e.0 t (told s.wire) s.port s.reader c.hear.new.port c.hear.new.reader c.hear.new.aired
+    (told c.hear.new.wire) tells e.2 inside e.3
 
 pub returns-in-Ok-clause-drops : goal.returns-in-Ok-clause-drops
 returns-in-Ok-clause-drops g c t is =
@@ -44,7 +51,8 @@ returns-in-Ok-clause-drops g c t is =
     let s = c.self.inside in
     let tells : told s.wire ≡ Some t = ap (λ (v : Serving _). told v.wire) c.self.view_is ∙ is in
     let e = c.in-Ok.ensures.serves in
-    keeps_drops e.0 t (told s.wire) s.port s.reader c.hear.new.port c.hear.new.reader c.hear.new.aired (told c.hear.new.wire) tells e.3
+    keeps_drops e.0 t (told s.wire) s.port s.reader c.hear.new.port c.hear.new.reader c.hear.new.aired
+    (told c.hear.new.wire) tells e.3
 
 pub returns-in-Err-clause-broken_off : goal.returns-in-Err-clause-broken_off
 returns-in-Err-clause-broken_off g c start t is h works =
@@ -65,14 +73,21 @@ returns-in-Err-clause-broken_off g c start t is h works =
             c.what_is_followed_is_read.ensures.messages;
         further = c.what_is_followed_is_read.ensures.further;
       };
-      ends = record { sent = c.a_burst_is_answered_as_it_ended.ensures.sent; one = c.one_answer_to_the_end.ensures; unit = c.the_unit_stays.ensures.messages };
+      ends = record {
+        sent = c.a_burst_is_answered_as_it_ended.ensures.sent;
+        one =
+            c.one_answer_to_the_end.ensures;
+        unit = c.the_unit_stays.ensures.messages;
+      };
     } in
     let s = c.self.inside in
-    let inside : IsServed start t s.port s.reader = subst (λ (v : Serving _). IsServed start t v.port v.reader) (sym c.self.view_is) h in
+    let inside : IsServed start t s.port s.reader =
+    subst (λ (v : Serving _). IsServed start t v.port v.reader) (sym c.self.view_is) h in
     let tells : told s.wire ≡ Some t = ap (λ (v : Serving _). told v.wire) c.self.view_is ∙ is in
     let b = either
     (λ e. none_broken start t (told s.wire) (told c.hear.new.wire) s.port c.hear.new.port s.reader tells inside e.0 e.1)
-    (λ e. one_broken below start e.0 t (told s.wire) s.port s.reader c.hear.new.port c.hear.new.aired (told c.hear.new.wire) tells e.1 inside e.2)
+    (λ e. one_broken below start e.0 t (told s.wire) s.port s.reader c.hear.new.port c.hear.new.aired
+    (told c.hear.new.wire) tells e.1 inside e.2)
     c.in-Err.ensures.breaks in
     (b.0, b.1, (b.2, broken_front below.order below.alone below.ends.unit start b.0 c.hear.new.port b.2))
 
@@ -83,7 +98,8 @@ returns-in-Err-clause-drops g c t is =
     let tells : told s.wire ≡ Some t = ap (λ (v : Serving _). told v.wire) c.self.view_is ∙ is in
     either
     (λ e. (t, e.0 ∙ tells, refl))
-    (λ e. broken_drops e.0 t (told s.wire) s.port s.reader c.hear.new.port c.hear.new.aired (told c.hear.new.wire) tells e.2)
+    (λ e. broken_drops e.0 t (told s.wire) s.port s.reader c.hear.new.port c.hear.new.aired (told c.hear.new.wire) tells
+    e.2)
     c.in-Err.ensures.breaks
 
 pub returns-in-Ok-clause-airs : goal.returns-in-Ok-clause-airs
@@ -102,10 +118,12 @@ returns-in-Ok-clause-airs g c start t is h =
     } in
     let law : OneItem = record { one = c.a_burst_airs_at_most_the_cued_item.ensures } in
     let s = c.self.inside in
-    let inside : IsServed start t s.port s.reader = subst (λ (v : Serving _). IsServed start t v.port v.reader) (sym c.self.view_is) h in
+    let inside : IsServed start t s.port s.reader =
+    subst (λ (v : Serving _). IsServed start t v.port v.reader) (sym c.self.view_is) h in
     let tells : told s.wire ≡ Some t = ap (λ (v : Serving _). told v.wire) c.self.view_is ∙ is in
     let e = c.in-Ok.ensures.serves in
-    airs_more order read law start e.0 t (told s.wire) s.port s.reader c.hear.new.port c.hear.new.reader c.hear.new.aired (told c.hear.new.wire) tells e.2
+    airs_more order read law start e.0 t (told s.wire) s.port s.reader c.hear.new.port c.hear.new.reader
+    c.hear.new.aired (told c.hear.new.wire) tells e.2
     inside e.3
 
 pub returns-in-Err-clause-airs_first : goal.returns-in-Err-clause-airs_first
@@ -124,9 +142,11 @@ returns-in-Err-clause-airs_first g c start t is h works =
     } in
     let law : OneItem = record { one = c.a_burst_airs_at_most_the_cued_item.ensures } in
     let s = c.self.inside in
-    let inside : IsServed start t s.port s.reader = subst (λ (v : Serving _). IsServed start t v.port v.reader) (sym c.self.view_is) h in
+    let inside : IsServed start t s.port s.reader =
+    subst (λ (v : Serving _). IsServed start t v.port v.reader) (sym c.self.view_is) h in
     let tells : told s.wire ≡ Some t = ap (λ (v : Serving _). told v.wire) c.self.view_is ∙ is in
     either
     (λ e. none_aired start t (told s.wire) (told c.hear.new.wire) c.hear.new.aired tells e.0 e.2)
-    (λ e. airs_first order read law start e.0 t (told s.wire) s.port s.reader c.hear.new.port c.hear.new.aired (told c.hear.new.wire) tells e.1 inside e.2)
+    (λ e. airs_first order read law start e.0 t (told s.wire) s.port s.reader c.hear.new.port c.hear.new.aired
+    (told c.hear.new.wire) tells e.1 inside e.2)
     c.in-Err.ensures.breaks

@@ -1,4 +1,5 @@
 use Rattle.vdcp_world.proofs.world.World.aired.Goals as goal
 
 pub returns-clause-beginning : goal.returns-clause-beginning
-returns-clause-beginning g c = rw (← c.self.view_is, c.aired.ensures) (c.reached_keeps_the_headline.ensures _ c.self.invariant).beginning
+returns-clause-beginning g c =
+    rw (← c.self.view_is, c.aired.ensures) (c.reached_keeps_the_headline.ensures _ c.self.invariant).beginning

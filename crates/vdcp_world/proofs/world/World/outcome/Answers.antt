@@ -4,7 +4,8 @@ use Rattle.vdcp_world.proofs.HeadlineProof.{never}
 use Rattle.vdcp_world.proofs.world.World.outcome.Goals as goal
 
 pub returns-clause-means : goal.returns-clause-means
-returns-clause-means g c = rw (← c.self.view_is, c.outcome.ensures) (c.reached_keeps_the_headline.ensures _ c.self.invariant).ended
+returns-clause-means g c =
+    rw (← c.self.view_is, c.outcome.ensures) (c.reached_keeps_the_headline.ensures _ c.self.invariant).ended
 
 pub returns-clause-not_denied : goal.returns-clause-not_denied
 returns-clause-not_denied g c = λ is.

@@ -3,13 +3,16 @@ use Rattle.vdcp_world.proofs.world.World.step.Goals as goal
 
 pub invariant_of-self : goal.invariant_of-self
 invariant_of-self g c =
-    after_step c.step.result c.self.inside.link c.step.new.self c.args.event.now c.step.ensures.step c.step.ensures.refused c.self.invariant
+    after_step c.step.result c.self.inside.link c.step.new.self c.args.event.now c.step.ensures.step
+    c.step.ensures.refused c.self.invariant
 
 pub returns-clause-make : goal.returns-clause-make
 returns-clause-make g c =
-    rw (← c.self.view_is) (make_after_step c.step.result c.self.inside.link c.step.new.self c.args.event.now c.step.ensures.step c.step.ensures.refused)
+    rw (← c.self.view_is) (make_after_step c.step.result c.self.inside.link c.step.new.self c.args.event.now
+    c.step.ensures.step c.step.ensures.refused)
 
 pub returns-clause-headline : goal.returns-clause-headline
 returns-clause-headline g c =
     c.reached_keeps_the_headline.ensures c.step.new.self
-    (after_step c.step.result c.self.inside.link c.step.new.self c.args.event.now c.step.ensures.step c.step.ensures.refused c.self.invariant)
+    (after_step c.step.result c.self.inside.link c.step.new.self c.args.event.now c.step.ensures.step
+    c.step.ensures.refused c.self.invariant)
