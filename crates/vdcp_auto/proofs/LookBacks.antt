@@ -83,6 +83,27 @@ settled-push mode log e =
     ∙ ap (λ b. settled mode log + cond {A = ℕ} b 1 0) (ap p (omega arith) ∙ settles_at_end mode log e
     ∙ settles_is mode log e)
 
+-- the same in the words of specs/
+
+opens_is : (p s m answered opened : Bool) → (if p then not answered else (if s || m then false else opened))
+    ≡ (if p || s || m then p && not answered else opened)
+opens_is p s m answered opened = grind arith
+
+pub open_grows : (log : List Exchange) (e : Exchange) → has_open_play (log ++ e ∷ [])
+    ≡ (if tells_of_play e then is_play e && not (is_answered e) else has_open_play log)
+open_grows log e = has_open_play-push log e
+    ∙ opens_is (is_play e) (is_stop e) (is_empty_status e) (is_answered e) (has_open_play log)
+
+one_if : (n : ℕ) (b : Bool) → n + cond b 1 0 ≡ (if b then n + 1 else n)
+one_if n true = refl
+one_if n false = omega arith
+
+pub settled_grows : (mode : Mode) (log : List Exchange) (e : Exchange) → settled mode (log ++ e ∷ [])
+    ≡ (if settles mode log e then settled mode log + 1 else settled mode log)
+settled_grows mode log e = settled-push mode log e
+    ∙ ap (λ b. settled mode log + cond {A = ℕ} b 1 0) (sym (settles_is mode log e))
+    ∙ one_if (settled mode log) (settles mode log e)
+
 pub settled_stays : (mode : Mode) (log : List Exchange) (opened : Bool) (e : Exchange) → has_open_play log ≡ opened
     → settles_now mode opened e ≡ false
     → settled mode (log ++ e ∷ []) ≡ settled mode log

@@ -1,0 +1,4 @@
+mod Commands
+mod Logs
+mod Cues
+mod Judged

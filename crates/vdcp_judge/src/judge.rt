@@ -1,0 +1,290 @@
+ghost use Rattle.std.specs.Prelude.{◌≡◌, ◌↔◌, ◌+◌, ◌<◌, ◌^◌, ◌||◌, ◌&&◌, not, if◌then◌else◌, false, IsTrue, List, [], ◌∷◌, ◌++◌, length};
+ghost use Rattle.vdcp_auto.specs.Commands.{is_close_command, is_stop_command};
+ghost use Rattle.vdcp_auto.specs.declared.exchange.Exchange.{Exchange};
+ghost use Rattle.vdcp_auto.specs.declared.phase.Mode.TheVariants.{Plain, Confirming};
+ghost use Rattle.vdcp_auto.specs.Log.{is_done_status, is_play};
+ghost use Rattle.vdcp_auto.specs.RuleBook.{CuesItemAt, IsTaken, May, MayPlay, Rule};
+ghost use Rattle.vdcp_auto.specs.Settled.{has_open_play, settled, settles};
+ghost use Rattle.vdcp_judge.specs.Judging.{CueStands, Knows, is_done, mode_of, stands};
+
+use crate::meaning::{
+    cue_of, is_acked, is_answered_play, is_close, is_cue, is_done_status, is_empty_status,
+    is_grant, is_play, is_stop,
+};
+use std::marker::Model;
+use vdcp_auto::laws::a_log_grows;
+use vdcp_auto::{Exchange, Source};
+use vdcp_frame::laws::a_spelling_is_its_message;
+use vdcp_words::Command;
+use vdcp_words::laws::{command_is_read_first, written_command_is_read};
+
+/// What the last cue of a log is good for.
+#[derive(Clone, Copy)]
+pub enum LastCue {
+    /// Nothing: none was sent, it isn't the next item's, it wasn't taken, or something has settled since.
+    Void,
+    /// It is the next item's, it was taken, and nothing has settled since.
+    Stands,
+    /// It stands, and a done status has come since with no PLAY after it.
+    Done,
+}
+
+/// Holds an automation's exchanges against the rule book, one after another.
+///
+/// - `allows`, `settled` and `has_open_play` only look.
+/// - `add` takes the exchange that ended.
+///
+/// A clause about the log is of whatever log the judge was given, exchange by exchange, from its first one on.
+#[derive(Drop)]
+pub struct Judge<S: Source> {
+    source: S,
+    confirming: bool,
+    settled: usize,
+    has_open_play: bool,
+    stopped: bool,
+    closed: bool,
+    granted: bool,
+    last_cue: LastCue,
+}
+
+impl<S: Source> Model for Judge<S> {
+    ghost use Rattle.vdcp_judge.specs.Judging.{View, mode_of};
+
+    ghost Value = { View S };
+
+    ghost view = { λ j. record {
+      source = j.source;
+      mode = mode_of j.confirming;
+      settled = j.settled;
+      has_open_play = j.has_open_play;
+      stopped = j.stopped;
+      closed = j.closed;
+      granted = j.granted;
+      last_cue = j.last_cue;
+    } };
+}
+
+impl<S: Source> Judge<S> {
+    /// A judge of an automation that plays this list in plain mode. Its log is empty.
+    pub fn new(source: S) -> Self
+        ensures source { result.source ≡ source }
+        ensures mode { result.mode ≡ Plain }
+        ensures knows { Knows S.items [] result }
+    {
+        Self::begun(source, false)
+    }
+
+    /// A judge of an automation that plays this list in confirm mode. Its log is empty.
+    pub fn confirming(source: S) -> Self
+        ensures source { result.source ≡ source }
+        ensures mode { result.mode ≡ Confirming }
+        ensures knows { Knows S.items [] result }
+    {
+        Self::begun(source, true)
+    }
+}
+
+impl<S: Source> Judge<S> {
+    fn begun(source: S, confirming: bool) -> Self
+        ensures source { result.source ≡ source }
+        ensures mode { result.mode ≡ mode_of confirming }
+        ensures knows { Knows S.items [] result }
+    {
+        Judge {
+            source,
+            confirming,
+            settled: 0,
+            has_open_play: false,
+            stopped: false,
+            closed: false,
+            granted: false,
+            last_cue: LastCue::Void,
+        }
+    }
+
+    /// How many events the log settles.
+    pub fn settled(&self) -> usize
+        ensures kept { result ≡ self.now.settled }
+        ensures settled { (log : List Exchange) → Knows S.items log self.now → result ≡ settled self.now.mode log }
+    {
+        let Self { settled, .. } = self;
+        *settled
+    }
+
+    /// Whether a PLAY is open: of all PLAYs, STOPs and empty statuses of the log, the last is a PLAY without an
+    /// answer.
+    pub fn has_open_play(&self) -> bool
+        ensures kept { result ≡ self.now.has_open_play }
+        ensures open { (log : List Exchange) → Knows S.items log self.now → result ≡ has_open_play log }
+    {
+        let Self { has_open_play, .. } = self;
+        *has_open_play
+    }
+
+    /// Whether the rule book lets the command follow the log.
+    pub fn allows(&self, command: &Command) -> bool
+        ensures { (log : List Exchange) → Knows S.items log self.now →
+            (IsTrue result ↔ May self.now.mode (S.items self.now.source) log command.now) }
+    {
+        self.keeps_rule(command) && self.goes_on(command)
+    }
+
+    /// Adds an exchange to the log, after those that it has, fewer than 2^64 - 1.
+    pub fn add(&mut self, exchange: &Exchange)
+        ensures source { self.new.source ≡ self.old.source }
+        ensures mode { self.new.mode ≡ self.old.mode }
+        ensures knows { (log : List Exchange) → length log + 1 < 2 ^ 64 → Knows S.items log self.old →
+            Knows S.items (log ++ exchange.now ∷ []) self.new }
+    {
+        a_log_grows();
+        let has_settled = self.settles(exchange);
+        let last_cue = self.cue_after(exchange, has_settled);
+        let has_open_play = self.has_open_play_after(exchange);
+        let settled = self.settled_after(has_settled);
+        self.last_cue = last_cue;
+        self.has_open_play = has_open_play;
+        self.settled = settled;
+        self.stopped |= is_stop(exchange);
+        self.closed |= is_close(exchange);
+        self.granted |= is_grant(exchange);
+    }
+
+    /// The rule of the command holds.
+    fn keeps_rule(&self, command: &Command) -> bool
+        ensures { (log : List Exchange) → Knows S.items log self.now →
+            (IsTrue result ↔ Rule self.now.mode (S.items self.now.source) log command.now) }
+    {
+        match command {
+            Command::PlayCue(_) | Command::CueData(_, _, _) => {
+                !self.has_open_play && self.cues_next(command)
+            }
+            Command::Play => matches!(self.last_cue, LastCue::Done),
+            Command::Select(_) => self.granted,
+            Command::Close(_) => self.stopped || self.has_settled_all(),
+            Command::Stop
+            | Command::Open(_, _)
+            | Command::Status(_)
+            | Command::ActiveId
+            | Command::IdRequest(_)
+            | Command::IdSize(_) => true,
+        }
+    }
+
+    /// No STOP or CLOSE keeps the command back.
+    fn goes_on(&self, command: &Command) -> bool
+        ensures { result ≡ ((not self.now.stopped || (is_stop_command command.now || is_close_command command.now))
+            && (not self.now.closed || is_close_command command.now)) }
+    {
+        match command {
+            Command::Close(_) => true,
+            Command::Stop => !self.closed,
+            _ => !self.stopped && !self.closed,
+        }
+    }
+
+    /// Every event is settled, and no PLAY is open.
+    fn has_settled_all(&self) -> bool
+        ensures { IsTrue result ↔
+            ((self.now.settled ≡ length (S.items self.now.source)) × (self.now.has_open_play ≡ false)) }
+    {
+        self.settled == self.source.len() && !self.has_open_play
+    }
+
+    /// The command cues the first event that isn't settled.
+    fn cues_next(&self, command: &Command) -> bool
+        ensures { IsTrue result ↔ CuesItemAt (S.items self.now.source) self.now.settled command.now }
+    {
+        self.settled < self.source.len() && is_same(command, &cue_of(&self.source.at(self.settled)))
+    }
+
+    /// The exchange settles one more event.
+    fn settles(&self, exchange: &Exchange) -> bool
+        ensures { (log : List Exchange) → Knows S.items log self.now →
+            result ≡ settles self.now.mode log exchange.now }
+    {
+        is_empty_status(exchange) && self.has_open_play
+            || !self.confirming && is_play(exchange) && is_acked(exchange)
+    }
+
+    fn has_open_play_after(&self, exchange: &Exchange) -> bool
+        ensures { (log : List Exchange) → Knows S.items log self.now →
+            result ≡ has_open_play (log ++ exchange.now ∷ []) }
+    {
+        a_log_grows();
+        if is_play(exchange) {
+            !is_answered_play(exchange)
+        } else {
+            self.has_open_play && !is_stop(exchange) && !is_empty_status(exchange)
+        }
+    }
+
+    /// What the last cue is good for once the exchange has ended, which settles an event or doesn't.
+    fn cue_after(&self, exchange: &Exchange, has_settled: bool) -> LastCue
+        ensures stands { (log : List Exchange) → Knows S.items log self.now →
+            has_settled ≡ settles self.now.mode log exchange.now →
+            (IsTrue (stands result)
+            ↔ CueStands self.now.mode (S.items self.now.source) (log ++ exchange.now ∷ [])) }
+        ensures done { (log : List Exchange) → Knows S.items log self.now →
+            has_settled ≡ settles self.now.mode log exchange.now →
+            (IsTrue (is_done result) ↔ MayPlay self.now.mode (S.items self.now.source) (log ++ exchange.now ∷ [])) }
+    {
+        a_log_grows();
+        if has_settled {
+            return LastCue::Void;
+        }
+        if is_cue(exchange) {
+            return self.new_cue(exchange);
+        }
+        self.kept_cue(exchange)
+    }
+
+    /// What the last cue is good for after an exchange that is no cue and settles nothing.
+    fn kept_cue(&self, exchange: &Exchange) -> LastCue
+        ensures stands { stands result ≡ stands self.now.last_cue }
+        ensures done { is_done result ≡ (stands self.now.last_cue
+            && (is_done_status exchange.now || is_done self.now.last_cue && not (is_play exchange.now))) }
+    {
+        match self.last_cue {
+            LastCue::Void => LastCue::Void,
+            LastCue::Stands | LastCue::Done if is_done_status(exchange) => LastCue::Done,
+            LastCue::Done if !is_play(exchange) => LastCue::Done,
+            LastCue::Stands | LastCue::Done => LastCue::Stands,
+        }
+    }
+
+    /// One more than the count, if one more has settled. It stops at the largest number.
+    fn settled_after(&self, has_settled: bool) -> usize
+        ensures { self.now.settled + 1 < 2 ^ 64 →
+            result ≡ (if has_settled then self.now.settled + 1 else self.now.settled) }
+    {
+        if has_settled {
+            self.settled.saturating_add(1)
+        } else {
+            self.settled
+        }
+    }
+
+    /// What a cue is good for that was just sent.
+    fn new_cue(&self, exchange: &Exchange) -> LastCue
+        ensures stands { IsTrue (stands result)
+            ↔ (CuesItemAt (S.items self.now.source) self.now.settled exchange.now.command
+            × IsTaken self.now.mode exchange.now) }
+        ensures waits { is_done result ≡ false }
+    {
+        if self.cues_next(&exchange.command) && (self.confirming || is_acked(exchange)) {
+            LastCue::Stands
+        } else {
+            LastCue::Void
+        }
+    }
+}
+
+/// Commands are compared by their bytes: these are of one command.
+fn is_same(a: &Command, b: &Command) -> bool
+    ensures { IsTrue result ↔ (a.now ≡ b.now) }
+{
+    command_is_read_first();
+    a_spelling_is_its_message();
+    written_command_is_read();
+    a.encode(0).as_slice() == b.encode(0).as_slice()
+}

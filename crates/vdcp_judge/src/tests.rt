@@ -1,0 +1,265 @@
+//! The rule book on small logs, in both modes.
+ghost use Rattle.std.specs.Prelude.{None, Some, [], ◌∷◌};
+ghost use Rattle.std.proofs.Common.{rules};
+ghost use Rattle.std.proofs.lemmas.Grind.{common_steps};
+
+use crate::Judge;
+use std::process::Abort;
+use vdcp_auto::{Exchange, Heard, Source};
+use vdcp_value::{ClipId, Item, Part};
+use vdcp_words::{Command, Reply};
+
+const START: [u8; 4] = [0x00, 0x08, 0x00, 0x00];
+
+const DURATION: [u8; 4] = [0x00, 0x03, 0x00, 0x00];
+
+/// A clip, and a part of another.
+#[derive(Clone, Copy, Drop)]
+struct Clips {
+    first: ClipId,
+    second: ClipId,
+}
+
+impl Clips {
+    fn new() -> Clips {
+        Clips {
+            first: ClipId::new(*b"CLIP0001"),
+            second: ClipId::new(*b"CLIP0002"),
+        }
+    }
+
+    fn cue_first(&self) -> Command {
+        Command::PlayCue(self.first)
+    }
+
+    fn cue_second(&self) -> Command {
+        Command::CueData(self.second, START, DURATION)
+    }
+}
+
+impl Source for Clips {
+    ghost items = { λ c. record { id = c.first; part = None } ∷ record {
+      id = c.second;
+      part = Some (record { start = 0 ∷ 8 ∷ 0 ∷ 0 ∷ []; duration = 0 ∷ 3 ∷ 0 ∷ 0 ∷ [] });
+    } ∷ [] };
+
+    ghost countable = { Prim.search (rules, common_steps) };
+
+    ghost of_bytes = { Prim.search (rules, common_steps) };
+
+    fn len(&self) -> usize {
+        2
+    }
+
+    fn at(&self, k: usize) -> Item {
+        if k == 0 {
+            Item {
+                id: self.first,
+                part: None,
+            }
+        } else {
+            let part = Part {
+                start: START,
+                duration: DURATION,
+            };
+            Item {
+                id: self.second,
+                part: Some(part),
+            }
+        }
+    }
+}
+
+/// A log, the command that comes next, and for plain and for confirm mode whether that is allowed and how many
+/// events are settled.
+#[derive(Clone, Copy)]
+struct Case<'a> {
+    log: &'a [Exchange],
+    next: Command,
+    plain: (bool, usize),
+    confirming: (bool, usize),
+}
+
+fn heard(command: Command, reply: Reply) -> Exchange {
+    Exchange {
+        command,
+        heard: Some(Heard::Reply(reply)),
+    }
+}
+
+fn silent(command: Command) -> Exchange {
+    Exchange {
+        command,
+        heard: None,
+    }
+}
+
+fn status(byte: u8) -> Exchange {
+    heard(Command::Status(1), Reply::State(1, Some(byte)))
+}
+
+fn check_in(rt: &impl Abort, mut judge: Judge<Clips>, case: &Case, wanted: (bool, usize)) {
+    for exchange in case.log {
+        judge.add(exchange);
+    }
+    assert_eq!(rt; judge.allows(&case.next), wanted.0);
+    assert_eq!(rt; judge.settled(), wanted.1);
+}
+
+fn check(rt: &impl Abort, cases: &[Case]) {
+    for case in cases {
+        check_in(rt, Judge::new(Clips::new()), case, case.plain);
+        check_in(rt, Judge::confirming(Clips::new()), case, case.confirming);
+    }
+}
+
+fn row<'a>(
+    log: &'a [Exchange],
+    next: Command,
+    plain: (bool, usize),
+    confirming: (bool, usize),
+) -> Case<'a> {
+    Case {
+        log,
+        next,
+        plain,
+        confirming,
+    }
+}
+
+const YES: (bool, usize) = (true, 0);
+
+const NO: (bool, usize) = (false, 0);
+
+#[test]
+fn what_may_begin(rt: HostRuntime) {
+    let clips = Clips::new();
+    let open = Command::Open(1, 1);
+    let granted = heard(open, Reply::Opened(true));
+    let denied = heard(open, Reply::Opened(false));
+    check(
+        &rt,
+        &[
+            row(&[], open, YES, YES),
+            row(&[], Command::Select(1), NO, NO),
+            row(&[denied], Command::Select(1), NO, NO),
+            row(&[silent(open)], Command::Select(1), NO, NO),
+            row(&[granted], Command::Select(1), YES, YES),
+            row(&[granted], clips.cue_first(), YES, YES),
+            row(&[granted], clips.cue_second(), NO, NO),
+            row(&[granted], Command::PlayCue(clips.second), NO, NO),
+            row(&[granted], Command::Play, NO, NO),
+            row(&[granted], Command::Close(1), NO, NO),
+            row(&[granted], Command::IdRequest(clips.second), YES, YES),
+        ],
+    );
+}
+
+#[test]
+fn what_a_play_needs(rt: HostRuntime) {
+    let clips = Clips::new();
+    let cued = heard(clips.cue_first(), Reply::Ack);
+    let uncertain = silent(clips.cue_first());
+    let other = heard(clips.cue_second(), Reply::Ack);
+    let done = status(0x80);
+    let unread = heard(Command::Play, Reply::Nak(0x04));
+    check(
+        &rt,
+        &[
+            row(&[cued], Command::Play, NO, NO),
+            row(&[done], Command::Play, NO, NO),
+            row(&[cued, status(0x02)], Command::Play, NO, NO),
+            row(&[cued, done], Command::Play, YES, YES),
+            row(&[cued, status(0x84)], Command::Play, YES, YES),
+            row(&[cued, done, status(0x01)], Command::Play, YES, YES),
+            row(&[uncertain, done], Command::Play, NO, YES),
+            row(&[cued, done, cued], Command::Play, NO, NO),
+            row(&[cued, done, other, done], Command::Play, NO, NO),
+            row(&[cued, done, unread], Command::Play, NO, NO),
+            row(&[cued, done, unread, done], Command::Play, YES, YES),
+        ],
+    );
+}
+
+#[test]
+fn what_settles(rt: HostRuntime) {
+    let clips = Clips::new();
+    let cued = heard(clips.cue_first(), Reply::Ack);
+    let done = status(0x80);
+    let played = heard(Command::Play, Reply::Ack);
+    let lost = silent(Command::Play);
+    let stop = heard(Command::Stop, Reply::Ack);
+    let last = heard(clips.cue_second(), Reply::Ack);
+    let refused = heard(Command::Play, Reply::Nak(0x01));
+    let empty = status(0x04);
+    check(
+        &rt,
+        &[
+            row(&[cued, done, played], clips.cue_second(), (true, 1), NO),
+            row(&[cued, done, played], clips.cue_first(), (false, 1), YES),
+            row(&[cued, done, played, done], Command::Play, (false, 1), YES),
+            row(&[cued, done, lost], clips.cue_first(), NO, NO),
+            row(&[cued, done, lost], Command::Status(1), YES, YES),
+            row(
+                &[cued, done, lost, empty],
+                clips.cue_second(),
+                (true, 1),
+                (true, 1),
+            ),
+            row(
+                &[cued, done, lost, empty, empty],
+                Command::Play,
+                (false, 1),
+                (false, 1),
+            ),
+            row(
+                &[cued, done, lost, stop, empty],
+                Command::Close(1),
+                YES,
+                YES,
+            ),
+            row(&[cued, done, refused, empty], clips.cue_first(), YES, YES),
+            row(
+                &[cued, done, lost, empty, last, done, lost],
+                Command::Close(1),
+                (false, 1),
+                (false, 1),
+            ),
+            row(
+                &[cued, done, lost, empty, last, done, lost, empty],
+                Command::Close(1),
+                (true, 2),
+                (true, 2),
+            ),
+        ],
+    );
+}
+
+#[test]
+fn what_ends(rt: HostRuntime) {
+    let stop = heard(Command::Stop, Reply::Ack);
+    let closed = heard(Command::Close(1), Reply::Ack);
+    check(
+        &rt,
+        &[
+            row(&[stop], Command::Status(1), NO, NO),
+            row(&[stop], Command::Open(1, 1), NO, NO),
+            row(&[stop], Command::Stop, YES, YES),
+            row(&[silent(Command::Stop)], Command::Close(1), YES, YES),
+            row(&[closed], Command::Stop, NO, NO),
+            row(&[closed], Command::Close(1), NO, NO),
+            row(&[stop, closed], Command::Close(1), YES, YES),
+            row(&[stop, closed], Command::Stop, NO, NO),
+        ],
+    );
+}
+
+#[test]
+fn an_open_play_is_seen(rt: HostRuntime) {
+    let mut judge = Judge::new(Clips::new());
+    assert!(rt; !judge.has_open_play());
+    judge.add(&silent(Command::Play));
+    assert!(rt; judge.has_open_play());
+    judge.add(&status(0x01));
+    assert!(rt; !judge.has_open_play());
+}
