@@ -1,12 +1,14 @@
 -- The texts and ends of a playlist's IDs after one more item.
-use Rattle.std.proofs.Common.{◌≡◌, ℕ, ◌+◌, true, List, [], ◌∷◌, ◌++◌, length, refl, sym, ap, ◌∙◌, arith}
+use Rattle.std.proofs.Common.{◌≡◌, ℕ, ◌+◌, true, List, [], ◌∷◌, ◌++◌, length, refl, sym, ap, subst, ◌∙◌, arith}
 use Rattle.std.proofs.Common.{append_assoc, append-nil, length-append, zero-add}
 use Rattle.std.proofs.Math.Bool.{and-eq-true_iff}
 use Rattle.std.specs.List.{list_all}
-use Rattle.std.specs.Prelude.{string_bytes}
+use Rattle.std.proofs.lemmas.Str.{IsAscii-append, IsUtf8-from_ascii}
+use Rattle.std.specs.Prelude.{IsAscii, IsUtf8}
 use Rattle.vdcp_value.specs.Ids.{text_of_id}
 use Rattle.vdcp_list.specs.Listings.{ids_text, ends_from, is_of_bytes}
 use Rattle.vdcp_list.specs.declared.list.List.{List as Playlist}
+use Rattle.vdcp_value.specs.declared.clip_id.ClipId.{ClipId}
 use Rattle.vdcp_value.specs.declared.part.Item.{Item}
 
 ids_text-push : (items : List Item) (item : Item) → ids_text (items ++ item ∷ []) ≡ ids_text items ++ text_of_id item.id
@@ -41,7 +43,7 @@ pub record Keeps (text ends : List ℕ) (items : List Item) : Type 0 where
   pub of_bytes : list_all is_of_bytes items ≡ true
 
 pub pushed_keeps : (list : Playlist) (item : Item) (text ends : List ℕ) (items : List Item)
-    → text ≡ string_bytes list.text ++ text_of_id item.id → ends ≡ list.ends.items ++ length text ∷ []
+    → text ≡ list.text.items ++ text_of_id item.id → ends ≡ list.ends.items ++ length text ∷ []
     → items ≡ list.items.items ++ item ∷ [] → is_of_bytes item ≡ true → Keeps text ends items
 pushed_keeps list item text ends items text_is ends_are items_are bytes =
     let whole : text ≡ ids_text list.items.items ++ text_of_id item.id =
@@ -56,3 +58,13 @@ pushed_keeps list item text ends items text_is ends_are items_are bytes =
           ∙ sym (ends_from-push 0 list.items.items item);
       of_bytes = all_pushed list.items.items item list.of_bytes bytes;
     })
+
+-- all texts together are ascii
+ascii_ids : ((id : ClipId) → IsAscii (text_of_id id)) → (items : List Item) → IsAscii (ids_text items)
+ascii_ids ascii [] = λ k. omega arith
+ascii_ids ascii (item ∷ items) = IsAscii-append (text_of_id item.id) (ids_text items) (ascii item.id)
+    (ascii_ids ascii items)
+
+pub utf8_text : ((id : ClipId) → IsAscii (text_of_id id)) → (list : Playlist) → IsUtf8 list.text.items
+utf8_text ascii list =
+    subst IsUtf8 (sym list.text_is) (IsUtf8-from_ascii (ids_text list.items.items) (ascii_ids ascii list.items.items))
