@@ -2,13 +2,12 @@
 use Rattle.std.proofs.Common.{◌≡◌, ℕ, ◌<◌, Bool, true, false, List, [], ◌∷◌, ◌++◌, length, refl, sym, ap, ◌∙◌, arith, zero, suc, get_or, true≢false, cond, All}
 use Rattle.std.proofs.lemmas.List.Elements.{All-head, All-tail}
 use Rattle.std.proofs.lemmas.Nat.{be_bytes_8}
-use Rattle.std.specs.BTreeMap.{BTreeMap, get, is_at}
+use Rattle.std.specs.HashMap.{HashMap, get}
 use Rattle.std.specs.Map.{lookup}
-use Rattle.std.specs.Ordering.{nat_cmp}
 use Rattle.std.specs.Cmp.Lexicographic.{on_texts_equal, same_text}
 use Rattle.std.specs.Cmp.{IsEquivalence}
 use Rattle.std.specs.Int.{from_be_bytes, to_be_bytes, w64}
-use Rattle.std.specs.Prelude.{◌≢◌, Option, None, Some, is_some, option_map, if◌then◌else◌}
+use Rattle.std.specs.Prelude.{◌≢◌, Option, None, Some, is_some, option_map, if◌then◌else◌, nat_eq}
 use Rattle.vdcp_list.proofs.Values.{IdLaws}
 use Rattle.vdcp_list.specs.Places.{key_of, place_of}
 use Rattle.vdcp_port.specs.Clips.{length_of}
@@ -159,31 +158,31 @@ pub no_length : (clips : List (ClipId × Timecode)) (id : ClipId) → is_some (p
     → length_of clips id ≡ None
 no_length clips id e = none_of (length_of clips id) (sym (known clips id) ∙ e)
 
-at_equal : (a b : ℕ) → is_at (nat_cmp a) b ≡ true → a ≡ b
+at_equal : (a b : ℕ) → nat_eq a b ≡ true → a ≡ b
 at_equal a b e = grind arith
 
-equal_at : (a b : ℕ) → a ≡ b → is_at (nat_cmp a) b ≡ true
+equal_at : (a b : ℕ) → a ≡ b → nat_eq a b ≡ true
 equal_at a b e = grind arith
 
 -- the places after one more clip, in the entries that a map has once they are written
-pub places_push : ((a b : ClipId) → key_of a ≡ key_of b → a ≡ b)
-    → (clips : List (ClipId × Timecode)) (clip : ClipId × Timecode) (m : BTreeMap ℕ ℕ) (written entries : List (ℕ × ℕ))
+pub places_push : {S : Type 0} → ((a b : ClipId) → key_of a ≡ key_of b → a ≡ b)
+    → (clips : List (ClipId × Timecode)) (clip : ClipId × Timecode) (m : HashMap ℕ ℕ S) (written entries : List (ℕ × ℕ))
     (key place : ℕ)
-    → ((id : ClipId) → get nat_cmp m (key_of id) ≡ place_of clips id) → key ≡ key_of clip.0 → place ≡ length clips
+    → ((id : ClipId) → get nat_eq m (key_of id) ≡ place_of clips id) → key ≡ key_of clip.0 → place ≡ length clips
     → place_of clips clip.0 ≡ None
-    → ((other : ℕ) → lookup (is_at (nat_cmp other)) written
-    ≡ cond (is_at (nat_cmp key) other) (Some place) (get nat_cmp m other))
+    → ((other : ℕ) → lookup (nat_eq other) written
+    ≡ cond (nat_eq key other) (Some place) (get nat_eq m other))
     → entries ≡ written
-    → (id : ClipId) → lookup (is_at (nat_cmp (key_of id))) entries ≡ place_of (clips ++ clip ∷ []) id
+    → (id : ClipId) → lookup (nat_eq (key_of id)) entries ≡ place_of (clips ++ clip ∷ []) id
 places_push one clips clip m written entries key place were is size new updates same id =
-    push_at (is_at (nat_cmp key) (key_of id)) refl
+    push_at (nat_eq key (key_of id)) refl
   where
-    here : lookup (is_at (nat_cmp (key_of id))) entries ≡ cond (is_at (nat_cmp key) (key_of id)) (Some place)
-        (get nat_cmp m (key_of id))
-    here = ap (lookup (is_at (nat_cmp (key_of id)))) same ∙ updates (key_of id)
+    here : lookup (nat_eq (key_of id)) entries ≡ cond (nat_eq key (key_of id)) (Some place)
+        (get nat_eq m (key_of id))
+    here = ap (lookup (nat_eq (key_of id))) same ∙ updates (key_of id)
 
-    push_at : (b : Bool) → is_at (nat_cmp key) (key_of id) ≡ b
-        → lookup (is_at (nat_cmp (key_of id))) entries ≡ place_of (clips ++ clip ∷ []) id
+    push_at : (b : Bool) → nat_eq key (key_of id) ≡ b
+        → lookup (nat_eq (key_of id)) entries ≡ place_of (clips ++ clip ∷ []) id
     push_at true e =
         let same : id ≡ clip.0 = one id clip.0 (sym (at_equal key (key_of id) e) ∙ is) in
         here ∙ rw e (ap Some size) ∙ sym (place_of-push_same clips clip id new same)

@@ -7,8 +7,7 @@ ghost use Rattle.vdcp_value.specs.declared.clip_id.ClipId.{ClipId};
 ghost use Rattle.vdcp_value.specs.declared.timecode.Timecode.{Timecode};
 
 use csv::ByteRecord;
-use std::str;
-use vdcp_value::laws::{a_refused_text_is_no_ids, an_id_has_one_text, the_text_of_an_id_is_short};
+use vdcp_value::laws::{a_refused_text_is_no_ids, an_id_has_one_text};
 use vdcp_value::{ClipId, Rate, Timecode};
 
 /// The field at a place of a row.
@@ -35,12 +34,11 @@ pub(crate) fn first_id(row: &ByteRecord) -> Option<ClipId>
 }
 
 /// The text of the ID in a row's first field.
-pub(crate) fn id_text(row: &ByteRecord) -> &str
+pub(crate) fn id_text(row: &ByteRecord) -> &[u8]
     requires { HasId (fields_of row.now) }
     ensures { slice_get (fields_of row.now) 0 ≡ Some result.now }
 {
-    the_text_of_an_id_is_short();
-    str::from_utf8(field_at(row, 0).unwrap()).unwrap()
+    field_at(row, 0).unwrap()
 }
 
 /// The time code whose text a field is.

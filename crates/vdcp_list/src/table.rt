@@ -4,8 +4,8 @@ ghost use Rattle.vdcp_port.specs.Clips.{length_of};
 ghost use Rattle.vdcp_value.specs.declared.clip_id.ClipId.{ClipId};
 
 use std::alloc::{AllocError, Global};
-use std::collections::BTreeMap;
-use std::collections::btree_map::Entry;
+use std::collections::HashMap;
+use std::collections::hash_map::Entry;
 use std::marker::Model;
 use vdcp_port::Catalogue;
 use vdcp_value::laws::{an_id_is_its_bytes, bytes_are_counted};
@@ -16,13 +16,12 @@ use vdcp_value::{ClipId, Timecode};
 pub struct Table {
     clips: Vec<(ClipId, Timecode)>,
     // The place of each clip, by its ID's bytes as one number.
-    places: BTreeMap<u64, usize>,
+    places: HashMap<u64, usize>,
 }
 
 impl Model for Table {
-    ghost use Rattle.std.specs.BTreeMap.{get};
-    ghost use Rattle.std.specs.Ordering.{nat_cmp};
-    ghost use Rattle.std.specs.Prelude.{◌≡◌, List};
+    ghost use Rattle.std.specs.HashMap.{get};
+    ghost use Rattle.std.specs.Prelude.{◌≡◌, List, nat_eq};
     ghost use Rattle.vdcp_list.specs.Places.{key_of, place_of};
     ghost use Rattle.vdcp_value.specs.declared.clip_id.ClipId.{ClipId};
     ghost use Rattle.vdcp_value.specs.declared.timecode.Timecode.{Timecode};
@@ -31,7 +30,7 @@ impl Model for Table {
 
     ghost view = { λ table. table.clips.items };
 
-    ghost invariant = { λ table. (id : ClipId) → get nat_cmp table.places (key_of id) ≡ place_of table.clips.items id };
+    ghost invariant = { λ table. (id : ClipId) → get nat_eq table.places (key_of id) ≡ place_of table.clips.items id };
 }
 
 impl Table {
@@ -41,7 +40,7 @@ impl Table {
     {
         Table {
             clips: Vec::new(alloc),
-            places: BTreeMap::new(alloc),
+            places: HashMap::new(alloc),
         }
     }
 

@@ -1,1 +1,2 @@
+pub mod AsrunLaw
 pub mod Sim

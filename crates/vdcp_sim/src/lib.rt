@@ -5,9 +5,10 @@
 //! world, and prints what went to air and what was reported of it. It reports a failure to standard error in one line,
 //! and gives the exit status.
 //!
-//! Files: `sim` (the subcommand), `script` (how its script is read).
+//! Files: `sim` (the subcommand), `script` (how its script is read), `laws` (what an as-run list tells of a world).
 #![tactic(auto)]
 
+pub mod laws;
 mod script;
 mod sim;
 

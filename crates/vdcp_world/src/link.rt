@@ -31,6 +31,8 @@ pub(crate) struct Link<S: Source, C: Catalogue, A: Allocator> {
     down: ArrayVec<u8, 1024>,
     // As many bytes as the answers to 1,024 bytes can have.
     up: ArrayVec<u8, 3074>,
+    // The last answer that was lost as it was given.
+    lost: ArrayVec<u8, 3074>,
     aired: Vec<Item, A>,
     log: Vec<Exchange, A>,
 }
@@ -70,6 +72,7 @@ impl<S: Source, C: Catalogue, A: Allocator + Copy> Link<S, C, A> {
             port,
             down: ArrayVec::new(),
             up: ArrayVec::new(),
+            lost: ArrayVec::new(),
             aired: Vec::new(alloc),
             log: Vec::new(alloc),
         }
@@ -126,7 +129,12 @@ impl<S: Source, C: Catalogue, A: Allocator + Copy> Link<S, C, A> {
                 &mut self.up,
                 &mut self.aired,
             ),
-            Event::DownCopy => deliver_copy(&mut self.port, &self.down, &mut self.aired),
+            Event::DownCopy => read_burst(
+                &mut self.port,
+                &self.down,
+                &mut self.lost,
+                &mut self.aired,
+            ),
             Event::Up => {
                 hear(&mut self.controller, &self.up, unit, &mut self.log);
                 self.up.clear();
@@ -217,20 +225,6 @@ fn deliver<C: Catalogue, A: Allocator>(
         read_burst(port, down, up, aired);
         down.clear();
     }
-}
-
-/// The port reads what is on the way down, and the answer is lost.
-fn deliver_copy<C: Catalogue, A: Allocator>(
-    port: &mut Port<C>,
-    down: &ArrayVec<u8, 1024>,
-    aired: &mut Vec<Item, A>,
-)
-    requires { vec_len aired.old < vec_capacity aired.old }
-    ensures port { port.new ≡ after_burst port.old down.now.items }
-    ensures aired { aired.new.items ≡ aired.old.items ++ aired_for port.old down.now.items }
-{
-    let mut lost = ArrayVec::new();
-    read_burst(port, down, &mut lost, aired);
 }
 
 /// The port reads a burst; its answer stands in place of what the buffer held.

@@ -311,6 +311,7 @@ fn push_once<E: ScriptEvent>(repeated: Repeated, events: &mut Vec<E>) -> Result<
     }
 }
 
+#[inline(always)]
 fn push_round<E: ScriptEvent>(events: &mut Vec<E>) -> Result<(), ScriptFault>
     requires { length events.old.items ≤ 100000 }
     ensures few { length events.new.items ≤ 100000 }
@@ -322,6 +323,7 @@ fn push_round<E: ScriptEvent>(events: &mut Vec<E>) -> Result<(), ScriptFault>
 }
 
 /// Adds an event, where it isn't one too many.
+#[inline(always)]
 fn push<E: ScriptEvent>(event: E, events: &mut Vec<E>) -> Result<(), ScriptFault>
     requires { length events.old.items ≤ 100000 }
     ensures few { length events.new.items ≤ 100000 }

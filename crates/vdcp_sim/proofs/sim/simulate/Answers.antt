@@ -1,8 +1,8 @@
-use Rattle.std.proofs.Common.{inl, inr, refl}
+use Rattle.std.proofs.Common.{inl, inr}
 use Rattle.std.proofs.lemmas.Result.{err_from_is_err_and}
 use Rattle.vdcp_sim.proofs.Numbered.{kept}
 use Rattle.vdcp_sim.proofs.sim.simulate.Goals as goal
-use Rattle.vdcp_sim.specs.Sim.{no_files, no_script}
+use Rattle.vdcp_sim.specs.Sim.{no_files}
 use Rattle.vdcp_list.specs.List.{items_of}
 
 pub returns-in_err-events-clause-unsimulated : goal.returns-in_err-events-clause-unsimulated
