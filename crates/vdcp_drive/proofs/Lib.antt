@@ -15,3 +15,4 @@ pub mod Leaving
 pub mod Completing
 pub mod Prompting
 pub mod Prompted
+pub mod PromptKeeping

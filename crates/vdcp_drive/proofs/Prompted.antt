@@ -156,7 +156,7 @@ unsent : (plan : Plan) (unit : ℕ) (t : Told) (state : State) (reader : Option 
     Told)
     → told ≡ Some t → RunsPrompt plan unit t state reader passed → HasPromptBroken plan unit state state' told told'
     → IfTold told' (λ u. (b : HasRunPromptBroken plan unit u state' reader passed)
-    × (states_seen b ≡ states_prompted plan unit t.came))
+    × (states_seen b ≡ states_prompted plan unit t.came) × (u.came ≡ t.came))
 unsent plan unit t state reader passed told state' told' is h b =
     let p : Prompt = prompted plan unit t.came in (
       record { sent = t.sent ++ b.sends.front; came = t.came; drops = t.drops },
@@ -172,6 +172,7 @@ unsent plan unit t state reader passed told state' told' is h b =
           sent_is = ap (λ (l : List ℕ). l ++ b.sends.front) h.run.sent_is;
           drops_none = h.run.drops_none;
         }),
+        refl,
         refl,
       ),
     )
@@ -239,7 +240,7 @@ unheard : (plan : Plan) (unit : ℕ) (t : Told) (state state' : State) (reader :
     (told told' : Option Told)
     → told ≡ Some t → AwaitsPrompt plan unit t state reader passed → state' ≡ state → told' ≡ told
     → IfTold told' (λ u. (b : HasRunPromptBroken plan unit u state' reader passed)
-    × (states_seen b ≡ states_prompted plan unit t.came ++ state' ∷ []))
+    × (states_seen b ≡ states_prompted plan unit t.came ++ state' ∷ []) × (u.came ≡ t.came))
 unheard plan unit t state state' reader passed told told' is h stays same = (
   t,
   same ∙ is,
@@ -249,6 +250,7 @@ unheard plan unit t state state' reader passed told told' is h stays same = (
       sent_is = h.sent_is;
       drops_none = h.drops_none;
     }),
+    refl,
     refl,
   ),
 )
@@ -379,7 +381,7 @@ pub unsent_so : {S W : Type 0} (items : S → List Item) (told : W → Option To
     → n ≡ record l { controller = n.controller; wire = n.wire }
     → IfTold (told n.wire) (λ u. (b : HasRunPromptBroken (plan_of items s.controller) s.unit u n.controller.state
     n.reader n.passed)
-    × (states_seen b ≡ states_prompted (plan_of items s.controller) s.unit t.came))
+    × (states_seen b ≡ states_prompted (plan_of items s.controller) s.unit t.came) × (u.came ≡ t.came))
 unsent_so {S} {W} items told s l n t same united is h e keeps =
     let plan : Plan = plan_of items s.controller in
     let r : l.reader ≡ n.reader = sym (ap (λ (d : Prompting S W). d.reader) keeps) in
@@ -398,7 +400,8 @@ pub unheard_so : {S W : Type 0} (items : S → List Item) (told : W → Option T
     → m ≡ record n { wire = m.wire } → told m.wire ≡ told n.wire
     → IfTold (told m.wire) (λ u. (b : HasRunPromptBroken (plan_of items s.controller) s.unit u m.controller.state
     m.reader m.passed)
-    × (states_seen b ≡ states_prompted (plan_of items s.controller) s.unit t.came ++ m.controller.state ∷ []))
+    × (states_seen b ≡ states_prompted (plan_of items s.controller) s.unit t.came ++ m.controller.state ∷ [])
+    × (u.came ≡ t.came))
 unheard_so {S} {W} items told s n m t is h keeps same =
     let plan : Plan = plan_of items s.controller in
     let r : n.reader ≡ m.reader = sym (ap (λ (d : Prompting S W). d.reader) keeps) in
@@ -409,7 +412,7 @@ unheard_so {S} {W} items told s n m t is h keeps same =
     (ap (λ (d : Prompting S W). d.controller.state) keeps) same
 
 -- what a listen does, by the plan and the unit of s
-hears_so : {S W : Type 0} (items : S → List Item) (s n m : Prompting S W) (a : Arrival)
+pub hears_so : {S W : Type 0} (items : S → List Item) (s n m : Prompting S W) (a : Arrival)
     → n.controller ≡ record s.controller { state = n.controller.state } → n.unit ≡ s.unit
     → HearsPrompt (plan_of items n.controller) n.unit a n.controller.state n.reader n.passed m.controller.state m.reader
     m.passed

@@ -56,7 +56,7 @@ pub data Among (unit : ℕ) (ms : List Content) (heard : Option Heard) : Type 0 
   nothing : ms ≡ [] → heard ≡ None → Among unit ms heard
   one : (m : Content) → ms ≡ m ∷ [] → heard ≡ Some (heard_as unit m) → Among unit ms heard
 
-among : (unit : ℕ) (ms : List Content) (heard : Option Heard) → map (heard_as unit) ms ≡ option_to_list heard
+pub among : (unit : ℕ) (ms : List Content) (heard : Option Heard) → map (heard_as unit) ms ≡ option_to_list heard
     → Among unit ms heard
 among unit [] None is = nothing refl refl
 among unit [] (Some h) is = cc
@@ -97,7 +97,7 @@ heard_some plan unit xs reader reader' h state state' passed passed' r s n = rec
 }
 
 -- or none
-none_in : (unit : ℕ) (ms : List Content) → Among unit ms None → ms ≡ []
+pub none_in : (unit : ℕ) (ms : List Content) → Among unit ms None → ms ≡ []
 none_in unit ms (nothing is none) = is
 none_in unit ms (one m is none) = cc
 
@@ -141,7 +141,7 @@ hears_both plan unit [] ns p = refl
 hears_both plan unit (m ∷ ms) ns p = hears_both plan unit ms ns (hears plan unit m p)
 
 -- one piece, and then another
-listens_both : (plan : Plan) (unit : ℕ) (xs ys : List ℕ) (p : Prompt)
+pub listens_both : (plan : Plan) (unit : ℕ) (xs ys : List ℕ) (p : Prompt)
     → listens plan unit (bytes ys) (listens plan unit (bytes xs) p) ≡ listens plan unit (bytes (xs ++ ys)) p
 listens_both plan unit xs ys p =
     let at : Held = held_after p.held xs in

@@ -41,6 +41,11 @@ abbrev pub adds_given : Option Command → Option (List Kept) → Option (List K
 adds_given None before = before
 adds_given (Some command) before = adds_command command before
 
+-- the end of the exchange that ended, if one did
+abbrev pub adds_ended : Option Exchange → Option (List Kept) → Option (List Kept)
+adds_ended None before = before
+adds_ended (Some e) before = adds_end e.heard before
+
 -- the end of the exchange, if nothing is awaited any more
 abbrev pub adds_end_once_ended : Bool → Option Heard → Option (List Kept) → Option (List Kept)
 adds_end_once_ended true heard before = before

@@ -14,3 +14,4 @@ pub mod Vacancy
 pub mod PromptReading
 pub mod Prompt
 pub mod PromptLeaves
+pub mod PromptKept

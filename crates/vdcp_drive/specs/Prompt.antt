@@ -13,7 +13,9 @@ use Rattle.vdcp_auto.specs.declared.exchange.Heard.{Heard}
 use Rattle.vdcp_auto.specs.State.{State}
 use Rattle.vdcp_drive.specs.Driven.{bytes_of}
 use Rattle.vdcp_drive.specs.Hearing.{command_bytes}
+use Rattle.vdcp_drive.specs.Keeping.{kept_by}
 use Rattle.vdcp_drive.specs.PromptReading.{Held, holds, completed, held_after, held_after_silence, held_by}
+use Rattle.vdcp_drive.specs.declared.keep.Kept.{Kept}
 use Rattle.vdcp_wire.specs.Wires.{Arrival, bytes, silence, close, Told, nothing_told, adds_sent, SendsFront}
 
 -- an automation: its controller, the unit address of the server, its wire, its reader, none after a fault, and how
@@ -86,6 +88,10 @@ prompted plan unit came = prompted_from plan unit new_prompt came
 abbrev pub commands_in : Plan → Prompt → List Command
 commands_in plan p = map (λ e. e.command) p.log ++ option_to_list (awaited plan p.state)
 
+-- what is kept of these
+abbrev pub kept_in : Plan → Prompt → List Kept
+kept_in plan p = kept_by plan p.log p.state
+
 -- the controller in each listen: its command is awaited
 abbrev pub states_from : Plan → ℕ → Prompt → List Arrival → List State
 states_from plan unit p [] = []
@@ -120,6 +126,13 @@ pub record HearsPrompt (plan : Plan) (unit : ℕ) (a : Arrival) (state : State) 
     (state' : State) (reader' : Option Progress) (passed' : ℕ) : Type 0 where
   pub shows : (log : List Exchange) → Shows (listens plan unit a
       (record { held = held_by reader; state = state; log = log; passed = passed })) state' reader' passed'
+
+-- what is kept after a listen, whatever its exchanges before and what was kept before them
+pub record KeepsPrompt (plan : Plan) (unit : ℕ) (a : Arrival) (state : State) (reader : Option Progress) (passed : ℕ)
+    (kept kept' : Option (List Kept)) : Type 0 where
+  pub keeps : (log : List Exchange) (before : List Kept) → kept ≡ Some (before ++ kept_by plan log state)
+      → kept' ≡ Some (before ++ kept_in plan (listens plan unit a
+      (record { held = held_by reader; state = state; log = log; passed = passed })))
 
 -- Whole runs.
 

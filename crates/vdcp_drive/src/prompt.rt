@@ -4,13 +4,17 @@ ghost use Rattle.vdcp_auto.specs.Plan.{plan_of};
 ghost use Rattle.vdcp_auto.specs.Turn as turns;
 ghost use Rattle.vdcp_auto.specs.State.{State};
 ghost use Rattle.vdcp_drive.specs.Driven.{IsReachedFrom};
+ghost use Rattle.vdcp_drive.specs.Keeping.{adds_ended};
+ghost use Rattle.vdcp_drive.specs.KeptLeaves.{OnBroken, OnUnkept};
 ghost use Rattle.vdcp_drive.specs.Lines.{line_of, ran_unless_ended};
-ghost use Rattle.vdcp_drive.specs.Prompt.{HasPrompted, HasPromptBroken, HasRunPromptBroken, HearsPrompt, IsNewPrompt, one_more, states_prompted, states_seen};
+ghost use Rattle.vdcp_drive.specs.Prompt.{HasPrompted, HasPromptBroken, HasRunPromptBroken, HearsPrompt, IsNewPrompt, KeepsPrompt, one_more, states_prompted, states_seen};
+ghost use Rattle.vdcp_drive.specs.PromptKept.{KeepsAll, PromptKeptLeaves};
 ghost use Rattle.vdcp_drive.specs.PromptLeaves.{PromptLeaves};
 ghost use Rattle.vdcp_drive.specs.PromptReading.{IsReader, held_after_silence, held_by, holds, HasRead};
 ghost use Rattle.vdcp_wire.specs.Wires.{Arrival, bytes, silence, IfTold, MayCome, adds_came};
 
 use crate::automation::send_command;
+use crate::keep::{Keep, KeepFault, KeptFault, Unkept, keep_next};
 use crate::line::{DriveFault, Line, Ran};
 use crate::watch::{Unwatched, Watch};
 use std::marker::Model;
@@ -160,6 +164,29 @@ impl<S: Source, W: Wire> PromptDriver<S, W> {
         ensures device { OnErr result (W.failures self.new.wire ≡ 1) }
         ensures stays { W.failures self.old.wire ≡ 1 → IsErr result × (self.new ≡ self.old) }
     {
+        self.listen_kept(&mut Unkept)
+    }
+
+    // As `listen`, and has `keep` note what ended an exchange.
+    fn listen_kept<K: Keep>(&mut self, keep: &mut K) -> Result<Line, DriveFault>
+        ensures hears { IfOk result (λ line. (a : Arrival) × (line ≡ line_of a) × MayCome a (W.told self.old.wire)
+            × HearsPrompt (plan_of S.items self.old.controller) self.old.unit a
+            self.old.controller.state self.old.reader self.old.passed
+            self.new.controller.state self.new.reader self.new.passed
+            × (W.told self.new.wire ≡ adds_came a (W.told self.old.wire))
+            × KeepsPrompt (plan_of S.items self.old.controller) self.old.unit a
+            self.old.controller.state self.old.reader self.old.passed (K.kept keep.old) (K.kept keep.new)) }
+        ensures breaks { W.failures self.old.wire ≡ 0 → OnErr result (W.told self.new.wire ≡ W.told self.old.wire) }
+        ensures unchanged { OnErr result ((self.new ≡ record self.old { wire = self.new.wire })
+            × (keep.new ≡ keep.old)) }
+        ensures reached { IsReachedFrom (plan_of S.items self.old.controller) self.old.controller.state
+            self.new.controller.state }
+        ensures controller { self.new.controller ≡ record self.old.controller { state = self.new.controller.state } }
+        ensures unit { self.new.unit ≡ self.old.unit }
+        ensures works { OnOk result (W.failures self.new.wire ≡ 0) }
+        ensures device { OnErr result (W.failures self.new.wire ≡ 1) }
+        ensures stays { W.failures self.old.wire ≡ 1 → IsErr result × (self.new ≡ self.old) }
+    {
         if self.failed {
             return Err(DriveFault::Device);
         }
@@ -169,6 +196,7 @@ impl<S: Source, W: Wire> PromptDriver<S, W> {
             &mut self.reader,
             &mut self.passed,
             &mut self.wire,
+            keep,
         ) {
             Ok(line) => Ok(line),
             Err(WireFault) => {
@@ -206,17 +234,57 @@ impl<S: Source, W: Wire> PromptDriver<S, W> {
             × (V.watched watcher.new ≡ Some (states ++ states_seen b)))) }
         ensures unwatched { W.failures self.old.wire ≡ 1 → watcher.new ≡ watcher.old }
     {
+        match self.run_kept(listens, watcher, &mut Unkept) {
+            Ok(ran) => Ok(ran),
+            Err(KeptFault::Drive(fault)) => Err(fault),
+            Err(KeptFault::Unkept) => unreachable!(),
+        }
+    }
+
+    /// As `run_watched`, and has `keep` keep each command before its first byte goes out, and what ended its exchange.
+    /// `Unkept` where a command can't be kept: it isn't sent then, and a later run tries again.
+    pub fn run_kept<V: Watch<S>, K: Keep>(
+        &mut self,
+        listens: u64,
+        watcher: &mut V,
+        keep: &mut K,
+    ) -> Result<Ran, KeptFault>
+        ensures leaves { PromptKeptLeaves S.items W.told W.failures listens self.old self.new result }
+        ensures keeps { KeepsAll S.items W.told W.failures self.old self.new result (K.kept keep.old)
+            (K.kept keep.new) }
+        ensures fails { OnUnkept result K.can_fail }
+        // A watcher that tells what it watched was lent the controller of a new automation in each listen.
+        ensures watched { IsNewPrompt W.told self.old → (states : List State) → V.watched watcher.old ≡ Some states →
+            OnOk result (IfTold (W.told self.new.wire) (λ u. V.watched watcher.new
+            ≡ Some (states ++ states_prompted (plan_of S.items self.old.controller) self.old.unit u.came))) }
+        ensures watched_broken { IsNewPrompt W.told self.old → W.failures self.old.wire ≡ 0 →
+            (states : List State) → V.watched watcher.old ≡ Some states →
+            OnBroken result (IfTold (W.told self.new.wire) (λ u.
+            (b : HasRunPromptBroken (plan_of S.items self.old.controller) self.old.unit u
+            self.new.controller.state self.new.reader self.new.passed)
+            × (V.watched watcher.new ≡ Some (states ++ states_seen b)))) }
+        ensures unused { W.failures self.old.wire ≡ 1 → (watcher.new ≡ watcher.old) × (keep.new ≡ keep.old) }
+    {
         if self.failed {
-            return Err(DriveFault::Device);
+            return Err(KeptFault::Drive(DriveFault::Device));
         }
         let mut made = 0;
         'listens: while made < listens {
-            self.send()?;
+            if let Err(KeepFault) = keep_next(&self.controller, keep) {
+                return Err(KeptFault::Unkept);
+            }
+            if let Err(fault) = self.send() {
+                return Err(KeptFault::Drive(fault));
+            }
             if !self.controller().awaiting() {
                 return Ok(Ran::Ended);
             }
             watcher.look(&self.controller);
-            if let Line::Closed = self.listen()? {
+            let line = match self.listen_kept(keep) {
+                Ok(line) => line,
+                Err(fault) => return Err(KeptFault::Drive(fault)),
+            };
+            if let Line::Closed = line {
                 return Ok(self.unless_ended(Ran::Closed));
             }
             made += 1;
@@ -273,24 +341,27 @@ fn send_given<S: Source, W: Wire>(
     }
 }
 
-// Listens once, and hears at once what came.
-fn hear<S: Source, W: Wire>(
+// Listens once, hears at once what came, and has the end of an exchange noted.
+fn hear<S: Source, W: Wire, K: Keep>(
     controller: &mut Controller<S>,
     unit: u8,
     reader: &mut Option<Reader>,
     passed: &mut u64,
     wire: &mut W,
+    keep: &mut K,
 ) -> Result<Line, WireFault>
     requires reader { IsReader reader.old }
     requires works { W.failures wire.old ≡ 0 }
     ensures hears { IfOk result (λ line. (a : Arrival) × (line ≡ line_of a) × MayCome a (W.told wire.old)
         × HearsPrompt (plan_of S.items controller.old) unit a controller.old.state reader.old passed.old
         controller.new.state reader.new passed.new
-        × (W.told wire.new ≡ adds_came a (W.told wire.old))) }
+        × (W.told wire.new ≡ adds_came a (W.told wire.old))
+        × KeepsPrompt (plan_of S.items controller.old) unit a controller.old.state reader.old passed.old
+        (K.kept keep.old) (K.kept keep.new)) }
     ensures reader { IsReader reader.new }
     ensures broken { OnErr result (W.told wire.new ≡ W.told wire.old) }
     ensures unchanged { OnErr result ((controller.new ≡ controller.old) × (reader.new ≡ reader.old)
-        × (passed.new ≡ passed.old)) }
+        × (passed.new ≡ passed.old) × (keep.new ≡ keep.old)) }
     ensures reached { IsReachedFrom (plan_of S.items controller.old) controller.old.state controller.new.state }
     ensures controller { controller.new ≡ record controller.old { state = controller.new.state } }
     ensures works { OnOk result (W.failures wire.new ≡ 0) }
@@ -299,16 +370,16 @@ fn hear<S: Source, W: Wire>(
     let mut buffer = [0; PIECE];
     match wire.listen(&mut buffer)? {
         Came::Bytes(n) => {
-            hear_piece(controller, unit, reader, passed, &buffer[..n]);
+            hear_piece(controller, unit, reader, passed, &buffer[..n], keep);
             Ok(Line::More)
         }
         Came::Silence => {
             read_anew(reader);
-            controller.timeout();
+            receive_kept(controller, None, keep);
             Ok(Line::Ended)
         }
         Came::Closed => {
-            controller.timeout();
+            receive_kept(controller, None, keep);
             Ok(Line::Closed)
         }
     }
@@ -326,46 +397,52 @@ fn read_anew(reader: &mut Option<Reader>)
 }
 
 // Hears, or passes over, each message that these bytes complete.
-fn hear_piece<S: Source>(
+fn hear_piece<S: Source, K: Keep>(
     controller: &mut Controller<S>,
     unit: u8,
     reader: &mut Option<Reader>,
     passed: &mut u64,
     piece: &[u8],
+    keep: &mut K,
 )
     requires { IsReader reader.old }
     ensures hears { HearsPrompt (plan_of S.items controller.old) unit (bytes piece.now)
         controller.old.state reader.old passed.old controller.new.state reader.new passed.new }
+    ensures keeps { KeepsPrompt (plan_of S.items controller.old) unit (bytes piece.now)
+        controller.old.state reader.old passed.old (K.kept keep.old) (K.kept keep.new) }
     ensures reader { IsReader reader.new }
     ensures reached { IsReachedFrom (plan_of S.items controller.old) controller.old.state controller.new.state }
     ensures controller { controller.new ≡ record controller.old { state = controller.new.state } }
 {
     let mut at = 0;
     'piece: while at < piece.len() {
-        at += hear_some(controller, unit, reader, passed, &piece[at..]);
+        at += hear_some(controller, unit, reader, passed, &piece[at..], keep);
     }
 }
 
 // Reads up to the end of one message, hears it or passes it over, and gives how many bytes it used up.
-fn hear_some<S: Source>(
+fn hear_some<S: Source, K: Keep>(
     controller: &mut Controller<S>,
     unit: u8,
     reader: &mut Option<Reader>,
     passed: &mut u64,
     piece: &[u8],
+    keep: &mut K,
 ) -> usize
     requires { IsReader reader.old }
     ensures within { result ≤ length piece.now }
     ensures some { 0 < length piece.now → 0 < result }
     ensures hears { HearsPrompt (plan_of S.items controller.old) unit (bytes (take result piece.now))
         controller.old.state reader.old passed.old controller.new.state reader.new passed.new }
+    ensures keeps { KeepsPrompt (plan_of S.items controller.old) unit (bytes (take result piece.now))
+        controller.old.state reader.old passed.old (K.kept keep.old) (K.kept keep.new) }
     ensures reader { IsReader reader.new }
     ensures reached { IsReachedFrom (plan_of S.items controller.old) controller.old.state controller.new.state }
     ensures controller { controller.new ≡ record controller.old { state = controller.new.state } }
 {
     let (taken, read) = read_some(unit, reader, piece);
     if let Some(heard) = read {
-        hear_or_pass(controller, passed, &heard);
+        hear_or_pass(controller, passed, &heard, keep);
     }
     taken
 }
@@ -403,16 +480,39 @@ fn read_some(unit: u8, reader: &mut Option<Reader>, piece: &[u8]) -> (usize, Opt
 }
 
 // Hears a message while a command is awaited, and else counts it.
-fn hear_or_pass<S: Source>(controller: &mut Controller<S>, passed: &mut u64, heard: &Heard)
+fn hear_or_pass<S: Source, K: Keep>(
+    controller: &mut Controller<S>,
+    passed: &mut u64,
+    heard: &Heard,
+    keep: &mut K,
+)
     ensures state { controller.new ≡ record controller.old {
       state = turns.came_to (plan_of S.items controller.old) (Some heard.now) controller.old.state;
     } }
+    ensures kept { K.kept keep.new ≡ adds_ended (turns.ended_by (plan_of S.items controller.old) (Some heard.now)
+        controller.old.state) (K.kept keep.old) }
     ensures passed { passed.new
         ≡ (if turns.is_awaiting controller.old.state.stage then passed.old else one_more passed.old) }
 {
-    if controller.awaiting() {
-        controller.hear(heard);
-    } else {
+    if !controller.awaiting() {
         *passed = passed.saturating_add(1);
+    }
+    receive_kept(controller, Some(*heard), keep);
+}
+
+// The controller receives what came, or that nothing came in time, and the exchange that this ended is noted.
+fn receive_kept<S: Source, K: Keep>(
+    controller: &mut Controller<S>,
+    came: Option<Heard>,
+    keep: &mut K,
+)
+    ensures state { controller.new ≡ record controller.old {
+      state = turns.came_to (plan_of S.items controller.old) came controller.old.state;
+    } }
+    ensures kept { K.kept keep.new ≡ adds_ended (turns.ended_by (plan_of S.items controller.old) came
+        controller.old.state) (K.kept keep.old) }
+{
+    if let Some(exchange) = controller.receive(came) {
+        keep.note_end(exchange.heard);
     }
 }

@@ -3,12 +3,13 @@ use super::clips::Playlist;
 use super::messages::{
     ACK, CLOSE, CUE_1, CUED, GRANTED, IDLE, OPEN, PLAY, PRESENT, SELECT, STATUS,
 };
-use crate::{DriveFault, Line, PromptDriver, Ran};
+use crate::{DriveFault, Keep, KeepFault, KeptFault, Line, PromptDriver, Ran, Unwatched};
 use std::alloc::{AllocError, Global};
 use std::process::Abort;
 use std::test::Fail;
-use vdcp_auto::{Controller, Outcome};
+use vdcp_auto::{Controller, Heard, Outcome};
 use vdcp_wire::{Entry, ScriptWire};
+use vdcp_words::Command;
 
 type Driver = PromptDriver<Playlist, ScriptWire<Global>>;
 
@@ -344,5 +345,40 @@ fn each_call_fails_in_turn(rt: HostRuntime) -> Result<(), Fail> {
             }
         }
     }
+    Ok(())
+}
+
+/// How many commands were kept, and how many ends noted.
+#[derive(Drop)]
+struct Tally {
+    commands: u32,
+    ends: u32,
+}
+
+impl Keep for Tally {
+    fn keep_sent(&mut self, _command: &Command) -> Result<(), KeepFault> {
+        self.commands = self.commands.saturating_add(1);
+        Ok(())
+    }
+
+    fn note_end(&mut self, _heard: Option<Heard>) {
+        self.ends = self.ends.saturating_add(1);
+    }
+}
+
+fn run_kept(driver: &mut Driver, listens: u64, tally: &mut Tally) -> Result<Ran, KeptFault> {
+    driver.run_kept(listens, &mut Unwatched, tally)
+}
+
+#[test]
+fn exchanges_are_kept(rt: HostRuntime) -> Result<(), Fail> {
+    let came = pieces(rt.alloc(), &[GRANTED, ACK, &[], IDLE])?;
+    let mut driver = plain(rt.alloc(), came);
+    let mut tally = Tally {
+        commands: 0,
+        ends: 0,
+    };
+    assert_eq!(rt; run_kept(&mut driver, 3, &mut tally), Ok(Ran::Spent));
+    assert_eq!(rt; (tally.commands, tally.ends), (3, 3));
     Ok(())
 }

@@ -5,9 +5,11 @@ use Rattle.vdcp_auto.specs.State.{State}
 use Rattle.vdcp_drive.specs.Driven.{IsReachedFrom}
 use Rattle.vdcp_drive.specs.Lines.{AllListened}
 use Rattle.vdcp_drive.specs.Prompt.{IsNewPrompt}
+use Rattle.vdcp_drive.specs.declared.keep.Kept.{Kept}
 use Rattle.vdcp_wire.specs.Wires.{Told, IfTold}
+use Rattle.vdcp_drive.proofs.PromptKeeping.{KeepsCame}
 use Rattle.vdcp_drive.proofs.Prompted.{RunsPrompt, WatchesPrompt}
-use Rattle.vdcp_drive.proofs.prompt.PromptDriver.run_watched.Given as goal
+use Rattle.vdcp_drive.proofs.prompt.PromptDriver.run_kept.Given as goal
 
 abbrev pub invariant-listens : goal.invariant-listens
 invariant-listens g l =
@@ -26,7 +28,9 @@ invariant-listens g l =
           l.self.controller.state l.self.reader
           l.self.passed × ((states : List State) → g.V.Watch.watched l.fn.watcher ≡ Some states
           → WatchesPrompt (plan_of g.S.Source.items l.fn.self.controller) l.fn.self.unit u.came states
-          (g.V.Watch.watched l.watcher)));
+          (g.V.Watch.watched l.watcher))
+          × ((before : List Kept) → g.K.Keep.kept l.fn.keep ≡ Some before
+          → KeepsCame g.S.Source.items l.fn.self u.came l.self.controller.state before (g.K.Keep.kept l.keep)));
     }
 
 abbrev pub decreases-listens : goal.decreases-listens
