@@ -1,6 +1,10 @@
 ghost use Rattle.std.specs.Prelude.{◌≡◌, IfNone, IfSome, IsFalse, IsTrue, Some};
 ghost use Rattle.vdcp_journal.specs.Moments.{fits_place, has_form, is_moment};
 
+use jiff::Timestamp;
+use jiff::civil::DateTime;
+use jiff::tz::Offset;
+
 /// A time as a journal writes it: in UTC, as `2026-11-24T09:30:00.000Z`. Which day and hour its digits
 /// name isn't tested.
 #[derive(Clone, Copy, Debug, PartialEq, Eq)]
@@ -27,6 +31,46 @@ impl Moment {
         Some(Moment { text: copy })
     }
 
+    /// The moment so many milliseconds after 1970 began, in UTC. A time after 9999-12-30T22:00:00Z counts as that.
+    pub fn of_unix_millis(millis: u64) -> Moment {
+        let time = shown_at(millis);
+        let year = time.year().unsigned_abs();
+        let month = time.month().unsigned_abs();
+        let day = time.day().unsigned_abs();
+        let hour = time.hour().unsigned_abs();
+        let minute = time.minute().unsigned_abs();
+        let second = time.second().unsigned_abs();
+        let millis = time.millisecond().unsigned_abs();
+        Moment {
+            text: [
+                digit(year / 1000),
+                digit(year / 100),
+                digit(year / 10),
+                digit(year),
+                b'-',
+                digit(u16::from(month) / 10),
+                digit(u16::from(month)),
+                b'-',
+                digit(u16::from(day) / 10),
+                digit(u16::from(day)),
+                b'T',
+                digit(u16::from(hour) / 10),
+                digit(u16::from(hour)),
+                b':',
+                digit(u16::from(minute) / 10),
+                digit(u16::from(minute)),
+                b':',
+                digit(u16::from(second) / 10),
+                digit(u16::from(second)),
+                b'.',
+                digit(millis / 100),
+                digit(millis / 10),
+                digit(millis),
+                b'Z',
+            ],
+        }
+    }
+
     /// Its text.
     pub fn as_bytes(&self) -> &[u8]
         ensures { result.now ≡ moment_text self.now }
@@ -37,6 +81,20 @@ impl Moment {
 
 /// The form of a moment's text: 0 stands for any digit.
 const FORM: &[u8; 24] = b"0000-00-00T00:00:00.000Z";
+
+/// The latest time that is told apart from later ones.
+const LAST: u64 = 253_402_207_200_000;
+
+/// What a clock in UTC shows so many milliseconds after 1970 began.
+fn shown_at(millis: u64) -> DateTime {
+    let timestamp = Timestamp::from_millisecond(millis.min(LAST) as i64).unwrap();
+    Offset::UTC.to_datetime(timestamp)
+}
+
+/// The last digit of a number.
+fn digit(number: u16) -> u8 {
+    b'0' + (number % 10) as u8
+}
 
 /// Whether a text is a moment's.
 fn is_moment(text: &[u8]) -> bool
