@@ -1,4 +1,6 @@
-ghost use Rattle.std.specs.Prelude.{◌≡◌, IfNone, IfSome, IsFalse, IsTrue, Some};
+ghost use Rattle.jiff.specs.Words.{civil_nanos};
+ghost use Rattle.std.specs.Prelude.{◌≡◌, ◌*◌, ◌/◌, IfNone, IfSome, IsFalse, IsTrue, Some, min, pos};
+ghost use Rattle.vdcp_journal.specs.Clocks.{clock_text, digit, last_millis};
 ghost use Rattle.vdcp_journal.specs.Moments.{fits_place, has_form, is_moment};
 
 use jiff::Timestamp;
@@ -14,6 +16,7 @@ pub struct Moment {
 }
 
 impl Moment {
+    ghost use Rattle.jiff.specs.Types.{DateTime};
     ghost use Rattle.vdcp_journal.specs.declared.moment.Moment.{Moment};
     ghost use Rattle.vdcp_journal.specs.Times.{moment_text};
 
@@ -32,42 +35,12 @@ impl Moment {
     }
 
     /// The moment so many milliseconds after 1970 began, in UTC. A time after 9999-12-30T22:00:00Z counts as that.
-    pub fn of_unix_millis(millis: u64) -> Moment {
-        let time = shown_at(millis);
-        let year = time.year().unsigned_abs();
-        let month = time.month().unsigned_abs();
-        let day = time.day().unsigned_abs();
-        let hour = time.hour().unsigned_abs();
-        let minute = time.minute().unsigned_abs();
-        let second = time.second().unsigned_abs();
-        let millis = time.millisecond().unsigned_abs();
+    pub fn of_unix_millis(millis: u64) -> Moment
+        ensures shown { (time : DateTime) × (moment_text result ≡ clock_text time)
+            × (civil_nanos time ≡ pos (min millis last_millis * 1_000_000)) }
+    {
         Moment {
-            text: [
-                digit(year / 1000),
-                digit(year / 100),
-                digit(year / 10),
-                digit(year),
-                b'-',
-                digit(u16::from(month) / 10),
-                digit(u16::from(month)),
-                b'-',
-                digit(u16::from(day) / 10),
-                digit(u16::from(day)),
-                b'T',
-                digit(u16::from(hour) / 10),
-                digit(u16::from(hour)),
-                b':',
-                digit(u16::from(minute) / 10),
-                digit(u16::from(minute)),
-                b':',
-                digit(u16::from(second) / 10),
-                digit(u16::from(second)),
-                b'.',
-                digit(millis / 100),
-                digit(millis / 10),
-                digit(millis),
-                b'Z',
-            ],
+            text: text_of(shown_at(millis)),
         }
     }
 
@@ -86,13 +59,57 @@ const FORM: &[u8; 24] = b"0000-00-00T00:00:00.000Z";
 const LAST: u64 = 253_402_207_200_000;
 
 /// What a clock in UTC shows so many milliseconds after 1970 began.
-fn shown_at(millis: u64) -> DateTime {
+fn shown_at(millis: u64) -> DateTime
+    ensures { civil_nanos result ≡ pos (min millis last_millis * 1_000_000) }
+{
     let timestamp = Timestamp::from_millisecond(millis.min(LAST) as i64).unwrap();
     Offset::UTC.to_datetime(timestamp)
 }
 
+/// What a clock shows, as a moment's text.
+fn text_of(time: DateTime) -> [u8; 24]
+    ensures text { result ≡ clock_text time }
+    ensures formed { IsTrue (is_moment result) }
+{
+    let year = time.year().unsigned_abs();
+    let month = u16::from(time.month().unsigned_abs());
+    let day = u16::from(time.day().unsigned_abs());
+    let hour = u16::from(time.hour().unsigned_abs());
+    let minute = u16::from(time.minute().unsigned_abs());
+    let second = u16::from(time.second().unsigned_abs());
+    let millisecond = time.millisecond().unsigned_abs();
+    [
+        digit(year / 1000),
+        digit(year / 100),
+        digit(year / 10),
+        digit(year),
+        b'-',
+        digit(month / 10),
+        digit(month),
+        b'-',
+        digit(day / 10),
+        digit(day),
+        b'T',
+        digit(hour / 10),
+        digit(hour),
+        b':',
+        digit(minute / 10),
+        digit(minute),
+        b':',
+        digit(second / 10),
+        digit(second),
+        b'.',
+        digit(millisecond / 100),
+        digit(millisecond / 10),
+        digit(millisecond),
+        b'Z',
+    ]
+}
+
 /// The last digit of a number.
-fn digit(number: u16) -> u8 {
+fn digit(number: u16) -> u8
+    ensures { result ≡ digit number }
+{
     b'0' + (number % 10) as u8
 }
 
