@@ -1,7 +1,5 @@
 //! The worked rows of both drivers over a wire in memory.
 mod automation;
-mod both;
-mod broken;
 mod calling;
 mod calls;
 mod clips;
@@ -11,6 +9,7 @@ mod lawful;
 mod loopback;
 mod messages;
 mod prompt;
+mod scripts;
 mod server;
 mod vacancy;
 mod watching;
