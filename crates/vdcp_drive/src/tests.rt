@@ -3,6 +3,7 @@ mod automation;
 mod calling;
 mod calls;
 mod clips;
+mod ends;
 mod hostile;
 mod keeping;
 mod lawful;

@@ -1,27 +1,14 @@
 //! An automation over a wire in memory.
 use super::calls::run;
-use super::clips::Playlist;
+use super::ends::{Auto, automation, controller, failing_automation};
 use super::messages::{ACK, CLOSE, GRANTED, IDLE, OPEN, SELECT, STATUS, STOP};
-use super::scripts::{SILENCE, spells, wire_of};
+use super::scripts::{SILENCE, spells};
 use crate::{AutoDriver, Ran};
 use std::alloc::{AllocError, Global};
 use std::process::Abort;
 use std::test::Fail;
-use vdcp_auto::{Controller, Outcome};
+use vdcp_auto::Outcome;
 use vdcp_wire::{Entry, ScriptWire};
-
-type Auto = AutoDriver<Playlist, ScriptWire<Global>>;
-
-/// A new automation of no clips, over a wire on which these pieces come.
-fn automation(alloc: Global, confirms: bool, pieces: &[&[u8]]) -> Result<Auto, AllocError> {
-    let wire = wire_of(alloc, pieces)?;
-    let controller = if confirms {
-        Controller::confirming(Playlist::of(0), 1, 3)
-    } else {
-        Controller::new(Playlist::of(0), 1, 3)
-    };
-    Ok(AutoDriver::new(controller, 0, wire))
-}
 
 /// What comes to a new automation in a run of this many listens, what it sends, and how that ends.
 #[derive(Clone, Copy)]
@@ -130,45 +117,54 @@ fn what_comes_is_answered(rt: HostRuntime) -> Result<(), Fail> {
 }
 
 /// An answer to OPEN, a NAK that waits before SELECT, and the answer to this.
-fn stale(alloc: Global) -> Result<Vec<Entry<Global>>, AllocError> {
+fn stale(alloc: Global) -> Result<Auto, AllocError> {
     let mut entries = Vec::new(alloc);
     entries.push(Entry::Came(Vec::from_slice(alloc, GRANTED)?))?;
     entries.push(Entry::Silence)?;
     entries.push(Entry::Stale(Vec::from_slice(alloc, &[0x05, 0x01])?))?;
     entries.push(Entry::Came(Vec::from_slice(alloc, ACK)?))?;
     entries.push(Entry::Silence)?;
-    Ok(entries)
+    Ok(AutoDriver::new(controller(false), 0, ScriptWire::new(alloc, entries)))
 }
 
 #[test]
 fn stale_bytes_are_dropped_before_a_command(rt: HostRuntime) -> Result<(), Fail> {
-    let wire = ScriptWire::new(rt.alloc(), stale(rt.alloc())?);
-    let mut auto = AutoDriver::new(Controller::new(Playlist::of(0), 1, 3), 0, wire);
+    let mut auto = stale(rt.alloc())?;
     assert_eq!(rt; run(&mut auto, 100), Ok(Ran::Closed));
     assert!(rt; spells(auto.wire().sent(), &[OPEN, SELECT, STATUS]));
     assert_eq!(rt; auto.wire().drops(), [0, 7, 13].as_slice());
     Ok(())
 }
 
+/// A take, a run of two listens, a stop, and a run to the end: what the runs answer, how the controller has ended, and
+/// whether STOP went out then.
+fn stopped(alloc: Global) -> Result<(Ran, Ran, Option<Outcome>, bool), Fail> {
+    let mut auto = automation(
+        alloc,
+        false,
+        &[GRANTED, SILENCE, ACK, SILENCE, ACK, SILENCE],
+    )?;
+    auto.take();
+    let first = run(&mut auto, 2)?;
+    auto.stop();
+    let second = run(&mut auto, 100)?;
+    let is_sent = spells(auto.wire().sent(), &[OPEN, STOP, CLOSE]);
+    Ok((first, second, auto.controller().outcome(), is_sent))
+}
+
 #[test]
 fn operator_stops(rt: HostRuntime) -> Result<(), Fail> {
-    let came: [&[u8]; 6] = [GRANTED, SILENCE, ACK, SILENCE, ACK, SILENCE];
-    let mut auto = automation(rt.alloc(), false, &came)?;
-    auto.take();
-    assert_eq!(rt; run(&mut auto, 2), Ok(Ran::Spent));
-    auto.stop();
-    assert_eq!(rt; run(&mut auto, 100), Ok(Ran::Ended));
-    assert!(rt; spells(auto.wire().sent(), &[OPEN, STOP, CLOSE]));
-    assert_eq!(rt; auto.controller().outcome(), Some(Outcome::Stopped));
+    assert_eq!(rt;
+        stopped(rt.alloc())?,
+        (Ran::Spent, Ran::Ended, Some(Outcome::Stopped), true)
+    );
     Ok(())
 }
 
 /// A run whose call of this number fails after one byte of a send, and one more run: whether both fail, how many bytes
 /// were sent, and whether an answer is awaited.
 fn failed_at(alloc: Global, call: u64) -> Result<(bool, usize, bool), Fail> {
-    let mut wire = wire_of(alloc, ALL_ANSWERED)?;
-    wire.fail_at(call, 1);
-    let mut auto = AutoDriver::new(Controller::new(Playlist::of(0), 1, 3), 0, wire);
+    let mut auto = failing_automation(alloc, ALL_ANSWERED, call)?;
     let fails = run(&mut auto, 100).is_err() && run(&mut auto, 0).is_err();
     Ok((
         fails,

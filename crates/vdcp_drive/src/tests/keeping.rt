@@ -1,13 +1,12 @@
 //! What is kept of an automation's exchanges.
-use super::clips::Playlist;
+use super::ends::{Auto, automation};
 use super::messages::GRANTED;
-use super::scripts::{SILENCE, wire_of};
-use crate::{AutoDriver, Keep, KeepFault, Kept, KeptFault, Ran, Unwatched};
+use super::scripts::SILENCE;
+use crate::{Keep, KeepFault, Kept, KeptFault, Ran, Unwatched};
 use std::alloc::Global;
 use std::process::Abort;
 use std::test::Fail;
-use vdcp_auto::{Controller, Heard};
-use vdcp_wire::Wire;
+use vdcp_auto::Heard;
 use vdcp_words::{Command, Reply};
 
 /// Keeps as many commands as it has room for.
@@ -38,8 +37,7 @@ impl Keep for Diary {
 /// A run with a diary of this much room, in which the first OPEN gets no answer, and the second one is granted: how it
 /// ends, how much was sent, and what is kept.
 fn kept(alloc: Global, room: usize) -> Result<(Result<Ran, KeptFault>, usize, Vec<Kept>), Fail> {
-    let wire = wire_of(alloc, &[SILENCE, GRANTED, SILENCE])?;
-    let mut auto = AutoDriver::new(Controller::new(Playlist::of(0), 1, 3), 0, wire);
+    let mut auto = automation(alloc, false, &[SILENCE, GRANTED, SILENCE])?;
     let mut diary = Diary {
         kept: Vec::new(alloc),
         room,
@@ -49,10 +47,7 @@ fn kept(alloc: Global, room: usize) -> Result<(Result<Ran, KeptFault>, usize, Ve
 }
 
 // It promises nothing, so the proof of a test needn't go through its clauses.
-fn run_kept<W: Wire>(
-    auto: &mut AutoDriver<Playlist, W>,
-    diary: &mut Diary,
-) -> Result<Ran, KeptFault> {
+fn run_kept(auto: &mut Auto, diary: &mut Diary) -> Result<Ran, KeptFault> {
     auto.run_kept(3, &mut Unwatched, diary)
 }
 

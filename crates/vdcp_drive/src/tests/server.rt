@@ -1,23 +1,12 @@
 //! A server over a wire in memory.
 use super::calls::serve;
-use super::clips::Clips;
+use super::ends::{failing_server, server};
 use super::messages::{ACK, CUE_1, GRANTED, IDLE, OPEN, PLAY, SELECT, STATUS, STOP};
-use super::scripts::{SILENCE, spells, wire_of};
-use crate::{Ran, Server};
+use super::scripts::{SILENCE, spells};
+use crate::Ran;
 use std::alloc::Global;
 use std::process::Abort;
 use std::test::Fail;
-use vdcp_port::Port;
-use vdcp_testing::two_clips;
-use vdcp_wire::ScriptWire;
-
-type Serving = Server<Clips, ScriptWire<Global>>;
-
-/// A server with a new port of unit 0 and number 1, over a wire on which these pieces come.
-pub fn server(alloc: Global, pieces: &[&[u8]]) -> Result<Serving, Fail> {
-    let clips = two_clips(250).ok_or("250 frames")?;
-    Ok(Server::new(Port::new(clips, 0, 1), wire_of(alloc, pieces)?))
-}
 
 /// What comes to a new server in this many turns, what it sends, and how that ends.
 #[derive(Clone, Copy)]
@@ -120,7 +109,7 @@ const ROWS: [Row; 9] = [
 
 /// How a new server's turns end, and whether it sent these messages.
 fn served(alloc: Global, row: &Row) -> Result<(Ran, bool), Fail> {
-    let mut server = server(alloc, row.came)?;
+    let mut server = server(alloc, 250, row.came)?;
     let ran = serve(&mut server, row.turns)?;
     Ok((ran, spells(server.wire().sent(), row.sent)))
 }
@@ -136,10 +125,7 @@ fn what_comes_is_answered(rt: HostRuntime) -> Result<(), Fail> {
 /// A server whose wire's call of this number fails after one byte of a send, and then is used again: whether both
 /// fail, and how many bytes were sent.
 fn failed_at(alloc: Global, call: u64) -> Result<(bool, usize), Fail> {
-    let clips = two_clips(250).ok_or("250 frames")?;
-    let mut wire = wire_of(alloc, OPENING)?;
-    wire.fail_at(call, 1);
-    let mut server = Server::new(Port::new(clips, 0, 1), wire);
+    let mut server = failing_server(alloc, OPENING, call)?;
     let fails = serve(&mut server, 100).is_err() && serve(&mut server, 0).is_err();
     Ok((fails, server.wire().sent().len()))
 }

@@ -1,14 +1,12 @@
 //! Who watches a driver: the controller in each listen, and each item that goes to air.
 use super::calls::{run_watched, serve_watched};
-use super::clips::Playlist;
+use super::ends::{automation, server};
 use super::messages::{ACK, CUE_1, CUE_2, GRANTED, IDLE, OPEN, PLAY, SELECT};
-use super::scripts::{SILENCE, wire_of};
-use crate::{AutoDriver, Ran, Server, Watch, WatchAir};
+use super::scripts::SILENCE;
+use crate::{Ran, Watch, WatchAir};
 use std::process::Abort;
 use std::test::Fail;
 use vdcp_auto::{Controller, Source};
-use vdcp_port::Port;
-use vdcp_testing::two_clips;
 use vdcp_value::{ClipId, Item};
 use vdcp_words::Command;
 
@@ -47,11 +45,10 @@ fn item(id: &[u8; 8]) -> Item {
 
 #[test]
 fn items_are_lent_in_order(rt: HostRuntime) -> Result<(), Fail> {
-    let clips = two_clips(1).ok_or("one frame")?;
     let came: [&[u8]; 10] = [
         OPEN, SELECT, CUE_1, SILENCE, PLAY, CUE_2, SILENCE, PLAY, PLAY, SILENCE,
     ];
-    let mut server = Server::new(Port::new(clips, 0, 1), wire_of(rt.alloc(), &came)?);
+    let mut server = server(rt.alloc(), 1, &came)?;
     let mut as_run = AsRun {
         items: Vec::new(rt.alloc()),
     };
@@ -78,8 +75,7 @@ const CLOSED: Command = Command::Close(1);
 #[test]
 fn controller_is_lent_in_each_listen(rt: HostRuntime) -> Result<(), Fail> {
     let came: [&[u8]; 8] = [GRANTED, SILENCE, ACK, SILENCE, IDLE, SILENCE, ACK, SILENCE];
-    let wire = wire_of(rt.alloc(), &came)?;
-    let mut driver = AutoDriver::new(Controller::new(Playlist::of(0), 1, 3), 0, wire);
+    let mut driver = automation(rt.alloc(), false, &came)?;
     let mut awaited = Awaited {
         commands: Vec::new(rt.alloc()),
     };
