@@ -71,7 +71,8 @@ pub some_given : (plan : Plan) (s : State) (c : Command) → given plan s ≡ So
 some_given plan s c h = grind (arith, common_steps)
 
 -- the input of a burst is what the controller receives at its end
-input_after : (plan : Plan) (s : State) (h : Option Heard) → after_input plan s (input_of h) ≡ came_to plan h (ticked s)
+pub input_after : (plan : Plan) (s : State) (h : Option Heard)
+    → after_input plan s (input_of h) ≡ came_to plan h (ticked s)
 input_after plan s None = refl
 input_after plan s (Some x) = refl
 
@@ -144,7 +145,7 @@ logged_commands log (Some e) = map-append command_of log (e ∷ [])
 
 -- Places of commands.
 
-starts_push : (unit n : ℕ) (commands : List Command) (c : Command)
+pub starts_push : (unit n : ℕ) (commands : List Command) (c : Command)
     → starts_behind unit n (commands ++ c ∷ []) ≡ starts_behind unit n commands ++ (n + length (bytes_of unit commands))
     ∷ []
 starts_push unit n [] c = ap (λ (m : ℕ). m ∷ []) (omega arith)
@@ -188,7 +189,7 @@ pub record RunsAt (plan : Plan) (unit : ℕ) (t : Told) (state : State) (reader 
   pub follows : Follows (open_burst t.came) (messages_of (open_burst t.came)) reader
   pub hears : heard ≡ heard_first unit (messages_of (open_burst t.came))
 
-tick_after : (within : Bool) (s : State) → ticked (if within then ticked s else s) ≡ ticked s
+pub tick_after : (within : Bool) (s : State) → ticked (if within then ticked s else s) ≡ ticked s
 tick_after true s = ticked_twice s
 tick_after false s = refl
 
@@ -263,7 +264,7 @@ awaits_then plan unit t state reader heard is_sent told state' told' is h e tick
 -- One more listen.
 
 -- the bursts' inputs with one more
-inputs_push : (unit : ℕ) (bursts : List (List ℕ)) (burst : List ℕ)
+pub inputs_push : (unit : ℕ) (bursts : List (List ℕ)) (burst : List ℕ)
     → map (λ b. input_of (heard_in unit b)) (bursts ++ burst ∷ [])
     ≡ map (λ b. input_of (heard_in unit b)) bursts ++ input_of (heard_in unit burst) ∷ []
 inputs_push unit bursts burst = map-append (λ b. input_of (heard_in unit b)) bursts (burst ∷ [])
@@ -469,7 +470,7 @@ none_ticked plan s = at s.stage s refl where
   at (Ended outcome) s is = ap (given_in plan s.stop) is
 
 -- a command is given only between bursts
-given_between : (plan : Plan) (within : Bool) (s : State) (c : Command)
+pub given_between : (plan : Plan) (within : Bool) (s : State) (c : Command)
     → given plan (if within then ticked s else s) ≡ Some c
     → (if within then ticked s else s) ≡ s
 given_between plan false s c h = refl
@@ -560,7 +561,7 @@ ended_tick s h = at s.stage s refl h where
   at (Awaiting p) s is h = let awaits : is_awaiting s.stage ≡ true = ap is_awaiting is in cc
   at (Ended outcome) s is h = (refl, subst (λ (x : Stage). IsSome (outcome_of x)) (sym is) (search rules))
 
-between_or_in : (within : Bool) (s : State) → ticked s ≡ s → ticked s ≡ (if within then ticked s else s)
+pub between_or_in : (within : Bool) (s : State) → ticked s ≡ s → ticked s ≡ (if within then ticked s else s)
 between_or_in true s h = refl
 between_or_in false s h = h
 

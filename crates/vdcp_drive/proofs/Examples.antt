@@ -1,11 +1,15 @@
 -- What the definitions say of the worked rows: of the port's answers and of the automation's commands.
-use Rattle.std.proofs.Common.{◌≡◌, ℕ, List, [], ◌∷◌, ◌++◌, refl}
+use Rattle.std.proofs.Common.{◌≡◌, ℕ, List, [], ◌∷◌, ◌++◌, map, refl}
+use Rattle.vdcp_auto.specs.Course.{course_from}
 use Rattle.vdcp_auto.specs.Plan.{Plan}
+use Rattle.vdcp_auto.specs.State.{State}
+use Rattle.vdcp_auto.specs.Turn.{stopped}
 use Rattle.vdcp_auto.specs.declared.phase.Mode.{Mode}
 use Rattle.vdcp_auto.specs.declared.phase.Mode.TheVariants.{Plain, Confirming}
 use Rattle.vdcp_port.specs.Clock.{ClockedPort, new_port}
 use Rattle.vdcp_drive.specs.Bursts.{ended_bursts, open_burst, finished_bursts}
 use Rattle.vdcp_drive.specs.Driven.{state_after, commands_by, bytes_of, starts_of}
+use Rattle.vdcp_drive.specs.RunOn.{inputs_since}
 use Rattle.vdcp_drive.specs.Served.{served, after_bursts}
 use Rattle.vdcp_wire.specs.Wires.{Arrival, bytes, silence, close}
 
@@ -99,3 +103,19 @@ cut_off = bytes (0x02 ∷ 0x03 ∷ 0x30 ∷ []) ∷ close ∷ []
 
 close_is_a_time_out : bytes_of 0 (commands_by (plan Plain) 0 cut_off (state_after (plan Plain) 0 cut_off)) ≡ open_bytes
 close_is_a_time_out = refl
+
+-- the operator stops after a run that ended inside the answer to OPEN: the next one hears the rest of it, and then sends
+-- STOP and CLOSE
+abbrev begun : List Arrival
+begun = bytes (0x02 ∷ 0x03 ∷ 0x30 ∷ []) ∷ []
+
+abbrev stopped_then : State
+stopped_then = stopped (state_after (plan Plain) 0 begun)
+
+abbrev since : List Arrival
+since = bytes (0x81 ∷ 0x01 ∷ 0x4E ∷ []) ∷ silence ∷ bytes (0x04 ∷ []) ∷ silence ∷ bytes (0x04 ∷ []) ∷ silence ∷ []
+
+stop_goes_out_after_a_torn_answer : bytes_of 0 (map (λ e. e.command)
+    (course_from (plan Plain) stopped_then (inputs_since 0 begun since)))
+    ≡ open_bytes ++ (0x02 ∷ 0x02 ∷ 0x10 ∷ 0x00 ∷ 0xF0 ∷ []) ++ close_bytes
+stop_goes_out_after_a_torn_answer = refl

@@ -3,12 +3,14 @@ use Rattle.std.proofs.Common.{ℕ, ◌≡◌, List, [], sym, subst, arith}
 use Rattle.std.specs.Prelude.{◌≢◌, Option, Some, Result, Ok, Err, IsErr}
 use Rattle.vdcp_value.specs.declared.part.Item.{Item}
 use Rattle.vdcp_auto.specs.Plan.{plan_of}
+use Rattle.vdcp_auto.specs.State.{State}
 use Rattle.vdcp_frame.specs.Progress.{Progress, reading}
 use Rattle.vdcp_port.specs.Clock.{ClockedPort}
 use Rattle.vdcp_drive.specs.Driven.{IsReachedFrom, HasRunBroken, IsNew}
 use Rattle.vdcp_drive.specs.Hearing.{Driving}
 use Rattle.vdcp_drive.specs.Lines.{ServesTo}
 use Rattle.vdcp_drive.specs.RunLeaves.{RunLeaves}
+use Rattle.vdcp_drive.specs.RunOn.{HasRunOn, StandsIn}
 use Rattle.vdcp_drive.specs.ServeLeaves.{ServeLeaves}
 use Rattle.vdcp_drive.specs.Served.{HasBrokenOff, IsPartlySent, IsServed}
 use Rattle.vdcp_drive.specs.Serving.{Serving}
@@ -17,6 +19,7 @@ use Rattle.vdcp_drive.specs.declared.line.Ran.{Ran}
 use Rattle.vdcp_drive.specs.declared.line.Ran.TheVariants as ran
 use Rattle.vdcp_drive.proofs.Below.{Fed}
 use Rattle.vdcp_drive.proofs.Driving.{with_front}
+use Rattle.vdcp_drive.proofs.RunningOn.{BrokenOnAt}
 use Rattle.vdcp_drive.proofs.Standing.{at_start}
 use Rattle.vdcp_wire.specs.Wires.{IfTold, Told, nothing_told}
 
@@ -27,14 +30,19 @@ pub run_failed : {S W : Type 0} (items : S → List Item) (told : W → Option T
     → IsErr answer → failures old.wire ≡ 0 → failures new.wire ≡ 1
     → (IsNew told old → IfTold (told new.wire) (λ u. HasRunBroken (plan_of items old.controller) old.unit u
     new.controller.state))
+    → ((start : State) (first t : Told) → told old.wire ≡ Some t
+    → HasRunOn (plan_of items old.controller) old.unit start first t old.controller.state
+    → StandsIn old.unit t old.reader old.heard → BrokenOnAt items told old new start first)
     → IsReachedFrom (plan_of items old.controller) old.controller.state new.controller.state
     → new.controller ≡ record old.controller { state = new.controller.state } → new.unit ≡ old.unit
     → RunLeaves items told failures listens old new answer
-run_failed items told failures listens old new (Ok a) is works fails broken reached same united = absurd cc
-run_failed items told failures listens old new (Err fault) is works fails broken reached same united = record {
+run_failed items told failures listens old new (Ok a) is works fails broken breaks reached same united = absurd cc
+run_failed items told failures listens old new (Err fault) is works fails broken breaks reached same united = record {
   run = λ _. tt;
   broken = λ begun _. with_front (plan_of items old.controller) old.unit new.controller.state (told new.wire)
       (broken begun);
+  runs_on = λ _ _ _ _ _ _. tt;
+  breaks_on = λ start first t is h s _. breaks start first t is h s;
   ended = tt;
   answers = λ _ _. tt;
   reached = reached;

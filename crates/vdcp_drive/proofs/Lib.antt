@@ -7,6 +7,7 @@ pub mod Standing
 pub mod Airing
 pub mod Listening
 pub mod Driving
+pub mod RunningOn
 pub mod Asking
 pub mod Reaching
 pub mod Watching

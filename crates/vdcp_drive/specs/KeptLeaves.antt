@@ -3,11 +3,13 @@ use Rattle.std.specs.Prelude.{ℕ, ◌≡◌, List, Option, Some, Result, Ok, Er
 use Rattle.vdcp_value.specs.declared.part.Item.{Item}
 use Rattle.vdcp_auto.specs.Course.{course}
 use Rattle.vdcp_auto.specs.Plan.{plan_of}
+use Rattle.vdcp_auto.specs.State.{State}
 use Rattle.vdcp_auto.specs.Turn.{given}
 use Rattle.vdcp_drive.specs.Driven.{IsReachedFrom, HasRun, IsNew, inputs_of}
 use Rattle.vdcp_drive.specs.Hearing.{Driving}
 use Rattle.vdcp_drive.specs.Keeping.{HasKept}
 use Rattle.vdcp_drive.specs.RunLeaves.{RunLeaves}
+use Rattle.vdcp_drive.specs.RunOn.{HasRunOn, StandsIn}
 use Rattle.vdcp_drive.specs.declared.keep.Kept.{Kept}
 use Rattle.vdcp_drive.specs.declared.keep.KeptFault.{KeptFault}
 use Rattle.vdcp_drive.specs.declared.keep.KeptFault.TheVariants as fault
@@ -38,6 +40,12 @@ pub record UnkeptLeaves {S W : Type 0} (items : S → List Item) (told : W → O
     (old new : Driving S W) : Type 0 where
   pub run : IsNew told old → IfTold (told new.wire) (λ u.
       HasRun (plan_of items old.controller) old.unit u new.controller.state)
+  pub runs_on : (start : State) (first t : Told) → told old.wire ≡ Some t
+      → HasRunOn (plan_of items old.controller) old.unit start first t old.controller.state
+      → StandsIn old.unit t old.reader old.heard
+      → IfTold (told new.wire) (λ u.
+      HasRunOn (plan_of items old.controller) old.unit start first u new.controller.state
+      × StandsIn old.unit u new.reader new.heard)
   pub unsent : IsSome (given (plan_of items new.controller) new.controller.state)
   pub reached : IsReachedFrom (plan_of items old.controller) old.controller.state new.controller.state
   pub controller : new.controller ≡ record old.controller { state = new.controller.state }

@@ -7,6 +7,7 @@ pub mod Served
 pub mod ServeLeaves
 pub mod Hearing
 pub mod Driven
+pub mod RunOn
 pub mod RunLeaves
 pub mod Keeping
 pub mod KeptLeaves

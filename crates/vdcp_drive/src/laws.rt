@@ -1,17 +1,19 @@
 //! The laws of the definitions that the contracts of this crate cite. The functions do nothing: their
 //! contracts are the laws, and a caller whose proof needs one calls it.
-ghost use Rattle.std.specs.Prelude.{◌≡◌, ◌≤◌, ℕ, List, [], ◌++◌, Option};
+ghost use Rattle.std.specs.Prelude.{◌≡◌, ◌≤◌, ℕ, List, [], ◌++◌, Option, None};
 ghost use Rattle.vdcp_frame.specs.Message.{Content};
-ghost use Rattle.vdcp_frame.specs.Progress.{Progress};
+ghost use Rattle.vdcp_frame.specs.Progress.{Progress, reading};
 ghost use Rattle.vdcp_frame.specs.Reading.{SpellsAll, IsUnfinished};
 ghost use Rattle.vdcp_auto.specs.Course.{course};
 ghost use Rattle.vdcp_auto.specs.Law.{IsLawful};
 ghost use Rattle.vdcp_auto.specs.Plan.{Plan};
 ghost use Rattle.vdcp_auto.specs.State.{State};
+ghost use Rattle.vdcp_auto.specs.Turn.{start};
 ghost use Rattle.vdcp_drive.specs.Driven.{HasRun, HasRunBroken, inputs_of};
 ghost use Rattle.vdcp_drive.specs.Prompt.{HasRunPrompt, HasRunPromptBroken, prompted};
 ghost use Rattle.vdcp_drive.specs.PromptReading.{Held, holds, completed, held_after};
-ghost use Rattle.vdcp_wire.specs.Wires.{Told};
+ghost use Rattle.vdcp_drive.specs.RunOn.{HasRunOn, StandsIn};
+ghost use Rattle.vdcp_wire.specs.Wires.{Told, nothing_told};
 
 use vdcp_auto::laws as courses;
 use vdcp_frame::laws as bursts;
@@ -40,6 +42,17 @@ pub fn a_prompt_run_is_lawful()
         IsLawful plan state (prompted plan unit told.came).log }
 {
     courses::reached_is_lawful();
+}
+
+/// What runs that go on have in common with the first one: each automation has run on from where it is, with nothing
+/// since; a new one stands in what its wire tells; and one that has run on since it was new has run.
+pub fn runs_go_on_from_here()
+    ensures here { (plan : Plan) (unit : ℕ) (state : State) (told : Told) → HasRunOn plan unit state told told state }
+    ensures new { (unit : ℕ) → StandsIn unit nothing_told (reading 0 []) None }
+    ensures run { (plan : Plan) (unit : ℕ) (told : Told) (state : State) →
+        HasRunOn plan unit start nothing_told told state → HasRun plan unit told state }
+{
+    bursts::what_is_fed_is_followed();
 }
 
 /// An automation that hears at once completes just the messages that the bytes spell, and holds what has begun

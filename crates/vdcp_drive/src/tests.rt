@@ -1,16 +1,16 @@
 //! The worked rows of both drivers over a wire in memory.
 mod automation;
-mod both;
-mod broken;
 mod calling;
 mod calls;
 mod clips;
+mod ends;
 mod hostile;
 mod keeping;
 mod lawful;
 mod loopback;
 mod messages;
 mod prompt;
+mod scripts;
 mod server;
 mod vacancy;
 mod watching;

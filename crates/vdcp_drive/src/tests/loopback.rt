@@ -70,14 +70,9 @@ fn play(
 
 #[test]
 fn two_clips_are_played(rt: HostRuntime) -> Result<(), Fail> {
-    let controller = Controller::new(Playlist::of(2), 1, 3);
-    assert_eq!(rt; play(&rt, controller)?, (Some(Outcome::Done), 14, 2));
-    Ok(())
-}
-
-#[test]
-fn two_clips_are_played_in_confirm_mode(rt: HostRuntime) -> Result<(), Fail> {
-    let controller = Controller::confirming(Playlist::of(2), 1, 3);
-    assert_eq!(rt; play(&rt, controller)?, (Some(Outcome::Done), 17, 2));
+    let plain = play(&rt, Controller::new(Playlist::of(2), 1, 3))?;
+    assert_eq!(rt; plain, (Some(Outcome::Done), 14, 2));
+    let confirming = play(&rt, Controller::confirming(Playlist::of(2), 1, 3))?;
+    assert_eq!(rt; confirming, (Some(Outcome::Done), 17, 2));
     Ok(())
 }

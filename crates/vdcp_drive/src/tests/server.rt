@@ -1,207 +1,146 @@
 //! A server over a wire in memory.
-use super::calls::{serve, turn};
-use super::clips::Clips;
-use super::messages::{CUE_1, IDLE, OPEN, PLAY, SELECT, STATUS, STOP};
-use crate::{DriveFault, Line, Ran, Server};
-use linked_list_allocator::LocalHeap;
-use std::alloc::{AllocError, Allocator, Global};
+use super::calls::serve;
+use super::ends::{failing_server, server};
+use super::messages::{ACK, CUE_1, GRANTED, IDLE, OPEN, PLAY, SELECT, STATUS, STOP};
+use super::scripts::{SILENCE, spells};
+use crate::Ran;
+use std::alloc::Global;
 use std::process::Abort;
 use std::test::Fail;
-use vdcp_port::Port;
-use vdcp_testing::two_clips;
-use vdcp_value::{ClipId, Item};
-use vdcp_wire::{Entry, ScriptWire};
 
-type Serving<A> = Server<Clips, ScriptWire<A>>;
-
-/// A server with a new port of unit 0 and number 1, over a wire of these entries.
-fn server<A: Allocator + Copy>(
-    alloc: A,
-    entries: Vec<Entry<A>, A>,
-) -> Result<Serving<A>, &'static str> {
-    let clips = two_clips(250).ok_or("250 frames")?;
-    Ok(Server::new(Port::new(clips, 0, 1), ScriptWire::new(alloc, entries)))
+/// What comes to a new server in this many turns, what it sends, and how that ends.
+#[derive(Clone, Copy)]
+struct Row {
+    came: &'static [&'static [u8]],
+    turns: u64,
+    sent: &'static [&'static [u8]],
+    ran: Ran,
 }
 
-/// A burst in pieces, and its silence.
-fn add_burst<A: Allocator + Copy>(
-    alloc: A,
-    entries: &mut Vec<Entry<A>, A>,
-    pieces: &[&[u8]],
-) -> Result<(), AllocError> {
-    for piece in pieces {
-        entries.push(Entry::Came(Vec::from_slice(alloc, piece)?))?;
-    }
-    entries.push(Entry::Silence)?;
-    Ok(())
-}
-
-/// OPEN, SELECT in two pieces, STATUS, and the close.
-fn opening<A: Allocator + Copy>(alloc: A) -> Result<Vec<Entry<A>, A>, AllocError> {
-    let mut entries = Vec::new(alloc);
-    add_burst(alloc, &mut entries, &[OPEN])?;
-    add_burst(alloc, &mut entries, &[&SELECT[..3], &SELECT[3..]])?;
-    add_burst(alloc, &mut entries, &[STATUS])?;
-    entries.push(Entry::Closed)?;
-    Ok(entries)
-}
-
-/// What the opening is answered.
-const OPENED: &'static [u8] = &[
-    0x02, 0x03, 0x30, 0x81, 0x01, 0x4E, 0x04, 0x02, 0x04, 0x30, 0x85, 0x01, 0x01, 0x49,
+const OPENING: &'static [&'static [u8]] = &[
+    OPEN,
+    SILENCE,
+    b"\x02\x03\x20",
+    b"\x22\x01\xBD",
+    SILENCE,
+    STATUS,
+    SILENCE,
 ];
 
-#[test]
-fn opening_is_served(rt: HostRuntime) -> Result<(), Fail> {
-    let mut server = server(rt.alloc(), opening(rt.alloc())?)?;
-    assert_eq!(rt; serve(&mut server, 100), Ok(Ran::Closed));
-    assert_eq!(rt; server.wire().sent(), OPENED);
-    assert!(rt; server.wire().drops().is_empty());
-    assert_eq!(rt; server.port().status_byte(), 0x01);
-    Ok(())
+// The other end closes after the last piece.
+const ROWS: [Row; 9] = [
+    Row {
+        came: OPENING,
+        turns: 100,
+        sent: &[GRANTED, ACK, IDLE],
+        ran: Ran::Closed,
+    },
+    Row {
+        came: OPENING,
+        turns: 2,
+        sent: &[GRANTED],
+        ran: Ran::Spent,
+    },
+    Row {
+        came: OPENING,
+        turns: 3,
+        sent: &[GRANTED],
+        ran: Ran::Spent,
+    },
+    Row {
+        came: OPENING,
+        turns: 4,
+        sent: &[GRANTED, ACK],
+        ran: Ran::Spent,
+    },
+    // PLAY and STOP in two pieces
+    Row {
+        came: &[
+            OPEN,
+            SELECT,
+            SILENCE,
+            b"\x02",
+            b"\x02\x10\x01\xEF\x02\x02\x10\x00\xF0",
+            SILENCE,
+        ],
+        turns: 6,
+        sent: &[GRANTED, ACK, ACK, ACK],
+        ran: Ran::Spent,
+    },
+    Row {
+        came: &[
+            OPEN,
+            SELECT,
+            SILENCE,
+            b"\x02\x02\x10\x01\xEF\x02\x02\x10",
+            b"\x00\xF0",
+            SILENCE,
+        ],
+        turns: 6,
+        sent: &[GRANTED, ACK, ACK, ACK],
+        ran: Ran::Spent,
+    },
+    // a close inside of the second PLAY
+    Row {
+        came: &[OPEN, SELECT, SILENCE, b"\x02\x02\x10\x01\xEF\x02\x02\x10"],
+        turns: 100,
+        sent: &[GRANTED, ACK, ACK],
+        ran: Ran::Closed,
+    },
+    // half a message, twice
+    Row {
+        came: &[
+            b"\x02\x0A\x20\x24\x43",
+            SILENCE,
+            b"\x02\x0A\x20\x24\x43",
+            SILENCE,
+        ],
+        turns: 4,
+        sent: &[b"\x05\x80", b"\x05\x80"],
+        ran: Ran::Spent,
+    },
+    Row {
+        came: &[OPEN, SELECT, CUE_1, PLAY, STOP, SILENCE],
+        turns: 100,
+        sent: &[GRANTED, ACK, ACK, ACK, ACK],
+        ran: Ran::Closed,
+    },
+];
+
+/// How a new server's turns end, and whether it sent these messages.
+fn served(alloc: Global, row: &Row) -> Result<(Ran, bool), Fail> {
+    let mut server = server(alloc, 250, row.came)?;
+    let ran = serve(&mut server, row.turns)?;
+    Ok((ran, spells(server.wire().sent(), row.sent)))
 }
 
-/// What a server sends for PLAY and STOP in one burst, cut into two pieces after this many bytes.
-fn play_and_stop(alloc: Global, cut: usize) -> Result<Vec<u8>, Fail> {
-    let mut burst = Vec::from_slice(alloc, PLAY)?;
-    burst.extend_from_slice(STOP)?;
-    let (first, second) = burst
-        .as_slice()
-        .split_at_checked(cut)
-        .ok_or("the burst is shorter")?;
-    let mut entries = Vec::new(alloc);
-    add_burst(alloc, &mut entries, &[OPEN])?;
-    add_burst(alloc, &mut entries, &[SELECT])?;
-    add_burst(alloc, &mut entries, &[first, second])?;
-    let mut server = server(alloc, entries)?;
-    match serve(&mut server, 7) {
-        Ok(Ran::Spent) => Ok(Vec::from_slice(alloc, server.wire().sent())?),
-        _ => Err("turns are left".into()),
+#[test]
+fn what_comes_is_answered(rt: HostRuntime) -> Result<(), Fail> {
+    for (k, row) in ROWS.iter().enumerate() {
+        assert_eq!(rt; served(rt.alloc(), row)?, (row.ran, true), "row {k}");
     }
-}
-
-#[test]
-fn play_and_stop_in_two_pieces_are_acknowledged_once_each(rt: HostRuntime) -> Result<(), Fail> {
-    for cut in 1..PLAY.len() + STOP.len() {
-        let sent = play_and_stop(rt.alloc(), cut)?;
-        let answers = [0x02, 0x03, 0x30, 0x81, 0x01, 0x4E, 0x04, 0x04, 0x04];
-        assert_eq!(rt; sent.as_slice(), answers.as_slice(), "cut at {cut}");
-    }
     Ok(())
 }
 
-#[test]
-fn turns_are_spent(rt: HostRuntime) -> Result<(), Fail> {
-    let mut server = server(rt.alloc(), opening(rt.alloc())?)?;
-    assert_eq!(rt; serve(&mut server, 2), Ok(Ran::Spent));
-    assert_eq!(rt; server.wire().sent(), &OPENED[..6]);
-    let two = (turn(&mut server), turn(&mut server));
-    assert_eq!(rt; two, (Ok(Line::More), Ok(Line::More)));
-    assert_eq!(rt; server.wire().sent(), &OPENED[..7]);
-    Ok(())
+/// A server whose wire's call of this number fails after one byte of a send, and then is used again: whether both
+/// fail, and how many bytes were sent.
+fn failed_at(alloc: Global, call: u64) -> Result<(bool, usize), Fail> {
+    let mut server = failing_server(alloc, OPENING, call)?;
+    let fails = serve(&mut server, 100).is_err() && serve(&mut server, 0).is_err();
+    Ok((fails, server.wire().sent().len()))
 }
 
-#[test]
-fn turns_end_with_the_close(rt: HostRuntime) -> Result<(), Fail> {
-    let mut server = server(rt.alloc(), opening(rt.alloc())?)?;
-    assert_eq!(rt; serve(&mut server, 4), Ok(Ran::Spent));
-    assert_eq!(rt; turn(&mut server), Ok(Line::Ended));
-    assert_eq!(rt; serve(&mut server, 100), Ok(Ran::Closed));
-    assert_eq!(rt; turn(&mut server), Ok(Line::Closed));
-    assert_eq!(rt; server.wire().sent(), OPENED);
-    Ok(())
-}
-
-/// OPEN, SELECT and PLAY in one burst, the beginning of another PLAY, and the close.
-fn cut_off(alloc: Global) -> Result<Vec<Entry<Global>>, AllocError> {
-    let mut entries = Vec::new(alloc);
-    add_burst(alloc, &mut entries, &[OPEN, SELECT])?;
-    let mut both = Vec::from_slice(alloc, PLAY)?;
-    both.extend_from_slice(&PLAY[..3])?;
-    entries.push(Entry::Came(both))?;
-    entries.push(Entry::Closed)?;
-    Ok(entries)
-}
-
-#[test]
-fn burst_cut_off_by_the_close_is_answered_as_far_as_it_is_whole(
-    rt: HostRuntime,
-) -> Result<(), Fail> {
-    let mut server = server(rt.alloc(), cut_off(rt.alloc())?)?;
-    assert_eq!(rt; serve(&mut server, 3), Ok(Ran::Spent));
-    let before = server.wire().sent().len();
-    assert_eq!(rt; serve(&mut server, 100), Ok(Ran::Closed));
-    let more = server.wire().sent().get(before..).ok_or("less was sent")?;
-    assert_eq!(rt; more, [0x04].as_slice());
-    Ok(())
-}
-
-#[test]
-fn item_of_the_last_turn_is_shown(rt: HostRuntime) -> Result<(), Fail> {
-    let mut entries = Vec::new(rt.alloc());
-    add_burst(rt.alloc(), &mut entries, &[OPEN, SELECT, CUE_1])?;
-    entries.push(Entry::Came(Vec::from_slice(rt.alloc(), PLAY)?))?;
-    entries.push(Entry::Silence)?;
-    let mut server = server(rt.alloc(), entries)?;
-    assert_eq!(rt; serve(&mut server, 4), Ok(Ran::Spent));
-    assert!(rt; server.aired().is_none());
-    assert_eq!(rt; turn(&mut server), Ok(Line::More));
-    let item = Item {
-        id: ClipId::new(*b"CLIP0001"),
-        part: None,
-    };
-    assert_eq!(rt; server.aired(), Some(item));
-    assert_eq!(rt; turn(&mut server), Ok(Line::Ended));
-    assert!(rt; server.aired().is_none());
-    Ok(())
-}
-
-#[test]
-fn failed_send_is_a_device_for_good(rt: HostRuntime) -> Result<(), Fail> {
-    let clips = two_clips(250).ok_or("250 frames")?;
-    let mut wire = ScriptWire::new(rt.alloc(), opening(rt.alloc())?);
-    wire.fail_at(2, 2);
-    let mut server = Server::new(Port::new(clips, 0, 1), wire);
-    assert_eq!(rt; serve(&mut server, 100), Err(DriveFault::Device));
-    assert_eq!(rt; server.wire().sent(), &OPENED[..2]);
-    assert_eq!(rt; turn(&mut server), Err(DriveFault::Device));
-    assert_eq!(rt; serve(&mut server, 0), Err(DriveFault::Device));
-    assert_eq!(rt; server.wire().sent(), &OPENED[..2]);
-    Ok(())
-}
-
-/// A server over a wire whose call of this number fails after `part` bytes of a send: whether no call failed, and
-/// what was sent.
-fn failed_at(alloc: Global, call: u64, part: usize) -> Result<(bool, Vec<u8>), Fail> {
-    let clips = two_clips(250).ok_or("250 frames")?;
-    let mut wire = ScriptWire::new(alloc, opening(alloc)?);
-    wire.fail_at(call, part);
-    let mut server = Server::new(Port::new(clips, 0, 1), wire);
-    let works = serve(&mut server, 100).is_ok();
-    let sent = Vec::from_slice(alloc, server.wire().sent())?;
-    Ok((works, sent))
-}
+// Eight listens, and a send after the first, the fourth and the sixth of them.
+const SENT: [usize; 11] = [0, 1, 6, 6, 6, 7, 7, 7, 8, 14, 14];
 
 #[test]
 fn each_call_fails_in_turn(rt: HostRuntime) -> Result<(), Fail> {
-    // How many bytes had gone out before each call: eight listens and three sends in between.
-    let before = [0, 0, 6, 6, 6, 6, 7, 7, 7, 14, 14];
-    for part in [0, 1, 100] {
-        for call in 1..12 {
-            let (works, sent) = failed_at(rt.alloc(), call, part)?;
-            assert!(rt; !works);
-            let whole = before[call as usize - 1];
-            let most = match call {
-                2 => 6,
-                6 => 1,
-                9 => 7,
-                _ => 0,
-            };
-            assert_eq!(rt; sent.as_slice(), &OPENED[..whole + part.min(most)]);
-        }
-        let (works, sent) = failed_at(rt.alloc(), 12, part)?;
-        assert!(rt; works);
-        assert_eq!(rt; sent.as_slice(), OPENED);
+    for (k, sent) in SENT.iter().enumerate() {
+        assert_eq!(rt;
+            failed_at(rt.alloc(), k as u64 + 1)?,
+            (true, *sent),
+            "call {k}"
+        );
     }
     Ok(())
 }

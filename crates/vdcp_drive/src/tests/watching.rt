@@ -1,15 +1,13 @@
 //! Who watches a driver: the controller in each listen, and each item that goes to air.
-use super::clips::Playlist;
+use super::calls::{run_watched, serve_watched};
+use super::ends::{automation, server};
 use super::messages::{ACK, CUE_1, CUE_2, GRANTED, IDLE, OPEN, PLAY, SELECT};
-use crate::{AutoDriver, DriveFault, Ran, Server, Watch, WatchAir};
-use std::alloc::{AllocError, Global};
+use super::scripts::SILENCE;
+use crate::{Ran, Watch, WatchAir};
 use std::process::Abort;
 use std::test::Fail;
 use vdcp_auto::{Controller, Source};
-use vdcp_port::Port;
-use vdcp_testing::two_clips;
 use vdcp_value::{ClipId, Item};
-use vdcp_wire::{Entry, ScriptWire};
 use vdcp_words::Command;
 
 /// Keeps the items that it is lent.
@@ -38,20 +36,6 @@ impl<S: Source> Watch<S> for Awaited {
     }
 }
 
-/// Two clips of one frame each are cued and played, each in a burst of its own, and then the close.
-fn clips_played(alloc: Global) -> Result<Vec<Entry<Global>>, AllocError> {
-    let mut entries = Vec::new(alloc);
-    let bursts: [&[&[u8]]; 3] = [&[OPEN, SELECT, CUE_1], &[PLAY, CUE_2], &[PLAY, PLAY]];
-    for burst in bursts {
-        for piece in burst {
-            entries.push(Entry::Came(Vec::from_slice(alloc, piece)?))?;
-        }
-        entries.push(Entry::Silence)?;
-    }
-    entries.push(Entry::Closed)?;
-    Ok(entries)
-}
-
 fn item(id: &[u8; 8]) -> Item {
     Item {
         id: ClipId::new(*id),
@@ -61,15 +45,17 @@ fn item(id: &[u8; 8]) -> Item {
 
 #[test]
 fn items_are_lent_in_order(rt: HostRuntime) -> Result<(), Fail> {
-    let clips = two_clips(1).ok_or("one frame")?;
-    let wire = ScriptWire::new(rt.alloc(), clips_played(rt.alloc())?);
-    let mut server = Server::new(Port::new(clips, 0, 1), wire);
+    let came: [&[u8]; 10] = [
+        OPEN, SELECT, CUE_1, SILENCE, PLAY, CUE_2, SILENCE, PLAY, PLAY, SILENCE,
+    ];
+    let mut server = server(rt.alloc(), 1, &came)?;
     let mut as_run = AsRun {
         items: Vec::new(rt.alloc()),
     };
-    assert_eq!(rt; server.serve_watched(5, &mut as_run), Ok(Ran::Spent));
-    assert_eq!(rt; as_run.items.as_slice(), [item(b"CLIP0001")].as_slice());
-    assert_eq!(rt; server.serve_watched(100, &mut as_run), Ok(Ran::Closed));
+    assert_eq!(rt;
+        serve_watched(&mut server, 100, &mut as_run),
+        Ok(Ran::Closed)
+    );
     assert_eq!(rt;
         as_run.items.as_slice(),
         [item(b"CLIP0001"), item(b"CLIP0002")].as_slice()
@@ -77,52 +63,26 @@ fn items_are_lent_in_order(rt: HostRuntime) -> Result<(), Fail> {
     Ok(())
 }
 
-// The ninth call sends the answer to the first PLAY: the item has gone to air though the wire fails in it.
-#[test]
-fn item_of_a_failed_turn_is_lent(rt: HostRuntime) -> Result<(), Fail> {
-    let clips = two_clips(1).ok_or("one frame")?;
-    let mut wire = ScriptWire::new(rt.alloc(), clips_played(rt.alloc())?);
-    wire.fail_at(9, 0);
-    let mut server = Server::new(Port::new(clips, 0, 1), wire);
-    let mut as_run = AsRun {
-        items: Vec::new(rt.alloc()),
-    };
-    assert_eq!(rt;
-        server.serve_watched(100, &mut as_run),
-        Err(DriveFault::Device)
-    );
-    assert_eq!(rt; as_run.items.as_slice(), [item(b"CLIP0001")].as_slice());
-    assert_eq!(rt;
-        server.serve_watched(100, &mut as_run),
-        Err(DriveFault::Device)
-    );
-    assert_eq!(rt; as_run.items.len(), 1);
-    Ok(())
-}
+const OPENED: Command = Command::Open(1, 1);
+
+const SELECTED: Command = Command::Select(1);
+
+const ASKED: Command = Command::Status(1);
+
+const CLOSED: Command = Command::Close(1);
 
 // Each command has two listens: of its answer, and of the silence.
 #[test]
 fn controller_is_lent_in_each_listen(rt: HostRuntime) -> Result<(), Fail> {
-    let mut entries = Vec::new(rt.alloc());
-    for answer in [GRANTED, ACK, IDLE, ACK] {
-        entries.push(Entry::Came(Vec::from_slice(rt.alloc(), answer)?))?;
-        entries.push(Entry::Silence)?;
-    }
-    let controller = Controller::new(Playlist::of(0), 1, 3);
-    let mut driver = AutoDriver::new(controller, 0, ScriptWire::new(rt.alloc(), entries));
+    let came: [&[u8]; 8] = [GRANTED, SILENCE, ACK, SILENCE, IDLE, SILENCE, ACK, SILENCE];
+    let mut driver = automation(rt.alloc(), false, &came)?;
     let mut awaited = Awaited {
         commands: Vec::new(rt.alloc()),
     };
-    assert_eq!(rt; driver.run_watched(100, &mut awaited), Ok(Ran::Ended));
+    assert_eq!(rt; run_watched(&mut driver, 100, &mut awaited), Ok(Ran::Ended));
     let commands = [
-        Command::Open(1, 1),
-        Command::Select(1),
-        Command::Status(1),
-        Command::Close(1),
+        OPENED, OPENED, SELECTED, SELECTED, ASKED, ASKED, CLOSED, CLOSED,
     ];
-    assert_eq!(rt; awaited.commands.len(), 8);
-    for (looked, command) in awaited.commands.chunks(2).zip(commands) {
-        assert_eq!(rt; looked, [command, command].as_slice());
-    }
+    assert_eq!(rt; awaited.commands.as_slice(), commands.as_slice());
     Ok(())
 }

@@ -1,9 +1,9 @@
-use Rattle.std.proofs.Common.{◌≡◌, true, List, [], ◌∷◌, ◌++◌, refl, sym, ap, subst, ◌∙◌, arith}
+use Rattle.std.proofs.Common.{ℕ, ◌≡◌, false, true, List, [], ◌∷◌, ◌++◌, refl, sym, ap, subst, ◌∙◌, arith}
 use Rattle.std.proofs.lemmas.Grind.{common_steps}
-use Rattle.std.specs.Prelude.{Some, Err}
+use Rattle.std.specs.Prelude.{Some, Err, IsSome}
 use Rattle.vdcp_auto.specs.Course.{course}
 use Rattle.vdcp_auto.specs.Plan.{Plan, View, plan_of}
-use Rattle.vdcp_auto.specs.Turn.{given, is_awaiting, ticked}
+use Rattle.vdcp_auto.specs.Turn.{given, is_awaiting, outcome_of, ticked}
 use Rattle.vdcp_auto.specs.State.{State}
 use Rattle.vdcp_drive.specs.Driven.{inputs_of, states_listening}
 use Rattle.vdcp_drive.specs.Hearing.{Driving}
@@ -11,12 +11,30 @@ use Rattle.vdcp_drive.specs.Lines.{AllListened}
 use Rattle.vdcp_drive.specs.Watching.{adds_watched}
 use Rattle.vdcp_wire.specs.Wires.{Arrival}
 use Rattle.vdcp_drive.proofs.Below.{Read, Fed}
-use Rattle.vdcp_drive.proofs.Driving.{OneMore, sent_so, unsent_so, on_so, out_so, unheard_so, closes_to, closed_on, listened_on, ticked_twice}
-use Rattle.vdcp_drive.proofs.Keeping.{given_so, keeps_same, lost_so, noted_so, still_given}
+use Rattle.vdcp_drive.proofs.Driving.{OneMore, sent_so, unsent_so, on_so, out_so, unheard_so, closes_to, closed_on, ended_on, ended_run, ended_tick, listened_on, spends, ticked_twice}
+use Rattle.vdcp_drive.proofs.Keeping.{given_so, keeps_same, lost_is_given, lost_so, noted_so, still_given}
 use Rattle.vdcp_drive.proofs.Leaving.{run_failed}
 use Rattle.vdcp_drive.proofs.Reaching.{goes_further}
+use Rattle.vdcp_drive.proofs.RunningOn.{closed_out, ended_out, heard_on, sent_on, spent_out, unheard_on, unsent_on}
 use Rattle.vdcp_drive.proofs.Watching.{looks, watches_on}
 use Rattle.vdcp_drive.proofs.automation.AutoDriver.run_kept.Goals as goal
+
+pub returns-in-Err-clause-leaves : goal.returns-in-Err-clause-leaves
+returns-in-Err-clause-leaves g c =
+    let items = g.S.Source.items in
+    let inv = c.listens.invariant in record {
+      driven = tt;
+      unkept = record {
+        run = λ is. let h = inv.runs is in (h.0, h.1, h.2.0.run);
+        runs_on = inv.runs_on;
+        unsent = subst (λ (d : Driving _ _). IsSome (given (plan_of items d.controller) d.controller.state))
+            c.self-in-listens.view_is (lost_is_given _ _ _ c.in-Err.ensures.lost);
+        reached = inv.reached;
+        controller = inv.controller;
+        unit = inv.unit;
+        works = inv.works;
+      };
+    }
 
 pub returns-in-Err-clause-keeps : goal.returns-in-Err-clause-keeps
 returns-in-Err-clause-keeps g c is works before was =
@@ -48,6 +66,8 @@ returns-in-Err-send-clause-leaves g c =
           let h = inv.runs is in
           let b = unsent_so items told s c.listens.self n h.0 inv.controller inv.unit h.1 h.2.0 (e.breaks inv.works) in
           (b.0, b.1, b.2.0))
+          (λ start first t is h st. unsent_on items told s c.listens.self n start first inv.controller inv.unit
+          (inv.runs_on start first t is h st) (e.breaks inv.works))
           (goes_further plan _ _ _ _ (ap (plan_of items) inv.controller) inv.reached e.reached)
           (e.controller ∙ ap (λ (v : View _). record v { state = n.controller.state }) inv.controller)
           (ap (λ (d : Driving _ _). d.unit) e.keeps ∙ inv.unit);
@@ -83,6 +103,80 @@ returns-in-Err-send-clause-keeps g c is works before was =
           (still_given _ _ _ _ _ _ e),
     )
 
+pub returns-then-not-awaiting-clause-leaves : goal.returns-then-not-awaiting-clause-leaves
+returns-then-not-awaiting-clause-leaves g c =
+    let items = g.S.Source.items in
+    let told = g.W.Wire.told in
+    let s = c.args.self.now in
+    let l = c.listens.self in
+    let n = c.send.new.self in
+    let inv = c.listens.invariant in
+    let o = c.in_default-send.ensures in
+    let plan : Plan = plan_of items s.controller in
+    let worked : g.W.Wire.failures s.wire ≡ 0 = grind (arith, common_steps) in
+    let none : is_awaiting n.controller.state.stage ≡ false = grind (arith, common_steps) in
+    let ticks : n.controller.state ≡ ticked l.controller.state = ap (λ (v : View _). v.state) o.ticks in
+    let e = ended_tick l.controller.state (ap (λ (q : State). is_awaiting q.stage) (sym ticks) ∙ none) in
+    let some : IsSome (outcome_of n.controller.state.stage) =
+    subst (λ (q : State). IsSome (outcome_of q.stage)) (sym (ticks ∙ e.0)) e.1 in record {
+      driven = record {
+        run = λ is.
+            let h = inv.runs is in
+            let w = sent_so items told s l n h.0 c.in_default-send.field-0 inv.controller inv.unit h.1 h.2.0 o.sends
+            o.ticks o.keeps in
+            (w.0, w.1, (ended_run plan s.unit w.0 n.controller.state n.reader n.heard w.2.0 none).0);
+        broken = λ _ _. tt;
+        runs_on = λ start first t is h st. ended_out items told s n start first
+            (sent_on items told s l n start first c.in_default-send.field-0 inv.controller inv.unit
+            (inv.runs_on start first t is h st) o.sends o.ticks o.keeps) none;
+        breaks_on = λ _ _ _ _ _ _ _. tt;
+        ended = (λ _. some, λ _. refl);
+        answers = λ t is.
+            let h = inv.listened t is in
+            ended_on c.listens.made c.args.listens t h.0 l.unit
+            (given (plan_of items l.controller) l.controller.state) c.in_default-send.field-0
+            (outcome_of n.controller.state.stage) (told l.wire) (told n.wire) h.1 h.2 inv.within o.sends some;
+        reached = goes_further plan _ _ _ _ (ap (plan_of items) inv.controller) inv.reached o.reached;
+        controller = o.controller ∙ ap (λ (v : View _). record v { state = n.controller.state }) inv.controller;
+        unit = ap (λ (d : Driving _ _). d.unit) o.keeps ∙ inv.unit;
+        works = o.works;
+        device = tt;
+        stays = λ failed. absurd (omega (arith, worked, failed));
+      };
+      unkept = tt;
+    }
+
+pub returns-clause-leaves : goal.returns-clause-leaves
+returns-clause-leaves g c =
+    let items = g.S.Source.items in
+    let told = g.W.Wire.told in
+    let s = c.args.self.now in
+    let l = c.listens.self in
+    let inv = c.listens.invariant in
+    let worked : g.W.Wire.failures s.wire ≡ 0 = grind (arith, common_steps) in record {
+      driven = record {
+        run = λ is. let h = inv.runs is in (h.0, h.1, h.2.0.run);
+        broken = λ _ _. tt;
+        runs_on = λ start first t is h st. spent_out items told s l start first (inv.runs_on start first t is h st);
+        breaks_on = λ _ _ _ _ _ _ _. tt;
+        ended = grind (arith, common_steps);
+        answers = λ t is.
+            let h = inv.listened t is in (
+              h.0,
+              h.1,
+              rw c.unless_ended-2.ensures (spends _ c.args.listens t.came h.0.came
+                  (subst (λ (m : ℕ). AllListened m t.came h.0.came) (omega arith) h.2)),
+            );
+        reached = inv.reached;
+        controller = inv.controller;
+        unit = inv.unit;
+        works = inv.works;
+        device = tt;
+        stays = λ failed. absurd (omega (arith, worked, failed));
+      };
+      unkept = tt;
+    }
+
 pub returns-in-Err-listen-clause-leaves : goal.returns-in-Err-listen-clause-leaves
 returns-in-Err-listen-clause-leaves g c =
     let items = g.S.Source.items in
@@ -105,6 +199,9 @@ returns-in-Err-listen-clause-leaves g c =
           o.sends o.ticks o.keeps in
           let b = unheard_so items told s n m w.0 w.1 w.2.0 e.unchanged (e.breaks o.works) in
           (b.0, b.1, b.2.0))
+          (λ start first t is h st. unheard_on items told s n m start first
+          (sent_on items told s c.listens.self n start first c.in_default-send.field-0 inv.controller inv.unit
+          (inv.runs_on start first t is h st) o.sends o.ticks o.keeps) e.unchanged (e.breaks o.works))
           (goes_further plan _ _ _ _ (ap (plan_of items) o.controller ∙ planned)
           (goes_further plan _ _ _ _ planned inv.reached o.reached) e.reached)
           (e.controller ∙ ap (λ (v : View _). record v { state = m.controller.state }) o.controller
@@ -201,6 +298,10 @@ returns-in-Closed-clause-leaves g c =
             let r = out_so law items told s n m w.0 e.0 same united w.1 w.2.0 closed e.3 e.4 in
             (r.0, r.1, r.2.0);
         broken = λ _ _. tt;
+        runs_on = λ start first t is h st. closed_out law items told s n m start first e.0 same united
+            (sent_on items told s l n start first c.in_default-send.field-0 inv.controller inv.unit
+            (inv.runs_on start first t is h st) o.sends o.ticks o.keeps) closed e.3 e.4;
+        breaks_on = λ _ _ _ _ _ _ _. tt;
         ended = grind (arith, common_steps);
         answers = λ t is.
             let h = inv.listened t is in
@@ -317,6 +418,39 @@ listens-preserved g c = record {
       c.in_default-send.field-0 e.0 (told l.wire)
       (told c.send.new.self.wire) (told c.listen.new.self.wire) h.1 h.2 c.in_default-send.ensures.sends
       (λ x. c.in_default-line.not-Closed (e.1 ∙ x)) e.2 e.4;
+  runs_on = λ start first t is h st.
+      let law : OneMore = record {
+        logs = c.courses_follow_one_another.ensures.one_more;
+        leaves =
+            c.courses_follow_one_another.ensures.left_by_one_more;
+      } in
+      let read : Read = record {
+        some = c.one_reading.ensures.some;
+        read = c.what_is_followed_is_read.ensures.read;
+        messages =
+            c.what_is_followed_is_read.ensures.messages;
+        further = c.what_is_followed_is_read.ensures.further;
+      } in
+      let fed : Fed = record {
+        start =
+            c.what_is_fed_is_followed.ensures.start;
+        next = c.what_is_fed_is_followed.ensures.next;
+      } in
+      let items = g.S.Source.items in
+      let told = g.W.Wire.told in
+      let s = c.args.self.now in
+      let l = c.listens.self in
+      let n = c.send.new.self in
+      let inv = c.listens.invariant in
+      let o = c.in_default-send.ensures in
+      let e = c.in-Ok.ensures.hears in
+      let same : n.controller ≡ record s.controller { state = n.controller.state } =
+      o.controller ∙ ap (λ (v : View _). record v { state = n.controller.state }) inv.controller in
+      let united : n.unit ≡ s.unit = ap (λ (d : Driving _ _). d.unit) o.keeps ∙ inv.unit in
+      heard_on read fed law items told s n c.listen.new.self start first e.0 same united
+      (sent_on items told s l n start first c.in_default-send.field-0 inv.controller inv.unit
+      (inv.runs_on start first t is h st) o.sends o.ticks o.keeps) (λ x. c.in_default-line.not-Closed (e.1 ∙ x)) e.3
+      e.4;
   runs = λ is.
       let law : OneMore = record {
         logs = c.courses_follow_one_another.ensures.one_more;

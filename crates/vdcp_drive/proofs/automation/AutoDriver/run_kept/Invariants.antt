@@ -5,10 +5,12 @@ use Rattle.vdcp_auto.specs.Plan.{plan_of}
 use Rattle.vdcp_auto.specs.State.{State}
 use Rattle.vdcp_drive.specs.Driven.{IsReachedFrom, IsNew, inputs_of}
 use Rattle.vdcp_drive.specs.Lines.{AllListened}
+use Rattle.vdcp_drive.specs.RunOn.{HasRunOn, StandsIn}
 use Rattle.vdcp_drive.specs.declared.keep.Kept.{Kept}
 use Rattle.vdcp_wire.specs.Wires.{Told, IfTold}
 use Rattle.vdcp_drive.proofs.Driving.{RunsAt}
 use Rattle.vdcp_drive.proofs.Keeping.{KeepsAt}
+use Rattle.vdcp_drive.proofs.RunningOn.{RunsOnAt}
 use Rattle.vdcp_drive.proofs.Watching.{WatchesAt}
 use Rattle.vdcp_drive.proofs.automation.AutoDriver.run_kept.Given as goal
 
@@ -24,6 +26,11 @@ invariant-listens g l =
           l.self.controller.state;
       listened : (t : Told) → told l.fn.self.wire ≡ Some t
           → IfTold (told l.self.wire) (λ u. AllListened l.made t.came u.came);
+      runs_on : (start : State) (first t : Told) → told l.fn.self.wire ≡ Some t
+          → HasRunOn (plan_of g.S.Source.items l.fn.self.controller) l.fn.self.unit start first t
+          l.fn.self.controller.state
+          → StandsIn l.fn.self.unit t l.fn.self.reader l.fn.self.heard
+          → RunsOnAt g.S.Source.items told l.fn.self l.self start first;
       runs : IsNew told l.fn.self →
           IfTold (told l.self.wire) (λ u. RunsAt (plan_of g.S.Source.items l.fn.self.controller) l.fn.self.unit u
           l.self.controller.state l.self.reader
