@@ -2,3 +2,4 @@ mod Commands
 mod Logs
 mod Cues
 mod Judged
+mod KeptRules

@@ -4,13 +4,19 @@
 //! The calling loop: `allows` tells whether a command may come next, and `add` takes the exchange that ended.
 //! The judge keeps no log, so its memory stays the same however long the log is.
 //!
-//! Files: `judge`, `meaning` (what exchanges are).
+//! `first_forbidden` does so for a whole log. `exchanges_in` gives the log that a captured line shows.
+//!
+//! Files: `capture`, `judge`, `keeping` (whole logs), `meaning` (what exchanges are).
 #![tactic(auto)]
 
+mod capture;
 mod judge;
+mod keeping;
 mod meaning;
 
+pub use capture::{Captured, exchanges_in};
 pub use judge::Judge;
+pub use keeping::first_forbidden;
 
 #[cfg(test)]
 mod tests;
