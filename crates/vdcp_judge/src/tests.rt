@@ -3,7 +3,7 @@ ghost use Rattle.std.specs.Prelude.{None, Some, [], ◌∷◌};
 ghost use Rattle.std.proofs.Common.{rules};
 ghost use Rattle.std.proofs.lemmas.Grind.{common_steps};
 
-use crate::{Captured, Judge, exchanges_in, first_forbidden};
+use crate::{Captured, Judge, Way, captured_in, exchanges_in, first_forbidden};
 use std::process::Abort;
 use std::test::Fail;
 use vdcp_auto::{Exchange, Heard, Source};
@@ -312,6 +312,35 @@ fn a_capture_shows_its_exchanges(rt: HostRuntime) -> Result<(), Fail> {
     assert_eq!(rt;
         confirmed.as_slice(),
         [lost, status(0x80), unheard, unheard].as_slice()
+    );
+    Ok(())
+}
+
+#[test]
+fn a_burst_says_its_messages(rt: HostRuntime) -> Result<(), Fail> {
+    let alloc = rt.alloc();
+    // STATUS 01h to unit 0, PLAY to unit 0, PLAY to unit 1
+    let sent = [
+        0x02, 0x03, 0x30, 0x05, 0x01, 0xCA, 0x02, 0x02, 0x10, 0x01, 0xEF, 0x02, 0x02, 0x11, 0x01,
+        0xEE,
+    ];
+    let down = captured_in(alloc, 0, Way::Down, &sent)?;
+    let status = Captured::Sent(Command::Status(1));
+    assert_eq!(rt;
+        down.as_slice(),
+        [status, Captured::Sent(Command::Play)].as_slice()
+    );
+    // ACK, and a message that is none
+    let up = captured_in(
+        alloc,
+        0,
+        Way::Up,
+        &[0x04, 0x02, 0x02, 0x10, 0x01, 0xEF, 0x02],
+    )?;
+    let ack = Captured::Came(Heard::Reply(Reply::Ack));
+    assert_eq!(rt;
+        up.as_slice(),
+        [ack, Captured::Came(Heard::Other)].as_slice()
     );
     Ok(())
 }
