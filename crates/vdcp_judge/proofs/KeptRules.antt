@@ -1,5 +1,5 @@
 -- Logs that keep the rules, front by front.
-use Rattle.std.proofs.Common.{◌≡◌, ℕ, ◌+◌, ◌<◌, List, [], ◌∷◌, ◌++◌, length, get_or, take, inl, inr, sym, subst, arith}
+use Rattle.std.proofs.Common.{◌≡◌, ℕ, ◌+◌, ◌<◌, List, [], ◌∷◌, ◌++◌, length, get_or, take, inl, inr, sym, subst}
 use Rattle.std.proofs.lemmas.List.{take_more}
 use Rattle.vdcp_auto.specs.RuleBook.{KeepsRules, May}
 use Rattle.vdcp_auto.specs.declared.exchange.Exchange.{Exchange}

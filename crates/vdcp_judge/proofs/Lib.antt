@@ -3,3 +3,4 @@ mod Logs
 mod Cues
 mod Judged
 mod KeptRules
+mod RuledLogs

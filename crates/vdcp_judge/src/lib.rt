@@ -4,7 +4,7 @@
 //! The calling loop: `allows` tells whether a command may come next, and `add` takes the exchange that ended.
 //! The judge keeps no log, so its memory stays the same however long the log is.
 //!
-//! `first_forbidden` does so for a whole log. `captured_in` says what the bursts of
+//! `rulings` and `first_forbidden` do so for a whole log. `captured_in` says what the bursts of
 //! a captured line are, and `exchanges_in` gives the log that these show.
 //!
 //! Files: `burst`, `capture`, `judge`, `keeping` (whole logs), `meaning` (what exchanges are).
@@ -18,8 +18,8 @@ mod meaning;
 
 pub use burst::{Way, captured_in};
 pub use capture::{Captured, exchanges_in};
-pub use judge::Judge;
-pub use keeping::first_forbidden;
+pub use judge::{Judge, Ruling};
+pub use keeping::{first_forbidden, rulings};
 
 #[cfg(test)]
 mod tests;

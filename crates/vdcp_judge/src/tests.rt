@@ -3,7 +3,7 @@ ghost use Rattle.std.specs.Prelude.{None, Some, [], ◌∷◌};
 ghost use Rattle.std.proofs.Common.{rules};
 ghost use Rattle.std.proofs.lemmas.Grind.{common_steps};
 
-use crate::{Captured, Judge, Way, captured_in, exchanges_in, first_forbidden};
+use crate::{Captured, Judge, Ruling, Way, captured_in, exchanges_in, first_forbidden, rulings};
 use std::process::Abort;
 use std::test::Fail;
 use vdcp_auto::{Exchange, Heard, Source};
@@ -277,6 +277,37 @@ fn the_first_forbidden_command_is_found(rt: HostRuntime) {
     ];
     assert_eq!(rt; first_forbidden(Judge::new(clips), &log), Some(3));
     assert_eq!(rt; first_forbidden(Judge::confirming(clips), &log[..3]), None);
+}
+
+#[test]
+fn each_exchange_is_ruled_on(rt: HostRuntime) -> Result<(), Fail> {
+    let clips = Clips::new();
+    let cued = heard(clips.cue_first(), Reply::Ack);
+    let log = [
+        cued,
+        status(0x80),
+        silent(Command::Play),
+        status(0x01),
+        cued,
+    ];
+    let ruled = rulings(rt.alloc(), Judge::new(clips), &log)?;
+    let allowed = Ruling {
+        is_allowed: true,
+        settles: false,
+    };
+    let settling = Ruling {
+        is_allowed: true,
+        settles: true,
+    };
+    let forbidden = Ruling {
+        is_allowed: false,
+        settles: false,
+    };
+    assert_eq!(rt;
+        ruled.as_slice(),
+        [allowed, allowed, allowed, settling, forbidden].as_slice()
+    );
+    Ok(())
 }
 
 #[test]
