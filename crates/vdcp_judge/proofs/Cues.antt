@@ -1,10 +1,10 @@
 -- The last cue of a log that has grown by one exchange.
-use Rattle.std.proofs.Common.{◌≡◌, ℕ, ◌+◌, ◌≤◌, Bool, true, false, not, ◌||◌, ◌&&◌, Option, None, Some, List, [], ◌∷◌, ◌++◌, ◌⊎◌, inl, inr, refl, sym, ap, subst, ◌∙◌, arith, append_assoc}
+use Rattle.std.proofs.Common.{◌≡◌, ℕ, Bool, true, false, ◌||◌, ◌&&◌, Option, None, Some, List, [], ◌∷◌, ◌++◌, ◌⊎◌, inl, inr, refl, sym, ap, subst, ◌∙◌, arith, append_assoc}
 use Rattle.std.proofs.lemmas.List.Folds.{list_any-append}
 use Rattle.std.specs.List.{list_any}
 use Rattle.std.specs.Prelude.{IsSomeAnd, IsTrue, slice_get}
 use Rattle.vdcp_auto.specs.Commands.{cue_for, cue_of, is_cue_command, is_play_command, is_status_command}
-use Rattle.vdcp_auto.specs.Log.{hears, is_acked, is_cue, is_done_status, is_empty_status, is_play}
+use Rattle.vdcp_auto.specs.Log.{hears, is_acked, is_cue, is_done_status, is_play}
 use Rattle.vdcp_auto.specs.Replies.{is_done, is_empty}
 use Rattle.vdcp_auto.specs.RuleBook.{CuesItemAt, IsTaken, MayPlay}
 use Rattle.vdcp_auto.specs.Settled.{has_open_play, settled, settles}

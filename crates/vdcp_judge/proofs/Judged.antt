@@ -8,7 +8,7 @@ use Rattle.vdcp_auto.specs.RuleBook.{MayPlay}
 use Rattle.vdcp_auto.specs.Settled.{has_open_play, settled, settles}
 use Rattle.vdcp_auto.specs.declared.exchange.Exchange.{Exchange}
 use Rattle.vdcp_auto.specs.declared.phase.Mode.{Mode}
-use Rattle.vdcp_judge.proofs.Cues.{done_before, done_from, done_now, done_status_is, old_cue, old_cue_from, play_stands}
+use Rattle.vdcp_judge.proofs.Cues.{done_before, done_from, done_now, old_cue, old_cue_from, play_stands}
 use Rattle.vdcp_judge.proofs.Logs.{SettledGrows, settles_few}
 use Rattle.vdcp_judge.specs.Judging.{CueStands, Knows, View, is_done, stands}
 use Rattle.vdcp_value.specs.declared.part.Item.{Item}

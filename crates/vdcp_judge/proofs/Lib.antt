@@ -2,3 +2,5 @@ mod Commands
 mod Logs
 mod Cues
 mod Judged
+mod KeptRules
+mod RuledLogs

@@ -6,6 +6,7 @@ ghost use Rattle.vdcp_auto.specs.Log.{is_done_status, is_play};
 ghost use Rattle.vdcp_auto.specs.RuleBook.{CuesItemAt, IsTaken, May, MayPlay, Rule};
 ghost use Rattle.vdcp_auto.specs.Settled.{has_open_play, settled, settles};
 ghost use Rattle.vdcp_judge.specs.Judging.{CueStands, Knows, is_done, mode_of, stands};
+ghost use Rattle.vdcp_judge.specs.Rulings.{IsRuling};
 
 use crate::meaning::{
     cue_of, is_acked, is_answered_play, is_close, is_cue, is_done_status, is_empty_status,
@@ -29,9 +30,18 @@ pub enum LastCue {
     Done,
 }
 
+/// What the rule book says of an exchange where it stands.
+#[derive(Clone, Copy, Debug, PartialEq, Eq)]
+pub struct Ruling {
+    /// The command was allowed.
+    pub is_allowed: bool,
+    /// The exchange shows one more event to be aired.
+    pub settles: bool,
+}
+
 /// Holds an automation's exchanges against the rule book, one after another.
 ///
-/// - `allows`, `settled` and `has_open_play` only look.
+/// - `allows`, `rule_on`, `settled` and `has_open_play` only look.
 /// - `add` takes the exchange that ended.
 ///
 /// A clause about the log is of whatever log the judge was given, exchange by exchange, from its first one on.
@@ -127,6 +137,17 @@ impl<S: Source> Judge<S> {
             (IsTrue result ↔ May self.now.mode (S.items self.now.source) log command.now) }
     {
         self.keeps_rule(command) && self.goes_on(command)
+    }
+
+    /// The ruling on an exchange that comes next.
+    pub fn rule_on(&self, exchange: &Exchange) -> Ruling
+        ensures { (log : List Exchange) → Knows S.items log self.now →
+            IsRuling self.now.mode (S.items self.now.source) log exchange.now result }
+    {
+        Ruling {
+            is_allowed: self.allows(&exchange.command),
+            settles: self.settles(exchange),
+        }
     }
 
     /// Adds an exchange to the log, after those that it has, fewer than 2^64 - 1.

@@ -4,13 +4,22 @@
 //! The calling loop: `allows` tells whether a command may come next, and `add` takes the exchange that ended.
 //! The judge keeps no log, so its memory stays the same however long the log is.
 //!
-//! Files: `judge`, `meaning` (what exchanges are).
+//! `rulings` and `first_forbidden` do so for a whole log. `captured_in` says what the bursts of
+//! a captured line are, and `exchanges_in` gives the log that these show.
+//!
+//! Files: `burst`, `capture`, `judge`, `keeping` (whole logs), `meaning` (what exchanges are).
 #![tactic(auto)]
 
+mod burst;
+mod capture;
 mod judge;
+mod keeping;
 mod meaning;
 
-pub use judge::Judge;
+pub use burst::{Way, captured_in};
+pub use capture::{Captured, exchanges_in};
+pub use judge::{Judge, Ruling};
+pub use keeping::{first_forbidden, rulings};
 
 #[cfg(test)]
 mod tests;

@@ -1,8 +1,9 @@
 //! What exchanges are to the rule book.
-ghost use Rattle.std.specs.Prelude.{◌≡◌, ◌&&◌};
+ghost use Rattle.std.specs.Prelude.{◌≡◌, ◌&&◌, Some};
 ghost use Rattle.vdcp_auto.specs.Commands as commands;
 ghost use Rattle.vdcp_auto.specs.Log as log;
-ghost use Rattle.vdcp_auto.specs.Replies as replies;
+ghost use Rattle.vdcp_auto.specs.Turn as turn;
+ghost use Rattle.vdcp_judge.specs.Judging.{mode_of};
 
 use vdcp_auto::{Exchange, Heard};
 use vdcp_value::Item;
@@ -20,6 +21,32 @@ pub fn cue_of(item: &Item) -> Command
     match item.part {
         None => Command::PlayCue(item.id),
         Some(part) => Command::CueData(item.id, part.start, part.duration),
+    }
+}
+
+/// What came ends the exchange of the command, in plain mode or in confirm mode.
+pub fn is_end(confirming: bool, command: &Command, heard: &Heard) -> bool
+    ensures { result ≡ turn.is_end (mode_of confirming) command.now (Some heard.now) }
+{
+    !confirming || is_sense(command) && !matches!(heard, Heard::Reply(Reply::Ack | Reply::Nak(_)))
+}
+
+/// A request for a reply of its own. The other commands are answered by ACK.
+fn is_sense(command: &Command) -> bool
+    ensures { result ≡ commands.is_sense command.now }
+{
+    match command {
+        Command::Open(_, _)
+        | Command::Status(_)
+        | Command::ActiveId
+        | Command::IdRequest(_)
+        | Command::IdSize(_) => true,
+        Command::Close(_)
+        | Command::Select(_)
+        | Command::PlayCue(_)
+        | Command::CueData(_, _, _)
+        | Command::Play
+        | Command::Stop => false,
     }
 }
 

@@ -3,8 +3,9 @@ ghost use Rattle.std.specs.Prelude.{None, Some, [], ◌∷◌};
 ghost use Rattle.std.proofs.Common.{rules};
 ghost use Rattle.std.proofs.lemmas.Grind.{common_steps};
 
-use crate::Judge;
+use crate::{Captured, Judge, Ruling, Way, captured_in, exchanges_in, first_forbidden, rulings};
 use std::process::Abort;
+use std::test::Fail;
 use vdcp_auto::{Exchange, Heard, Source};
 use vdcp_value::{ClipId, Item, Part};
 use vdcp_words::{Command, Reply};
@@ -262,4 +263,115 @@ fn an_open_play_is_seen(rt: HostRuntime) {
     assert!(rt; judge.has_open_play());
     judge.add(&status(0x01));
     assert!(rt; !judge.has_open_play());
+}
+
+#[test]
+fn the_first_forbidden_command_is_found(rt: HostRuntime) {
+    let clips = Clips::new();
+    let log = [
+        heard(clips.cue_first(), Reply::Ack),
+        status(0x80),
+        silent(Command::Play),
+        silent(Command::Play),
+        silent(Command::Select(1)),
+    ];
+    assert_eq!(rt; first_forbidden(Judge::new(clips), &log), Some(3));
+    assert_eq!(rt; first_forbidden(Judge::confirming(clips), &log[..3]), None);
+}
+
+#[test]
+fn each_exchange_is_ruled_on(rt: HostRuntime) -> Result<(), Fail> {
+    let clips = Clips::new();
+    let cued = heard(clips.cue_first(), Reply::Ack);
+    let log = [
+        cued,
+        status(0x80),
+        silent(Command::Play),
+        status(0x01),
+        cued,
+    ];
+    let ruled = rulings(rt.alloc(), Judge::new(clips), &log)?;
+    let allowed = Ruling {
+        is_allowed: true,
+        settles: false,
+    };
+    let settling = Ruling {
+        is_allowed: true,
+        settles: true,
+    };
+    let forbidden = Ruling {
+        is_allowed: false,
+        settles: false,
+    };
+    assert_eq!(rt;
+        ruled.as_slice(),
+        [allowed, allowed, allowed, settling, forbidden].as_slice()
+    );
+    Ok(())
+}
+
+#[test]
+fn a_capture_shows_its_exchanges(rt: HostRuntime) -> Result<(), Fail> {
+    let alloc = rt.alloc();
+    let ack = Captured::Came(Heard::Reply(Reply::Ack));
+    let state = Reply::State(1, Some(0x80));
+    let asked = Captured::Sent(Command::Status(1));
+    let came = Captured::Came(Heard::Reply(state));
+    let capture = [
+        ack,
+        Captured::Sent(Command::Play),
+        ack,
+        ack,
+        asked,
+        ack,
+        came,
+        asked,
+        asked,
+        Captured::Silence,
+        came,
+    ];
+    let shown = exchanges_in(alloc, false, &capture)?;
+    let acked = heard(Command::Status(1), Reply::Ack);
+    let unheard = silent(Command::Status(1));
+    let played = heard(Command::Play, Reply::Ack);
+    assert_eq!(rt;
+        shown.as_slice(),
+        [played, acked, unheard, unheard].as_slice()
+    );
+    let confirmed = exchanges_in(alloc, true, &capture)?;
+    let lost = silent(Command::Play);
+    assert_eq!(rt;
+        confirmed.as_slice(),
+        [lost, status(0x80), unheard, unheard].as_slice()
+    );
+    Ok(())
+}
+
+#[test]
+fn a_burst_says_its_messages(rt: HostRuntime) -> Result<(), Fail> {
+    let alloc = rt.alloc();
+    // STATUS 01h to unit 0, PLAY to unit 0, PLAY to unit 1
+    let sent = [
+        0x02, 0x03, 0x30, 0x05, 0x01, 0xCA, 0x02, 0x02, 0x10, 0x01, 0xEF, 0x02, 0x02, 0x11, 0x01,
+        0xEE,
+    ];
+    let down = captured_in(alloc, 0, Way::Down, &sent)?;
+    let status = Captured::Sent(Command::Status(1));
+    assert_eq!(rt;
+        down.as_slice(),
+        [status, Captured::Sent(Command::Play)].as_slice()
+    );
+    // ACK, and a message that is none
+    let up = captured_in(
+        alloc,
+        0,
+        Way::Up,
+        &[0x04, 0x02, 0x02, 0x10, 0x01, 0xEF, 0x02],
+    )?;
+    let ack = Captured::Came(Heard::Reply(Reply::Ack));
+    assert_eq!(rt;
+        up.as_slice(),
+        [ack, Captured::Came(Heard::Other)].as_slice()
+    );
+    Ok(())
 }

@@ -1,4 +1,4 @@
-use Rattle.std.proofs.Common.{◌≡◌, Bool, ◌||◌, sym, ap, ◌∙◌, [], ◌∷◌, ◌++◌}
+use Rattle.std.proofs.Common.{Bool, ◌||◌, ap, ◌∙◌, [], ◌∷◌, ◌++◌}
 use Rattle.vdcp_auto.specs.Log.{is_stop, is_close, is_grant}
 use Rattle.vdcp_judge.proofs.Judged.{any_after, knows_after, settled_after}
 use Rattle.vdcp_judge.proofs.judge.Judge.add.Goals as goal

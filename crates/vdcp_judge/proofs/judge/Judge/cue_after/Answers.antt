@@ -1,4 +1,4 @@
-use Rattle.std.proofs.Common.{◌≡◌, sym, ap, subst, ◌∙◌}
+use Rattle.std.proofs.Common.{sym, subst, ◌∙◌}
 use Rattle.vdcp_auto.specs.RuleBook.{CuesItemAt}
 use Rattle.vdcp_judge.proofs.Cues.{new_cue, new_cue_from, new_cue_waits, play_stands, settled_cue}
 use Rattle.vdcp_judge.proofs.Judged.{done_after, false_is, stands_after}
