@@ -104,8 +104,8 @@ cut_off = bytes (0x02 ∷ 0x03 ∷ 0x30 ∷ []) ∷ close ∷ []
 close_is_a_time_out : bytes_of 0 (commands_by (plan Plain) 0 cut_off (state_after (plan Plain) 0 cut_off)) ≡ open_bytes
 close_is_a_time_out = refl
 
--- the operator stops after a run that ended inside the answer to OPEN: the next one hears the rest of it, and then sends
--- STOP and CLOSE
+-- the operator stops after a run that ended inside the answer to OPEN: the next one hears the rest of it, and then
+-- sends STOP and CLOSE
 abbrev begun : List Arrival
 begun = bytes (0x02 ∷ 0x03 ∷ 0x30 ∷ []) ∷ []
 

@@ -10,8 +10,8 @@
 //!
 //! `resume` gives a new controller the rows of a journal, and times out the exchange that was open.
 //!
-//! Files: `moment`, `digest`, `row` (headings, rows and notes), `fields` (a note's fields), `texts` (what fields name), `write`,
-//! `read`, `faults`, `replay`, `laws`.
+//! Files: `moment`, `digest`, `row` (headings, rows and notes), `fields` (a note's fields), `texts` (what fields name),
+//! `write`, `read`, `faults`, `replay`, `laws`.
 #![tactic(auto)]
 
 mod digest;

@@ -102,7 +102,8 @@ cue_settles_nothing Confirming log e is =
 any_within : (p : Exchange → Bool) (rest last : List Exchange) (e : Exchange) → rest ≡ last ++ e ∷ []
     → list_any p rest ≡ false → (list_any p last ≡ false) × (p e ≡ false)
 any_within p rest last e is nowhere =
-    let all : (list_any p last || (p e || false)) ≡ false = sym (list_any-append p last (e ∷ [])) ∙ ap (list_any p) (sym is) ∙ nowhere in
+    let all : (list_any p last || (p e || false)) ≡ false =
+    sym (list_any-append p last (e ∷ [])) ∙ ap (list_any p) (sym is) ∙ nowhere in
     (grind (arith, all), grind (arith, all))
 
 any_more : (p : Exchange → Bool) (last : List Exchange) (e : Exchange) → list_any p last ≡ false → p e ≡ false

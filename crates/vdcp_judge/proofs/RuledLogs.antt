@@ -68,5 +68,6 @@ none_ruled mode list = record {
   count = refl;
 }
 
-pub no_rulings : (mode : Mode) (list : List Item) (rulings : List Ruling) → rulings ≡ [] → AreRulings mode list [] rulings
+pub no_rulings : (mode : Mode) (list : List Item) (rulings : List Ruling) → rulings ≡ []
+    → AreRulings mode list [] rulings
 no_rulings mode list rulings is = subst (AreRulings mode list []) (sym is) (none_ruled mode list)

@@ -37,7 +37,8 @@ pub complete : (rate : Rate) (c : Channel) → Headline c → IfSome (outcome_of
 complete rate c h = by (outcome_of c.state.stage) h.ended
   where
     all : (k : ℕ) → AreReported c.plan c.aired c.log k → IsOfAllAired rate c.plan.list c.aired c.state.settled
-    all k a = ap (rows_for rate c.plan.list) (sym (nothing_more c.aired (in_time.reported_of c) h.reported.0 h.reported.1
+    all k a = ap (rows_for rate c.plan.list) (sym (nothing_more c.aired (in_time.reported_of c) h.reported.0
+        h.reported.1
         (a.aired_count ∙ sym (h.count ∙ h.is_settled ∙ a.reported_count))))
 
     by : (o : Option Outcome) → IfSome o (Means c.port.clips c.plan c.aired c.log)

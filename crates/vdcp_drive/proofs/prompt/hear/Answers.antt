@@ -27,7 +27,8 @@ returns-in-Closed-clause-hears g c = (
 )
 
 pub returns-in-Silence-clause-reached : goal.returns-in-Silence-clause-reached
-returns-in-Silence-clause-reached g c = goes_by_what_came _ None _ _ (ap (λ (v : View _). v.state) c.receive_kept.ensures.state)
+returns-in-Silence-clause-reached g c =
+    goes_by_what_came _ None _ _ (ap (λ (v : View _). v.state) c.receive_kept.ensures.state)
 
 pub returns-in-Closed-clause-reached : goal.returns-in-Closed-clause-reached
 returns-in-Closed-clause-reached g c =

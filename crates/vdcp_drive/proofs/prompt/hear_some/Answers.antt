@@ -36,7 +36,8 @@ returns-in-Some-clause-keeps g c =
     let xs : List ℕ = take c.read_some-taken.result.0 c.args.piece.now in
     keeps_some (plan_of g.S.Source.items c.args.controller.now) c.args.unit xs c.args.reader.now
     c.read_some-taken.new.reader c.in-Some.heard
-    c.args.controller.now.state c.args.passed.now (g.K.Keep.kept c.args.keep.now) (g.K.Keep.kept c.hear_or_pass.new.keep)
+    c.args.controller.now.state c.args.passed.now (g.K.Keep.kept c.args.keep.now)
+    (g.K.Keep.kept c.hear_or_pass.new.keep)
     (subst (λ (o : Option Heard). HasRead c.args.unit c.args.reader.now xs c.read_some-taken.new.reader o) c.in-Some.is
     c.read_some-taken.ensures.reads) c.hear_or_pass.ensures.kept
 

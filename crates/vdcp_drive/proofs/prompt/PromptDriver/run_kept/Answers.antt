@@ -182,7 +182,8 @@ returns-in-Closed-clause-leaves g c =
       driven = record {
         run = λ is.
             let h = inv.runs is in
-            let w = sent_so items told s l n h.0 c.in_default-send.field-0 inv.controller inv.unit h.1 h.2.0 o.sends o.ticks
+            let w = sent_so items told s l n h.0 c.in_default-send.field-0 inv.controller inv.unit h.1 h.2.0 o.sends
+            o.ticks
             o.keeps in
             let r = out_so items told s n m w.0 e.0 same united w.1 w.2.0 e.3 e.4 in
             (r.0, r.1, r.2.0);
@@ -244,7 +245,8 @@ returns-in-Closed-clause-watched g c is states was =
     let inv = c.listens.invariant in
     let h = inv.runs is in
     let o = c.in_default-send.ensures in
-    let w = sent_so items told s c.listens.self n h.0 c.in_default-send.field-0 inv.controller inv.unit h.1 h.2.0 o.sends
+    let w = sent_so items told s c.listens.self n h.0 c.in_default-send.field-0 inv.controller inv.unit h.1 h.2.0
+    o.sends
     o.ticks o.keeps in
     let same : n.controller ≡ record s.controller { state = n.controller.state } =
     o.controller ∙ ap (λ (v : View _). record v { state = n.controller.state }) inv.controller in
@@ -266,8 +268,10 @@ listens-preserved g c = record {
   within = omega arith;
   works = c.in-Ok.ensures.works;
   controller = c.in-Ok.ensures.controller
-      ∙ ap (λ (v : View _). record v { state = c.listen_kept.new.self.controller.state }) c.in_default-send.ensures.controller
-      ∙ ap (λ (v : View _). record v { state = c.listen_kept.new.self.controller.state }) c.listens.invariant.controller;
+      ∙ ap (λ (v : View _). record v { state = c.listen_kept.new.self.controller.state })
+      c.in_default-send.ensures.controller
+      ∙ ap (λ (v : View _). record v { state = c.listen_kept.new.self.controller.state })
+      c.listens.invariant.controller;
   unit = c.in-Ok.ensures.unit ∙ ap (λ (d : Prompting _ _). d.unit) c.in_default-send.ensures.keeps
       ∙ c.listens.invariant.unit;
   reached =
@@ -297,7 +301,8 @@ listens-preserved g c = record {
       let inv = c.listens.invariant in
       let h = inv.runs is in
       let o = c.in_default-send.ensures in
-      let w = sent_so items told s c.listens.self n h.0 c.in_default-send.field-0 inv.controller inv.unit h.1 h.2.0 o.sends
+      let w = sent_so items told s c.listens.self n h.0 c.in_default-send.field-0 inv.controller inv.unit h.1 h.2.0
+      o.sends
       o.ticks o.keeps in
       let same : n.controller ≡ record s.controller { state = n.controller.state } =
       o.controller ∙ ap (λ (v : View _). record v { state = n.controller.state }) inv.controller in
@@ -306,7 +311,8 @@ listens-preserved g c = record {
       let watched = g.V.Watch.watched in
       let looked = c.look.ensures ∙ ap (λ (d : Prompting _ _). adds_watched d.controller.state
       (watched c.listens.watcher)) c.self-in-listens-2.view_is in
-      let r = on_so items told s n m w.0 e.0 same united w.1 w.2.0 (λ x. c.in_default-line.not-Closed (e.1 ∙ x)) e.3 e.4 in (
+      let r = on_so items told s n m w.0 e.0 same united w.1 w.2.0 (λ x. c.in_default-line.not-Closed (e.1 ∙ x)) e.3 e.4
+      in (
         r.0,
         r.1,
         (
