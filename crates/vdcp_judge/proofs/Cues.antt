@@ -102,7 +102,8 @@ cue_settles_nothing Confirming log e is =
 any_within : (p : Exchange → Bool) (rest last : List Exchange) (e : Exchange) → rest ≡ last ++ e ∷ []
     → list_any p rest ≡ false → (list_any p last ≡ false) × (p e ≡ false)
 any_within p rest last e is nowhere =
-    let all : (list_any p last || (p e || false)) ≡ false = sym (list_any-append p last (e ∷ [])) ∙ ap (list_any p) (sym is) ∙ nowhere in
+    let all : (list_any p last || (p e || false)) ≡ false =
+    sym (list_any-append p last (e ∷ [])) ∙ ap (list_any p) (sym is) ∙ nowhere in
     (grind (arith, all), grind (arith, all))
 
 any_more : (p : Exchange → Bool) (last : List Exchange) (e : Exchange) → list_any p last ≡ false → p e ≡ false
@@ -287,7 +288,8 @@ done_from law mode list log e other still m =
       | inl w ↦ inl (ap is_done_status w.1 ∙ m.done)
       | inr w ↦
           let rest : m.between ++ (m.status ∷ m.after) ≡ (m.between ++ (m.status ∷ w.last)) ++ e ∷ [] =
-          ap (λ xs. m.between ++ (m.status ∷ xs)) w.after ∙ sym (append_assoc m.between (m.status ∷ w.last) (e ∷ [])) in
+          ap (λ xs. m.between ++ (m.status ∷ xs)) w.after
+          ∙ sym (append_assoc m.between (m.status ∷ w.last) (e ∷ [])) in
           let plays = any_within is_play m.after w.last e w.after m.no_play in
           inr (
             record {
