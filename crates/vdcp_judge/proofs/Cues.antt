@@ -288,7 +288,8 @@ done_from law mode list log e other still m =
       | inl w ↦ inl (ap is_done_status w.1 ∙ m.done)
       | inr w ↦
           let rest : m.between ++ (m.status ∷ m.after) ≡ (m.between ++ (m.status ∷ w.last)) ++ e ∷ [] =
-          ap (λ xs. m.between ++ (m.status ∷ xs)) w.after ∙ sym (append_assoc m.between (m.status ∷ w.last) (e ∷ [])) in
+          ap (λ xs. m.between ++ (m.status ∷ xs)) w.after
+          ∙ sym (append_assoc m.between (m.status ∷ w.last) (e ∷ [])) in
           let plays = any_within is_play m.after w.last e w.after m.no_play in
           inr (
             record {

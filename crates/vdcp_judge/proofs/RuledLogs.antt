@@ -45,7 +45,8 @@ more_rulings law mode list log e rulings r are is = record {
     | inr w ↦
         let below : length before < length rulings =
         omega (arith, within_length log before w.last x w.before, are.number) in
-        subst (λ o. IsSomeAnd o (IsRuling mode list before x)) (sym (get-within rulings (r ∷ []) (length before) below))
+        subst (λ o. IsSomeAnd o (IsRuling mode list before x))
+        (sym (get-within rulings (r ∷ []) (length before) below))
         (are.each before x w.last w.before)
   ];
   count =
