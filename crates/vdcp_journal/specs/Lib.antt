@@ -1,5 +1,6 @@
 pub mod Moments
 pub mod Times
+pub mod Clocks
 pub mod Rows
 pub mod Resume
 pub mod Reading

@@ -4,14 +4,17 @@
 //! A `Heading` says what is played, and each `Row` is a `Note` with the `Moment` at which it was made.
 //! `write_heading` and `write_row` append to a writer that they are lent.
 //!
+//! `Moment::of_unix_millis` is the moment of a clock's time, and `digest_of` the digest of a list.
+//!
 //! `read_journal` reads a journal's bytes, and leaves out a last row that was torn.
 //!
 //! `resume` gives a new controller the rows of a journal, and times out the exchange that was open.
 //!
-//! Files: `moment`, `row` (headings, rows and notes), `fields` (a note's fields), `texts` (what fields name), `write`,
+//! Files: `moment`, `digest`, `row` (headings, rows and notes), `fields` (a note's fields), `texts` (what fields name), `write`,
 //! `read`, `faults`, `replay`, `laws`.
 #![tactic(auto)]
 
+mod digest;
 mod faults;
 mod fields;
 pub mod laws;
@@ -22,6 +25,7 @@ mod row;
 mod texts;
 mod write;
 
+pub use digest::digest_of;
 pub use faults::{JournalReadFault, JournalRowFault, JournalWriteFault, ResumeFault};
 pub use moment::Moment;
 pub use read::{Journal, read_journal};

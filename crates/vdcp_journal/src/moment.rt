@@ -1,5 +1,11 @@
-ghost use Rattle.std.specs.Prelude.{◌≡◌, IfNone, IfSome, IsFalse, IsTrue, Some};
+ghost use Rattle.jiff.specs.Words.{civil_nanos};
+ghost use Rattle.std.specs.Prelude.{◌≡◌, ◌*◌, ◌/◌, IfNone, IfSome, IsFalse, IsTrue, Some, min, pos};
+ghost use Rattle.vdcp_journal.specs.Clocks.{clock_text, digit, last_millis};
 ghost use Rattle.vdcp_journal.specs.Moments.{fits_place, has_form, is_moment};
+
+use jiff::Timestamp;
+use jiff::civil::DateTime;
+use jiff::tz::Offset;
 
 /// A time as a journal writes it: in UTC, as `2026-11-24T09:30:00.000Z`. Which day and hour its digits
 /// name isn't tested.
@@ -10,6 +16,7 @@ pub struct Moment {
 }
 
 impl Moment {
+    ghost use Rattle.jiff.specs.Types.{DateTime};
     ghost use Rattle.vdcp_journal.specs.declared.moment.Moment.{Moment};
     ghost use Rattle.vdcp_journal.specs.Times.{moment_text};
 
@@ -27,6 +34,16 @@ impl Moment {
         Some(Moment { text: copy })
     }
 
+    /// The moment so many milliseconds after 1970 began, in UTC. A time after 9999-12-30T22:00:00Z counts as that.
+    pub fn of_unix_millis(millis: u64) -> Moment
+        ensures shown { (time : DateTime) × (moment_text result ≡ clock_text time)
+            × (civil_nanos time ≡ pos (min millis last_millis * 1_000_000)) }
+    {
+        Moment {
+            text: text_of(shown_at(millis)),
+        }
+    }
+
     /// Its text.
     pub fn as_bytes(&self) -> &[u8]
         ensures { result.now ≡ moment_text self.now }
@@ -37,6 +54,64 @@ impl Moment {
 
 /// The form of a moment's text: 0 stands for any digit.
 const FORM: &[u8; 24] = b"0000-00-00T00:00:00.000Z";
+
+/// The latest time that is told apart from later ones.
+const LAST: u64 = 253_402_207_200_000;
+
+/// What a clock in UTC shows so many milliseconds after 1970 began.
+fn shown_at(millis: u64) -> DateTime
+    ensures { civil_nanos result ≡ pos (min millis last_millis * 1_000_000) }
+{
+    let timestamp = Timestamp::from_millisecond(millis.min(LAST) as i64).unwrap();
+    Offset::UTC.to_datetime(timestamp)
+}
+
+/// What a clock shows, as a moment's text.
+fn text_of(time: DateTime) -> [u8; 24]
+    ensures text { result ≡ clock_text time }
+    ensures formed { IsTrue (is_moment result) }
+{
+    let year = time.year().unsigned_abs();
+    let month = u16::from(time.month().unsigned_abs());
+    let day = u16::from(time.day().unsigned_abs());
+    let hour = u16::from(time.hour().unsigned_abs());
+    let minute = u16::from(time.minute().unsigned_abs());
+    let second = u16::from(time.second().unsigned_abs());
+    let millisecond = time.millisecond().unsigned_abs();
+    [
+        digit(year / 1000),
+        digit(year / 100),
+        digit(year / 10),
+        digit(year),
+        b'-',
+        digit(month / 10),
+        digit(month),
+        b'-',
+        digit(day / 10),
+        digit(day),
+        b'T',
+        digit(hour / 10),
+        digit(hour),
+        b':',
+        digit(minute / 10),
+        digit(minute),
+        b':',
+        digit(second / 10),
+        digit(second),
+        b'.',
+        digit(millisecond / 100),
+        digit(millisecond / 10),
+        digit(millisecond),
+        b'Z',
+    ]
+}
+
+/// The last digit of a number.
+fn digit(number: u16) -> u8
+    ensures { result ≡ digit number }
+{
+    b'0' + (number % 10) as u8
+}
 
 /// Whether a text is a moment's.
 fn is_moment(text: &[u8]) -> bool

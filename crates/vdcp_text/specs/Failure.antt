@@ -2,8 +2,10 @@
 use Rattle.std.specs.Prelude.{ℕ, List, ◌++◌, codes, decimal}
 use Rattle.vdcp_text.specs.Text.{line}
 use Rattle.vdcp_text.specs.declared.failure.Failure.{Failure}
-use Rattle.vdcp_text.specs.declared.failure.Failure.TheVariants.{Hex, Word, Arguments, Text, Open, Read, Row, ScriptLine, TooManyEvents, NotText, Write, IsList, Memory, Writer}
+use Rattle.vdcp_text.specs.declared.failure.Failure.TheVariants.{Hex, Word, Arguments, Text, Open, Read, Row, ScriptLine, TooManyEvents, NotText, Write, IsList, Exists, InUse, JournalRow, Memory, Writer}
 use Rattle.vdcp_text.specs.declared.failure.Failure.TheVariants.{Address, Connect, NotEmpty, Bind, LineFailed, LineClosed, Spent}
+use Rattle.vdcp_text.specs.declared.failure.JournalFault.{JournalFault}
+use Rattle.vdcp_text.specs.declared.failure.JournalFault.TheVariants as journal
 use Rattle.vdcp_text.specs.declared.failure.ScriptLineFault.{ScriptLineFault}
 use Rattle.vdcp_text.specs.declared.failure.ScriptLineFault.TheVariants as lines
 use Rattle.vdcp_text.specs.declared.failure.RowFault.{RowFault}
@@ -23,6 +25,9 @@ status_of (TooManyEvents name) = 1
 status_of (NotText name) = 1
 status_of (Write name) = 3
 status_of (IsList name) = 3
+status_of (Exists name) = 3
+status_of (InUse name) = 3
+status_of (JournalRow name row fault) = 1
 status_of Address = 2
 status_of Connect = 3
 status_of NotEmpty = 1
@@ -45,6 +50,24 @@ script_line_fault_text lines.Word = codes "word"
 script_line_fault_text lines.Number = codes "number"
 script_line_fault_text lines.Hex = codes "hex"
 
+abbrev pub journal_fault_text : JournalFault → List ℕ
+journal_fault_text journal.Empty = codes "empty"
+journal_fault_text journal.Columns = codes "columns"
+journal_fault_text journal.Time = codes "time"
+journal_fault_text journal.Word = codes "word"
+journal_fault_text journal.Digest = codes "digest"
+journal_fault_text journal.Mode = codes "mode"
+journal_fault_text journal.Number = codes "number"
+journal_fault_text journal.List = codes "list"
+journal_fault_text journal.Unit = codes "unit"
+journal_fault_text journal.Port = codes "port"
+journal_fault_text journal.Limit = codes "limit"
+journal_fault_text journal.Command = codes "command"
+journal_fault_text journal.Reply = codes "reply"
+journal_fault_text journal.Detail = codes "detail"
+journal_fault_text journal.Unawaited = codes "unawaited"
+journal_fault_text journal.Outcome = codes "outcome"
+
 -- the words of a failure; those of a failed writer are never printed
 abbrev pub failure_text : Failure → List ℕ
 failure_text Hex = codes "hex"
@@ -60,6 +83,10 @@ failure_text (TooManyEvents name) = name.now ++ codes ": too many"
 failure_text (NotText name) = name.now ++ codes ": text"
 failure_text (Write name) = name.now ++ codes ": write"
 failure_text (IsList name) = name.now ++ codes ": exists as the list"
+failure_text (Exists name) = name.now ++ codes ": exists"
+failure_text (InUse name) = name.now ++ codes ": in use"
+failure_text (JournalRow name row fault) =
+    name.now ++ codes ": row " ++ decimal row ++ codes ": " ++ journal_fault_text fault
 failure_text Address = codes "address"
 failure_text Connect = codes "cannot connect"
 failure_text NotEmpty = codes "port not empty"

@@ -31,6 +31,12 @@ pub enum Failure<'a> {
     Write(&'a str),
     /// The file of this name, which was to be made, is the list.
     IsList(&'a str),
+    /// The file of this name, which was to be made, exists.
+    Exists(&'a str),
+    /// The file of this name is in use by another run.
+    InUse(&'a str),
+    /// A row of the journal of this name, counted from 1, is refused.
+    JournalRow(&'a str, usize, JournalFault),
     /// The address isn't an IPv4 address, a colon and a port number.
     Address,
     /// Nobody takes the connection.
@@ -77,10 +83,11 @@ impl Failure<'_> {
     {
         match self {
             Failure::Hex | Failure::Word | Failure::Arguments | Failure::NotEmpty => 1,
-            Failure::Row(..) | Failure::ScriptLine(..) => 1,
+            Failure::Row(..) | Failure::ScriptLine(..) | Failure::JournalRow(..) => 1,
             Failure::TooManyEvents(_) | Failure::NotText(_) => 1,
             Failure::Text | Failure::Address => 2,
             Failure::Open(_) | Failure::Read(_) | Failure::Write(_) | Failure::IsList(_) => 3,
+            Failure::Exists(_) | Failure::InUse(_) => 3,
             Failure::Connect | Failure::Bind => 3,
             Failure::LineFailed | Failure::LineClosed | Failure::Spent => 3,
             Failure::Memory | Failure::Writer => 3,
@@ -108,6 +115,9 @@ impl fmt::Display for Failure<'_> {
             Failure::NotText(name) => write!(f, "{name}: text"),
             Failure::Write(name) => write!(f, "{name}: write"),
             Failure::IsList(name) => write!(f, "{name}: exists as the list"),
+            Failure::Exists(name) => write!(f, "{name}: exists"),
+            Failure::InUse(name) => write!(f, "{name}: in use"),
+            Failure::JournalRow(name, row, fault) => write!(f, "{name}: row {row}: {fault}"),
             Failure::Address => write!(f, "address"),
             Failure::Connect => write!(f, "cannot connect"),
             Failure::NotEmpty => write!(f, "port not empty"),
@@ -186,6 +196,71 @@ impl fmt::Display for ScriptLineFault {
             ScriptLineFault::Word => write!(f, "word"),
             ScriptLineFault::Number => write!(f, "number"),
             ScriptLineFault::Hex => write!(f, "hex"),
+        }
+    }
+}
+
+/// Why a row of a journal is refused.
+#[derive(Clone, Copy, Debug, PartialEq, Eq)]
+pub enum JournalFault {
+    /// There is none.
+    Empty,
+    /// It has a wrong number of fields.
+    Columns,
+    /// It has no time.
+    Time,
+    /// Its second field is no word of a journal.
+    Word,
+    /// It has no digest.
+    Digest,
+    /// It has no mode, or another one than is wanted.
+    Mode,
+    /// It has a number that can't be.
+    Number,
+    /// It is of another list.
+    List,
+    /// It is of another unit.
+    Unit,
+    /// It is of another port.
+    Port,
+    /// It is of another limit.
+    Limit,
+    /// It has no command, or one that the controller doesn't send there.
+    Command,
+    /// It has no reply.
+    Reply,
+    /// It has more than its word.
+    Detail,
+    /// The controller awaits no such thing there.
+    Unawaited,
+    /// It has no outcome, or one that the controller doesn't come to there.
+    Outcome,
+}
+
+impl fmt::Display for JournalFault {
+    ghost use Rattle.std.specs.Prelude.{Some};
+    ghost use Rattle.vdcp_text.specs.Failure.{journal_fault_text};
+
+    ghost output = { λ fault. Some (journal_fault_text fault) };
+
+    fn fmt<W: fmt::Write>(&self, f: &mut fmt::Formatter<W>) -> fmt::Result {
+        match self {
+            JournalFault::Empty => write!(f, "empty"),
+            JournalFault::Columns => write!(f, "columns"),
+            JournalFault::Time => write!(f, "time"),
+            JournalFault::Word => write!(f, "word"),
+            JournalFault::Digest => write!(f, "digest"),
+            JournalFault::Mode => write!(f, "mode"),
+            JournalFault::Number => write!(f, "number"),
+            JournalFault::List => write!(f, "list"),
+            JournalFault::Unit => write!(f, "unit"),
+            JournalFault::Port => write!(f, "port"),
+            JournalFault::Limit => write!(f, "limit"),
+            JournalFault::Command => write!(f, "command"),
+            JournalFault::Reply => write!(f, "reply"),
+            JournalFault::Detail => write!(f, "detail"),
+            JournalFault::Unawaited => write!(f, "unawaited"),
+            JournalFault::Outcome => write!(f, "outcome"),
         }
     }
 }

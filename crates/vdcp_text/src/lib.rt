@@ -19,7 +19,7 @@ mod show;
 mod text;
 
 pub use exchange::ExchangeText;
-pub use failure::{Failure, RowFault, ScriptLineFault};
+pub use failure::{Failure, JournalFault, RowFault, ScriptLineFault};
 pub use item::ItemText;
 pub use make::do_make;
 pub use outcome::OutcomeText;

@@ -1,10 +1,10 @@
-use super::{Failure, RowFault, ScriptLineFault};
+use super::{Failure, JournalFault, RowFault, ScriptLineFault};
 use std::alloc::Global;
 use std::process::Abort;
 use std::test::Fail;
 
 // Each failure, with the line that tells it and its status.
-const ROWS: [(Failure<'static>, &str, u8); 29] = [
+const ROWS: [(Failure<'static>, &str, u8); 33] = [
     (Failure::Hex, "vdcp: hex\n", 1),
     (Failure::Word, "vdcp: word\n", 1),
     (Failure::Arguments, "vdcp: arguments\n", 1),
@@ -73,6 +73,18 @@ const ROWS: [(Failure<'static>, &str, u8); 29] = [
         Failure::IsList("a.csv"),
         "vdcp: a.csv: exists as the list\n",
         3,
+    ),
+    (Failure::Exists("a.csv"), "vdcp: a.csv: exists\n", 3),
+    (Failure::InUse("a.csv"), "vdcp: a.csv: in use\n", 3),
+    (
+        Failure::JournalRow("a.csv", 1, JournalFault::List),
+        "vdcp: a.csv: row 1: list\n",
+        1,
+    ),
+    (
+        Failure::JournalRow("a.csv", 12, JournalFault::Unawaited),
+        "vdcp: a.csv: row 12: unawaited\n",
+        1,
     ),
     (Failure::Address, "vdcp: address\n", 2),
     (Failure::Connect, "vdcp: cannot connect\n", 3),

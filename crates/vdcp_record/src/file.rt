@@ -1,0 +1,90 @@
+use std::fs::{File, OpenOptions, TryLockError};
+use std::io::{self, ErrorKind, Write};
+use std::path::Path;
+use std::rt::Files;
+use thiserror::Error;
+use vdcp_text::Failure;
+
+/// A file failed.
+#[derive(Clone, Copy, Debug, PartialEq, Eq, Error)]
+#[error("the file failed")]
+pub struct AppendFault;
+
+/// A file that grows.
+pub trait JournalFile {
+    ghost use Rattle.std.specs.Io.KnownBytes.{Appends};
+    ghost use Rattle.std.specs.Prelude.{ℕ, List, None, OnErr, OnOk, Option};
+    ghost use Rattle.vdcp_journal.specs.Rows.{AppendsBeginning};
+
+    /// The bytes that are safe, also when the power fails, if it tells that.
+    ghost safe: { Self → Option (List ℕ) } = { λ _. None };
+
+    /// Appends bytes and makes them safe. Where it fails, a beginning of them may be there.
+    fn append(&mut self, bytes: &[u8]) -> Result<(), AppendFault>
+        ensures all { OnOk result (Appends (safe self.old) (safe self.new) bytes.now) }
+        ensures beginning { OnErr result (AppendsBeginning (safe self.old) (safe self.new) bytes.now) };
+}
+
+impl JournalFile for File {
+    fn append(&mut self, bytes: &[u8]) -> Result<(), AppendFault> {
+        match write_safely(self, bytes) {
+            Ok(()) => Ok(()),
+            Err(_) => Err(AppendFault),
+        }
+    }
+}
+
+fn write_safely(file: &mut File, bytes: &[u8]) -> io::Result<()> {
+    file.write_all(bytes)?;
+    file.sync_data()
+}
+
+/// Makes the file of this name, which mustn't exist, and locks it.
+pub(crate) fn make<'a, R: Files<File = File>>(rt: &R, name: &'a str) -> Result<File, Failure<'a>> {
+    let file = match OpenOptions::new()
+        .append(true)
+        .create_new(true)
+        .open(rt, name)
+    {
+        Ok(file) => file,
+        Err(error) if error.kind() == ErrorKind::AlreadyExists => return Err(Failure::Exists(name)),
+        Err(error) => return Err(not_opened(&error, name)),
+    };
+    locked(file, name)
+}
+
+/// Opens the file of this name, to be read and then appended to, and locks it.
+pub(crate) fn open<'a, R: Files<File = File>>(rt: &R, name: &'a str) -> Result<File, Failure<'a>> {
+    match OpenOptions::new().read(true).append(true).open(rt, name) {
+        Ok(file) => locked(file, name),
+        Err(error) => Err(not_opened(&error, name)),
+    }
+}
+
+// Only one run has the lock, and it ends with the run, also where that is killed.
+fn locked<'a>(file: File, name: &'a str) -> Result<File, Failure<'a>> {
+    match file.try_lock() {
+        Ok(()) => Ok(file),
+        Err(TryLockError::WouldBlock) => Err(Failure::InUse(name)),
+        Err(TryLockError::Error(error)) => Err(not_opened(&error, name)),
+    }
+}
+
+fn not_opened<'a>(error: &io::Error, name: &'a str) -> Failure<'a> {
+    if error.kind() == ErrorKind::OutOfMemory {
+        Failure::Memory
+    } else {
+        Failure::Open(name)
+    }
+}
+
+/// Makes it safe that the file has its name, where the system can say that of a folder.
+pub(crate) fn sync_folder<R: Files<File = File>>(rt: &R, name: &str) {
+    let folder = match Path::new(name).parent() {
+        Some(folder) if !folder.as_str().is_empty() => folder,
+        _ => Path::new("."),
+    };
+    if let Ok(folder) = File::open(rt, folder) {
+        let _ = folder.sync_all();
+    }
+}

@@ -1,0 +1,26 @@
+//! The files of journals: one is begun, written while an automation plays a list, and read again.
+//!
+//! `begin_journal` makes a journal's file and gives a `Recorder`, which keeps each command there before it goes out:
+//! `AutoDriver::run_kept` is lent it. `finish` writes what is left. `resume_journal` makes the controller of a journal
+//! anew, and a `Recorder` that appends to it. `do_asrun` prints the as-run list that a journal shows. Each failure is
+//! told in one line.
+//!
+//! Files: `file` (a file whose bytes are safe once it says so; it is made, opened and locked), `recorder`, `begin`,
+//! `judge` (a journal's bytes against what is wanted), `resume`, `asrun` (the subcommand).
+#![tactic(auto)]
+
+mod asrun;
+mod begin;
+mod file;
+mod judge;
+mod recorder;
+mod resume;
+
+pub use asrun::do_asrun;
+pub use begin::begin_journal;
+pub use file::{AppendFault, JournalFile};
+pub use recorder::Recorder;
+pub use resume::{Resumption, resume_journal};
+
+#[cfg(test)]
+mod tests;
