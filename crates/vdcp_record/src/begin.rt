@@ -1,8 +1,12 @@
-use crate::file::{JournalFile, make, sync_folder};
-use crate::recorder::{Recorder, now};
+ghost use Rattle.std.specs.Prelude.{◌≡◌, ◌≤◌, IfErr, IfOk};
+ghost use Rattle.vdcp_record.specs.Recording.{IsUnbegun};
+ghost use Rattle.vdcp_record.specs.declared.pending.Pending.TheVariants.{Nothing};
+
+use crate::file::{make, sync_folder};
+use crate::recorder::Recorder;
 use std::fs::{self, File};
 use std::rt::{Clock, Files};
-use vdcp_journal::{Heading, write_heading};
+use vdcp_journal::Heading;
 use vdcp_text::Failure;
 
 /// Makes a journal: its file, with the first row. Both are safe when this returns. `Exists` where there is a file of
@@ -13,29 +17,17 @@ pub fn begin_journal<'a, 'r, R: Files<File = File> + Clock + AllocGlobal>(
     heading: &Heading,
 ) -> Result<Recorder<'a, 'r, R, File>, Failure<'a>>
     requires { heading.now.unit ≤ 15 }
+    ensures begun { IfOk result (λ r. r ≡ record
+        { name = name.entry; unit = heading.now.unit; file = r.file; pending = Nothing }) }
+    ensures unbegun { IfErr result (IsUnbegun name.entry) }
 {
-    let mut file = make(rt, name)?;
-    if let Err(failure) = begin(rt, name, heading, &mut file) {
-        let _ = fs::remove_file(rt, name);
-        return Err(failure);
+    let file = make(rt, name)?;
+    let begun = Recorder::begin(rt, name, heading, file);
+    match begun {
+        Ok(_) => sync_folder(rt, name),
+        Err(_) => {
+            let _ = fs::remove_file(rt, name);
+        }
     }
-    sync_folder(rt, name);
-    Ok(Recorder::new(rt, name, heading.unit, file, None))
-}
-
-// Writes the first row.
-fn begin<'a, R: Clock + AllocGlobal, F: JournalFile>(
-    rt: &R,
-    name: &'a str,
-    heading: &Heading,
-    file: &mut F,
-) -> Result<(), Failure<'a>> {
-    let mut text = Vec::new(rt.alloc());
-    if write_heading(rt.alloc(), &now(rt), heading, &mut text).is_err() {
-        return Err(Failure::Memory);
-    }
-    match file.append(text.as_slice()) {
-        Ok(()) => Ok(()),
-        Err(_) => Err(Failure::Write(name)),
-    }
+    begun
 }

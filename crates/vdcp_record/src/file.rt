@@ -1,3 +1,7 @@
+ghost use Rattle.std.specs.Prelude.{◌≡◌, ◌⊎◌, IfErr};
+ghost use Rattle.vdcp_record.specs.Recording.{IsUnopened};
+ghost use Rattle.vdcp_text.specs.declared.failure.Failure.TheVariants as failures;
+
 use std::fs::{File, OpenOptions, TryLockError};
 use std::io::{self, ErrorKind, Write};
 use std::path::Path;
@@ -40,7 +44,9 @@ fn write_safely(file: &mut File, bytes: &[u8]) -> io::Result<()> {
 }
 
 /// Makes the file of this name, which mustn't exist, and locks it.
-pub(crate) fn make<'a, R: Files<File = File>>(rt: &R, name: &'a str) -> Result<File, Failure<'a>> {
+pub(crate) fn make<'a, R: Files<File = File>>(rt: &R, name: &'a str) -> Result<File, Failure<'a>>
+    ensures { IfErr result (λ failure. (failure ≡ failures.Exists name.entry) ⊎ IsUnopened name.entry failure) }
+{
     let file = match OpenOptions::new()
         .append(true)
         .create_new(true)
@@ -54,7 +60,9 @@ pub(crate) fn make<'a, R: Files<File = File>>(rt: &R, name: &'a str) -> Result<F
 }
 
 /// Opens the file of this name, to be read and then appended to, and locks it.
-pub(crate) fn open<'a, R: Files<File = File>>(rt: &R, name: &'a str) -> Result<File, Failure<'a>> {
+pub(crate) fn open<'a, R: Files<File = File>>(rt: &R, name: &'a str) -> Result<File, Failure<'a>>
+    ensures { IfErr result (IsUnopened name.entry) }
+{
     match OpenOptions::new().read(true).append(true).open(rt, name) {
         Ok(file) => locked(file, name),
         Err(error) => Err(not_opened(&error, name)),
@@ -62,7 +70,9 @@ pub(crate) fn open<'a, R: Files<File = File>>(rt: &R, name: &'a str) -> Result<F
 }
 
 // Only one run has the lock, and it ends with the run, also where that is killed.
-fn locked<'a>(file: File, name: &'a str) -> Result<File, Failure<'a>> {
+fn locked<'a>(file: File, name: &'a str) -> Result<File, Failure<'a>>
+    ensures { IfErr result (IsUnopened name.entry) }
+{
     match file.try_lock() {
         Ok(()) => Ok(file),
         Err(TryLockError::WouldBlock) => Err(Failure::InUse(name)),
@@ -70,7 +80,9 @@ fn locked<'a>(file: File, name: &'a str) -> Result<File, Failure<'a>> {
     }
 }
 
-fn not_opened<'a>(error: &io::Error, name: &'a str) -> Failure<'a> {
+fn not_opened<'a>(error: &io::Error, name: &'a str) -> Failure<'a>
+    ensures { IsUnopened name.entry result }
+{
     if error.kind() == ErrorKind::OutOfMemory {
         Failure::Memory
     } else {

@@ -1,24 +1,83 @@
+ghost use Rattle.std.specs.Prelude.{◌≡◌, ◌≤◌, IfErr, IfOk, IfNone, IfSome, OnOk};
+ghost use Rattle.vdcp_auto.specs.Plan.{plan_of};
+ghost use Rattle.vdcp_auto.specs.Turn.{awaited, start};
+ghost use Rattle.vdcp_journal.specs.Journals.{IsJournal, IsJournalFault};
+ghost use Rattle.vdcp_journal.specs.Resume.{IsResumeFault};
+ghost use Rattle.vdcp_record.specs.Resuming.{Differs, IsRefused, IsReplayed, IsResumed, read_failure, row_fault, untold_failure};
+ghost use Rattle.vdcp_journal.specs.declared.faults.JournalReadFault.{JournalReadFault};
+ghost use Rattle.vdcp_journal.specs.declared.faults.ResumeFault.{ResumeFault};
+ghost use Rattle.vdcp_text.specs.declared.failure.JournalFault.{JournalFault};
+ghost use Rattle.vdcp_text.specs.declared.failure.Failure.TheVariants as failures;
+
 use std::alloc::Global;
 use vdcp_auto::{Controller, Source};
 use vdcp_journal::{
-    Heading, Journal, JournalReadFault, JournalRowFault, ResumeFault, Resumed, Row, read_journal,
-    resume,
+    Heading, Journal, JournalReadFault, JournalRowFault, Note, ResumeFault, Resumed, Row,
+    read_journal, resume,
 };
 use vdcp_text::{Failure, JournalFault};
+use vdcp_words::Command;
+
+/// What goes on from a journal.
+#[derive(Drop)]
+pub struct Replayed<S: Source> {
+    pub controller: Controller<S>,
+    /// The command whose exchange was open, and is timed out now.
+    pub open: Option<Command>,
+    /// The last row says how the controller ended.
+    pub is_ended: bool,
+    /// How many bytes the whole rows are. What follows them is torn.
+    pub whole: usize,
+}
+
+/// Gives the rows of a journal, by its bytes, to a new controller, and times out the exchange that was open. Refused
+/// where it is no journal of what is wanted, with the failure of this name.
+pub fn replay<'a, S: Source + Drop>(
+    alloc: Global,
+    name: &'a str,
+    bytes: &[u8],
+    wanted: &Heading,
+    controller: Controller<S>,
+) -> Result<Replayed<S>, Failure<'a>>
+    requires new { controller.state ≡ start }
+    requires some { 1 ≤ controller.limit }
+    requires few { controller.limit ≤ 1000 }
+    ensures replayed { IfOk result (λ r. IsReplayed (plan_of S.items controller) wanted.now bytes.now controller
+        r.controller r.whole) }
+    ensures refused { IfErr result (IsRefused (plan_of S.items controller) name.entry wanted.now bytes.now) }
+{
+    let journal = journal_in(alloc, name, bytes)?;
+    if let Some(fault) = difference(&journal.heading, wanted) {
+        return Err(Failure::JournalRow(name, 1, fault));
+    }
+    let Resumed { controller, open } = resumed(name, controller, journal.rows.as_slice())?;
+    Ok(Replayed {
+        controller,
+        open,
+        is_ended: has_end(journal.rows.as_slice()),
+        whole: journal.whole,
+    })
+}
 
 /// The journal of this name that these bytes are.
 pub(crate) fn journal_in<'a>(
     alloc: Global,
     name: &'a str,
     bytes: &[u8],
-) -> Result<Journal, Failure<'a>> {
+) -> Result<Journal, Failure<'a>>
+    ensures journal { IfOk result (IsJournal bytes.now) }
+    ensures refused { IfErr result (λ failure. (wrong : JournalReadFault) × IsJournalFault bytes.now wrong
+        × (failure ≡ read_failure name.entry wrong)) }
+{
     match read_journal(alloc, bytes) {
         Ok(journal) => Ok(journal),
         Err(fault) => Err(read_failure(name, fault)),
     }
 }
 
-fn read_failure<'a>(name: &'a str, fault: JournalReadFault) -> Failure<'a> {
+fn read_failure<'a>(name: &'a str, fault: JournalReadFault) -> Failure<'a>
+    ensures { result ≡ read_failure name.entry fault }
+{
     match fault {
         JournalReadFault::Empty => Failure::JournalRow(name, 1, JournalFault::Empty),
         JournalReadFault::Heading(fault) => Failure::JournalRow(name, 1, row_fault(fault)),
@@ -28,7 +87,9 @@ fn read_failure<'a>(name: &'a str, fault: JournalReadFault) -> Failure<'a> {
     }
 }
 
-fn row_fault(fault: JournalRowFault) -> JournalFault {
+fn row_fault(fault: JournalRowFault) -> JournalFault
+    ensures { result ≡ row_fault fault }
+{
     match fault {
         JournalRowFault::Fields => JournalFault::Columns,
         JournalRowFault::Time => JournalFault::Time,
@@ -43,19 +104,11 @@ fn row_fault(fault: JournalRowFault) -> JournalFault {
     }
 }
 
-/// Refuses a journal of anything else than is wanted.
-pub(crate) fn expect_heading<'a>(
-    name: &'a str,
-    found: &Heading,
-    wanted: &Heading,
-) -> Result<(), Failure<'a>> {
-    match difference(found, wanted) {
-        Some(fault) => Err(Failure::JournalRow(name, 1, fault)),
-        None => Ok(()),
-    }
-}
-
-fn difference(found: &Heading, wanted: &Heading) -> Option<JournalFault> {
+// Where a heading differs from what is wanted.
+fn difference(found: &Heading, wanted: &Heading) -> Option<JournalFault>
+    ensures differs { IfSome result (Differs found.now wanted.now) }
+    ensures same { IfNone result (found.now ≡ wanted.now) }
+{
     if found.digest != wanted.digest {
         return Some(JournalFault::List);
     }
@@ -75,7 +128,7 @@ fn difference(found: &Heading, wanted: &Heading) -> Option<JournalFault> {
 }
 
 /// The controller that a journal's rows make of a new one.
-pub(crate) fn replay<'a, S: Source + Drop>(
+pub(crate) fn resumed<'a, S: Source + Drop>(
     name: &'a str,
     controller: Controller<S>,
     rows: &[Row],
@@ -83,16 +136,33 @@ pub(crate) fn replay<'a, S: Source + Drop>(
     requires new { controller.state ≡ start }
     requires some { 1 ≤ controller.limit }
     requires few { controller.limit ≤ 1000 }
+    ensures resumed { IfOk result
+        (λ r. IsResumed (plan_of S.items controller) controller rows.now r.controller) }
+    ensures untold { IfErr result (λ failure. (wrong : ResumeFault)
+        × IsResumeFault (plan_of S.items controller) start rows.now wrong
+        × (failure ≡ untold_failure name.entry wrong)) }
 {
     match resume(controller, rows) {
         Ok(resumed) => Ok(resumed),
-        Err(ResumeFault::Command(k)) => Err(refused(name, k, JournalFault::Command)),
-        Err(ResumeFault::Unawaited(k)) => Err(refused(name, k, JournalFault::Unawaited)),
-        Err(ResumeFault::Outcome(k)) => Err(refused(name, k, JournalFault::Outcome)),
+        Err(fault) => Err(untold_failure(name, fault)),
     }
 }
 
-// The first row after the heading is the second.
-fn refused<'a>(name: &'a str, k: usize, fault: JournalFault) -> Failure<'a> {
-    Failure::JournalRow(name, k.saturating_add(2), fault)
+// (no list has as many rows as there are numbers)
+fn untold_failure<'a>(name: &'a str, fault: ResumeFault) -> Failure<'a>
+    ensures { result ≡ untold_failure name.entry fault }
+{
+    match fault {
+        ResumeFault::Command(k) => Failure::JournalRow(name, k + 2, JournalFault::Command),
+        ResumeFault::Unawaited(k) => Failure::JournalRow(name, k + 2, JournalFault::Unawaited),
+        ResumeFault::Outcome(k) => Failure::JournalRow(name, k + 2, JournalFault::Outcome),
+    }
+}
+
+// The last row says how the controller ended.
+fn has_end(rows: &[Row]) -> bool {
+    match rows.last() {
+        Some(row) => matches!(row.note, Note::End(_)),
+        None => false,
+    }
 }

@@ -1,13 +1,25 @@
+ghost use Rattle.std.specs.Io.KnownBytes.{Appends};
+ghost use Rattle.std.specs.Option.{option_to_list};
+ghost use Rattle.std.specs.Prelude.{◌≡◌, ◌≤◌, ◌∷◌, [], ◌++◌, Err, IfErr, IfOk, OnErr, OnOk};
+ghost use Rattle.vdcp_journal.specs.Rows.{AppendsBeginning, fields_text, heading_fields, rows_text};
+ghost use Rattle.vdcp_journal.specs.declared.moment.Moment.{Moment};
+ghost use Rattle.vdcp_journal.specs.declared.row.Note.TheVariants.{Sent};
+ghost use Rattle.vdcp_record.specs.Recording.{Adds, AddsBeginning, IsUnwritten, Recording, end_note, outcome_rows, rows_left};
+ghost use Rattle.vdcp_record.specs.declared.pending.Pending.TheVariants.{End, Failed, Nothing};
+ghost use Rattle.vdcp_record.specs.declared.pending.RecordFault.{RecordFault};
+
 use crate::file::{AppendFault, JournalFile};
+use crate::pending::{Pending, RecordFault};
+use std::alloc::Global;
+use std::marker::Model;
 use std::rt::Clock;
-use std::time::{SystemTime, UNIX_EPOCH};
 use vdcp_auto::{Heard, Outcome};
 use vdcp_drive::{Keep, KeepFault};
-use vdcp_journal::{Moment, Note, Row, write_row};
+use vdcp_journal::{Heading, Moment, Note, Row, write_heading, write_row};
 use vdcp_text::Failure;
 use vdcp_words::Command;
 
-/// Writes a journal's rows, each command's before it goes out.
+/// Writes a journal's rows, that of each command before it goes out.
 ///
 /// What ended an exchange is written with the next command, and made safe with it, in one. After a failure nothing more
 /// is written.
@@ -17,98 +29,165 @@ pub struct Recorder<'a, 'r, R, F> {
     name: &'a str,
     unit: u8,
     file: F,
-    state: State<'a>,
+    pending: Pending,
 }
 
-/// What is still to be written.
-#[derive(Clone, Copy, Debug, PartialEq, Eq)]
-pub(crate) enum State<'a> {
-    Nothing,
-    /// What ended the last exchange.
-    End(Row),
-    /// The journal ends where this befell it.
-    Failed(Failure<'a>),
+impl<'a, 'r, R, F> Model for Recorder<'a, 'r, R, F> {
+    ghost use Rattle.std.specs.Prelude.{◌≤◌};
+    ghost use Rattle.vdcp_record.specs.Recording.{Recording};
+
+    ghost Value = { Recording F };
+
+    ghost view = { λ r. record { name = r.name; unit = r.unit; file = r.file; pending = r.pending } };
+
+    ghost invariant = { λ r. r.unit ≤ 15 };
 }
 
-impl<'a, 'r, R: Clock + AllocGlobal, F: JournalFile> Recorder<'a, 'r, R, F> {
-    /// Appends to the journal of this name, of the server at this unit, what comes after `last`.
-    pub(crate) fn new(
+impl<'a, 'r, R: Clock + AllocGlobal, F: JournalFile + Drop> Recorder<'a, 'r, R, F> {
+    /// Begins a journal in an empty file: writes the first row.
+    pub fn begin(
+        rt: &'r R,
+        name: &'a str,
+        heading: &Heading,
+        mut file: F,
+    ) -> Result<Recorder<'a, 'r, R, F>, Failure<'a>>
+        requires { heading.now.unit ≤ 15 }
+        ensures begun { IfOk result (λ r. (time : Moment) × Appends (F.safe file) (F.safe r.file)
+            (fields_text (heading_fields time heading.now))) }
+        ensures new { IfOk result (λ r. r ≡ record
+            { name = name.entry; unit = heading.now.unit; file = r.file; pending = Nothing }) }
+        ensures unwritten { IfErr result (IsUnwritten name.entry) }
+    {
+        match write_first(rt.alloc(), &now(rt), heading, &mut file) {
+            Ok(()) => Ok(Recorder::after(rt, name, heading.unit, file, Pending::Nothing)),
+            Err(fault) => Err(fault.failure(name)),
+        }
+    }
+
+    /// Goes on with a journal, of the server at this unit, in a file that has all but what is pending.
+    pub(crate) fn after(
         rt: &'r R,
         name: &'a str,
         unit: u8,
         file: F,
-        last: Option<Row>,
+        pending: Pending,
     ) -> Recorder<'a, 'r, R, F>
         requires { unit ≤ 15 }
+        ensures { result ≡ record { name = name.entry; unit; file; pending } }
     {
-        let state = match last {
-            Some(row) => State::End(row),
-            None => State::Nothing,
-        };
         Recorder {
             rt,
             name,
             unit,
             file,
-            state,
+            pending,
         }
     }
 
-    /// Writes what is still to be written: what ended the last exchange, and how the controller ended, if it has ended.
-    /// Where the journal failed before, it is that failure: `Write`, or `Memory`.
-    pub fn finish(mut self, outcome: Option<Outcome>) -> Result<(), Failure<'a>> {
-        match outcome {
-            Some(outcome) => {
-                let row = row_now(self.rt, Note::End(outcome));
-                self.write(Some(row))
-            }
-            None => self.write(None),
+    /// Writes what is pending, and the row of a command that is going out.
+    pub fn keep(&mut self, command: &Command) -> Result<(), RecordFault>
+        ensures kept { OnOk result ((time : Moment) × Adds F.safe self.old self.new
+            (record { time; note = Sent command.now } ∷ [])) }
+        ensures rest { OnOk result (self.new ≡ record self.old { file = self.new.file; pending = Nothing }) }
+        ensures torn { OnErr result ((time : Moment) × AddsBeginning F.safe self.old self.new
+            (record { time; note = Sent command.now } ∷ [])) }
+        ensures failed { IfErr result (λ fault. self.new ≡ record self.old
+            { file = self.new.file; pending = Failed fault }) }
+        ensures stays { (fault : RecordFault) → self.old.pending ≡ Failed fault →
+            (result ≡ Err fault) × (self.new ≡ self.old) }
+    {
+        let row = row_now(self.rt, Note::Sent(*command));
+        self.write(Some(row))
+    }
+
+    /// Notes what ended an exchange, in place of what was pending.
+    pub fn note(&mut self, heard: Option<Heard>)
+        ensures noted { ((fault : RecordFault) → self.old.pending ≢ Failed fault) →
+            (time : Moment) × (self.new ≡ record self.old { pending = End (record { time; note = end_note heard }) }) }
+        ensures stays { (fault : RecordFault) → self.old.pending ≡ Failed fault → self.new ≡ self.old }
+    {
+        let row = row_now(self.rt, note_of(heard));
+        match self.pending {
+            Pending::Nothing | Pending::End(_) => self.pending = Pending::End(row),
+            Pending::Failed(_) => {}
         }
     }
 
-    // Writes what is still to be written, and then a row.
-    fn write(&mut self, last: Option<Row>) -> Result<(), Failure<'a>> {
-        let result = match self.state {
-            State::Nothing => self.write_rows(None, last),
-            State::End(row) => self.write_rows(Some(row), last),
-            State::Failed(failure) => Err(failure),
+    /// Writes what is pending, and how the controller ended, if it has ended. The failure is that of the first row that
+    /// wasn't written.
+    pub fn finish(&mut self, outcome: Option<Outcome>) -> Result<(), Failure<'a>>
+        ensures written { OnOk result ((time : Moment) × Adds F.safe self.old self.new (outcome_rows time outcome)) }
+        ensures torn { OnErr result ((time : Moment) × AddsBeginning F.safe self.old self.new
+            (outcome_rows time outcome)) }
+        ensures rest { OnOk result (self.new ≡ record self.old { file = self.new.file; pending = Nothing }) }
+        ensures failure { IfErr result (IsUnwritten self.old.name) }
+    {
+        let row = outcome.map(|outcome| row_now(self.rt, Note::End(outcome)));
+        match self.write(row) {
+            Ok(()) => Ok(()),
+            Err(fault) => Err(fault.failure(self.name)),
+        }
+    }
+
+    // Writes what is pending, and then a row, if there is one.
+    fn write(&mut self, last: Option<Row>) -> Result<(), RecordFault>
+        ensures written { OnOk result (Adds F.safe self.old self.new (option_to_list last)) }
+        ensures rest { OnOk result (self.new ≡ record self.old { file = self.new.file; pending = Nothing }) }
+        ensures torn { OnErr result (AddsBeginning F.safe self.old self.new (option_to_list last)) }
+        ensures failed { IfErr result (λ fault. self.new ≡ record self.old
+            { file = self.new.file; pending = Failed fault }) }
+        ensures stays { (fault : RecordFault) → self.old.pending ≡ Failed fault →
+            (result ≡ Err fault) × (self.new ≡ self.old) }
+    {
+        let alloc = self.rt.alloc();
+        let result = match self.pending {
+            Pending::Nothing => write_rows(alloc, self.unit, None, last, &mut self.file),
+            Pending::End(row) => write_rows(alloc, self.unit, Some(row), last, &mut self.file),
+            Pending::Failed(fault) => Err(fault),
         };
-        self.state = match result {
-            Ok(()) => State::Nothing,
-            Err(failure) => State::Failed(failure),
+        self.pending = match result {
+            Ok(()) => Pending::Nothing,
+            Err(fault) => Pending::Failed(fault),
         };
         result
     }
+}
 
-    // Writes up to two rows in one.
-    fn write_rows(&mut self, first: Option<Row>, last: Option<Row>) -> Result<(), Failure<'a>> {
-        let mut text = Vec::new(self.rt.alloc());
-        for row in [first, last] {
-            if let Some(row) = row {
-                if write_row(self.rt.alloc(), self.unit, &row, &mut text).is_err() {
-                    return Err(Failure::Memory);
-                }
-            }
-        }
-        if text.is_empty() {
-            return Ok(());
-        }
-        match self.file.append(text.as_slice()) {
+impl<R: Clock + AllocGlobal, F: JournalFile + Drop> Keep for Recorder<'_, '_, R, F> {
+    fn keep_sent(&mut self, command: &Command) -> Result<(), KeepFault> {
+        match self.keep(command) {
             Ok(()) => Ok(()),
-            Err(AppendFault) => Err(Failure::Write(self.name)),
+            Err(_) => Err(KeepFault),
         }
+    }
+
+    fn note_end(&mut self, heard: Option<Heard>) {
+        self.note(heard);
     }
 }
 
-/// A row of now. A clock that fails gives 1970.
-pub(crate) fn row_now<R: Clock>(rt: &R, note: Note) -> Row {
+// The note of what ended an exchange.
+fn note_of(heard: Option<Heard>) -> Note
+    ensures { result ≡ end_note heard }
+{
+    match heard {
+        Some(heard) => Note::Heard(heard),
+        None => Note::Silence,
+    }
+}
+
+/// A row of now.
+pub(crate) fn row_now<R: Clock>(rt: &R, note: Note) -> Row
+    ensures { result.note ≡ note }
+{
     Row {
         time: now(rt),
         note,
     }
 }
 
-pub(crate) fn now<R: Clock>(rt: &R) -> Moment {
+// A clock that fails shows 1970.
+fn now<R: Clock>(rt: &R) -> Moment {
     let millis = match rt.since_1970() {
         Ok(time) => u64::try_from(time.as_millis()).unwrap_or(u64::MAX),
         Err(_) => 0,
@@ -116,22 +195,68 @@ pub(crate) fn now<R: Clock>(rt: &R) -> Moment {
     Moment::of_unix_millis(millis)
 }
 
-impl<R: Clock + AllocGlobal, F: JournalFile> Keep for Recorder<'_, '_, R, F> {
-    fn keep_sent(&mut self, command: &Command) -> Result<(), KeepFault> {
-        let row = row_now(self.rt, Note::Sent(*command));
-        match self.write(Some(row)) {
-            Ok(()) => Ok(()),
-            Err(_) => Err(KeepFault),
-        }
+// Writes the first row.
+fn write_first<F: JournalFile>(
+    alloc: Global,
+    time: &Moment,
+    heading: &Heading,
+    file: &mut F,
+) -> Result<(), RecordFault>
+    ensures { OnOk result (Appends (F.safe file.old) (F.safe file.new)
+        (fields_text (heading_fields time.now heading.now))) }
+{
+    let mut text = Vec::new(alloc);
+    if write_heading(alloc, time, heading, &mut text).is_err() {
+        return Err(RecordFault::Memory);
     }
+    append(file, text.as_slice())
+}
 
-    fn note_end(&mut self, heard: Option<Heard>) {
-        let note = match heard {
-            Some(heard) => Note::Heard(heard),
-            None => Note::Silence,
-        };
-        if let State::Nothing | State::End(_) = self.state {
-            self.state = State::End(row_now(self.rt, note));
-        }
+// Writes up to two rows in one.
+fn write_rows<F: JournalFile>(
+    alloc: Global,
+    unit: u8,
+    first: Option<Row>,
+    last: Option<Row>,
+    file: &mut F,
+) -> Result<(), RecordFault>
+    requires { unit ≤ 15 }
+    ensures all { OnOk result (Appends (F.safe file.old) (F.safe file.new)
+        (rows_text unit (option_to_list first ++ option_to_list last))) }
+    ensures beginning { OnErr result (AppendsBeginning (F.safe file.old) (F.safe file.new)
+        (rows_text unit (option_to_list first ++ option_to_list last))) }
+{
+    let mut text = Vec::new(alloc);
+    add_row(alloc, unit, first, &mut text)?;
+    add_row(alloc, unit, last, &mut text)?;
+    append(file, text.as_slice())
+}
+
+// Adds a row's text, if there is a row.
+fn add_row(
+    alloc: Global,
+    unit: u8,
+    row: Option<Row>,
+    text: &mut Vec<u8>,
+) -> Result<(), RecordFault>
+    requires { unit ≤ 15 }
+    ensures { OnOk result (text.new.items ≡ text.old.items ++ rows_text unit (option_to_list row)) }
+{
+    let Some(row) = row else {
+        return Ok(());
+    };
+    match write_row(alloc, unit, &row, text) {
+        Ok(()) => Ok(()),
+        Err(_) => Err(RecordFault::Memory),
+    }
+}
+
+fn append<F: JournalFile>(file: &mut F, bytes: &[u8]) -> Result<(), RecordFault>
+    ensures all { OnOk result (Appends (F.safe file.old) (F.safe file.new) bytes.now) }
+    ensures beginning { OnErr result (AppendsBeginning (F.safe file.old) (F.safe file.new) bytes.now) }
+{
+    match file.append(bytes) {
+        Ok(()) => Ok(()),
+        Err(AppendFault) => Err(RecordFault::Device),
     }
 }
