@@ -17,7 +17,11 @@ use Rattle.vdcp_text.specs.declared.failure.Failure.{Failure}
 use Rattle.vdcp_text.specs.declared.failure.Failure.TheVariants as failures
 use Rattle.vdcp_files.specs.Files.{File, IsWholeList, RefusesList, bytes_of}
 use Rattle.vdcp_files.specs.Mode.{mode_of}
+use Rattle.vdcp_journal.specs.declared.row.Heading.{Heading}
 use Rattle.vdcp_list.specs.Playlists.{IsListOf}
+use Rattle.vdcp_record.specs.Recording.{IsUnbegun}
+use Rattle.vdcp_record.specs.Resuming.{IsUnresumed}
+use Rattle.vdcp_record.specs.Showing.{digest_of}
 use Rattle.vdcp_text.specs.Outcome.{outcome_text}
 use Rattle.vdcp_drive.specs.declared.keep.KeptFault.{KeptFault}
 use Rattle.vdcp_drive.specs.declared.keep.KeptFault.TheVariants as fault
@@ -101,27 +105,33 @@ abbrev pub journal_in : {J : Type 0} → Keeping J → Option (Bor (List ℕ))
 journal_in keeping.Nothing = None
 journal_in (keeping.Journal name journal) = Some name
 
--- why the journal of this name can't be kept: its file exists, or another run has it, or it can't be opened, read or
--- written; a row of it is refused; or memory was refused
-abbrev pub IsJournalRefused : Bor (List ℕ) → Failure → Type 0
-IsJournalRefused name (failures.Exists other) = other ≡ name
-IsJournalRefused name (failures.InUse other) = other ≡ name
-IsJournalRefused name (failures.Open other) = other ≡ name
-IsJournalRefused name (failures.Read other) = other ≡ name
-IsJournalRefused name (failures.Write other) = other ≡ name
-IsJournalRefused name (failures.JournalRow other row fault) = other ≡ name
-IsJournalRefused name failures.Memory = Unit {0}
-IsJournalRefused name failure = ⊥
+-- what a journal of these items is of
+abbrev pub heading_for : RunSettings → List Item → Heading
+heading_for settings items = record {
+  digest = digest_of settings.rate items;
+  confirming = settings.confirm;
+  unit = settings.unit;
+  port = settings.port;
+  limit = settings.limit;
+}
+
+-- why the journal can't be kept, of a run that plays these items
+abbrev pub IsJournalRefused : RunSettings → List Item → RunJournal → Failure → Type 0
+IsJournalRefused settings items (journals.New name) failure = IsUnbegun name failure
+IsJournalRefused settings items (journals.Older name) failure =
+    IsUnresumed (plan_for settings items) name (heading_for settings items) failure
 
 -- the file that is named for the as-run list is the journal
 abbrev pub IsJournalOf : Option (Bor (List ℕ)) → Failure → Type 0
 IsJournalOf None failure = ⊥
 IsJournalOf (Some name) failure = failure ≡ failures.IsJournal name
 
--- why a run isn't begun with this journal, if it has one, and this name for its as-run file
-abbrev pub IsUnkept : Option RunJournal → Option (Bor (List ℕ)) → Failure → Type 0
-IsUnkept None asrun failure = ⊥
-IsUnkept (Some journal) asrun failure = IsJournalRefused (name_of journal) failure ⊎ IsJournalOf asrun failure
+-- why a run of these items isn't begun with this journal, if it has one: that can't be kept, or it is the as-run file
+abbrev pub IsUnkept : RunSettings → List Item → Option RunJournal → Failure → Type 0
+IsUnkept settings items None failure = ⊥
+IsUnkept settings items (Some journal) failure =
+    (failure ≡ failures.Memory) ⊎ (IsJournalRefused settings items journal failure
+    ⊎ IsJournalOf settings.asrun failure)
 
 -- why the journal of this name isn't whole, if it isn't: it can't be written, or memory was refused
 abbrev pub MayBeUnkept : Option (Bor (List ℕ)) → Option Failure → Type 0
@@ -212,8 +222,8 @@ pub data IsUnplayed (settings : RunSettings) (text : List ℕ) (list : File) (fa
   no_list : IsAddress text → RefusesList settings.rate list failure → IsUnplayed settings text list failure
   no_place : IsAddress text → IsWholeList settings.rate list → IsPlaceRefused settings.asrun failure →
       IsUnplayed settings text list failure
-  no_journal : IsAddress text → IsWholeList settings.rate list → IsUnkept settings.journal settings.asrun failure →
-      IsUnplayed settings text list failure
+  no_journal : IsAddress text → (items : List Item) → IsListOf settings.rate (bytes_of list) items →
+      IsUnkept settings items settings.journal failure → IsUnplayed settings text list failure
   not_connected : IsAddress text → IsWholeList settings.rate list → failure ≡ failures.Connect →
       IsUnplayed settings text list failure
   not_empty : IsAddress text → IsWholeList settings.rate list → failure ≡ failures.NotEmpty →
@@ -228,8 +238,9 @@ pub record IsNotBegun (rate : Rate) (list : File) (out out' err err' : Option (L
 -- a row of the journal is refused: one writer gained the line that tells it, and the other nothing
 pub record IsRunRefused (settings : RunSettings) (list : File) (out out' err err' : Option (List ℕ)) : Type 0 where
   pub failure : Failure
-  pub whole : IsWholeList settings.rate list
-  pub refused : IsUnkept settings.journal settings.asrun failure
+  pub items : List Item
+  pub lists : IsListOf settings.rate (bytes_of list) items
+  pub refused : IsUnkept settings items settings.journal failure
   pub of_row : status_of failure ≡ 1
   pub told : Appends err err' (failure_line failure)
   pub silent : Keeps out out'

@@ -10,8 +10,8 @@ ghost use Rattle.vdcp_files.specs.Files.{IsWholeList, file};
 ghost use Rattle.vdcp_files.specs.Mode.{mode_of};
 ghost use Rattle.vdcp_wire.specs.Address.{IsAddress};
 ghost use Rattle.vdcp_wire.specs.Wires.{IfTold, nothing_told};
-ghost use Rattle.vdcp_net.specs.Run.{IsEndOf, IsJournalOf, IsJournalRefused, IsListRefused, IsNotBegun, IsOpening, IsPlayed, IsRun, IsRunRefused, IsUnkept, IsUnplayed, MayBeUnkept, MayBeUnwritten, journal_in};
-ghost use Rattle.vdcp_net.specs.Run.{end_text, fault_text, faults_text, line_end_of, line_failure, plan_for, run_status};
+ghost use Rattle.vdcp_net.specs.Run.{IsEndOf, IsListRefused, IsNotBegun, IsOpening, IsPlayed, IsRun, IsRunRefused, IsUnkept, IsUnplayed, MayBeUnkept, MayBeUnwritten, journal_in};
+ghost use Rattle.vdcp_net.specs.Run.{end_text, fault_text, faults_text, line_end_of, heading_for, line_failure, plan_for, run_status};
 ghost use Rattle.vdcp_text.specs.Failure.{failure_line};
 
 use crate::asrun::{Older, save_asrun};
@@ -29,8 +29,8 @@ use std::time::Duration;
 use vdcp_auto::{Controller, Outcome, Source};
 use vdcp_drive::{AutoDriver, KeptFault, Ran, Unkept, Unwatched, Vacancy, Watch, ask_port};
 use vdcp_files::NamedFile;
-use vdcp_journal::{Heading, JournalWriteFault, digest_of};
-use vdcp_record::{Resumption, begin_journal, resume_journal};
+use vdcp_journal::{Heading, digest_of};
+use vdcp_record::{RecordFault, begin_journal, resume_journal};
 use vdcp_text::{Failure, OutcomeText};
 use vdcp_value::Rate;
 use vdcp_wire::{StreamWire, Wire, WireFault, address_of};
@@ -327,8 +327,7 @@ fn play_new<'a, R: Net + Files<File = File> + Clock + AllocGlobal, S: Source + D
     ensures unwritten { IfOk result (λ end. MayBeUnwritten settings.entry.asrun end.unwritten) }
     ensures unkept { IfOk result (λ end. MayBeUnkept (Some name.entry) end.unkept) }
     ensures end { IfOk result (IsEndOf (plan_for settings.entry (S.items source))) }
-    ensures refused { IfErr result (λ failure. (IsJournalRefused name.entry failure
-        ⊎ IsJournalOf settings.entry.asrun failure)
+    ensures refused { IfErr result (λ failure. IsUnkept settings.entry (S.items source) (Some (RunJournal.New name.entry)) failure
         ⊎ (failure ≡ Failure.Connect) ⊎ (failure ≡ Failure.NotEmpty)) }
 {
     let heading = heading_of(rt, &source, settings)?;
@@ -360,20 +359,19 @@ fn play_older<'a, R: Net + Files<File = File> + Clock + AllocGlobal, S: Source +
     ensures unwritten { IfOk result (λ end. MayBeUnwritten settings.entry.asrun end.unwritten) }
     ensures unkept { IfOk result (λ end. MayBeUnkept (Some name.entry) end.unkept) }
     ensures end { IfOk result (IsEndOf (plan_for settings.entry (S.items source))) }
-    ensures refused { IfErr result (λ failure. (IsJournalRefused name.entry failure
-        ⊎ IsJournalOf settings.entry.asrun failure)
+    ensures refused { IfErr result (λ failure. IsUnkept settings.entry (S.items source) (Some (RunJournal.Older name.entry)) failure
         ⊎ (failure ≡ Failure.Connect) ⊎ (failure ≡ Failure.NotEmpty)) }
 {
     test_journal(rt, settings.asrun, name)?;
     let heading = heading_of(rt, &source, settings)?;
-    match resume_journal(rt, name, &heading, new_controller(source, settings))? {
-        Resumption::Open(controller, journal) => {
+    let resumed = resume_journal(rt, name, &heading, new_controller(source, settings))?;
+    let controller = resumed.controller;
+    match resumed.recorder {
+        Some(journal) => {
             let keeping = Keeping::Journal(name, journal);
             play_at(rt, address, controller, keeping, settings, showing)
         }
-        Resumption::Ended(controller) => {
-            Ok(ended(rt, &controller, LineEnd::Unneeded, true, settings))
-        }
+        None => Ok(ended(rt, &controller, LineEnd::Unneeded, true, settings)),
     }
 }
 
@@ -383,7 +381,7 @@ fn heading_of<'a, R: AllocGlobal, S: Source>(
     source: &S,
     settings: RunSettings<'_>,
 ) -> Result<Heading, Failure<'a>>
-    ensures unit { IfOk result (λ heading. heading.unit ≡ settings.entry.unit) }
+    ensures heading { IfOk result (λ heading. heading ≡ heading_for settings.entry (S.items source.now)) }
     ensures refused { IfErr result (λ failure. failure ≡ Failure.Memory) }
 {
     // (each part of a list was read at the rate at which it is written)
@@ -738,8 +736,8 @@ fn run_kept<'a, S: Source, W: Wire, V: Watch<S>, J: Journal + Drop>(
             let ran = driver.run_kept(listens, watcher, &mut journal);
             let line = LineEnd::of_run(ran);
             let unkept = match journal.close(driver.controller().outcome()) {
-                Err(JournalWriteFault::Memory) => Some(Failure::Memory),
-                Err(JournalWriteFault::Device) => Some(Failure::Write(name)),
+                Err(RecordFault::Memory) => Some(Failure::Memory),
+                Err(RecordFault::Device) => Some(Failure::Write(name)),
                 Ok(()) if line == LineEnd::Unkept => Some(Failure::Write(name)),
                 Ok(()) => None,
             };
