@@ -30,6 +30,12 @@ rows_left pending.Nothing = []
 rows_left (pending.End row) = row ∷ []
 rows_left (pending.Failed fault) = []
 
+-- after the end of an exchange
+abbrev pub ended : Pending → Row → Pending
+ended pending.Nothing row = pending.End row
+ended (pending.End before) row = pending.End row
+ended (pending.Failed fault) row = pending.Failed fault
+
 abbrev pub end_note : Option Heard → Note
 end_note None = note.Silence
 end_note (Some heard) = note.Heard heard

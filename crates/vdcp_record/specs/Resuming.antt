@@ -7,11 +7,11 @@ use Rattle.vdcp_auto.specs.Turn.{start}
 use Rattle.vdcp_journal.specs.Journals.{IsJournal, IsJournalFault}
 use Rattle.vdcp_journal.specs.Resume.{AreTold, IsResumeFault, after_rows, log_of, timed_out}
 use Rattle.vdcp_journal.specs.declared.faults.JournalReadFault.{JournalReadFault}
-use Rattle.vdcp_journal.specs.declared.faults.JournalReadFault.TheVariants as refused
+use Rattle.vdcp_journal.specs.declared.faults.JournalReadFault.TheVariants as unread
 use Rattle.vdcp_journal.specs.declared.faults.JournalRowFault.{JournalRowFault}
 use Rattle.vdcp_journal.specs.declared.faults.JournalRowFault.TheVariants as wrong
 use Rattle.vdcp_journal.specs.declared.faults.ResumeFault.{ResumeFault}
-use Rattle.vdcp_journal.specs.declared.faults.ResumeFault.TheVariants as untold
+use Rattle.vdcp_journal.specs.declared.faults.ResumeFault.TheVariants as refused
 use Rattle.vdcp_journal.specs.declared.read.Journal.{Journal}
 use Rattle.vdcp_journal.specs.declared.row.Heading.{Heading}
 use Rattle.vdcp_journal.specs.declared.row.Row.{Row}
@@ -43,28 +43,37 @@ row_fault wrong.Number = fault.Number
 
 -- the failure of a journal of this name whose bytes are none
 abbrev pub read_failure : Bor (List ℕ) → JournalReadFault → Failure
-read_failure name refused.Empty = failures.JournalRow name 1 fault.Empty
-read_failure name (refused.Heading wrong) = failures.JournalRow name 1 (row_fault wrong)
-read_failure name (refused.Row row wrong) = failures.JournalRow name row (row_fault wrong)
-read_failure name refused.Memory = failures.Memory
-read_failure name refused.Device = failures.Read name
+read_failure name unread.Empty = failures.JournalRow name 1 fault.Empty
+read_failure name (unread.Heading wrong) = failures.JournalRow name 1 (row_fault wrong)
+read_failure name (unread.Row row wrong) = failures.JournalRow name row (row_fault wrong)
+read_failure name unread.Memory = failures.Memory
+read_failure name unread.Device = failures.Read name
 
 -- the failure of a journal of this name whose rows don't tell what the controller does; the heading is row 1
 abbrev pub untold_failure : Bor (List ℕ) → ResumeFault → Failure
-untold_failure name (untold.Command k) = failures.JournalRow name (k + 2) fault.Command
-untold_failure name (untold.Unawaited k) = failures.JournalRow name (k + 2) fault.Unawaited
-untold_failure name (untold.Outcome k) = failures.JournalRow name (k + 2) fault.Outcome
+untold_failure name (refused.Command k) = failures.JournalRow name (k + 2) fault.Command
+untold_failure name (refused.Unawaited k) = failures.JournalRow name (k + 2) fault.Unawaited
+untold_failure name (refused.Outcome k) = failures.JournalRow name (k + 2) fault.Outcome
 
--- where two headings differ first
-pub data Differs (found wanted : Heading) : JournalFault → Type 0 where
-  of_list : found.digest ≢ wanted.digest → Differs found wanted fault.List
-  of_mode : found.digest ≡ wanted.digest → found.confirming ≢ wanted.confirming → Differs found wanted fault.Mode
-  of_unit : found.digest ≡ wanted.digest → found.confirming ≡ wanted.confirming → found.unit ≢ wanted.unit
-      → Differs found wanted fault.Unit
-  of_port : found.digest ≡ wanted.digest → found.confirming ≡ wanted.confirming → found.unit ≡ wanted.unit
-      → found.port ≢ wanted.port → Differs found wanted fault.Port
-  of_limit : found.digest ≡ wanted.digest → found.confirming ≡ wanted.confirming → found.unit ≡ wanted.unit
-      → found.port ≡ wanted.port → found.limit ≢ wanted.limit → Differs found wanted fault.Limit
+-- where a heading differs first from the one that is wanted
+abbrev pub Differs : Heading → Heading → JournalFault → Type 0
+Differs found wanted fault.List = found.digest ≢ wanted.digest
+Differs found wanted fault.Mode = (found.digest ≡ wanted.digest) × (found.confirming ≢ wanted.confirming)
+Differs found wanted fault.Unit =
+    (found.digest ≡ wanted.digest) × (found.confirming ≡ wanted.confirming) × (found.unit ≢ wanted.unit)
+Differs found wanted fault.Port =
+    (found.digest ≡ wanted.digest) × (found.confirming ≡ wanted.confirming) × (found.unit ≡ wanted.unit)
+    × (found.port ≢ wanted.port)
+Differs found wanted fault.Limit =
+    (found.digest ≡ wanted.digest) × (found.confirming ≡ wanted.confirming) × (found.unit ≡ wanted.unit)
+    × (found.port ≡ wanted.port) × (found.limit ≢ wanted.limit)
+Differs found wanted _ = ⊥
+
+-- which row a fault names, the heading apart
+abbrev pub place_of : ResumeFault → ℕ
+place_of (refused.Command k) = k
+place_of (refused.Unawaited k) = k
+place_of (refused.Outcome k) = k
 
 -- why bytes are no journal of what is wanted from which a controller with this plan goes on
 pub data IsRefused (plan : Plan) (name : Bor (List ℕ)) (wanted : Heading) (bytes : List ℕ) (failure : Failure)
@@ -89,7 +98,7 @@ pub record IsReplayed {S : Type 0} (plan : Plan) (wanted : Heading) (bytes : Lis
 
 -- why nothing goes on from the journal of this name: its file can't be had, read or written, or it is refused
 pub data IsUnresumed (plan : Plan) (name : Bor (List ℕ)) (wanted : Heading) (failure : Failure) : Type 0 where
-  unopened : IsUnopened name failure → IsUnresumed plan name wanted failure
-  unread : failure ≡ failures.Read name → IsUnresumed plan name wanted failure
-  unwritten : IsUnwritten name failure → IsUnresumed plan name wanted failure
-  refused : (bytes : List ℕ) → IsRefused plan name wanted bytes failure → IsUnresumed plan name wanted failure
+  no_file : IsUnopened name failure → IsUnresumed plan name wanted failure
+  failed : failure ≡ failures.Read name → IsUnresumed plan name wanted failure
+  kept : IsUnwritten name failure → IsUnresumed plan name wanted failure
+  bad : (bytes : List ℕ) → IsRefused plan name wanted bytes failure → IsUnresumed plan name wanted failure

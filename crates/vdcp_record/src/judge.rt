@@ -1,9 +1,9 @@
-ghost use Rattle.std.specs.Prelude.{◌≡◌, ◌≤◌, IfErr, IfOk, IfNone, IfSome, OnOk};
+ghost use Rattle.std.specs.Prelude.{◌≡◌, ◌+◌, ◌<◌, ◌≤◌, length, IfErr, IfOk, IfNone, IfSome, OnOk};
 ghost use Rattle.vdcp_auto.specs.Plan.{plan_of};
 ghost use Rattle.vdcp_auto.specs.Turn.{awaited, start};
 ghost use Rattle.vdcp_journal.specs.Journals.{IsJournal, IsJournalFault};
 ghost use Rattle.vdcp_journal.specs.Resume.{IsResumeFault};
-ghost use Rattle.vdcp_record.specs.Resuming.{Differs, IsRefused, IsReplayed, IsResumed, read_failure, row_fault, untold_failure};
+ghost use Rattle.vdcp_record.specs.Resuming.{Differs, IsRefused, IsReplayed, IsResumed, place_of, read_failure, row_fault, untold_failure};
 ghost use Rattle.vdcp_journal.specs.declared.faults.JournalReadFault.{JournalReadFault};
 ghost use Rattle.vdcp_journal.specs.declared.faults.ResumeFault.{ResumeFault};
 ghost use Rattle.vdcp_text.specs.declared.failure.JournalFault.{JournalFault};
@@ -144,19 +144,40 @@ pub(crate) fn resumed<'a, S: Source + Drop>(
 {
     match resume(controller, rows) {
         Ok(resumed) => Ok(resumed),
-        Err(fault) => Err(untold_failure(name, fault)),
+        Err(fault) => Err(untold_failure(name, fault, rows)),
     }
 }
 
-// (no list has as many rows as there are numbers)
-fn untold_failure<'a>(name: &'a str, fault: ResumeFault) -> Failure<'a>
+// The failure of a fault of one of these rows.
+fn untold_failure<'a>(name: &'a str, fault: ResumeFault, rows: &[Row]) -> Failure<'a>
+    requires { place_of fault < length rows.now }
     ensures { result ≡ untold_failure name.entry fault }
 {
     match fault {
-        ResumeFault::Command(k) => Failure::JournalRow(name, k + 2, JournalFault::Command),
-        ResumeFault::Unawaited(k) => Failure::JournalRow(name, k + 2, JournalFault::Unawaited),
-        ResumeFault::Outcome(k) => Failure::JournalRow(name, k + 2, JournalFault::Outcome),
+        ResumeFault::Command(k) => Failure::JournalRow(
+            name,
+            row_number(k, rows),
+            JournalFault::Command,
+        ),
+        ResumeFault::Unawaited(k) => Failure::JournalRow(
+            name,
+            row_number(k, rows),
+            JournalFault::Unawaited,
+        ),
+        ResumeFault::Outcome(k) => Failure::JournalRow(
+            name,
+            row_number(k, rows),
+            JournalFault::Outcome,
+        ),
     }
+}
+
+// The number of a row: the heading is row 1.
+fn row_number(k: usize, rows: &[Row]) -> usize
+    requires { k < length rows.now }
+    ensures { result ≡ k + 2 }
+{
+    k + 2
 }
 
 // The last row says how the controller ended.

@@ -1,10 +1,10 @@
 ghost use Rattle.std.specs.Io.KnownBytes.{Appends};
 ghost use Rattle.std.specs.Option.{option_to_list};
-ghost use Rattle.std.specs.Prelude.{◌≡◌, ◌≤◌, ◌∷◌, [], ◌++◌, Err, IfErr, IfOk, OnErr, OnOk};
+ghost use Rattle.std.specs.Prelude.{◌≡◌, ◌≢◌, ◌≤◌, ◌∷◌, [], ◌++◌, Err, IfErr, IfOk, OnErr, OnOk};
 ghost use Rattle.vdcp_journal.specs.Rows.{AppendsBeginning, fields_text, heading_fields, rows_text};
 ghost use Rattle.vdcp_journal.specs.declared.moment.Moment.{Moment};
 ghost use Rattle.vdcp_journal.specs.declared.row.Note.TheVariants.{Sent};
-ghost use Rattle.vdcp_record.specs.Recording.{Adds, AddsBeginning, IsUnwritten, Recording, end_note, outcome_rows, rows_left};
+ghost use Rattle.vdcp_record.specs.Recording.{Adds, AddsBeginning, IsUnwritten, Recording, end_note, ended, outcome_rows, rows_left};
 ghost use Rattle.vdcp_record.specs.declared.pending.Pending.TheVariants.{End, Failed, Nothing};
 ghost use Rattle.vdcp_record.specs.declared.pending.RecordFault.{RecordFault};
 
@@ -73,7 +73,7 @@ impl<'a, 'r, R: Clock + AllocGlobal, F: JournalFile + Drop> Recorder<'a, 'r, R, 
         pending: Pending,
     ) -> Recorder<'a, 'r, R, F>
         requires { unit ≤ 15 }
-        ensures { result ≡ record { name = name.entry; unit; file; pending } }
+        ensures { result ≡ record { name = name.entry; unit = unit; file = file; pending = pending } }
     {
         Recorder {
             rt,
@@ -87,30 +87,38 @@ impl<'a, 'r, R: Clock + AllocGlobal, F: JournalFile + Drop> Recorder<'a, 'r, R, 
     /// Writes what is pending, and the row of a command that is going out.
     pub fn keep(&mut self, command: &Command) -> Result<(), RecordFault>
         ensures kept { OnOk result ((time : Moment) × Adds F.safe self.old self.new
-            (record { time; note = Sent command.now } ∷ [])) }
+            (record { time = time; note = Sent command.now } ∷ [])) }
         ensures rest { OnOk result (self.new ≡ record self.old { file = self.new.file; pending = Nothing }) }
         ensures torn { OnErr result ((time : Moment) × AddsBeginning F.safe self.old self.new
-            (record { time; note = Sent command.now } ∷ [])) }
+            (record { time = time; note = Sent command.now } ∷ [])) }
         ensures failed { IfErr result (λ fault. self.new ≡ record self.old
             { file = self.new.file; pending = Failed fault }) }
         ensures stays { (fault : RecordFault) → self.old.pending ≡ Failed fault →
             (result ≡ Err fault) × (self.new ≡ self.old) }
     {
-        let row = row_now(self.rt, Note::Sent(*command));
-        self.write(Some(row))
+        let time = now(self.rt);
+        self.write(Some(Row {
+            time,
+            note: Note::Sent(*command),
+        }))
     }
 
     /// Notes what ended an exchange, in place of what was pending.
     pub fn note(&mut self, heard: Option<Heard>)
-        ensures noted { ((fault : RecordFault) → self.old.pending ≢ Failed fault) →
-            (time : Moment) × (self.new ≡ record self.old { pending = End (record { time; note = end_note heard }) }) }
-        ensures stays { (fault : RecordFault) → self.old.pending ≡ Failed fault → self.new ≡ self.old }
+        ensures { (time : Moment) × (self.new ≡ record self.old
+            { pending = ended self.old.pending (record { time = time; note = end_note heard }) }) }
     {
-        let row = row_now(self.rt, note_of(heard));
-        match self.pending {
-            Pending::Nothing | Pending::End(_) => self.pending = Pending::End(row),
-            Pending::Failed(_) => {}
-        }
+        let time = now(self.rt);
+        self.note_row(Row {
+            time,
+            note: note_of(heard),
+        });
+    }
+
+    fn note_row(&mut self, row: Row)
+        ensures { self.new ≡ record self.old { pending = ended self.old.pending row } }
+    {
+        self.pending = self.pending.ended(row);
     }
 
     /// Writes what is pending, and how the controller ended, if it has ended. The failure is that of the first row that
@@ -122,11 +130,11 @@ impl<'a, 'r, R: Clock + AllocGlobal, F: JournalFile + Drop> Recorder<'a, 'r, R, 
         ensures rest { OnOk result (self.new ≡ record self.old { file = self.new.file; pending = Nothing }) }
         ensures failure { IfErr result (IsUnwritten self.old.name) }
     {
-        let row = outcome.map(|outcome| row_now(self.rt, Note::End(outcome)));
-        match self.write(row) {
-            Ok(()) => Ok(()),
-            Err(fault) => Err(fault.failure(self.name)),
+        let time = now(self.rt);
+        if let Err(fault) = self.write(outcome_row(time, outcome)) {
+            return Err(fault.failure(self.name));
         }
+        Ok(())
     }
 
     // Writes what is pending, and then a row, if there is one.
@@ -139,17 +147,17 @@ impl<'a, 'r, R: Clock + AllocGlobal, F: JournalFile + Drop> Recorder<'a, 'r, R, 
         ensures stays { (fault : RecordFault) → self.old.pending ≡ Failed fault →
             (result ≡ Err fault) × (self.new ≡ self.old) }
     {
-        let alloc = self.rt.alloc();
-        let result = match self.pending {
-            Pending::Nothing => write_rows(alloc, self.unit, None, last, &mut self.file),
-            Pending::End(row) => write_rows(alloc, self.unit, Some(row), last, &mut self.file),
-            Pending::Failed(fault) => Err(fault),
-        };
-        self.pending = match result {
-            Ok(()) => Pending::Nothing,
-            Err(fault) => Pending::Failed(fault),
-        };
-        result
+        let first = self.pending.row()?;
+        match write_rows(self.rt.alloc(), self.unit, first, last, &mut self.file) {
+            Ok(()) => {
+                self.pending = Pending::Nothing;
+                Ok(())
+            }
+            Err(fault) => {
+                self.pending = Pending::Failed(fault);
+                Err(fault)
+            }
+        }
     }
 }
 
@@ -163,6 +171,19 @@ impl<R: Clock + AllocGlobal, F: JournalFile + Drop> Keep for Recorder<'_, '_, R,
 
     fn note_end(&mut self, heard: Option<Heard>) {
         self.note(heard);
+    }
+}
+
+// The row of how the controller ended, if it has ended.
+fn outcome_row(time: Moment, outcome: Option<Outcome>) -> Option<Row>
+    ensures { option_to_list result ≡ outcome_rows time outcome }
+{
+    match outcome {
+        Some(outcome) => Some(Row {
+            time,
+            note: Note::End(outcome),
+        }),
+        None => None,
     }
 }
 
@@ -226,19 +247,28 @@ fn write_rows<F: JournalFile>(
     ensures beginning { OnErr result (AppendsBeginning (F.safe file.old) (F.safe file.new)
         (rows_text unit (option_to_list first ++ option_to_list last))) }
 {
-    let mut text = Vec::new(alloc);
-    add_row(alloc, unit, first, &mut text)?;
-    add_row(alloc, unit, last, &mut text)?;
+    let text = text_of(alloc, unit, first, last)?;
     append(file, text.as_slice())
 }
 
-// Adds a row's text, if there is a row.
-fn add_row(
+fn text_of(
     alloc: Global,
     unit: u8,
-    row: Option<Row>,
-    text: &mut Vec<u8>,
-) -> Result<(), RecordFault>
+    first: Option<Row>,
+    last: Option<Row>,
+) -> Result<Vec<u8>, RecordFault>
+    requires { unit ≤ 15 }
+    ensures { IfOk result (λ text. text.items
+        ≡ rows_text unit (option_to_list first ++ option_to_list last)) }
+{
+    let mut text = Vec::new(alloc);
+    add_row(alloc, unit, first, &mut text)?;
+    add_row(alloc, unit, last, &mut text)?;
+    Ok(text)
+}
+
+// Adds a row's text, if there is a row.
+fn add_row(alloc: Global, unit: u8, row: Option<Row>, text: &mut Vec<u8>) -> Result<(), RecordFault>
     requires { unit ≤ 15 }
     ensures { OnOk result (text.new.items ≡ text.old.items ++ rows_text unit (option_to_list row)) }
 {

@@ -1,0 +1,30 @@
+use Rattle.std.proofs.Common.{refl}
+use Rattle.std.proofs.lemmas.Result.{err_from_is_err_and}
+use Rattle.vdcp_record.proofs.judge.replay.Goals as goal
+use Rattle.vdcp_record.specs.Resuming.{no_journal, of_other, untold}
+
+pub returns-in_err-journal-clause-refused : goal.returns-in_err-journal-clause-refused
+returns-in_err-journal-clause-refused g c =
+    let p = err_from_is_err_and c.from_residual.result c.from_residual.ensures.1 in
+    let refused = c.in_err-journal.ensures.refused in
+    rw (p.1, p.2) (no_journal refused.0 refused.1 refused.2)
+
+pub returns-in-Some-clause-refused : goal.returns-in-Some-clause-refused
+returns-in-Some-clause-refused g c =
+    of_other c.in_ok-journal.journal c.in_ok-journal.ensures.journal c.in-Some.fault c.in-Some.ensures.differs refl
+
+pub returns-in_err-controller-clause-refused : goal.returns-in_err-controller-clause-refused
+returns-in_err-controller-clause-refused g c =
+    let p = err_from_is_err_and c.from_residual-in_err-controller.result c.from_residual-in_err-controller.ensures.1 in
+    let refused = rw c.as_slice.ensures.value at c.in_err-controller.ensures.untold in
+    rw (p.1, p.2) (untold c.in_ok-journal.journal c.in_ok-journal.ensures.journal refused.0 refused.1 refused.2)
+
+pub returns-clause-replayed : goal.returns-clause-replayed
+returns-clause-replayed g c =
+    record {
+      journal = c.in_ok-journal.journal;
+      reads = c.in_ok-journal.ensures.journal;
+      wanted_is = c.in_default.ensures.same;
+      resumes = rw c.as_slice.ensures.value at c.in_ok-controller.ensures.resumed;
+      whole_is = refl;
+    }
