@@ -124,7 +124,7 @@ IsJournalRefused settings items (journals.Older name) failure =
 -- the file that is named for the as-run list is the journal
 abbrev pub IsJournalOf : Option (Bor (List ℕ)) → Failure → Type 0
 IsJournalOf None failure = ⊥
-IsJournalOf (Some name) failure = failure ≡ failures.IsJournal name
+IsJournalOf (Some name) failure = failure ≡ failures.Exists name
 
 -- why a run of these items isn't begun with this journal, if it has one: that can't be kept, or it is the as-run file
 abbrev pub IsUnkept : RunSettings → List Item → Option RunJournal → Failure → Type 0

@@ -106,7 +106,7 @@ pub fn test_journal<'a, R: Files>(
     ensures { IfErr result (IsJournalOf name.entry) }
 {
     match name {
-        Some(name) if is_same_file(rt, name, journal) => Err(Failure::IsJournal(name)),
+        Some(name) if is_same_file(rt, name, journal) => Err(Failure::Exists(name)),
         _ => Ok(()),
     }
 }

@@ -2,7 +2,7 @@
 use Rattle.std.specs.Prelude.{ℕ, List, ◌++◌, codes, decimal}
 use Rattle.vdcp_text.specs.Text.{line}
 use Rattle.vdcp_text.specs.declared.failure.Failure.{Failure}
-use Rattle.vdcp_text.specs.declared.failure.Failure.TheVariants.{Hex, Word, Arguments, Text, Open, Read, Row, ScriptLine, TooManyEvents, NotText, Write, IsList, IsJournal, Exists, InUse, JournalRow, Memory, Writer}
+use Rattle.vdcp_text.specs.declared.failure.Failure.TheVariants.{Hex, Word, Arguments, Text, Open, Read, Row, ScriptLine, TooManyEvents, NotText, Write, IsList, Exists, InUse, JournalRow, Memory, Writer}
 use Rattle.vdcp_text.specs.declared.failure.Failure.TheVariants.{Address, Connect, NotEmpty, Bind, LineFailed, LineClosed, Spent}
 use Rattle.vdcp_text.specs.declared.failure.JournalFault.{JournalFault}
 use Rattle.vdcp_text.specs.declared.failure.JournalFault.TheVariants as journal
@@ -25,7 +25,6 @@ status_of (TooManyEvents name) = 1
 status_of (NotText name) = 1
 status_of (Write name) = 3
 status_of (IsList name) = 3
-status_of (IsJournal name) = 3
 status_of (Exists name) = 3
 status_of (InUse name) = 3
 status_of (JournalRow name row fault) = 1
@@ -84,7 +83,6 @@ failure_text (TooManyEvents name) = name.now ++ codes ": too many"
 failure_text (NotText name) = name.now ++ codes ": text"
 failure_text (Write name) = name.now ++ codes ": write"
 failure_text (IsList name) = name.now ++ codes ": exists as the list"
-failure_text (IsJournal name) = name.now ++ codes ": exists as the journal"
 failure_text (Exists name) = name.now ++ codes ": exists"
 failure_text (InUse name) = name.now ++ codes ": in use"
 failure_text (JournalRow name row fault) =

@@ -31,8 +31,6 @@ pub enum Failure<'a> {
     Write(&'a str),
     /// The file of this name, which was to be made, is the list.
     IsList(&'a str),
-    /// The file of this name, which was to be made, is the journal.
-    IsJournal(&'a str),
     /// The file of this name, which was to be made, exists.
     Exists(&'a str),
     /// The file of this name is in use by another run.
@@ -89,7 +87,7 @@ impl Failure<'_> {
             Failure::TooManyEvents(_) | Failure::NotText(_) => 1,
             Failure::Text | Failure::Address => 2,
             Failure::Open(_) | Failure::Read(_) | Failure::Write(_) | Failure::IsList(_) => 3,
-            Failure::Exists(_) | Failure::InUse(_) | Failure::IsJournal(_) => 3,
+            Failure::Exists(_) | Failure::InUse(_) => 3,
             Failure::Connect | Failure::Bind => 3,
             Failure::LineFailed | Failure::LineClosed | Failure::Spent => 3,
             Failure::Memory | Failure::Writer => 3,
@@ -117,7 +115,6 @@ impl fmt::Display for Failure<'_> {
             Failure::NotText(name) => write!(f, "{name}: text"),
             Failure::Write(name) => write!(f, "{name}: write"),
             Failure::IsList(name) => write!(f, "{name}: exists as the list"),
-            Failure::IsJournal(name) => write!(f, "{name}: exists as the journal"),
             Failure::Exists(name) => write!(f, "{name}: exists"),
             Failure::InUse(name) => write!(f, "{name}: in use"),
             Failure::JournalRow(name, row, fault) => write!(f, "{name}: row {row}: {fault}"),
