@@ -44,6 +44,7 @@ pub fn command<'a>(alloc: Global) -> Result<Command<'a>, AllocError> {
         .subcommand(sim(alloc)?)?
         .subcommand(serve(alloc)?)?
         .subcommand(run(alloc)?)?
+        .subcommand(asrun_list(alloc)?)?
         .subcommand(lossy(alloc)?)?
         .subcommand(vectors(alloc)?)
 }
@@ -131,7 +132,18 @@ fn run<'a>(alloc: Global) -> Result<Command<'a>, AllocError> {
         .arg(number_option(alloc, &RUN_SILENCE))?
         .arg(number_option(alloc, &LISTENS))?
         .arg(asrun(alloc))?
+        .arg(journal(alloc))?
+        .arg(resume(alloc)?)?
         .arg(log(alloc, "Tells standard error of each message"))
+}
+
+fn asrun_list<'a>(alloc: Global) -> Result<Command<'a>, AllocError> {
+    Command::new(alloc, "asrun")
+        .about("Prints the as-run list that a journal shows")
+        .after_help("Example: vdcp asrun run.journal examples/playlist.csv")
+        .arg(required(alloc, "JOURNAL", "The journal's file"))?
+        .arg(list(alloc))?
+        .arg(rate_option(alloc))
 }
 
 fn lossy<'a>(alloc: Global) -> Result<Command<'a>, AllocError> {
@@ -224,6 +236,21 @@ fn asrun<'a>(alloc: Global) -> Arg<'a> {
         .long("asrun")
         .value_name("FILE")
         .help("Makes this file, with the as-run list of the reported events")
+}
+
+fn journal<'a>(alloc: Global) -> Arg<'a> {
+    Arg::new(alloc, "journal")
+        .long("journal")
+        .value_name("FILE")
+        .help("Makes this file, and keeps each command there before it is sent")
+}
+
+fn resume<'a>(alloc: Global) -> Result<Arg<'a>, AllocError> {
+    Arg::new(alloc, "resume")
+        .long("resume")
+        .value_name("FILE")
+        .help("Goes on with a run that was killed, from its journal")
+        .conflicts_with("journal")
 }
 
 fn log<'a>(alloc: Global, help: &'a str) -> Arg<'a> {

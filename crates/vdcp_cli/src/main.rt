@@ -22,6 +22,7 @@ use vdcp_options::{
     lossy_settings_of, open_file, rate_of, run_settings_of, serve_settings_of, sim_settings_of,
     unit_of,
 };
+use vdcp_record::do_asrun;
 use vdcp_sim::do_sim;
 use vdcp_text::{Failure, do_make, do_show};
 
@@ -86,6 +87,7 @@ fn run_named<W: Write, E: Write>(
         "sim" => run_sim(rt, matches, out, err),
         "serve" => run_serve(rt, matches, out, err),
         "run" => run_run(rt, matches, out, err),
+        "asrun" => run_asrun(rt, matches, out, err),
         "lossy" => Ok(run_lossy(rt, matches, err)),
         "vectors" => run_vectors(rt, matches, out, err),
         // (`clap` lets no other name through)
@@ -174,6 +176,18 @@ fn run_run<'a, W: Write, E: Write>(
         Showing::Nothing
     };
     Ok(do_run(rt, address, list, settings, showing, out, err))
+}
+
+fn run_asrun<'a, W: Write, E: Write>(
+    rt: &HostRuntime,
+    matches: &'a ArgMatches<'_>,
+    out: &mut W,
+    err: &mut E,
+) -> Result<u8, Failure<'a>> {
+    let journal = open_file(rt, matches, "JOURNAL")?;
+    let list = open_file(rt, matches, "LIST")?;
+    let rate = rate_of(matches);
+    Ok(do_asrun(rt.alloc(), journal, list, rate, out, err))
 }
 
 fn run_lossy<E: Write>(rt: &HostRuntime, matches: &ArgMatches<'_>, err: &mut E) -> u8 {

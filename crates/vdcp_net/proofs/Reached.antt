@@ -1,9 +1,9 @@
 -- The end of a run, by the state that its controller reached.
-use Rattle.std.proofs.Common.{ℕ, ◌≡◌, ◌≤◌, ◌++◌, List, [], inl, subst, sym}
-use Rattle.std.specs.Prelude.{Bool, Err, IsSome, Ok, Option, Result}
-use Rattle.vdcp_auto.specs.Course.{Reached, begun}
+use Rattle.std.proofs.Common.{ℕ, ◌≡◌, ◌≤◌, ◌++◌, List, [], ◌∷◌, inl, refl, subst, sym}
+use Rattle.std.specs.Prelude.{◌↔◌, Bool, Err, IsSome, None, Ok, Option, Result, Some}
+use Rattle.vdcp_auto.specs.Course.{Call, Reached, Receive, begun, called, ended_by_call, logged}
 use Rattle.vdcp_auto.specs.Plan.{Plan, View, plan_of}
-use Rattle.vdcp_auto.specs.Turn.{given_in, new_controller, outcome_of}
+use Rattle.vdcp_auto.specs.Turn.{given_in, new_controller, outcome_of, start}
 use Rattle.vdcp_auto.specs.declared.exchange.Exchange.{Exchange}
 use Rattle.vdcp_auto.specs.State.{Ready, Awaiting, Ended, Stage, State}
 use Rattle.vdcp_auto.specs.declared.outcome.Outcome.{Outcome}
@@ -15,6 +15,9 @@ use Rattle.vdcp_drive.specs.declared.keep.KeptFault.TheVariants as fault
 use Rattle.vdcp_drive.specs.declared.line.Ran.{Ran}
 use Rattle.vdcp_wire.specs.Wires.{Told}
 use Rattle.vdcp_files.specs.Mode.{mode_of}
+use Rattle.vdcp_journal.specs.Resume.{after_call_if, after_rows, call_of}
+use Rattle.vdcp_journal.specs.declared.row.Row.{Row}
+use Rattle.vdcp_record.specs.Resuming.{IsResumed}
 use Rattle.vdcp_net.proofs.Ends.{EndedWith, ended_unneeded, unneeded_ended}
 use Rattle.vdcp_net.specs.Run.{IsEndOf, line_end_of, plan_for}
 use Rattle.vdcp_net.specs.declared.run.LineEnd.TheVariants as line_end
@@ -102,3 +105,44 @@ unbegun_ends_so items controller end log outcome reported unneeded ended kept re
   ended = λ some. inl (ended some);
   told = λ unkept. absurd (kept unkept);
 }
+
+-- a call that a row tells of, if it tells of one
+called_if : (plan : Plan) (state : State) (log : List Exchange) → Reached plan state log → (call : Option Call)
+    → (log' : List Exchange) × Reached plan (after_call_if plan call state) log'
+called_if plan state log reached None = (log, reached)
+called_if plan state log reached (Some call) = (logged log (ended_by_call plan call state), called reached call)
+
+-- the calls that rows tell of
+told_by : (plan : Plan) (state : State) (log : List Exchange) → Reached plan state log → (rows : List Row)
+    → (log' : List Exchange) × Reached plan (after_rows plan state rows) log'
+told_by plan state log reached [] = (log, reached)
+told_by plan state log reached (row ∷ rows) =
+    let next = called_if plan state log reached (call_of row.note) in
+    told_by plan (after_call_if plan (call_of row.note) state) next.0 next.1 rows
+
+-- the controller goes on from a journal
+pub resumed_ends_so : {S : Type 0} (items : S → List Item) (source : S) (settings : RunSettings)
+    (controller resumed : View S) (rows : List Row) (end : RunEnd)
+    → controller ≡ new_controller source (mode_of settings.confirm) settings.port settings.limit → 1 ≤ settings.limit
+    → settings.limit ≤ 1000
+    → IsResumed (plan_of items controller) controller rows resumed
+    → ((log : List Exchange) → Reached (plan_of items resumed) resumed.state log
+    → IsEndOf (plan_of items resumed) end)
+    → IsEndOf (plan_for settings (items source)) end
+resumed_ends_so {S} items source settings controller resumed rows end is some few goes ends =
+    let went = subst (λ (v : View S). IsResumed (plan_of items v) v rows resumed) is goes in
+    let plan : Plan = plan_for settings (items source) in
+    let told = told_by plan start [] (begun some few) rows in
+    subst (λ (v : View S). (log : List Exchange) → Reached (plan_of items v) v.state log
+    → IsEndOf (plan_of items v) end) went.controller ends
+    (logged told.0 (ended_by_call plan (Receive None) (after_rows plan start rows))) (called told.1 (Receive None))
+
+none_is_some : {A : Type 0} (o : Option A) → o ≡ None → ¬ IsSome o
+none_is_some None none = λ some. cc
+none_is_some (Some a) none = λ some. cc
+
+-- who has no recorder has ended
+pub has_ended : {A : Type 0} (recorder : Option A) (outcome : Option Outcome)
+    → (IsSome recorder ↔ (outcome ≡ None)) → recorder ≡ None → IsSome outcome
+has_ended recorder None h none = absurd (none_is_some recorder none (h.1 refl))
+has_ended recorder (Some outcome) h none = cc

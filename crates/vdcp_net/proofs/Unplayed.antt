@@ -4,12 +4,24 @@ use Rattle.std.specs.Io.KnownBytes.{Appends, Keeps}
 use Rattle.std.specs.Prelude.{Option, None, Some}
 use Rattle.vdcp_list.specs.declared.faults.ListFault.{ListFault}
 use Rattle.vdcp_list.specs.declared.faults.ListFault.TheVariants as lists
+use Rattle.vdcp_auto.specs.Plan.{Plan}
+use Rattle.vdcp_journal.specs.declared.faults.JournalReadFault.{JournalReadFault}
+use Rattle.vdcp_journal.specs.declared.faults.JournalReadFault.TheVariants as refused
+use Rattle.vdcp_journal.specs.declared.faults.ResumeFault.{ResumeFault}
+use Rattle.vdcp_journal.specs.declared.faults.ResumeFault.TheVariants as untold
+use Rattle.vdcp_journal.specs.declared.row.Heading.{Heading}
+use Rattle.vdcp_record.specs.Recording.{IsUnbegun, IsUnopened, IsUnwritten as IsRowsUnwritten}
+use Rattle.vdcp_record.specs.Resuming as resuming
+use Rattle.vdcp_record.specs.Resuming.{IsRefused, IsUnresumed, read_failure, untold_failure}
 use Rattle.vdcp_text.specs.Failure.{failure_line, status_of}
+use Rattle.vdcp_value.specs.declared.part.Item.{Item}
 use Rattle.vdcp_text.specs.declared.failure.Failure.{Failure}
 use Rattle.vdcp_text.specs.declared.failure.Failure.TheVariants.{Address}
 use Rattle.vdcp_files.specs.Files.{File, file, file_failure}
 use Rattle.vdcp_wire.specs.Address.{IsAddress}
-use Rattle.vdcp_net.specs.Run.{IsListRefused, IsPlaceRefused, IsUnplayed, no_address, no_list, no_place, not_connected, not_empty, IsNotBegun}
+use Rattle.vdcp_net.specs.Run.{IsJournalOf, IsJournalRefused, IsListRefused, IsPlaceRefused, IsRunRefused, IsUnkept, IsUnplayed, heading_for, plan_for, no_address, no_journal, no_list, no_place, not_connected, not_empty, IsNotBegun}
+use Rattle.vdcp_net.specs.declared.keeping.RunJournal.{RunJournal}
+use Rattle.vdcp_net.specs.declared.keeping.RunJournal.TheVariants as journals
 use Rattle.vdcp_net.specs.declared.run.RunSettings.{RunSettings}
 
 list_status : (name : Bor (List ℕ)) (fault : ListFault) → status_of (file_failure name fault) ≢ 2
@@ -45,6 +57,75 @@ place_status (Some name) failure (inr (inl e)) = ap status_of e
 place_status (Some name) failure (inr (inr (inl e))) = ap status_of e
 place_status (Some name) failure (inr (inr (inr e))) = ap status_of e
 
+-- that of a journal is 1 or 3
+one_or_three : (failure : Failure) → Type 0
+one_or_three failure = (status_of failure ≡ 1) ⊎ (status_of failure ≡ 3)
+
+not_2 : (failure : Failure) → one_or_three failure → status_of failure ≢ 2
+not_2 failure (inl one) two = absurd (omega (arith, one, two))
+not_2 failure (inr three) two = absurd (omega (arith, three, two))
+
+unopened_status : (name : Bor (List ℕ)) (failure : Failure) → IsUnopened name failure → one_or_three failure
+unopened_status name failure (inl e) = inr (ap status_of e)
+unopened_status name failure (inr (inl e)) = inr (ap status_of e)
+unopened_status name failure (inr (inr e)) = inr (ap status_of e)
+
+rows_unwritten_status : (name : Bor (List ℕ)) (failure : Failure) → IsRowsUnwritten name failure
+    → one_or_three failure
+rows_unwritten_status name failure (inl e) = inr (ap status_of e)
+rows_unwritten_status name failure (inr e) = inr (ap status_of e)
+
+unbegun_status : (name : Bor (List ℕ)) (failure : Failure) → IsUnbegun name failure → one_or_three failure
+unbegun_status name failure (inl e) = inr (ap status_of e)
+unbegun_status name failure (inr (inl h)) = unopened_status name failure h
+unbegun_status name failure (inr (inr h)) = rows_unwritten_status name failure h
+
+read_status : (name : Bor (List ℕ)) (failure : Failure) (wrong : JournalReadFault) → failure ≡ read_failure name wrong
+    → one_or_three failure
+read_status name failure refused.Empty e = inl (ap status_of e)
+read_status name failure (refused.Heading wrong) e = inl (ap status_of e)
+read_status name failure (refused.Row row wrong) e = inl (ap status_of e)
+read_status name failure refused.Memory e = inr (ap status_of e)
+read_status name failure refused.Device e = inr (ap status_of e)
+
+untold_status : (name : Bor (List ℕ)) (failure : Failure) (wrong : ResumeFault) → failure ≡ untold_failure name wrong
+    → one_or_three failure
+untold_status name failure (untold.Command k) e = inl (ap status_of e)
+untold_status name failure (untold.Unawaited k) e = inl (ap status_of e)
+untold_status name failure (untold.Outcome k) e = inl (ap status_of e)
+
+refused_status : (plan : Plan) (name : Bor (List ℕ)) (wanted : Heading) (bytes : List ℕ) (failure : Failure)
+    → IsRefused plan name wanted bytes failure → one_or_three failure
+refused_status plan name wanted bytes failure (resuming.no_journal wrong h e) = read_status name failure wrong e
+refused_status plan name wanted bytes failure (resuming.of_other journal is differs h e) = inl (ap status_of e)
+refused_status plan name wanted bytes failure (resuming.untold journal is wrong h e) =
+    untold_status name failure wrong e
+
+unresumed_status : (plan : Plan) (name : Bor (List ℕ)) (wanted : Heading) (failure : Failure)
+    → IsUnresumed plan name wanted failure → one_or_three failure
+unresumed_status plan name wanted failure (resuming.unopened h) = unopened_status name failure h
+unresumed_status plan name wanted failure (resuming.unread e) = inr (ap status_of e)
+unresumed_status plan name wanted failure (resuming.unwritten h) = rows_unwritten_status name failure h
+unresumed_status plan name wanted failure (resuming.refused bytes h) =
+    refused_status plan name wanted bytes failure h
+
+journal_status : (settings : RunSettings) (items : List Item) (journal : RunJournal) (failure : Failure)
+    → IsJournalRefused settings items journal failure → one_or_three failure
+journal_status settings items (journals.New name) failure h = unbegun_status name failure h
+journal_status settings items (journals.Older name) failure h =
+    unresumed_status (plan_for settings items) name (heading_for settings items) failure h
+
+asrun_status : (name : Option (Bor (List ℕ))) (failure : Failure) → IsJournalOf name failure → one_or_three failure
+asrun_status None failure is = absurd is
+asrun_status (Some name) failure e = inr (ap status_of e)
+
+unkept_status : (settings : RunSettings) (items : List Item) (journal : Option RunJournal) (failure : Failure)
+    → IsUnkept settings items journal failure → one_or_three failure
+unkept_status settings items None failure h = absurd h
+unkept_status settings items (Some journal) failure (inl e) = inr (ap status_of e)
+unkept_status settings items (Some journal) failure (inr (inl h)) = journal_status settings items journal failure h
+unkept_status settings items (Some journal) failure (inr (inr h)) = asrun_status settings.asrun failure h
+
 pub told_with_2 : (settings : RunSettings) (text : List ℕ) (list : File) (failure : Failure) (status : ℕ)
     (err err' : Option (List ℕ))
     → IsUnplayed settings text list failure → (status ≡ status_of failure) ⊎ (status ≡ 3)
@@ -58,6 +139,9 @@ told_with_2 settings text (file name bytes) failure status err err' (no_list som
 told_with_2 settings text list failure status err err' (no_place some whole refused) is told two =
     let three : status_of failure ≡ 3 = place_status settings.asrun failure refused in
     absurd (omega (arith, three, own_status failure status is two))
+told_with_2 settings text list failure status err err' (no_journal some items lists refused) is told two =
+    absurd (not_2 failure (unkept_status settings items settings.journal failure refused)
+    (own_status failure status is two))
 told_with_2 settings text list failure status err err' (not_connected some whole e) is told two =
     let three : status_of failure ≡ 3 = ap status_of e in
     absurd (omega (arith, three, own_status failure status is two))
@@ -69,7 +153,8 @@ pub told_with_1 : (settings : RunSettings) (text : List ℕ) (list : File) (fail
     (out err err' : Option (List ℕ))
     → IsUnplayed settings text list failure → (status ≡ status_of failure) ⊎ (status ≡ 3)
     → (status < 3 → Appends err err' (failure_line failure))
-    → status ≡ 1 → IsListRefused settings.rate list out out err err' ⊎ IsNotBegun settings.rate list out out err err'
+    → status ≡ 1 → IsListRefused settings.rate list out out err err'
+    ⊎ (IsRunRefused settings list out out err err' ⊎ IsNotBegun settings.rate list out out err err')
 told_with_1 settings text list failure status out err err' (no_address none e) is told one =
     let two : status_of failure ≡ 2 = ap status_of e in
     absurd (omega (arith, two, own_status_1 failure status is one))
@@ -83,11 +168,21 @@ told_with_1 settings text list failure status out err err' (no_list some refused
 told_with_1 settings text list failure status out err err' (no_place some whole refused) is told one =
     let three : status_of failure ≡ 3 = place_status settings.asrun failure refused in
     absurd (omega (arith, three, own_status_1 failure status is one))
+told_with_1 settings text list failure status out err err' (no_journal some items lists refused) is told one =
+    inr (inl (record {
+      failure = failure;
+      items = items;
+      lists = lists;
+      refused = refused;
+      of_row = own_status_1 failure status is one;
+      told = told (omega (arith, one));
+      silent = keeps_itself out;
+    }))
 told_with_1 settings text list failure status out err err' (not_connected some whole e) is told one =
     let three : status_of failure ≡ 3 = ap status_of e in
     absurd (omega (arith, three, own_status_1 failure status is one))
-told_with_1 settings text list failure status out err err' (not_empty some whole e) is told one = inr (record {
+told_with_1 settings text list failure status out err err' (not_empty some whole e) is told one = inr (inr (record {
   whole = whole;
   told = subst (λ (f : Failure). Appends err err' (failure_line f)) e (told (omega (arith, one)));
   silent = keeps_itself out;
-})
+}))

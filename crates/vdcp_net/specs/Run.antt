@@ -1,7 +1,7 @@
 -- How a run ends: what it tells then, and its exit status.
 use Rattle.std.specs.Borrow.{Bor}
 use Rattle.std.specs.Io.KnownBytes.{Appends, Keeps}
-use Rattle.std.specs.Prelude.{ℕ, zero, suc, ◌≡◌, ◌⊎◌, Bool, true, false, List, [], ◌++◌, codes, decimal, Option, None, Some, IsSome, Result, Ok, Err}
+use Rattle.std.specs.Prelude.{ℕ, zero, suc, ◌≡◌, ◌⊎◌, Bool, true, false, List, [], ◌++◌, codes, decimal, Option, None, Some, option_map, IsSome, Result, Ok, Err}
 use Rattle.vdcp_value.specs.declared.part.Item.{Item}
 use Rattle.vdcp_value.specs.declared.rate.Rate.{Rate}
 use Rattle.vdcp_auto.specs.Course.{Reached}
@@ -17,7 +17,11 @@ use Rattle.vdcp_text.specs.declared.failure.Failure.{Failure}
 use Rattle.vdcp_text.specs.declared.failure.Failure.TheVariants as failures
 use Rattle.vdcp_files.specs.Files.{File, IsWholeList, RefusesList, bytes_of}
 use Rattle.vdcp_files.specs.Mode.{mode_of}
+use Rattle.vdcp_journal.specs.declared.row.Heading.{Heading}
 use Rattle.vdcp_list.specs.Playlists.{IsListOf}
+use Rattle.vdcp_record.specs.Recording.{IsUnbegun}
+use Rattle.vdcp_record.specs.Resuming.{IsUnresumed}
+use Rattle.vdcp_record.specs.Showing.{digest_of}
 use Rattle.vdcp_text.specs.Outcome.{outcome_text}
 use Rattle.vdcp_drive.specs.declared.keep.KeptFault.{KeptFault}
 use Rattle.vdcp_drive.specs.declared.keep.KeptFault.TheVariants as fault
@@ -28,6 +32,8 @@ use Rattle.vdcp_net.specs.declared.asrun.Older.{Older}
 use Rattle.vdcp_net.specs.declared.asrun.Older.TheVariants as older
 use Rattle.vdcp_net.specs.declared.keeping.Keeping.{Keeping}
 use Rattle.vdcp_net.specs.declared.keeping.Keeping.TheVariants as keeping
+use Rattle.vdcp_net.specs.declared.keeping.RunJournal.{RunJournal}
+use Rattle.vdcp_net.specs.declared.keeping.RunJournal.TheVariants as journals
 use Rattle.vdcp_net.specs.declared.run.LineEnd.{LineEnd}
 use Rattle.vdcp_net.specs.declared.run.LineEnd.TheVariants as line_end
 use Rattle.vdcp_net.specs.declared.run.RunEnd.{RunEnd}
@@ -89,10 +95,43 @@ older_after (suc n) answered = older.Replaced
 
 -- ---- the journal
 
+-- the name of its file
+abbrev pub name_of : RunJournal → Bor (List ℕ)
+name_of (journals.New name) = name
+name_of (journals.Older name) = name
+
 -- its name, where there is one
 abbrev pub journal_in : {J : Type 0} → Keeping J → Option (Bor (List ℕ))
 journal_in keeping.Nothing = None
 journal_in (keeping.Journal name journal) = Some name
+
+-- what a journal of these items is of
+abbrev pub heading_for : RunSettings → List Item → Heading
+heading_for settings items = record {
+  digest = digest_of settings.rate items;
+  confirming = settings.confirm;
+  unit = settings.unit;
+  port = settings.port;
+  limit = settings.limit;
+}
+
+-- why the journal can't be kept, of a run that plays these items
+abbrev pub IsJournalRefused : RunSettings → List Item → RunJournal → Failure → Type 0
+IsJournalRefused settings items (journals.New name) failure = IsUnbegun name failure
+IsJournalRefused settings items (journals.Older name) failure =
+    IsUnresumed (plan_for settings items) name (heading_for settings items) failure
+
+-- the file that is named for the as-run list is the journal
+abbrev pub IsJournalOf : Option (Bor (List ℕ)) → Failure → Type 0
+IsJournalOf None failure = ⊥
+IsJournalOf (Some name) failure = failure ≡ failures.Exists name
+
+-- why a run of these items isn't begun with this journal, if it has one: that can't be kept, or it is the as-run file
+abbrev pub IsUnkept : RunSettings → List Item → Option RunJournal → Failure → Type 0
+IsUnkept settings items None failure = ⊥
+IsUnkept settings items (Some journal) failure =
+    (failure ≡ failures.Memory) ⊎ (IsJournalRefused settings items journal failure
+    ⊎ IsJournalOf settings.asrun failure)
 
 -- why the journal of this name isn't whole, if it isn't: it can't be written, or memory was refused
 abbrev pub MayBeUnkept : Option (Bor (List ℕ)) → Option Failure → Type 0
@@ -167,7 +206,7 @@ pub record IsPlayed (settings : RunSettings) (list : File) (end : RunEnd) : Type
   pub lists : IsListOf settings.rate (bytes_of list) items
   pub ends : IsEndOf (plan_for settings items) end
   pub unwritten : MayBeUnwritten settings.asrun end.unwritten
-  pub unkept : MayBeUnkept None end.unkept
+  pub unkept : MayBeUnkept (option_map name_of settings.journal) end.unkept
 
 -- the list was played to this end: a writer gained the lines of that, and this is the status
 pub record IsRun (settings : RunSettings) (list : File) (out out' : Option (List ℕ)) (status : ℕ) : Type 0 where
@@ -177,13 +216,14 @@ pub record IsRun (settings : RunSettings) (list : File) (out out' : Option (List
   pub status_is : status ≡ run_status end
 
 -- why a list isn't played: the text is no address, or else the list isn't read, or else the as-run list can't be
--- written, or
--- else nobody takes the connection, or else the port isn't empty
+-- written, or else the journal can't be kept, or else nobody takes the connection, or else the port isn't empty
 pub data IsUnplayed (settings : RunSettings) (text : List ℕ) (list : File) (failure : Failure) : Type 0 where
   no_address : ¬ IsAddress text → failure ≡ failures.Address → IsUnplayed settings text list failure
   no_list : IsAddress text → RefusesList settings.rate list failure → IsUnplayed settings text list failure
   no_place : IsAddress text → IsWholeList settings.rate list → IsPlaceRefused settings.asrun failure →
       IsUnplayed settings text list failure
+  no_journal : IsAddress text → (items : List Item) → IsListOf settings.rate (bytes_of list) items →
+      IsUnkept settings items settings.journal failure → IsUnplayed settings text list failure
   not_connected : IsAddress text → IsWholeList settings.rate list → failure ≡ failures.Connect →
       IsUnplayed settings text list failure
   not_empty : IsAddress text → IsWholeList settings.rate list → failure ≡ failures.NotEmpty →
@@ -193,6 +233,16 @@ pub data IsUnplayed (settings : RunSettings) (text : List ℕ) (list : File) (fa
 pub record IsNotBegun (rate : Rate) (list : File) (out out' err err' : Option (List ℕ)) : Type 0 where
   pub whole : IsWholeList rate list
   pub told : Appends err err' (failure_line failures.NotEmpty)
+  pub silent : Keeps out out'
+
+-- a row of the journal is refused: one writer gained the line that tells it, and the other nothing
+pub record IsRunRefused (settings : RunSettings) (list : File) (out out' err err' : Option (List ℕ)) : Type 0 where
+  pub failure : Failure
+  pub items : List Item
+  pub lists : IsListOf settings.rate (bytes_of list) items
+  pub refused : IsUnkept settings items settings.journal failure
+  pub of_row : status_of failure ≡ 1
+  pub told : Appends err err' (failure_line failure)
   pub silent : Keeps out out'
 
 -- a row of the list is refused: one writer gained the line that tells it, and the other nothing

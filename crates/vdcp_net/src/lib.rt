@@ -33,6 +33,7 @@ mod serve;
 mod statuses;
 mod stay;
 
+pub use keeping::RunJournal;
 pub use lines::Lines;
 pub use run::{RunSettings, Showing, do_run};
 pub use screen::Screen;

@@ -1,5 +1,5 @@
 ghost use Rattle.std.specs.Prelude.{IfErr};
-ghost use Rattle.vdcp_net.specs.Run.{IsPlaceRefused, IsUnwritten};
+ghost use Rattle.vdcp_net.specs.Run.{IsJournalOf, IsPlaceRefused, IsUnwritten};
 
 use std::fs::{self, File, OpenFile, OpenOptions};
 use std::io::{self, ErrorKind};
@@ -95,6 +95,20 @@ pub fn make_beside<R: Files + AllocGlobal>(rt: &R, name: &str) -> io::Result<(R:
         }
     }
     Err(io::Error::from(ErrorKind::AlreadyExists))
+}
+
+/// Tests that the file for the as-run list, if one is named, isn't that of the journal.
+pub fn test_journal<'a, R: Files>(
+    rt: &R,
+    name: Option<&'a str>,
+    journal: &str,
+) -> Result<(), Failure<'a>>
+    ensures { IfErr result (IsJournalOf name.entry) }
+{
+    match name {
+        Some(name) if is_same_file(rt, name, journal) => Err(Failure::Exists(name)),
+        _ => Ok(()),
+    }
 }
 
 // Both names are those of one file, by another path or a link.

@@ -10,25 +10,27 @@ ghost use Rattle.vdcp_files.specs.Files.{IsWholeList, file};
 ghost use Rattle.vdcp_files.specs.Mode.{mode_of};
 ghost use Rattle.vdcp_wire.specs.Address.{IsAddress};
 ghost use Rattle.vdcp_wire.specs.Wires.{IfTold, nothing_told};
-ghost use Rattle.vdcp_net.specs.Run.{IsEndOf, IsListRefused, IsNotBegun, IsOpening, IsPlayed, IsRun, IsUnplayed, MayBeUnkept, MayBeUnwritten, journal_in};
-ghost use Rattle.vdcp_net.specs.Run.{end_text, fault_text, faults_text, line_end_of, line_failure, run_status};
+ghost use Rattle.vdcp_net.specs.Run.{IsEndOf, IsListRefused, IsNotBegun, IsOpening, IsPlayed, IsRun, IsRunRefused, IsUnkept, IsUnplayed, MayBeUnkept, MayBeUnwritten, journal_in};
+ghost use Rattle.vdcp_net.specs.Run.{end_text, fault_text, faults_text, line_end_of, heading_for, line_failure, plan_for, run_status};
 ghost use Rattle.vdcp_text.specs.Failure.{failure_line};
 
 use crate::asrun::{Older, save_asrun};
 use crate::dead::DeadWire;
-use crate::keeping::{Journal, Keeping};
+use crate::keeping::{Journal, Keeping, RunJournal};
 use crate::log::{Log, Logged};
 use crate::notice::Notice;
-use crate::place::test_place;
+use crate::place::{test_journal, test_place};
 use crate::progress::Progress;
+use std::fs::{self, File};
 use std::io;
-use std::net::{Net, OpenStream, SocketAddr};
+use std::net::{Net, OpenStream, SocketAddr, SocketAddrV4};
 use std::rt::{Clock, Files};
 use std::time::Duration;
 use vdcp_auto::{Controller, Outcome, Source};
 use vdcp_drive::{AutoDriver, KeptFault, Ran, Unkept, Unwatched, Vacancy, Watch, ask_port};
 use vdcp_files::NamedFile;
-use vdcp_journal::JournalWriteFault;
+use vdcp_journal::{Heading, digest_of};
+use vdcp_record::{RecordFault, begin_journal, resume_journal};
 use vdcp_text::{Failure, OutcomeText};
 use vdcp_value::Rate;
 use vdcp_wire::{StreamWire, Wire, WireFault, address_of};
@@ -54,6 +56,8 @@ pub struct RunSettings<'a> {
     pub listens: u32,
     /// The file that is made for the as-run list, if one is wanted.
     pub asrun: Option<&'a str>,
+    /// The journal, if one is kept.
+    pub journal: Option<RunJournal<'a>>,
 }
 
 /// What is shown while a list is played, and the writer that it goes to. Where this writer fails, no more is
@@ -210,7 +214,7 @@ fn write_fault<E: io::Write>(failure: Option<Failure<'_>>, err: &mut E) -> io::R
 /// nobody takes the connection. It is 3 too where `out` or `err` failed. To a writer that failed nothing more
 /// is written.
 pub fn do_run<
-    R: Net + Files + Clock + AllocGlobal,
+    R: Net + Files<File = File> + Clock + AllocGlobal,
     L: io::Read + Drop,
     V: io::Write + Drop,
     W: io::Write,
@@ -237,6 +241,8 @@ pub fn do_run<
         × Keeps (E.contents err.old) (E.contents err.new))
         ⊎ IsListRefused settings.entry.rate (file list.entry.name (L.remaining list.entry.reader))
         (W.contents out.old) (W.contents out.new) (E.contents err.old) (E.contents err.new)
+        ⊎ IsRunRefused settings.entry (file list.entry.name (L.remaining list.entry.reader))
+        (W.contents out.old) (W.contents out.new) (E.contents err.old) (E.contents err.new)
         ⊎ IsNotBegun settings.entry.rate (file list.entry.name (L.remaining list.entry.reader))
         (W.contents out.old) (W.contents out.new) (E.contents err.old) (E.contents err.new) }
     // The status is 2 for an address that is none, unless this can't be told.
@@ -255,7 +261,7 @@ pub fn do_run<
 }
 
 // Reads the list, connects, plays the list, and writes what is reported of it.
-fn run_list<'a, R: Net + Files + Clock + AllocGlobal, L: io::Read + Drop, V: io::Write + Drop>(
+fn run_list<'a, R: Net + Files<File = File> + Clock + AllocGlobal, L: io::Read + Drop, V: io::Write + Drop>(
     rt: &R,
     address: &str,
     list: NamedFile<'a, L>,
@@ -278,11 +284,146 @@ fn run_list<'a, R: Net + Files + Clock + AllocGlobal, L: io::Read + Drop, V: io:
     let name = list.name;
     let events = list.read_list(rt.alloc(), settings.rate)?;
     test_place(rt, settings.asrun, name)?;
+    match settings.journal {
+        None => play_unkept(rt, address, events, settings, showing),
+        Some(RunJournal::New(journal)) => play_new(rt, address, journal, events, settings, showing),
+        Some(RunJournal::Older(journal)) => play_older(rt, address, journal, events, settings, showing),
+    }
+}
+
+// Plays a list without a journal.
+fn play_unkept<'a, R: Net + Files + Clock + AllocGlobal, S: Source + Drop, V: io::Write + Drop>(
+    rt: &R,
+    address: SocketAddrV4,
+    source: S,
+    settings: RunSettings<'a>,
+    showing: Showing<V>,
+) -> Result<RunEnd<'a>, Failure<'a>>
+    requires unit { settings.unit ≤ 15 }
+    requires some { 1 ≤ settings.limit }
+    requires few { settings.limit ≤ 1000 }
+    ensures unwritten { IfOk result (λ end. MayBeUnwritten settings.entry.asrun end.unwritten) }
+    ensures unkept { IfOk result (λ end. MayBeUnkept None end.unkept) }
+    ensures end { IfOk result (IsEndOf (plan_for settings.entry (S.items source))) }
+    ensures refused { IfErr result (λ failure. (failure ≡ Failure.Connect) ⊎ (failure ≡ Failure.NotEmpty)) }
+{
+    let controller = new_controller(source, settings);
+    let keeping: Keeping<'_, Unkept> = Keeping::Nothing;
+    play_at(rt, address, controller, keeping, settings, showing)
+}
+
+// Plays a list with a new journal of this name. It is gone again where nothing was sent.
+fn play_new<'a, R: Net + Files<File = File> + Clock + AllocGlobal, S: Source + Drop, V: io::Write + Drop>(
+    rt: &R,
+    address: SocketAddrV4,
+    name: &'a str,
+    source: S,
+    settings: RunSettings<'a>,
+    showing: Showing<V>,
+) -> Result<RunEnd<'a>, Failure<'a>>
+    requires unit { settings.unit ≤ 15 }
+    requires some { 1 ≤ settings.limit }
+    requires few { settings.limit ≤ 1000 }
+    ensures unwritten { IfOk result (λ end. MayBeUnwritten settings.entry.asrun end.unwritten) }
+    ensures unkept { IfOk result (λ end. MayBeUnkept (Some name.entry) end.unkept) }
+    ensures end { IfOk result (IsEndOf (plan_for settings.entry (S.items source))) }
+    ensures refused { IfErr result (λ failure. IsUnkept settings.entry (S.items source) (Some (RunJournal.New name.entry)) failure
+        ⊎ (failure ≡ Failure.Connect) ⊎ (failure ≡ Failure.NotEmpty)) }
+{
+    let heading = heading_of(rt, &source, settings)?;
+    let controller = new_controller(source, settings);
+    let journal = begin_journal(rt, name, &heading)?;
+    let keeping = Keeping::Journal(name, journal);
+    let end = match test_journal(rt, settings.asrun, name) {
+        Ok(()) => play_at(rt, address, controller, keeping, settings, showing),
+        Err(failure) => Err(failure),
+    };
+    if end.is_err() {
+        let _ = fs::remove_file(rt, name);
+    }
+    end
+}
+
+// Goes on with a list from the journal of this name. Where the controller has ended there, nothing is sent.
+fn play_older<'a, R: Net + Files<File = File> + Clock + AllocGlobal, S: Source + Drop, V: io::Write + Drop>(
+    rt: &R,
+    address: SocketAddrV4,
+    name: &'a str,
+    source: S,
+    settings: RunSettings<'a>,
+    showing: Showing<V>,
+) -> Result<RunEnd<'a>, Failure<'a>>
+    requires unit { settings.unit ≤ 15 }
+    requires some { 1 ≤ settings.limit }
+    requires few { settings.limit ≤ 1000 }
+    ensures unwritten { IfOk result (λ end. MayBeUnwritten settings.entry.asrun end.unwritten) }
+    ensures unkept { IfOk result (λ end. MayBeUnkept (Some name.entry) end.unkept) }
+    ensures end { IfOk result (IsEndOf (plan_for settings.entry (S.items source))) }
+    ensures refused { IfErr result (λ failure. IsUnkept settings.entry (S.items source) (Some (RunJournal.Older name.entry)) failure
+        ⊎ (failure ≡ Failure.Connect) ⊎ (failure ≡ Failure.NotEmpty)) }
+{
+    test_journal(rt, settings.asrun, name)?;
+    let heading = heading_of(rt, &source, settings)?;
+    let resumed = resume_journal(rt, name, &heading, new_controller(source, settings))?;
+    let controller = resumed.controller;
+    match resumed.recorder {
+        Some(journal) => {
+            let keeping = Keeping::Journal(name, journal);
+            play_at(rt, address, controller, keeping, settings, showing)
+        }
+        None => Ok(ended(rt, &controller, LineEnd::Unneeded, true, settings)),
+    }
+}
+
+// What a journal of a run is of.
+fn heading_of<'a, R: AllocGlobal, S: Source>(
+    rt: &R,
+    source: &S,
+    settings: RunSettings<'_>,
+) -> Result<Heading, Failure<'a>>
+    ensures heading { IfOk result (λ heading. heading ≡ heading_for settings.entry (S.items source.now)) }
+    ensures refused { IfErr result (λ failure. failure ≡ Failure.Memory) }
+{
+    // (each part of a list was read at the rate at which it is written)
+    let Ok(digest) = digest_of(rt.alloc(), source, settings.rate) else {
+        return Err(Failure::Memory);
+    };
+    Ok(Heading {
+        digest,
+        confirming: settings.confirm,
+        unit: settings.unit,
+        port: settings.port,
+        limit: settings.limit,
+    })
+}
+
+// Connects, and plays a list.
+fn play_at<
+    'a,
+    R: Net + Files + Clock + AllocGlobal,
+    S: Source + Drop,
+    J: Journal + Drop,
+    V: io::Write + Drop,
+>(
+    rt: &R,
+    address: SocketAddrV4,
+    controller: Controller<S>,
+    keeping: Keeping<'a, J>,
+    settings: RunSettings<'a>,
+    showing: Showing<V>,
+) -> Result<RunEnd<'a>, Failure<'a>>
+    requires unit { settings.unit ≤ 15 }
+    requires some { 1 ≤ settings.limit }
+    ensures unwritten { IfOk result (λ end. MayBeUnwritten settings.entry.asrun end.unwritten) }
+    ensures unkept { IfOk result (λ end. MayBeUnkept (journal_in keeping.entry) end.unkept) }
+    // Whatever the controller's log is: from there it came to this end.
+    ensures end { IfOk result (λ end. (log : List Exchange) → Reached (plan_of S.items controller) controller.state log
+        → IsEndOf (plan_of S.items controller) end) }
+    ensures refused { IfErr result (λ failure. (failure ≡ Failure.Connect) ⊎ (failure ≡ Failure.NotEmpty)) }
+{
     let Ok(stream) = rt.connect(SocketAddr::V4(address)) else {
         return Err(Failure::Connect);
     };
-    let controller = new_controller(events, settings);
-    let keeping: Keeping<'_, Unkept> = Keeping::Nothing;
     let end = play_connected(rt, controller, stream, keeping, settings, showing);
     match end.line {
         LineEnd::Occupied => Err(Failure::NotEmpty),
@@ -595,8 +736,8 @@ fn run_kept<'a, S: Source, W: Wire, V: Watch<S>, J: Journal + Drop>(
             let ran = driver.run_kept(listens, watcher, &mut journal);
             let line = LineEnd::of_run(ran);
             let unkept = match journal.close(driver.controller().outcome()) {
-                Err(JournalWriteFault::Memory) => Some(Failure::Memory),
-                Err(JournalWriteFault::Device) => Some(Failure::Write(name)),
+                Err(RecordFault::Memory) => Some(Failure::Memory),
+                Err(RecordFault::Device) => Some(Failure::Write(name)),
                 Ok(()) if line == LineEnd::Unkept => Some(Failure::Write(name)),
                 Ok(()) => None,
             };

@@ -1,8 +1,10 @@
 -- What an option says: a number, a rate, or whether it is wanted.
-use Rattle.std.specs.Prelude.{ℕ, List, ◌≡◌, ◌≤◌, ◌⊎◌, Bool, true, false, None, Some, codes}
+use Rattle.std.specs.Prelude.{ℕ, List, ◌≡◌, ◌≤◌, ◌⊎◌, Bool, true, false, Option, None, Some, codes}
 use Rattle.std.specs.Str.Parse.{IsNumeral, digits_value, without_leading_plus}
 use Rattle.clap.specs.Matches.{first_value, one_text}
 use Rattle.clap.specs.declared.parser.matches.Found.{Found}
+use Rattle.vdcp_net.specs.declared.keeping.RunJournal.{RunJournal}
+use Rattle.vdcp_net.specs.declared.keeping.RunJournal.TheVariants as journals
 use Rattle.vdcp_value.specs.declared.rate.Rate.{Rate}
 use Rattle.vdcp_value.specs.declared.rate.Rate.TheVariants.{F24, F25, F30, D30}
 
@@ -32,3 +34,9 @@ GivesRate found name rate = (text : List ℕ) × (first_value found name ≡ Som
 abbrev pub HasFlag : Found → List ℕ → Bool → Type 0
 HasFlag found name true = one_text found name ≡ Some (codes "true")
 HasFlag found name false = (one_text found name ≡ None) ⊎ (one_text found name ≡ Some (codes "false"))
+
+-- the journal of a run, by the two options that name one: that to go on from goes first
+abbrev pub NamesJournal : (new older : Option (List ℕ)) → Option RunJournal → Type 0
+NamesJournal new older None = (new ≡ None) × (older ≡ None)
+NamesJournal new older (Some (journals.New name)) = (new ≡ Some name.now) × (older ≡ None)
+NamesJournal new older (Some (journals.Older name)) = older ≡ Some name.now

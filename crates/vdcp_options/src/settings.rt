@@ -1,6 +1,6 @@
 ghost use Rattle.clap.specs.Matches.{first_value, found_of};
 ghost use Rattle.std.specs.Prelude.{◌≡◌, ◌≤◌, ℕ, codes, false, None, option_map, Some, true};
-ghost use Rattle.vdcp_options.specs.Options.{GivesNumber, GivesRate, HasFlag};
+ghost use Rattle.vdcp_options.specs.Options.{GivesNumber, GivesRate, HasFlag, NamesJournal};
 ghost use Rattle.vdcp_value.specs.declared.rate.Rate.{Rate};
 
 use crate::number::{
@@ -10,7 +10,7 @@ use crate::number::{
 use crate::rate::rate_of;
 use clap::ArgMatches;
 use vdcp_lossy::{Chances, LossySettings};
-use vdcp_net::{RunSettings, ServeSettings};
+use vdcp_net::{RunJournal, RunSettings, ServeSettings};
 use vdcp_sim::SimSettings;
 
 // Whether the flag of this name is there.
@@ -84,6 +84,18 @@ pub fn serve_settings_of(matches: &ArgMatches) -> ServeSettings
     }
 }
 
+// The journal that is named; that to go on from goes first.
+fn journal_of<'a>(matches: &'a ArgMatches<'_>) -> Option<RunJournal<'a>>
+    ensures { NamesJournal (first_value (found_of matches.now) (codes "journal"))
+        (first_value (found_of matches.now) (codes "resume")) result }
+{
+    match (matches.get_str("resume"), matches.get_str("journal")) {
+        (Some(name), _) => Some(RunJournal::Older(name)),
+        (None, Some(name)) => Some(RunJournal::New(name)),
+        (None, None) => None,
+    }
+}
+
 /// What the options say of a list that is played.
 pub fn run_settings_of<'a>(matches: &'a ArgMatches<'_>) -> RunSettings<'a>
     ensures unit { result.unit ≤ 15 }
@@ -101,6 +113,8 @@ pub fn run_settings_of<'a>(matches: &'a ArgMatches<'_>) -> RunSettings<'a>
     ensures confirms { HasFlag (found_of matches.now) (codes "confirm") true → result.confirm ≡ true }
     ensures confirms_not { HasFlag (found_of matches.now) (codes "confirm") false → result.confirm ≡ false }
     ensures asruns { option_map (λ name. name.now) result.asrun ≡ first_value (found_of matches.now) (codes "asrun") }
+    ensures journals { NamesJournal (first_value (found_of matches.now) (codes "journal"))
+        (first_value (found_of matches.now) (codes "resume")) result.journal }
 {
     RunSettings {
         unit: unit_of(matches),
@@ -111,6 +125,7 @@ pub fn run_settings_of<'a>(matches: &'a ArgMatches<'_>) -> RunSettings<'a>
         silence: number_of(matches, &RUN_SILENCE),
         listens: number_of(matches, &LISTENS),
         asrun: matches.get_str("asrun"),
+        journal: journal_of(matches),
     }
 }
 

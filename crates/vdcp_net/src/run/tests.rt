@@ -28,6 +28,7 @@ const SETTINGS: RunSettings<'static> = RunSettings {
     silence: 20,
     listens: 100,
     asrun: None,
+    journal: None,
 };
 
 const NO_JOURNAL: Keeping<'static, Unkept> = Keeping::Nothing;
