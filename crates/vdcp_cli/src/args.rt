@@ -109,6 +109,7 @@ fn serve<'a>(alloc: Global) -> Result<Command<'a>, AllocError> {
         .arg(number_option(alloc, &CUE_FRAMES))?
         .arg(number_option(alloc, &SERVE_SILENCE))?
         .arg(number_option(alloc, &TURNS))?
+        .arg(real_time(alloc))?
         .arg(stay(alloc))?
         .arg(idle_option(alloc))?
         .arg(log(
@@ -217,6 +218,13 @@ fn stay<'a>(alloc: Global) -> Arg<'a> {
         .long("stay")
         .action(ArgAction::SetTrue)
         .help("Keeps the port when a connection ends, and takes the next one")
+}
+
+fn real_time<'a>(alloc: Global) -> Arg<'a> {
+    Arg::new(alloc, "real-time")
+        .long("real-time")
+        .action(ArgAction::SetTrue)
+        .help("Frames pass by the clock, as many a second as --rate has, and not at silences")
 }
 
 fn asrun<'a>(alloc: Global) -> Arg<'a> {

@@ -1,6 +1,6 @@
 -- A line that is given up stays closed.
-use Rattle.std.proofs.Common.{◌≡◌, refl, sym, ap, List, Bool, true, false, [], ◌∷◌, ◌++◌, subst}
-use Rattle.std.specs.Prelude.{Option, None, Some, if◌then◌else◌}
+use Rattle.std.proofs.Common.{◌≡◌, refl, ap, List, Bool, true, false}
+use Rattle.std.specs.Prelude.{Option, None, Some}
 use Rattle.vdcp_wire.specs.WireLaws.{closed_close}
 use Rattle.vdcp_wire.specs.Wires.{Arrival, Told, close, adds_came, came_with, has_closed}
 use Rattle.vdcp_net.specs.Idle.{has_given_up, told_with}

@@ -1,5 +1,5 @@
 -- How a port is kept for one turn more.
-use Rattle.std.proofs.Common.{ℕ, ◌≡◌, suc, subst, sym}
+use Rattle.std.proofs.Common.{ℕ, ◌≡◌, suc, subst}
 use Rattle.std.specs.Prelude.{Option, Result}
 use Rattle.vdcp_port.specs.Clock.{ClockedPort, after_frame}
 use Rattle.vdcp_drive.specs.ServeLeaves.{ServeLeaves}

@@ -5,7 +5,7 @@
 //! standard error, and the exit status is given.
 //!
 //! Files: `serve` and `run` (a subcommand each), `stay` (a port that is kept from one connection to the next),
-//! `entrance` (who takes these), `idling` (a line that is given up), `asrun` (the as-run file) and `place` (how it
+//! `entrance` (who takes these), `idling` (a line that is given up), `paced` (frames by the clock), `asrun` (the as-run file) and `place` (how it
 //! comes to be), `log` (a line for each message), `progress` (the line of a terminal that shows how far a run is),
 //! `statuses` (how many were answered in a row), `notice` (whether the port has answered), `lines` and `screen`
 //! (writers that don't wait), `dead` (a wire on which nothing comes). `Lines` and `Screen` are for what else is printed
@@ -23,6 +23,7 @@ mod log;
 mod notice;
 #[cfg(test)]
 mod output;
+mod paced;
 mod place;
 mod progress;
 mod run;
@@ -32,6 +33,7 @@ mod statuses;
 mod stay;
 
 pub use lines::Lines;
+pub use paced::Pace;
 pub use run::{RunSettings, Showing, do_run};
 pub use screen::Screen;
 pub use serve::{ServeSettings, Telling, do_serve};

@@ -10,7 +10,7 @@ use crate::number::{
 use crate::rate::rate_of;
 use clap::ArgMatches;
 use vdcp_lossy::{Chances, LossySettings};
-use vdcp_net::{RunSettings, ServeSettings};
+use vdcp_net::{Pace, RunSettings, ServeSettings};
 use vdcp_sim::SimSettings;
 
 // Whether the flag of this name is there.
@@ -71,12 +71,21 @@ pub fn serve_settings_of(matches: &ArgMatches) -> ServeSettings
     ensures stays_not { HasFlag (found_of matches.now) (codes "stay") false → result.stay ≡ false }
     ensures idles { (n : ℕ) → GivesNumber (found_of matches.now) (codes "idle") 1 86400 n → result.idle ≡ Some n }
     ensures idles_not { first_value (found_of matches.now) (codes "idle") ≡ None → result.idle ≡ None }
+    ensures paces { HasFlag (found_of matches.now) (codes "real-time") true → result.pace ≡ Pace.Clock result.rate }
+    ensures paces_not { HasFlag (found_of matches.now) (codes "real-time") false → result.pace ≡ Pace.Silences }
 {
+    let rate = rate_of(matches);
+    let pace = if flag_of(matches, "real-time") {
+        Pace::Clock(rate)
+    } else {
+        Pace::Silences
+    };
     ServeSettings {
         unit: unit_of(matches),
         port: port_of(matches),
         cue_frames: cue_frames_of(matches),
-        rate: rate_of(matches),
+        rate,
+        pace,
         silence: number_of(matches, &SERVE_SILENCE),
         turns: turns_of(matches),
         stay: flag_of(matches, "stay"),

@@ -1,4 +1,4 @@
-use Rattle.std.proofs.Common.{◌≡◌, ℕ, ◌-◌, suc, ap, ◌∙◌, arith}
+use Rattle.std.proofs.Common.{◌≡◌, ◌-◌, suc, ap, ◌∙◌, arith}
 use Rattle.vdcp_net.proofs.Kept.{kept_alone, kept_lineless, kept_over}
 use Rattle.vdcp_net.proofs.stay.stay.Goals as goal
 use Rattle.vdcp_net.specs.Stay.{at_first}
