@@ -1,8 +1,10 @@
 -- How a line ended, by what the driver's run or turns answered.
 use Rattle.std.proofs.Common.{◌≡◌, ◌⊎◌, List, ℕ, inl, inr, refl, sym, ◌∙◌, subst}
 use Rattle.std.specs.Io.KnownBytes.{Keeps}
-use Rattle.std.specs.Prelude.{◌↔◌, Bool, false, IfErr, IfOk, IsSome, OnOk, Option, Result, Ok, Err}
+use Rattle.std.specs.Prelude.{◌↔◌, Bool, false, IfErr, IsSome, OnOk, Option, Result, Ok, Err}
 use Rattle.vdcp_auto.specs.declared.outcome.Outcome.{Outcome}
+use Rattle.vdcp_drive.specs.declared.keep.KeptFault.{KeptFault}
+use Rattle.vdcp_drive.specs.declared.keep.KeptFault.TheVariants as fault
 use Rattle.vdcp_drive.specs.declared.line.DriveFault.{DriveFault}
 use Rattle.vdcp_drive.specs.declared.line.Ran.{Ran}
 use Rattle.vdcp_drive.specs.declared.line.Ran.TheVariants as ran
@@ -16,33 +18,37 @@ use Rattle.vdcp_net.specs.declared.run.LineEnd.TheVariants as line_end
 use Rattle.vdcp_text.specs.declared.failure.Failure.{Failure}
 use Rattle.vdcp_text.specs.declared.failure.Failure.TheVariants.{LineFailed, Writer}
 
--- the run answered Ended exactly where the controller has ended
-abbrev EndedWith : Result Ran DriveFault → Option Outcome → Type 0
-EndedWith answer outcome = IfOk answer (λ a. (a ≡ ran.Ended) ↔ IsSome outcome)
+-- the run answered Ended exactly where the controller has ended, and no command was kept back once it has
+abbrev pub EndedWith : Result Ran KeptFault → Option Outcome → Type 0
+EndedWith (Ok a) outcome = (a ≡ ran.Ended) ↔ IsSome outcome
+EndedWith (Err (fault.Drive f)) outcome = Unit {0}
+EndedWith (Err fault.Unkept) outcome = ¬ IsSome outcome
 
-ends_unneeded : (answer : Result Ran DriveFault) (outcome : Option Outcome) → EndedWith answer outcome
+ends_unneeded : (answer : Result Ran KeptFault) (outcome : Option Outcome) → EndedWith answer outcome
     → line_end_of answer ≡ line_end.Unneeded
     → IsSome outcome
 ends_unneeded (Ok ran.Ended) outcome h is = h.0 refl
 ends_unneeded (Ok ran.Closed) outcome h is = cc
 ends_unneeded (Ok ran.Spent) outcome h is = cc
-ends_unneeded (Err fault) outcome h is = cc
+ends_unneeded (Err (fault.Drive f)) outcome h is = cc
+ends_unneeded (Err fault.Unkept) outcome h is = cc
 
-ended_needs_none : (answer : Result Ran DriveFault) (outcome : Option Outcome) → EndedWith answer outcome
+ended_needs_none : (answer : Result Ran KeptFault) (outcome : Option Outcome) → EndedWith answer outcome
     → IsSome outcome
     → (line_end_of answer ≡ line_end.Unneeded) ⊎ (line_end_of answer ≡ line_end.Failed)
 ended_needs_none (Ok ran.Ended) outcome h ended = inl refl
 ended_needs_none (Ok ran.Closed) outcome h ended = let is = h.1 ended in cc
 ended_needs_none (Ok ran.Spent) outcome h ended = let is = h.1 ended in cc
-ended_needs_none (Err fault) outcome h ended = inr refl
+ended_needs_none (Err (fault.Drive f)) outcome h ended = inr refl
+ended_needs_none (Err fault.Unkept) outcome h ended = absurd (h ended)
 
 -- a line that isn't needed is one whose controller has ended
-pub unneeded_ended : (end : LineEnd) (answer : Result Ran DriveFault) (outcome : Option Outcome)
+pub unneeded_ended : (end : LineEnd) (answer : Result Ran KeptFault) (outcome : Option Outcome)
     → end ≡ line_end_of answer → EndedWith answer outcome
     → end ≡ line_end.Unneeded → IsSome outcome
 unneeded_ended end answer outcome is h unneeded = ends_unneeded answer outcome h (sym is ∙ unneeded)
 
-pub ended_unneeded : (end : LineEnd) (answer : Result Ran DriveFault) (outcome : Option Outcome)
+pub ended_unneeded : (end : LineEnd) (answer : Result Ran KeptFault) (outcome : Option Outcome)
     → end ≡ line_end_of answer → EndedWith answer outcome
     → IsSome outcome → (end ≡ line_end.Unneeded) ⊎ (end ≡ line_end.Failed)
 ended_unneeded end answer outcome is h ended =

@@ -19,16 +19,21 @@ use Rattle.vdcp_files.specs.Files.{File, IsWholeList, RefusesList, bytes_of}
 use Rattle.vdcp_files.specs.Mode.{mode_of}
 use Rattle.vdcp_list.specs.Playlists.{IsListOf}
 use Rattle.vdcp_text.specs.Outcome.{outcome_text}
-use Rattle.vdcp_drive.specs.declared.line.DriveFault.{DriveFault}
+use Rattle.vdcp_drive.specs.declared.keep.KeptFault.{KeptFault}
+use Rattle.vdcp_drive.specs.declared.keep.KeptFault.TheVariants as fault
 use Rattle.vdcp_drive.specs.declared.line.Ran.{Ran}
 use Rattle.vdcp_drive.specs.declared.line.Ran.TheVariants as ran
 use Rattle.vdcp_wire.specs.Address.{IsAddress}
 use Rattle.vdcp_net.specs.declared.asrun.Older.{Older}
 use Rattle.vdcp_net.specs.declared.asrun.Older.TheVariants as older
+use Rattle.vdcp_net.specs.declared.keeping.Keeping.{Keeping}
+use Rattle.vdcp_net.specs.declared.keeping.Keeping.TheVariants as keeping
 use Rattle.vdcp_net.specs.declared.run.LineEnd.{LineEnd}
 use Rattle.vdcp_net.specs.declared.run.LineEnd.TheVariants as line_end
 use Rattle.vdcp_net.specs.declared.run.RunEnd.{RunEnd}
 use Rattle.vdcp_net.specs.declared.run.RunSettings.{RunSettings}
+use Rattle.vdcp_words.specs.declared.command.Command.{Command}
+use Rattle.vdcp_words.specs.declared.command.Command.TheVariants.{Open}
 
 -- what the controller is made with for these items
 abbrev pub plan_for : RunSettings → List Item → Plan
@@ -42,18 +47,20 @@ plan_for settings items = record {
 -- ---- how the line ended
 
 -- by what the driver's run answered
-abbrev pub line_end_of : Result Ran DriveFault → LineEnd
+abbrev pub line_end_of : Result Ran KeptFault → LineEnd
 line_end_of (Ok ran.Ended) = line_end.Unneeded
 line_end_of (Ok ran.Closed) = line_end.Closed
 line_end_of (Ok ran.Spent) = line_end.Spent
-line_end_of (Err fault) = line_end.Failed
+line_end_of (Err (fault.Drive f)) = line_end.Failed
+line_end_of (Err fault.Unkept) = line_end.Unkept
 
--- the failure to report, if the line failed it
+-- the failure to report of the line itself; a journal that failed is reported by its own
 abbrev pub line_failure : LineEnd → Option Failure
 line_failure line_end.Unneeded = None
 line_failure line_end.Closed = Some failures.LineClosed
 line_failure line_end.Spent = Some failures.Spent
 line_failure line_end.Failed = Some failures.LineFailed
+line_failure line_end.Unkept = None
 line_failure line_end.Occupied = Some failures.NotEmpty
 
 -- ---- the as-run file
@@ -80,6 +87,25 @@ older_after zero false = older.Kept
 older_after zero true = older.Replaced
 older_after (suc n) answered = older.Replaced
 
+-- ---- the journal
+
+-- its name, where there is one
+abbrev pub journal_in : {J : Type 0} → Keeping J → Option (Bor (List ℕ))
+journal_in keeping.Nothing = None
+journal_in (keeping.Journal name journal) = Some name
+
+-- why the journal of this name isn't whole, if it isn't: it can't be written, or memory was refused
+abbrev pub MayBeUnkept : Option (Bor (List ℕ)) → Option Failure → Type 0
+MayBeUnkept name None = Unit {0}
+MayBeUnkept None (Some failure) = ⊥
+MayBeUnkept (Some name) (Some failure) = (failure ≡ failures.Write name) ⊎ (failure ≡ failures.Memory)
+
+-- the next command is OPEN
+abbrev pub IsOpening : Option Command → Type 0
+IsOpening None = ⊥
+IsOpening (Some (Open port mode)) = Unit {0}
+IsOpening (Some command) = ⊥
+
 -- ---- what is printed and reported
 
 -- the lines of how many events are reported, and how the controller ended
@@ -90,9 +116,9 @@ abbrev pub fault_text : Option Failure → List ℕ
 fault_text None = []
 fault_text (Some failure) = failure_line failure
 
--- the fault line of the as-run file, if there is one, and then that of the line
+-- the fault lines of the as-run file, the journal and the line, of which there are any
 abbrev pub faults_text : RunEnd → List ℕ
-faults_text end = fault_text end.unwritten ++ fault_text (line_failure end.line)
+faults_text end = fault_text end.unwritten ++ fault_text end.unkept ++ fault_text (line_failure end.line)
 
 -- ---- the exit status
 
@@ -113,7 +139,9 @@ status_unless None status = status
 status_unless (Some failure) status = 3
 
 abbrev pub run_status : RunEnd → ℕ
-run_status end = status_unless end.unwritten (status_unless (line_failure end.line) (outcome_status end.outcome))
+run_status end =
+    status_unless end.unwritten
+    (status_unless end.unkept (status_unless (line_failure end.line) (outcome_status end.outcome)))
 
 -- ---- the whole
 
@@ -130,6 +158,8 @@ pub record IsEndOf (plan : Plan) (end : RunEnd) : Type 0 where
   pub reported_is : end.reported ≡ state.settled
   pub unneeded : end.line ≡ line_end.Unneeded → IsSome end.outcome
   pub ended : IsSome end.outcome → (end.line ≡ line_end.Unneeded) ⊎ (end.line ≡ line_end.Failed)
+  -- a command that couldn't be kept is told
+  pub told : end.line ≡ line_end.Unkept → IsSome end.unkept
 
 -- the file is a playlist, and this is the end of a controller that plays it
 pub record IsPlayed (settings : RunSettings) (list : File) (end : RunEnd) : Type 0 where
@@ -137,6 +167,7 @@ pub record IsPlayed (settings : RunSettings) (list : File) (end : RunEnd) : Type
   pub lists : IsListOf settings.rate (bytes_of list) items
   pub ends : IsEndOf (plan_for settings items) end
   pub unwritten : MayBeUnwritten settings.asrun end.unwritten
+  pub unkept : MayBeUnkept None end.unkept
 
 -- the list was played to this end: a writer gained the lines of that, and this is the status
 pub record IsRun (settings : RunSettings) (list : File) (out out' : Option (List ℕ)) (status : ℕ) : Type 0 where

@@ -1,21 +1,22 @@
 ghost use Rattle.std.specs.Io.KnownBytes.{Appends, Keeps};
-ghost use Rattle.std.specs.Prelude.{◌≡◌, ◌≢◌, ◌⊎◌, ◌≤◌, true, false, List, IfErr, IfOk, IsSome, Ok, OnErr, OnOk, Result, Some};
+ghost use Rattle.std.specs.Prelude.{◌≡◌, ◌≢◌, ◌⊎◌, ◌≤◌, ◌↔◌, true, false, List, IfErr, IfOk, IsSome, IsTrue, None, Ok, OnErr, OnOk, Result, Some};
 ghost use Rattle.vdcp_auto.specs.Course.{Reached};
 ghost use Rattle.vdcp_auto.specs.Plan.{plan_of};
 ghost use Rattle.vdcp_auto.specs.Turn as turns;
 ghost use Rattle.vdcp_auto.specs.declared.exchange.Exchange.{Exchange};
-ghost use Rattle.vdcp_drive.specs.RunLeaves.{RunLeaves};
+ghost use Rattle.vdcp_drive.specs.KeptLeaves.{KeptLeaves};
 ghost use Rattle.vdcp_drive.specs.Vacancy.{HasAsked};
 ghost use Rattle.vdcp_files.specs.Files.{IsWholeList, file};
 ghost use Rattle.vdcp_files.specs.Mode.{mode_of};
 ghost use Rattle.vdcp_wire.specs.Address.{IsAddress};
 ghost use Rattle.vdcp_wire.specs.Wires.{IfTold, nothing_told};
-ghost use Rattle.vdcp_net.specs.Run.{IsEndOf, IsListRefused, IsNotBegun, IsPlayed, IsRun, IsUnplayed, MayBeUnwritten};
+ghost use Rattle.vdcp_net.specs.Run.{IsEndOf, IsListRefused, IsNotBegun, IsOpening, IsPlayed, IsRun, IsUnplayed, MayBeUnkept, MayBeUnwritten, journal_in};
 ghost use Rattle.vdcp_net.specs.Run.{end_text, fault_text, faults_text, line_end_of, line_failure, run_status};
 ghost use Rattle.vdcp_text.specs.Failure.{failure_line};
 
 use crate::asrun::{Older, save_asrun};
 use crate::dead::DeadWire;
+use crate::keeping::{Journal, Keeping};
 use crate::log::{Log, Logged};
 use crate::notice::Notice;
 use crate::place::test_place;
@@ -25,11 +26,13 @@ use std::net::{Net, OpenStream, SocketAddr};
 use std::rt::{Clock, Files};
 use std::time::Duration;
 use vdcp_auto::{Controller, Outcome, Source};
-use vdcp_drive::{AutoDriver, DriveFault, Ran, Unwatched, Vacancy, Watch, ask_port};
+use vdcp_drive::{AutoDriver, KeptFault, Ran, Unkept, Unwatched, Vacancy, Watch, ask_port};
 use vdcp_files::NamedFile;
+use vdcp_journal::JournalWriteFault;
 use vdcp_text::{Failure, OutcomeText};
 use vdcp_value::Rate;
 use vdcp_wire::{StreamWire, Wire, WireFault, address_of};
+use vdcp_words::Command;
 
 /// What a list is played with.
 #[derive(Clone, Copy, Debug, PartialEq, Eq)]
@@ -75,29 +78,33 @@ enum LineEnd {
     Spent,
     /// It failed.
     Failed,
+    /// The next command couldn't be kept, and wasn't sent.
+    Unkept,
     /// The port has something cued or plays something, and the list wasn't begun.
     Occupied,
 }
 
 impl LineEnd {
     // By what the driver's run answered.
-    fn of_run(ran: Result<Ran, DriveFault>) -> LineEnd
+    fn of_run(ran: Result<Ran, KeptFault>) -> LineEnd
         ensures { result ≡ line_end_of ran }
     {
         match ran {
             Ok(Ran::Ended) => LineEnd::Unneeded,
             Ok(Ran::Closed) => LineEnd::Closed,
             Ok(Ran::Spent) => LineEnd::Spent,
-            Err(DriveFault::Device) => LineEnd::Failed,
+            Err(KeptFault::Drive(_)) => LineEnd::Failed,
+            Err(KeptFault::Unkept) => LineEnd::Unkept,
         }
     }
 
-    // The failure to report if the controller hasn't ended.
+    // The failure to report of the line itself.
     fn failure(self) -> Option<Failure<'static>>
         ensures { result ≡ line_failure self }
     {
         match self {
-            LineEnd::Unneeded => None,
+            // (that of the journal is reported)
+            LineEnd::Unneeded | LineEnd::Unkept => None,
             LineEnd::Closed => Some(Failure::LineClosed),
             LineEnd::Spent => Some(Failure::Spent),
             LineEnd::Failed => Some(Failure::LineFailed),
@@ -116,6 +123,8 @@ struct RunEnd<'a> {
     line: LineEnd,
     /// Why the as-run list that is wanted isn't written, if it isn't.
     unwritten: Option<Failure<'a>>,
+    /// Why the journal isn't whole that is wanted, if it isn't.
+    unkept: Option<Failure<'a>>,
 }
 
 impl RunEnd<'_> {
@@ -143,11 +152,12 @@ impl RunEnd<'_> {
         out.flush()
     }
 
-    // Writes the fault line of the as-run file, if there is one, and then that of the line.
+    // Writes the fault lines of the as-run file, the journal and the line, of which there are any.
     fn write_faults<E: io::Write>(&self, err: &mut E) -> io::Result<()>
         ensures { OnOk result (Appends (E.contents err.old) (E.contents err.new) (faults_text self.now)) }
     {
         write_fault(self.unwritten, err)?;
+        write_fault(self.unkept, err)?;
         write_fault(self.line.failure(), err)
     }
 
@@ -155,7 +165,7 @@ impl RunEnd<'_> {
     fn status(&self) -> u8
         ensures { result ≡ run_status self.now }
     {
-        if self.unwritten.is_some() || self.line.failure().is_some() {
+        if self.unwritten.is_some() || self.unkept.is_some() || self.line.failure().is_some() {
             return 3;
         }
         match self.outcome {
@@ -272,7 +282,8 @@ fn run_list<'a, R: Net + Files + Clock + AllocGlobal, L: io::Read + Drop, V: io:
         return Err(Failure::Connect);
     };
     let controller = new_controller(events, settings);
-    let end = play_connected(rt, controller, stream, settings, showing);
+    let keeping: Keeping<'_, Unkept> = Keeping::Nothing;
+    let end = play_connected(rt, controller, stream, keeping, settings, showing);
     match end.line {
         LineEnd::Occupied => Err(Failure::NotEmpty),
         _ => Ok(end),
@@ -285,24 +296,27 @@ fn play_connected<
     R: Files + Clock + AllocGlobal,
     S: Source + Drop,
     T: io::Read + io::Write + OpenStream + Drop,
+    J: Journal + Drop,
     V: io::Write + Drop,
 >(
     rt: &R,
     controller: Controller<S>,
     stream: T,
+    keeping: Keeping<'a, J>,
     settings: RunSettings<'a>,
     showing: Showing<V>,
 ) -> RunEnd<'a>
     requires unit { settings.unit ≤ 15 }
     requires some { 1 ≤ settings.limit }
     ensures unwritten { MayBeUnwritten settings.entry.asrun result.unwritten }
+    ensures unkept { MayBeUnkept (journal_in keeping.entry) result.unkept }
     // Whatever the controller's log is: from there it came to this end.
     ensures end { (log : List Exchange) → Reached (plan_of S.items controller) controller.state log →
         IsEndOf (plan_of S.items controller) result }
 {
     let silence = Duration::from_millis(u64::from(settings.silence));
     let wire = StreamWire::new(stream, silence);
-    play_over(rt, controller, wire, settings, showing)
+    play_over(rt, controller, wire, keeping, settings, showing)
 }
 
 // Plays a list over the wire of a connection. One that refuses to be a wire is a line that failed.
@@ -311,11 +325,13 @@ fn play_over<
     R: Files + Clock + AllocGlobal,
     S: Source + Drop,
     W: Wire + Drop,
+    J: Journal + Drop,
     V: io::Write + Drop,
 >(
     rt: &R,
     controller: Controller<S>,
     wire: io::Result<W>,
+    keeping: Keeping<'a, J>,
     settings: RunSettings<'a>,
     showing: Showing<V>,
 ) -> RunEnd<'a>
@@ -324,12 +340,13 @@ fn play_over<
     requires works { IfOk wire (λ w. W.failures w ≡ 0) }
     ensures failed { OnErr wire (result.line ≡ LineEnd.Failed) }
     ensures unwritten { MayBeUnwritten settings.entry.asrun result.unwritten }
+    ensures unkept { MayBeUnkept (journal_in keeping.entry) result.unkept }
     // Whatever the controller's log is: from there it came to this end.
     ensures end { (log : List Exchange) → Reached (plan_of S.items controller) controller.state log →
         IsEndOf (plan_of S.items controller) result }
 {
     match wire {
-        Ok(wire) => play_shown(rt, controller, wire, settings, showing),
+        Ok(wire) => play_shown(rt, controller, wire, keeping, settings, showing),
         Err(_) => ended(rt, &controller, LineEnd::Failed, false, settings),
     }
 }
@@ -340,11 +357,13 @@ fn play_shown<
     R: Files + Clock + AllocGlobal,
     S: Source + Drop,
     W: Wire + Drop,
+    J: Journal + Drop,
     V: io::Write + Drop,
 >(
     rt: &R,
     controller: Controller<S>,
     wire: W,
+    keeping: Keeping<'a, J>,
     settings: RunSettings<'a>,
     showing: Showing<V>,
 ) -> RunEnd<'a>
@@ -352,54 +371,64 @@ fn play_shown<
     requires some { 1 ≤ settings.limit }
     requires works { W.failures wire ≡ 0 }
     ensures unwritten { MayBeUnwritten settings.entry.asrun result.unwritten }
+    ensures unkept { MayBeUnkept (journal_in keeping.entry) result.unkept }
     // Whatever the controller's log is: from there it came to this end.
     ensures end { (log : List Exchange) → Reached (plan_of S.items controller) controller.state log →
         IsEndOf (plan_of S.items controller) result }
 {
     match showing {
-        Showing::Nothing => play_asked(rt, controller, wire, &mut Unwatched, settings),
+        Showing::Nothing => play_asked(rt, controller, wire, &mut Unwatched, keeping, settings),
         Showing::Progress(terminal) => {
             let mut progress = Progress::new(rt, terminal);
-            let end = play_asked(rt, controller, wire, &mut progress, settings);
+            let end = play_asked(rt, controller, wire, &mut progress, keeping, settings);
             progress.clear();
             end
         }
         Showing::Messages(writer) => {
             let log = Log::new(writer);
             let wire = Logged::new(wire, &log);
-            play_asked(rt, controller, wire, &mut Unwatched, settings)
+            play_asked(rt, controller, wire, &mut Unwatched, keeping, settings)
         }
     }
 }
 
 // Plays a list over a wire. In confirm mode, where another item than the list's could go to air if it was cued before,
 // the port is asked first, and the list is begun only if nothing is cued there and nothing plays.
-fn play_asked<'a, R: Files + Clock + AllocGlobal, S: Source + Drop, W: Wire + Drop, V: Watch<S>>(
+fn play_asked<
+    'a,
+    R: Files + Clock + AllocGlobal,
+    S: Source + Drop,
+    W: Wire + Drop,
+    V: Watch<S>,
+    J: Journal + Drop,
+>(
     rt: &R,
     controller: Controller<S>,
     mut wire: W,
     watcher: &mut V,
+    keeping: Keeping<'a, J>,
     settings: RunSettings<'a>,
 ) -> RunEnd<'a>
     requires unit { settings.unit ≤ 15 }
     requires some { 1 ≤ settings.limit }
     requires works { W.failures wire ≡ 0 }
     ensures unwritten { MayBeUnwritten settings.entry.asrun result.unwritten }
+    ensures unkept { MayBeUnkept (journal_in keeping.entry) result.unkept }
     // Whatever the controller's log is: from there it came to this end.
     ensures end { (log : List Exchange) → Reached (plan_of S.items controller) controller.state log →
         IsEndOf (plan_of S.items controller) result }
 {
     let mut left = settings.listens;
-    match vacancy_for(settings, &mut left, &mut wire) {
+    match vacancy_for(&controller, settings, &mut left, &mut wire) {
         // (one that was denied is denied again)
         Ok(Vacancy::Vacant | Vacancy::Denied) => {
             let rest = RunSettings {
                 listens: left,
                 ..settings
             };
-            play_on(rt, controller, wire, watcher, rest)
+            play_on(rt, controller, wire, watcher, keeping, rest)
         }
-        Ok(Vacancy::Unanswered) => play_on(rt, controller, DeadWire, watcher, settings),
+        Ok(Vacancy::Unanswered) => play_on(rt, controller, DeadWire, watcher, keeping, settings),
         Ok(Vacancy::Occupied(_)) => unbegun(rt, &controller, LineEnd::Occupied, settings),
         Ok(Vacancy::Closed) => unbegun(rt, &controller, LineEnd::Closed, settings),
         Ok(Vacancy::Spent) => unbegun(rt, &controller, LineEnd::Spent, settings),
@@ -407,8 +436,10 @@ fn play_asked<'a, R: Files + Clock + AllocGlobal, S: Source + Drop, W: Wire + Dr
     }
 }
 
-// Asks the port whether it is empty, if that matters. `left` is how many listens may be made.
-fn vacancy_for<W: Wire>(
+// Asks the port whether it is empty, if that matters: in confirm mode, and until it was opened for the list, since from
+// then on what is cued may be the list's own. `left` is how many listens may be made.
+fn vacancy_for<S: Source, W: Wire>(
+    controller: &Controller<S>,
     settings: RunSettings<'_>,
     left: &mut u32,
     wire: &mut W,
@@ -418,33 +449,53 @@ fn vacancy_for<W: Wire>(
     requires works { W.failures wire.old ≡ 0 }
     ensures works { OnOk result (W.failures wire.new ≡ 0) }
     ensures plain { settings.entry.confirm ≡ false → (result ≡ Ok Vacancy.Vacant) × (wire.new ≡ wire.old) }
-    ensures asks { settings.entry.confirm ≡ true → W.told wire.old ≡ Some nothing_told →
+    ensures opened { ¬ IsOpening (turns.given (plan_of S.items controller.now) controller.now.state) →
+        (result ≡ Ok Vacancy.Vacant) × (wire.new ≡ wire.old) }
+    ensures asks { settings.entry.confirm ≡ true →
+        IsOpening (turns.given (plan_of S.items controller.now) controller.now.state) →
+        W.told wire.old ≡ Some nothing_told →
         IfOk result (λ answer. IfTold (W.told wire.new) (λ u.
         HasAsked settings.entry.unit settings.entry.port settings.entry.limit left.old left.new u answer)) }
 {
-    if !settings.confirm {
+    if !settings.confirm || !opens_next(controller) {
         return Ok(Vacancy::Vacant);
     }
     ask_port(settings.unit, settings.port, settings.limit, left, wire)
 }
 
+// Whether the next command is OPEN.
+fn opens_next<S: Source>(controller: &Controller<S>) -> bool
+    ensures { IsTrue result ↔ IsOpening (turns.given (plan_of S.items controller.now) controller.now.state) }
+{
+    matches!(controller.to_send(), Some(Command::Open(_, _)))
+}
+
 // Plays a list over a wire, whose port it may be played through.
-fn play_on<'a, R: Files + Clock + AllocGlobal, S: Source + Drop, W: Wire + Drop, V: Watch<S>>(
+fn play_on<
+    'a,
+    R: Files + Clock + AllocGlobal,
+    S: Source + Drop,
+    W: Wire + Drop,
+    V: Watch<S>,
+    J: Journal + Drop,
+>(
     rt: &R,
     controller: Controller<S>,
     wire: W,
     watcher: &mut V,
+    keeping: Keeping<'a, J>,
     settings: RunSettings<'a>,
 ) -> RunEnd<'a>
     requires unit { settings.unit ≤ 15 }
     requires works { W.failures wire ≡ 0 }
     ensures unwritten { MayBeUnwritten settings.entry.asrun result.unwritten }
+    ensures unkept { MayBeUnkept (journal_in keeping.entry) result.unkept }
     // Whatever the controller's log is: from there it came to this end.
     ensures end { (log : List Exchange) → Reached (plan_of S.items controller) controller.state log →
         IsEndOf (plan_of S.items controller) result }
 {
     let mut driver = AutoDriver::new(controller, settings.unit, wire);
-    play(rt, &mut driver, watcher, settings)
+    play(rt, &mut driver, watcher, keeping, settings)
 }
 
 // How a run has ended whose list wasn't begun. That its controller has ended goes before that. Where the port isn't
@@ -455,12 +506,15 @@ fn unbegun<'a, R: Files + AllocGlobal, S: Source>(
     line: LineEnd,
     settings: RunSettings<'a>,
 ) -> RunEnd<'a>
-    requires { line ≢ LineEnd.Unneeded }
+    requires begun { line ≢ LineEnd.Unneeded }
+    requires kept { line ≢ LineEnd.Unkept }
     ensures outcome { result.outcome ≡ turns.outcome_of controller.now.state.stage }
     ensures reported { result.reported ≡ controller.now.state.settled }
     ensures unneeded { result.line ≡ LineEnd.Unneeded → IsSome result.outcome }
     ensures ended { IsSome result.outcome → result.line ≡ LineEnd.Unneeded }
+    ensures told { result.line ≢ LineEnd.Unkept }
     ensures unwritten { MayBeUnwritten settings.entry.asrun result.unwritten }
+    ensures kept { result.unkept ≡ None }
 {
     let outcome = controller.outcome();
     if outcome.is_some() {
@@ -473,6 +527,7 @@ fn unbegun<'a, R: Files + AllocGlobal, S: Source>(
             reported,
             line,
             unwritten: None,
+            unkept: None,
         };
     }
     ended(rt, controller, line, false, settings)
@@ -493,23 +548,61 @@ fn new_controller<S: Source>(source: S, settings: RunSettings<'_>) -> Controller
 }
 
 // Runs an automation, and writes what is reported of it.
-fn play<'a, R: Files + AllocGlobal, S: Source, W: Wire, V: Watch<S>>(
+fn play<'a, R: Files + AllocGlobal, S: Source, W: Wire, V: Watch<S>, J: Journal + Drop>(
     rt: &R,
     driver: &mut AutoDriver<S, W>,
     watcher: &mut V,
+    keeping: Keeping<'a, J>,
     settings: RunSettings<'a>,
 ) -> RunEnd<'a>
     // What the driver's run left and answered, which is how the line ended.
-    ensures leaves { (ran : Result Ran DriveFault) × (result.line ≡ line_end_of ran)
-        × RunLeaves S.items W.told W.failures settings.entry.listens driver.old driver.new ran }
+    ensures leaves { (ran : Result Ran KeptFault) × (result.line ≡ line_end_of ran)
+        × KeptLeaves S.items W.told W.failures settings.entry.listens driver.old driver.new ran }
     ensures outcome { result.outcome ≡ turns.outcome_of driver.new.controller.state.stage }
     ensures reported { result.reported ≡ driver.new.controller.state.settled }
     ensures unwritten { MayBeUnwritten settings.entry.asrun result.unwritten }
+    ensures unkept { MayBeUnkept (journal_in keeping.entry) result.unkept }
+    ensures told { result.line ≡ LineEnd.Unkept → IsSome result.unkept }
 {
     let mut notice = Notice::new(watcher);
-    let line = LineEnd::of_run(driver.run_watched(u64::from(settings.listens), &mut notice));
+    let (line, unkept) = run_kept(driver, settings.listens, &mut notice, keeping);
     let is_answered = notice.has_answer(driver.controller());
-    ended(rt, driver.controller(), line, is_answered, settings)
+    RunEnd {
+        unkept,
+        ..ended(rt, driver.controller(), line, is_answered, settings)
+    }
+}
+
+// Runs an automation and ends its journal. It says how its line ended, and why the journal isn't whole, if it isn't.
+fn run_kept<'a, S: Source, W: Wire, V: Watch<S>, J: Journal + Drop>(
+    driver: &mut AutoDriver<S, W>,
+    listens: u32,
+    watcher: &mut V,
+    keeping: Keeping<'a, J>,
+) -> (LineEnd, Option<Failure<'a>>)
+    ensures leaves { (ran : Result Ran KeptFault) × (result.0 ≡ line_end_of ran)
+        × KeptLeaves S.items W.told W.failures listens driver.old driver.new ran }
+    ensures unkept { MayBeUnkept (journal_in keeping.entry) result.1 }
+    ensures told { result.0 ≡ LineEnd.Unkept → IsSome result.1 }
+{
+    let listens = u64::from(listens);
+    match keeping {
+        Keeping::Nothing => {
+            let ran = driver.run_kept(listens, watcher, &mut Unkept);
+            (LineEnd::of_run(ran), None)
+        }
+        Keeping::Journal(name, mut journal) => {
+            let ran = driver.run_kept(listens, watcher, &mut journal);
+            let line = LineEnd::of_run(ran);
+            let unkept = match journal.close(driver.controller().outcome()) {
+                Err(JournalWriteFault::Memory) => Some(Failure::Memory),
+                Err(JournalWriteFault::Device) => Some(Failure::Write(name)),
+                Ok(()) if line == LineEnd::Unkept => Some(Failure::Write(name)),
+                Ok(()) => None,
+            };
+            (line, unkept)
+        }
+    }
 }
 
 // How a run has ended, by its controller and its line, and by whether the port has answered. The as-run list is
@@ -525,6 +618,7 @@ fn ended<'a, R: Files + AllocGlobal, S: Source>(
     ensures reported { result.reported ≡ controller.now.state.settled }
     ensures line { result.line ≡ line }
     ensures unwritten { MayBeUnwritten settings.entry.asrun result.unwritten }
+    ensures kept { result.unkept ≡ None }
 {
     let unwritten = match settings.asrun {
         Some(name) => {
@@ -538,6 +632,7 @@ fn ended<'a, R: Files + AllocGlobal, S: Source>(
         reported: controller.settled(),
         line,
         unwritten,
+        unkept: None,
     }
 }
 

@@ -5,12 +5,13 @@ use crate::answers::{
     ABSENT, ACK, ACTIVE_2, CUED, DENIED, GRANTED, IDLE, PRESENT, REFUSED, TWO_EVENTS, two_played,
     wire_of,
 };
+use crate::keeping::Keeping;
 use crate::output::Output;
 use std::alloc::Global;
 use std::process::Abort;
 use std::test::Fail;
 use std::{env, fs, process};
-use vdcp_drive::{AutoDriver, Unwatched};
+use vdcp_drive::{AutoDriver, Unkept, Unwatched};
 use vdcp_list::read_list;
 use vdcp_testing::{FailingWriter, Fails};
 use vdcp_value::Rate;
@@ -28,6 +29,8 @@ const SETTINGS: RunSettings<'static> = RunSettings {
     listens: 100,
     asrun: None,
 };
+
+const NO_JOURNAL: Keeping<'static, Unkept> = Keeping::Nothing;
 
 // Tells an end.
 fn tell(alloc: Global, end: RunEnd<'_>) -> Result<Output, Fail> {
@@ -52,7 +55,8 @@ fn played(
     };
     let list = read_list(rt.alloc(), list, settings.rate)?;
     let mut driver = AutoDriver::new(new_controller(list, settings), 0, wire);
-    tell(rt.alloc(), play(rt, &mut driver, &mut Unwatched, settings))
+    let end = play(rt, &mut driver, &mut Unwatched, NO_JOURNAL, settings);
+    tell(rt.alloc(), end)
 }
 
 fn expect(rt: &impl Abort, output: &Output, out: &str, err: &str, status: u8) {
@@ -376,7 +380,7 @@ fn spent_end(rt: &HostRuntime) -> Result<RunEnd<'static>, Fail> {
     };
     let wire = wire_of(rt.alloc(), &two_played())?;
     let mut driver = AutoDriver::new(new_controller(list, settings), 0, wire);
-    Ok(play(rt, &mut driver, &mut Unwatched, settings))
+    Ok(play(rt, &mut driver, &mut Unwatched, NO_JOURNAL, settings))
 }
 
 const SPENT_TEXT: &[u8] = b"reported 1\noutcome open\n";
@@ -452,7 +456,8 @@ fn messages_are_shown(rt: HostRuntime) -> Result<(), Fail> {
     let controller = new_controller(list, settings);
     let wire = wire_of(rt.alloc(), &[DENIED])?;
     let mut log = Vec::new(rt.alloc());
-    let end = play_shown(&rt, controller, wire, settings, Showing::Messages(&mut log));
+    let showing = Showing::Messages(&mut log);
+    let end = play_shown(&rt, controller, wire, NO_JOURNAL, settings, showing);
     assert_eq!(rt; tell(rt.alloc(), end)?.status, 1);
     let text =
         b"-> unit 0 type 3 code 01 data 0101 = open 01 01\n<- unit 0 type 3 code 81 data 00 = denied\n";

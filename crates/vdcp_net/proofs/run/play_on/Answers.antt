@@ -6,4 +6,5 @@ returns-clause-end g c log reached =
     let e = c.play.ensures in
     is_end_so g.S.Source.items _ _ _ c.args.controller c.new-driver.result c.play.new.driver e.leaves.0 c.play.result
     log
-    c.new-driver.ensures.controller e.leaves.2 e.leaves.1 e.outcome e.reported reached
+    c.new-driver.ensures.controller e.leaves.2 e.leaves.1 e.outcome e.reported e.told
+    reached

@@ -25,4 +25,5 @@ returns-in_default-line-clause-played g c = record {
       c.play_connected-end.result
       c.new_controller-controller.ensures c.requires.some c.requires.few c.play_connected-end.ensures.end;
   unwritten = c.play_connected-end.ensures.unwritten;
+  unkept = c.play_connected-end.ensures.unkept;
 }

@@ -1,7 +1,7 @@
 //! Runs over a connection within this process. The far end answers as the near end writes to it.
 ghost use Rattle.std.specs.Prelude.{◌≤◌};
 
-use super::{SETTINGS, expect, take_file, tell, temporary};
+use super::{NO_JOURNAL, SETTINGS, expect, take_file, tell, temporary};
 use crate::answers::{GRANTED, TWO_EVENTS};
 use crate::output::Output;
 use crate::run::{RunSettings, Showing, do_run, new_controller, play_connected};
@@ -140,7 +140,7 @@ fn played(
     let list = read_list(rt.alloc(), list, settings.rate)?;
     let controller = new_controller(list, settings);
     let showing: Showing<Vec<u8>> = Showing::Nothing;
-    let end = play_connected(rt, controller, near, settings, showing);
+    let end = play_connected(rt, controller, near, NO_JOURNAL, settings, showing);
     tell(rt.alloc(), end)
 }
 
