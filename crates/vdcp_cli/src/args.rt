@@ -1,8 +1,9 @@
 use clap::{Arg, ArgAction, Command};
 use std::alloc::{AllocError, Global};
 use vdcp_options::{
-    COPY, CUE_FRAMES, CUT, DAMAGE, FORGE, LIMIT, LISTENS, LOSE, LOSSY_SILENCE, PORT, RUN_LIMIT,
-    RUN_SILENCE, SEED, SERVE_SILENCE, TURNS, UNIT, WITHIN, idle_option, number_option, rate_option,
+    COPY, CUE_FRAMES, CUT, DAMAGE, FORGE, LIMIT, LISTENS, LOSE, LOSSY_SILENCE, POLL, PORT,
+    RUN_LIMIT, RUN_SILENCE, SEED, SERVE_SILENCE, TURNS, UNIT, WITHIN, idle_option, number_option,
+    rate_option,
 };
 
 // The program's version, and the toolchain that it is proved with.
@@ -131,6 +132,8 @@ fn run<'a>(alloc: Global) -> Result<Command<'a>, AllocError> {
         .arg(confirm(alloc))?
         .arg(number_option(alloc, &RUN_SILENCE))?
         .arg(number_option(alloc, &LISTENS))?
+        .arg(prompt(alloc))?
+        .arg(number_option(alloc, &POLL))?
         .arg(asrun(alloc))?
         .arg(log(alloc, "Tells standard error of each message"))
 }
@@ -225,6 +228,13 @@ fn real_time<'a>(alloc: Global) -> Arg<'a> {
         .long("real-time")
         .action(ArgAction::SetTrue)
         .help("Frames pass by the clock, as many a second as --rate has, and not at silences")
+}
+
+fn prompt<'a>(alloc: Global) -> Arg<'a> {
+    Arg::new(alloc, "prompt")
+        .long("prompt")
+        .action(ArgAction::SetTrue)
+        .help("Hears each answer as soon as it has come; for a line that keeps order")
 }
 
 fn asrun<'a>(alloc: Global) -> Arg<'a> {

@@ -4,13 +4,13 @@ ghost use Rattle.vdcp_options.specs.Options.{GivesNumber, GivesRate, HasFlag};
 ghost use Rattle.vdcp_value.specs.declared.rate.Rate.{Rate};
 
 use crate::number::{
-    COPY, CUT, DAMAGE, FORGE, LISTENS, LOSE, LOSSY_SILENCE, RUN_SILENCE, SEED, SERVE_SILENCE,
+    COPY, CUT, DAMAGE, FORGE, LISTENS, LOSE, LOSSY_SILENCE, POLL, RUN_SILENCE, SEED, SERVE_SILENCE,
     WITHIN, cue_frames_of, idle_of, limit_of, number_of, port_of, turns_of, unit_of,
 };
 use crate::rate::rate_of;
 use clap::ArgMatches;
 use vdcp_lossy::{Chances, LossySettings};
-use vdcp_net::{Pace, RunSettings, ServeSettings};
+use vdcp_net::{Hearing, Pace, RunSettings, ServeSettings};
 use vdcp_sim::SimSettings;
 
 // Whether the flag of this name is there.
@@ -109,6 +109,10 @@ pub fn run_settings_of<'a>(matches: &'a ArgMatches<'_>) -> RunSettings<'a>
     ensures rates { (rate : Rate) → GivesRate (found_of matches.now) (codes "rate") rate → result.rate ≡ rate }
     ensures confirms { HasFlag (found_of matches.now) (codes "confirm") true → result.confirm ≡ true }
     ensures confirms_not { HasFlag (found_of matches.now) (codes "confirm") false → result.confirm ≡ false }
+    ensures prompts { HasFlag (found_of matches.now) (codes "prompt") true →
+        (n : ℕ) → GivesNumber (found_of matches.now) (codes "poll") 0 60000 n → result.hearing ≡ Hearing.AtOnce n }
+    ensures prompts_not { HasFlag (found_of matches.now) (codes "prompt") false →
+        result.hearing ≡ Hearing.AtSilences }
     ensures asruns { option_map (λ name. name.now) result.asrun ≡ first_value (found_of matches.now) (codes "asrun") }
 {
     RunSettings {
@@ -118,8 +122,22 @@ pub fn run_settings_of<'a>(matches: &'a ArgMatches<'_>) -> RunSettings<'a>
         confirm: flag_of(matches, "confirm"),
         rate: rate_of(matches),
         silence: number_of(matches, &RUN_SILENCE),
+        hearing: hearing_of(matches),
         listens: number_of(matches, &LISTENS),
         asrun: matches.get_str("asrun"),
+    }
+}
+
+// When answers are heard.
+fn hearing_of(matches: &ArgMatches) -> Hearing
+    ensures prompts { HasFlag (found_of matches.now) (codes "prompt") true →
+        (n : ℕ) → GivesNumber (found_of matches.now) (codes "poll") 0 60000 n → result ≡ Hearing.AtOnce n }
+    ensures prompts_not { HasFlag (found_of matches.now) (codes "prompt") false → result ≡ Hearing.AtSilences }
+{
+    if flag_of(matches, "prompt") {
+        Hearing::AtOnce(number_of(matches, &POLL))
+    } else {
+        Hearing::AtSilences
     }
 }
 
