@@ -25,7 +25,7 @@ _vdcp() {
         fi
         case $rest$word in
         --) rest=1 ;;
-        --unit | --rate | --port | --limit | --cue-frames | --silence | --turns | --idle | --listens | --asrun | --seed | --lose | --copy | --cut | --damage | --forge | --within) wish=$word ;;
+        --unit | --rate | --port | --limit | --cue-frames | --silence | --turns | --idle | --listens | --poll | --asrun | --seed | --lose | --copy | --cut | --damage | --forge | --within) wish=$word ;;
         -*) ;;
         *) if [[ -z $subcommand ]]; then subcommand=$word; else ((++place)); fi ;;
         esac
@@ -45,8 +45,8 @@ _vdcp() {
     make:-) offers="--unit -h --help" ;;
     check:-) offers="--rate -h --help" ;;
     sim:-) offers="--unit --port --limit --rate --trace --cue-frames --confirm --late -h --help" ;;
-    serve:-) offers="--unit --port --rate --cue-frames --silence --turns --stay --idle --log -h --help" ;;
-    run:-) offers="--unit --port --limit --rate --confirm --silence --listens --asrun --log -h --help" ;;
+    serve:-) offers="--unit --port --rate --cue-frames --silence --turns --real-time --stay --idle --log -h --help" ;;
+    run:-) offers="--unit --port --limit --rate --confirm --silence --listens --prompt --poll --asrun --log -h --help" ;;
     lossy:-) offers="--seed --lose --copy --cut --damage --forge --silence --within --turns -h --help" ;;
     vectors:-) offers="-h --help" ;;
     make:1) offers="open close select cue cue-data play stop status active exists size" ;;

@@ -1,8 +1,9 @@
 use clap::{Arg, ArgAction, Command};
 use std::alloc::{AllocError, Global};
 use vdcp_options::{
-    COPY, CUE_FRAMES, CUT, DAMAGE, FORGE, LIMIT, LISTENS, LOSE, LOSSY_SILENCE, PORT, RUN_LIMIT,
-    RUN_SILENCE, SEED, SERVE_SILENCE, TURNS, UNIT, WITHIN, idle_option, number_option, rate_option,
+    COPY, CUE_FRAMES, CUT, DAMAGE, FORGE, LIMIT, LISTENS, LOSE, LOSSY_SILENCE, POLL, PORT,
+    RUN_LIMIT, RUN_SILENCE, SEED, SERVE_SILENCE, TURNS, UNIT, WITHIN, idle_option, number_option,
+    rate_option,
 };
 
 // The program's version, and the toolchain that it is proved with.
@@ -110,6 +111,7 @@ fn serve<'a>(alloc: Global) -> Result<Command<'a>, AllocError> {
         .arg(number_option(alloc, &CUE_FRAMES))?
         .arg(number_option(alloc, &SERVE_SILENCE))?
         .arg(number_option(alloc, &TURNS))?
+        .arg(real_time(alloc))?
         .arg(stay(alloc))?
         .arg(idle_option(alloc))?
         .arg(log(
@@ -131,6 +133,8 @@ fn run<'a>(alloc: Global) -> Result<Command<'a>, AllocError> {
         .arg(confirm(alloc))?
         .arg(number_option(alloc, &RUN_SILENCE))?
         .arg(number_option(alloc, &LISTENS))?
+        .arg(prompt(alloc))?
+        .arg(number_option(alloc, &POLL))?
         .arg(asrun(alloc))?
         .arg(journal(alloc))?
         .arg(resume(alloc)?)?
@@ -229,6 +233,20 @@ fn stay<'a>(alloc: Global) -> Arg<'a> {
         .long("stay")
         .action(ArgAction::SetTrue)
         .help("Keeps the port when a connection ends, and takes the next one")
+}
+
+fn real_time<'a>(alloc: Global) -> Arg<'a> {
+    Arg::new(alloc, "real-time")
+        .long("real-time")
+        .action(ArgAction::SetTrue)
+        .help("Frames pass by the clock, as many a second as --rate has, and not at silences")
+}
+
+fn prompt<'a>(alloc: Global) -> Arg<'a> {
+    Arg::new(alloc, "prompt")
+        .long("prompt")
+        .action(ArgAction::SetTrue)
+        .help("Hears each answer as soon as it has come; for a line that keeps order")
 }
 
 fn asrun<'a>(alloc: Global) -> Arg<'a> {

@@ -2,6 +2,7 @@ pub mod Ends
 mod GivenUp
 mod Kept
 mod Reached
+mod PromptEnds
 mod Unplayed
 mod Unserved
 mod Written

@@ -1,6 +1,8 @@
 -- A line that is given up where nothing comes for too long.
 use Rattle.std.specs.Int.{div_ceil}
 use Rattle.std.specs.Prelude.{ℕ, ◌*◌, Bool, true, false, Option, None, Some, max, nat_le}
+use Rattle.vdcp_value.specs.Labels.{frames_per_second}
+use Rattle.vdcp_value.specs.declared.rate.Rate.{Rate}
 use Rattle.vdcp_wire.specs.Wires.{Told, close, adds_came}
 use Rattle.vdcp_net.specs.declared.idling.Idling.{Idling}
 use Rattle.vdcp_net.specs.declared.idling.Patience.{Patience}
@@ -10,6 +12,11 @@ use Rattle.vdcp_net.specs.declared.idling.Patience.TheVariants as patience
 abbrev pub idle_silences : Option ℕ → ℕ → Option ℕ
 idle_silences None silence = None
 idle_silences (Some seconds) silence = Some (div_ceil (seconds * 1000) (max silence 1))
+
+-- and how many frames at this rate
+abbrev pub idle_frames : Option ℕ → Rate → Option ℕ
+idle_frames None rate = None
+idle_frames (Some seconds) rate = Some (seconds * frames_per_second rate)
 
 -- whether these silences one after another are too many
 abbrev pub are_too_many : Option ℕ → ℕ → Bool

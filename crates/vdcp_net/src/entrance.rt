@@ -1,4 +1,5 @@
 use crate::log::{Log, Logged};
+use crate::paced::{Pace, Paced};
 use crate::stay::{Coming, Connections};
 use mio::unix::SourceFd;
 use mio::{Events, Interest, Poll, Token};
@@ -6,25 +7,30 @@ use std::alloc::Global;
 use std::io;
 use std::net::{Net, OpenListener};
 use std::os::fd::AsRawFd;
-use std::time::Duration;
+use std::rt::Clock;
+use std::time::Instant;
 use vdcp_wire::{StreamWire, WireFault};
 
 /// Who listens at an address and takes one connection after another. The system has those wait that come meanwhile.
 #[derive(Drop)]
-pub struct Entrance<'a, R: Net, L: io::Write> {
+pub struct Entrance<'a, R: Net + Clock, L: io::Write> {
+    rt: &'a R,
     listener: R::Listener,
     poll: Poll,
     events: Events<Global>,
-    silence: Duration,
+    pace: Pace,
+    silence: u32,
     log: &'a Log<L>,
 }
 
-impl<'a, R: Net, L: io::Write + Drop> Entrance<'a, R, L> {
-    /// With this listener. A wait for a connection is no longer than a silence of one; the log is told of its messages.
+impl<'a, R: Net + AllocGlobal + Clock, L: io::Write + Drop> Entrance<'a, R, L> {
+    /// With this listener. A wait for a connection is no longer than a silence of one, of this many milliseconds, or by
+    /// the clock than a frame; the log is told of its messages.
     pub fn new(
-        rt: &(impl Net + AllocGlobal),
+        rt: &'a R,
         listener: R::Listener,
-        silence: Duration,
+        pace: Pace,
+        silence: u32,
         log: &'a Log<L>,
     ) -> io::Result<Self> {
         listener.set_nonblocking(true)?;
@@ -34,9 +40,11 @@ impl<'a, R: Net, L: io::Write + Drop> Entrance<'a, R, L> {
         poll.registry()
             .register(&mut SourceFd(&descriptor), Token(0), Interest::READABLE)?;
         Ok(Entrance {
+            rt,
             listener,
             poll,
             events,
+            pace,
             silence,
             log,
         })
@@ -51,15 +59,18 @@ impl<'a, R: Net, L: io::Write + Drop> Entrance<'a, R, L> {
     }
 }
 
-impl<'a, R: Net, L: io::Write + Drop> Connections<Logged<'a, StreamWire<R::Stream>, L>>
-    for Entrance<'a, R, L> {
-    fn wait(&mut self) -> Result<Coming<Logged<'a, StreamWire<R::Stream>, L>>, WireFault> {
+impl<'a, R: Net + AllocGlobal + Clock, L: io::Write + Drop> Connections<
+    Logged<'a, Paced<'a, R, StreamWire<R::Stream>>, L>,
+> for Entrance<'a, R, L> {
+    fn wait(
+        &mut self,
+    ) -> Result<Coming<Logged<'a, Paced<'a, R, StreamWire<R::Stream>>, L>>, WireFault> {
         let mut taken = self.take();
         if taken.is_none() {
             // (what came is told once, so that one that can't be taken doesn't cut the wait short again)
             if self
                 .poll
-                .poll(&mut self.events, Some(self.silence))
+                .poll(&mut self.events, Some(self.pace.pause(self.silence)))
                 .is_err()
             {
                 return Err(WireFault);
@@ -69,9 +80,13 @@ impl<'a, R: Net, L: io::Write + Drop> Connections<Logged<'a, StreamWire<R::Strea
         let Some(stream) = taken else {
             return Ok(Coming::Nobody);
         };
-        match StreamWire::new(stream, self.silence) {
-            Ok(wire) => Ok(Coming::Line(Logged::new(wire, self.log))),
-            Err(_) => Ok(Coming::Failed),
-        }
+        let Ok(wire) = StreamWire::new(stream, self.pace.wait(self.silence)) else {
+            return Ok(Coming::Failed);
+        };
+        let Ok(began) = Instant::now(self.rt) else {
+            return Ok(Coming::Failed);
+        };
+        let wire = Paced::new(wire, self.pace, self.rt, began, self.silence);
+        Ok(Coming::Line(Logged::new(wire, self.log)))
     }
 }

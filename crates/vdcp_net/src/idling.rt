@@ -70,6 +70,7 @@ impl<W: Wire> Idling<W> {
 fn silences_with(silences: u64, came: Came) -> u64 {
     match came {
         Came::Silence => silences.saturating_add(1),
+        Came::Bytes(0) => silences,
         Came::Bytes(_) | Came::Closed => 0,
     }
 }

@@ -5,9 +5,9 @@
 //! standard error, and the exit status is given.
 //!
 //! Files: `serve` and `run` (a subcommand each), `stay` (a port that is kept from one connection to the next),
-//! `entrance` (who takes these), `idling` (a line that is given up), `asrun` (the as-run file) and `place` (how it
+//! `entrance` (who takes these), `idling` (a line that is given up), `paced` (frames by the clock), `asrun` (the as-run file) and `place` (how it
 //! comes to be), `log` (a line for each message), `progress` (the line of a terminal that shows how far a run is),
-//! `statuses` (how many were answered in a row), `notice` (whether the port has answered), `keeping` (the journal of a
+//! `statuses` (how many were answered in a row), `polling` (how soon the state is asked again), `notice` (whether the port has answered), `keeping` (the journal of a
 //! run), `lines` and `screen`
 //! (writers that don't wait), `dead` (a wire on which nothing comes). `Lines` and `Screen` are for what else is printed
 //! while a channel is up.
@@ -25,7 +25,9 @@ mod log;
 mod notice;
 #[cfg(test)]
 mod output;
+mod paced;
 mod place;
+mod polling;
 mod progress;
 mod run;
 mod screen;
@@ -35,6 +37,7 @@ mod stay;
 
 pub use keeping::RunJournal;
 pub use lines::Lines;
-pub use run::{RunSettings, Showing, do_run};
+pub use paced::Pace;
+pub use run::{Hearing, RunSettings, Showing, do_run};
 pub use screen::Screen;
 pub use serve::{ServeSettings, Telling, do_serve};

@@ -14,6 +14,9 @@ ghost use Rattle.vdcp_net.specs.Run.{IsEndOf, IsListRefused, IsNotBegun, IsOpeni
 ghost use Rattle.vdcp_net.specs.Run.{end_text, fault_text, faults_text, line_end_of, heading_for, line_failure, plan_for, run_status};
 ghost use Rattle.vdcp_text.specs.Failure.{failure_line};
 
+mod prompt;
+
+use self::prompt::play_prompt;
 use crate::asrun::{Older, save_asrun};
 use crate::dead::DeadWire;
 use crate::keeping::{Journal, Keeping, RunJournal};
@@ -27,7 +30,9 @@ use std::net::{Net, OpenStream, SocketAddr, SocketAddrV4};
 use std::rt::{Clock, Files};
 use std::time::Duration;
 use vdcp_auto::{Controller, Outcome, Source};
-use vdcp_drive::{AutoDriver, KeptFault, Ran, Unkept, Unwatched, Vacancy, Watch, ask_port};
+use vdcp_drive::{
+    AutoDriver, KeptFault, PromptDriver, Ran, Unkept, Unwatched, Vacancy, Watch, ask_port,
+};
 use vdcp_files::NamedFile;
 use vdcp_journal::{Heading, digest_of};
 use vdcp_record::{RecordFault, begin_journal, resume_journal};
@@ -35,6 +40,16 @@ use vdcp_text::{Failure, OutcomeText};
 use vdcp_value::Rate;
 use vdcp_wire::{StreamWire, Wire, WireFault, address_of};
 use vdcp_words::Command;
+
+/// When the answers of a server are heard.
+#[derive(Clone, Copy, Debug, PartialEq, Eq)]
+pub enum Hearing {
+    /// Once the line is silent. What comes late is dropped, and where it is torn its rest may be heard as an answer.
+    AtSilences,
+    /// As soon as they have come, on a line that keeps order. The port is asked for its state again after this many
+    /// milliseconds at the earliest.
+    AtOnce(u32),
+}
 
 /// What a list is played with.
 #[derive(Clone, Copy, Debug, PartialEq, Eq)]
@@ -52,6 +67,8 @@ pub struct RunSettings<'a> {
     /// How long the line has to be silent for an answer to be missing, in milliseconds, 1 to 60,000. It has to be
     /// longer than the server waits for the end of a command.
     pub silence: u32,
+    /// When answers are heard.
+    pub hearing: Hearing,
     /// The most listens that are made.
     pub listens: u32,
     /// The file that is made for the as-run list, if one is wanted.
@@ -635,8 +652,16 @@ fn play_on<
     ensures end { (log : List Exchange) → Reached (plan_of S.items controller) controller.state log →
         IsEndOf (plan_of S.items controller) result }
 {
-    let mut driver = AutoDriver::new(controller, settings.unit, wire);
-    play(rt, &mut driver, watcher, keeping, settings)
+    match settings.hearing {
+        Hearing::AtSilences => {
+            let mut driver = AutoDriver::new(controller, settings.unit, wire);
+            play(rt, &mut driver, watcher, keeping, settings)
+        }
+        Hearing::AtOnce(poll) => {
+            let mut driver = PromptDriver::new(controller, settings.unit, wire);
+            play_prompt(rt, &mut driver, poll, watcher, keeping, settings)
+        }
+    }
 }
 
 // How a run has ended whose list wasn't begun. That its controller has ended goes before that. Where the port isn't

@@ -3,7 +3,7 @@ ghost use Rattle.std.specs.Prelude.{◌≡◌, ◌≢◌, ◌⊎◌, ◌≤◌, 
 ghost use Rattle.vdcp_drive.specs.ServeLeaves.{ServeLeaves};
 ghost use Rattle.vdcp_files.specs.Files.{IsWholeCatalogue, file};
 ghost use Rattle.vdcp_wire.specs.Address.{IsAddress};
-ghost use Rattle.vdcp_net.specs.Idle.{has_given_up, idle_silences, idling_failures, idling_told};
+ghost use Rattle.vdcp_net.specs.Idle.{has_given_up, idle_frames, idle_silences, idling_failures, idling_told};
 ghost use Rattle.vdcp_net.specs.Serve.{EndsAs, IsCatalogueRefused, IsServedThere, IsUnheard, IsUnserved, PrintsEnd};
 ghost use Rattle.vdcp_net.specs.Serve.{end_of};
 ghost use Rattle.vdcp_port.specs.Clock.{new_port};
@@ -12,10 +12,12 @@ ghost use Rattle.vdcp_text.specs.Failure.{failure_line};
 use crate::entrance::Entrance;
 use crate::idling::Idling;
 use crate::log::{AirLog, Log, Logged};
+use crate::paced::{Pace, Paced, frames_in_second};
 use crate::stay::stay;
 use std::io::{self, ErrorKind};
 use std::net::{Net, SocketAddrV4};
-use std::time::Duration;
+use std::rt::Clock;
+use std::time::Instant;
 use vdcp_drive::{DriveFault, Ran, Server, WatchAir};
 use vdcp_files::NamedFile;
 use vdcp_port::{Catalogue, Port};
@@ -34,6 +36,8 @@ pub struct ServeSettings {
     pub cue_frames: u32,
     /// The frame rate of time codes.
     pub rate: Rate,
+    /// When frames pass.
+    pub pace: Pace,
     /// How long a silence ends a burst, in milliseconds, 1 to 60,000.
     pub silence: u32,
     /// The most turns that are made, each a wait for bytes or for a silence, or for the next connection.
@@ -98,6 +102,8 @@ impl ServeEnd {
 /// A server that stays keeps its port when a connection ends, is idle for too long or fails, and takes the next one,
 /// which finds the port as it is; meanwhile frames pass. It ends where the turns are spent.
 ///
+/// By the clock a frame passes when its time is over, whatever comes meanwhile, and a wait is five milliseconds at most.
+///
 /// Where all is told, the writer gets a line for each message that came (`<-`) and went out (`->`), with the words
 /// that it has, one for each burst that is at fault or cut, and one for each item that goes to air (`aired` and its
 /// number from 0); and from a server that stays one for each connection that is `taken`, and `closed` or `idle`. Its
@@ -109,7 +115,7 @@ impl ServeEnd {
 /// line of these. The address is tested first, and then the catalogue is read. The status is 3 where `out` failed, to
 /// which nothing more is written.
 pub fn do_serve<
-    R: Net + AllocGlobal,
+    R: Net + AllocGlobal + Clock,
     C: io::Read + Drop,
     L: io::Write + Drop,
     W: io::Write,
@@ -150,7 +156,7 @@ pub fn do_serve<
 }
 
 // Reads the catalogue, and serves it.
-fn serve<'a, R: Net + AllocGlobal, C: io::Read + Drop, L: io::Write + Drop, W: io::Write>(
+fn serve<'a, R: Net + AllocGlobal + Clock, C: io::Read + Drop, L: io::Write + Drop, W: io::Write>(
     rt: &R,
     address: &str,
     catalogue: NamedFile<'a, C>,
@@ -187,22 +193,20 @@ fn new_port<C: Catalogue>(catalogue: C, settings: ServeSettings) -> Port<C>
     Port::with_clock(catalogue, settings.unit, settings.port, settings.cue_frames)
 }
 
-// How long a silence is.
-fn silence_of(settings: ServeSettings) -> Duration {
-    Duration::from_millis(u64::from(settings.silence))
-}
-
-// How many silences one after another a connection may be idle.
+// How many silences one after another a connection may be idle. By the clock each is a frame.
 fn idle_silences(settings: ServeSettings) -> Option<u64>
-    ensures { result ≡ idle_silences settings.idle settings.silence }
+    ensures silences { settings.pace ≡ Pace.Silences → result ≡ idle_silences settings.idle settings.silence }
+    ensures frames { (rate : Rate) → settings.pace ≡ Pace.Clock rate → result ≡ idle_frames settings.idle rate }
 {
-    let seconds = settings.idle?;
-    let silence = u64::from(settings.silence.max(1));
-    Some((u64::from(seconds) * 1000).div_ceil(silence))
+    let seconds = u64::from(settings.idle?);
+    match settings.pace {
+        Pace::Silences => Some((seconds * 1000).div_ceil(u64::from(settings.silence.max(1)))),
+        Pace::Clock(rate) => Some(seconds * frames_in_second(rate)),
+    }
 }
 
 // Listens, and serves the port to one connection, or to one after another.
-fn serve_port<R: Net + AllocGlobal, C: Catalogue + Drop, L: io::Write + Drop, W: io::Write>(
+fn serve_port<R: Net + AllocGlobal + Clock, C: Catalogue + Drop, L: io::Write + Drop, W: io::Write>(
     rt: &R,
     address: SocketAddrV4,
     port: Port<C>,
@@ -221,7 +225,12 @@ fn serve_port<R: Net + AllocGlobal, C: Catalogue + Drop, L: io::Write + Drop, W:
 }
 
 // Takes a connection, and serves it.
-fn serve_first<R: Net + AllocGlobal, C: Catalogue + Drop, L: io::Write + Drop, W: io::Write>(
+fn serve_first<
+    R: Net + AllocGlobal + Clock,
+    C: Catalogue + Drop,
+    L: io::Write + Drop,
+    W: io::Write,
+>(
     rt: &R,
     address: SocketAddrV4,
     port: Port<C>,
@@ -238,14 +247,18 @@ fn serve_first<R: Net + AllocGlobal, C: Catalogue + Drop, L: io::Write + Drop, W
         Err(AcceptFault::Bind) => return Err(Failure::Bind),
         Err(AcceptFault::Writer) => return Err(Failure::Writer),
     };
-    let Ok(wire) = StreamWire::new(stream, silence_of(settings)) else {
+    let Ok(wire) = StreamWire::new(stream, settings.pace.wait(settings.silence)) else {
         return Err(Failure::LineFailed);
     };
+    let Ok(began) = Instant::now(rt) else {
+        return Err(Failure::LineFailed);
+    };
+    let wire = Paced::new(wire, settings.pace, rt, began, settings.silence);
     serve_line(port, wire, settings, log, out)
 }
 
 // Takes one connection after another, and serves them.
-fn serve_each<R: Net + AllocGlobal, C: Catalogue + Drop, L: io::Write + Drop, W: io::Write>(
+fn serve_each<R: Net + AllocGlobal + Clock, C: Catalogue + Drop, L: io::Write + Drop, W: io::Write>(
     rt: &R,
     address: SocketAddrV4,
     port: Port<C>,
@@ -264,7 +277,8 @@ fn serve_each<R: Net + AllocGlobal, C: Catalogue + Drop, L: io::Write + Drop, W:
     let mut entrance: Entrance<R, L> = match Entrance::new(
         rt,
         listener,
-        silence_of(settings),
+        settings.pace,
+        settings.silence,
         log,
     ) {
         Ok(entrance) => entrance,
@@ -291,13 +305,13 @@ fn serve_each<R: Net + AllocGlobal, C: Catalogue + Drop, L: io::Write + Drop, W:
 }
 
 // Serves a port over a line, and tells how that ended.
-fn serve_line<C: Catalogue + Drop, S: Wire + Drop, L: io::Write + Drop, W: io::Write>(
+fn serve_line<'f, C: Catalogue + Drop, S: Wire + Drop, L: io::Write + Drop, W: io::Write>(
     port: Port<C>,
     wire: S,
     settings: ServeSettings,
     log: &Log<L>,
     out: &mut W,
-) -> Result<(), Failure<'static>>
+) -> Result<(), Failure<'f>>
     requires { S.failures wire ≡ 0 }
     ensures ended { OnOk result ((end : ServeEnd) × PrintsEnd end (W.contents out.old) (W.contents out.new)) }
     ensures failed { IfErr result (λ e. (e ≡ Failure.Writer)

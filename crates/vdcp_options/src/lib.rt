@@ -17,9 +17,9 @@ mod settings;
 
 pub use file::open_file;
 pub use number::{
-    COPY, CUE_FRAMES, CUT, DAMAGE, FORGE, LIMIT, LISTENS, LOSE, LOSSY_SILENCE, NumberOption, PORT,
-    RUN_LIMIT, RUN_SILENCE, SEED, SERVE_SILENCE, TURNS, UNIT, WITHIN, idle_option, number_option,
-    unit_of,
+    COPY, CUE_FRAMES, CUT, DAMAGE, FORGE, LIMIT, LISTENS, LOSE, LOSSY_SILENCE, NumberOption, POLL,
+    PORT, RUN_LIMIT, RUN_SILENCE, SEED, SERVE_SILENCE, TURNS, UNIT, WITHIN, idle_option,
+    number_option, unit_of,
 };
 pub use rate::{rate_of, rate_option};
 pub use settings::{lossy_settings_of, run_settings_of, serve_settings_of, sim_settings_of};

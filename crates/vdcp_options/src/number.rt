@@ -99,6 +99,15 @@ pub const LISTENS: NumberOption = NumberOption {
     help: "Gives up after this many waits for bytes or for a silence",
 };
 
+pub const POLL: NumberOption = NumberOption {
+    name: "poll",
+    value_name: "MS",
+    least: 0,
+    most: 60_000,
+    default: "20",
+    help: "With --prompt, the state is asked again after this many milliseconds at the earliest, 0 to 60000",
+};
+
 pub const SEED: NumberOption = NumberOption {
     name: "seed",
     value_name: "N",

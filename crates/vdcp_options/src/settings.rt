@@ -4,13 +4,13 @@ ghost use Rattle.vdcp_options.specs.Options.{GivesNumber, GivesRate, HasFlag, Na
 ghost use Rattle.vdcp_value.specs.declared.rate.Rate.{Rate};
 
 use crate::number::{
-    COPY, CUT, DAMAGE, FORGE, LISTENS, LOSE, LOSSY_SILENCE, RUN_SILENCE, SEED, SERVE_SILENCE,
+    COPY, CUT, DAMAGE, FORGE, LISTENS, LOSE, LOSSY_SILENCE, POLL, RUN_SILENCE, SEED, SERVE_SILENCE,
     WITHIN, cue_frames_of, idle_of, limit_of, number_of, port_of, turns_of, unit_of,
 };
 use crate::rate::rate_of;
 use clap::ArgMatches;
 use vdcp_lossy::{Chances, LossySettings};
-use vdcp_net::{RunJournal, RunSettings, ServeSettings};
+use vdcp_net::{Hearing, Pace, RunJournal, RunSettings, ServeSettings};
 use vdcp_sim::SimSettings;
 
 // Whether the flag of this name is there.
@@ -71,12 +71,21 @@ pub fn serve_settings_of(matches: &ArgMatches) -> ServeSettings
     ensures stays_not { HasFlag (found_of matches.now) (codes "stay") false → result.stay ≡ false }
     ensures idles { (n : ℕ) → GivesNumber (found_of matches.now) (codes "idle") 1 86400 n → result.idle ≡ Some n }
     ensures idles_not { first_value (found_of matches.now) (codes "idle") ≡ None → result.idle ≡ None }
+    ensures paces { HasFlag (found_of matches.now) (codes "real-time") true → result.pace ≡ Pace.Clock result.rate }
+    ensures paces_not { HasFlag (found_of matches.now) (codes "real-time") false → result.pace ≡ Pace.Silences }
 {
+    let rate = rate_of(matches);
+    let pace = if flag_of(matches, "real-time") {
+        Pace::Clock(rate)
+    } else {
+        Pace::Silences
+    };
     ServeSettings {
         unit: unit_of(matches),
         port: port_of(matches),
         cue_frames: cue_frames_of(matches),
-        rate: rate_of(matches),
+        rate,
+        pace,
         silence: number_of(matches, &SERVE_SILENCE),
         turns: turns_of(matches),
         stay: flag_of(matches, "stay"),
@@ -112,6 +121,10 @@ pub fn run_settings_of<'a>(matches: &'a ArgMatches<'_>) -> RunSettings<'a>
     ensures rates { (rate : Rate) → GivesRate (found_of matches.now) (codes "rate") rate → result.rate ≡ rate }
     ensures confirms { HasFlag (found_of matches.now) (codes "confirm") true → result.confirm ≡ true }
     ensures confirms_not { HasFlag (found_of matches.now) (codes "confirm") false → result.confirm ≡ false }
+    ensures prompts { HasFlag (found_of matches.now) (codes "prompt") true →
+        (n : ℕ) → GivesNumber (found_of matches.now) (codes "poll") 0 60000 n → result.hearing ≡ Hearing.AtOnce n }
+    ensures prompts_not { HasFlag (found_of matches.now) (codes "prompt") false →
+        result.hearing ≡ Hearing.AtSilences }
     ensures asruns { option_map (λ name. name.now) result.asrun ≡ first_value (found_of matches.now) (codes "asrun") }
     ensures journals { NamesJournal (first_value (found_of matches.now) (codes "journal"))
         (first_value (found_of matches.now) (codes "resume")) result.journal }
@@ -123,9 +136,23 @@ pub fn run_settings_of<'a>(matches: &'a ArgMatches<'_>) -> RunSettings<'a>
         confirm: flag_of(matches, "confirm"),
         rate: rate_of(matches),
         silence: number_of(matches, &RUN_SILENCE),
+        hearing: hearing_of(matches),
         listens: number_of(matches, &LISTENS),
         asrun: matches.get_str("asrun"),
         journal: journal_of(matches),
+    }
+}
+
+// When answers are heard.
+fn hearing_of(matches: &ArgMatches) -> Hearing
+    ensures prompts { HasFlag (found_of matches.now) (codes "prompt") true →
+        (n : ℕ) → GivesNumber (found_of matches.now) (codes "poll") 0 60000 n → result ≡ Hearing.AtOnce n }
+    ensures prompts_not { HasFlag (found_of matches.now) (codes "prompt") false → result ≡ Hearing.AtSilences }
+{
+    if flag_of(matches, "prompt") {
+        Hearing::AtOnce(number_of(matches, &POLL))
+    } else {
+        Hearing::AtSilences
     }
 }
 

@@ -1,6 +1,6 @@
 ghost use Rattle.std.specs.Prelude.{◌≡◌, false};
 
-use super::{RunEnd, RunSettings, Showing, new_controller, play, play_shown};
+use super::{Hearing, RunEnd, RunSettings, Showing, new_controller, play, play_shown};
 use crate::answers::{
     ABSENT, ACK, ACTIVE_2, CUED, DENIED, GRANTED, IDLE, PRESENT, REFUSED, TWO_EVENTS, two_played,
     wire_of,
@@ -26,6 +26,7 @@ const SETTINGS: RunSettings<'static> = RunSettings {
     confirm: false,
     rate: Rate::F25,
     silence: 20,
+    hearing: Hearing::AtSilences,
     listens: 100,
     asrun: None,
     journal: None,

@@ -4,6 +4,7 @@ use super::{ServeSettings, Telling, do_serve, serve_line};
 use crate::answers::GRANTED;
 use crate::log::Log;
 use crate::output::Output;
+use crate::paced::Pace;
 use std::alloc::Global;
 use std::io::{self, ErrorKind, Read, Write};
 use std::net::{Ipv4Addr, Net, Shutdown, SocketAddr, TcpListener, TcpStream};
@@ -71,6 +72,7 @@ fn settings(turns: u32) -> ServeSettings
         port: 1,
         cue_frames: 1,
         rate: Rate::F25,
+        pace: Pace::Silences,
         silence: 4,
         turns,
         stay: false,

@@ -1,10 +1,19 @@
+use Rattle.vdcp_net.proofs.PromptEnds.{is_end_at_once}
 use Rattle.vdcp_net.proofs.Reached.{is_end_so}
 use Rattle.vdcp_net.proofs.run.play_on.Goals as goal
 
-pub returns-clause-end : goal.returns-clause-end
-returns-clause-end g c log reached =
+pub returns-in-AtSilences-clause-end : goal.returns-in-AtSilences-clause-end
+returns-in-AtSilences-clause-end g c log reached =
     let e = c.play.ensures in
     is_end_so g.S.Source.items _ _ _ c.args.controller c.new-driver.result c.play.new.driver e.leaves.0 c.play.result
     log
     c.new-driver.ensures.controller e.leaves.2 e.leaves.1 e.outcome e.reported e.told
+    reached
+
+pub returns-in-AtOnce-clause-end : goal.returns-in-AtOnce-clause-end
+returns-in-AtOnce-clause-end g c log reached =
+    let e = c.play_prompt.ensures in
+    is_end_at_once g.S.Source.items _ _ _ c.args.controller c.new-driver-in-AtOnce.result c.play_prompt.new.driver e.leaves.0
+    c.play_prompt.result log
+    c.new-driver-in-AtOnce.ensures.controller e.leaves.2 e.leaves.1 e.outcome e.reported e.told
     reached
