@@ -2,7 +2,8 @@ use Rattle.vdcp_sim.proofs.AsrunRows.{but_one, complete}
 use Rattle.vdcp_sim.proofs.laws.an_asrun_list_is_of_what_aired.Goals as goal
 
 pub returns-clause-but_one : goal.returns-clause-but_one
-returns-clause-but_one c = λ rate channel reached. but_one rate channel (c.reached_keeps_the_headline.ensures channel reached)
+returns-clause-but_one c =
+    λ rate channel reached. but_one rate channel (c.reached_keeps_the_headline.ensures channel reached)
 
 pub returns-clause-complete : goal.returns-clause-complete
 returns-clause-complete c =
