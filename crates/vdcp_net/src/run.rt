@@ -278,7 +278,12 @@ pub fn do_run<
 }
 
 // Reads the list, connects, plays the list, and writes what is reported of it.
-fn run_list<'a, R: Net + Files<File = File> + Clock + AllocGlobal, L: io::Read + Drop, V: io::Write + Drop>(
+fn run_list<
+    'a,
+    R: Net + Files<File = File> + Clock + AllocGlobal,
+    L: io::Read + Drop,
+    V: io::Write + Drop,
+>(
     rt: &R,
     address: &str,
     list: NamedFile<'a, L>,
@@ -304,7 +309,9 @@ fn run_list<'a, R: Net + Files<File = File> + Clock + AllocGlobal, L: io::Read +
     match settings.journal {
         None => play_unkept(rt, address, events, settings, showing),
         Some(RunJournal::New(journal)) => play_new(rt, address, journal, events, settings, showing),
-        Some(RunJournal::Older(journal)) => play_older(rt, address, journal, events, settings, showing),
+        Some(RunJournal::Older(journal)) => play_older(
+            rt, address, journal, events, settings, showing,
+        ),
     }
 }
 
@@ -330,7 +337,12 @@ fn play_unkept<'a, R: Net + Files + Clock + AllocGlobal, S: Source + Drop, V: io
 }
 
 // Plays a list with a new journal of this name. It is gone again where nothing was sent.
-fn play_new<'a, R: Net + Files<File = File> + Clock + AllocGlobal, S: Source + Drop, V: io::Write + Drop>(
+fn play_new<
+    'a,
+    R: Net + Files<File = File> + Clock + AllocGlobal,
+    S: Source + Drop,
+    V: io::Write + Drop,
+>(
     rt: &R,
     address: SocketAddrV4,
     name: &'a str,
@@ -344,7 +356,8 @@ fn play_new<'a, R: Net + Files<File = File> + Clock + AllocGlobal, S: Source + D
     ensures unwritten { IfOk result (λ end. MayBeUnwritten settings.entry.asrun end.unwritten) }
     ensures unkept { IfOk result (λ end. MayBeUnkept (Some name.entry) end.unkept) }
     ensures end { IfOk result (IsEndOf (plan_for settings.entry (S.items source))) }
-    ensures refused { IfErr result (λ failure. IsUnkept settings.entry (S.items source) (Some (RunJournal.New name.entry)) failure
+    ensures refused { IfErr result (λ failure. IsUnkept settings.entry (S.items source)
+        (Some (RunJournal.New name.entry)) failure
         ⊎ (failure ≡ Failure.Connect) ⊎ (failure ≡ Failure.NotEmpty)) }
 {
     let heading = heading_of(rt, &source, settings)?;
@@ -362,7 +375,12 @@ fn play_new<'a, R: Net + Files<File = File> + Clock + AllocGlobal, S: Source + D
 }
 
 // Goes on with a list from the journal of this name. Where the controller has ended there, nothing is sent.
-fn play_older<'a, R: Net + Files<File = File> + Clock + AllocGlobal, S: Source + Drop, V: io::Write + Drop>(
+fn play_older<
+    'a,
+    R: Net + Files<File = File> + Clock + AllocGlobal,
+    S: Source + Drop,
+    V: io::Write + Drop,
+>(
     rt: &R,
     address: SocketAddrV4,
     name: &'a str,
@@ -376,7 +394,8 @@ fn play_older<'a, R: Net + Files<File = File> + Clock + AllocGlobal, S: Source +
     ensures unwritten { IfOk result (λ end. MayBeUnwritten settings.entry.asrun end.unwritten) }
     ensures unkept { IfOk result (λ end. MayBeUnkept (Some name.entry) end.unkept) }
     ensures end { IfOk result (IsEndOf (plan_for settings.entry (S.items source))) }
-    ensures refused { IfErr result (λ failure. IsUnkept settings.entry (S.items source) (Some (RunJournal.Older name.entry)) failure
+    ensures refused { IfErr result (λ failure. IsUnkept settings.entry (S.items source)
+        (Some (RunJournal.Older name.entry)) failure
         ⊎ (failure ≡ Failure.Connect) ⊎ (failure ≡ Failure.NotEmpty)) }
 {
     test_journal(rt, settings.asrun, name)?;

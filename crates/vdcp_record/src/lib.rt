@@ -2,8 +2,8 @@
 //!
 //! `begin_journal` makes a journal's file and gives a `Recorder`, which keeps each command there before it goes out:
 //! `AutoDriver::run_kept` is lent it. `finish` writes what is left. `resume_journal` makes the controller of a journal
-//! anew, and a `Recorder` that appends to it; `replay` does so with a journal's bytes alone. `do_asrun` prints the as-run list that a journal shows. Each failure is
-//! told in one line.
+//! anew, and a `Recorder` that appends to it; `replay` does so with a journal's bytes alone. `do_asrun` prints the
+//! as-run list that a journal shows. Each failure is told in one line.
 //!
 //! Files: `file` (a file whose bytes are safe once it says so; it is made, opened and locked), `pending` and
 //! `recorder` (what is still to be written; the rows), `begin`,

@@ -4,7 +4,8 @@ use Rattle.vdcp_net.proofs.run.play_asked.Goals as goal
 pub returns-in-Ok-Occupied-clause-end : goal.returns-in-Ok-Occupied-clause-end
 returns-in-Ok-Occupied-clause-end g c log reached =
     let e = c.unbegun.ensures in
-    unbegun_ends_so g.S.Source.items c.args.controller c.unbegun.result log e.outcome e.reported e.unneeded e.ended e.told
+    unbegun_ends_so g.S.Source.items c.args.controller c.unbegun.result log e.outcome e.reported e.unneeded e.ended
+    e.told
     reached
 
 pub returns-in-Ok-Closed-clause-end : goal.returns-in-Ok-Closed-clause-end
