@@ -53,7 +53,8 @@ keeps_ended : (plan : Plan) (log : List Exchange) (s : State) (h : Option Heard)
     (now now' : Option (List Kept))
     → KeepsAt plan log s before now → now' ≡ adds_ended (ended_by plan h s) now
     → KeepsAt plan (logged log (ended_by plan h s)) (came_to plan h s) before now'
-keeps_ended plan log s h before now now' is adds = ended_one plan log s h before now now' (ended_by plan h s) refl is adds
+keeps_ended plan log s h before now now' is adds =
+    ended_one plan log s h before now now' (ended_by plan h s) refl is adds
 
 -- where nothing is awaited nothing ends
 none_ends_in : (plan : Plan) (h : Option Heard) (s : State) (stage : Stage) → s.stage ≡ stage

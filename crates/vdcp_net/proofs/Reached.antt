@@ -23,7 +23,8 @@ use Rattle.vdcp_net.specs.declared.run.RunSettings.{RunSettings}
 use Rattle.vdcp_value.specs.declared.part.Item.{Item}
 
 -- who gives a command hasn't ended
-pub gives_none : (plan : Plan) (stop : Bool) (stage : Stage) → IsSome (given_in plan stop stage) → ¬ IsSome (outcome_of stage)
+pub gives_none : (plan : Plan) (stop : Bool) (stage : Stage) → IsSome (given_in plan stop stage)
+    → ¬ IsSome (outcome_of stage)
 gives_none plan stop (Ready p) gives = λ some. cc
 gives_none plan stop (Awaiting p) gives = λ some. cc
 gives_none plan stop (Ended outcome) gives = λ some. cc

@@ -5,12 +5,12 @@
 //! standard error, and the exit status is given.
 //!
 //! Files: `serve` and `run` (a subcommand each), `stay` (a port that is kept from one connection to the next),
-//! `entrance` (who takes these), `idling` (a line that is given up), `paced` (frames by the clock), `asrun` (the as-run file) and `place` (how it
-//! comes to be), `log` (a line for each message), `progress` (the line of a terminal that shows how far a run is),
-//! `statuses` (how many were answered in a row), `polling` (how soon the state is asked again), `notice` (whether the port has answered), `keeping` (the journal of a
-//! run), `lines` and `screen`
-//! (writers that don't wait), `dead` (a wire on which nothing comes). `Lines` and `Screen` are for what else is printed
-//! while a channel is up.
+//! `entrance` (who takes these), `idling` (a line that is given up), `paced` (frames by the clock), `asrun` (the
+//! as-run file) and `place` (how it comes to be), `log` (a line for each message), `progress` (the line of a terminal
+//! that shows how far a run is), `statuses` (how many were answered in a row), `polling` (how soon the state is asked
+//! again), `notice` (whether the port has answered), `keeping` (the journal of a run), `lines` and `screen` (writers
+//! that don't wait), `dead` (a wire on which nothing comes). `Lines` and `Screen` are for what else is printed while a
+//! channel is up.
 #![tactic(auto)]
 
 #[cfg(test)]

@@ -196,7 +196,8 @@ impl<'a, R: Clock, W: Wire> Paced<'a, R, W> {
         ensures fits { IfOk result FitsBuffer }
         ensures works { OnOk result (W.failures self.new.wire ≡ 0) }
         ensures failed { OnErr result (W.failures self.new.wire ≡ 1) }
-        ensures counts { (rate : Rate) → self.old.pace ≡ Pace.Clock rate → self.old.frames ≤ frames_in rate self.old.now →
+        ensures counts { (rate : Rate) → self.old.pace ≡ Pace.Clock rate →
+            self.old.frames ≤ frames_in rate self.old.now →
             IfOk result (λ came. CountsFrames rate self.old.burst came self.old.frames self.new.frames self.new.now) }
     {
         let Pace::Clock(rate) = self.pace else {

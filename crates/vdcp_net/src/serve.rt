@@ -102,7 +102,8 @@ impl ServeEnd {
 /// A server that stays keeps its port when a connection ends, is idle for too long or fails, and takes the next one,
 /// which finds the port as it is; meanwhile frames pass. It ends where the turns are spent.
 ///
-/// By the clock a frame passes when its time is over, whatever comes meanwhile, and a wait is five milliseconds at most.
+/// By the clock a frame passes when its time is over, whatever comes meanwhile, and a wait is five milliseconds at
+/// most.
 ///
 /// Where all is told, the writer gets a line for each message that came (`<-`) and went out (`->`), with the words
 /// that it has, one for each burst that is at fault or cut, and one for each item that goes to air (`aired` and its

@@ -13,7 +13,7 @@ returns-in-AtSilences-clause-end g c log reached =
 pub returns-in-AtOnce-clause-end : goal.returns-in-AtOnce-clause-end
 returns-in-AtOnce-clause-end g c log reached =
     let e = c.play_prompt.ensures in
-    is_end_at_once g.S.Source.items _ _ _ c.args.controller c.new-driver-in-AtOnce.result c.play_prompt.new.driver e.leaves.0
-    c.play_prompt.result log
+    is_end_at_once g.S.Source.items _ _ _ c.args.controller c.new-driver-in-AtOnce.result c.play_prompt.new.driver
+    e.leaves.0 c.play_prompt.result log
     c.new-driver-in-AtOnce.ensures.controller e.leaves.2 e.leaves.1 e.outcome e.reported e.told
     reached
