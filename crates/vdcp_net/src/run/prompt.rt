@@ -72,7 +72,7 @@ fn run_prompt<'a, R: Clock, S: Source, W: Wire, V: Watch<S>, J: Journal + Drop>(
             let mut polling = Polling::new(journal, rt, poll);
             let ran = driver.run_kept(listens, watcher, &mut polling);
             let line = LineEnd::of_run(ran);
-            let journal = polling.into_keep();
+            let mut journal = polling.into_keep();
             let unkept = match journal.close(driver.controller().outcome()) {
                 Err(RecordFault::Memory) => Some(Failure::Memory),
                 Err(RecordFault::Device) => Some(Failure::Write(name)),
