@@ -37,10 +37,10 @@ plan_in heading items = record {
 abbrev pub state_after : Plan → List Row → State
 state_after plan rows = timed_out plan (after_rows plan start rows)
 
--- the rows are those of a controller of this list, and a writer gained the as-run list of what it reports; its count is
--- what the log shows that the rows show
-pub record ShowsRows (rate : Rate) (items : List Item) (heading : Heading) (rows : List Row) (old new : Option (List ℕ))
-    : Type 0 where
+-- the rows are those of a controller of this list, and a writer gained the as-run list of what it reports; its count
+-- is what the log shows that the rows show
+pub record ShowsRows (rate : Rate) (items : List Item) (heading : Heading) (rows : List Row)
+    (old new : Option (List ℕ)) : Type 0 where
   pub digest : heading.digest ≡ digest_of rate items
   pub told : AreTold (plan_in heading items) start rows
   pub lawful : IsLawful (plan_in heading items) (state_after (plan_in heading items) rows) (log_of rows)

@@ -25,8 +25,8 @@ use vdcp_value::Rate;
 /// controller reports to which the journal's rows were given. A torn last row counts as none.
 ///
 /// The status is 0 where it is printed, 1 where a row of the list or of the journal is refused, and 3 where a file
-/// can't be read, memory was refused or a writer failed. The list is read first. Where it isn't 0, `err` gets one line,
-/// unless it was a writer that failed.
+/// can't be read, memory was refused or a writer failed. The list is read first. Where it isn't 0, `err` gets one
+/// line, unless it was a writer that failed.
 pub fn do_asrun<J: io::Read + Drop, L: io::Read + Drop, W: io::Write, E: io::Write>(
     alloc: Global,
     journal: NamedFile<'_, J>,

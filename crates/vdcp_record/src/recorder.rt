@@ -21,8 +21,8 @@ use vdcp_words::Command;
 
 /// Writes a journal's rows, that of each command before it goes out.
 ///
-/// What ended an exchange is written with the next command, and made safe with it, in one. After a failure nothing more
-/// is written.
+/// What ended an exchange is written with the next command, and made safe with it, in one. After a failure nothing
+/// more is written.
 #[derive(Drop)]
 pub struct Recorder<'a, 'r, R, F> {
     rt: &'r R,
@@ -121,8 +121,8 @@ impl<'a, 'r, R: Clock + AllocGlobal, F: JournalFile + Drop> Recorder<'a, 'r, R, 
         self.pending = self.pending.ended(row);
     }
 
-    /// Writes what is pending, and how the controller ended, if it has ended. The failure is that of the first row that
-    /// wasn't written.
+    /// Writes what is pending, and how the controller ended, if it has ended. The failure is that of the first row
+    /// that wasn't written.
     pub fn finish(&mut self, outcome: Option<Outcome>) -> Result<(), Failure<'a>>
         ensures written { OnOk result ((time : Moment) × Adds F.safe self.old self.new (outcome_rows time outcome)) }
         ensures torn { OnErr result ((time : Moment) × AddsBeginning F.safe self.old self.new
