@@ -10,7 +10,7 @@ ghost use Rattle.vdcp_record.specs.Showing.{IsShown, IsToldOnly, ShowsRows, dige
 ghost use Rattle.vdcp_text.specs.Failure.{status_of};
 ghost use Rattle.vdcp_text.specs.declared.failure.Failure.TheVariants as failures;
 
-use crate::judge::{journal_in, resumed};
+use crate::reading::{journal_in, resumed};
 use crate::resume::read_to_end;
 use std::alloc::Global;
 use std::io;

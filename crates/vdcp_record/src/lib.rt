@@ -6,22 +6,22 @@
 //! the as-run list that a journal shows. Each failure is told in one line.
 //!
 //! Files: `file` (a file whose bytes are safe once it says so; it is made, opened and locked), `pending` and `recorder`
-//! (what is still to be written; the rows), `begin`, `judge` (a journal's bytes against what is wanted), `resume`,
+//! (what is still to be written; the rows), `begin`, `reading` (a journal's bytes against what is wanted), `resume`,
 //! `asrun` (the subcommand).
 #![tactic(auto)]
 
 mod asrun;
 mod begin;
 mod file;
-mod judge;
 mod pending;
+mod reading;
 mod recorder;
 mod resume;
 
 pub use asrun::do_asrun;
 pub use begin::begin_journal;
 pub use file::{AppendFault, JournalFile};
-pub use judge::{Replayed, replay};
 pub use pending::RecordFault;
+pub use reading::{Replayed, replay};
 pub use recorder::Recorder;
 pub use resume::{Resumption, resume_journal};

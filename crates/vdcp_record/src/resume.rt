@@ -7,8 +7,8 @@ ghost use Rattle.vdcp_record.specs.Resuming.{IsResumed, IsUnresumed};
 ghost use Rattle.vdcp_text.specs.declared.failure.Failure.TheVariants as failures;
 
 use crate::file::open;
-use crate::judge::{Replayed, replay};
 use crate::pending::Pending;
+use crate::reading::{Replayed, replay};
 use crate::recorder::{Recorder, row_now};
 use std::fs::{File, OpenFile};
 use std::io::{ErrorKind, Read};

@@ -1,6 +1,6 @@
 use Rattle.std.proofs.Common.{refl}
 use Rattle.std.proofs.lemmas.Result.{err_from_is_err_and}
-use Rattle.vdcp_record.proofs.judge.replay.Goals as goal
+use Rattle.vdcp_record.proofs.reading.replay.Goals as goal
 use Rattle.vdcp_record.specs.Resuming.{no_journal, of_other, untold}
 
 pub returns-in_err-journal-clause-refused : goal.returns-in_err-journal-clause-refused
