@@ -1,6 +1,6 @@
 -- The end of a run, by the state that its controller reached.
-use Rattle.std.proofs.Common.{ℕ, ◌≡◌, ◌≤◌, ◌++◌, List, [], ◌∷◌, inl, refl, subst, sym}
-use Rattle.std.specs.Prelude.{◌↔◌, Bool, Err, IsSome, None, Ok, Option, Result, Some}
+use Rattle.std.proofs.Common.{ℕ, ◌≡◌, ◌≤◌, ◌++◌, Bor, List, [], ◌∷◌, inl, inr, refl, subst, sym, ◌∙◌}
+use Rattle.std.specs.Prelude.{◌↔◌, Bool, Err, IfErr, IfOk, IsSome, None, Ok, Option, Result, Some}
 use Rattle.vdcp_auto.specs.Course.{Call, Reached, Receive, begun, called, ended_by_call, logged}
 use Rattle.vdcp_auto.specs.Plan.{Plan, View, plan_of}
 use Rattle.vdcp_auto.specs.Turn.{given_in, new_controller, outcome_of, start}
@@ -17,9 +17,13 @@ use Rattle.vdcp_wire.specs.Wires.{Told}
 use Rattle.vdcp_files.specs.Mode.{mode_of}
 use Rattle.vdcp_journal.specs.Resume.{after_call_if, after_rows, call_of}
 use Rattle.vdcp_journal.specs.declared.row.Row.{Row}
-use Rattle.vdcp_record.specs.Resuming.{IsResumed}
+use Rattle.vdcp_journal.specs.declared.row.Heading.{Heading}
+use Rattle.vdcp_record.specs.Resuming.{IsResumed, IsUnresumed}
+use Rattle.vdcp_text.specs.declared.failure.Failure.{Failure}
 use Rattle.vdcp_net.proofs.Ends.{EndedWith, ended_unneeded, unneeded_ended}
-use Rattle.vdcp_net.specs.Run.{IsEndOf, line_end_of, plan_for}
+use Rattle.vdcp_net.specs.Run.{IsEndOf, IsUnkept, heading_for, line_end_of, plan_for}
+use Rattle.vdcp_net.specs.declared.keeping.RunJournal.TheVariants as journals
+use Rattle.vdcp_net.specs.declared.run.LineEnd.{LineEnd}
 use Rattle.vdcp_net.specs.declared.run.LineEnd.TheVariants as line_end
 use Rattle.vdcp_net.specs.declared.run.RunEnd.{RunEnd}
 use Rattle.vdcp_net.specs.declared.run.RunSettings.{RunSettings}
@@ -123,15 +127,13 @@ told_by plan state log reached (row ∷ rows) =
 
 -- the controller goes on from a journal
 pub resumed_ends_so : {S : Type 0} (items : S → List Item) (source : S) (settings : RunSettings)
-    (controller resumed : View S) (rows : List Row) (end : RunEnd)
-    → controller ≡ new_controller source (mode_of settings.confirm) settings.port settings.limit → 1 ≤ settings.limit
-    → settings.limit ≤ 1000
-    → IsResumed (plan_of items controller) controller rows resumed
+    (resumed : View S) (rows : List Row) (end : RunEnd) → 1 ≤ settings.limit → settings.limit ≤ 1000
+    → IsResumed (plan_for settings (items source))
+    (new_controller source (mode_of settings.confirm) settings.port settings.limit) rows resumed
     → ((log : List Exchange) → Reached (plan_of items resumed) resumed.state log
     → IsEndOf (plan_of items resumed) end)
     → IsEndOf (plan_for settings (items source)) end
-resumed_ends_so {S} items source settings controller resumed rows end is some few goes ends =
-    let went = subst (λ (v : View S). IsResumed (plan_of items v) v rows resumed) is goes in
+resumed_ends_so {S} items source settings resumed rows end some few went ends =
     let plan : Plan = plan_for settings (items source) in
     let told = told_by plan start [] (begun some few) rows in
     subst (λ (v : View S). (log : List Exchange) → Reached (plan_of items v) v.state log
@@ -147,3 +149,44 @@ pub has_ended : {A : Type 0} (recorder : Option A) (outcome : Option Outcome)
     → (IsSome recorder ↔ (outcome ≡ None)) → recorder ≡ None → IsSome outcome
 has_ended recorder None h none = absurd (none_is_some recorder none (h.1 refl))
 has_ended recorder (Some outcome) h none = cc
+
+-- each of these, where the run came to an end
+
+pub new_ends_if : {S : Type 0} (items : S → List Item) (source : S) (settings : RunSettings) (controller : View S)
+    (result : Result RunEnd Failure)
+    → controller ≡ new_controller source (mode_of settings.confirm) settings.port settings.limit → 1 ≤ settings.limit
+    → settings.limit ≤ 1000
+    → IfOk result (λ end. (log : List Exchange) → Reached (plan_of items controller) controller.state log
+    → IsEndOf (plan_of items controller) end)
+    → IfOk result (IsEndOf (plan_for settings (items source)))
+new_ends_if items source settings controller (Ok end) is some few h =
+    new_ends_so items source settings controller end is some few h
+new_ends_if items source settings controller (Err failure) is some few h = tt
+
+pub resumed_ends_if : {S : Type 0} (items : S → List Item) (source : S) (settings : RunSettings)
+    (resumed : View S) (rows : List Row) (result : Result RunEnd Failure) → 1 ≤ settings.limit → settings.limit ≤ 1000
+    → IsResumed (plan_for settings (items source))
+    (new_controller source (mode_of settings.confirm) settings.port settings.limit) rows resumed
+    → IfOk result (λ end. (log : List Exchange) → Reached (plan_of items resumed) resumed.state log
+    → IsEndOf (plan_of items resumed) end)
+    → IfOk result (IsEndOf (plan_for settings (items source)))
+resumed_ends_if items source settings resumed rows (Ok end) some few went h =
+    resumed_ends_so items source settings resumed rows end some few went h
+resumed_ends_if items source settings resumed rows (Err failure) some few went h = tt
+
+-- a journal that is refused, of a run that is made with these settings
+pub unkept_if : {S A : Type 0} (items : S → List Item) (source : S) (settings : RunSettings) (name : Bor (List ℕ))
+    (controller : View S) (heading : Heading) (result : Result A Failure)
+    → controller ≡ new_controller source (mode_of settings.confirm) settings.port settings.limit
+    → heading ≡ heading_for settings (items source)
+    → IfErr result (IsUnresumed (plan_of items controller) name heading)
+    → IfErr result (IsUnkept settings (items source) (Some (journals.Older name)))
+unkept_if items source settings name controller heading (Ok a) is of h = tt
+unkept_if {S} items source settings name controller heading (Err failure) is of h =
+    let plan : Plan = plan_for settings (items source) in
+    inr (inl (subst (λ (w : Heading). IsUnresumed plan name w failure) of
+    (subst (λ (v : View S). IsUnresumed (plan_of items v) name heading failure) is h)))
+
+-- a line that isn't needed is none where a command wasn't kept
+pub not_unkept : (line : LineEnd) → line ≡ line_end.Unneeded → ¬ (line ≡ line_end.Unkept)
+not_unkept line unneeded unkept = let clash : line_end.Unneeded ≡ line_end.Unkept = sym unneeded ∙ unkept in cc

@@ -1,7 +1,7 @@
 -- Of the reasons why a list isn't played, only an address that is none has status 2, and only a refused row status 1.
 use Rattle.std.proofs.Common.{◌≡◌, ◌≢◌, ◌⊎◌, refl, ℕ, ◌<◌, List, inl, inr, sym, ap, subst, ◌∙◌, arith, Bor}
 use Rattle.std.specs.Io.KnownBytes.{Appends, Keeps}
-use Rattle.std.specs.Prelude.{Option, None, Some}
+use Rattle.std.specs.Prelude.{IfErr, Option, None, Some, Result, Ok, Err}
 use Rattle.vdcp_list.specs.declared.faults.ListFault.{ListFault}
 use Rattle.vdcp_list.specs.declared.faults.ListFault.TheVariants as lists
 use Rattle.vdcp_auto.specs.Plan.{Plan}
@@ -17,7 +17,9 @@ use Rattle.vdcp_text.specs.Failure.{failure_line, status_of}
 use Rattle.vdcp_value.specs.declared.part.Item.{Item}
 use Rattle.vdcp_text.specs.declared.failure.Failure.{Failure}
 use Rattle.vdcp_text.specs.declared.failure.Failure.TheVariants.{Address}
-use Rattle.vdcp_files.specs.Files.{File, file, file_failure}
+use Rattle.vdcp_text.specs.declared.failure.Failure.TheVariants as failures
+use Rattle.vdcp_files.specs.Files.{File, bytes_of, file, file_failure}
+use Rattle.vdcp_list.specs.Playlists.{IsListOf}
 use Rattle.vdcp_wire.specs.Address.{IsAddress}
 use Rattle.vdcp_net.specs.Run.{IsJournalOf, IsJournalRefused, IsListRefused, IsPlaceRefused, IsRunRefused, IsUnkept, IsUnplayed, heading_for, plan_for, no_address, no_journal, no_list, no_place, not_connected, not_empty, IsNotBegun}
 use Rattle.vdcp_net.specs.declared.keeping.RunJournal.{RunJournal}
@@ -58,7 +60,7 @@ place_status (Some name) failure (inr (inr (inl e))) = ap status_of e
 place_status (Some name) failure (inr (inr (inr e))) = ap status_of e
 
 -- that of a journal is 1 or 3
-one_or_three : (failure : Failure) → Type 0
+abbrev one_or_three : (failure : Failure) → Type 0
 one_or_three failure = (status_of failure ≡ 1) ⊎ (status_of failure ≡ 3)
 
 not_2 : (failure : Failure) → one_or_three failure → status_of failure ≢ 2
@@ -103,10 +105,10 @@ refused_status plan name wanted bytes failure (resuming.untold journal is wrong 
 
 unresumed_status : (plan : Plan) (name : Bor (List ℕ)) (wanted : Heading) (failure : Failure)
     → IsUnresumed plan name wanted failure → one_or_three failure
-unresumed_status plan name wanted failure (resuming.unopened h) = unopened_status name failure h
-unresumed_status plan name wanted failure (resuming.unread e) = inr (ap status_of e)
-unresumed_status plan name wanted failure (resuming.unwritten h) = rows_unwritten_status name failure h
-unresumed_status plan name wanted failure (resuming.refused bytes h) =
+unresumed_status plan name wanted failure (resuming.no_file h) = unopened_status name failure h
+unresumed_status plan name wanted failure (resuming.failed e) = inr (ap status_of e)
+unresumed_status plan name wanted failure (resuming.kept h) = rows_unwritten_status name failure h
+unresumed_status plan name wanted failure (resuming.bad bytes h) =
     refused_status plan name wanted bytes failure h
 
 journal_status : (settings : RunSettings) (items : List Item) (journal : RunJournal) (failure : Failure)
@@ -186,3 +188,19 @@ told_with_1 settings text list failure status out err err' (not_empty some whole
   told = subst (λ (f : Failure). Appends err err' (failure_line f)) e (told (omega (arith, one)));
   silent = keeps_itself out;
 }))
+
+-- a list with a journal, where it isn't played
+pub unplayed_with : {A : Type 0} (settings : RunSettings) (text : List ℕ) (list : File) (items : List Item)
+    (journal : RunJournal) (result : Result A Failure)
+    → IsAddress text → IsListOf settings.rate (bytes_of list) items → settings.journal ≡ Some journal
+    → IfErr result (λ failure. IsUnkept settings items (Some journal) failure
+    ⊎ ((failure ≡ failures.Connect) ⊎ (failure ≡ failures.NotEmpty)))
+    → IfErr result (IsUnplayed settings text list)
+unplayed_with settings text list items journal (Ok a) some lists is h = tt
+unplayed_with settings text list items journal (Err failure) some lists is (inl refused) =
+    no_journal some items lists
+    (subst (λ (j : Option RunJournal). IsUnkept settings items j failure) (sym is) refused)
+unplayed_with settings text list items journal (Err failure) some lists is (inr (inl e)) =
+    not_connected some (items, lists) e
+unplayed_with settings text list items journal (Err failure) some lists is (inr (inr e)) =
+    not_empty some (items, lists) e

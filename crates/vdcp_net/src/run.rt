@@ -10,8 +10,10 @@ ghost use Rattle.vdcp_files.specs.Files.{IsWholeList, file};
 ghost use Rattle.vdcp_files.specs.Mode.{mode_of};
 ghost use Rattle.vdcp_wire.specs.Address.{IsAddress};
 ghost use Rattle.vdcp_wire.specs.Wires.{IfTold, nothing_told};
-ghost use Rattle.vdcp_net.specs.Run.{IsEndOf, IsListRefused, IsNotBegun, IsOpening, IsPlayed, IsRun, IsRunRefused, IsUnkept, IsUnplayed, MayBeUnkept, MayBeUnwritten, journal_in};
+ghost use Rattle.vdcp_net.specs.Run.{IsEndOf, IsJournalOf, IsListRefused, IsNotBegun, IsOpening, IsPlayed, IsRun, IsRunRefused, IsUnkept, IsUnplayed, MayBeUnkept, MayBeUnwritten, journal_in};
 ghost use Rattle.vdcp_net.specs.Run.{end_text, fault_text, faults_text, line_end_of, heading_for, line_failure, plan_for, run_status};
+ghost use Rattle.vdcp_journal.specs.declared.row.Row.{Row};
+ghost use Rattle.vdcp_record.specs.Resuming.{IsResumed};
 ghost use Rattle.vdcp_text.specs.Failure.{failure_line};
 
 mod prompt;
@@ -35,7 +37,7 @@ use vdcp_drive::{
 };
 use vdcp_files::NamedFile;
 use vdcp_journal::{Heading, digest_of};
-use vdcp_record::{RecordFault, begin_journal, resume_journal};
+use vdcp_record::{RecordFault, Resumption, begin_journal, resume_journal};
 use vdcp_text::{Failure, OutcomeText};
 use vdcp_value::Rate;
 use vdcp_wire::{StreamWire, Wire, WireFault, address_of};
@@ -363,15 +365,41 @@ fn play_new<
     let heading = heading_of(rt, &source, settings)?;
     let controller = new_controller(source, settings);
     let journal = begin_journal(rt, name, &heading)?;
-    let keeping = Keeping::Journal(name, journal);
-    let end = match test_journal(rt, settings.asrun, name) {
-        Ok(()) => play_at(rt, address, controller, keeping, settings, showing),
-        Err(failure) => Err(failure),
-    };
+    let end = play_begun(rt, address, controller, name, journal, settings, showing);
     if end.is_err() {
         let _ = fs::remove_file(rt, name);
     }
     end
+}
+
+// Plays a list with the journal of this name, which is there now.
+fn play_begun<
+    'a,
+    R: Net + Files + Clock + AllocGlobal,
+    S: Source + Drop,
+    J: Journal + Drop,
+    V: io::Write + Drop,
+>(
+    rt: &R,
+    address: SocketAddrV4,
+    controller: Controller<S>,
+    name: &'a str,
+    journal: J,
+    settings: RunSettings<'a>,
+    showing: Showing<V>,
+) -> Result<RunEnd<'a>, Failure<'a>>
+    requires unit { settings.unit ≤ 15 }
+    requires some { 1 ≤ settings.limit }
+    ensures unwritten { IfOk result (λ end. MayBeUnwritten settings.entry.asrun end.unwritten) }
+    ensures unkept { IfOk result (λ end. MayBeUnkept (Some name.entry) end.unkept) }
+    ensures end { IfOk result (λ end. (log : List Exchange) → Reached (plan_of S.items controller) controller.state log
+        → IsEndOf (plan_of S.items controller) end) }
+    ensures refused { IfErr result (λ failure. IsJournalOf settings.entry.asrun failure
+        ⊎ (failure ≡ Failure.Connect) ⊎ (failure ≡ Failure.NotEmpty)) }
+{
+    test_journal(rt, settings.asrun, name)?;
+    let keeping = Keeping::Journal(name, journal);
+    play_at(rt, address, controller, keeping, settings, showing)
 }
 
 // Goes on with a list from the journal of this name. Where the controller has ended there, nothing is sent.
@@ -399,8 +427,7 @@ fn play_older<
         ⊎ (failure ≡ Failure.Connect) ⊎ (failure ≡ Failure.NotEmpty)) }
 {
     test_journal(rt, settings.asrun, name)?;
-    let heading = heading_of(rt, &source, settings)?;
-    let resumed = resume_journal(rt, name, &heading, new_controller(source, settings))?;
+    let resumed = resume(rt, name, source, settings)?;
     let controller = resumed.controller;
     match resumed.recorder {
         Some(journal) => {
@@ -409,6 +436,27 @@ fn play_older<
         }
         None => Ok(ended(rt, &controller, LineEnd::Unneeded, true, settings)),
     }
+}
+
+// What goes on from the journal of this name, if it is one of this list.
+fn resume<'a, 'r, R: Files<File = File> + Clock + AllocGlobal, S: Source + Drop>(
+    rt: &'r R,
+    name: &'a str,
+    source: S,
+    settings: RunSettings<'_>,
+) -> Result<Resumption<'a, 'r, R, S>, Failure<'a>>
+    requires unit { settings.unit ≤ 15 }
+    requires some { 1 ≤ settings.limit }
+    requires few { settings.limit ≤ 1000 }
+    ensures resumed { IfOk result (λ resumed. (rows : List Row)
+        × IsResumed (plan_for settings.entry (S.items source)) (turns.new_controller source
+        (mode_of settings.entry.confirm) settings.entry.port settings.entry.limit) rows resumed.controller) }
+    ensures goes_on { IfOk result (λ resumed. IsSome resumed.recorder
+        ↔ (turns.outcome_of resumed.controller.state.stage ≡ None)) }
+    ensures refused { IfErr result (IsUnkept settings.entry (S.items source) (Some (RunJournal.Older name.entry))) }
+{
+    let heading = heading_of(rt, &source, settings)?;
+    resume_journal(rt, name, &heading, new_controller(source, settings))
 }
 
 // What a journal of a run is of.

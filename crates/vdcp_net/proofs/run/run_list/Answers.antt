@@ -1,29 +1,16 @@
-use Rattle.std.proofs.Common.{refl}
 use Rattle.vdcp_list.specs.List.{items_of}
-use Rattle.vdcp_net.proofs.Reached.{new_ends_so}
+use Rattle.vdcp_net.proofs.Unplayed.{unplayed_with}
 use Rattle.vdcp_net.proofs.run.run_list.Goals as goal
-use Rattle.vdcp_net.specs.Run.{not_connected, not_empty}
+use Rattle.vdcp_net.specs.declared.keeping.RunJournal.TheVariants as journals
 
-pub returns-in_default-connect-clause-unplayed : goal.returns-in_default-connect-clause-unplayed
-returns-in_default-connect-clause-unplayed g c =
-    not_connected (c.in-Ok.address, c.in-Ok.ensures.address)
-    (items_of c.in_ok-events.events, c.in_ok-events.ensures.events) refl
+pub returns-in-Some-New-clause-unplayed : goal.returns-in-Some-New-clause-unplayed
+returns-in-Some-New-clause-unplayed g c =
+    unplayed_with c.args.settings _ _ (items_of c.in_ok-events.events) (journals.New c.in-Some-New.journal)
+    c.play_new.result (c.in-Ok.address, c.in-Ok.ensures.address) c.in_ok-events.ensures.events c.in-Some-New.is
+    c.play_new.ensures.refused
 
-pub returns-in-Occupied-clause-unplayed : goal.returns-in-Occupied-clause-unplayed
-returns-in-Occupied-clause-unplayed g c =
-    not_empty (c.in-Ok.address, c.in-Ok.ensures.address) (items_of c.in_ok-events.events, c.in_ok-events.ensures.events)
-    refl
-
-pub returns-in_default-line-clause-whole : goal.returns-in_default-line-clause-whole
-returns-in_default-line-clause-whole g c = (items_of c.in_ok-events.events, c.in_ok-events.ensures.events)
-
-pub returns-in_default-line-clause-played : goal.returns-in_default-line-clause-played
-returns-in_default-line-clause-played g c = record {
-  items = items_of c.in_ok-events.events;
-  lists = c.in_ok-events.ensures.events;
-  ends = new_ends_so items_of c.in_ok-events.events c.args.settings c.new_controller-controller.result
-      c.play_connected-end.result
-      c.new_controller-controller.ensures c.requires.some c.requires.few c.play_connected-end.ensures.end;
-  unwritten = c.play_connected-end.ensures.unwritten;
-  unkept = c.play_connected-end.ensures.unkept;
-}
+pub returns-in-Some-Older-clause-unplayed : goal.returns-in-Some-Older-clause-unplayed
+returns-in-Some-Older-clause-unplayed g c =
+    unplayed_with c.args.settings _ _ (items_of c.in_ok-events.events) (journals.Older c.in-Some-Older.journal)
+    c.play_older.result (c.in-Ok.address, c.in-Ok.ensures.address) c.in_ok-events.ensures.events c.in-Some-Older.is
+    c.play_older.ensures.refused
