@@ -11,7 +11,7 @@ ghost use Rattle.vdcp_files.specs.Mode.{mode_of};
 ghost use Rattle.vdcp_wire.specs.Address.{IsAddress};
 ghost use Rattle.vdcp_wire.specs.Wires.{IfTold, nothing_told};
 ghost use Rattle.vdcp_net.specs.Run.{IsEndOf, IsJournalOf, IsListRefused, IsNotBegun, IsOpening, IsPlayed, IsRun, IsRunRefused, IsUnkept, IsUnplayed, MayBeUnkept, MayBeUnwritten, journal_in};
-ghost use Rattle.vdcp_net.specs.Run.{end_text, fault_text, faults_text, line_end_of, heading_for, line_failure, plan_for, run_status};
+ghost use Rattle.vdcp_net.specs.Run.{end_text, fault_text, faults_text, line_end_of, heading_for, line_failure, name_of, plan_for, run_status};
 ghost use Rattle.vdcp_journal.specs.declared.row.Row.{Row};
 ghost use Rattle.vdcp_record.specs.Resuming.{IsResumed};
 ghost use Rattle.vdcp_text.specs.Failure.{failure_line};
@@ -288,8 +288,7 @@ fn run_list<'a, R: Net + Files<File = File> + Clock + AllocGlobal, L: io::Read +
     test_place(rt, settings.asrun, name)?;
     match settings.journal {
         None => play_unkept(rt, address, events, settings, showing),
-        Some(RunJournal::New(journal)) => play_new(rt, address, journal, events, settings, showing),
-        Some(RunJournal::Older(journal)) => play_older(rt, address, journal, events, settings, showing),
+        Some(journal) => play_kept(rt, address, journal, events, settings, showing),
     }
 }
 
@@ -312,6 +311,30 @@ fn play_unkept<'a, R: Net + Files + Clock + AllocGlobal, S: Source + Drop, V: io
     let controller = new_controller(source, settings);
     let keeping: Keeping<'_, Unkept> = Keeping::Nothing;
     play_at(rt, address, controller, keeping, settings, showing)
+}
+
+// Plays a list with a journal.
+fn play_kept<'a, R: Net + Files<File = File> + Clock + AllocGlobal, S: Source + Drop, V: io::Write + Drop>(
+    rt: &R,
+    address: SocketAddrV4,
+    journal: RunJournal<'a>,
+    source: S,
+    settings: RunSettings<'a>,
+    showing: Showing<V>,
+) -> Result<RunEnd<'a>, Failure<'a>>
+    requires unit { settings.unit ≤ 15 }
+    requires some { 1 ≤ settings.limit }
+    requires few { settings.limit ≤ 1000 }
+    ensures unwritten { IfOk result (λ end. MayBeUnwritten settings.entry.asrun end.unwritten) }
+    ensures unkept { IfOk result (λ end. MayBeUnkept (Some (name_of journal.entry)) end.unkept) }
+    ensures end { IfOk result (IsEndOf (plan_for settings.entry (S.items source))) }
+    ensures refused { IfErr result (λ failure. IsUnkept settings.entry (S.items source) (Some journal.entry) failure
+        ⊎ (failure ≡ Failure.Connect) ⊎ (failure ≡ Failure.NotEmpty)) }
+{
+    match journal {
+        RunJournal::New(name) => play_new(rt, address, name, source, settings, showing),
+        RunJournal::Older(name) => play_older(rt, address, name, source, settings, showing),
+    }
 }
 
 // Plays a list with a new journal of this name. It is gone again where nothing was sent.
@@ -391,7 +414,10 @@ fn play_older<'a, R: Net + Files<File = File> + Clock + AllocGlobal, S: Source +
         ⊎ (failure ≡ Failure.Connect) ⊎ (failure ≡ Failure.NotEmpty)) }
 {
     test_journal(rt, settings.asrun, name)?;
-    let resumed = resume(rt, name, source, settings)?;
+    let resumed = match resume(rt, name, source, settings) {
+        Ok(resumed) => resumed,
+        Err(failure) => return Err(failure),
+    };
     let controller = resumed.controller;
     match resumed.recorder {
         Some(journal) => {
