@@ -353,9 +353,9 @@ fn play_kept<
     requires some { 1 ≤ settings.limit }
     requires few { settings.limit ≤ 1000 }
     ensures unwritten { IfOk result (λ end. MayBeUnwritten settings.entry.asrun end.unwritten) }
-    ensures unkept { IfOk result (λ end. MayBeUnkept (Some (name_of journal)) end.unkept) }
+    ensures unkept { IfOk result (λ end. MayBeUnkept (Some (name_of journal.entry)) end.unkept) }
     ensures end { IfOk result (IsEndOf (plan_for settings.entry (S.items source))) }
-    ensures refused { IfErr result (λ failure. IsUnkept settings.entry (S.items source) (Some journal) failure
+    ensures refused { IfErr result (λ failure. IsUnkept settings.entry (S.items source) (Some journal.entry) failure
         ⊎ (failure ≡ Failure.Connect) ⊎ (failure ≡ Failure.NotEmpty)) }
 {
     match journal {

@@ -5,13 +5,13 @@ use Rattle.vdcp_net.proofs.run.play_older.Goals as goal
 
 pub returns-in-Some-clause-end : goal.returns-in-Some-clause-end
 returns-in-Some-clause-end g c =
-    let r = c.in_ok-resumed in
+    let r = c.in-Ok in
     resumed_ends_if g.S.Source.items c.args.source c.args.settings r.resumed.controller r.ensures.resumed.0
     c.play_at.result c.requires.some c.requires.few r.ensures.resumed.1 c.play_at.ensures.end
 
 pub returns-clause-end : goal.returns-clause-end
 returns-clause-end g c =
-    let r = c.in_ok-resumed in
+    let r = c.in-Ok in
     let e = c.ended.ensures in
     resumed_ends_so g.S.Source.items c.args.source c.args.settings r.resumed.controller r.ensures.resumed.0
     c.ended.result c.requires.some c.requires.few r.ensures.resumed.1
