@@ -1,4 +1,4 @@
-use Rattle.std.proofs.Common.{subst, sym}
+use Rattle.std.proofs.Common.{inl, subst, sym}
 use Rattle.std.specs.Prelude.{IsSome}
 use Rattle.vdcp_net.proofs.Reached.{has_ended, not_unkept, resumed_ends_if, resumed_ends_so, unbegun_ends_so}
 use Rattle.vdcp_net.proofs.run.play_older.Goals as goal
@@ -18,3 +18,6 @@ returns-clause-end g c =
     (λ log reached. unbegun_ends_so g.S.Source.items r.resumed.controller c.ended.result log e.outcome e.reported
     (λ unneeded. subst (λ o. IsSome o) (sym e.outcome) (has_ended r.resumed.recorder _ r.ensures.goes_on c.in-None.is))
     (λ some. e.line) (not_unkept _ e.line) reached)
+
+pub returns-in-Err-clause-refused : goal.returns-in-Err-clause-refused
+returns-in-Err-clause-refused g c = inl c.in-Err.ensures.refused
