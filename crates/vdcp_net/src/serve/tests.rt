@@ -9,6 +9,7 @@ use std::alloc::Global;
 use std::io::{self, ErrorKind, Read, Write};
 use std::net::{Ipv4Addr, Net, Shutdown, SocketAddr, TcpListener, TcpStream};
 use std::process::Abort;
+use std::rt::Clock;
 use std::test::Fail;
 use std::time::Duration;
 use vdcp_files::NamedFile;
@@ -52,6 +53,17 @@ impl Net for Ready {
     }
 }
 
+// Its frames pass at silences, so no time is asked for.
+impl Clock for Ready {
+    fn monotonic(&self) -> io::Result<Duration> {
+        Ok(Duration::from_millis(0))
+    }
+
+    fn since_1970(&self) -> io::Result<Duration> {
+        Ok(Duration::from_millis(0))
+    }
+}
+
 /// A listener, and its address.
 fn listen<R>(rt: &R) -> io::Result<(TcpListener, SocketAddr)>
 where
@@ -90,7 +102,7 @@ fn serve_to<N, C, W>(
     err: &mut Vec<u8>,
 ) -> u8
 where
-    N: Net + AllocGlobal,
+    N: Net + AllocGlobal + Clock,
     C: Read + Drop,
     W: Write,
 {
@@ -109,7 +121,7 @@ where
 /// What is printed where the clips of a reader are served for this many turns, with this many milliseconds of silence.
 fn served_with<N, C>(net: &N, address: &str, clips: C, turns: u32, silence: u32) -> Output
 where
-    N: Net + AllocGlobal,
+    N: Net + AllocGlobal + Clock,
     C: Read + Drop,
 {
     let mut out = Vec::new(net.alloc());
@@ -119,7 +131,12 @@ where
 }
 
 /// Serves for this many turns.
-fn served<R: Net + AllocGlobal>(rt: &R, address: &str, catalogue: &[u8], turns: u32) -> Output {
+fn served<R: Net + AllocGlobal + Clock>(
+    rt: &R,
+    address: &str,
+    catalogue: &[u8],
+    turns: u32,
+) -> Output {
     served_with(rt, address, catalogue, turns, 4)
 }
 
