@@ -25,3 +25,6 @@ pub use pending::RecordFault;
 pub use reading::{Replayed, replay};
 pub use recorder::Recorder;
 pub use resume::{Resumption, resume_journal};
+
+#[cfg(test)]
+mod tests;
