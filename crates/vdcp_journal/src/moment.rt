@@ -34,7 +34,7 @@ impl Moment {
         Some(Moment { text: copy })
     }
 
-    /// The moment so many milliseconds after 1970 began, in UTC. A time after 9999-12-30T22:00:00Z counts as that.
+    /// This many milliseconds after 1970 began, in UTC. A time after 9999-12-30T22:00:00Z counts as that.
     pub fn of_unix_millis(millis: u64) -> Moment
         ensures shown { (time : DateTime) × (moment_text result ≡ clock_text time)
             × (civil_nanos time ≡ pos (min millis last_millis * 1_000_000)) }
@@ -58,7 +58,7 @@ const FORM: &[u8; 24] = b"0000-00-00T00:00:00.000Z";
 /// The latest time that is told apart from later ones.
 const LAST: u64 = 253_402_207_200_000;
 
-/// What a clock in UTC shows so many milliseconds after 1970 began.
+/// What a clock in UTC shows this many milliseconds after 1970 began.
 fn shown_at(millis: u64) -> DateTime
     ensures { civil_nanos result ≡ pos (min millis last_millis * 1_000_000) }
 {
