@@ -1,6 +1,7 @@
 #!/usr/bin/env python3
 """The files over which tools/bench counts: the same bytes on each machine, for any number of rows."""
 
+from hashlib import sha256
 from random import Random
 
 
@@ -149,10 +150,48 @@ def vectors(rows):
             for number, (them, lines) in enumerate(bursts)]
 
 
+def framed(kind, code, data=b""):
+    """A message of these to unit 0, in digits."""
+    body = bytes([kind << 4, code]) + data
+    return (bytes([2, len(body)]) + body + bytes([-sum(body) % 256])).hex()
+
+
+def journal(rows):
+    """Of a run of plain clips, to the check of the last one: ten exchanges for each event, all answered."""
+    events = [f"CLIP{number % 10000:04d}" for number in range(rows)]
+    digest = sha256("".join(f"{number},{event}\n" for number, event in enumerate(events)).encode()).hexdigest()
+    port, ack = b"\x01", ("ack", "04")
+    status = ("status 01", framed(3, 0x05, port))
+    waits = [(status, (f"state {state:02x}", framed(3, 0x85, bytes([1, state])))) for state in (2, 2, 2, 2, 2, 0x80)]
+    exchanges = [
+        (("open 01 01", framed(3, 0x01, b"\x01\x01")), ("granted", framed(3, 0x81, port))),
+        (("select 01", framed(2, 0x22, port)), ack),
+    ]
+    for event in events:
+        clip = event.encode()
+        exchanges += [
+            ((f"exists {event}", framed(3, 0x16, clip)), ("present", framed(3, 0x96, port))),
+            ((f"cue {event}", framed(2, 0x24, clip)), ack),
+            *waits,
+            (("play", framed(1, 0x01)), ack),
+            (("active", framed(3, 0x07)), (f"active {event}", framed(3, 0x87, b"\x01" + clip))),
+        ]
+    # (a row each ten milliseconds)
+    moments = (f"2026-11-25T{ms // 3600000:02d}:{ms // 60000 % 60:02d}:{ms // 1000 % 60:02d}.{ms % 1000:03d}Z"
+               for ms in range(0, 86400000, 10))
+    told = [("list", digest, "plain,0,1,10")]
+    for sent, heard in exchanges:
+        told += [("sent", *sent), ("heard", *heard)]
+    return events, [f"{moment},{','.join(row)}" for moment, row in zip(moments, told)]
+
+
 def write_inputs(folder, rows):
     """Writes them all into a folder, each line with its end."""
+    events, entries = journal(rows)
     files = {
         **lists(rows),
+        "whole.csv": events,
+        "journal.csv": entries,
         "script.txt": script(rows, MISHAPS),
         "confirm.txt": script(rows, MISHAPS + FORGERIES),
         "bursts.csv": vectors(rows),

@@ -39,7 +39,7 @@ _vdcp() {
         [[ -n $subcommand ]] || wish=0
     fi
     case $subcommand:$wish in
-    :0 | help:1) offers="show make check sim serve run asrun lossy vectors help" ;;
+    :0 | help:1) offers="show make check sim serve run asrun judge lossy vectors help" ;;
     :-) offers="-h --help -V --version" ;;
     show:-) offers="--words -h --help" ;;
     make:-) offers="--unit -h --help" ;;
@@ -47,12 +47,13 @@ _vdcp() {
     sim:-) offers="--unit --port --limit --rate --trace --cue-frames --confirm --late -h --help" ;;
     serve:-) offers="--unit --port --rate --cue-frames --silence --turns --real-time --stay --idle --log -h --help" ;;
     run:-) offers="--unit --port --limit --rate --confirm --silence --listens --prompt --poll --asrun --journal --resume --log -h --help" ;;
-    asrun:-) offers="--rate -h --help" ;;
+    asrun:-) offers="--rate --times --open -h --help" ;;
+    judge:-) offers="--unit --rate --confirm --server -h --help" ;;
     lossy:-) offers="--seed --lose --copy --cut --damage --forge --silence --within --turns -h --help" ;;
     vectors:-) offers="-h --help" ;;
     make:1) offers="open close select cue cue-data play stop status active exists size" ;;
-    check:1 | check:2 | sim:1 | sim:2 | sim:3 | serve:2 | run:2 | run:--asrun | run:--journal | run:--resume | asrun:2 | vectors:1) offers="files" ;;
-    check:--rate | sim:--rate | serve:--rate | run:--rate | asrun:--rate) offers="24 25 30 30df" ;;
+    check:1 | check:2 | sim:1 | sim:2 | sim:3 | serve:2 | run:2 | run:--asrun | run:--journal | run:--resume | asrun:2 | judge:1 | judge:2 | vectors:1) offers="files" ;;
+    check:--rate | sim:--rate | serve:--rate | run:--rate | asrun:--rate | judge:--rate) offers="24 25 30 30df" ;;
     esac
     if [[ $offers == files ]]; then
         compopt -o filenames -o default 2>/dev/null

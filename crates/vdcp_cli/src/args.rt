@@ -46,6 +46,7 @@ pub fn command<'a>(alloc: Global) -> Result<Command<'a>, AllocError> {
         .subcommand(serve(alloc)?)?
         .subcommand(run(alloc)?)?
         .subcommand(asrun_list(alloc)?)?
+        .subcommand(judge(alloc)?)?
         .subcommand(lossy(alloc)?)?
         .subcommand(vectors(alloc)?)
 }
@@ -147,7 +148,21 @@ fn asrun_list<'a>(alloc: Global) -> Result<Command<'a>, AllocError> {
         .after_help("Example: vdcp asrun run.journal examples/playlist.csv")
         .arg(required(alloc, "JOURNAL", "The journal's file"))?
         .arg(list(alloc))?
-        .arg(rate_option(alloc))
+        .arg(rate_option(alloc))?
+        .arg(times(alloc))?
+        .arg(may_have_aired(alloc))
+}
+
+fn judge<'a>(alloc: Global) -> Result<Command<'a>, AllocError> {
+    Command::new(alloc, "judge")
+        .about("Holds an automation's commands on a captured line against the rule book")
+        .after_help("Example: vdcp judge examples/playlist.csv run.log")
+        .arg(list(alloc))?
+        .arg(required(alloc, "CAPTURE", "The file of what was captured"))?
+        .arg(number_option(alloc, &UNIT))?
+        .arg(rate_option(alloc))?
+        .arg(judge_confirm(alloc))?
+        .arg(server(alloc))
 }
 
 fn lossy<'a>(alloc: Global) -> Result<Command<'a>, AllocError> {
@@ -221,6 +236,20 @@ fn confirm<'a>(alloc: Global) -> Arg<'a> {
         .help("The controller trusts no ACK and no NAK")
 }
 
+fn judge_confirm<'a>(alloc: Global) -> Arg<'a> {
+    Arg::new(alloc, "confirm")
+        .long("confirm")
+        .action(ArgAction::SetTrue)
+        .help("The automation trusts no ACK and no NAK")
+}
+
+fn server<'a>(alloc: Global) -> Arg<'a> {
+    Arg::new(alloc, "server")
+        .long("server")
+        .action(ArgAction::SetTrue)
+        .help("The log is of the server's end")
+}
+
 fn late<'a>(alloc: Global) -> Arg<'a> {
     Arg::new(alloc, "late")
         .long("late")
@@ -254,6 +283,20 @@ fn asrun<'a>(alloc: Global) -> Arg<'a> {
         .long("asrun")
         .value_name("FILE")
         .help("Makes this file, with the as-run list of the reported events")
+}
+
+fn times<'a>(alloc: Global) -> Arg<'a> {
+    Arg::new(alloc, "times")
+        .long("times")
+        .action(ArgAction::SetTrue)
+        .help("Says of each event when it was played, and when it was known to have aired")
+}
+
+fn may_have_aired<'a>(alloc: Global) -> Arg<'a> {
+    Arg::new(alloc, "open")
+        .long("open")
+        .action(ArgAction::SetTrue)
+        .help("Tells standard error of an event that may have aired too")
 }
 
 fn journal<'a>(alloc: Global) -> Arg<'a> {

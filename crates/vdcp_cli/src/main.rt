@@ -15,12 +15,13 @@ use std::fs::File;
 use std::io::{BufWriter, IsTerminal, Write};
 use std::process::ExitCode;
 use std::{env, io};
+use vdcp_capture::do_judge;
 use vdcp_files::{do_check, do_vectors};
 use vdcp_lossy::do_lossy;
 use vdcp_net::{Lines, Screen, Showing, Telling, do_run, do_serve};
 use vdcp_options::{
-    lossy_settings_of, open_file, rate_of, run_settings_of, serve_settings_of, sim_settings_of,
-    unit_of,
+    asrun_settings_of, judge_settings_of, lossy_settings_of, open_file, rate_of, run_settings_of,
+    serve_settings_of, sim_settings_of, unit_of,
 };
 use vdcp_record::do_asrun;
 use vdcp_sim::do_sim;
@@ -88,6 +89,7 @@ fn run_named<W: Write, E: Write>(
         "serve" => run_serve(rt, matches, out, err),
         "run" => run_run(rt, matches, out, err),
         "asrun" => run_asrun(rt, matches, out, err),
+        "judge" => run_judge(rt, matches, out, err),
         "lossy" => Ok(run_lossy(rt, matches, err)),
         "vectors" => run_vectors(rt, matches, out, err),
         // (`clap` lets no other name through)
@@ -186,8 +188,20 @@ fn run_asrun<'a, W: Write, E: Write>(
 ) -> Result<u8, Failure<'a>> {
     let journal = open_file(rt, matches, "JOURNAL")?;
     let list = open_file(rt, matches, "LIST")?;
-    let rate = rate_of(matches);
-    Ok(do_asrun(rt.alloc(), journal, list, rate, out, err))
+    let settings = asrun_settings_of(matches);
+    Ok(do_asrun(rt.alloc(), journal, list, settings, out, err))
+}
+
+fn run_judge<'a, W: Write, E: Write>(
+    rt: &HostRuntime,
+    matches: &'a ArgMatches<'_>,
+    out: &mut W,
+    err: &mut E,
+) -> Result<u8, Failure<'a>> {
+    let list = open_file(rt, matches, "LIST")?;
+    let capture = open_file(rt, matches, "CAPTURE")?;
+    let settings = judge_settings_of(matches);
+    Ok(do_judge(rt.alloc(), list, capture, settings, out, err))
 }
 
 fn run_lossy<E: Write>(rt: &HostRuntime, matches: &ArgMatches<'_>, err: &mut E) -> u8 {

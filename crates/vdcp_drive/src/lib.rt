@@ -57,6 +57,3 @@ pub use server::Server;
 pub use vacancy::{Vacancy, ask_port};
 pub use vdcp_wire::{Came, Entry, PIECE, ScriptWire, StreamWire, Wire, WireFault};
 pub use watch::{Unwatched, Watch, WatchAir};
-
-#[cfg(test)]
-mod tests;

@@ -50,12 +50,3 @@ pub use message::{Fault, Message};
 pub use reader::Reader;
 pub use spelling::{Full, write};
 pub use walk::{End, Messages, whole_messages};
-
-#[cfg(test)]
-mod equality_tests;
-#[cfg(test)]
-mod limit_tests;
-#[cfg(test)]
-mod reader_tests;
-#[cfg(test)]
-mod tests;

@@ -10,4 +10,5 @@ mod CsvRows
 mod FieldTexts
 mod JournalRows
 mod JournalSteps
+mod AiringSteps
 mod Journals

@@ -3,5 +3,6 @@ pub mod Times
 pub mod Clocks
 pub mod Rows
 pub mod Resume
+pub mod Airings
 pub mod Reading
 pub mod Journals

@@ -9,11 +9,13 @@
 //! `read_journal` reads a journal's bytes, and leaves out a last row that was torn.
 //!
 //! `resume` gives a new controller the rows of a journal, and times out the exchange that was open.
+//! `airings_in` finds in them when each reported event aired.
 //!
 //! Files: `moment`, `digest`, `row` (headings, rows and notes), `fields` (a note's fields), `texts` (what fields name),
-//! `write`, `read`, `faults`, `replay`, `laws`.
+//! `write`, `read`, `faults`, `replay`, `airings`, `laws`.
 #![tactic(auto)]
 
+mod airings;
 mod digest;
 mod faults;
 mod fields;
@@ -25,6 +27,7 @@ mod row;
 mod texts;
 mod write;
 
+pub use airings::{Airing, Airings, airings_in};
 pub use digest::digest_of;
 pub use faults::{JournalReadFault, JournalRowFault, JournalWriteFault, ResumeFault};
 pub use moment::Moment;
@@ -32,6 +35,3 @@ pub use read::{Journal, read_journal};
 pub use replay::{Resumed, resume};
 pub use row::{Heading, Note, Row};
 pub use write::{write_heading, write_row};
-
-#[cfg(test)]
-mod tests;

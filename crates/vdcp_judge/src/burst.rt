@@ -48,7 +48,8 @@ fn add<A: Allocator>(
     Ok(())
 }
 
-fn captured_as(unit: u8, way: Way, message: &Message) -> Option<Captured>
+/// What a message says that went to or from the port of this unit.
+pub fn captured_as(unit: u8, way: Way, message: &Message) -> Option<Captured>
     ensures { result ≡ captured_as unit way (content_of message.now) }
 {
     match way {

@@ -5,7 +5,7 @@
 //! The judge keeps no log, so its memory stays the same however long the log is.
 //!
 //! `rulings` and `first_forbidden` do so for a whole log. `captured_in` says what the bursts of
-//! a captured line are, and `exchanges_in` gives the log that these show.
+//! a captured line are, `captured_as` what one message is, and `exchanges_in` gives the log that these show.
 //!
 //! Files: `burst`, `capture`, `judge`, `keeping` (whole logs), `meaning` (what exchanges are).
 #![tactic(auto)]
@@ -16,7 +16,7 @@ mod judge;
 mod keeping;
 mod meaning;
 
-pub use burst::{Way, captured_in};
+pub use burst::{Way, captured_as, captured_in};
 pub use capture::{Captured, exchanges_in};
 pub use judge::{Judge, Ruling};
 pub use keeping::{first_forbidden, rulings};

@@ -1,5 +1,5 @@
 -- Messages that are a beginning of others.
-use Rattle.std.proofs.Common.{ℕ, ◌≡◌, Bool, true, false, nat_eq, ◌&&◌, List, [], ◌∷◌, ◌++◌, refl, arith, sym, ap₂}
+use Rattle.std.proofs.Common.{ℕ, ◌≡◌, Bool, true, nat_eq, ◌&&◌, List, [], ◌∷◌, ◌++◌, refl, arith, sym, ap₂}
 use Rattle.std.specs.Cmp.Lexicographic.{pointwise}
 use Rattle.vdcp_frame.specs.Message.{Content, ack, nak, framed}
 use Rattle.vdcp_world.specs.Beginnings.{is_same_message, is_beginning}

@@ -1,5 +1,5 @@
 -- Queues of bursts, and what they carry: each burst is junk or carries one thing.
-use Rattle.std.proofs.Common.{◌≡◌, ℕ, zero, suc, ◌⊎◌, inl, inr, Bool, true, false, List, [], ◌∷◌, ◌++◌, take, drop, Option, Some, None, refl, sym, ap, subst, ◌∙◌, append-nil, if◌then◌else◌}
+use Rattle.std.proofs.Common.{◌≡◌, ℕ, zero, suc, ◌⊎◌, inl, inr, Bool, true, false, List, [], ◌∷◌, ◌++◌, Option, Some, None, refl, sym, ap, subst, append-nil, if◌then◌else◌}
 use Rattle.std.specs.Prelude.{insert, remove, slice_get}
 use Rattle.vdcp_late.specs.Damage.{replaced, with_damage, with_junk}
 use Rattle.vdcp_late.proofs.Thinning.{Thins, all_left}

@@ -1,16 +1,15 @@
 -- Each phase keeps its place where something on the way is left out, and where the port changes by itself.
-use Rattle.std.proofs.Common.{◌≡◌, ℕ, ◌+◌, ◌<◌, ◌⊎◌, inl, inr, Bool, true, false, List, [], ◌∷◌, ◌++◌, length, take, Option, Some, None, refl, arith, sym, ap, subst, ◌∙◌}
+use Rattle.std.proofs.Common.{◌≡◌, ℕ, ◌⊎◌, inl, inr, Bool, true, false, List, [], ◌∷◌, refl, sym, ap, subst, ◌∙◌}
 use Rattle.std.specs.List.{list_any}
-use Rattle.std.specs.Prelude.{slice_get}
 use Rattle.vdcp_value.specs.declared.part.Item.{Item}
 use Rattle.vdcp_port.specs.Port.{Cued, empty, cueing, done, made_ready, is_done as is_done_cue}
 use Rattle.vdcp_auto.specs.declared.phase.Mode.{Mode}
 use Rattle.vdcp_auto.specs.declared.phase.Phase.{Phase}
 use Rattle.vdcp_auto.specs.declared.phase.Phase.TheVariants as phase
-use Rattle.vdcp_late.specs.Pipe.{stretch, Climbs, stretches, IsPipe}
+use Rattle.vdcp_late.specs.Pipe.{stretches}
 use Rattle.vdcp_late.proofs.Places.{Answer, pipe_of, plays, arms, waits, says_ack, says_done, says_empty, shows_no_cue, cued_item, HasItem, HasDone, HasNone}
-use Rattle.vdcp_late.proofs.Places.{At, Cueing, Waiting, ToAir, OnAir, Playing, Checking, Near, LastCue, Unarmed, Safe, Place}
-use Rattle.vdcp_late.proofs.Thinning.{Thins, all_left, any_thins, none_thins}
+use Rattle.vdcp_late.proofs.Places.{ToAir, OnAir, Playing, LastCue, Unarmed, Safe, Place}
+use Rattle.vdcp_late.proofs.Thinning.{Thins, any_thins, none_thins}
 
 -- ---- something is left out
 

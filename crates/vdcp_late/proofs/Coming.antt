@@ -1,6 +1,5 @@
 -- What comes to the controller, or silence, in plain mode.
-use Rattle.std.proofs.Common.{◌≡◌, ℕ, ◌⊎◌, inl, inr, Bool, true, false, not, ◌||◌, ◌&&◌, List, [], ◌∷◌, length, Option, Some, None, refl, arith, sym, ap, subst, ◌∙◌, if◌then◌else◌}
-use Rattle.std.specs.List.{list_any}
+use Rattle.std.proofs.Common.{◌≡◌, ℕ, inl, inr, Bool, true, false, not, ◌||◌, List, ◌∷◌, length, Option, Some, None, refl, arith, sym, ap, subst, ◌∙◌, if◌then◌else◌}
 use Rattle.std.specs.Option.{option_map, option_map_or}
 use Rattle.std.specs.Prelude.{slice_get}
 use Rattle.vdcp_value.specs.declared.clip_id.ClipId.{ClipId}
@@ -13,26 +12,24 @@ use Rattle.vdcp_words.specs.declared.reply.Reply.{Reply}
 use Rattle.vdcp_words.specs.declared.reply.Reply.TheVariants as reply
 use Rattle.vdcp_port.specs.Port.{Cued}
 use Rattle.vdcp_auto.specs.Commands.{cue_for, cue_of, is_presence, fits}
-use Rattle.vdcp_auto.specs.Log.{answer_to, answer_in, is_counted}
+use Rattle.vdcp_auto.specs.Log.{answer_to}
 use Rattle.vdcp_auto.specs.Plan.{Plan}
-use Rattle.vdcp_auto.specs.Replies.{is_ack, is_refusal, is_receipt}
+use Rattle.vdcp_auto.specs.Replies.{is_ack, is_refusal}
 use Rattle.vdcp_auto.specs.Table.{command_in, on_reply, on_refusal}
-use Rattle.vdcp_auto.specs.Turn.{transition_on, transition_of, awaited_in, on_answer, on_unanswered, ended_in, exchange_of, came_to, ticked, tick_in, phase_to_send, stage_after, settled_after}
-use Rattle.vdcp_auto.specs.declared.exchange.Exchange.{Exchange}
+use Rattle.vdcp_auto.specs.Turn.{transition_on, awaited_in, ended_in, exchange_of, came_to}
 use Rattle.vdcp_auto.specs.declared.exchange.Heard.{Heard}
 use Rattle.vdcp_auto.specs.declared.exchange.Heard.TheVariants as heard
-use Rattle.vdcp_auto.specs.declared.phase.Mode.TheVariants.{Plain, Confirming}
+use Rattle.vdcp_auto.specs.declared.phase.Mode.TheVariants.{Plain}
 use Rattle.vdcp_auto.specs.declared.phase.Phase.{Phase}
 use Rattle.vdcp_auto.specs.declared.phase.Phase.TheVariants as phase
 use Rattle.vdcp_auto.specs.State.{Stage}
 use Rattle.vdcp_auto.specs.State.{Ready, Awaiting, Ended}
 use Rattle.vdcp_auto.specs.State.{State}
-use Rattle.vdcp_auto.specs.declared.phase.Transition.{Transition}
-use Rattle.vdcp_late.specs.Damage.{is_no_answer, is_stray}
+use Rattle.vdcp_late.specs.Damage.{is_no_answer}
 use Rattle.vdcp_late.proofs.Claims.{Comes}
-use Rattle.vdcp_late.proofs.Hearing.{Leads, Here, Asked, silent, refused, replied}
-use Rattle.vdcp_late.proofs.Places.{Answer, misfits, is_asked}
-use Rattle.vdcp_late.proofs.Standing.{misleads, PlaceAt, Stands}
+use Rattle.vdcp_late.proofs.Hearing.{Leads, silent, refused, replied}
+use Rattle.vdcp_late.proofs.Places.{Answer, is_asked}
+use Rattle.vdcp_late.proofs.Standing.{Stands}
 
 -- the plan of a controller in plain mode
 abbrev pub plain_plan : List Item → ℕ → ℕ → Plan

@@ -1,6 +1,5 @@
 -- What comes to the controller, or silence, in confirm mode.
-use Rattle.std.proofs.Common.{◌≡◌, ℕ, ◌⊎◌, inl, inr, Bool, true, false, not, ◌||◌, ◌&&◌, List, [], ◌∷◌, length, Option, Some, None, refl, arith, sym, ap, subst, ◌∙◌, if◌then◌else◌}
-use Rattle.std.specs.List.{list_any}
+use Rattle.std.proofs.Common.{◌≡◌, ℕ, inl, inr, Bool, true, false, not, ◌||◌, ◌&&◌, List, ◌∷◌, length, Option, Some, None, refl, arith, sym, subst, if◌then◌else◌}
 use Rattle.std.specs.Option.{option_map_or}
 use Rattle.vdcp_value.specs.declared.clip_id.ClipId.{ClipId}
 use Rattle.vdcp_value.specs.declared.part.Item.{Item}
@@ -9,27 +8,25 @@ use Rattle.vdcp_words.specs.declared.command.Command.{Command}
 use Rattle.vdcp_words.specs.declared.reply.Reply.{Reply}
 use Rattle.vdcp_port.specs.Port.{Cued}
 use Rattle.vdcp_auto.specs.Commands.{is_sense, fits}
-use Rattle.vdcp_auto.specs.Log.{answer_to, answer_in, is_counted}
+use Rattle.vdcp_auto.specs.Log.{answer_to}
 use Rattle.vdcp_auto.specs.Plan.{Plan}
 use Rattle.vdcp_auto.specs.Replies.{is_receipt, is_refusal}
 use Rattle.vdcp_auto.specs.Table.{command_in, on_reply, on_refusal}
-use Rattle.vdcp_auto.specs.Turn.{transition_on, transition_of, awaited_in, is_end, on_answer, on_unanswered, ended_in, exchange_of, came_to, stage_after, settled_after}
-use Rattle.vdcp_auto.specs.declared.exchange.Exchange.{Exchange}
+use Rattle.vdcp_auto.specs.Turn.{transition_on, awaited_in, is_end, ended_in, exchange_of, came_to}
 use Rattle.vdcp_auto.specs.declared.exchange.Heard.{Heard}
 use Rattle.vdcp_auto.specs.declared.exchange.Heard.TheVariants as heard
-use Rattle.vdcp_auto.specs.declared.phase.Mode.TheVariants.{Plain, Confirming}
+use Rattle.vdcp_auto.specs.declared.phase.Mode.TheVariants.{Confirming}
 use Rattle.vdcp_auto.specs.declared.phase.Phase.{Phase}
 use Rattle.vdcp_auto.specs.State.{Stage}
 use Rattle.vdcp_auto.specs.State.{Ready, Awaiting, Ended}
 use Rattle.vdcp_auto.specs.State.{State}
-use Rattle.vdcp_late.specs.Damage.{is_no_answer, is_stray}
+use Rattle.vdcp_late.specs.Damage.{is_no_answer}
 use Rattle.vdcp_late.proofs.Claims.{Comes}
 use Rattle.vdcp_late.proofs.Coming.{fits_asked}
-use Rattle.vdcp_late.proofs.ConfirmedHearing.{Leads, Here, Asked, silent, replied}
-use Rattle.vdcp_late.proofs.ConfirmedStanding.{SpotAt, Holds}
+use Rattle.vdcp_late.proofs.ConfirmedHearing.{Leads, silent, replied}
+use Rattle.vdcp_late.proofs.ConfirmedStanding.{Holds}
 use Rattle.vdcp_late.proofs.Delivering.{clash}
-use Rattle.vdcp_late.proofs.Places.{Answer, misfits, is_asked}
-use Rattle.vdcp_late.proofs.Standing.{misleads}
+use Rattle.vdcp_late.proofs.Places.{Answer}
 
 -- the plan of a controller in confirm mode
 abbrev pub confirming_plan : List Item → ℕ → ℕ → Plan

@@ -1,5 +1,5 @@
 -- Where a reply leads the controller, or silence, in confirm mode. Receipts lead nowhere.
-use Rattle.std.proofs.Common.{◌≡◌, ℕ, ◌+◌, ◌*◌, ◌<◌, ◌≤◌, ◌⊎◌, inl, inr, Bool, true, false, not, ◌||◌, ◌&&◌, List, [], ◌∷◌, ◌++◌, length, take, Option, Some, None, refl, arith, sym, ap, subst, ◌∙◌, if◌then◌else◌}
+use Rattle.std.proofs.Common.{◌≡◌, ℕ, ◌+◌, ◌*◌, ◌<◌, ◌≤◌, ◌⊎◌, inl, inr, Bool, true, false, not, ◌||◌, ◌&&◌, List, [], ◌∷◌, length, Some, None, refl, arith, ap, subst, ◌∙◌, if◌then◌else◌}
 use Rattle.std.specs.List.{list_any}
 use Rattle.std.specs.Prelude.{slice_get, nat_le, nat_lt}
 use Rattle.vdcp_value.specs.declared.clip_id.ClipId.{ClipId}
@@ -7,27 +7,26 @@ use Rattle.vdcp_value.specs.declared.part.Item.{Item}
 use Rattle.vdcp_value.specs.declared.timecode.Timecode.{Timecode}
 use Rattle.vdcp_words.specs.declared.reply.Reply.{Reply}
 use Rattle.vdcp_words.specs.declared.reply.Reply.TheVariants as reply
-use Rattle.vdcp_port.specs.Port.{Cued, empty}
-use Rattle.vdcp_auto.specs.Commands.{is_presence, is_state}
+use Rattle.vdcp_port.specs.Port.{Cued}
+use Rattle.vdcp_auto.specs.Commands.{is_presence}
 use Rattle.vdcp_auto.specs.Replies.{is_ack, is_receipt, is_refusal, is_granted, is_present, is_done, is_playing, is_empty, is_cueing}
 use Rattle.vdcp_auto.specs.Table.{next, names_other, on_lost_cue, on_reply, on_no_answer}
 use Rattle.vdcp_auto.specs.Turn.{on_unanswered, stage_after, settled_after}
 use Rattle.vdcp_auto.specs.declared.outcome.Outcome.TheVariants as outcome
-use Rattle.vdcp_auto.specs.declared.phase.Mode.TheVariants.{Plain, Confirming}
+use Rattle.vdcp_auto.specs.declared.phase.Mode.TheVariants.{Confirming}
 use Rattle.vdcp_auto.specs.declared.phase.Phase.{Phase}
 use Rattle.vdcp_auto.specs.declared.phase.Phase.TheVariants as phase
-use Rattle.vdcp_auto.specs.State.{Stage}
-use Rattle.vdcp_auto.specs.State.{Ready, Awaiting, Ended}
+use Rattle.vdcp_auto.specs.State.{Ready}
 use Rattle.vdcp_auto.specs.declared.phase.Transition.{Transition}
 use Rattle.vdcp_auto.specs.declared.phase.Transition.TheVariants.{Goes, Settles, Retries, Ends}
 use Rattle.vdcp_late.specs.Pipe.{stretch, Climbs, stretches, IsPipe}
-use Rattle.vdcp_late.proofs.ConfirmedPlaces.{FullAfterDone, Owns, Trying, ToSound, Sounded, Sounding, Secure, Idle, Spot, full_none}
+use Rattle.vdcp_late.proofs.ConfirmedPlaces.{ToSound, Sounded, Idle, Spot, full_none}
 use Rattle.vdcp_late.proofs.ConfirmedReads.{presence_no_state}
 use Rattle.vdcp_late.proofs.ConfirmedStanding.{SpotAt, secure_in}
 use Rattle.vdcp_late.proofs.Delivering.{clash}
 use Rattle.vdcp_late.proofs.Passing.{wanted, same_wanted, all_own, fitting, fits_as}
 use Rattle.vdcp_late.proofs.Pipes.{climbs_within}
-use Rattle.vdcp_late.proofs.Places.{Answer, pipe_of, plays, waits, misfits, fits_phase, is_asked, says_done, says_empty, shows_no_cue, At, HasItem}
+use Rattle.vdcp_late.proofs.Places.{Answer, pipe_of, plays, waits, misfits, fits_phase, is_asked, says_done, says_empty, shows_no_cue, At}
 use Rattle.vdcp_late.proofs.Safety.{no_plays, quiet}
 use Rattle.vdcp_late.proofs.Standing.{knows, differs, misleads, misleads_at}
 use Rattle.vdcp_late.proofs.Stretches.{Lies, ups_climb, none_answers}

@@ -1,9 +1,9 @@
 -- Where the port is in each phase of the controller, in confirm mode, and what the answers on the way up tell of it.
-use Rattle.std.proofs.Common.{◌≡◌, ℕ, ◌+◌, ◌<◌, ◌≤◌, ◌⊎◌, inl, inr, Bool, true, false, not, nat_eq, ◌&&◌, ◌||◌, List, [], ◌∷◌, ◌++◌, length, take, Option, Some, None, refl, arith, sym, ap, subst, ◌∙◌}
+use Rattle.std.proofs.Common.{◌≡◌, ℕ, ◌+◌, ◌<◌, ◌⊎◌, inl, inr, Bool, true, false, not, nat_eq, ◌||◌, List, [], ◌∷◌, ◌++◌, length, take, refl, arith, sym, subst, ◌∙◌}
 use Rattle.std.specs.List.{list_any}
 use Rattle.std.specs.Prelude.{slice_get}
 use Rattle.vdcp_value.specs.declared.part.Item.{Item}
-use Rattle.vdcp_port.specs.Port.{Cued, empty, cueing, done}
+use Rattle.vdcp_port.specs.Port.{Cued, empty}
 use Rattle.vdcp_auto.specs.declared.phase.Phase.{Phase}
 use Rattle.vdcp_auto.specs.declared.phase.Phase.TheVariants as phase
 use Rattle.vdcp_late.proofs.Closing.{Ages, item_ages}

@@ -1,5 +1,5 @@
 -- The port reads the oldest command on the way down, in confirm mode.
-use Rattle.std.proofs.Common.{◌≡◌, ℕ, ◌+◌, ◌*◌, ◌<◌, ◌≤◌, ◌⊎◌, inl, inr, Bool, true, false, not, nat_eq, ◌||◌, ◌&&◌, List, [], ◌∷◌, ◌++◌, length, take, Option, Some, None, refl, arith, sym, ap, subst, ◌∙◌}
+use Rattle.std.proofs.Common.{◌≡◌, ℕ, ◌+◌, ◌*◌, ◌<◌, ◌≤◌, ◌⊎◌, inl, inr, Bool, true, false, not, nat_eq, ◌||◌, ◌&&◌, List, [], ◌∷◌, ◌++◌, length, refl, arith, sym, ap, subst, ◌∙◌}
 use Rattle.std.specs.List.{list_any}
 use Rattle.std.specs.Prelude.{slice_get}
 use Rattle.vdcp_value.specs.declared.part.Item.{Item}
@@ -7,15 +7,15 @@ use Rattle.vdcp_words.specs.declared.reply.Reply.{Reply}
 use Rattle.vdcp_port.specs.Port.{Cued, empty, cueing, done, is_done as is_done_cue}
 use Rattle.vdcp_auto.specs.Commands.{is_presence}
 use Rattle.vdcp_auto.specs.Replies.{is_ack, is_refusal, is_done, is_empty}
-use Rattle.vdcp_auto.specs.declared.phase.Mode.TheVariants.{Plain, Confirming}
+use Rattle.vdcp_auto.specs.declared.phase.Mode.TheVariants.{Confirming}
 use Rattle.vdcp_auto.specs.declared.phase.Phase.{Phase}
 use Rattle.vdcp_auto.specs.declared.phase.Phase.TheVariants as phase
-use Rattle.vdcp_late.specs.Pipe.{stretch, Climbs, stretches, IsPipe}
-use Rattle.vdcp_late.proofs.ConfirmedPlaces.{FullAfterDone, cues, tries, cues_other, LastOf, Owns, Trying, ToSound, Sounded, Sounding, Spent, Last, Secure, Idle, Spot, full_pushed}
+use Rattle.vdcp_late.specs.Pipe.{Climbs, stretches}
+use Rattle.vdcp_late.proofs.ConfirmedPlaces.{cues, tries, Owns, Trying, ToSound, Sounded, Sounding, Spent, Last, Secure, Idle, full_pushed}
 use Rattle.vdcp_late.proofs.Delivering.{at_same, aired_same, item_same, no_more, pushed, none_pushed, clash, never_empty, ack_fits, airs_none, cueing_cue}
 use Rattle.vdcp_late.proofs.DeliveringPlay.{airs_item, airs_nothing}
-use Rattle.vdcp_late.proofs.Executed.{Does, Executed, Shows, left_cued, put_on_air}
-use Rattle.vdcp_late.proofs.Places.{Answer, pipe_of, plays, waits, says_done, says_empty, shows_no_cue, cued_item, HasItem, At, Near}
+use Rattle.vdcp_late.proofs.Executed.{Does, Executed, left_cued, put_on_air}
+use Rattle.vdcp_late.proofs.Places.{Answer, pipe_of, plays, waits, says_done, says_empty, shows_no_cue, cued_item, HasItem, Near}
 use Rattle.vdcp_late.proofs.Safety.{near_of, near_same}
 use Rattle.vdcp_late.proofs.Stretches.{Lies, climbs_after, none_within}
 

@@ -1,33 +1,33 @@
 -- What holds of a late channel in confirm mode, said of the phases that sent what is on the way; and that it stays so
 -- while the
 -- controller hears nothing.
-use Rattle.std.proofs.Common.{◌≡◌, ℕ, ◌+◌, ◌*◌, ◌<◌, ◌≤◌, ◌⊎◌, inl, inr, Bool, true, false, not, nat_eq, ◌||◌, ◌&&◌, List, [], ◌∷◌, ◌++◌, length, take, Option, Some, None, refl, arith, sym, ap, subst, ◌∙◌, if◌then◌else◌}
+use Rattle.std.proofs.Common.{◌≡◌, ℕ, ◌+◌, ◌*◌, ◌<◌, ◌≤◌, ◌⊎◌, inl, inr, Bool, true, false, not, ◌||◌, List, [], ◌∷◌, ◌++◌, length, take, refl, arith, sym, ap, subst, ◌∙◌}
 use Rattle.std.specs.List.{list_any}
 use Rattle.std.specs.Prelude.{slice_get}
 use Rattle.vdcp_value.specs.declared.clip_id.ClipId.{ClipId}
 use Rattle.vdcp_value.specs.declared.part.Item.{Item}
 use Rattle.vdcp_value.specs.declared.timecode.Timecode.{Timecode}
 use Rattle.vdcp_words.specs.declared.reply.Reply.{Reply}
-use Rattle.vdcp_port.specs.Port.{Cued, empty}
+use Rattle.vdcp_port.specs.Port.{Cued}
 use Rattle.vdcp_auto.specs.Turn.{phase_to_send}
 use Rattle.vdcp_auto.specs.declared.outcome.Outcome.{Outcome}
 use Rattle.vdcp_auto.specs.declared.outcome.Outcome.TheVariants as outcome
-use Rattle.vdcp_auto.specs.declared.phase.Mode.TheVariants.{Plain, Confirming}
+use Rattle.vdcp_auto.specs.declared.phase.Mode.TheVariants.{Confirming}
 use Rattle.vdcp_auto.specs.declared.phase.Phase.{Phase}
 use Rattle.vdcp_auto.specs.declared.phase.Phase.TheVariants as phase
 use Rattle.vdcp_auto.specs.State.{Stage}
 use Rattle.vdcp_auto.specs.State.{Ready, Awaiting, Ended}
 use Rattle.vdcp_late.specs.Pipe.{stretch, Climbs, stretches, IsPipe}
 use Rattle.vdcp_late.proofs.Closing.{Ages, pipe_thins}
-use Rattle.vdcp_late.proofs.ConfirmedPlaces.{cues, tries, cues_other, LastOf, Owns, Trying, ToSound, Sounded, Sounding, Spent, Last, Secure, Idle, Spot}
+use Rattle.vdcp_late.proofs.ConfirmedPlaces.{cues, tries, cues_other, LastOf, Owns, ToSound, Sounded, Sounding, Spent, Last, Secure, Spot}
 use Rattle.vdcp_late.proofs.ConfirmedPlaces.{none_sent, last_sent, none_copied, spot_ages, secure_ages, spot_thins, secure_thins, spot_copied, secure_copied}
 use Rattle.vdcp_late.proofs.ConfirmedReads.{cue_free, idle_keeps, trying_keeps, sounding_keeps, secure_keeps}
 use Rattle.vdcp_late.proofs.Delivering.{at_same, airs_none, none_pushed}
-use Rattle.vdcp_late.proofs.Executed.{Does, Executed}
+use Rattle.vdcp_late.proofs.Executed.{Executed}
 use Rattle.vdcp_late.proofs.Pipes.{climbs_thins, climbs_pushed, climbs_within}
-use Rattle.vdcp_late.proofs.Places.{Answer, pipe_of, plays, misfits, At, Near}
+use Rattle.vdcp_late.proofs.Places.{Answer, pipe_of, plays, misfits, At}
 use Rattle.vdcp_late.proofs.Safety.{near_at, near_of, quiet, quiet_first, no_plays}
-use Rattle.vdcp_late.proofs.Standing.{knows, misleads, misleads_at, Reads}
+use Rattle.vdcp_late.proofs.Standing.{knows, misleads, Reads}
 use Rattle.vdcp_late.proofs.Stretches.{Lies, lies_at, downs_climb, none_within, pipe_delivered, pipe_pushed, pipe_copied}
 use Rattle.vdcp_late.proofs.Thinning.{Thins, none_thins}
 

@@ -1,5 +1,5 @@
 -- The port reads the oldest command on the way down, and its answer joins the queue up: each phase keeps its place.
-use Rattle.std.proofs.Common.{◌≡◌, ℕ, ◌+◌, ◌*◌, ◌<◌, ◌≤◌, ◌⊎◌, inl, inr, Bool, true, false, not, ◌||◌, ◌&&◌, List, [], ◌∷◌, ◌++◌, length, take, get_or, Option, Some, None, refl, arith, sym, ap, subst, ◌∙◌, append-nil}
+use Rattle.std.proofs.Common.{◌≡◌, ℕ, ◌+◌, ◌*◌, ◌<◌, ◌≤◌, ◌⊎◌, inl, inr, Bool, true, false, not, ◌||◌, ◌&&◌, List, [], ◌∷◌, ◌++◌, length, get_or, Some, None, refl, arith, sym, ap, subst, ◌∙◌, append-nil}
 use Rattle.std.proofs.lemmas.Option.{slice_get_cases}
 use Rattle.std.specs.List.{list_any}
 use Rattle.std.specs.Prelude.{slice_get}
@@ -10,12 +10,12 @@ use Rattle.vdcp_auto.specs.Replies.{is_ack, is_refusal, is_done, is_empty}
 use Rattle.vdcp_auto.specs.Commands.{is_presence}
 use Rattle.vdcp_auto.specs.declared.phase.Phase.{Phase}
 use Rattle.vdcp_auto.specs.declared.phase.Phase.TheVariants as phase
-use Rattle.vdcp_auto.specs.declared.phase.Mode.TheVariants.{Plain, Confirming}
-use Rattle.vdcp_late.specs.Pipe.{stretch, Climbs, stretches, IsPipe}
-use Rattle.vdcp_late.proofs.Executed.{Does, Executed, Shows, left_cued, put_on_air}
-use Rattle.vdcp_late.proofs.Places.{Answer, pipe_of, plays, waits, arms, misfits, fits_phase, is_asked, says_ack, says_done, says_empty, shows_no_cue}
-use Rattle.vdcp_late.proofs.Places.{cued_item, HasItem, HasDone, HasNone, At, Cueing, Waiting, ToAir, OnAir, Playing, Checking, Place}
-use Rattle.vdcp_late.proofs.Stretches.{Lies, cue_or_before, wait_or_before, play_or_before, check_or_before, climbs_before, climbs_after, none_within, none_answers}
+use Rattle.vdcp_auto.specs.declared.phase.Mode.TheVariants.{Plain}
+use Rattle.vdcp_late.specs.Pipe.{Climbs, stretches}
+use Rattle.vdcp_late.proofs.Executed.{Does, Executed, Shows}
+use Rattle.vdcp_late.proofs.Places.{Answer, pipe_of, plays, misfits, fits_phase, is_asked, says_ack, says_done, shows_no_cue}
+use Rattle.vdcp_late.proofs.Places.{cued_item, HasItem, HasDone, HasNone, At, Cueing, Waiting}
+use Rattle.vdcp_late.proofs.Stretches.{Lies, cue_or_before, wait_or_before, climbs_before, none_answers}
 use Rattle.vdcp_late.proofs.Thinning.{any_push}
 
 -- ---- what stays

@@ -1,22 +1,22 @@
 -- The port reads the oldest command on the way down in Play, Probe and Check.
-use Rattle.std.proofs.Common.{◌≡◌, ℕ, ◌+◌, ◌*◌, ◌<◌, ◌≤◌, ◌⊎◌, inl, inr, Bool, true, false, not, ◌||◌, ◌&&◌, List, [], ◌∷◌, ◌++◌, length, take, get_or, Option, Some, None, refl, arith, sym, ap, subst, ◌∙◌, append-nil}
+use Rattle.std.proofs.Common.{◌≡◌, ℕ, ◌+◌, ◌*◌, ◌<◌, ◌≤◌, ◌⊎◌, inl, inr, Bool, true, false, ◌||◌, ◌&&◌, List, [], ◌∷◌, ◌++◌, length, take, get_or, Some, None, refl, arith, sym, ap, subst, ◌∙◌}
 use Rattle.std.proofs.lemmas.List.{take_more}
 use Rattle.std.proofs.lemmas.Option.{slice_get_cases}
 use Rattle.std.specs.List.{list_any}
 use Rattle.std.specs.Prelude.{slice_get}
 use Rattle.vdcp_value.specs.declared.part.Item.{Item}
 use Rattle.vdcp_words.specs.declared.reply.Reply.{Reply}
-use Rattle.vdcp_port.specs.Port.{Cued, empty, cueing, done, is_empty as is_empty_slot, is_done as is_done_cue}
+use Rattle.vdcp_port.specs.Port.{Cued, empty, cueing, done, is_done as is_done_cue}
 use Rattle.vdcp_auto.specs.Commands.{is_state}
-use Rattle.vdcp_auto.specs.Replies.{is_ack, is_refusal, is_done, is_empty}
+use Rattle.vdcp_auto.specs.Replies.{is_ack, is_refusal, is_empty}
 use Rattle.vdcp_auto.specs.declared.phase.Phase.{Phase}
 use Rattle.vdcp_auto.specs.declared.phase.Phase.TheVariants as phase
-use Rattle.vdcp_auto.specs.declared.phase.Mode.TheVariants.{Plain, Confirming}
-use Rattle.vdcp_late.specs.Pipe.{stretch, Climbs, stretches, IsPipe}
-use Rattle.vdcp_late.proofs.Delivering.{at_same, aired_same, item_same, done_same, none_same, no_more, pushed, none_pushed, clash, no_item, never_empty, ack_fits}
-use Rattle.vdcp_late.proofs.Executed.{Does, Executed, Shows, left_cued, put_on_air}
-use Rattle.vdcp_late.proofs.Places.{Answer, pipe_of, plays, waits, arms, misfits, fits_phase, is_asked, says_ack, says_done, says_empty, shows_no_cue}
-use Rattle.vdcp_late.proofs.Places.{cued_item, HasItem, HasDone, HasNone, At, Cueing, Waiting, ToAir, OnAir, Playing, Checking, Place}
+use Rattle.vdcp_auto.specs.declared.phase.Mode.TheVariants.{Plain}
+use Rattle.vdcp_late.specs.Pipe.{Climbs, stretches}
+use Rattle.vdcp_late.proofs.Delivering.{at_same, aired_same, item_same, done_same, none_same, no_more, none_pushed, clash, never_empty, ack_fits}
+use Rattle.vdcp_late.proofs.Executed.{Executed, Shows, left_cued, put_on_air}
+use Rattle.vdcp_late.proofs.Places.{Answer, pipe_of, plays, waits, says_ack, says_empty, shows_no_cue}
+use Rattle.vdcp_late.proofs.Places.{cued_item, ToAir, OnAir, Playing, Checking}
 use Rattle.vdcp_late.proofs.Stretches.{Lies, play_or_before, check_or_before, climbs_after, none_within}
 
 -- ---- the event airs

@@ -1,5 +1,5 @@
 -- What the port's table makes a port do for the command that a phase sends.
-use Rattle.std.proofs.Common.{◌≡◌, ℕ, ◌⊎◌, inl, inr, Bool, true, false, not, ◌||◌, ◌&&◌, nat_eq, List, [], ◌∷◌, Option, Some, None, refl, arith, sym, ap, subst, ◌∙◌, if◌then◌else◌}
+use Rattle.std.proofs.Common.{◌≡◌, ℕ, inl, inr, Bool, true, false, ◌&&◌, nat_eq, List, Option, Some, None, refl, arith, sym, ap, subst, ◌∙◌, if◌then◌else◌}
 use Rattle.std.specs.Option.{option_map, option_to_list}
 use Rattle.std.specs.Prelude.{slice_get}
 use Rattle.vdcp_value.specs.declared.clip_id.ClipId.{ClipId}
@@ -11,18 +11,16 @@ use Rattle.vdcp_words.specs.declared.command.Command.TheVariants as command
 use Rattle.vdcp_words.specs.declared.reply.Reply.{Reply}
 use Rattle.vdcp_words.specs.declared.reply.Reply.TheVariants as reply
 use Rattle.vdcp_port.specs.Clips.{is_known, is_playable, whole, part_of}
-use Rattle.vdcp_port.specs.Port.{PortState, Cued, empty, cueing, done, is_selected, is_open, state_byte, state_byte_of, is_empty as is_empty_slot, is_done as is_done_cue}
-use Rattle.vdcp_port.specs.Row.{Row, Change, keeps, opens, closes, selects, cues, airs, stops, row, refused, play_row, state_reply, cue_row, command_row, changed, on_air}
+use Rattle.vdcp_port.specs.Port.{PortState, Cued, empty, cueing, done, is_selected, is_open, state_byte, state_byte_of}
+use Rattle.vdcp_port.specs.Row.{Row, Change, keeps, opens, closes, selects, cues, airs, stops, row, refused, play_row, state_reply, command_row, changed, on_air}
 use Rattle.vdcp_port.specs.declared.access.Access.{Access}
 use Rattle.vdcp_port.specs.Port.{lets_control, opened}
-use Rattle.vdcp_auto.specs.Commands.{cue_of, cue_for, is_presence}
-use Rattle.vdcp_auto.specs.Replies.{is_ack, is_done, is_empty, is_present}
+use Rattle.vdcp_auto.specs.Commands.{cue_of, cue_for}
 use Rattle.vdcp_auto.specs.Table.{command_in}
 use Rattle.vdcp_auto.specs.declared.phase.Phase.{Phase}
 use Rattle.vdcp_auto.specs.declared.phase.Phase.TheVariants as phase
-use Rattle.vdcp_late.proofs.Executed.{Does, Executed, Shows, left_cued, put_on_air}
-use Rattle.vdcp_late.proofs.Places.{cued_item, fits_phase}
-use Rattle.vdcp_late.proofs.Standing.{Reads, knows, differs, misleads_at}
+use Rattle.vdcp_late.proofs.Executed.{Shows, left_cued, put_on_air}
+use Rattle.vdcp_late.proofs.Standing.{Reads, knows, differs}
 
 -- a row of the table does what the phase's command is to do
 abbrev pub RowReads : List Item → List (ClipId × Timecode) → Phase → PortState → Row → Type 0

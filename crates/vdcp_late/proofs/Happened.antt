@@ -1,6 +1,5 @@
 -- Late channels that events have led to, and what they keep of a channel.
 use Rattle.std.proofs.Common.{ℕ, ◌+◌, ◌≡◌, ◌<◌, ◌≤◌, Bool, true, false, All, List, [], ◌∷◌, ◌++◌, length, take, drop, take-append-drop, append_assoc, get_or, refl, sym, ap, subst, arith, ◌∙◌, if◌then◌else◌}
-use Rattle.std.proofs.Math.Seq.{take-length}
 use Rattle.std.proofs.lemmas.List.{take_more}
 use Rattle.std.specs.Prelude.{Option, None, Some, Result, Ok, Err, OnOk, OnErr, bit_and}
 use Rattle.vdcp_value.specs.Parts.{IsItem}
@@ -18,7 +17,7 @@ use Rattle.vdcp_late.specs.Runs.{LateInPart, late_make_of}
 use Rattle.vdcp_late.specs.declared.event.LateEvent.{LateEvent}
 use Rattle.vdcp_late.specs.declared.event.LateEvent.TheVariants as event
 
-after_all : (c : LateChannel) (events more : List LateEvent)
+pub after_all : (c : LateChannel) (events more : List LateEvent)
     → after_late_events c (events ++ more) ≡ after_late_events (after_late_events c events) more
 after_all c [] more = refl
 after_all c (e ∷ events) more = after_all (after_late_event c e) events more

@@ -1,5 +1,5 @@
 -- The headline, from what holds of the clips that went to air, and from the law of the controller.
-use Rattle.std.proofs.Common.{ℕ, zero, suc, ◌+◌, ◌≡◌, ◌<◌, ◌≤◌, ◌⊎◌, inl, inr, Bool, true, false, List, [], ◌∷◌, ◌++◌, length, take, drop, refl, arith, sym, ap, subst, ◌∙◌, take-append-drop, length-append, length-drop, append-nil}
+use Rattle.std.proofs.Common.{ℕ, zero, suc, ◌+◌, ◌≡◌, ◌<◌, ◌≤◌, false, List, [], ◌∷◌, ◌++◌, length, take, drop, refl, arith, sym, ap, subst, ◌∙◌, take-append-drop, length-append, length-drop, append-nil}
 use Rattle.std.proofs.Math.Seq.{take-length}
 use Rattle.std.specs.Prelude.{Option, None, Some, IsTrue, IfSome, IsSomeAnd, slice_get}
 use Rattle.vdcp_value.specs.declared.clip_id.ClipId.{ClipId}

@@ -1,34 +1,31 @@
 -- Where a reply leads the controller, or silence, in plain mode.
-use Rattle.std.proofs.Common.{◌≡◌, ℕ, ◌+◌, ◌*◌, ◌<◌, ◌≤◌, ◌⊎◌, inl, inr, Bool, true, false, not, ◌||◌, ◌&&◌, List, [], ◌∷◌, ◌++◌, length, take, Option, Some, None, refl, arith, sym, ap, subst, ◌∙◌, if◌then◌else◌}
+use Rattle.std.proofs.Common.{◌≡◌, ℕ, ◌+◌, ◌*◌, ◌<◌, ◌≤◌, ◌⊎◌, inl, inr, Bool, true, false, not, ◌||◌, ◌&&◌, List, ◌∷◌, length, take, refl, arith, ap, subst, ◌∙◌, if◌then◌else◌}
 use Rattle.std.specs.List.{list_any}
 use Rattle.std.specs.Prelude.{slice_get, nat_le, nat_lt}
 use Rattle.vdcp_value.specs.declared.clip_id.ClipId.{ClipId}
 use Rattle.vdcp_value.specs.declared.part.Item.{Item}
 use Rattle.vdcp_value.specs.declared.timecode.Timecode.{Timecode}
-use Rattle.vdcp_words.specs.declared.reply.Reply.{Reply}
 use Rattle.vdcp_port.specs.Port.{Cued}
-use Rattle.vdcp_auto.specs.Commands.{is_presence, is_state}
+use Rattle.vdcp_auto.specs.Commands.{is_presence}
 use Rattle.vdcp_auto.specs.Replies.{is_ack, is_refusal, is_granted, is_present, is_done, is_playing, is_empty, is_cueing}
 use Rattle.vdcp_auto.specs.Table.{next, names_other, on_lost_cue, on_reply, on_refusal, on_no_answer}
-use Rattle.vdcp_auto.specs.Turn.{on_answer, on_unanswered, stage_after, settled_after}
+use Rattle.vdcp_auto.specs.Turn.{on_unanswered, stage_after, settled_after}
 use Rattle.vdcp_auto.specs.declared.outcome.Outcome.TheVariants as outcome
-use Rattle.vdcp_auto.specs.declared.phase.Mode.TheVariants.{Plain, Confirming}
+use Rattle.vdcp_auto.specs.declared.phase.Mode.TheVariants.{Plain}
 use Rattle.vdcp_auto.specs.declared.phase.Phase.{Phase}
 use Rattle.vdcp_auto.specs.declared.phase.Phase.TheVariants as phase
-use Rattle.vdcp_auto.specs.State.{Stage}
-use Rattle.vdcp_auto.specs.State.{Ready, Awaiting, Ended}
+use Rattle.vdcp_auto.specs.State.{Ready}
 use Rattle.vdcp_auto.specs.declared.phase.Transition.{Transition}
-use Rattle.vdcp_auto.specs.declared.phase.Transition.TheVariants.{Goes, Settles, Retries, Ends}
+use Rattle.vdcp_auto.specs.declared.phase.Transition.TheVariants.{Goes, Settles, Ends}
 use Rattle.vdcp_late.specs.Pipe.{stretch, Climbs, stretches, IsPipe}
 use Rattle.vdcp_late.proofs.Delivering.{clash}
 use Rattle.vdcp_late.proofs.Passing.{wanted, same_wanted, first_passed, exists_passed, cue_passed, wait_passed, play_passed, probe_passed, check_passed, all_own}
 use Rattle.vdcp_late.proofs.Passing.{exists_no_ack, cue_no_state, cue_shows_none, wait_no_ack, wait_no_empty}
 use Rattle.vdcp_late.proofs.Pipes.{climbs_within}
 use Rattle.vdcp_late.proofs.Places.{Answer, pipe_of, plays, waits, misfits, fits_phase, is_asked, says_ack, says_done, says_empty, shows_no_cue}
-use Rattle.vdcp_late.proofs.Places.{At, HasItem, HasDone, Cueing, Waiting, ToAir, OnAir, Playing, Checking, Safe, Place}
+use Rattle.vdcp_late.proofs.Places.{At, ToAir, OnAir, Place}
 use Rattle.vdcp_late.proofs.Safety.{calm_in, no_plays, quiet}
 use Rattle.vdcp_late.proofs.Standing.{knows, differs, misleads, misleads_at, PlaceAt}
-use Rattle.vdcp_late.proofs.Stretches.{Lies}
 
 -- where a turn leads
 abbrev pub Leads : List Item → List (ClipId × Timecode) → ℕ → Bool → Cued → List Item → List Answer → List Phase

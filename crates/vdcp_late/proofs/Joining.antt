@@ -1,18 +1,15 @@
 -- Each event of a line that holds one burst each way is some events of a line that keeps order.
-use Rattle.std.proofs.Common.{ℕ, ◌≡◌, ◌⊎◌, inl, inr, Bool, true, false, ◌&&◌, ◌||◌, List, [], ◌∷◌, ◌++◌, length, refl, arith, sym, ap, subst, ◌∙◌, ap₂, append-nil, if◌then◌else◌}
+use Rattle.std.proofs.Common.{ℕ, ◌≡◌, ◌⊎◌, inl, inr, Bool, true, false, ◌&&◌, ◌||◌, List, [], ◌∷◌, ◌++◌, refl, arith, sym, ap, subst, ◌∙◌, ap₂, append-nil, if◌then◌else◌}
 use Rattle.std.specs.Prelude.{Option, None, Some, remove}
 use Rattle.vdcp_frame.specs.Burst.{messages_of}
 use Rattle.vdcp_frame.specs.Message.{Content, spelling}
 use Rattle.vdcp_words.specs.Commands.{command_message}
 use Rattle.vdcp_words.specs.declared.command.Command.{Command}
 use Rattle.vdcp_words.specs.declared.command.Command.TheVariants as command
-use Rattle.vdcp_words.specs.declared.reply.Reply.{Reply}
-use Rattle.vdcp_words.specs.declared.reply.Reply.TheVariants as reply
-use Rattle.vdcp_port.specs.Answers.{sent_for, aired_for, after_burst}
+use Rattle.vdcp_port.specs.Answers.{sent_for}
 use Rattle.vdcp_port.specs.Clock.{new_port}
 use Rattle.vdcp_auto.specs.Heard.{heard_in, heard_first, hears_receipt}
-use Rattle.vdcp_auto.specs.Turn.{ticked, given, came_to, ended_by}
-use Rattle.vdcp_auto.specs.Course.{logged}
+use Rattle.vdcp_auto.specs.Turn.{given}
 use Rattle.vdcp_auto.specs.declared.exchange.Heard.{Heard}
 use Rattle.vdcp_auto.specs.declared.exchange.Heard.TheVariants as heard
 use Rattle.vdcp_auto.specs.declared.phase.Mode.{Mode}

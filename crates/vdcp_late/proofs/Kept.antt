@@ -1,25 +1,22 @@
 -- What holds of a late channel over bytes, where a claim holds of what they carry.
-use Rattle.std.proofs.Common.{ℕ, ◌<◌, ◌≤◌, ◌≡◌, ◌≢◌, ◌⊎◌, inl, inr, Bool, true, false, not, ◌&&◌, ◌||◌, List, [], ◌∷◌, ◌++◌, All, refl, arith, sym, ap, subst, ◌∙◌, append-nil, if◌then◌else◌}
-use Rattle.std.specs.Option.{option_map, option_to_list}
-use Rattle.std.specs.Prelude.{Option, None, Some, IfSome, remove}
+use Rattle.std.proofs.Common.{ℕ, ◌<◌, ◌≡◌, ◌≢◌, ◌⊎◌, inl, inr, true, false, List, [], ◌∷◌, ◌++◌, All, refl, arith, sym, ap, subst, ◌∙◌}
+use Rattle.std.specs.Option.{option_to_list}
+use Rattle.std.specs.Prelude.{Option, Some, IfSome}
 use Rattle.vdcp_value.specs.Parts.{IsItem}
 use Rattle.vdcp_value.specs.declared.clip_id.ClipId.{ClipId}
 use Rattle.vdcp_value.specs.declared.timecode.Timecode.{Timecode}
 use Rattle.vdcp_value.specs.declared.part.Item.{Item}
 use Rattle.vdcp_frame.specs.Burst.{messages_of}
-use Rattle.vdcp_frame.specs.Message.{Content, spelling}
 use Rattle.vdcp_words.specs.Commands.{command_message, IsWritableCommand}
 use Rattle.vdcp_words.specs.declared.command.Command.{Command}
-use Rattle.vdcp_words.specs.declared.reply.Reply.{Reply}
 use Rattle.vdcp_words.specs.declared.reply.Reply.TheVariants as reply
 use Rattle.vdcp_port.specs.Answers.{sent_for, aired_for, after_burst}
-use Rattle.vdcp_port.specs.Clock.{ClockedPort, after_change, after_ready, after_ended, after_frame, counted_down, completes_cue, ends_clip}
-use Rattle.vdcp_port.specs.Port.{PortState, is_selected}
+use Rattle.vdcp_port.specs.Clock.{ClockedPort, after_change}
+use Rattle.vdcp_port.specs.Port.{is_selected}
 use Rattle.vdcp_port.specs.Row.{Change, keeps, opens, closes, selects, cues, airs, stops, command_row, changed, on_air}
-use Rattle.vdcp_auto.specs.Heard.{heard_in, heard_first}
+use Rattle.vdcp_auto.specs.Heard.{heard_in}
 use Rattle.vdcp_auto.specs.Plan.{Plan}
 use Rattle.vdcp_auto.specs.Table.{command_in}
-use Rattle.vdcp_auto.specs.Turn.{given, given_in, ticked, tick_in, taken, stopped, came_to, phase_to_send}
 use Rattle.vdcp_auto.specs.declared.exchange.Exchange.{Exchange}
 use Rattle.vdcp_auto.specs.declared.exchange.Heard.{Heard}
 use Rattle.vdcp_auto.specs.declared.exchange.Heard.TheVariants as heard
@@ -27,23 +24,19 @@ use Rattle.vdcp_auto.specs.declared.phase.Mode.{Mode}
 use Rattle.vdcp_auto.specs.declared.phase.Mode.TheVariants.{Plain, Confirming}
 use Rattle.vdcp_auto.specs.declared.phase.Phase.{Phase}
 use Rattle.vdcp_auto.specs.State.{Stage}
-use Rattle.vdcp_auto.specs.State.{Ready, Awaiting, Ended}
+use Rattle.vdcp_auto.specs.State.{Ready}
 use Rattle.vdcp_auto.specs.State.{State}
-use Rattle.vdcp_world.specs.Beginnings.{is_beginning}
-use Rattle.vdcp_late.specs.Damage.{can_become, can_become_up, is_junk_down, is_junk_up, is_no_answer, with_damage, with_junk}
-use Rattle.vdcp_late.specs.LateChannel.{LateChannel, after_late_event, without_oldest, oldest, command_bursts, bursts_of, made_anew}
-use Rattle.vdcp_late.specs.declared.event.LateEvent.{LateEvent}
-use Rattle.vdcp_late.specs.declared.event.LateEvent.TheVariants as event
-use Rattle.vdcp_late.proofs.Beginnings.{is_beginning_of}
+use Rattle.vdcp_late.specs.Damage.{is_no_answer}
+use Rattle.vdcp_late.specs.LateChannel.{LateChannel, bursts_of}
 use Rattle.vdcp_late.proofs.Below.{Below}
-use Rattle.vdcp_late.proofs.Carrying.{Carries, carries_pushed, carries_pushed_junk, carries_same, Left, left_same, left_rest, left_without, carries_junk, Damages, left_damaged}
-use Rattle.vdcp_late.proofs.Closing.{Ages, ready_ages, same_ages, anew_ages}
+use Rattle.vdcp_late.proofs.Carrying.{Carries, carries_pushed, carries_pushed_junk, carries_same, Left}
+use Rattle.vdcp_late.proofs.Closing.{Ages}
 use Rattle.vdcp_late.proofs.Claims.{Claim, Closed}
 use Rattle.vdcp_late.proofs.Delivering.{aired_same}
 use Rattle.vdcp_late.proofs.Executing.{reads}
 use Rattle.vdcp_late.proofs.Places.{Answer}
-use Rattle.vdcp_late.proofs.Reading.{ReadsNothing, ReadsCommand, reads_nothing, reads_command}
-use Rattle.vdcp_late.proofs.Thinning.{Thins, all_left, but_first}
+use Rattle.vdcp_late.proofs.Reading.{ReadsNothing, ReadsCommand}
+use Rattle.vdcp_late.proofs.Thinning.{all_left}
 
 -- ---- what bursts carry
 

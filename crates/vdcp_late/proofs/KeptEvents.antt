@@ -1,22 +1,18 @@
 -- Every event keeps what holds of a late channel, where the claim is closed.
-use Rattle.std.proofs.Common.{ℕ, ◌<◌, ◌≤◌, ◌≡◌, ◌≢◌, ◌⊎◌, inl, inr, Bool, true, false, not, ◌&&◌, ◌||◌, List, [], ◌∷◌, ◌++◌, All, refl, arith, sym, ap, subst, ◌∙◌, append-nil, if◌then◌else◌}
-use Rattle.std.specs.Option.{option_map, option_to_list}
-use Rattle.std.specs.Prelude.{Option, None, Some, IfSome, remove}
-use Rattle.vdcp_value.specs.declared.clip_id.ClipId.{ClipId}
-use Rattle.vdcp_value.specs.declared.timecode.Timecode.{Timecode}
+use Rattle.std.proofs.Common.{ℕ, ◌≡◌, ◌⊎◌, inl, inr, Bool, true, false, ◌||◌, List, [], ◌∷◌, ◌++◌, refl, arith, sym, ap, subst, ◌∙◌, if◌then◌else◌}
+use Rattle.std.specs.Prelude.{Option, None, Some, remove}
 use Rattle.vdcp_value.specs.declared.part.Item.{Item}
 use Rattle.vdcp_frame.specs.Burst.{messages_of}
 use Rattle.vdcp_frame.specs.Message.{Content, spelling}
-use Rattle.vdcp_words.specs.Commands.{command_message, IsWritableCommand}
+use Rattle.vdcp_words.specs.Commands.{command_message}
 use Rattle.vdcp_words.specs.declared.command.Command.{Command}
 use Rattle.vdcp_words.specs.declared.reply.Reply.{Reply}
 use Rattle.vdcp_words.specs.declared.reply.Reply.TheVariants.{Ack, Nak}
 use Rattle.vdcp_port.specs.Answers.{sent_for, aired_for, after_burst}
 use Rattle.vdcp_port.specs.Clock.{ClockedPort, after_ready, after_ended, after_frame, counted_down, completes_cue, ends_clip}
-use Rattle.vdcp_port.specs.Port.{PortState, Cued, is_selected, ready_state, ended_state}
+use Rattle.vdcp_port.specs.Port.{is_selected}
 use Rattle.vdcp_auto.specs.Heard.{heard_in, heard_first}
 use Rattle.vdcp_auto.specs.Replies.{is_receipt}
-use Rattle.vdcp_auto.specs.Plan.{Plan}
 use Rattle.vdcp_auto.specs.Table.{command_in}
 use Rattle.vdcp_auto.specs.Turn.{given, given_in, ticked, tick_in, taken, stopped, came_to, phase_to_send}
 use Rattle.vdcp_auto.specs.declared.exchange.Exchange.{Exchange}
@@ -28,7 +24,6 @@ use Rattle.vdcp_auto.specs.declared.phase.Phase.{Phase}
 use Rattle.vdcp_auto.specs.State.{Stage}
 use Rattle.vdcp_auto.specs.State.{Ready, Awaiting, Ended}
 use Rattle.vdcp_auto.specs.State.{State}
-use Rattle.vdcp_world.specs.Beginnings.{is_beginning}
 use Rattle.vdcp_world.specs.Channel.{state_hearing, log_hearing, state_straying}
 use Rattle.vdcp_late.specs.Damage.{can_become, can_become_up, is_junk_down, is_junk_up, is_no_answer}
 use Rattle.vdcp_late.specs.LateChannel.{LateChannel, after_late_event, without_oldest, oldest, command_bursts, bursts_of, made_anew}
@@ -36,14 +31,14 @@ use Rattle.vdcp_late.specs.declared.event.LateEvent.{LateEvent}
 use Rattle.vdcp_late.specs.declared.event.LateEvent.TheVariants as event
 use Rattle.vdcp_late.proofs.Beginnings.{is_beginning_of}
 use Rattle.vdcp_late.proofs.Below.{Below}
-use Rattle.vdcp_late.proofs.Carrying.{Carries, carries_pushed, carries_same, Left, left_same, left_rest, left_without, carries_junk, Damages, left_damaged}
+use Rattle.vdcp_late.proofs.Carrying.{carries_pushed, carries_same, Left, left_same, left_rest, left_without, carries_junk, Damages, left_damaged}
 use Rattle.vdcp_late.proofs.Closing.{Ages, ready_ages, same_ages, anew_ages}
 use Rattle.vdcp_late.proofs.Claims.{Claim, Closed, Comes}
 use Rattle.vdcp_late.proofs.Kept.{IsJunkDown, IsCommand, IsJunkUp, IsAnswer, DownCarries, UpCarries, StandsAt, IsKept, writable}
 use Rattle.vdcp_late.proofs.Kept.{Delivered, delivered_nothing, delivered_command, with_state, with_port, with_down, with_up, with_delivery}
 use Rattle.vdcp_late.proofs.Places.{Answer}
 use Rattle.vdcp_late.proofs.Reading.{ReadsCommand, reads_nothing, reads_command}
-use Rattle.vdcp_late.proofs.Thinning.{Thins, all_left, but_first}
+use Rattle.vdcp_late.proofs.Thinning.{Thins, all_left}
 
 -- ---- a tick
 

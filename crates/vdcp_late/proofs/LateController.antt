@@ -1,5 +1,5 @@
 -- The controller of a late channel has had calls alone, and its log is of the exchanges that these ended.
-use Rattle.std.proofs.Common.{◌≡◌, List, [], ◌∷◌, sym, subst}
+use Rattle.std.proofs.Common.{List, [], ◌∷◌, sym, subst}
 use Rattle.std.specs.Prelude.{Option, None, Some}
 use Rattle.vdcp_auto.specs.Course as call
 use Rattle.vdcp_auto.specs.Course.{Reached, begun, called, Receive}

@@ -1,5 +1,5 @@
 -- What went to air in every late channel that events have led to, in either mode.
-use Rattle.std.proofs.Common.{◌≡◌, refl, sym, subst}
+use Rattle.std.proofs.Common.{◌≡◌, refl}
 use Rattle.vdcp_auto.specs.declared.phase.Mode.{Mode}
 use Rattle.vdcp_auto.specs.declared.phase.Mode.TheVariants.{Plain, Confirming}
 use Rattle.vdcp_late.specs.LateChannel.{LateChannel, CanStart, IsLateReached}

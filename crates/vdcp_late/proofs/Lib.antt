@@ -32,3 +32,4 @@ pub mod LateController
 mod Premises
 pub mod Joining
 pub mod Happened
+pub mod GoingOn

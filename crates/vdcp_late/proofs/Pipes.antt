@@ -1,5 +1,5 @@
 -- Numbers that climb stay so where some are left out, one is copied in its place, and the first ones are taken.
-use Rattle.std.proofs.Common.{ℕ, ◌≡◌, ◌≤◌, ◌⊎◌, inl, inr, List, [], ◌∷◌, ◌++◌, refl, arith, sym, ap, subst}
+use Rattle.std.proofs.Common.{ℕ, ◌≤◌, inl, inr, List, [], ◌∷◌, ◌++◌, arith, sym, subst}
 use Rattle.vdcp_late.specs.Pipe.{Climbs}
 use Rattle.vdcp_late.proofs.Thinning.{Thins}
 

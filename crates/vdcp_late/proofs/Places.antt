@@ -4,7 +4,7 @@ use Rattle.std.specs.List.{list_any}
 use Rattle.std.specs.Prelude.{slice_get}
 use Rattle.vdcp_value.specs.declared.part.Item.{Item}
 use Rattle.vdcp_words.specs.declared.reply.Reply.{Reply}
-use Rattle.vdcp_port.specs.Port.{Cued, empty, cueing, done, is_empty as is_empty_slot, is_done as is_done_cue}
+use Rattle.vdcp_port.specs.Port.{Cued, empty, cueing, done, is_done as is_done_cue}
 use Rattle.vdcp_auto.specs.Commands.{is_opened, is_state, is_active, is_presence}
 use Rattle.vdcp_auto.specs.Replies.{is_ack, is_refusal, is_done, is_empty}
 use Rattle.vdcp_auto.specs.declared.phase.Phase.{Phase}

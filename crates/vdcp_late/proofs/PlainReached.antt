@@ -1,5 +1,5 @@
 -- Late channels in plain mode that events have led to.
-use Rattle.std.proofs.Common.{ℕ, ◌<◌, ◌≤◌, ◌≡◌, Bool, List, [], ◌∷◌, All, take, refl, arith, sym, ap, subst}
+use Rattle.std.proofs.Common.{ℕ, ◌<◌, ◌≤◌, ◌≡◌, Bool, List, [], ◌∷◌, All, take, refl, arith, sym, subst}
 use Rattle.std.specs.Prelude.{Option}
 use Rattle.vdcp_value.specs.Parts.{IsItem}
 use Rattle.vdcp_value.specs.declared.clip_id.ClipId.{ClipId}
@@ -23,7 +23,7 @@ use Rattle.vdcp_late.specs.declared.event.LateEvent.{LateEvent}
 use Rattle.vdcp_late.proofs.Below.{Below}
 use Rattle.vdcp_late.proofs.Claims.{Closed, Comes}
 use Rattle.vdcp_late.proofs.Coming.{came_stands}
-use Rattle.vdcp_late.proofs.HeadlineProof.{EndHolds, EndHoldsAt, Airs}
+use Rattle.vdcp_late.proofs.HeadlineProof.{EndHolds, Airs}
 use Rattle.vdcp_late.proofs.Kept.{IsKept}
 use Rattle.vdcp_late.proofs.KeptEvents.{kept_event}
 use Rattle.vdcp_late.proofs.Places.{Answer, Near}

@@ -1,20 +1,19 @@
 -- In the halt and after an end: what is still on the way airs at most one event more, and that in order.
-use Rattle.std.proofs.Common.{◌≡◌, ℕ, ◌+◌, ◌*◌, ◌<◌, ◌≤◌, ◌⊎◌, inl, inr, Bool, true, false, not, ◌||◌, ◌&&◌, List, [], ◌∷◌, ◌++◌, length, take, Option, Some, None, refl, arith, sym, ap, subst, ◌∙◌, length-take}
+use Rattle.std.proofs.Common.{◌≡◌, ℕ, ◌+◌, ◌*◌, ◌≤◌, ◌⊎◌, inl, inr, Bool, true, false, ◌||◌, List, [], ◌∷◌, ◌++◌, length, take, refl, arith, sym, ap, subst, ◌∙◌, length-take}
 use Rattle.std.specs.List.{list_any}
-use Rattle.std.specs.Prelude.{slice_get}
 use Rattle.vdcp_value.specs.declared.part.Item.{Item}
 use Rattle.vdcp_words.specs.declared.reply.Reply.{Reply}
-use Rattle.vdcp_port.specs.Port.{Cued, empty, cueing, done, is_done as is_done_cue}
+use Rattle.vdcp_port.specs.Port.{Cued, empty, cueing, done}
 use Rattle.vdcp_auto.specs.Replies.{is_ack}
 use Rattle.vdcp_auto.specs.declared.phase.Phase.{Phase}
 use Rattle.vdcp_auto.specs.declared.phase.Phase.TheVariants as phase
 use Rattle.vdcp_auto.specs.declared.phase.Mode.{Mode}
-use Rattle.vdcp_auto.specs.declared.phase.Mode.TheVariants.{Plain, Confirming}
-use Rattle.vdcp_late.specs.Pipe.{stretch, Climbs, stretches, IsPipe}
+use Rattle.vdcp_auto.specs.declared.phase.Mode.TheVariants.{Plain}
+use Rattle.vdcp_late.specs.Pipe.{Climbs, stretches, IsPipe}
 use Rattle.vdcp_late.proofs.Delivering.{aired_same, item_same, none_same, no_more, airs_none}
 use Rattle.vdcp_late.proofs.DeliveringPlay.{airs_item, airs_nothing}
 use Rattle.vdcp_late.proofs.Executed.{Does, Executed, left_cued, put_on_air}
-use Rattle.vdcp_late.proofs.Places.{Answer, pipe_of, plays, arms, cued_item, HasItem, HasDone, HasNone, At, Cueing, Waiting, ToAir, OnAir, Playing, Checking}
+use Rattle.vdcp_late.proofs.Places.{Answer, pipe_of, plays, arms, HasItem, At, ToAir, OnAir, Playing}
 use Rattle.vdcp_late.proofs.Places.{Near, LastCue, Unarmed, Safe, Place}
 use Rattle.vdcp_late.proofs.Stretches.{Lies, downs_climb, none_within}
 

@@ -1,7 +1,7 @@
 -- What holds of a late channel in plain mode, said of the phases that sent what is on the way; and that it stays so
 -- while the
 -- controller hears nothing.
-use Rattle.std.proofs.Common.{◌≡◌, ℕ, ◌+◌, ◌*◌, ◌<◌, ◌≤◌, ◌⊎◌, inl, inr, Bool, true, false, not, ◌||◌, ◌&&◌, List, [], ◌∷◌, ◌++◌, length, take, Option, Some, None, refl, arith, sym, ap, subst, ◌∙◌, if◌then◌else◌}
+use Rattle.std.proofs.Common.{◌≡◌, ℕ, ◌+◌, ◌*◌, ◌<◌, ◌≤◌, ◌⊎◌, inl, inr, Bool, true, false, not, ◌||◌, ◌&&◌, List, [], ◌∷◌, ◌++◌, length, Option, Some, None, refl, arith, sym, ap, subst, ◌∙◌}
 use Rattle.std.specs.List.{list_any}
 use Rattle.std.specs.Prelude.{slice_get}
 use Rattle.vdcp_value.specs.declared.clip_id.ClipId.{ClipId}
@@ -15,7 +15,7 @@ use Rattle.vdcp_auto.specs.Replies.{is_present}
 use Rattle.vdcp_auto.specs.Turn.{phase_to_send}
 use Rattle.vdcp_auto.specs.declared.outcome.Outcome.{Outcome}
 use Rattle.vdcp_auto.specs.declared.outcome.Outcome.TheVariants as outcome
-use Rattle.vdcp_auto.specs.declared.phase.Mode.TheVariants.{Plain, Confirming}
+use Rattle.vdcp_auto.specs.declared.phase.Mode.TheVariants.{Plain}
 use Rattle.vdcp_auto.specs.declared.phase.Phase.{Phase}
 use Rattle.vdcp_auto.specs.declared.phase.Phase.TheVariants as phase
 use Rattle.vdcp_auto.specs.State.{Stage}
@@ -24,12 +24,12 @@ use Rattle.vdcp_late.specs.Pipe.{stretch, Climbs, stretches, IsPipe}
 use Rattle.vdcp_late.proofs.Closing.{Ages, place_thins, place_ages, safe_thins, safe_ages, pipe_thins}
 use Rattle.vdcp_late.proofs.Delivering.{at_same, airs_none, none_pushed, cueing_keeps, waiting_keeps}
 use Rattle.vdcp_late.proofs.DeliveringPlay.{playing_keeps, checking_keeps}
-use Rattle.vdcp_late.proofs.Executed.{Does, Executed}
+use Rattle.vdcp_late.proofs.Executed.{Executed}
 use Rattle.vdcp_late.proofs.Pipes.{climbs_thins, climbs_pushed}
-use Rattle.vdcp_late.proofs.Places.{Answer, pipe_of, plays, waits, arms, misfits, fits_phase, says_ack, says_done, says_empty, shows_no_cue}
-use Rattle.vdcp_late.proofs.Places.{At, Cueing, Waiting, ToAir, OnAir, Playing, Checking, Near, Unarmed, Safe, Place}
-use Rattle.vdcp_late.proofs.Safety.{near_at, near_same, safe_keeps, calm_in, quiet, quiet_first}
-use Rattle.vdcp_late.proofs.Stretches.{Lies, lies_at, pipe_delivered, pipe_pushed, pipe_copied}
+use Rattle.vdcp_late.proofs.Places.{Answer, pipe_of, plays, waits, arms, misfits}
+use Rattle.vdcp_late.proofs.Places.{At, ToAir, OnAir, Playing, Unarmed, Safe, Place}
+use Rattle.vdcp_late.proofs.Safety.{safe_keeps, calm_in, quiet, quiet_first}
+use Rattle.vdcp_late.proofs.Stretches.{lies_at, pipe_delivered, pipe_pushed, pipe_copied}
 use Rattle.vdcp_late.proofs.Thinning.{Thins, none_thins, any_push}
 
 -- the item's clip is in the catalogue

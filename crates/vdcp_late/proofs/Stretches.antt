@@ -1,12 +1,12 @@
 -- Which phases are in the stretches that a pipe can have.
-use Rattle.std.proofs.Common.{◌≡◌, ℕ, ◌+◌, ◌-◌, ◌*◌, ◌<◌, ◌≤◌, ◌⊎◌, inl, inr, Bool, true, false, ◌||◌, List, [], ◌∷◌, ◌++◌, length, refl, arith, sym, ap, subst}
+use Rattle.std.proofs.Common.{◌≡◌, ℕ, ◌+◌, ◌*◌, ◌<◌, ◌≤◌, ◌⊎◌, inl, inr, Bool, true, false, ◌||◌, List, [], ◌∷◌, ◌++◌, refl, arith, ap}
 use Rattle.std.specs.List.{list_any}
 use Rattle.vdcp_auto.specs.declared.phase.Mode.{Mode}
 use Rattle.vdcp_auto.specs.declared.phase.Mode.TheVariants.{Plain, Confirming}
 use Rattle.vdcp_auto.specs.declared.phase.Phase.{Phase}
 use Rattle.vdcp_auto.specs.declared.phase.Phase.TheVariants as phase
-use Rattle.vdcp_late.specs.Pipe.{stretch, oldest_stretch, Climbs, stretches, IsPipe}
-use Rattle.vdcp_late.proofs.Places.{Answer, pipe_of, plays, waits, arms, misfits}
+use Rattle.vdcp_late.specs.Pipe.{stretch, Climbs, stretches}
+use Rattle.vdcp_late.proofs.Places.{Answer, pipe_of}
 use Rattle.vdcp_late.proofs.Pipes.{climbs_within}
 
 -- a phase's stretch lies between these

@@ -1,5 +1,5 @@
 -- What a line may make of a burst, and what else may come into its queues.
-use Rattle.std.specs.Prelude.{ℕ, Bool, true, false, not, ◌||◌, ◌&&◌, List, insert, remove, Option, None, Some, slice_get, [], if◌then◌else◌}
+use Rattle.std.specs.Prelude.{ℕ, Bool, true, not, ◌||◌, ◌&&◌, List, insert, remove, Option, None, Some, slice_get, [], if◌then◌else◌}
 use Rattle.vdcp_frame.specs.Burst.{messages_of}
 use Rattle.vdcp_words.specs.declared.reply.Reply.{Reply}
 use Rattle.vdcp_auto.specs.Heard.{heard_in}

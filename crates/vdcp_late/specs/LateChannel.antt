@@ -1,10 +1,8 @@
 -- A late channel: a controller and a port, with a line between them that keeps order, and what each event does
 -- to it. Each way the line is a queue of bursts, of any length, so an answer may come however late.
 use Rattle.std.specs.Option.{option_map, option_to_list}
-use Rattle.std.specs.Prelude.{ℕ, ◌≡◌, ◌≤◌, ◌<◌, Bool, false, List, [], ◌∷◌, ◌++◌, All, remove, Option, None, Some}
-use Rattle.vdcp_value.specs.declared.clip_id.ClipId.{ClipId}
+use Rattle.std.specs.Prelude.{ℕ, ◌≡◌, ◌≤◌, ◌<◌, List, [], ◌∷◌, ◌++◌, All, remove, Option, None}
 use Rattle.vdcp_value.specs.declared.part.Item.{Item}
-use Rattle.vdcp_value.specs.declared.timecode.Timecode.{Timecode}
 use Rattle.vdcp_value.specs.Parts.{IsItem}
 use Rattle.vdcp_frame.specs.Message.{spelling}
 use Rattle.vdcp_words.specs.Commands.{command_message}
@@ -18,7 +16,6 @@ use Rattle.vdcp_auto.specs.Heard.{heard_in}
 use Rattle.vdcp_auto.specs.Plan.{Plan}
 use Rattle.vdcp_auto.specs.Turn.{start, ticked, given, came_to, ended_by, taken, stopped, forgotten}
 use Rattle.vdcp_auto.specs.declared.exchange.Exchange.{Exchange}
-use Rattle.vdcp_auto.specs.declared.exchange.Heard.{Heard}
 use Rattle.vdcp_auto.specs.declared.phase.Mode.{Mode}
 use Rattle.vdcp_auto.specs.declared.phase.Mode.TheVariants.{Plain, Confirming}
 use Rattle.vdcp_auto.specs.State.{State}

@@ -1,6 +1,6 @@
 -- The headline of a line that keeps order: what holds of every channel that events have led to, however late the
 -- answers came, and whichever end was started anew.
-use Rattle.std.specs.Prelude.{ℕ, ◌+◌, ◌≡◌, ◌≤◌, Bool, true, false, IfSome, IsSomeAnd, List, ◌++◌, length, take, slice_get}
+use Rattle.std.specs.Prelude.{ℕ, ◌≡◌, ◌≤◌, Bool, true, false, IfSome, List, ◌++◌, length, take}
 use Rattle.vdcp_value.specs.declared.clip_id.ClipId.{ClipId}
 use Rattle.vdcp_value.specs.declared.part.Item.{Item}
 use Rattle.vdcp_value.specs.declared.timecode.Timecode.{Timecode}

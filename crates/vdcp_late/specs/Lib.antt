@@ -4,5 +4,6 @@ pub mod LateChannel
 pub mod Pipe
 pub mod LateHeadline
 pub mod Runs
+pub mod GoingOn
 pub mod Joined
 pub mod LateScript

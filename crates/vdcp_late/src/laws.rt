@@ -1,6 +1,7 @@
 //! The laws of the definitions that the contracts of this crate cite. The functions do nothing: their contracts are the
 //! laws, and a caller whose proof needs one calls it.
-ghost use Rattle.std.specs.Prelude.{◌≡◌, List};
+ghost use Rattle.std.specs.Prelude.{◌≡◌, All, List};
+ghost use Rattle.vdcp_late.specs.GoingOn.{IsNoTick, gone_on};
 ghost use Rattle.vdcp_late.specs.Joined.{late_of};
 ghost use Rattle.vdcp_late.specs.LateChannel.{LateChannel, IsLateReached, after_late_events};
 ghost use Rattle.vdcp_late.specs.LateHeadline.{LateHeadline};
@@ -45,4 +46,16 @@ pub fn a_line_of_one_burst_keeps_order()
     ensures event { (c : Channel) (e : Event) →
         (events : List LateEvent) × (after_late_events (late_of c) events ≡ late_of (after_event c e)) }
     ensures reached { (c : Channel) → IsReached c → IsLateReached (late_of c) }
+{}
+
+/// An automation that is killed and goes on from what was kept of it has done nothing that the line couldn't have done.
+/// Whatever happened since the last of what is kept, if no command was given out: with the controller as it was then,
+/// its exchange timed out, and all else as it is now, the channel is one that events lead to. What the automation
+/// heard since was lost on its way, and then a time-out came.
+pub fn a_killed_automation_goes_on()
+    ensures reached { (c : LateChannel) (events : List LateEvent) → IsLateReached c → All IsNoTick events →
+        IsLateReached (gone_on c (after_late_events c events)) }
+    // and each event that happens then leads on
+    ensures event { (c : LateChannel) (events : List LateEvent) → IsLateReached c →
+        IsLateReached (after_late_events c events) }
 {}

@@ -25,6 +25,3 @@ mod world;
 
 pub use event::LateEvent;
 pub use world::LateWorld;
-
-#[cfg(test)]
-mod tests;

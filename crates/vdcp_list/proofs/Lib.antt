@@ -13,6 +13,7 @@ mod SlotClips
 mod CatalogueSteps
 mod SomeCatalogue
 mod Events
+mod Timings
 mod Written
 mod Writable
 mod OneReading

@@ -7,3 +7,4 @@ pub mod Places
 pub mod Playlists
 pub mod Reading
 pub mod Rows
+pub mod Timed

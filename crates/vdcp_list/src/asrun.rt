@@ -47,7 +47,7 @@ pub fn write_asrun<S: Source, W: Write, A: Allocator>(
 }
 
 /// Writes a text and flushes the writer.
-fn write_out<W: Write>(writer: &mut W, text: &[u8]) -> Result<(), WriteFault>
+pub(crate) fn write_out<W: Write>(writer: &mut W, text: &[u8]) -> Result<(), WriteFault>
     ensures ok { OnOk result (Appends (W.contents writer.old) (W.contents writer.new) text.now) }
     ensures device { IfErr result (λ fault. fault ≡ Device) }
     ensures beginning { OnErr result (AppendsBeginning (W.contents writer.old) (W.contents writer.new) text.now) }
@@ -82,7 +82,11 @@ fn write_text<W: Write>(writer: &mut W, text: &[u8]) -> Result<(), WriteFault>
 
 /// Refuses the first of these events whose part isn't lawful at the rate, and tells whether one of them
 /// has a part.
-fn check_parts<S: Source>(source: &S, rate: Rate, reported: usize) -> Result<bool, WriteFault>
+pub(crate) fn check_parts<S: Source>(
+    source: &S,
+    rate: Rate,
+    reported: usize,
+) -> Result<bool, WriteFault>
     requires { reported ≤ length (S.items source.now) }
     ensures parts { IfOk result (λ with_parts. with_parts ≡ has_part (take reported (S.items source.now))) }
     ensures lawful { OnOk result (IsTrue (are_lawful rate (take reported (S.items source.now)))) }
@@ -101,7 +105,7 @@ fn check_parts<S: Source>(source: &S, rate: Rate, reported: usize) -> Result<boo
 }
 
 /// Whether an event has a part, where `among` says so of those before this one.
-fn has_part<S: Source>(source: &S, from: usize, among: bool) -> bool
+pub(crate) fn has_part<S: Source>(source: &S, from: usize, among: bool) -> bool
     requires within { from ≤ length (S.items source.now) }
     requires among { among ≡ has_part (take from (S.items source.now)) }
     ensures { result ≡ has_part (S.items source.now) }
@@ -166,7 +170,10 @@ fn asrun_text<'a, S: Source, A: Allocator>(
 }
 
 /// Writes a number in decimal in place of the text.
-fn show_number<A: Allocator>(number: usize, text: &mut String<A>) -> Result<(), AllocError>
+pub(crate) fn show_number<A: Allocator>(
+    number: usize,
+    text: &mut String<A>,
+) -> Result<(), AllocError>
     ensures { OnOk result (string_bytes text.new ≡ decimal number) }
 {
     text.clear();
@@ -208,7 +215,7 @@ fn write_event<W: Write + Drop>(
 }
 
 /// Writes the fields of a lawful part in place of the buffers' texts.
-fn show_part(
+pub(crate) fn show_part(
     rate: Rate,
     part: Option<Part>,
     start: &mut ArrayString<11>,

@@ -4,7 +4,8 @@
 //! the reader. The `List` that comes of a playlist is the controller's source, and the `Table` that
 //! comes of a catalogue is the port's catalogue; `Slots` is a catalogue of fixed room, which takes no
 //! memory. `write_asrun` writes which events of a source were reported as aired to a writer that it is
-//! lent. `rows_in` and `next_row` read the rows of any other file of this kind, one after another.
+//! lent, and `write_timed` adds when each of them aired. `rows_in` and `next_row` read the rows of any other file of
+//! this kind, one after another.
 #![tactic(auto)]
 
 mod asrun;
@@ -17,6 +18,7 @@ mod playlist;
 mod rows;
 mod slots;
 mod table;
+mod timed;
 
 pub use asrun::write_asrun;
 pub use catalogue::read_catalogue;
@@ -26,8 +28,4 @@ pub use playlist::read_list;
 pub use rows::{MAX_ROWS, next_row, rows_in};
 pub use slots::Slots;
 pub use table::Table;
-
-#[cfg(test)]
-mod fault_tests;
-#[cfg(test)]
-mod tests;
+pub use timed::{Timed, write_timed};

@@ -9,8 +9,10 @@ use crate::number::{
 };
 use crate::rate::rate_of;
 use clap::ArgMatches;
+use vdcp_capture::JudgeSettings;
 use vdcp_lossy::{Chances, LossySettings};
 use vdcp_net::{Hearing, Pace, RunJournal, RunSettings, ServeSettings};
+use vdcp_record::AsrunSettings;
 use vdcp_sim::SimSettings;
 
 // Whether the flag of this name is there.
@@ -156,6 +158,21 @@ fn hearing_of(matches: &ArgMatches) -> Hearing
     }
 }
 
+/// What the options say of an as-run list that a journal shows.
+pub fn asrun_settings_of(matches: &ArgMatches) -> AsrunSettings
+    ensures rates { (rate : Rate) → GivesRate (found_of matches.now) (codes "rate") rate → result.rate ≡ rate }
+    ensures times { HasFlag (found_of matches.now) (codes "times") true → result.times ≡ true }
+    ensures times_not { HasFlag (found_of matches.now) (codes "times") false → result.times ≡ false }
+    ensures opens { HasFlag (found_of matches.now) (codes "open") true → result.may_have_aired ≡ true }
+    ensures opens_not { HasFlag (found_of matches.now) (codes "open") false → result.may_have_aired ≡ false }
+{
+    AsrunSettings {
+        rate: rate_of(matches),
+        times: flag_of(matches, "times"),
+        may_have_aired: flag_of(matches, "open"),
+    }
+}
+
 // Of 100 bursts, how many are lost, copied, cut, damaged or forged.
 fn chances_of(matches: &ArgMatches) -> Chances
     ensures lose { result.lose ≤ 100 }
@@ -206,5 +223,22 @@ pub fn lossy_settings_of(matches: &ArgMatches) -> LossySettings
         silence: number_of(matches, &LOSSY_SILENCE),
         within: number_of(matches, &WITHIN),
         turns: turns_of(matches),
+    }
+}
+
+/// What the options say of a capture.
+pub fn judge_settings_of(matches: &ArgMatches) -> JudgeSettings
+    ensures units { (n : ℕ) → GivesNumber (found_of matches.now) (codes "unit") 0 15 n → result.unit ≡ n }
+    ensures rates { (rate : Rate) → GivesRate (found_of matches.now) (codes "rate") rate → result.rate ≡ rate }
+    ensures confirms { HasFlag (found_of matches.now) (codes "confirm") true → result.confirming ≡ true }
+    ensures confirms_not { HasFlag (found_of matches.now) (codes "confirm") false → result.confirming ≡ false }
+    ensures servers { HasFlag (found_of matches.now) (codes "server") true → result.of_server ≡ true }
+    ensures servers_not { HasFlag (found_of matches.now) (codes "server") false → result.of_server ≡ false }
+{
+    JudgeSettings {
+        unit: unit_of(matches),
+        rate: rate_of(matches),
+        confirming: flag_of(matches, "confirm"),
+        of_server: flag_of(matches, "server"),
     }
 }

@@ -32,6 +32,3 @@ mod sink;
 pub use burst::reply_at_end;
 pub use catalogue::Catalogue;
 pub use port::Port;
-
-#[cfg(test)]
-mod tests;

@@ -3,7 +3,7 @@
 //! `begin_journal` makes a journal's file and gives a `Recorder`, which keeps each command there before it goes out:
 //! `AutoDriver::run_kept` is lent it, and `finish` writes what is left. `resume_journal` makes the controller of a
 //! journal anew, and a `Recorder` that appends to it; `replay` does so with a journal's bytes alone. `do_asrun` prints
-//! the as-run list that a journal shows. Each failure is told in one line.
+//! the as-run list that a journal shows, as its `AsrunSettings` say. Each failure is told in one line.
 //!
 //! Files: `file` (a file whose bytes are safe once it says so; it is made, opened and locked), `pending` and `recorder`
 //! (what is still to be written; the rows), `begin`, `reading` (a journal's bytes against what is wanted), `resume`,
@@ -18,13 +18,10 @@ mod reading;
 mod recorder;
 mod resume;
 
-pub use asrun::do_asrun;
+pub use asrun::{AsrunSettings, do_asrun};
 pub use begin::begin_journal;
 pub use file::{AppendFault, JournalFile};
 pub use pending::RecordFault;
 pub use reading::{Replayed, replay};
 pub use recorder::Recorder;
 pub use resume::{Resumption, resume_journal};
-
-#[cfg(test)]
-mod tests;

@@ -44,6 +44,3 @@ impl fmt::Display for ExchangeText {
         write!(f, "{command} -> {heard}")
     }
 }
-
-#[cfg(test)]
-mod tests;

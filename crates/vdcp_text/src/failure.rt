@@ -264,6 +264,3 @@ impl fmt::Display for JournalFault {
         }
     }
 }
-
-#[cfg(test)]
-mod tests;

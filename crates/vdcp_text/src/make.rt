@@ -173,6 +173,3 @@ fn id_of(text: &str) -> Result<ClipId, Failure<'static>>
         Err(_) => Err(Failure::Arguments),
     }
 }
-
-#[cfg(test)]
-mod tests;

@@ -113,6 +113,3 @@ fn write_end<W: io::Write>(out: &mut W, end: End) -> io::Result<()>
     writeln!(out, "{end}")?;
     out.flush()
 }
-
-#[cfg(test)]
-mod tests;

@@ -28,6 +28,3 @@ pub use event::Event;
 pub use heard::first_of;
 pub use script::{ScriptEvent, ScriptFault, ScriptLine, read_script};
 pub use world::World;
-
-#[cfg(test)]
-mod tests;

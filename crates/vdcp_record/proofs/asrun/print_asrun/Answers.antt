@@ -1,6 +1,6 @@
 use Rattle.std.proofs.Common.{ap, subst, ◌∙◌, ◌++◌}
 use Rattle.std.proofs.lemmas.Option.{IfSome_then}
-use Rattle.std.proofs.lemmas.Result.{on_ok_weaker}
+use Rattle.std.proofs.lemmas.Result.{IfOk-weaker}
 use Rattle.std.specs.Prelude.{IfSome}
 use Rattle.vdcp_journal.specs.Journals.{IsJournal}
 use Rattle.vdcp_list.specs.List.{items_of}
@@ -13,7 +13,7 @@ returns-clause-shown g c =
     subst (λ read. IsJournal read c.in_ok-journal.journal)
     (c.as_slice.ensures.value ∙ more ∙ ap (λ front. front ++ bytes) c.new-bytes.ensures.items)
     c.in_ok-journal.ensures.journal) in
-    on_ok_weaker c.print_rows.result (λ shows. record {
+    IfOk-weaker c.print_rows.result _ _ (λ event shows. record {
       items = items_of c.in_ok-events.events;
       is_playlist = c.in_ok-events.ensures.events;
       read = c.in_ok-journal.journal;

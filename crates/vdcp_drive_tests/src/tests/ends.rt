@@ -1,0 +1,49 @@
+//! New ends over a wire in memory. These promise nothing, so the proof of a test needn't go through the clauses of each
+//! call.
+use super::clips::{Clips, Playlist};
+use super::scripts::wire_of;
+use std::alloc::{AllocError, Global};
+use std::test::Fail;
+use vdcp_auto::Controller;
+use vdcp_drive::{AutoDriver, Server};
+use vdcp_port::Port;
+use vdcp_testing::two_clips;
+use vdcp_wire::ScriptWire;
+
+pub type Serving = Server<Clips, ScriptWire<Global>>;
+
+pub type Auto = AutoDriver<Playlist, ScriptWire<Global>>;
+
+/// A server with a new port of unit 0 and number 1, and clips of this many frames, to which these pieces come.
+pub fn server(alloc: Global, frames: u32, pieces: &[&[u8]]) -> Result<Serving, Fail> {
+    let clips = two_clips(frames).ok_or("the frames of a day")?;
+    Ok(Server::new(Port::new(clips, 0, 1), wire_of(alloc, pieces)?))
+}
+
+/// The same over a wire whose call of this number fails after one byte of a send.
+pub fn failing_server(alloc: Global, pieces: &[&[u8]], call: u64) -> Result<Serving, Fail> {
+    let clips = two_clips(250).ok_or("250 frames")?;
+    let mut wire = wire_of(alloc, pieces)?;
+    wire.fail_at(call, 1);
+    Ok(Server::new(Port::new(clips, 0, 1), wire))
+}
+
+/// An automation of no clips, to which these pieces come.
+pub fn automation(alloc: Global, confirms: bool, pieces: &[&[u8]]) -> Result<Auto, AllocError> {
+    Ok(AutoDriver::new(controller(confirms), 0, wire_of(alloc, pieces)?))
+}
+
+/// The same over a wire whose call of this number fails after one byte of a send.
+pub fn failing_automation(alloc: Global, pieces: &[&[u8]], call: u64) -> Result<Auto, AllocError> {
+    let mut wire = wire_of(alloc, pieces)?;
+    wire.fail_at(call, 1);
+    Ok(AutoDriver::new(controller(false), 0, wire))
+}
+
+pub fn controller(confirms: bool) -> Controller<Playlist> {
+    if confirms {
+        Controller::confirming(Playlist::of(0), 1, 3)
+    } else {
+        Controller::new(Playlist::of(0), 1, 3)
+    }
+}

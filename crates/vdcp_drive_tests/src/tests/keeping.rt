@@ -1,0 +1,75 @@
+//! What is kept of an automation's exchanges.
+use super::ends::{Auto, automation};
+use super::messages::GRANTED;
+use super::scripts::SILENCE;
+use std::alloc::Global;
+use std::process::Abort;
+use std::test::Fail;
+use vdcp_auto::Heard;
+use vdcp_drive::{Keep, KeepFault, Kept, KeptFault, Ran, Unwatched};
+use vdcp_words::{Command, Reply};
+
+/// Keeps as many commands as it has room for.
+#[derive(Drop)]
+struct Diary {
+    kept: Vec<Kept>,
+    room: usize,
+}
+
+impl Keep for Diary {
+    fn keep_sent(&mut self, command: &Command) -> Result<(), KeepFault> {
+        if self.room == 0 {
+            return Err(KeepFault);
+        }
+        self.room -= 1;
+        let _ = self.kept.push(Kept::Sent(*command));
+        Ok(())
+    }
+
+    fn note_end(&mut self, heard: Option<Heard>) {
+        let _ = self.kept.push(match heard {
+            Some(heard) => Kept::Heard(heard),
+            None => Kept::Silence,
+        });
+    }
+}
+
+/// A run with a diary of this much room, in which the first OPEN gets no answer, and the second one is granted: how it
+/// ends, how much was sent, and what is kept.
+fn kept(alloc: Global, room: usize) -> Result<(Result<Ran, KeptFault>, usize, Vec<Kept>), Fail> {
+    let mut auto = automation(alloc, false, &[SILENCE, GRANTED, SILENCE])?;
+    let mut diary = Diary {
+        kept: Vec::new(alloc),
+        room,
+    };
+    let ran = run_kept(&mut auto, &mut diary);
+    Ok((ran, auto.wire().sent().len(), diary.kept))
+}
+
+// It promises nothing, so the proof of a test needn't go through its clauses.
+fn run_kept(auto: &mut Auto, diary: &mut Diary) -> Result<Ran, KeptFault> {
+    auto.run_kept(3, &mut Unwatched, diary)
+}
+
+const OPEN: Kept = Kept::Sent(Command::Open(1, 1));
+
+const OPENED: Kept = Kept::Heard(Heard::Reply(Reply::Opened(true)));
+
+#[test]
+fn exchanges_are_kept_in_order(rt: HostRuntime) -> Result<(), Fail> {
+    let (ran, sent, kept) = kept(rt.alloc(), 2)?;
+    assert_eq!(rt; (ran, sent), (Ok(Ran::Spent), 14));
+    assert_eq!(rt;
+        kept.as_slice(),
+        [OPEN, Kept::Silence, OPEN, OPENED].as_slice()
+    );
+    Ok(())
+}
+
+#[test]
+fn command_that_is_not_kept_is_not_sent(rt: HostRuntime) -> Result<(), Fail> {
+    let (ran, sent, kept) = kept(rt.alloc(), 1)?;
+    assert_eq!(rt; (ran, sent), (Err(KeptFault::Unkept), 7));
+    assert_eq!(rt; kept.as_slice(), [OPEN, Kept::Silence].as_slice());
+    Ok(())
+}

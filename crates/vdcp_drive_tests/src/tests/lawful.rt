@@ -1,0 +1,46 @@
+//! What a caller knows of what a new automation reports once it has run, by the contracts of its calls and
+//! the law of runs.
+ghost use Rattle.std.specs.Prelude.{◌≡◌, ◌≤◌, IfSome};
+ghost use Rattle.vdcp_auto.specs.Course.{course};
+ghost use Rattle.vdcp_auto.specs.Plan.{plan_of};
+ghost use Rattle.vdcp_auto.specs.Settled.{settled};
+ghost use Rattle.vdcp_drive.specs.Driven.{IsNew, inputs_of};
+ghost use Rattle.vdcp_wire.specs.Wires.{IfTold};
+
+use super::clips::Playlist;
+use super::messages::{ACK, CUED, GRANTED, PRESENT};
+use super::scripts::{SILENCE, wire_of};
+use std::test::Fail;
+use vdcp_auto::{Controller, Source};
+use vdcp_drive::{AutoDriver, laws};
+use vdcp_wire::Wire;
+
+/// How many events a new automation reports as aired once it has run; None where its wire failed. It is
+/// what the exchanges over the wire show to be settled.
+fn reported<S: Source, W: Wire>(auto: &mut AutoDriver<S, W>, listens: u64) -> Option<usize>
+    requires new { IsNew W.told auto.old }
+    requires some { 1 ≤ auto.old.controller.limit }
+    requires few { auto.old.controller.limit ≤ 1000 }
+    ensures shown { IfSome result (λ n. IfTold (W.told auto.new.wire) (λ u.
+        n ≡ settled auto.old.controller.mode (course (plan_of S.items auto.old.controller)
+        (inputs_of auto.old.unit u.came)))) }
+{
+    laws::a_run_is_lawful();
+    match auto.run(listens) {
+        Ok(_) => Some(auto.controller().settled()),
+        Err(_) => None,
+    }
+}
+
+#[test]
+fn an_event_is_reported_once_its_play_is_answered(rt: HostRuntime) -> Result<(), Fail> {
+    let answers: [&[u8]; 12] = [
+        GRANTED, SILENCE, ACK, SILENCE, PRESENT, SILENCE, ACK, SILENCE, CUED, SILENCE, ACK, SILENCE,
+    ];
+    for (count, settled) in [(10, 0), (12, 1)] {
+        let wire = wire_of(rt.alloc(), &answers[..count])?;
+        let mut auto = AutoDriver::new(Controller::new(Playlist::of(1), 1, 3), 0, wire);
+        assert_eq!(rt; reported(&mut auto, 100), Some(settled));
+    }
+    Ok(())
+}

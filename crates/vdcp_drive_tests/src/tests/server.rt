@@ -1,0 +1,146 @@
+//! A server over a wire in memory.
+use super::calls::serve;
+use super::ends::{failing_server, server};
+use super::messages::{ACK, CUE_1, GRANTED, IDLE, OPEN, PLAY, SELECT, STATUS, STOP};
+use super::scripts::{SILENCE, spells};
+use std::alloc::Global;
+use std::process::Abort;
+use std::test::Fail;
+use vdcp_drive::Ran;
+
+/// What comes to a new server in this many turns, what it sends, and how that ends.
+#[derive(Clone, Copy)]
+struct Row {
+    came: &'static [&'static [u8]],
+    turns: u64,
+    sent: &'static [&'static [u8]],
+    ran: Ran,
+}
+
+const OPENING: &'static [&'static [u8]] = &[
+    OPEN,
+    SILENCE,
+    b"\x02\x03\x20",
+    b"\x22\x01\xBD",
+    SILENCE,
+    STATUS,
+    SILENCE,
+];
+
+// The other end closes after the last piece.
+const ROWS: [Row; 9] = [
+    Row {
+        came: OPENING,
+        turns: 100,
+        sent: &[GRANTED, ACK, IDLE],
+        ran: Ran::Closed,
+    },
+    Row {
+        came: OPENING,
+        turns: 2,
+        sent: &[GRANTED],
+        ran: Ran::Spent,
+    },
+    Row {
+        came: OPENING,
+        turns: 3,
+        sent: &[GRANTED],
+        ran: Ran::Spent,
+    },
+    Row {
+        came: OPENING,
+        turns: 4,
+        sent: &[GRANTED, ACK],
+        ran: Ran::Spent,
+    },
+    // PLAY and STOP in two pieces
+    Row {
+        came: &[
+            OPEN,
+            SELECT,
+            SILENCE,
+            b"\x02",
+            b"\x02\x10\x01\xEF\x02\x02\x10\x00\xF0",
+            SILENCE,
+        ],
+        turns: 6,
+        sent: &[GRANTED, ACK, ACK, ACK],
+        ran: Ran::Spent,
+    },
+    Row {
+        came: &[
+            OPEN,
+            SELECT,
+            SILENCE,
+            b"\x02\x02\x10\x01\xEF\x02\x02\x10",
+            b"\x00\xF0",
+            SILENCE,
+        ],
+        turns: 6,
+        sent: &[GRANTED, ACK, ACK, ACK],
+        ran: Ran::Spent,
+    },
+    // a close inside of the second PLAY
+    Row {
+        came: &[OPEN, SELECT, SILENCE, b"\x02\x02\x10\x01\xEF\x02\x02\x10"],
+        turns: 100,
+        sent: &[GRANTED, ACK, ACK],
+        ran: Ran::Closed,
+    },
+    // half a message, twice
+    Row {
+        came: &[
+            b"\x02\x0A\x20\x24\x43",
+            SILENCE,
+            b"\x02\x0A\x20\x24\x43",
+            SILENCE,
+        ],
+        turns: 4,
+        sent: &[b"\x05\x80", b"\x05\x80"],
+        ran: Ran::Spent,
+    },
+    Row {
+        came: &[OPEN, SELECT, CUE_1, PLAY, STOP, SILENCE],
+        turns: 100,
+        sent: &[GRANTED, ACK, ACK, ACK, ACK],
+        ran: Ran::Closed,
+    },
+];
+
+/// How a new server's turns end, and whether it sent these messages.
+fn served(alloc: Global, row: &Row) -> Result<(Ran, bool), Fail> {
+    let mut server = server(alloc, 250, row.came)?;
+    let ran = serve(&mut server, row.turns)?;
+    Ok((ran, spells(server.wire().sent(), row.sent)))
+}
+
+#[test]
+fn what_comes_is_answered(rt: HostRuntime) -> Result<(), Fail> {
+    for (k, row) in ROWS.iter().enumerate() {
+        assert_eq!(rt; served(rt.alloc(), row)?, (row.ran, true), "row {k}");
+    }
+    Ok(())
+}
+
+/// A server whose wire's call of this number fails after one byte of a send, and then is used again: whether both
+/// fail, and how many bytes were sent.
+fn failed_at(alloc: Global, call: u64) -> Result<(bool, usize), Fail> {
+    let mut server = failing_server(alloc, OPENING, call)?;
+    let fails = serve(&mut server, 100).is_err() && serve(&mut server, 0).is_err();
+    Ok((fails, server.wire().sent().len()))
+}
+
+// Eight listens, and a send after the first, the fourth and the sixth of them.
+const SENT: [usize; 11] = [0, 1, 6, 6, 6, 7, 7, 7, 8, 14, 14];
+
+#[test]
+fn each_call_fails_in_turn(rt: HostRuntime) -> Result<(), Fail> {
+    for (k, sent) in SENT.iter().enumerate() {
+        assert_eq!(rt;
+            failed_at(rt.alloc(), k as u64 + 1)?,
+            (true, *sent),
+            "call {k}"
+        );
+    }
+    Ok(())
+}

@@ -1,0 +1,11 @@
+//! Tests of `vdcp_frame`, by its public calls.
+#![tactic(auto)]
+
+#[cfg(test)]
+mod equality_tests;
+#[cfg(test)]
+mod limit_tests;
+#[cfg(test)]
+mod reader_tests;
+#[cfg(test)]
+mod tests;

@@ -1,0 +1,314 @@
+ghost use Rattle.std.specs.Prelude.{◌≡◌, ◌<◌, ◌≤◌, ◌++◌, List, ℕ, length, take};
+ghost use Rattle.vdcp_frame.specs.Burst.{messages_of, end_of};
+ghost use Rattle.vdcp_frame.specs.Message.{Content, AreOctets};
+ghost use Rattle.vdcp_frame.specs.Reader.{Follows, IsEnd};
+
+use crate::tests::reading_of;
+use std::alloc::Global;
+use std::process::Abort;
+use std::test::Fail;
+use vdcp_frame::{Ended, Fault, Got, Message, Reader, Step, laws};
+
+// One call: how many bytes it took, and how many messages it gave.
+fn feed_once(reader: &mut Reader, piece: &[u8]) -> (usize, usize)
+    ensures within { result.0 ≤ length piece.now }
+    ensures some { 0 < length piece.now → 0 < result.0 }
+    ensures most { result.1 ≤ 1 }
+    ensures follows { (burst : List ℕ) (ms : List Content) → Follows burst ms reader.old →
+        (ns : List Content) × (length ns ≡ result.1)
+        × Follows (burst ++ take result.0 piece.now) (ms ++ ns) reader.new }
+{
+    let (taken, got) = reader.feed(piece);
+    match got {
+        Got::Message(_) => (taken, 1),
+        Got::More => (taken, 0),
+        Got::Fault(_, _) => (taken, 0),
+    }
+}
+
+// A server's loop over a piece: it feeds it to its end, and counts the messages.
+fn count_messages(reader: &mut Reader, piece: &[u8]) -> usize
+    ensures most { result ≤ length piece.now }
+    ensures follows { (burst : List ℕ) (ms : List Content) → Follows burst ms reader.old →
+        (ns : List Content) × (length ns ≡ result) × Follows (burst ++ piece.now) (ms ++ ns) reader.new }
+{
+    let mut at = 0;
+    let mut count = 0;
+    'piece: while at < piece.len() {
+        let (taken, messages) = feed_once(reader, &piece[at..]);
+        at += taken;
+        count += messages;
+    }
+    count
+}
+
+// A server whose peer falls silent: from the calls to the burst's messages and its end.
+fn read_two_pieces(first: &[u8], second: &[u8]) -> (usize, Ended)
+    ensures messages { result.0 ≡ length (messages_of (first.now ++ second.now)) }
+    ensures end { IsEnd result.1 (end_of (first.now ++ second.now)) }
+{
+    laws::what_a_silence_tells_is_computed();
+    let mut reader = Reader::new();
+    let count = count_messages(&mut reader, first) + count_messages(&mut reader, second);
+    (count, reader.silence())
+}
+
+// A server whose peer closes inside a burst: what it answered are the first messages of any that
+// goes on.
+fn read_until_closed(first: &[u8], second: &[u8]) -> usize
+    ensures messages { result ≡ length (messages_of (first.now ++ second.now)) }
+    ensures further { (more : List ℕ) → AreOctets ((first.now ++ second.now) ++ more) → (others : List Content)
+        × (messages_of ((first.now ++ second.now) ++ more) ≡ messages_of (first.now ++ second.now) ++ others) }
+{
+    laws::what_is_followed_is_read();
+    let mut reader = Reader::new();
+    count_messages(&mut reader, first) + count_messages(&mut reader, second)
+}
+
+#[test]
+fn two_pieces_are_read(rt: HostRuntime) {
+    let burst = [0x04, 0x02, 0x02, 0x10, 0x01, 0xEF, 0x02];
+    for cut in 0..=7 {
+        let (first, second) = burst.split_at(cut);
+        assert_eq!(rt;
+            read_two_pieces(first, second),
+            (2, Ended::Cut(1)),
+            "in {cut:?}"
+        );
+        assert_eq!(rt; read_until_closed(first, second), 2, "in {cut:?}");
+    }
+}
+
+// What a burst still has to give: its messages from here on, and its end.
+#[derive(Drop)]
+struct Expected<'a> {
+    messages: &'a [Message<'a>],
+    end: Step<'a>,
+    given: usize,
+    failed: bool,
+}
+
+// Reads a piece to its end; each message and fault that comes is the next one expected.
+fn read_to_end(rt: &impl Abort, reader: &mut Reader, piece: &[u8], expected: &mut Expected) {
+    let mut rest = piece;
+    'piece: loop {
+        match reader.next(&mut rest) {
+            Got::Message(message) => {
+                assert_eq!(rt;
+                    Some(&message),
+                    expected.messages.get(expected.given),
+                    "in {piece:?}"
+                );
+                assert!(rt; expected.given < expected.messages.len());
+                expected.given += 1;
+            }
+            Got::More => return,
+            Got::Fault(fault, place) => {
+                assert_eq!(rt; Step::Fault(fault, place), expected.end, "in {piece:?}");
+                expected.failed = true;
+            }
+        }
+    }
+}
+
+// The silence after the pieces ends the burst as expected.
+fn end_burst(rt: &impl Abort, reader: &mut Reader, expected: &Expected) {
+    assert_eq!(rt; expected.given, expected.messages.len());
+    match reader.silence() {
+        Ended::Clean => assert_eq!(rt; Step::Clean, expected.end),
+        Ended::Cut(held) => assert_eq!(rt; Step::Cut(held), expected.end),
+        Ended::AfterFault => assert!(rt; expected.failed),
+    }
+}
+
+// The burst in pieces, cut at the place and then after every `step` bytes, reads as it does whole.
+pub(crate) fn read_in_pieces(
+    rt: &impl Abort,
+    burst: &[u8],
+    cut: usize,
+    step: usize,
+    messages: &[Message],
+    end: Step,
+) {
+    read_next(rt, &mut Reader::new(), burst, cut, step, messages, end);
+}
+
+// The same with a reader that may have read other bursts.
+pub(crate) fn read_next(
+    rt: &impl Abort,
+    reader: &mut Reader,
+    burst: &[u8],
+    cut: usize,
+    step: usize,
+    messages: &[Message],
+    end: Step,
+) {
+    let mut expected = Expected {
+        messages,
+        end,
+        given: 0,
+        failed: false,
+    };
+    let (first, left) = burst.split_at(cut.min(burst.len()));
+    read_to_end(rt, reader, first, &mut expected);
+    for piece in left.chunks(step.max(1)) {
+        read_to_end(rt, reader, piece, &mut expected);
+    }
+    end_burst(rt, reader, &expected);
+}
+
+// Whole, byte by byte, and cut at each place.
+fn reads_the_same(rt: &impl Abort, alloc: Global, burst: &[u8]) -> Result<(), Fail> {
+    let (messages, end) = reading_of(alloc, burst)?;
+    read_in_pieces(rt, burst, 0, burst.len(), messages.as_slice(), end);
+    read_in_pieces(rt, burst, 0, 1, messages.as_slice(), end);
+    for cut in 0..burst.len() {
+        read_in_pieces(rt, burst, cut, burst.len(), messages.as_slice(), end);
+    }
+    Ok(())
+}
+
+#[test]
+fn pieces_read_as_the_whole(rt: HostRuntime) -> Result<(), Fail> {
+    let rows: [&'static [u8]; 12] = [
+        &[],
+        &[0x05],
+        &[0x04, 0x05, 0x04, 0x02],
+        &[0x04, 0x03, 0x04],
+        &[0x02, 0x02, 0x10, 0x01, 0xEF],
+        &[0x02, 0x02, 0x10, 0x01, 0xEF, 0x02, 0x02, 0x10, 0x00, 0xF0],
+        &[0x02, 0x02, 0x10, 0x01, 0xEE],
+        &[0x03, 0x04],
+        &[0x02, 0x01, 0x10, 0xF0],
+        &[0x02, 0x0A, 0x20, 0x24, 0x43],
+        &[0x02, 0x02, 0x10, 0x01, 0xEF, 0xFF, 0x04],
+        b"\x02\x0A\x20\x24CLIP0001\xD3",
+    ];
+    for burst in rows {
+        reads_the_same(&rt, rt.alloc(), burst)?;
+    }
+    let mut largest = [0u8; 258];
+    largest[0] = 0x02;
+    largest[1] = 0xFF;
+    largest[2] = 0x70;
+    largest[257] = 0x90;
+    reads_the_same(&rt, rt.alloc(), &largest)?;
+    let mut long = Vec::new(rt.alloc());
+    for _ in 0..820 {
+        long.extend_from_slice(&[0x02, 0x02, 0x10, 0x01, 0xEF])?;
+    }
+    reads_the_same(&rt, rt.alloc(), long.as_slice())?;
+    Ok(())
+}
+
+#[test]
+fn a_piece_is_read_message_by_message(rt: HostRuntime) {
+    let mut reader = Reader::new();
+    let mut rest: &[u8] = &[0x04, 0x05, 0x80, 0x02, 0x02];
+    assert_eq!(rt; reader.next(&mut rest), Got::Message(Message::Ack));
+    assert_eq!(rt; rest, [0x05, 0x80, 0x02, 0x02].as_slice());
+    assert_eq!(rt; reader.next(&mut rest), Got::Message(Message::Nak(0x80)));
+    assert_eq!(rt; reader.next(&mut rest), Got::More);
+    assert!(rt; rest.is_empty());
+    rest = &[0x10, 0x00, 0x04, 0x04];
+    assert_eq!(rt; reader.next(&mut rest), Got::Fault(Fault::BadSum, 8));
+    assert_eq!(rt; rest, [0x04].as_slice());
+    assert_eq!(rt; reader.next(&mut rest), Got::More);
+    assert!(rt; rest.is_empty());
+    assert_eq!(rt; reader.silence(), Ended::AfterFault);
+}
+
+#[test]
+fn after_a_fault_all_is_taken_until_the_silence(rt: HostRuntime) {
+    let mut reader = Reader::new();
+    assert_eq!(rt;
+        reader.feed(&[0x03, 0x04]),
+        (1, Got::Fault(Fault::BadStart, 1))
+    );
+    assert_eq!(rt; reader.feed(&[0x04]), (1, Got::More));
+    assert_eq!(rt; reader.silence(), Ended::AfterFault);
+    assert_eq!(rt; reader.feed(&[0x04]), (1, Got::Message(Message::Ack)));
+    assert_eq!(rt; reader.silence(), Ended::Clean);
+}
+
+// By `read_at`, and by a reader byte by byte.
+pub(crate) fn is_read_as(
+    rt: &impl Abort,
+    alloc: Global,
+    burst: &[u8],
+    messages: &[Message],
+    end: Step,
+) -> Result<(), Fail> {
+    let (read, ended) = reading_of(alloc, burst)?;
+    assert_eq!(rt; read.as_slice(), messages, "in {burst:?}");
+    assert_eq!(rt; ended, end, "in {burst:?}");
+    read_in_pieces(rt, burst, 0, 1, messages, end);
+    Ok(())
+}
+
+const BASE: [u8; 13] = *b"\x02\x0A\x20\x24CLIP0001\xD3";
+
+#[test]
+fn fronts_and_changed_bytes_are_refused(rt: HostRuntime) -> Result<(), Fail> {
+    for front in 1..13usize {
+        is_read_as(&rt, rt.alloc(), &BASE[..front], &[], Step::Cut(front))?;
+    }
+    for place in 2..13usize {
+        for value in 0..=255u8 {
+            let mut burst = BASE;
+            burst[place] = value;
+            if value != BASE[place] {
+                is_read_as(&rt, rt.alloc(), &burst, &[], Step::Fault(Fault::BadSum, 13))?;
+            }
+        }
+    }
+    Ok(())
+}
+
+#[test]
+fn other_counts_and_starts_are_refused(rt: HostRuntime) -> Result<(), Fail> {
+    for count in 0..=255u8 {
+        let mut burst = BASE;
+        burst[1] = count;
+        let end = match count {
+            0 | 1 => Step::Fault(Fault::BadCount(count), 2),
+            2..=9 => Step::Fault(Fault::BadSum, usize::from(count) + 3),
+            0x0A => Step::Clean,
+            0x0B..=0xFF => Step::Cut(13),
+        };
+        if count != 0x0A {
+            is_read_as(&rt, rt.alloc(), &burst, &[], end)?;
+        }
+    }
+    for start in 0..=255u8 {
+        let mut burst = BASE;
+        burst[0] = start;
+        match start {
+            0x02 => {}
+            0x04 => is_read_as(
+                &rt,
+                rt.alloc(),
+                &burst,
+                &[Message::Ack],
+                Step::Fault(Fault::BadStart, 2),
+            )?,
+            0x05 => is_read_as(
+                &rt,
+                rt.alloc(),
+                &burst,
+                &[Message::Nak(0x0A)],
+                Step::Fault(Fault::BadStart, 3),
+            )?,
+            0x00..=0x01 | 0x03 | 0x06..=0xFF => {
+                is_read_as(
+                    &rt,
+                    rt.alloc(),
+                    &burst,
+                    &[],
+                    Step::Fault(Fault::BadStart, 1),
+                )?
+            }
+        }
+    }
+    Ok(())
+}

@@ -1,0 +1,53 @@
+-- When the events that a journal's rows report aired, and which event may have aired besides.
+use Rattle.std.specs.List.{list_any}
+use Rattle.std.specs.Prelude.{◌≡◌, ℕ, ◌+◌, Bool, false, IsTrue, Option, None, Some, List, [], ◌∷◌, ◌++◌, if◌then◌else◌, length, slice_get}
+use Rattle.vdcp_auto.specs.Commands.{is_play_command}
+use Rattle.vdcp_auto.specs.Settled.{has_open_play, settled}
+use Rattle.vdcp_auto.specs.declared.phase.Mode.{Mode}
+use Rattle.vdcp_journal.specs.Resume.{log_of}
+use Rattle.vdcp_journal.specs.declared.airings.Airing.{Airing}
+use Rattle.vdcp_journal.specs.declared.row.Note.{Note}
+use Rattle.vdcp_journal.specs.declared.row.Note.TheVariants as note
+use Rattle.vdcp_journal.specs.declared.row.Row.{Row}
+
+-- a PLAY goes out
+abbrev pub sends_play : Note → Bool
+sends_play (note.Sent c) = is_play_command c
+sends_play (note.Heard h) = false
+sends_play note.Silence = false
+sends_play note.Take = false
+sends_play note.Stop = false
+sends_play (note.End outcome) = false
+
+abbrev pub is_play_row : Row → Bool
+is_play_row row = sends_play row.note
+
+-- how many events the rows show to be aired
+abbrev pub settled_in : Mode → List Row → ℕ
+settled_in mode rows = settled mode (log_of rows)
+
+-- event k is known to have aired with the row that settles it: up to that row, and not before, the rows show more than
+-- k events. It was played by the last PLAY before that row
+pub record IsAiring (mode : Mode) (rows : List Row) (k : ℕ) (airing : Airing) : Type 0 where
+  pub before : List Row
+  pub play : Row
+  pub between : List Row
+  pub settling : Row
+  pub after : List Row
+  pub in_order : rows ≡ before ++ (play ∷ (between ++ (settling ∷ after)))
+  pub is_play : IsTrue (is_play_row play)
+  pub last_play : list_any is_play_row between ≡ false
+  pub unsettled : settled_in mode (before ++ (play ∷ between)) ≡ k
+  pub settles : settled_in mode (before ++ (play ∷ (between ++ (settling ∷ [])))) ≡ k + 1
+  pub played : airing.played ≡ play.time
+  pub known : airing.known ≡ settling.time
+
+-- the event whose PLAY is open, if one is: the first that isn't settled
+abbrev pub open_event : Mode → List Row → Option ℕ
+open_event mode rows = if has_open_play (log_of rows) then Some (settled_in mode rows) else None
+
+-- these are the airings of the events that the rows show to be aired, and the event that may have aired besides
+pub record AreAirings (mode : Mode) (rows : List Row) (airings : List Airing) (event : Option ℕ) : Type 0 where
+  pub one_each : length airings ≡ settled_in mode rows
+  pub are : (k : ℕ) (airing : Airing) → slice_get airings k ≡ Some airing → IsAiring mode rows k airing
+  pub open_is : event ≡ open_event mode rows

@@ -1,0 +1,153 @@
+ghost use Rattle.std.specs.Prelude.{◌≡◌, ◌≤◌, ◌<◌, ◌+◌, ◌^◌, ◌∷◌, ◌++◌, [], IfOk, IsFalse, IsTrue, List, None, OnOk, Some, length, if◌then◌else◌};
+ghost use Rattle.vdcp_auto.specs.declared.exchange.Exchange.{Exchange};
+ghost use Rattle.vdcp_journal.specs.Airings.{AreAirings, is_play_row};
+ghost use Rattle.vdcp_journal.specs.Resume.{ended_at, exchange_with, open_after};
+ghost use Rattle.vdcp_judge.specs.Judging.{Knows};
+
+use crate::moment::Moment;
+use crate::row::{Note, Row};
+use std::alloc::{AllocError, Global};
+use vdcp_auto::laws::a_log_grows;
+use vdcp_auto::{Controller, Exchange, Heard, Source};
+use vdcp_judge::Judge;
+use vdcp_list::Timed;
+use vdcp_words::Command;
+
+/// When an event aired.
+#[derive(Clone, Copy, Debug, PartialEq, Eq)]
+pub struct Airing {
+    /// The PLAY that aired it went out. Of several, the last.
+    pub played: Moment,
+    /// It was known to have aired.
+    pub known: Moment,
+}
+
+impl Timed for Airing {
+    ghost use Rattle.vdcp_journal.specs.Times.{moment_text};
+
+    ghost played = { λ airing. moment_text airing.played };
+
+    ghost known = { λ airing. moment_text airing.known };
+
+    fn played(&self) -> &[u8] {
+        self.played.as_bytes()
+    }
+
+    fn known(&self) -> &[u8] {
+        self.known.as_bytes()
+    }
+}
+
+/// When the events aired that a journal reports.
+#[derive(Debug, Drop)]
+pub struct Airings {
+    /// Those of the reported events, in order.
+    pub airings: Vec<Airing>,
+    /// The event that may have aired besides: its PLAY went out, and no answer has settled it.
+    pub open: Option<usize>,
+}
+
+/// When the events aired that the rows of a journal report, and which may have aired besides. The controller is one of
+/// the journal's list and mode.
+pub fn airings_in<S: Source>(
+    alloc: Global,
+    controller: &Controller<S>,
+    rows: &[Row],
+) -> Result<Airings, AllocError>
+    ensures { IfOk result (λ found. AreAirings controller.now.mode rows.now found.airings.items found.open) }
+{
+    a_log_grows();
+    let mut judge = judge_of(controller);
+    let mut asked = None;
+    let mut played = None;
+    let mut airings = Vec::new(alloc);
+    for k in 0..rows.len() {
+        let row = &rows[k];
+        follow(&mut judge, &mut asked, &row.note);
+        add_airing(&mut airings, judge.settled(), played, row.time)?;
+        played = last_play(played, row);
+    }
+    end(&mut judge, &mut asked, None);
+    let open = open_event(&judge);
+    Ok(Airings { airings, open })
+}
+
+/// A judge of a controller that is new.
+fn judge_of<S: Source>(controller: &Controller<S>) -> Judge<&S>
+    ensures mode { result.mode ≡ controller.now.mode }
+    ensures knows { Knows (λ source. S.items source.now) [] result }
+{
+    if controller.is_confirming() {
+        Judge::confirming(controller.source())
+    } else {
+        Judge::new(controller.source())
+    }
+}
+
+/// Gives a judge the exchange that a note ends, if it ends one, and notes which command is open.
+fn follow<S: Source>(judge: &mut Judge<S>, asked: &mut Option<Command>, note: &Note)
+    ensures mode { judge.new.mode ≡ judge.old.mode }
+    ensures asked { asked.new ≡ open_after asked.old note.now }
+    ensures knows { (log : List Exchange) → length log + length (ended_at asked.old note.now []) < 2 ^ 64 →
+        Knows S.items log judge.old → Knows S.items (log ++ ended_at asked.old note.now []) judge.new }
+{
+    match note {
+        Note::Sent(command) => *asked = Some(*command),
+        Note::Heard(heard) => end(judge, asked, Some(*heard)),
+        Note::Silence => end(judge, asked, None),
+        Note::Take | Note::Stop | Note::End(_) => {}
+    }
+}
+
+/// Gives a judge the exchange of the command that is open, if one is, with what ended it.
+fn end<S: Source>(judge: &mut Judge<S>, asked: &mut Option<Command>, heard: Option<Heard>)
+    ensures mode { judge.new.mode ≡ judge.old.mode }
+    ensures asked { asked.new ≡ None }
+    ensures knows { (log : List Exchange) → length log + length (exchange_with heard asked.old []) < 2 ^ 64 →
+        Knows S.items log judge.old → Knows S.items (log ++ exchange_with heard asked.old []) judge.new }
+{
+    if let Some(command) = *asked {
+        judge.add(&Exchange { command, heard });
+    }
+    *asked = None;
+}
+
+/// Adds an airing where more events are settled than have one.
+fn add_airing(
+    airings: &mut Vec<Airing>,
+    settled: usize,
+    played: Option<Moment>,
+    known: Moment,
+) -> Result<(), AllocError>
+    ensures same { OnOk result (settled ≤ length airings.old.items → airings.new.items ≡ airings.old.items) }
+    ensures more { OnOk result (length airings.old.items < settled → (play : Moment) → played ≡ Some play →
+        airings.new.items ≡ airings.old.items ++ record { played = play; known = known } ∷ []) }
+{
+    match played {
+        Some(played) if airings.len() < settled => airings.push(Airing { played, known })?,
+        _ => {}
+    }
+    Ok(())
+}
+
+/// When the last PLAY went out, this row included.
+fn last_play(before: Option<Moment>, row: &Row) -> Option<Moment>
+    ensures play { IsTrue (is_play_row row.now) → result ≡ Some row.now.time }
+    ensures other { IsFalse (is_play_row row.now) → result ≡ before }
+{
+    match row.note {
+        Note::Sent(Command::Play) => Some(row.time),
+        _ => before,
+    }
+}
+
+/// The event whose PLAY is open, by what a judge knows.
+fn open_event<S: Source>(judge: &Judge<S>) -> Option<usize>
+    ensures { result ≡ (if judge.now.has_open_play then Some judge.now.settled else None) }
+{
+    if judge.has_open_play() {
+        Some(judge.settled())
+    } else {
+        None
+    }
+}

@@ -1,0 +1,2 @@
+-- What the law of this crate cites.
+pub mod Kills

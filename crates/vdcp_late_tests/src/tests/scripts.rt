@@ -1,0 +1,113 @@
+//! Scripts of a late line that are read, and those that are refused.
+use super::seen::burst;
+use std::process::Abort;
+use std::test::Fail;
+use vdcp_late::LateEvent;
+use vdcp_world::{ScriptFault, read_script};
+
+#[test]
+fn each_word_is_its_event(rt: HostRuntime) -> Result<(), Fail> {
+    let alloc = rt.alloc();
+    let text =
+        "tick\ndown\nup\ndown-copy\nup-copy\nlose-down\nlose-up\nlose-down 1\nlose-down 2\nlose-up 10000\n\
+        alter-down 02FF\nalter-up fe\njunk-down Ff\njunk-up 0580\ntimeout\nready\nend\nframe\ntake\nstop\n\
+        server-anew\nautomation-anew\nstray-ack\nstray-nak 0a\nframe 2\nround\ngood\n";
+    let events: Vec<LateEvent> = read_script(alloc, text)?;
+    let at_end = usize::MAX;
+    let wanted = [
+        LateEvent::Tick,
+        LateEvent::Down,
+        LateEvent::Up,
+        LateEvent::DownCopy,
+        LateEvent::UpCopy,
+        LateEvent::LoseDown(0),
+        LateEvent::LoseUp(0),
+        LateEvent::LoseDown(0),
+        LateEvent::LoseDown(1),
+        LateEvent::LoseUp(9_999),
+        LateEvent::AlterDown(0, burst(alloc, &[0x02, 0xFF])?),
+        LateEvent::AlterUp(0, burst(alloc, &[0xFE])?),
+        LateEvent::JunkDown(at_end, burst(alloc, &[0xFF])?),
+        LateEvent::JunkUp(at_end, burst(alloc, &[0x05, 0x80])?),
+        LateEvent::Timeout,
+        LateEvent::Ready,
+        LateEvent::End,
+        LateEvent::Frame,
+        LateEvent::Take,
+        LateEvent::Stop,
+        LateEvent::ServerAnew,
+        LateEvent::AutomationAnew,
+        LateEvent::StrayAck,
+        LateEvent::StrayNak(0x0A),
+        LateEvent::Frame,
+        LateEvent::Frame,
+        LateEvent::Tick,
+        LateEvent::Down,
+        LateEvent::Up,
+        LateEvent::Timeout,
+        LateEvent::Ready,
+        LateEvent::End,
+        LateEvent::Tick,
+        LateEvent::Down,
+        LateEvent::Up,
+    ];
+    assert_eq!(rt; events.as_slice(), wanted.as_slice());
+    Ok(())
+}
+
+#[test]
+fn the_first_fault_is_told(rt: HostRuntime) -> Result<(), Fail> {
+    let refused = [
+        ("tick\n\njump\n", ScriptFault::Word(3)),
+        ("tick 1\n", ScriptFault::Word(1)),
+        ("lose-down 1 2\n", ScriptFault::Word(1)),
+        ("junk-down\n", ScriptFault::Word(1)),
+        ("junk-up\n", ScriptFault::Word(1)),
+        ("junk-up ff ff\n", ScriptFault::Word(1)),
+        ("server-anew 1\n", ScriptFault::Word(1)),
+        ("automation-anew \n", ScriptFault::Word(1)),
+        ("Server-anew\n", ScriptFault::Word(1)),
+        ("lose-down \n", ScriptFault::Number(1)),
+        ("lose-down 0\n", ScriptFault::Number(1)),
+        ("lose-up 01\n", ScriptFault::Number(1)),
+        ("tick\nlose-up x\n", ScriptFault::Number(2)),
+        ("lose-down 10001\n", ScriptFault::Number(1)),
+        ("round 0\n", ScriptFault::Number(1)),
+        ("junk-down \n", ScriptFault::Hex(1)),
+        ("junk-down f\n", ScriptFault::Hex(1)),
+        ("junk-up 0g\n", ScriptFault::Hex(1)),
+        ("stray-nak 0A\n", ScriptFault::Hex(1)),
+        ("good 10000\ngood 10000\n", ScriptFault::TooMany),
+        (
+            "good 10000\nround 10000\nframe 10000\nserver-anew\n",
+            ScriptFault::TooMany,
+        ),
+    ];
+    for (text, fault) in refused {
+        assert_eq!(rt;
+            read_script::<LateEvent>(rt.alloc(), text).err(),
+            Some(fault),
+            "{text:?}"
+        );
+    }
+    let most = "good 10000\nround 10000\nframe 9999\nserver-anew\n";
+    assert_eq!(rt; read_script::<LateEvent>(rt.alloc(), most)?.len(), 100_000);
+    Ok(())
+}
+
+#[test]
+fn junk_has_1024_bytes_at_most(rt: HostRuntime) -> Result<(), Fail> {
+    let mut text = String::new(rt.alloc());
+    text.push_str("junk-up ")?;
+    for _ in 0..1024 {
+        text.push_str("fF")?;
+    }
+    let events: Vec<LateEvent> = read_script(rt.alloc(), text.as_str())?;
+    assert_eq!(rt; events.len(), 1);
+    text.push_str("ff")?;
+    assert_eq!(rt;
+        read_script::<LateEvent>(rt.alloc(), text.as_str()).err(),
+        Some(ScriptFault::Hex(1))
+    );
+    Ok(())
+}

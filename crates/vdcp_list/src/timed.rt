@@ -1,0 +1,156 @@
+ghost use Rattle.csv.specs.Writing.{default_writer, fields_written, has_written, row_text, text_written, writer_setup};
+ghost use Rattle.std.specs.Io.KnownBytes.{Appends, Keeps};
+ghost use Rattle.std.specs.Prelude.{◌≡◌, ◌≢◌, ◌≤◌, ◌∷◌, IfErr, IfOk, IsTrue, List, OnOk, false, length, take, ℕ};
+ghost use Rattle.vdcp_list.specs.Asrun.{AppendsBeginning, are_lawful, has_part, is_lawful_event};
+ghost use Rattle.vdcp_list.specs.Timed.{timed_fields, timed_heading, timed_text};
+ghost use Rattle.vdcp_list.specs.declared.faults.WriteFault.TheVariants.{Device};
+
+use crate::asrun::{check_parts, has_part, show_number, show_part, write_out};
+use crate::faults::WriteFault;
+use arrayvec::ArrayString;
+use csv::{Error, Writer, WriterBuilder};
+use std::alloc::Allocator;
+use std::io::Write;
+use vdcp_auto::Source;
+use vdcp_value::{Item, Rate};
+
+/// The two times of an event, as texts.
+pub trait Timed {
+    ghost played: { Self → List ℕ };
+
+    ghost known: { Self → List ℕ };
+
+    /// When the PLAY that aired the event went out.
+    fn played(&self) -> &[u8]
+        ensures { result.now ≡ played self.now };
+
+    /// When the event was known to have aired.
+    fn known(&self) -> &[u8]
+        ensures { result.now ≡ known self.now };
+}
+
+/// Writes the as-run list of the first events of a source, as `write_asrun` does, with two columns more: the times of
+/// each event, of which there are as many as events. A row that says what the columns are goes first.
+pub fn write_timed<S: Source, T: Timed, W: Write, A: Allocator>(
+    alloc: A,
+    source: &S,
+    rate: Rate,
+    times: &[T],
+    writer: &mut W,
+) -> Result<(), WriteFault>
+    requires { length times.now ≤ length (S.items source.now) }
+    ensures ok { OnOk result (Appends (W.contents writer.old) (W.contents writer.new)
+        (timed_text T.played T.known rate (S.items source.now) times.now)) }
+    ensures kept { IfErr result (λ fault. fault ≢ Device → Keeps (W.contents writer.old) (W.contents writer.new)) }
+    ensures beginning { IfErr result (λ fault. fault ≡ Device
+        → AppendsBeginning (W.contents writer.old) (W.contents writer.new)
+        (timed_text T.played T.known rate (S.items source.now) times.now)) }
+{
+    let among = check_parts(source, rate, times.len())?;
+    let with_parts = has_part(source, times.len(), among);
+    let text = timed_text(&alloc, source, rate, with_parts, times)?;
+    write_out(writer, text.as_slice())
+}
+
+/// The timed list's text. It is written to memory, so that only want of memory can refuse it.
+fn timed_text<'a, S: Source, T: Timed, A: Allocator>(
+    alloc: &'a A,
+    source: &S,
+    rate: Rate,
+    with_parts: bool,
+    times: &[T],
+) -> Result<Vec<u8, &'a A>, WriteFault>
+    requires parts { with_parts ≡ has_part (S.items source.now) }
+    requires within { length times.now ≤ length (S.items source.now) }
+    requires lawful { IsTrue (are_lawful rate (take (length times.now) (S.items source.now))) }
+    ensures text { IfOk result (λ text. text.items
+        ≡ timed_text T.played T.known rate (S.items source.now) times.now) }
+    ensures memory { IfErr result (λ fault. fault ≡ WriteFault.Memory) }
+{
+    let mut rows = WriterBuilder::new().from_writer(Vec::new(alloc));
+    let mut number = String::new(alloc);
+    if write_heading(&mut rows, with_parts).is_err() {
+        return Err(WriteFault::Memory);
+    }
+    for k in 0..times.len() {
+        if show_number(k, &mut number).is_err() {
+            return Err(WriteFault::Memory);
+        }
+        let item = source.at(k);
+        if write_event(
+            &mut rows,
+            number.as_str(),
+            &item,
+            rate,
+            with_parts,
+            &times[k],
+        )
+        .is_err()
+        {
+            return Err(WriteFault::Memory);
+        }
+    }
+    match rows.into_inner() {
+        Ok(text) => Ok(text),
+        Err(_) => Err(WriteFault::Memory),
+    }
+}
+
+/// Writes what the columns are.
+fn write_heading<W: Write + Drop>(rows: &mut Writer<W>, with_parts: bool) -> Result<(), Error>
+    requires setup { writer_setup rows.old ≡ default_writer }
+    requires ended { fields_written rows.old ≡ 0 }
+    requires clean { has_written rows.old ≡ false }
+    ensures text { OnOk result (Appends (text_written W.contents rows.old) (text_written W.contents rows.new)
+        (row_text default_writer (timed_heading with_parts))) }
+    ensures setup { OnOk result (writer_setup rows.new ≡ default_writer) }
+    ensures ended { OnOk result (fields_written rows.new ≡ 0) }
+    ensures clean { OnOk result (has_written rows.new ≡ false) }
+{
+    if with_parts {
+        return rows.write_fields(&[b"number", b"id", b"start", b"duration", b"played", b"known"]);
+    }
+    rows.write_fields(&[b"number", b"id", b"played", b"known"])
+}
+
+/// Writes the row of an event.
+fn write_event<T: Timed, W: Write + Drop>(
+    rows: &mut Writer<W>,
+    number: &str,
+    item: &Item,
+    rate: Rate,
+    with_parts: bool,
+    time: &T,
+) -> Result<(), Error>
+    requires lawful { IsTrue (is_lawful_event rate item.now.part) }
+    requires setup { writer_setup rows.old ≡ default_writer }
+    requires ended { fields_written rows.old ≡ 0 }
+    requires clean { has_written rows.old ≡ false }
+    ensures text { OnOk result (Appends (text_written W.contents rows.old) (text_written W.contents rows.new)
+        (row_text default_writer (number.now ∷ timed_fields rate with_parts item.now (T.played time.now) (T.known time.now)))) }
+    ensures setup { OnOk result (writer_setup rows.new ≡ default_writer) }
+    ensures ended { OnOk result (fields_written rows.new ≡ 0) }
+    ensures clean { OnOk result (has_written rows.new ≡ false) }
+{
+    let mut id = ArrayString::new();
+    item.id.show(&mut id);
+    if !with_parts {
+        return rows.write_fields(&[
+            number.as_bytes(),
+            id.as_bytes(),
+            time.played(),
+            time.known(),
+        ]);
+    }
+    let mut start = ArrayString::new();
+    let mut duration = ArrayString::new();
+    show_part(rate, item.part, &mut start, &mut duration);
+    rows.write_fields(&[
+        number.as_bytes(),
+        id.as_bytes(),
+        start.as_bytes(),
+        duration.as_bytes(),
+        time.played(),
+        time.known(),
+    ])
+}

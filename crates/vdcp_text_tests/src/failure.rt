@@ -1,0 +1,128 @@
+use std::alloc::Global;
+use std::process::Abort;
+use std::test::Fail;
+use vdcp_text::{Failure, JournalFault, RowFault, ScriptLineFault};
+
+// Each failure, with the line that tells it and its status.
+const ROWS: [(Failure<'static>, &str, u8); 33] = [
+    (Failure::Hex, "vdcp: hex\n", 1),
+    (Failure::Word, "vdcp: word\n", 1),
+    (Failure::Arguments, "vdcp: arguments\n", 1),
+    (Failure::Text, "vdcp: text\n", 2),
+    (Failure::Open("a.csv"), "vdcp: a.csv: cannot open\n", 3),
+    (Failure::Open("a b"), "vdcp: a b: cannot open\n", 3),
+    (Failure::Read("a.csv"), "vdcp: a.csv: read\n", 3),
+    (
+        Failure::Row("a.csv", 1, RowFault::Columns),
+        "vdcp: a.csv: row 1: columns\n",
+        1,
+    ),
+    (
+        Failure::Row("a.csv", 1, RowFault::Id),
+        "vdcp: a.csv: row 1: id\n",
+        1,
+    ),
+    (
+        Failure::Row("a.csv", 2, RowFault::Id),
+        "vdcp: a.csv: row 2: id\n",
+        1,
+    ),
+    (
+        Failure::Row("b.csv", 2, RowFault::Id),
+        "vdcp: b.csv: row 2: id\n",
+        1,
+    ),
+    (
+        Failure::Row("a.csv", 10, RowFault::Time),
+        "vdcp: a.csv: row 10: time\n",
+        1,
+    ),
+    (
+        Failure::Row("a.csv", 2, RowFault::Twice),
+        "vdcp: a.csv: row 2: twice\n",
+        1,
+    ),
+    (
+        Failure::Row("a.csv", 10_001, RowFault::TooMany),
+        "vdcp: a.csv: row 10001: too many\n",
+        1,
+    ),
+    (
+        Failure::ScriptLine("a.txt", 1, ScriptLineFault::Word),
+        "vdcp: a.txt: line 1: word\n",
+        1,
+    ),
+    (
+        Failure::ScriptLine("a.txt", 1, ScriptLineFault::Number),
+        "vdcp: a.txt: line 1: number\n",
+        1,
+    ),
+    (
+        Failure::ScriptLine("b.txt", 3, ScriptLineFault::Hex),
+        "vdcp: b.txt: line 3: hex\n",
+        1,
+    ),
+    (
+        Failure::TooManyEvents("a.txt"),
+        "vdcp: a.txt: too many\n",
+        1,
+    ),
+    (Failure::NotText("a.txt"), "vdcp: a.txt: text\n", 1),
+    (Failure::Write("a.csv"), "vdcp: a.csv: write\n", 3),
+    (
+        Failure::IsList("a.csv"),
+        "vdcp: a.csv: exists as the list\n",
+        3,
+    ),
+    (Failure::Exists("a.csv"), "vdcp: a.csv: exists\n", 3),
+    (Failure::InUse("a.csv"), "vdcp: a.csv: in use\n", 3),
+    (
+        Failure::JournalRow("a.csv", 1, JournalFault::List),
+        "vdcp: a.csv: row 1: list\n",
+        1,
+    ),
+    (
+        Failure::JournalRow("a.csv", 12, JournalFault::Unawaited),
+        "vdcp: a.csv: row 12: unawaited\n",
+        1,
+    ),
+    (Failure::Address, "vdcp: address\n", 2),
+    (Failure::Connect, "vdcp: cannot connect\n", 3),
+    (Failure::NotEmpty, "vdcp: port not empty\n", 1),
+    (Failure::Bind, "vdcp: cannot bind\n", 3),
+    (Failure::LineFailed, "vdcp: line failed\n", 3),
+    (Failure::LineClosed, "vdcp: line closed\n", 3),
+    (Failure::Spent, "vdcp: spent\n", 3),
+    (Failure::Memory, "vdcp: memory\n", 3),
+];
+
+#[test]
+fn each_failure_is_told(rt: HostRuntime) -> Result<(), Fail> {
+    let alloc: Global = rt.alloc();
+    for (failure, line, status) in ROWS {
+        let mut err = Vec::new(alloc);
+        assert_eq!(rt; failure.report(&mut err), status, "{line}");
+        assert_eq!(rt; err.as_slice(), line.as_bytes(), "{line}");
+    }
+    let mut err = Vec::new(alloc);
+    assert_eq!(rt; Failure::Writer.report(&mut err), 3);
+    assert!(rt; err.is_empty());
+    Ok(())
+}
+
+// A failure that this line tells equals those that it tells too, and no other.
+fn expect_equal_where_told_alike(rt: &impl Abort, failure: Failure<'_>, line: &str) {
+    for (other, told, _) in ROWS {
+        let is_equal = failure == other;
+        assert!(rt; is_equal == (line == told));
+    }
+    assert!(rt; failure != Failure::Writer);
+}
+
+#[test]
+fn failures_are_equal_where_they_are_told_alike(rt: HostRuntime) {
+    for (failure, line, _) in ROWS {
+        expect_equal_where_told_alike(&rt, failure, line);
+    }
+    assert!(rt; Failure::Writer == Failure::Writer);
+}

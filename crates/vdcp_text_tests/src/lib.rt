@@ -1,0 +1,11 @@
+//! Tests of `vdcp_text`, by its public calls.
+#![tactic(auto)]
+
+#[cfg(test)]
+mod exchange;
+#[cfg(test)]
+mod failure;
+#[cfg(test)]
+mod make;
+#[cfg(test)]
+mod show;
