@@ -20,6 +20,3 @@ pub use burst::{Way, captured_as, captured_in};
 pub use capture::{Captured, exchanges_in};
 pub use judge::{Judge, Ruling};
 pub use keeping::{first_forbidden, rulings};
-
-#[cfg(test)]
-mod tests;

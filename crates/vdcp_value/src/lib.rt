@@ -26,8 +26,6 @@ mod label;
 pub mod laws;
 mod part;
 mod rate;
-#[cfg(test)]
-mod tests;
 mod timecode;
 
 pub use clip_id::ClipId;

@@ -34,6 +34,3 @@ pub use command::Command;
 pub use encoding::LONGEST;
 pub use fault::WordFault;
 pub use reply::Reply;
-
-#[cfg(test)]
-mod tests;

@@ -1,7 +1,7 @@
-use super::*;
 use arrayvec::ArrayString;
 use std::process::Abort;
 use std::test::Fail;
+use vdcp_value::{ClipId, Field, IdFault, Item, Part, Rate, TcFault, Timecode, laws};
 
 const CLIP0001: [u8; 8] = [0x43, 0x4c, 0x49, 0x50, 0x30, 0x30, 0x30, 0x31];
 

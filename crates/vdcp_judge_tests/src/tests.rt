@@ -3,10 +3,12 @@ ghost use Rattle.std.specs.Prelude.{None, Some, [], ◌∷◌};
 ghost use Rattle.std.proofs.Common.{rules};
 ghost use Rattle.std.proofs.lemmas.Grind.{common_steps};
 
-use crate::{Captured, Judge, Ruling, Way, captured_in, exchanges_in, first_forbidden, rulings};
 use std::process::Abort;
 use std::test::Fail;
 use vdcp_auto::{Exchange, Heard, Source};
+use vdcp_judge::{
+    Captured, Judge, Ruling, Way, captured_in, exchanges_in, first_forbidden, rulings,
+};
 use vdcp_value::{ClipId, Item, Part};
 use vdcp_words::{Command, Reply};
 

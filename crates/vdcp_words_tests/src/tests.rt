@@ -1,12 +1,12 @@
 ghost use Rattle.std.specs.Prelude.{◌≡◌, ◌≤◌, Ok};
 ghost use Rattle.vdcp_words.specs.Replies.{MatchesBitmap};
 
-use crate::{Command, Reply, WordFault, laws};
 use arrayvec::ArrayString;
 use std::process::Abort;
 use std::test::Fail;
 use vdcp_frame::{Message, Step, read_at};
 use vdcp_value::ClipId;
+use vdcp_words::{Command, Reply, WordFault, laws};
 
 fn clip(bytes: &[u8; 8]) -> ClipId {
     ClipId::new(*bytes)

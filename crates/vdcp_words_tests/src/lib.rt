@@ -1,0 +1,5 @@
+//! Tests of `vdcp_words`, by its public calls.
+#![tactic(auto)]
+
+#[cfg(test)]
+mod tests;
