@@ -67,6 +67,10 @@ class Port:
     def is_own(self, unit):
         return unit == self.unit
 
+    def readable(self, rest):
+        """The bytes that are read, of these, which begin where a message should."""
+        return rest
+
     def is_sum_right(self, summed):
         return sum(summed) % 256 == 0
 
@@ -146,6 +150,17 @@ class Port:
         return self.reply(0x96, bytes([data in self.lengths]))
 
 
+def length_of_first(rest):
+    """How many bytes the first message has, more than are there where it isn't whole, and 0 where there can be none."""
+    if rest[:1] in (b"", b"\x04"):
+        return 1
+    if rest[:1] == b"\x05":
+        return 2
+    if rest[:1] != b"\x02":
+        return 0
+    return 2 if len(rest) == 1 else rest[1] + 3 if rest[1] > 1 else 0
+
+
 class Burst:
     """What came since a silence: whole messages are answered as they come, and the end by the next silence."""
 
@@ -156,21 +171,19 @@ class Burst:
         answers = b""
         self.rest += piece[: max(0, MOST_BYTES - self.count)]
         self.count += len(piece)
-        while length := self.length_of_first():
-            answers += self.port.answer(self.rest[:length])
-            self.rest = self.rest[length:]
+        while not self.has_fault:
+            self.rest = self.port.readable(self.rest)
+            length = length_of_first(self.rest)
+            message = self.rest[:length]
+            if len(message) < length:
+                break
+            if length == 0 or length > 2 and not self.port.is_sum_right(message[2:]):
+                self.has_fault = True
+            else:
+                answers += self.port.answer(message)
+                self.rest = self.rest[length:]
         self.has_fault |= self.count > MOST_BYTES
         return answers
-
-    def length_of_first(self):
-        """How many bytes the first message has; 0 where it isn't whole, or has a fault."""
-        rest, length = self.rest, {b"\4": 1, b"\5": 2, b"\2": 2, b"": 1}.get(self.rest[:1], 0)
-        is_framed = rest[:1] == b"\2" and len(rest) > 1
-        if is_framed:
-            length = rest[1] + 3 if rest[1] > 1 else 0
-        if length == 0 or is_framed and len(rest) >= length and not self.port.is_sum_right(rest[2:length]):
-            self.has_fault = True
-        return 0 if self.has_fault or len(rest) < length else length
 
     def end(self):
         return self.port.answer_end(self.has_fault, self.rest)

@@ -5,6 +5,7 @@ ADDR', serves one connection at that, and ends; what goes to air is told on stan
 
 import argparse
 import csv
+import re
 import socket
 import sys
 
@@ -13,7 +14,7 @@ from table_server import ACK, NO_COMMAND, Port, frames_of, id_of, serve, time_co
 
 
 class AirsUncued(Port):
-    """PLAY airs something also where no cue is done."""
+    """PLAY airs something also where no cue is done: what is being cued, else the first clip."""
 
     def play(self, data):
         self.cued = self.cued or next((clip, frames_of(length)) for clip, length in self.lengths.items())
@@ -22,13 +23,13 @@ class AirsUncued(Port):
 
 
 class AirsTwice(Port):
-    """A PLAY after a PLAY airs the same again."""
+    """PLAY with nothing cued airs once more what was aired last, until a STOP."""
 
     last = None
 
     def air(self, item):
-        super().air(item)
         self.last = item
+        super().air(item)
 
     def play(self, data):
         self.cued = self.cued or self.last
@@ -40,14 +41,22 @@ class AirsTwice(Port):
 
 
 class KeepsFirstCue(Port):
-    """A cue is answered, but doesn't replace one that is there."""
+    """A cue doesn't replace one that is there, and is answered all the same."""
 
     def take_cue(self, item):
         return ACK if self.cued else super().take_cue(item)
 
 
+class CueCutsClip(Port):
+    """A cue ends what plays."""
+
+    def take_cue(self, item):
+        self.playing = None
+        return super().take_cue(item)
+
+
 class StateLags(Port):
-    """The state is that of before the last command."""
+    """The state byte is that of before the last message."""
 
     shown = 0x01
 
@@ -77,13 +86,6 @@ class SaysDoneEarly(Port):
         return super().state() & ~0x02 | (0x80 if self.cued else 0)
 
 
-class SaysDoneEmpty(Port):
-    """A cue is shown as done also where nothing is cued."""
-
-    def state(self):
-        return super().state() if self.cued else 0x84 if self.playing else 0x80
-
-
 class StopKeepsCue(Port):
     """STOP leaves what is cued."""
 
@@ -92,12 +94,22 @@ class StopKeepsCue(Port):
         return ACK
 
 
-class StopKeepsAir(Port):
+class StopKeepsClip(Port):
     """STOP leaves what plays."""
 
     def stop(self, data):
         self.cued = None
         return ACK
+
+
+class CloseKeepsCue(Port):
+    """CLOSE leaves what is cued."""
+
+    def close(self, data):
+        cued = self.cued
+        answer = super().close(data)
+        self.cued = cued
+        return answer
 
 
 class NeverRefuses(Port):
@@ -121,22 +133,27 @@ class AnySum(Port):
         return True
 
 
+class NoSum(Port):
+    """A message that ends before its checksum counts."""
+
+    def answer_end(self, has_fault, rest):
+        is_whole = not has_fault and len(rest) > 3 and len(rest) == rest[1] + 2
+        return self.answer(rest + b"\0") if is_whole else super().answer_end(has_fault, rest)
+
+
+class SkipsJunk(Port):
+    """Bytes FFh before a message are passed over."""
+
+    def readable(self, rest):
+        return rest.lstrip(b"\xff")
+
+
 class UnknownPlays(Port):
-    """An unknown command without data counts as PLAY."""
+    """A framed message that is no command counts as PLAY, where it has no data."""
 
     def command(self, kind, code):
         known = super().command(kind, code)
         return ("play", 0) if known == NO_COMMAND else known
-
-
-class CloseKeepsSlots(Port):
-    """CLOSE leaves what is cued and what plays."""
-
-    def close(self, data):
-        kept = self.cued, self.playing
-        answer = super().close(data)
-        self.cued, self.playing = kept
-        return answer
 
 
 class Mute(Port):
@@ -168,26 +185,9 @@ class HangsUp(Port):
         return super().answer(message)
 
 
-KINDS = {
-    "right": Port,
-    "airs-uncued": AirsUncued,
-    "airs-twice": AirsTwice,
-    "keeps-first-cue": KeepsFirstCue,
-    "state-lags": StateLags,
-    "status-drops-cue": StatusDropsCue,
-    "says-done-early": SaysDoneEarly,
-    "says-done-empty": SaysDoneEmpty,
-    "stop-keeps-cue": StopKeepsCue,
-    "stop-keeps-air": StopKeepsAir,
-    "never-refuses": NeverRefuses,
-    "any-unit": AnyUnit,
-    "any-sum": AnySum,
-    "unknown-plays": UnknownPlays,
-    "close-keeps-slots": CloseKeepsSlots,
-    "mute": Mute,
-    "babbles": Babbles,
-    "hangs-up": HangsUp,
-}
+# By the words for them: airs-uncued, ..
+KINDS = {re.sub("(?<=.)(?=[A-Z])", "-", kind.__name__).lower(): kind for kind in Port.__subclasses__()}
+KINDS["right"] = Port
 
 
 def main():
