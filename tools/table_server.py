@@ -40,7 +40,7 @@ def frames_of(label):
 
 
 class Port:
-        # A clip's ID and how many frames of it play.
+    # Each nothing, or a clip's ID and how many frames of it play.
     cued = playing = None
     is_open = is_selected = False
     # Until the cue is done, and until the clip has ended.
