@@ -157,7 +157,8 @@ def framed(kind, code, data=b""):
 
 
 def journal(rows):
-    """Of a run of plain clips, to the check of the last one: ten exchanges for each event, all answered."""
+    """Of a run of plain clips, to the check of the last one: ten exchanges for each event, all answered. Its events, its rows,
+    and the rows of a capture of its line."""
     events = [f"CLIP{number % 10000:04d}" for number in range(rows)]
     digest = sha256("".join(f"{number},{event}\n" for number, event in enumerate(events)).encode()).hexdigest()
     port, ack = b"\x01", ("ack", "04")
@@ -180,18 +181,21 @@ def journal(rows):
     moments = (f"2026-11-25T{ms // 3600000:02d}:{ms // 60000 % 60:02d}:{ms // 1000 % 60:02d}.{ms % 1000:03d}Z"
                for ms in range(0, 86400000, 10))
     told = [("list", digest, "plain,0,1,10")]
+    captured = []
     for sent, heard in exchanges:
         told += [("sent", *sent), ("heard", *heard)]
-    return events, [f"{moment},{','.join(row)}" for moment, row in zip(moments, told)]
+        captured += [f",down,{sent[1]}", f",up,{heard[1]}"]
+    return events, [f"{moment},{','.join(row)}" for moment, row in zip(moments, told)], captured
 
 
 def write_inputs(folder, rows):
     """Writes them all into a folder, each line with its end."""
-    events, entries = journal(rows)
+    events, entries, captured = journal(rows)
     files = {
         **lists(rows),
         "whole.csv": events,
         "journal.csv": entries,
+        "capture.csv": captured,
         "script.txt": script(rows, MISHAPS),
         "confirm.txt": script(rows, MISHAPS + FORGERIES),
         "bursts.csv": vectors(rows),
