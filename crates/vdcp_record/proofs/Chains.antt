@@ -61,7 +61,7 @@ few_left (pending.Failed f) = omega arith
 -- Commands and ends.
 
 -- something is noted that isn't written, or nothing is written any more
-is_pending : Pending → Bool
+abbrev is_pending : Pending → Bool
 is_pending pending.Nothing = false
 is_pending (pending.End row) = true
 is_pending (pending.Failed f) = true
@@ -105,6 +105,21 @@ ended_no_command : (p : Pending) (heard : Option Heard) (time : Moment) → Hold
 ended_no_command pending.Nothing heard time none = row_no_command heard time
 ended_no_command (pending.End row) heard time none = row_no_command heard time
 ended_no_command (pending.Failed f) heard time none = none
+
+pub end_note_no_command : (heard : Option Heard) → command_in (end_note heard) ≡ []
+end_note_no_command None = refl
+end_note_no_command (Some h) = refl
+
+pub ended_holds_none : (p : Pending) (row : Row) → command_in row.note ≡ [] → HoldsNoCommand p
+    → HoldsNoCommand (ended p row)
+ended_holds_none pending.Nothing row h none = ap (λ (l : List Command). l ++ []) h
+ended_holds_none (pending.End before) row h none = ap (λ (l : List Command). l ++ []) h
+ended_holds_none (pending.Failed f) row h none = none
+
+pub notes_end : {F : Type 0} (safe : F → Option (List ℕ)) (heard : Option Heard) (k l : Recording F)
+    → NotesEnd heard k l → Notes safe (end_of heard) k l
+notes_end safe None k l n = n
+notes_end safe (Some h) k l n = n
 
 -- Chains.
 
@@ -216,7 +231,7 @@ of_notes safe notes noted k m r is alternate =
 whole_run : {F : Type 0} (safe : F → Option (List ℕ)) (plan : Plan) (unit : ℕ) (is_new : Type 0)
     (log_of : List Arrival → List Exchange) (state : State) (told told' : Option Told) (answer : Result Ran KeptFault)
     (k m : Recording F) (n : KeptInRun (Notes safe) (Loses safe) plan unit is_new log_of state told told' answer k m)
-    → HoldsNoCommand k.pending → Keeps (Notes safe) n.notes k m → IfDriven answer (λ _. [] ≡ [])
+    → HoldsNoCommand k.pending → Keeps (Notes safe) n.notes k m → IfDriven answer (λ _. ◌≡◌ {A = List ℕ} [] [])
     → ((torn : List ℕ) → OnUnkept answer (IsTorn k.unit (rows_left m.pending) torn))
     → IsRecorded safe plan unit is_new log_of state told told' answer k m
 whole_run safe plan unit is_new log_of state told told' answer k m n none chain whole torn =
