@@ -23,7 +23,7 @@ use Rattle.vdcp_journal.specs.declared.moment.Moment.{Moment}
 use Rattle.vdcp_journal.specs.declared.row.Note.{Note}
 use Rattle.vdcp_journal.specs.declared.row.Note.TheVariants as note
 use Rattle.vdcp_journal.specs.declared.row.Row.{Row}
-use Rattle.vdcp_record.specs.Recorded.{HoldsNoCommand, IsRecorded, IsTorn, Loses, Notes, NotesEnd, command_in, commands_in, note_for, notes_in}
+use Rattle.vdcp_record.specs.Recorded.{HoldsNoCommand, IsRecorded, IsTorn, Loses, Notes, NotesEnd, commands_of_note, commands_of_rows, note_for, notes_in}
 use Rattle.vdcp_record.specs.Recording.{Recording, end_note, ended, rows_left}
 use Rattle.vdcp_record.specs.declared.pending.Pending.{Pending}
 use Rattle.vdcp_record.specs.declared.pending.Pending.TheVariants as pending
@@ -46,8 +46,8 @@ appends_both (Some a) (Some b) (Some c) xs ys first next =
 text_both : (unit : ℕ) (xs ys : List Row) → rows_text unit (xs ++ ys) ≡ rows_text unit xs ++ rows_text unit ys
 text_both unit xs ys = flat_map-append (λ (row : Row). fields_text (row_fields unit row)) xs ys
 
-commands_both : (xs ys : List Row) → commands_in (xs ++ ys) ≡ commands_in xs ++ commands_in ys
-commands_both xs ys = flat_map-append (λ (row : Row). command_in row.note) xs ys
+commands_both : (xs ys : List Row) → commands_of_rows (xs ++ ys) ≡ commands_of_rows xs ++ commands_of_rows ys
+commands_both xs ys = flat_map-append (λ (row : Row). commands_of_note row.note) xs ys
 
 notes_both : (xs ys : List Row) → notes_in (xs ++ ys) ≡ notes_in xs ++ notes_in ys
 notes_both [] ys = refl
@@ -96,7 +96,7 @@ end_no_command : (heard : Option Heard) (more : List Kept) → commands_kept (en
 end_no_command None more = refl
 end_no_command (Some h) more = refl
 
-row_no_command : (heard : Option Heard) (time : Moment) → commands_in (record { time = time; note = end_note heard } ∷ []) ≡ []
+row_no_command : (heard : Option Heard) (time : Moment) → commands_of_rows (record { time = time; note = end_note heard } ∷ []) ≡ []
 row_no_command None time = refl
 row_no_command (Some h) time = refl
 
@@ -106,11 +106,11 @@ ended_no_command pending.Nothing heard time none = row_no_command heard time
 ended_no_command (pending.End row) heard time none = row_no_command heard time
 ended_no_command (pending.Failed f) heard time none = none
 
-pub end_note_no_command : (heard : Option Heard) → command_in (end_note heard) ≡ []
+pub end_note_no_command : (heard : Option Heard) → commands_of_note (end_note heard) ≡ []
 end_note_no_command None = refl
 end_note_no_command (Some h) = refl
 
-pub ended_holds_none : (p : Pending) (row : Row) → command_in row.note ≡ [] → HoldsNoCommand p
+pub ended_holds_none : (p : Pending) (row : Row) → commands_of_note row.note ≡ [] → HoldsNoCommand p
     → HoldsNoCommand (ended p row)
 ended_holds_none pending.Nothing row h none = ap (λ (l : List Command). l ++ []) h
 ended_holds_none (pending.End before) row h none = ap (λ (l : List Command). l ++ []) h
@@ -129,7 +129,7 @@ record RowsOf {F : Type 0} (safe : F → Option (List ℕ)) (notes : List Kept) 
   rows : List Row
   appends : Appends (safe k.file) (safe m.file) (rows_text k.unit rows)
   united : m.unit ≡ k.unit
-  commands : HoldsNoCommand k.pending → commands_in rows ≡ commands_kept notes
+  commands : HoldsNoCommand k.pending → commands_of_rows rows ≡ commands_kept notes
   tells : Alternates (is_pending k.pending) notes
       → notes_in (rows ++ rows_left m.pending) ≡ notes_in (rows_left k.pending) ++ map note_for notes
 
@@ -158,7 +158,7 @@ sent_more {F} safe c more k l m n r =
       united = r.united ∙ same;
       commands = λ none.
           commands_both now r.rows
-          ∙ ap (λ (l : List Command). l ++ commands_in r.rows)
+          ∙ ap (λ (l : List Command). l ++ commands_of_rows r.rows)
           (commands_both (rows_left k.pending) (row ∷ []) ∙ ap (λ (l : List Command). l ++ c ∷ []) none)
           ∙ ap (λ (l : List Command). c ∷ l)
           (r.commands (subst (λ (p : Pending). HoldsNoCommand p) (sym nothing) refl));

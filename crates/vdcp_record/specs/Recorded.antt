@@ -38,21 +38,21 @@ note_for kept.Silence = note.Silence
 abbrev pub notes_in : List Row → List Note
 notes_in rows = map (λ row. row.note) rows
 
-abbrev pub command_in : Note → List Command
-command_in (note.Sent command) = command ∷ []
-command_in (note.Heard heard) = []
-command_in note.Silence = []
-command_in note.Take = []
-command_in note.Stop = []
-command_in (note.End outcome) = []
+abbrev pub commands_of_note : Note → List Command
+commands_of_note (note.Sent command) = command ∷ []
+commands_of_note (note.Heard heard) = []
+commands_of_note note.Silence = []
+commands_of_note note.Take = []
+commands_of_note note.Stop = []
+commands_of_note (note.End outcome) = []
 
 -- the commands of rows
-abbrev pub commands_in : List Row → List Command
-commands_in rows = flat_map (λ row. command_in row.note) rows
+abbrev pub commands_of_rows : List Row → List Command
+commands_of_rows rows = flat_map (λ row. commands_of_note row.note) rows
 
 -- what is still to be written is no command
 abbrev pub HoldsNoCommand : Pending → Type 0
-HoldsNoCommand left = commands_in (rows_left left) ≡ []
+HoldsNoCommand left = commands_of_rows (rows_left left) ≡ []
 
 abbrev pub NotesEnd : {F : Type 0} → Option Heard → Recording F → Recording F → Type 0
 NotesEnd heard old new = (time : Moment)
@@ -78,7 +78,7 @@ abbrev pub IsTorn : ℕ → List Row → List ℕ → Type 0
 IsTorn unit rows torn = (one : Row) × (rest : List ℕ) × (torn ++ rest ≡ rows_text unit (rows ++ one ∷ []))
 
 -- a run gave this answer: these rows are safe in the file since, and they have each command of which a byte went out.
--- This holds whenever a call of the wire or of the file fails, so it holds at each moment
+-- It holds wherever a call of the wire or of the file fails, so at each moment
 pub record IsRecorded {F : Type 0} (safe : F → Option (List ℕ)) (plan : Plan) (unit : ℕ) (is_new : Type 0)
     (log_of : List Arrival → List Exchange) (state : State) (told told' : Option Told) (answer : Result Ran KeptFault)
     (old new : Recording F) : Type 0 where
@@ -93,7 +93,7 @@ pub record IsRecorded {F : Type 0} (safe : F → Option (List ℕ)) (plan : Plan
   pub is_torn : OnUnkept answer (IsTorn old.unit last torn)
   -- what went out since is the bytes of the commands of the rows, or a beginning of these
   pub sends : (t : Told) → told ≡ Some t → IfTold told' (λ u. (unsent : List ℕ)
-      × (u.sent ++ unsent ≡ t.sent ++ bytes_of unit (commands_in rows)))
+      × (u.sent ++ unsent ≡ t.sent ++ bytes_of unit (commands_of_rows rows)))
   -- of a new automation the rows are just what came shows: each command, and what ended its exchange
   pub of_new : is_new → (u : Told) → told' ≡ Some u → notes_in (rows ++ last)
       ≡ notes_in (rows_left old.pending) ++ map note_for (notes_of plan (log_of u.came) state answer)

@@ -6,7 +6,7 @@ ghost use Rattle.vdcp_journal.specs.declared.moment.Moment.{Moment};
 ghost use Rattle.vdcp_journal.specs.declared.row.Note.TheVariants.{Sent};
 ghost use Rattle.vdcp_drive.specs.KeptLeaves.{KeptLeaves};
 ghost use Rattle.vdcp_drive.specs.PromptKept.{PromptKeptLeaves};
-ghost use Rattle.vdcp_record.specs.Recorded.{HoldsNoCommand, RecordsPromptRun, RecordsRun, command_in};
+ghost use Rattle.vdcp_record.specs.Recorded.{HoldsNoCommand, RecordsPromptRun, RecordsRun, commands_of_note};
 ghost use Rattle.vdcp_record.specs.Recording.{Adds, AddsBeginning, IsUnwritten, Recording, end_note, ended, outcome_rows, rows_left};
 ghost use Rattle.vdcp_record.specs.declared.pending.Pending.TheVariants.{End, Failed, Nothing};
 ghost use Rattle.vdcp_record.specs.declared.pending.RecordFault.{RecordFault};
@@ -121,7 +121,7 @@ impl<'a, 'r, R: Clock + AllocGlobal, F: JournalFile + Drop> Recorder<'a, 'r, R, 
     }
 
     fn note_row(&mut self, row: Row)
-        requires { command_in row.note ≡ [] }
+        requires { commands_of_note row.note ≡ [] }
         ensures { self.new ≡ record self.old { pending = ended self.old.pending row } }
     {
         self.pending = self.pending.ended(row);
