@@ -13,7 +13,7 @@ use Rattle.vdcp_auto.specs.declared.exchange.Heard.{Heard}
 use Rattle.vdcp_auto.specs.State.{State}
 use Rattle.vdcp_drive.specs.Driven.{bytes_of}
 use Rattle.vdcp_drive.specs.Hearing.{command_bytes}
-use Rattle.vdcp_drive.specs.Keeping.{kept_by}
+use Rattle.vdcp_drive.specs.Keeping.{Keeps, commands_kept, kept_by}
 use Rattle.vdcp_drive.specs.PromptReading.{Held, holds, completed, held_after, held_after_silence, held_by}
 use Rattle.vdcp_drive.specs.declared.keep.Kept.{Kept}
 use Rattle.vdcp_wire.specs.Wires.{Arrival, bytes, silence, close, Told, nothing_told, adds_sent, SendsFront}
@@ -127,12 +127,14 @@ pub record HearsPrompt (plan : Plan) (unit : ℕ) (a : Arrival) (state : State) 
   pub shows : (log : List Exchange) → Shows (listens plan unit a
       (record { held = held_by reader; state = state; log = log; passed = passed })) state' reader' passed'
 
--- what is kept after a listen, whatever its exchanges before and what was kept before them
-pub record KeepsPrompt (plan : Plan) (unit : ℕ) (a : Arrival) (state : State) (reader : Option Progress) (passed : ℕ)
-    (kept kept' : Option (List Kept)) : Type 0 where
-  pub keeps : (log : List Exchange) (before : List Kept) → kept ≡ Some (before ++ kept_by plan log state)
-      → kept' ≡ Some (before ++ kept_in plan (listens plan unit a
-      (record { held = held_by reader; state = state; log = log; passed = passed })))
+-- what is noted in a listen, whatever its exchanges before: ends alone
+pub record NotesPrompt {K : Type 0} (adds : Kept → K → K → Type 0) (plan : Plan) (unit : ℕ) (a : Arrival) (state : State)
+    (reader : Option Progress) (passed : ℕ) (keep keep' : K) : Type 0 where
+  pub notes : List Kept
+  pub noted : Keeps adds notes keep keep'
+  pub ends : commands_kept notes ≡ []
+  pub shows : (log : List Exchange) → kept_by plan log state ++ notes ≡ kept_in plan (listens plan unit a
+      (record { held = held_by reader; state = state; log = log; passed = passed }))
 
 -- Whole runs.
 

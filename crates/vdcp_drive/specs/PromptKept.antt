@@ -1,11 +1,11 @@
 -- What a run of an automation that hears at once leaves where its exchanges are kept, and what it answers.
-use Rattle.std.specs.Prelude.{ℕ, ◌≡◌, List, Option, Some, Result, IsSome}
+use Rattle.std.specs.Prelude.{ℕ, ◌≡◌, List, Option, Result, IsSome}
 use Rattle.vdcp_value.specs.declared.part.Item.{Item}
+use Rattle.vdcp_words.specs.declared.command.Command.{Command}
 use Rattle.vdcp_auto.specs.Plan.{plan_of}
 use Rattle.vdcp_auto.specs.Turn.{given}
 use Rattle.vdcp_drive.specs.Driven.{IsReachedFrom}
-use Rattle.vdcp_drive.specs.Keeping.{HasKept}
-use Rattle.vdcp_drive.specs.KeptLeaves.{IfDriven, OnUnkept}
+use Rattle.vdcp_drive.specs.KeptLeaves.{IfDriven, OnUnkept, KeptInRun}
 use Rattle.vdcp_drive.specs.Prompt.{Prompting, HasRunPrompt, IsNewPrompt, prompted}
 use Rattle.vdcp_drive.specs.PromptLeaves.{PromptLeaves}
 use Rattle.vdcp_drive.specs.declared.keep.Kept.{Kept}
@@ -31,10 +31,11 @@ pub record PromptKeptLeaves {S W : Type 0} (items : S → List Item) (told : W �
   pub driven : IfDriven answer (λ a. PromptLeaves items told failures listens old new a)
   pub unkept : OnUnkept answer (UnkeptPrompt items told failures old new)
 
--- what is kept of a new automation, where this is what was kept before and what is kept now
-abbrev pub KeepsAll : {S W : Type 0} (items : S → List Item) (told : W → Option Told) (failures : W → ℕ)
-    (old new : Prompting S W) → Result Ran KeptFault → Option (List Kept) → Option (List Kept) → Type 0
-KeepsAll items told failures old new answer kept kept' = IsNewPrompt told old → failures old.wire ≡ 0 →
-    (before : List Kept) → kept ≡ Some before → IfTold (told new.wire) (λ u.
-    HasKept (plan_of items old.controller) (prompted (plan_of items old.controller) old.unit u.came).log
-    new.controller.state answer before kept')
+-- what is kept in a run that gave this answer
+abbrev pub KeepsPromptRun : {S W K : Type 0} (items : S → List Item) (told : W → Option Told) (failures : W → ℕ)
+    (adds : Kept → K → K → Type 0) (loses : Command → K → K → Type 0) (old new : Prompting S W) → Result Ran KeptFault
+    → K → K → Type 0
+KeepsPromptRun items told failures adds loses old new answer keep keep' = KeptInRun adds loses
+    (plan_of items old.controller) old.unit (IsNewPrompt told old × (failures old.wire ≡ 0))
+    (λ came. (prompted (plan_of items old.controller) old.unit came).log) new.controller.state (told old.wire)
+    (told new.wire) answer keep keep'

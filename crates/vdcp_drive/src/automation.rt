@@ -6,7 +6,7 @@ ghost use Rattle.vdcp_auto.specs.Turn as turns;
 ghost use Rattle.vdcp_auto.specs.State.{State};
 ghost use Rattle.vdcp_drive.specs.Driven.{IsReachedFrom, IsNew, HasRunBroken, states_listening, states_watched};
 ghost use Rattle.vdcp_drive.specs.Hearing.{HasSent, HasSendBroken, HasHeard, HasReceived, Hears, heard_by_then, command_bytes};
-ghost use Rattle.vdcp_drive.specs.KeptLeaves.{KeptLeaves, Keeps, OnBroken, OnUnkept};
+ghost use Rattle.vdcp_drive.specs.KeptLeaves.{KeepsRun, KeptLeaves, OnBroken, OnUnkept};
 ghost use Rattle.vdcp_drive.specs.Lines.{line_of, ran_unless_ended};
 ghost use Rattle.vdcp_drive.specs.RunLeaves.{RunLeaves};
 ghost use Rattle.vdcp_wire.specs.Wires.{Arrival, Told, IfTold, MayCome, nothing_told, adds_sent, adds_came, SendsFront};
@@ -178,7 +178,7 @@ impl<S: Source, W: Wire> AutoDriver<S, W> {
         keep: &mut K,
     ) -> Result<Ran, KeptFault>
         ensures leaves { KeptLeaves S.items W.told W.failures listens self.old self.new result }
-        ensures keeps { Keeps S.items W.told W.failures self.old self.new result (K.kept keep.old) (K.kept keep.new) }
+        ensures keeps { KeepsRun S.items W.told W.failures K.adds K.loses self.old self.new result keep.old keep.new }
         ensures fails { OnUnkept result K.can_fail }
         // A watcher that tells what it watched was lent the controller of a new automation in each listen.
         ensures watched { IsNew W.told self.old → (states : List State) → V.watched watcher.old ≡ Some states →

@@ -2,7 +2,7 @@
 ghost use Rattle.std.specs.Prelude.{◌≡◌, OnErr, OnOk};
 ghost use Rattle.vdcp_auto.specs.Plan.{plan_of};
 ghost use Rattle.vdcp_auto.specs.Turn as turns;
-ghost use Rattle.vdcp_drive.specs.Keeping.{adds_end_once_ended, adds_given, HasLostGiven};
+ghost use Rattle.vdcp_drive.specs.Keeping.{HasLostGiven, Keeps, given_notes, notes_once_ended};
 
 use crate::line::DriveFault;
 use thiserror::Error;
@@ -38,12 +38,17 @@ pub enum KeptFault {
 
 /// Keeps the exchanges of an automation, so that they outlast it.
 pub trait Keep {
-    ghost use Rattle.std.specs.Prelude.{◌≡◌, List, Option, None, OnErr, OnOk, ⊤};
+    ghost use Rattle.std.specs.Prelude.{OnErr, OnOk, ⊤};
+    ghost use Rattle.vdcp_drive.specs.Keeping.{end_of};
     ghost use Rattle.vdcp_drive.specs.declared.keep.Kept.{Kept};
-    ghost use Rattle.vdcp_drive.specs.Keeping.{adds_command, adds_end, HasLost};
+    ghost use Rattle.vdcp_drive.specs.declared.keep.Kept.TheVariants as kept;
+    ghost use Rattle.vdcp_words.specs.declared.command.Command.{Command};
 
-    /// What it keeps, in order, if it tells that.
-    ghost kept: { Self → Option (List Kept) } = { λ _. None };
+    /// From one of its states to the next it notes this, if it tells that.
+    ghost adds: { Kept → Self → Self → Type 0 } = { λ _ _ _. ⊤ };
+
+    /// From one of its states to the next it fails to keep this command.
+    ghost loses: { Command → Self → Self → Type 0 } = { λ _ _ _. ⊤ };
 
     /// Whether it can fail.
     ghost can_fail: { Type 0 } = { ⊤ };
@@ -51,14 +56,14 @@ pub trait Keep {
     /// It is given a command before its first byte goes out, and makes it safe, with all that it noted before. Where
     /// it fails, the command may be missing, and the end of the exchange before it.
     fn keep_sent(&mut self, command: &Command) -> Result<(), KeepFault>
-        ensures kept { OnOk result (kept self.new ≡ adds_command command.now (kept self.old)) }
-        ensures lost { OnErr result (HasLost command.now (kept self.old) (kept self.new)) }
+        ensures kept { OnOk result (adds (kept.Sent command.now) self.old self.new) }
+        ensures lost { OnErr result (loses command.now self.old self.new) }
         ensures fails { OnErr result can_fail };
 
     /// It notes what ended an exchange: what was heard, or that nothing came in time. This is safe once the next
     /// command is.
     fn note_end(&mut self, heard: Option<Heard>)
-        ensures { kept self.new ≡ adds_end heard (kept self.old) };
+        ensures { adds (end_of heard) self.old self.new };
 }
 
 /// Keeps nothing.
@@ -80,10 +85,10 @@ pub(crate) fn keep_next<S: Source, K: Keep>(
     controller: &Controller<S>,
     keep: &mut K,
 ) -> Result<(), KeepFault>
-    ensures kept { OnOk result (K.kept keep.new ≡ adds_given (turns.given (plan_of S.items controller.now)
-        controller.now.state) (K.kept keep.old)) }
-    ensures lost { OnErr result (HasLostGiven (turns.given (plan_of S.items controller.now) controller.now.state)
-        (K.kept keep.old) (K.kept keep.new)) }
+    ensures kept { OnOk result (Keeps K.adds (given_notes (turns.given (plan_of S.items controller.now)
+        controller.now.state)) keep.old keep.new) }
+    ensures lost { OnErr result (HasLostGiven K.loses (turns.given (plan_of S.items controller.now)
+        controller.now.state) keep.old keep.new) }
     ensures fails { OnErr result K.can_fail }
 {
     match controller.to_send() {
@@ -98,8 +103,7 @@ pub(crate) fn note_if_ended<S: Source, K: Keep>(
     heard: Option<Heard>,
     keep: &mut K,
 )
-    ensures { K.kept keep.new ≡ adds_end_once_ended (turns.is_awaiting controller.now.state.stage) heard
-        (K.kept keep.old) }
+    ensures { Keeps K.adds (notes_once_ended (turns.is_awaiting controller.now.state.stage) heard) keep.old keep.new }
 {
     if !controller.awaiting() {
         keep.note_end(heard);

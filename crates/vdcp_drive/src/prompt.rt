@@ -4,11 +4,11 @@ ghost use Rattle.vdcp_auto.specs.Plan.{plan_of};
 ghost use Rattle.vdcp_auto.specs.Turn as turns;
 ghost use Rattle.vdcp_auto.specs.State.{State};
 ghost use Rattle.vdcp_drive.specs.Driven.{IsReachedFrom};
-ghost use Rattle.vdcp_drive.specs.Keeping.{adds_ended};
+ghost use Rattle.vdcp_drive.specs.Keeping.{Keeps, ended_notes};
 ghost use Rattle.vdcp_drive.specs.KeptLeaves.{OnBroken, OnUnkept};
 ghost use Rattle.vdcp_drive.specs.Lines.{line_of, ran_unless_ended};
-ghost use Rattle.vdcp_drive.specs.Prompt.{HasPrompted, HasPromptBroken, HasRunPromptBroken, HearsPrompt, IsNewPrompt, KeepsPrompt, one_more, states_prompted, states_seen};
-ghost use Rattle.vdcp_drive.specs.PromptKept.{KeepsAll, PromptKeptLeaves};
+ghost use Rattle.vdcp_drive.specs.Prompt.{HasPrompted, HasPromptBroken, HasRunPromptBroken, HearsPrompt, IsNewPrompt, NotesPrompt, one_more, states_prompted, states_seen};
+ghost use Rattle.vdcp_drive.specs.PromptKept.{KeepsPromptRun, PromptKeptLeaves};
 ghost use Rattle.vdcp_drive.specs.PromptLeaves.{PromptLeaves};
 ghost use Rattle.vdcp_drive.specs.PromptReading.{IsReader, held_after_silence, held_by, holds, HasRead};
 ghost use Rattle.vdcp_wire.specs.Wires.{Arrival, bytes, silence, IfTold, MayCome, adds_came};
@@ -174,8 +174,8 @@ impl<S: Source, W: Wire> PromptDriver<S, W> {
             self.old.controller.state self.old.reader self.old.passed
             self.new.controller.state self.new.reader self.new.passed
             × (W.told self.new.wire ≡ adds_came a (W.told self.old.wire))
-            × KeepsPrompt (plan_of S.items self.old.controller) self.old.unit a
-            self.old.controller.state self.old.reader self.old.passed (K.kept keep.old) (K.kept keep.new)) }
+            × NotesPrompt K.adds (plan_of S.items self.old.controller) self.old.unit a
+            self.old.controller.state self.old.reader self.old.passed keep.old keep.new) }
         ensures breaks { W.failures self.old.wire ≡ 0 → OnErr result (W.told self.new.wire ≡ W.told self.old.wire) }
         ensures unchanged { OnErr result ((self.new ≡ record self.old { wire = self.new.wire })
             × (keep.new ≡ keep.old)) }
@@ -250,8 +250,8 @@ impl<S: Source, W: Wire> PromptDriver<S, W> {
         keep: &mut K,
     ) -> Result<Ran, KeptFault>
         ensures leaves { PromptKeptLeaves S.items W.told W.failures listens self.old self.new result }
-        ensures keeps { KeepsAll S.items W.told W.failures self.old self.new result (K.kept keep.old)
-            (K.kept keep.new) }
+        ensures keeps { KeepsPromptRun S.items W.told W.failures K.adds K.loses self.old self.new result keep.old
+            keep.new }
         ensures fails { OnUnkept result K.can_fail }
         // A watcher that tells what it watched was lent the controller of a new automation in each listen.
         ensures watched { IsNewPrompt W.told self.old → (states : List State) → V.watched watcher.old ≡ Some states →
@@ -356,8 +356,8 @@ fn hear<S: Source, W: Wire, K: Keep>(
         × HearsPrompt (plan_of S.items controller.old) unit a controller.old.state reader.old passed.old
         controller.new.state reader.new passed.new
         × (W.told wire.new ≡ adds_came a (W.told wire.old))
-        × KeepsPrompt (plan_of S.items controller.old) unit a controller.old.state reader.old passed.old
-        (K.kept keep.old) (K.kept keep.new)) }
+        × NotesPrompt K.adds (plan_of S.items controller.old) unit a controller.old.state reader.old passed.old
+        keep.old keep.new) }
     ensures reader { IsReader reader.new }
     ensures broken { OnErr result (W.told wire.new ≡ W.told wire.old) }
     ensures unchanged { OnErr result ((controller.new ≡ controller.old) × (reader.new ≡ reader.old)
@@ -408,8 +408,8 @@ fn hear_piece<S: Source, K: Keep>(
     requires { IsReader reader.old }
     ensures hears { HearsPrompt (plan_of S.items controller.old) unit (bytes piece.now)
         controller.old.state reader.old passed.old controller.new.state reader.new passed.new }
-    ensures keeps { KeepsPrompt (plan_of S.items controller.old) unit (bytes piece.now)
-        controller.old.state reader.old passed.old (K.kept keep.old) (K.kept keep.new) }
+    ensures keeps { NotesPrompt K.adds (plan_of S.items controller.old) unit (bytes piece.now)
+        controller.old.state reader.old passed.old keep.old keep.new }
     ensures reader { IsReader reader.new }
     ensures reached { IsReachedFrom (plan_of S.items controller.old) controller.old.state controller.new.state }
     ensures controller { controller.new ≡ record controller.old { state = controller.new.state } }
@@ -434,8 +434,8 @@ fn hear_some<S: Source, K: Keep>(
     ensures some { 0 < length piece.now → 0 < result }
     ensures hears { HearsPrompt (plan_of S.items controller.old) unit (bytes (take result piece.now))
         controller.old.state reader.old passed.old controller.new.state reader.new passed.new }
-    ensures keeps { KeepsPrompt (plan_of S.items controller.old) unit (bytes (take result piece.now))
-        controller.old.state reader.old passed.old (K.kept keep.old) (K.kept keep.new) }
+    ensures keeps { NotesPrompt K.adds (plan_of S.items controller.old) unit (bytes (take result piece.now))
+        controller.old.state reader.old passed.old keep.old keep.new }
     ensures reader { IsReader reader.new }
     ensures reached { IsReachedFrom (plan_of S.items controller.old) controller.old.state controller.new.state }
     ensures controller { controller.new ≡ record controller.old { state = controller.new.state } }
@@ -489,8 +489,8 @@ fn hear_or_pass<S: Source, K: Keep>(
     ensures state { controller.new ≡ record controller.old {
       state = turns.came_to (plan_of S.items controller.old) (Some heard.now) controller.old.state;
     } }
-    ensures kept { K.kept keep.new ≡ adds_ended (turns.ended_by (plan_of S.items controller.old) (Some heard.now)
-        controller.old.state) (K.kept keep.old) }
+    ensures kept { Keeps K.adds (ended_notes (turns.ended_by (plan_of S.items controller.old) (Some heard.now)
+        controller.old.state)) keep.old keep.new }
     ensures passed { passed.new
         ≡ (if turns.is_awaiting controller.old.state.stage then passed.old else one_more passed.old) }
 {
@@ -509,8 +509,8 @@ fn receive_kept<S: Source, K: Keep>(
     ensures state { controller.new ≡ record controller.old {
       state = turns.came_to (plan_of S.items controller.old) came controller.old.state;
     } }
-    ensures kept { K.kept keep.new ≡ adds_ended (turns.ended_by (plan_of S.items controller.old) came
-        controller.old.state) (K.kept keep.old) }
+    ensures kept { Keeps K.adds (ended_notes (turns.ended_by (plan_of S.items controller.old) came
+        controller.old.state)) keep.old keep.new }
 {
     if let Some(exchange) = controller.receive(came) {
         keep.note_end(exchange.heard);

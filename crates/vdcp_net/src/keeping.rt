@@ -1,8 +1,9 @@
 use std::rt::Clock;
-use vdcp_auto::Outcome;
-use vdcp_drive::{Keep, Unkept};
+use vdcp_auto::{Outcome, Source};
+use vdcp_drive::{AutoDriver, Keep, KeptFault, Ran, Unkept, Watch};
 use vdcp_record::{JournalFile, RecordFault, Recorder};
 use vdcp_text::Failure;
+use vdcp_wire::Wire;
 
 /// The journal of a run, by the name of its file.
 #[derive(Clone, Copy, Debug, PartialEq, Eq)]
@@ -23,18 +24,47 @@ pub enum Keeping<'a, J> {
 
 /// A journal of a run.
 pub trait Journal: Keep {
+    ghost use Rattle.vdcp_drive.specs.KeptLeaves.{KeptLeaves};
+
+    /// Runs an automation that hears its answers once the line is silent, and keeps its exchanges.
+    fn run_kept<S: Source, W: Wire, V: Watch<S>>(
+        &mut self,
+        driver: &mut AutoDriver<S, W>,
+        listens: u64,
+        watcher: &mut V,
+    ) -> Result<Ran, KeptFault>
+        ensures { KeptLeaves S.items W.told W.failures listens driver.old driver.new result };
+
     /// The run is over, and its controller has ended so, if it has: what was noted last is made safe. Err where that
     /// fails, or where a command couldn't be kept.
     fn close(&mut self, outcome: Option<Outcome>) -> Result<(), RecordFault>;
 }
 
 impl Journal for Unkept {
+    fn run_kept<S: Source, W: Wire, V: Watch<S>>(
+        &mut self,
+        driver: &mut AutoDriver<S, W>,
+        listens: u64,
+        watcher: &mut V,
+    ) -> Result<Ran, KeptFault> {
+        driver.run_kept(listens, watcher, self)
+    }
+
     fn close(&mut self, _outcome: Option<Outcome>) -> Result<(), RecordFault> {
         Ok(())
     }
 }
 
 impl<R: Clock + AllocGlobal, F: JournalFile + Drop> Journal for Recorder<'_, '_, R, F> {
+    fn run_kept<S: Source, W: Wire, V: Watch<S>>(
+        &mut self,
+        driver: &mut AutoDriver<S, W>,
+        listens: u64,
+        watcher: &mut V,
+    ) -> Result<Ran, KeptFault> {
+        self.run(driver, listens, watcher)
+    }
+
     fn close(&mut self, outcome: Option<Outcome>) -> Result<(), RecordFault> {
         match self.finish(outcome) {
             Ok(()) => Ok(()),

@@ -48,7 +48,9 @@ impl<'a, R: Clock, K: Keep> Polling<'a, R, K> {
 }
 
 impl<R: Clock, K: Keep> Keep for Polling<'_, R, K> {
-    ghost kept = { λ p. K.kept p.keep };
+    ghost adds = { λ one p q. K.adds one p.keep q.keep };
+
+    ghost loses = { λ command p q. K.loses command p.keep q.keep };
 
     ghost can_fail = { K.can_fail };
 

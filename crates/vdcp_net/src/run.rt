@@ -854,7 +854,7 @@ fn run_kept<'a, S: Source, W: Wire, V: Watch<S>, J: Journal + Drop>(
             (LineEnd::of_run(ran), None)
         }
         Keeping::Journal(name, mut journal) => {
-            let ran = driver.run_kept(listens, watcher, &mut journal);
+            let ran = journal.run_kept(driver, listens, watcher);
             let line = LineEnd::of_run(ran);
             let unkept = match journal.close(driver.controller().outcome()) {
                 Err(RecordFault::Memory) => Some(Failure::Memory),

@@ -1,3 +1,4 @@
 pub mod Recording
+pub mod Recorded
 pub mod Resuming
 pub mod Showing

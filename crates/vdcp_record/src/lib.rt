@@ -1,8 +1,8 @@
 //! The files of journals: one is begun, written while an automation plays a list, and read again.
 //!
-//! `begin_journal` makes a journal's file and gives a `Recorder`, which keeps each command there before it goes out:
-//! `AutoDriver::run_kept` is lent it, and `finish` writes what is left. `resume_journal` makes the controller of a
-//! journal anew, and a `Recorder` that appends to it; `replay` does so with a journal's bytes alone. `do_asrun` prints
+//! `begin_journal` makes a journal's file and gives a `Recorder`, which keeps each command there before it goes out: its
+//! `run` and `run_prompt` run an automation, and `finish` writes what is left. `resume_journal` makes the controller of
+//! a journal anew, and a `Recorder` that appends to it; `replay` does so with a journal's bytes alone. `do_asrun` prints
 //! the as-run list that a journal shows, as its `AsrunSettings` say. Each failure is told in one line.
 //!
 //! Files: `file` (a file whose bytes are safe once it says so; it is made, opened and locked), `pending` and `recorder`

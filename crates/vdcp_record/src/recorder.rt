@@ -4,6 +4,9 @@ ghost use Rattle.std.specs.Prelude.{◌≡◌, ◌≢◌, ◌≤◌, ◌∷◌, 
 ghost use Rattle.vdcp_journal.specs.Rows.{AppendsBeginning, fields_text, heading_fields, rows_text};
 ghost use Rattle.vdcp_journal.specs.declared.moment.Moment.{Moment};
 ghost use Rattle.vdcp_journal.specs.declared.row.Note.TheVariants.{Sent};
+ghost use Rattle.vdcp_drive.specs.KeptLeaves.{KeptLeaves};
+ghost use Rattle.vdcp_drive.specs.PromptKept.{PromptKeptLeaves};
+ghost use Rattle.vdcp_record.specs.Recorded.{HoldsNoCommand, RecordsPromptRun, RecordsRun, commands_of_note};
 ghost use Rattle.vdcp_record.specs.Recording.{Adds, AddsBeginning, IsUnwritten, Recording, end_note, ended, outcome_rows, rows_left};
 ghost use Rattle.vdcp_record.specs.declared.pending.Pending.TheVariants.{End, Failed, Nothing};
 ghost use Rattle.vdcp_record.specs.declared.pending.RecordFault.{RecordFault};
@@ -13,8 +16,8 @@ use crate::pending::{Pending, RecordFault};
 use std::alloc::Global;
 use std::marker::Model;
 use std::rt::Clock;
-use vdcp_auto::{Heard, Outcome};
-use vdcp_drive::{Keep, KeepFault};
+use vdcp_auto::{Heard, Outcome, Source};
+use vdcp_drive::{AutoDriver, Keep, KeepFault, KeptFault, PromptDriver, Ran, Watch, Wire};
 use vdcp_journal::{Heading, Moment, Note, Row, write_heading, write_row};
 use vdcp_text::Failure;
 use vdcp_words::Command;
@@ -34,13 +37,14 @@ pub struct Recorder<'a, 'r, R, F> {
 
 impl<'a, 'r, R, F> Model for Recorder<'a, 'r, R, F> {
     ghost use Rattle.std.specs.Prelude.{◌≤◌};
+    ghost use Rattle.vdcp_record.specs.Recorded.{HoldsNoCommand};
     ghost use Rattle.vdcp_record.specs.Recording.{Recording};
 
     ghost Value = { Recording F };
 
     ghost view = { λ r. record { name = r.name; unit = r.unit; file = r.file; pending = r.pending } };
 
-    ghost invariant = { λ r. r.unit ≤ 15 };
+    ghost invariant = { λ r. (r.unit ≤ 15) × HoldsNoCommand r.pending };
 }
 
 impl<'a, 'r, R: Clock + AllocGlobal, F: JournalFile + Drop> Recorder<'a, 'r, R, F> {
@@ -72,7 +76,8 @@ impl<'a, 'r, R: Clock + AllocGlobal, F: JournalFile + Drop> Recorder<'a, 'r, R, 
         file: F,
         pending: Pending,
     ) -> Recorder<'a, 'r, R, F>
-        requires { unit ≤ 15 }
+        requires unit { unit ≤ 15 }
+        requires ends { HoldsNoCommand pending }
         ensures { result ≡ record { name = name.entry; unit = unit; file = file; pending = pending } }
     {
         Recorder {
@@ -116,6 +121,7 @@ impl<'a, 'r, R: Clock + AllocGlobal, F: JournalFile + Drop> Recorder<'a, 'r, R, 
     }
 
     fn note_row(&mut self, row: Row)
+        requires { commands_of_note row.note ≡ [] }
         ensures { self.new ≡ record self.old { pending = ended self.old.pending row } }
     {
         self.pending = self.pending.ended(row);
@@ -135,6 +141,36 @@ impl<'a, 'r, R: Clock + AllocGlobal, F: JournalFile + Drop> Recorder<'a, 'r, R, 
             return Err(fault.failure(self.name));
         }
         Ok(())
+    }
+
+    /// Runs an automation that hears its answers once the line is silent, and keeps each of its commands before it
+    /// goes out. At each moment the rows that are safe have every command of which a byte went out.
+    pub fn run<S: Source, W: Wire, V: Watch<S>>(
+        &mut self,
+        driver: &mut AutoDriver<S, W>,
+        listens: u64,
+        watcher: &mut V,
+    ) -> Result<Ran, KeptFault>
+        ensures leaves { KeptLeaves S.items W.told W.failures listens driver.old driver.new result }
+        ensures recorded { RecordsRun S.items W.told W.failures F.safe driver.old driver.new result self.old self.new }
+    {
+        let _ = &self.pending;
+        driver.run_kept(listens, watcher, self)
+    }
+
+    /// As `run`, of an automation that hears each answer at once.
+    pub fn run_prompt<S: Source, W: Wire, V: Watch<S>>(
+        &mut self,
+        prompt: &mut PromptDriver<S, W>,
+        listens: u64,
+        watcher: &mut V,
+    ) -> Result<Ran, KeptFault>
+        ensures leaves { PromptKeptLeaves S.items W.told W.failures listens prompt.old prompt.new result }
+        ensures recorded { RecordsPromptRun S.items W.told W.failures F.safe prompt.old prompt.new result self.old
+            self.new }
+    {
+        let _ = &self.pending;
+        prompt.run_kept(listens, watcher, self)
     }
 
     // Writes what is pending, and then a row, if there is one.
@@ -162,6 +198,12 @@ impl<'a, 'r, R: Clock + AllocGlobal, F: JournalFile + Drop> Recorder<'a, 'r, R, 
 }
 
 impl<R: Clock + AllocGlobal, F: JournalFile + Drop> Keep for Recorder<'_, '_, R, F> {
+    ghost use Rattle.vdcp_record.specs.Recorded.{Loses, Notes};
+
+    ghost adds = { Notes F.safe };
+
+    ghost loses = { Loses F.safe };
+
     fn keep_sent(&mut self, command: &Command) -> Result<(), KeepFault> {
         match self.keep(command) {
             Ok(()) => Ok(()),

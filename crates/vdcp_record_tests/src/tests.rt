@@ -102,7 +102,7 @@ fn a_list_is_played_with_a_journal(rt: HostRuntime) -> Result<(), Fail> {
         begin_journal(&rt, name.as_str(), &heading).err(),
         Some(Failure::Exists(name.as_str()))
     );
-    let _ = driver.run_kept(100, &mut Unwatched, &mut recorder);
+    let _ = recorder.run(&mut driver, 100, &mut Unwatched);
     assert_eq!(rt; recorder.finish(driver.controller().outcome()), Ok(()));
     drop(recorder);
     let bytes = fs::read(&rt, name.as_str())?;
@@ -151,7 +151,7 @@ fn a_killed_run_goes_on(rt: HostRuntime) -> Result<(), Fail> {
     let heading = heading(&rt)?;
     let mut driver = driver(&rt)?;
     let mut recorder = begin_journal(&rt, name, &heading).ok().ok_or("begun")?;
-    let _ = driver.run_kept(12, &mut Unwatched, &mut recorder);
+    let _ = recorder.run(&mut driver, 12, &mut Unwatched);
     let used = resume_journal(&rt, name, &heading, controller(&rt)?);
     assert_eq!(rt; used.err(), Some(Failure::InUse(name)));
     drop(recorder);

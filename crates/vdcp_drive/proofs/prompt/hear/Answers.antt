@@ -13,7 +13,7 @@ returns-in-Silence-clause-hears g c = (
   search rules,
   search rules,
   search rules,
-  keeps_silence _ c.args.unit _ c.args.reader.now c.args.passed.now _ _ c.receive_kept.ensures.kept,
+  keeps_silence g.K.Keep.adds _ c.args.unit _ c.args.reader.now c.args.passed.now _ _ c.receive_kept.ensures.kept,
 )
 
 pub returns-in-Closed-clause-hears : goal.returns-in-Closed-clause-hears
@@ -23,7 +23,8 @@ returns-in-Closed-clause-hears g c = (
   search rules,
   search rules,
   search rules,
-  keeps_close _ c.args.unit _ c.args.reader.now c.args.passed.now _ _ c.receive_kept-in-Closed.ensures.kept,
+  keeps_close g.K.Keep.adds _ c.args.unit _ c.args.reader.now c.args.passed.now _ _
+      c.receive_kept-in-Closed.ensures.kept,
 )
 
 pub returns-in-Silence-clause-reached : goal.returns-in-Silence-clause-reached

@@ -2,7 +2,7 @@ use Rattle.std.proofs.Common.{◌≡◌, ℕ, ◌+◌, ◌-◌, List, ◌++◌, 
 use Rattle.std.proofs.lemmas.List.{take_all, take_rest, length-drop}
 use Rattle.std.proofs.Math.Seq.{take-add}
 use Rattle.vdcp_auto.specs.Plan.{Plan, View, plan_of}
-use Rattle.vdcp_drive.specs.Prompt.{HearsPrompt, KeepsPrompt}
+use Rattle.vdcp_drive.specs.Prompt.{HearsPrompt, NotesPrompt}
 use Rattle.vdcp_wire.specs.Wires.{bytes}
 use Rattle.vdcp_drive.proofs.Prompting.{heard_none, heard_further}
 use Rattle.vdcp_drive.proofs.PromptKeeping.{keeps_none, keeps_further}
@@ -17,8 +17,8 @@ piece-init g c =
       controller = refl;
       reached = stays_there plan c.args.controller.now.state c.args.controller.now.state refl;
       hears = heard_none plan c.args.unit c.args.controller.now.state c.args.reader.now c.args.passed.now;
-      keeps = keeps_none plan c.args.unit c.args.controller.now.state c.args.reader.now c.args.passed.now
-          (g.K.Keep.kept c.args.keep.now);
+      keeps = keeps_none g.K.Keep.adds plan c.args.unit c.args.controller.now.state c.args.reader.now c.args.passed.now
+          c.args.keep.now;
     }
 
 pub piece-preserved : goal.piece-preserved
@@ -50,14 +50,14 @@ piece-preserved g c =
           (subst (λ (q : Plan). HearsPrompt q s.unit (bytes more) c.piece.controller.state c.piece.reader c.piece.passed
           t.controller.state t.reader
           t.passed) planned e.hears));
-      keeps = subst (λ (b : List ℕ). KeepsPrompt plan s.unit (bytes b) s.controller.now.state s.reader.now s.passed.now
-          (g.K.Keep.kept s.keep.now) (g.K.Keep.kept t.keep))
+      keeps = subst (λ (b : List ℕ). NotesPrompt g.K.Keep.adds plan s.unit (bytes b) s.controller.now.state
+          s.reader.now s.passed.now s.keep.now t.keep)
           front
-          (keeps_further plan s.unit (take c.piece.at piece) more s.controller.now.state c.piece.controller.state
-          s.reader.now c.piece.reader s.passed.now c.piece.passed (g.K.Keep.kept s.keep.now)
-          (g.K.Keep.kept c.piece.keep) (g.K.Keep.kept t.keep) inv.hears inv.keeps
-          (subst (λ (q : Plan). KeepsPrompt q s.unit (bytes more) c.piece.controller.state c.piece.reader c.piece.passed
-          (g.K.Keep.kept c.piece.keep) (g.K.Keep.kept t.keep)) planned e.keeps));
+          (keeps_further g.K.Keep.adds plan s.unit (take c.piece.at piece) more s.controller.now.state
+          c.piece.controller.state s.reader.now c.piece.reader s.passed.now c.piece.passed s.keep.now c.piece.keep t.keep
+          inv.hears inv.keeps
+          (subst (λ (q : Plan). NotesPrompt g.K.Keep.adds q s.unit (bytes more) c.piece.controller.state c.piece.reader
+          c.piece.passed c.piece.keep t.keep) planned e.keeps));
     }
 
 pub returns-clause-hears : goal.returns-clause-hears
@@ -71,6 +71,6 @@ returns-clause-hears g c =
 pub returns-clause-keeps : goal.returns-clause-keeps
 returns-clause-keeps g c =
     let s = c.args in
-    subst (λ (b : List ℕ). KeepsPrompt (plan_of g.S.Source.items s.controller.now) s.unit (bytes b)
-    s.controller.now.state s.reader.now s.passed.now (g.K.Keep.kept s.keep.now) (g.K.Keep.kept c.piece.keep))
+    subst (λ (b : List ℕ). NotesPrompt g.K.Keep.adds (plan_of g.S.Source.items s.controller.now) s.unit (bytes b)
+    s.controller.now.state s.reader.now s.passed.now s.keep.now c.piece.keep)
     (take_all c.piece.at s.piece.now (omega (arith, c.piece-test.false))) c.piece.invariant.keeps

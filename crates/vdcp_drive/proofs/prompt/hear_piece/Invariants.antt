@@ -1,7 +1,7 @@
 use Rattle.std.proofs.Common.{length, ◌≡◌, ◌-◌, ◌≤◌, take}
 use Rattle.vdcp_auto.specs.Plan.{plan_of}
 use Rattle.vdcp_drive.specs.Driven.{IsReachedFrom}
-use Rattle.vdcp_drive.specs.Prompt.{HearsPrompt, KeepsPrompt}
+use Rattle.vdcp_drive.specs.Prompt.{HearsPrompt, NotesPrompt}
 use Rattle.vdcp_drive.specs.PromptReading.{IsReader}
 use Rattle.vdcp_wire.specs.Wires.{bytes}
 use Rattle.vdcp_drive.proofs.prompt.hear_piece.Given as goal
@@ -15,8 +15,8 @@ invariant-piece g l = record {
   hears : HearsPrompt (plan_of g.S.Source.items l.fn.controller) l.unit (bytes (take l.at l.piece))
       l.fn.controller.state l.fn.reader l.fn.passed
       l.controller.state l.reader l.passed;
-  keeps : KeepsPrompt (plan_of g.S.Source.items l.fn.controller) l.unit (bytes (take l.at l.piece))
-      l.fn.controller.state l.fn.reader l.fn.passed (g.K.Keep.kept l.fn.keep) (g.K.Keep.kept l.keep);
+  keeps : NotesPrompt g.K.Keep.adds (plan_of g.S.Source.items l.fn.controller) l.unit (bytes (take l.at l.piece))
+      l.fn.controller.state l.fn.reader l.fn.passed l.fn.keep l.keep;
 }
 
 abbrev pub decreases-piece : goal.decreases-piece

@@ -34,17 +34,16 @@ returns-in_default-clause-hears g c =
 pub returns-in-Some-clause-keeps : goal.returns-in-Some-clause-keeps
 returns-in-Some-clause-keeps g c =
     let xs : List ℕ = take c.read_some-taken.result.0 c.args.piece.now in
-    keeps_some (plan_of g.S.Source.items c.args.controller.now) c.args.unit xs c.args.reader.now
+    keeps_some g.K.Keep.adds (plan_of g.S.Source.items c.args.controller.now) c.args.unit xs c.args.reader.now
     c.read_some-taken.new.reader c.in-Some.heard
-    c.args.controller.now.state c.args.passed.now (g.K.Keep.kept c.args.keep.now)
-    (g.K.Keep.kept c.hear_or_pass.new.keep)
+    c.args.controller.now.state c.args.passed.now c.args.keep.now c.hear_or_pass.new.keep
     (subst (λ (o : Option Heard). HasRead c.args.unit c.args.reader.now xs c.read_some-taken.new.reader o) c.in-Some.is
     c.read_some-taken.ensures.reads) c.hear_or_pass.ensures.kept
 
 pub returns-in_default-clause-keeps : goal.returns-in_default-clause-keeps
 returns-in_default-clause-keeps g c =
     let xs : List ℕ = take c.read_some-taken.result.0 c.args.piece.now in
-    keeps_nothing (plan_of g.S.Source.items c.args.controller.now) c.args.unit xs c.args.reader.now
-    c.read_some-taken.new.reader c.args.controller.now.state c.args.passed.now (g.K.Keep.kept c.args.keep.now)
+    keeps_nothing g.K.Keep.adds (plan_of g.S.Source.items c.args.controller.now) c.args.unit xs c.args.reader.now
+    c.read_some-taken.new.reader c.args.controller.now.state c.args.passed.now c.args.keep.now
     (subst (λ (o : Option Heard). HasRead c.args.unit c.args.reader.now xs c.read_some-taken.new.reader o)
     c.in_default.is c.read_some-taken.ensures.reads)

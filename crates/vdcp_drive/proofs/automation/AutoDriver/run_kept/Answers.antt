@@ -1,4 +1,4 @@
-use Rattle.std.proofs.Common.{ℕ, ◌≡◌, false, true, List, [], ◌∷◌, ◌++◌, refl, sym, ap, subst, ◌∙◌, arith}
+use Rattle.std.proofs.Common.{ℕ, ◌≡◌, false, true, List, [], ◌∷◌, ◌++◌, refl, sym, ap, subst, ◌∙◌, arith, rules}
 use Rattle.std.proofs.lemmas.Grind.{common_steps}
 use Rattle.std.specs.Prelude.{Some, Err, IsSome}
 use Rattle.vdcp_auto.specs.Course.{course}
@@ -9,15 +9,44 @@ use Rattle.vdcp_drive.specs.Driven.{inputs_of, states_listening}
 use Rattle.vdcp_drive.specs.Hearing.{Driving}
 use Rattle.vdcp_drive.specs.Lines.{AllListened}
 use Rattle.vdcp_drive.specs.Watching.{adds_watched}
-use Rattle.vdcp_wire.specs.Wires.{Arrival}
+use Rattle.vdcp_drive.specs.declared.line.DriveFault.TheVariants.{Device}
+use Rattle.vdcp_wire.specs.Wires.{Arrival, Told, nothing_told}
 use Rattle.vdcp_drive.proofs.Below.{Read, Fed}
-use Rattle.vdcp_drive.proofs.Driving.{OneMore, sent_so, unsent_so, on_so, out_so, unheard_so, closes_to, closed_on, ended_on, ended_run, ended_tick, listened_on, spends, ticked_twice}
-use Rattle.vdcp_drive.proofs.Keeping.{given_so, keeps_same, lost_is_given, lost_so, noted_so, still_given}
+use Rattle.vdcp_drive.proofs.Driving.{OneMore, sent_so, unsent_so, on_so, out_so, unheard_so, closes_to, closed_on, ended_on, ended_run, ended_tick, listened_on, spends}
+use Rattle.vdcp_drive.proofs.Keeping.{broken_so, ends_alone, failed_before, further_so, given_so, heard_notes, lost_is_given, notes_begin, once_so, kept_in_run, some_is, unheard_notes, unkept_notes}
 use Rattle.vdcp_drive.proofs.Leaving.{run_failed}
 use Rattle.vdcp_drive.proofs.Reaching.{goes_further}
 use Rattle.vdcp_drive.proofs.RunningOn.{closed_out, ended_out, heard_on, sent_on, spent_out, unheard_on, unsent_on}
 use Rattle.vdcp_drive.proofs.Watching.{looks, watches_on}
 use Rattle.vdcp_drive.proofs.automation.AutoDriver.run_kept.Goals as goal
+
+pub listens-init : goal.listens-init
+listens-init g c =
+    let told = g.W.Wire.told in
+    let s = c.args.self.now in
+    let plan : Plan = plan_of g.S.Source.items s.controller in record {
+      within = omega arith;
+      works = grind (arith, common_steps);
+      controller = refl;
+      unit = refl;
+      reached = search rules;
+      listened = search rules;
+      runs_on = search rules;
+      runs = search rules;
+      kept = notes_begin g.K.Keep.adds _ _ _ _ s.controller.state (told s.wire) c.args.keep.now
+          (λ new u is. (
+            new.0.controller,
+            ap (λ (t : Told). course plan (inputs_of s.unit t.came))
+                (some_is u nothing_told (sym is ∙ new.0.fresh)),
+          ));
+    }
+
+pub returns-then-self-clause-keeps : goal.returns-then-self-clause-keeps
+returns-then-self-clause-keeps g c =
+    let s = c.args.self.now in
+    let failed : g.W.Wire.failures s.wire ≡ 1 = grind (arith, common_steps) in
+    failed_before g.K.Keep.adds g.K.Keep.loses _ _ _ _ s.controller.state (g.W.Wire.told s.wire) Device c.args.keep.now
+    (λ new. omega (arith, failed, new.1))
 
 pub returns-in-Err-clause-leaves : goal.returns-in-Err-clause-leaves
 returns-in-Err-clause-leaves g c =
@@ -28,7 +57,7 @@ returns-in-Err-clause-leaves g c =
         run = λ is. let h = inv.runs is in (h.0, h.1, h.2.0.run);
         runs_on = inv.runs_on;
         unsent = subst (λ (d : Driving _ _). IsSome (given (plan_of items d.controller) d.controller.state))
-            c.self-in-listens.view_is (lost_is_given _ _ _ c.in-Err.ensures.lost);
+            c.self-in-listens.view_is (lost_is_given g.K.Keep.loses _ c.listens.keep c.keep_next.new.keep c.in-Err.ensures.lost);
         reached = inv.reached;
         controller = inv.controller;
         unit = inv.unit;
@@ -37,18 +66,11 @@ returns-in-Err-clause-leaves g c =
     }
 
 pub returns-in-Err-clause-keeps : goal.returns-in-Err-clause-keeps
-returns-in-Err-clause-keeps g c is works before was =
-    let items = g.S.Source.items in
+returns-in-Err-clause-keeps g c =
     let s = c.args.self.now in
     let l = c.listens.self in
-    let inv = c.listens.invariant in
-    let h = inv.runs is in (
-      h.0,
-      h.1,
-      lost_so items s l _ (course (plan_of items s.controller) (inputs_of s.unit h.0.came)) before
-          (g.K.Keep.kept c.listens.keep) (g.K.Keep.kept
-          c.keep_next.new.keep) inv.controller c.self-in-listens.view_is (h.2.3 before was) c.in-Err.ensures.lost,
-    )
+    unkept_notes g.K.Keep.adds g.K.Keep.loses _ _ _ _ _ l.controller.state (g.W.Wire.told s.wire) (g.W.Wire.told l.wire)
+    c.args.keep.now c.listens.keep c.keep_next.new.keep c.listens.invariant.kept c.in-Err.ensures.lost
 
 pub returns-in-Err-send-clause-leaves : goal.returns-in-Err-send-clause-leaves
 returns-in-Err-send-clause-leaves g c =
@@ -84,24 +106,15 @@ returns-in-Err-send-clause-watched_broken g c is works states was =
     (b.0, b.1, (b.2.0, h.2.2 states was ∙ ap (λ (l : List State). Some (states ++ l)) (sym b.2.1)))
 
 pub returns-in-Err-send-clause-keeps : goal.returns-in-Err-send-clause-keeps
-returns-in-Err-send-clause-keeps g c is works before was =
-    let items = g.S.Source.items in
+returns-in-Err-send-clause-keeps g c =
+    let told = g.W.Wire.told in
     let s = c.args.self.now in
     let l = c.listens.self in
     let n = c.send.new.self in
     let inv = c.listens.invariant in
-    let h = inv.runs is in
-    let e = c.in-Err-send.ensures.breaks inv.works in
-    let b = unsent_so items g.W.Wire.told s l n h.0 inv.controller inv.unit h.1 h.2.0 e in
-    let k = given_so items s l _ (course (plan_of items s.controller) (inputs_of s.unit h.0.came)) before
-    (g.K.Keep.kept c.listens.keep) (g.K.Keep.kept
-    c.keep_next.new.keep) inv.controller c.self-in-listens.view_is (h.2.3 before was) c.in_default.ensures.kept in (
-      b.0,
-      b.1,
-      keeps_same (plan_of items s.controller) s.unit h.0.came b.0.came (ticked l.controller.state)
-          (ticked n.controller.state) before _ k b.2.2
-          (still_given _ _ _ _ _ _ e),
-    )
+    broken_so g.S.Source.items g.K.Keep.adds g.K.Keep.loses _ _ s l _ n c.in-Err-send.fault (told s.wire) (told l.wire)
+    (told n.wire) c.args.keep.now c.listens.keep c.keep_next.new.keep inv.controller inv.unit c.self-in-listens.view_is
+    inv.kept c.in_default.ensures.kept (c.in-Err-send.ensures.breaks inv.works)
 
 pub returns-then-not-awaiting-clause-leaves : goal.returns-then-not-awaiting-clause-leaves
 returns-then-not-awaiting-clause-leaves g c =
@@ -239,31 +252,23 @@ returns-in-Err-listen-clause-watched_broken g c is works states was =
     (b.0, b.1, (b.2.0, more))
 
 pub returns-in-Err-listen-clause-keeps : goal.returns-in-Err-listen-clause-keeps
-returns-in-Err-listen-clause-keeps g c is works before was =
-    let items = g.S.Source.items in
+returns-in-Err-listen-clause-keeps g c =
     let told = g.W.Wire.told in
     let s = c.args.self.now in
     let l = c.listens.self in
     let n = c.send.new.self in
-    let m = c.listen.new.self in
     let inv = c.listens.invariant in
-    let h = inv.runs is in
     let o = c.in_default-send.ensures in
+    let m = c.listen.new.self in
     let e = c.in-Err-listen.ensures in
-    let w = sent_so items told s l n h.0 c.in_default-send.field-0 inv.controller inv.unit h.1 h.2.0 o.sends o.ticks
-    o.keeps in
-    let b = unheard_so items told s n m w.0 w.1 w.2.0 e.unchanged (e.breaks o.works) in
-    let k = given_so items s l _ (course (plan_of items s.controller) (inputs_of s.unit h.0.came)) before
-    (g.K.Keep.kept c.listens.keep) (g.K.Keep.kept
-    c.keep_next.new.keep) inv.controller c.self-in-listens.view_is (h.2.3 before was) c.in_default.ensures.kept in (
-      b.0,
-      b.1,
-      keeps_same (plan_of items s.controller) s.unit h.0.came b.0.came (ticked l.controller.state)
-          (ticked m.controller.state) before _ k
-          (b.2.2 ∙ w.2.1) (ap (λ (d : Driving _ _). ticked d.controller.state) e.unchanged
-          ∙ ap (λ (v : View _). ticked v.state) o.ticks
-          ∙ ticked_twice l.controller.state),
-    )
+    unheard_notes g.K.Keep.adds g.K.Keep.loses _ _ _ _ l.controller.state n.controller.state m.controller.state
+    c.in-Err-listen.fault (told s.wire) (told n.wire) (told m.wire) c.args.keep.now c.keep_next.new.keep
+    c.keep_next.new.keep
+    (given_so g.S.Source.items g.K.Keep.adds _ _ s l _ n c.in_default-send.field-0 (told s.wire) (told l.wire)
+    (told n.wire) c.args.keep.now c.listens.keep c.keep_next.new.keep inv.controller inv.unit c.self-in-listens.view_is
+    inv.kept c.in_default.ensures.kept o.sends (ap (λ (v : View _). v.state) o.ticks))
+    (e.breaks o.works) refl (ap (λ (v : View _). v.state) o.ticks)
+    (ap (λ (d : Driving _ _). d.controller.state) e.unchanged)
 
 pub returns-in-Closed-clause-leaves : goal.returns-in-Closed-clause-leaves
 returns-in-Closed-clause-leaves g c =
@@ -322,7 +327,7 @@ returns-in-Closed-clause-leaves g c =
     }
 
 pub returns-in-Closed-clause-keeps : goal.returns-in-Closed-clause-keeps
-returns-in-Closed-clause-keeps g c is works before was =
+returns-in-Closed-clause-keeps g c =
     let law : OneMore = record {
       logs = c.courses_follow_one_another.ensures.one_more;
       leaves =
@@ -335,28 +340,28 @@ returns-in-Closed-clause-keeps g c is works before was =
     let n = c.send.new.self in
     let m = c.listen.new.self in
     let inv = c.listens.invariant in
-    let h = inv.runs is in
     let o = c.in_default-send.ensures in
-    let w = sent_so items told s l n h.0 c.in_default-send.field-0 inv.controller inv.unit h.1 h.2.0 o.sends o.ticks
-    o.keeps in
     let same : n.controller ≡ record s.controller { state = n.controller.state } =
     o.controller ∙ ap (λ (v : View _). record v { state = n.controller.state }) inv.controller in
     let united : n.unit ≡ s.unit = ap (λ (d : Driving _ _). d.unit) o.keeps ∙ inv.unit in
     let e = c.in-Ok.ensures.hears in
-    let r = out_so law items told s n m w.0 e.0 same united w.1 w.2.0 (sym e.1 ∙ c.in-Closed.is) e.3 e.4 in
     let awaits : is_awaiting n.controller.state.stage ≡ true = grind (arith, common_steps) in
-    let k = keeps_same (plan_of items s.controller) s.unit h.0.came w.0.came (ticked l.controller.state)
-    n.controller.state before _ (given_so items s l _
-    (course (plan_of items s.controller) (inputs_of s.unit h.0.came)) before (g.K.Keep.kept c.listens.keep)
-    (g.K.Keep.kept c.keep_next.new.keep)
-    inv.controller c.self-in-listens.view_is (h.2.3 before was) c.in_default.ensures.kept) w.2.1
-    (ap (λ (v : View _). v.state) o.ticks) in (
-      r.0,
-      r.1,
-      noted_so law items s n m _ _ w.0 e.0 r.0.came before _ (g.K.Keep.kept c.note_if_ended.new.keep) same united w.2.0
-          awaits e.3 k
-          c.self-in-listens-2.view_is c.self-in-listens-3.view_is c.note_if_ended.ensures r.2.2,
-    )
+    kept_in_run g.K.Keep.adds g.K.Keep.loses _ _ _ _ m.controller.state (told s.wire) (told m.wire) c.unless_ended.result
+    c.args.keep.now c.note_if_ended.new.keep
+    (heard_notes g.K.Keep.adds _ _ _ _ n.controller.state m.controller.state e.0 _ (told s.wire) (told n.wire)
+    (told m.wire) c.args.keep.now c.keep_next.new.keep c.note_if_ended.new.keep
+    (given_so g.S.Source.items g.K.Keep.adds _ _ s l _ n c.in_default-send.field-0 (told s.wire) (told l.wire)
+    (told n.wire) c.args.keep.now c.listens.keep c.keep_next.new.keep inv.controller inv.unit c.self-in-listens.view_is
+    inv.kept c.in_default.ensures.kept o.sends (ap (λ (v : View _). v.state) o.ticks))
+    (once_so g.K.Keep.adds _ n _ m c.keep_next.new.keep c.note_if_ended.new.keep c.self-in-listens-2.view_is
+    c.self-in-listens-3.view_is c.note_if_ended.ensures)
+    (ends_alone (is_awaiting m.controller.state.stage) n.heard) e.4
+    (λ new.
+    let h = inv.runs new.0 in
+    let w = sent_so items told s l n h.0 c.in_default-send.field-0 inv.controller inv.unit h.1 h.2.0 o.sends o.ticks
+    o.keeps in
+    let r = out_so law items told s n m w.0 e.0 same united w.1 w.2.0 (sym e.1 ∙ c.in-Closed.is) e.3 e.4 in
+    further_so law items s n m w.0 r.0 e.0 (told n.wire) (told m.wire) same united w.1 w.2.0 awaits e.3 r.1 r.2.2))
 
 pub returns-in-Closed-clause-watched : goal.returns-in-Closed-clause-watched
 returns-in-Closed-clause-watched g c is states was =
@@ -499,15 +504,73 @@ listens-preserved g c = record {
           λ states was. watches_on (plan_of items s.controller) s.unit h.0.came w.0.came r.0.came e.0 states
               n.controller.state (watched c.listens.watcher)
               (watched c.look.new.self) (h.2.2 states was) w.2.1 w.2.0.state_is looked r.2.2,
-          λ before was. noted_so law items s n m _ _ w.0 e.0 r.0.came before _ (g.K.Keep.kept c.note_if_ended.new.keep)
-              same united w.2.0 awaits e.3
-              (keeps_same (plan_of items s.controller) s.unit h.0.came w.0.came (ticked l.controller.state)
-              n.controller.state before _ (given_so items s l _
-              (course (plan_of items s.controller) (inputs_of s.unit h.0.came)) before (g.K.Keep.kept c.listens.keep)
-              (g.K.Keep.kept c.keep_next.new.keep)
-              inv.controller c.self-in-listens.view_is (h.2.3 before was) c.in_default.ensures.kept) w.2.1
-              (ap (λ (v : View _). v.state) o.ticks))
-              c.self-in-listens-2.view_is c.self-in-listens-3.view_is c.note_if_ended.ensures r.2.2,
         ),
       );
+  kept =
+      let law : OneMore = record {
+        logs = c.courses_follow_one_another.ensures.one_more;
+        leaves =
+            c.courses_follow_one_another.ensures.left_by_one_more;
+      } in
+      let read : Read = record {
+        some = c.one_reading.ensures.some;
+        read = c.what_is_followed_is_read.ensures.read;
+        messages = c.what_is_followed_is_read.ensures.messages;
+        further = c.what_is_followed_is_read.ensures.further;
+      } in
+      let fed : Fed = record {
+        start = c.what_is_fed_is_followed.ensures.start;
+        next = c.what_is_fed_is_followed.ensures.next;
+      } in
+      let items = g.S.Source.items in
+      let told = g.W.Wire.told in
+      let s = c.args.self.now in
+      let l = c.listens.self in
+      let n = c.send.new.self in
+      let m = c.listen.new.self in
+      let inv = c.listens.invariant in
+      let o = c.in_default-send.ensures in
+      let same : n.controller ≡ record s.controller { state = n.controller.state } =
+      o.controller ∙ ap (λ (v : View _). record v { state = n.controller.state }) inv.controller in
+      let united : n.unit ≡ s.unit = ap (λ (d : Driving _ _). d.unit) o.keeps ∙ inv.unit in
+      let e = c.in-Ok.ensures.hears in
+      let awaits : is_awaiting n.controller.state.stage ≡ true = grind (arith, common_steps) in
+      heard_notes g.K.Keep.adds _ _ _ _ n.controller.state m.controller.state e.0 _ (told s.wire) (told n.wire)
+      (told m.wire) c.args.keep.now c.keep_next.new.keep c.note_if_ended.new.keep
+      (given_so g.S.Source.items g.K.Keep.adds _ _ s l _ n c.in_default-send.field-0 (told s.wire) (told l.wire)
+      (told n.wire) c.args.keep.now c.listens.keep c.keep_next.new.keep inv.controller inv.unit c.self-in-listens.view_is
+      inv.kept c.in_default.ensures.kept o.sends (ap (λ (v : View _). v.state) o.ticks))
+      (once_so g.K.Keep.adds _ n _ m c.keep_next.new.keep c.note_if_ended.new.keep c.self-in-listens-2.view_is
+      c.self-in-listens-3.view_is c.note_if_ended.ensures)
+      (ends_alone (is_awaiting m.controller.state.stage) n.heard) e.4
+      (λ new.
+      let h = inv.runs new.0 in
+      let w = sent_so items told s l n h.0 c.in_default-send.field-0 inv.controller inv.unit h.1 h.2.0 o.sends o.ticks
+      o.keeps in
+      let r = on_so read fed law c.listens.made items told s n m w.0 e.0 same united w.1 w.2.0
+      (subst (λ (x : List Arrival). AllListened c.listens.made [] x) (sym w.2.1) h.2.1)
+      (λ x. c.in_default-line.not-Closed (e.1 ∙ x)) e.3 e.4 in
+      further_so law items s n m w.0 r.0 e.0 (told n.wire) (told m.wire) same united w.1 w.2.0 awaits e.3 r.1 r.2.2);
 }
+
+pub returns-then-not-awaiting-clause-keeps : goal.returns-then-not-awaiting-clause-keeps
+returns-then-not-awaiting-clause-keeps g c =
+    let told = g.W.Wire.told in
+    let s = c.args.self.now in
+    let l = c.listens.self in
+    let n = c.send.new.self in
+    let inv = c.listens.invariant in
+    let o = c.in_default-send.ensures in
+    kept_in_run g.K.Keep.adds g.K.Keep.loses _ _ _ _ n.controller.state (told s.wire) (told n.wire) _ c.args.keep.now
+    c.keep_next.new.keep
+    (given_so g.S.Source.items g.K.Keep.adds _ _ s l _ n c.in_default-send.field-0 (told s.wire) (told l.wire)
+    (told n.wire) c.args.keep.now c.listens.keep c.keep_next.new.keep inv.controller inv.unit c.self-in-listens.view_is
+    inv.kept c.in_default.ensures.kept o.sends (ap (λ (v : View _). v.state) o.ticks))
+
+pub returns-clause-keeps : goal.returns-clause-keeps
+returns-clause-keeps g c =
+    let told = g.W.Wire.told in
+    let s = c.args.self.now in
+    let l = c.listens.self in
+    kept_in_run g.K.Keep.adds g.K.Keep.loses _ _ _ _ l.controller.state (told s.wire) (told l.wire) _ c.args.keep.now
+    c.listens.keep c.listens.invariant.kept

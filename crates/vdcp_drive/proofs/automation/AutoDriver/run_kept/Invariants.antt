@@ -6,10 +6,9 @@ use Rattle.vdcp_auto.specs.State.{State}
 use Rattle.vdcp_drive.specs.Driven.{IsReachedFrom, IsNew, inputs_of}
 use Rattle.vdcp_drive.specs.Lines.{AllListened}
 use Rattle.vdcp_drive.specs.RunOn.{HasRunOn, StandsIn}
-use Rattle.vdcp_drive.specs.declared.keep.Kept.{Kept}
 use Rattle.vdcp_wire.specs.Wires.{Told, IfTold}
 use Rattle.vdcp_drive.proofs.Driving.{RunsAt}
-use Rattle.vdcp_drive.proofs.Keeping.{KeepsAt}
+use Rattle.vdcp_drive.proofs.Keeping.{NotesAt}
 use Rattle.vdcp_drive.proofs.RunningOn.{RunsOnAt}
 use Rattle.vdcp_drive.proofs.Watching.{WatchesAt}
 use Rattle.vdcp_drive.proofs.automation.AutoDriver.run_kept.Given as goal
@@ -37,11 +36,11 @@ invariant-listens g l =
           l.self.heard × AllListened l.made [] u.came
           × ((states : List State) → g.V.Watch.watched l.fn.watcher ≡ Some states
           → WatchesAt (plan_of g.S.Source.items l.fn.self.controller) l.fn.self.unit u.came states
-          (g.V.Watch.watched l.watcher))
-          × ((before : List Kept) → g.K.Keep.kept l.fn.keep ≡ Some before
-          → KeepsAt (plan_of g.S.Source.items l.fn.self.controller)
-          (course (plan_of g.S.Source.items l.fn.self.controller) (inputs_of l.fn.self.unit u.came))
-          l.self.controller.state before (g.K.Keep.kept l.keep)));
+          (g.V.Watch.watched l.watcher)));
+      kept : NotesAt g.K.Keep.adds (plan_of g.S.Source.items l.fn.self.controller) l.fn.self.unit
+          (IsNew told l.fn.self × (g.W.Wire.failures l.fn.self.wire ≡ 0))
+          (λ came. course (plan_of g.S.Source.items l.fn.self.controller) (inputs_of l.fn.self.unit came))
+          l.self.controller.state (told l.fn.self.wire) (told l.self.wire) l.fn.keep l.keep;
     }
 
 abbrev pub decreases-listens : goal.decreases-listens

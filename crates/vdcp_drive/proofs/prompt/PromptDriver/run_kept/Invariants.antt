@@ -4,10 +4,9 @@ use Rattle.vdcp_auto.specs.Plan.{plan_of}
 use Rattle.vdcp_auto.specs.State.{State}
 use Rattle.vdcp_drive.specs.Driven.{IsReachedFrom}
 use Rattle.vdcp_drive.specs.Lines.{AllListened}
-use Rattle.vdcp_drive.specs.Prompt.{IsNewPrompt}
-use Rattle.vdcp_drive.specs.declared.keep.Kept.{Kept}
+use Rattle.vdcp_drive.specs.Prompt.{IsNewPrompt, prompted}
 use Rattle.vdcp_wire.specs.Wires.{Told, IfTold}
-use Rattle.vdcp_drive.proofs.PromptKeeping.{KeepsCame}
+use Rattle.vdcp_drive.proofs.Keeping.{NotesAt}
 use Rattle.vdcp_drive.proofs.Prompted.{RunsPrompt, WatchesPrompt}
 use Rattle.vdcp_drive.proofs.prompt.PromptDriver.run_kept.Given as goal
 
@@ -28,9 +27,11 @@ invariant-listens g l =
           l.self.controller.state l.self.reader
           l.self.passed × ((states : List State) → g.V.Watch.watched l.fn.watcher ≡ Some states
           → WatchesPrompt (plan_of g.S.Source.items l.fn.self.controller) l.fn.self.unit u.came states
-          (g.V.Watch.watched l.watcher))
-          × ((before : List Kept) → g.K.Keep.kept l.fn.keep ≡ Some before
-          → KeepsCame g.S.Source.items l.fn.self u.came l.self.controller.state before (g.K.Keep.kept l.keep)));
+          (g.V.Watch.watched l.watcher)));
+      kept : NotesAt g.K.Keep.adds (plan_of g.S.Source.items l.fn.self.controller) l.fn.self.unit
+          (IsNewPrompt told l.fn.self × (g.W.Wire.failures l.fn.self.wire ≡ 0))
+          (λ came. (prompted (plan_of g.S.Source.items l.fn.self.controller) l.fn.self.unit came).log)
+          l.self.controller.state (told l.fn.self.wire) (told l.self.wire) l.fn.keep l.keep;
     }
 
 abbrev pub decreases-listens : goal.decreases-listens
