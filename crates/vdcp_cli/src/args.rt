@@ -136,6 +136,7 @@ fn run<'a>(alloc: Global) -> Result<Command<'a>, AllocError> {
         .arg(number_option(alloc, &LISTENS))?
         .arg(prompt(alloc))?
         .arg(number_option(alloc, &POLL))?
+        .arg(lengths(alloc)?)?
         .arg(asrun(alloc))?
         .arg(journal(alloc))?
         .arg(resume(alloc)?)?
@@ -275,7 +276,19 @@ fn prompt<'a>(alloc: Global) -> Arg<'a> {
     Arg::new(alloc, "prompt")
         .long("prompt")
         .action(ArgAction::SetTrue)
-        .help("Hears each answer as soon as it has come; for a line that keeps order")
+        .help(
+            "Hears each answer as soon as it has come, torn or late; for a line that keeps order, as TCP does",
+        )
+}
+
+fn lengths<'a>(alloc: Global) -> Result<Arg<'a>, AllocError> {
+    Arg::new(alloc, "lengths")
+        .long("lengths")
+        .value_name("CATALOGUE")
+        .help(
+            "With --prompt, each clip is played when the one before it ends, by its length in this file",
+        )
+        .requires_arg("prompt")
 }
 
 fn asrun<'a>(alloc: Global) -> Arg<'a> {

@@ -18,7 +18,7 @@ use std::{env, io};
 use vdcp_capture::do_judge;
 use vdcp_files::{do_check, do_vectors};
 use vdcp_lossy::do_lossy;
-use vdcp_net::{Lines, Screen, Showing, Telling, do_run, do_serve};
+use vdcp_net::{Lines, RunSettings, Screen, Showing, Telling, do_run, do_serve};
 use vdcp_options::{
     asrun_settings_of, judge_settings_of, lossy_settings_of, open_file, rate_of, run_settings_of,
     serve_settings_of, sim_settings_of, unit_of,
@@ -168,7 +168,17 @@ fn run_run<'a, W: Write, E: Write>(
 ) -> Result<u8, Failure<'a>> {
     let list = open_file(rt, matches, "LIST")?;
     let address = matches.get_str("ADDR").unwrap_or("");
-    let settings = run_settings_of(matches);
+    let lengths = match matches.get_str("lengths") {
+        Some(_) => Some(open_file(rt, matches, "lengths")?.read_catalogue(
+            rt.alloc(),
+            rate_of(matches),
+        )?),
+        None => None,
+    };
+    let settings = RunSettings {
+        lengths: lengths.as_ref(),
+        ..run_settings_of(matches)
+    };
     let terminal = rt.stderr();
     let showing = if matches.get_flag("log") {
         Showing::Messages(Screen::new(rt, terminal))

@@ -6,3 +6,4 @@ mod PromptEnds
 mod Unplayed
 mod Unserved
 mod Written
+mod Takes

@@ -1,4 +1,6 @@
 pub mod Idle
+pub mod BackToBack
+pub mod Lapse
 pub mod Pace
 pub mod Stay
 pub mod Serve

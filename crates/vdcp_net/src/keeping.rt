@@ -1,6 +1,6 @@
 use std::rt::Clock;
 use vdcp_auto::{Outcome, Source};
-use vdcp_drive::{AutoDriver, Keep, KeptFault, Ran, Unkept, Watch};
+use vdcp_drive::{AutoDriver, Keep, KeepFault, KeptFault, Ran, Unkept, Watch};
 use vdcp_record::{JournalFile, RecordFault, Recorder};
 use vdcp_text::Failure;
 use vdcp_wire::Wire;
@@ -38,6 +38,9 @@ pub trait Journal: Keep {
     /// The run is over, and its controller has ended so, if it has: what was noted last is made safe. Err where that
     /// fails, or where a command couldn't be kept.
     fn close(&mut self, outcome: Option<Outcome>) -> Result<(), RecordFault>;
+
+    /// The operator's take is going to be given: it is made safe, with all that was noted before.
+    fn keep_take(&mut self) -> Result<(), KeepFault>;
 }
 
 impl Journal for Unkept {
@@ -51,6 +54,10 @@ impl Journal for Unkept {
     }
 
     fn close(&mut self, _outcome: Option<Outcome>) -> Result<(), RecordFault> {
+        Ok(())
+    }
+
+    fn keep_take(&mut self) -> Result<(), KeepFault> {
         Ok(())
     }
 }
@@ -70,6 +77,13 @@ impl<R: Clock + AllocGlobal, F: JournalFile + Drop> Journal for Recorder<'_, '_,
             Ok(()) => Ok(()),
             Err(Failure::Memory) => Err(RecordFault::Memory),
             Err(_) => Err(RecordFault::Device),
+        }
+    }
+
+    fn keep_take(&mut self) -> Result<(), KeepFault> {
+        match Recorder::keep_take(self) {
+            Ok(()) => Ok(()),
+            Err(_) => Err(KeepFault),
         }
     }
 }

@@ -8,18 +8,21 @@
 //! `entrance` (who takes these), `idling` (a line that is given up), `paced` (frames by the clock), `asrun` (the as-run
 //! file) and `place` (how it comes to be), `log` (a line for each message), `progress` (the line of a terminal that
 //! shows how far a run is), `statuses` (how many were answered in a row), `polling` (how soon the state is asked
-//! again), `notice` (whether the port has answered), `keeping` (the journal of a run), `lines` and `screen` (writers
-//! that don't wait), `dead` (a wire on which nothing comes). `Lines` and `Screen` are for what else is printed while a
-//! channel is up.
+//! again), `back_to_back` (when the next event is taken), `lapsing` (a silence that comes by the clock), `stopwatch`
+//! (which both read), `notice` (whether the port has answered), `keeping` (the journal of a run), `lines` and `screen`
+//! (writers that don't wait), `dead` (a wire on which nothing comes). `Lines` and `Screen` are for what else is printed
+//! while a channel is up.
 #![tactic(auto)]
 
 #[cfg(test)]
 mod answers;
 mod asrun;
+mod back_to_back;
 mod dead;
 mod entrance;
 mod idling;
 mod keeping;
+mod lapsing;
 mod lines;
 mod log;
 mod notice;
@@ -34,6 +37,7 @@ mod screen;
 mod serve;
 mod statuses;
 mod stay;
+mod stopwatch;
 
 pub use keeping::RunJournal;
 pub use lines::Lines;

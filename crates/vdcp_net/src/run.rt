@@ -16,12 +16,15 @@ ghost use Rattle.vdcp_journal.specs.declared.row.Row.{Row};
 ghost use Rattle.vdcp_record.specs.Resuming.{IsResumed};
 ghost use Rattle.vdcp_text.specs.Failure.{failure_line};
 
+mod back_to_back;
 mod prompt;
 
+use self::back_to_back::play_back_to_back;
 use self::prompt::play_prompt;
 use crate::asrun::{Older, save_asrun};
 use crate::dead::DeadWire;
 use crate::keeping::{Journal, Keeping, RunJournal};
+use crate::lapsing::Lapsing;
 use crate::log::{Log, Logged};
 use crate::notice::Notice;
 use crate::place::{test_journal, test_place};
@@ -37,6 +40,7 @@ use vdcp_drive::{
 };
 use vdcp_files::NamedFile;
 use vdcp_journal::{Heading, digest_of};
+use vdcp_list::Table;
 use vdcp_record::{RecordFault, Resumption, begin_journal, resume_journal};
 use vdcp_text::{Failure, OutcomeText};
 use vdcp_value::Rate;
@@ -54,7 +58,7 @@ pub enum Hearing {
 }
 
 /// What a list is played with.
-#[derive(Clone, Copy, Debug, PartialEq, Eq)]
+#[derive(Clone, Copy, Debug)]
 pub struct RunSettings<'a> {
     /// The server's unit address, 0 to 15.
     pub unit: u8,
@@ -71,6 +75,9 @@ pub struct RunSettings<'a> {
     pub silence: u32,
     /// When answers are heard.
     pub hearing: Hearing,
+    /// How long clips are, if each event is to be taken when the clip before it ends. It counts only where answers are
+    /// heard at once.
+    pub lengths: Option<&'a Table>,
     /// The most listens that are made.
     pub listens: u32,
     /// The file that is made for the as-run list, if one is wanted.
@@ -754,8 +761,14 @@ fn play_on<
             play(rt, &mut driver, watcher, keeping, settings)
         }
         Hearing::AtOnce(poll) => {
+            let wire = Lapsing::new(wire, rt, settings.silence);
             let mut driver = PromptDriver::new(controller, settings.unit, wire);
-            play_prompt(rt, &mut driver, poll, watcher, keeping, settings)
+            match settings.lengths {
+                None => play_prompt(rt, &mut driver, poll, watcher, keeping, settings),
+                Some(lengths) => {
+                    play_back_to_back(rt, &mut driver, poll, lengths, watcher, keeping, settings)
+                }
+            }
         }
     }
 }

@@ -107,7 +107,7 @@ fn journal_of<'a>(matches: &'a ArgMatches<'_>) -> Option<RunJournal<'a>>
     }
 }
 
-/// What the options say of a list that is played.
+/// What the options say of a list that is played. The lengths of clips, which stand in a file, are the caller's to read.
 pub fn run_settings_of<'a>(matches: &'a ArgMatches<'_>) -> RunSettings<'a>
     ensures unit { result.unit ≤ 15 }
     ensures some { 1 ≤ result.limit }
@@ -139,6 +139,7 @@ pub fn run_settings_of<'a>(matches: &'a ArgMatches<'_>) -> RunSettings<'a>
         rate: rate_of(matches),
         silence: number_of(matches, &RUN_SILENCE),
         hearing: hearing_of(matches),
+        lengths: None,
         listens: number_of(matches, &LISTENS),
         asrun: matches.get_str("asrun"),
         journal: journal_of(matches),

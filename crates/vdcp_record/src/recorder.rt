@@ -3,7 +3,7 @@ ghost use Rattle.std.specs.Option.{option_to_list};
 ghost use Rattle.std.specs.Prelude.{◌≡◌, ◌≢◌, ◌≤◌, ◌∷◌, [], ◌++◌, Err, IfErr, IfOk, OnErr, OnOk};
 ghost use Rattle.vdcp_journal.specs.Rows.{AppendsBeginning, fields_text, heading_fields, rows_text};
 ghost use Rattle.vdcp_journal.specs.declared.moment.Moment.{Moment};
-ghost use Rattle.vdcp_journal.specs.declared.row.Note.TheVariants.{Sent};
+ghost use Rattle.vdcp_journal.specs.declared.row.Note.TheVariants.{Sent, Take};
 ghost use Rattle.vdcp_drive.specs.KeptLeaves.{KeptLeaves};
 ghost use Rattle.vdcp_drive.specs.PromptKept.{PromptKeptLeaves};
 ghost use Rattle.vdcp_record.specs.Recorded.{HoldsNoCommand, RecordsPromptRun, RecordsRun, commands_of_note};
@@ -106,6 +106,26 @@ impl<'a, 'r, R: Clock + AllocGlobal, F: JournalFile + Drop> Recorder<'a, 'r, R, 
             time,
             note: Note::Sent(*command),
         }))
+    }
+
+    /// Writes what is pending, and the row of a take that is going to be given.
+    pub fn keep_take(&mut self) -> Result<(), RecordFault>
+        ensures kept { OnOk result ((time : Moment) × Adds F.safe self.old self.new
+            (record { time = time; note = Take } ∷ [])) }
+        ensures rest { OnOk result (self.new ≡ record self.old { file = self.new.file; pending = Nothing }) }
+        ensures torn { OnErr result ((time : Moment) × AddsBeginning F.safe self.old self.new
+            (record { time = time; note = Take } ∷ [])) }
+        ensures failed { IfErr result (λ fault. self.new ≡ record self.old
+            { file = self.new.file; pending = Failed fault }) }
+        ensures stays { (fault : RecordFault) → self.old.pending ≡ Failed fault →
+            (result ≡ Err fault) × (self.new ≡ self.old) }
+    {
+        let time = now(self.rt);
+        let take = Row {
+            time,
+            note: Note::Take,
+        };
+        self.write(Some(take))
     }
 
     /// Notes what ended an exchange, in place of what was pending.

@@ -27,6 +27,7 @@ const SETTINGS: RunSettings<'static> = RunSettings {
     rate: Rate::F25,
     silence: 20,
     hearing: Hearing::AtSilences,
+    lengths: None,
     listens: 100,
     asrun: None,
     journal: None,
