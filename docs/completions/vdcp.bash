@@ -25,7 +25,7 @@ _vdcp() {
         fi
         case $rest$word in
         --) rest=1 ;;
-        --unit | --rate | --port | --limit | --cue-frames | --silence | --turns | --idle | --listens | --poll | --asrun | --journal | --resume | --seed | --lose | --copy | --cut | --damage | --forge | --within) wish=$word ;;
+        --unit | --rate | --only | --port | --limit | --cue-frames | --silence | --turns | --idle | --listens | --poll | --asrun | --journal | --resume | --seed | --lose | --copy | --cut | --damage | --forge | --within) wish=$word ;;
         -*) ;;
         *) if [[ -z $subcommand ]]; then subcommand=$word; else ((++place)); fi ;;
         esac
@@ -39,7 +39,7 @@ _vdcp() {
         [[ -n $subcommand ]] || wish=0
     fi
     case $subcommand:$wish in
-    :0 | help:1) offers="show make check sim serve run asrun judge lossy vectors help" ;;
+    :0 | help:1) offers="show make check sim serve run asrun judge probe lossy vectors help" ;;
     :-) offers="-h --help -V --version" ;;
     show:-) offers="--words -h --help" ;;
     make:-) offers="--unit -h --help" ;;
@@ -49,11 +49,13 @@ _vdcp() {
     run:-) offers="--unit --port --limit --rate --confirm --silence --listens --prompt --poll --lengths --asrun --journal --resume --log -h --help" ;;
     asrun:-) offers="--rate --times --open -h --help" ;;
     judge:-) offers="--unit --rate --confirm --server -h --help" ;;
+    probe:-) offers="--yes-it-may-stop --only --unit --port --rate --silence -h --help" ;;
     lossy:-) offers="--seed --lose --copy --cut --damage --forge --silence --within --turns -h --help" ;;
     vectors:-) offers="-h --help" ;;
     make:1) offers="open close select cue cue-data play stop status active exists size" ;;
-    check:1 | check:2 | sim:1 | sim:2 | sim:3 | serve:2 | run:2 | run:--asrun | run:--journal | run:--resume | asrun:2 | judge:1 | judge:2 | vectors:1) offers="files" ;;
-    check:--rate | sim:--rate | serve:--rate | run:--rate | asrun:--rate | judge:--rate) offers="24 25 30 30df" ;;
+    check:1 | check:2 | sim:1 | sim:2 | sim:3 | serve:2 | run:2 | run:--asrun | run:--journal | run:--resume | asrun:2 | judge:1 | judge:2 | probe:2 | vectors:1) offers="files" ;;
+    check:--rate | sim:--rate | serve:--rate | run:--rate | asrun:--rate | judge:--rate | probe:--rate) offers="24 25 30 30df" ;;
+    probe:--only) offers="safe unsafe" ;;
     esac
     if [[ $offers == files ]]; then
         compopt -o filenames -o default 2>/dev/null

@@ -17,6 +17,11 @@ const SERVE_EXAMPLE: &str = "Example: vdcp serve 127.0.0.1:7400 examples/catalog
 const RUN_EXAMPLE: &str =
     "Example: vdcp run 127.0.0.1:7400 examples/playlist.csv --asrun asrun.csv";
 
+const PROBE_EXAMPLE: &str =
+    "It stops what the port plays, and no automation may use the port meanwhile.
+
+Example: vdcp probe 127.0.0.1:7400 examples/catalogue.csv --yes-it-may-stop";
+
 const LOSSY_EXAMPLE: &str =
     "It keeps what the report of a run rests on. Each way it holds one burst. A copied command reaches
 the server as two bursts, and only the answer to the last goes on; a copied answer goes out twice at
@@ -47,6 +52,7 @@ pub fn command<'a>(alloc: Global) -> Result<Command<'a>, AllocError> {
         .subcommand(run(alloc)?)?
         .subcommand(asrun_list(alloc)?)?
         .subcommand(judge(alloc)?)?
+        .subcommand(probe(alloc)?)?
         .subcommand(lossy(alloc)?)?
         .subcommand(vectors(alloc)?)
 }
@@ -166,6 +172,20 @@ fn judge<'a>(alloc: Global) -> Result<Command<'a>, AllocError> {
         .arg(server(alloc))
 }
 
+fn probe<'a>(alloc: Global) -> Result<Command<'a>, AllocError> {
+    Command::new(alloc, "probe")
+        .about("Asks a server whether its port keeps the table that as-run lists rest on, over TCP")
+        .after_help(PROBE_EXAMPLE)
+        .arg(address(alloc, "Where the server listens, as 127.0.0.1:7400"))?
+        .arg(catalogue(alloc))?
+        .arg(may_stop(alloc))?
+        .arg(only(alloc))?
+        .arg(number_option(alloc, &UNIT))?
+        .arg(number_option(alloc, &PORT))?
+        .arg(rate_option(alloc))?
+        .arg(number_option(alloc, &RUN_SILENCE))
+}
+
 fn lossy<'a>(alloc: Global) -> Result<Command<'a>, AllocError> {
     Command::new(alloc, "lossy")
         .about(
@@ -242,6 +262,21 @@ fn judge_confirm<'a>(alloc: Global) -> Arg<'a> {
         .long("confirm")
         .action(ArgAction::SetTrue)
         .help("The automation trusts no ACK and no NAK")
+}
+
+fn may_stop<'a>(alloc: Global) -> Arg<'a> {
+    Arg::new(alloc, "yes-it-may-stop")
+        .long("yes-it-may-stop")
+        .action(ArgAction::SetTrue)
+        .help("What the port plays may be stopped; without this nothing is sent")
+}
+
+fn only<'a>(alloc: Global) -> Arg<'a> {
+    Arg::new(alloc, "only")
+        .long("only")
+        .value_name("GROUP")
+        .value_parser(["safe", "unsafe"].as_slice())
+        .help("Puts only the rows that can falsify no as-run list, or only the others")
 }
 
 fn server<'a>(alloc: Global) -> Arg<'a> {

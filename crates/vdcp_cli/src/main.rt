@@ -20,9 +20,10 @@ use vdcp_files::{do_check, do_vectors};
 use vdcp_lossy::do_lossy;
 use vdcp_net::{Lines, RunSettings, Screen, Showing, Telling, do_run, do_serve};
 use vdcp_options::{
-    asrun_settings_of, judge_settings_of, lossy_settings_of, open_file, rate_of, run_settings_of,
-    serve_settings_of, sim_settings_of, unit_of,
+    asrun_settings_of, judge_settings_of, lossy_settings_of, open_file, probe_settings_of, rate_of,
+    run_settings_of, serve_settings_of, sim_settings_of, unit_of,
 };
+use vdcp_probe::{ROWS, do_probe};
 use vdcp_record::do_asrun;
 use vdcp_sim::do_sim;
 use vdcp_text::{Failure, do_make, do_show};
@@ -90,6 +91,7 @@ fn run_named<W: Write, E: Write>(
         "run" => run_run(rt, matches, out, err),
         "asrun" => run_asrun(rt, matches, out, err),
         "judge" => run_judge(rt, matches, out, err),
+        "probe" => run_probe(rt, matches, out, err),
         "lossy" => Ok(run_lossy(rt, matches, err)),
         "vectors" => run_vectors(rt, matches, out, err),
         // (`clap` lets no other name through)
@@ -212,6 +214,18 @@ fn run_judge<'a, W: Write, E: Write>(
     let capture = open_file(rt, matches, "CAPTURE")?;
     let settings = judge_settings_of(matches);
     Ok(do_judge(rt.alloc(), list, capture, settings, out, err))
+}
+
+fn run_probe<'a, W: Write, E: Write>(
+    rt: &HostRuntime,
+    matches: &'a ArgMatches<'_>,
+    out: &mut W,
+    err: &mut E,
+) -> Result<u8, Failure<'a>> {
+    let catalogue = open_file(rt, matches, "CATALOGUE")?;
+    let address = matches.get_str("ADDR").unwrap_or("");
+    let settings = probe_settings_of(matches);
+    Ok(do_probe(rt, address, catalogue, &ROWS, settings, out, err))
 }
 
 fn run_lossy<E: Write>(rt: &HostRuntime, matches: &ArgMatches<'_>, err: &mut E) -> u8 {

@@ -3,8 +3,8 @@
 //!
 //! A `NumberOption` is an option whose value is a number in a range; `number_option`, `idle_option` and `rate_option`
 //! make `clap`'s arguments of them. Of what `clap` has found, `unit_of` and `rate_of` give one option's value, and
-//! `judge_settings_of`, `sim_settings_of`, `serve_settings_of`, `run_settings_of`, `asrun_settings_of` and
-//! `lossy_settings_of` all that their subcommand asks for. `open_file` opens the file that an argument names.
+//! `judge_settings_of`, `sim_settings_of`, `serve_settings_of`, `run_settings_of`, `asrun_settings_of`,
+//! `lossy_settings_of` and `probe_settings_of` all that their subcommand asks for. `open_file` opens the file that an argument names.
 //!
 //! Files: `number` and `rate` (an option that is a number in a range, and `--rate`), `settings` (all options of a
 //! subcommand), `file` (a named file is opened).
@@ -23,6 +23,6 @@ pub use number::{
 };
 pub use rate::{rate_of, rate_option};
 pub use settings::{
-    asrun_settings_of, judge_settings_of, lossy_settings_of, run_settings_of, serve_settings_of,
-    sim_settings_of,
+    asrun_settings_of, judge_settings_of, lossy_settings_of, probe_settings_of, run_settings_of,
+    serve_settings_of, sim_settings_of,
 };

@@ -12,6 +12,7 @@ use clap::ArgMatches;
 use vdcp_capture::JudgeSettings;
 use vdcp_lossy::{Chances, LossySettings};
 use vdcp_net::{Hearing, Pace, RunJournal, RunSettings, ServeSettings};
+use vdcp_probe::{Only, ProbeSettings};
 use vdcp_record::AsrunSettings;
 use vdcp_sim::SimSettings;
 
@@ -241,5 +242,36 @@ pub fn judge_settings_of(matches: &ArgMatches) -> JudgeSettings
         rate: rate_of(matches),
         confirming: flag_of(matches, "confirm"),
         of_server: flag_of(matches, "server"),
+    }
+}
+
+/// What the options say of a server that is probed.
+pub fn probe_settings_of(matches: &ArgMatches) -> ProbeSettings
+    ensures unit { result.unit ≤ 15 }
+    ensures some_silence { 1 ≤ result.silence }
+    ensures short_silence { result.silence ≤ 60000 }
+    ensures units { (n : ℕ) → GivesNumber (found_of matches.now) (codes "unit") 0 15 n → result.unit ≡ n }
+    ensures ports { (n : ℕ) → GivesNumber (found_of matches.now) (codes "port") 0 255 n → result.port ≡ n }
+    ensures rates { (rate : Rate) → GivesRate (found_of matches.now) (codes "rate") rate → result.rate ≡ rate }
+    ensures silences { (n : ℕ) → GivesNumber (found_of matches.now) (codes "silence") 1 60000 n → result.silence ≡ n }
+    ensures stops { HasFlag (found_of matches.now) (codes "yes-it-may-stop") true → result.may_stop ≡ true }
+    ensures stops_not { HasFlag (found_of matches.now) (codes "yes-it-may-stop") false → result.may_stop ≡ false }
+{
+    ProbeSettings {
+        unit: unit_of(matches),
+        port: port_of(matches),
+        rate: rate_of(matches),
+        silence: number_of(matches, &RUN_SILENCE),
+        only: only_of(matches),
+        may_stop: flag_of(matches, "yes-it-may-stop"),
+    }
+}
+
+// Which rows are put; `clap` lets no other word through.
+fn only_of(matches: &ArgMatches) -> Only {
+    match matches.get_str("only") {
+        Some("safe") => Only::Safe,
+        Some("unsafe") => Only::Unsafe,
+        Some(_) | None => Only::All,
     }
 }

@@ -1,0 +1,4 @@
+pub mod Asks
+pub mod Following
+pub mod Walks
+pub mod Told

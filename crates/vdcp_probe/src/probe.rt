@@ -1,0 +1,207 @@
+ghost use Rattle.std.specs.Prelude.{◌≡◌, ◌==◌, ◌≤◌, IfOk, if◌then◌else◌};
+ghost use Rattle.vdcp_probe.specs.Told.{differing_in};
+
+use crate::clips::{first_ids, read_all};
+use crate::naming::Naming;
+use crate::report::{Told, differing_in, write_counts, write_told};
+use crate::row::Row;
+use crate::settings::ProbeSettings;
+use crate::walk::walk_row;
+use std::alloc::{AllocError, Global};
+use std::io;
+use std::net::{Net, OpenStream, SocketAddr};
+use std::time::Duration;
+use vdcp_files::NamedFile;
+use vdcp_list::Table;
+use vdcp_port::Catalogue;
+use vdcp_text::Failure;
+use vdcp_value::ClipId;
+use vdcp_wire::{StreamWire, Wire, address_of};
+
+/// Why a server isn't probed, or not to the end.
+#[derive(Clone, Copy, Debug, PartialEq, Eq)]
+enum ProbeFault<'a> {
+    /// Nobody has said that the port may be stopped.
+    MayNotStop,
+    /// The catalogue of this name has fewer than two clips.
+    FewClips(&'a str),
+    Failed(Failure<'a>),
+}
+
+impl<'a> From<Failure<'a>> for ProbeFault<'a> {
+    fn from(failure: Failure<'a>) -> Self {
+        ProbeFault::Failed(failure)
+    }
+}
+
+impl ProbeFault<'_> {
+    // Reports it to `err` in one line, and gives the status.
+    fn report<E: io::Write>(self, err: &mut E) -> u8
+        ensures { result ≤ 3 }
+    {
+        match self {
+            ProbeFault::MayNotStop => {
+                match writeln!(
+                    err,
+                    "vdcp: probe stops what plays: --yes-it-may-stop is missing"
+                ) {
+                    Ok(()) => 2,
+                    Err(_) => 3,
+                }
+            }
+            ProbeFault::FewClips(name) => {
+                match writeln!(err, "vdcp: {name}: fewer than two clips") {
+                    Ok(()) => 1,
+                    Err(_) => 3,
+                }
+            }
+            ProbeFault::Failed(failure) => failure.report(err),
+        }
+    }
+}
+
+/// Puts rows of the port's table to a server at `address`: an IPv4 address, a colon and a port number. It stops
+/// what its port plays. `out` gets a line for each row, as soon as it is known, and at last one with how many rows
+/// were put, how many were kept, how many differ, and how many of these can falsify an as-run list.
+///
+/// The status is 0 where no row differs, and 1 where one does, where a row of the catalogue is refused, and where
+/// it has fewer than two clips. It is 2 where the port may not be stopped, and where the address is none, which is
+/// tested next; and 3 where the catalogue can't be read, memory was refused, nobody takes the connection, it is closed
+/// or fails, an answer doesn't end, or a writer failed. For each of these but the last `err` gets a line.
+pub fn do_probe<R: Net + AllocGlobal, C: io::Read + Drop, W: io::Write, E: io::Write>(
+    rt: &R,
+    address: &str,
+    catalogue: NamedFile<'_, C>,
+    rows: &[Row],
+    settings: ProbeSettings,
+    out: &mut W,
+    err: &mut E,
+) -> u8
+    requires { settings.unit ≤ 15 }
+    ensures statuses { result ≤ 3 }
+{
+    match probe(rt, address, catalogue, rows, settings, out) {
+        Ok(told) => status_for(told.as_slice()),
+        Err(fault) => fault.report(err),
+    }
+}
+
+// The status where all rows were put.
+fn status_for(told: &[Told]) -> u8
+    ensures { result ≡ (if differing_in told.now == 0 then 0 else 1) }
+{
+    if differing_in(told) == 0 { 0 } else { 1 }
+}
+
+fn probe<'a, R: Net + AllocGlobal, C: io::Read + Drop, W: io::Write>(
+    rt: &R,
+    address: &str,
+    catalogue: NamedFile<'a, C>,
+    rows: &[Row],
+    settings: ProbeSettings,
+    out: &mut W,
+) -> Result<Vec<Told>, ProbeFault<'a>>
+    requires { settings.unit ≤ 15 }
+{
+    if !settings.may_stop {
+        return Err(ProbeFault::MayNotStop);
+    }
+    let Ok(address) = address_of(address) else {
+        return Err(ProbeFault::Failed(Failure::Address));
+    };
+    let (clips, naming) = read_clips(rt.alloc(), catalogue, settings)?;
+    let Ok(stream) = rt.connect(SocketAddr::V4(address)) else {
+        return Err(ProbeFault::Failed(Failure::Connect));
+    };
+    Ok(probe_connected(rt.alloc(), &clips, &naming, rows, stream, settings, out)?)
+}
+
+// Reads the catalogue, and what the commands name of it.
+fn read_clips<'a, C: io::Read + Drop>(
+    alloc: Global,
+    catalogue: NamedFile<'a, C>,
+    settings: ProbeSettings,
+) -> Result<(Table, Naming), ProbeFault<'a>>
+    requires { settings.unit ≤ 15 }
+    ensures { IfOk result (λ read. read.1.unit ≤ 15) }
+{
+    let NamedFile { name, mut reader } = catalogue;
+    let bytes = read_all(alloc, name, &mut reader)?;
+    let reader = bytes.as_slice();
+    let clips = NamedFile { name, reader }.read_catalogue(alloc, settings.rate)?;
+    let Some((first, second)) = first_ids(alloc, bytes.as_slice()) else {
+        return Err(ProbeFault::FewClips(name));
+    };
+    let naming = Naming {
+        unit: settings.unit,
+        port: settings.port,
+        first,
+        second,
+        unknown: ClipId::new([0xff; 8]),
+    };
+    Ok((clips, naming))
+}
+
+fn probe_connected<T: io::Read + io::Write + OpenStream + Drop, C: Catalogue, W: io::Write>(
+    alloc: Global,
+    clips: &C,
+    naming: &Naming,
+    rows: &[Row],
+    stream: T,
+    settings: ProbeSettings,
+    out: &mut W,
+) -> Result<Vec<Told>, Failure<'static>>
+    requires { naming.now.unit ≤ 15 }
+{
+    let silence = Duration::from_millis(u64::from(settings.silence));
+    match StreamWire::new(stream, silence) {
+        Ok(mut wire) => probe_rows(alloc, clips, naming, rows, settings, &mut wire, out),
+        Err(_) => Err(Failure::LineFailed),
+    }
+}
+
+/// Puts rows to a server over a wire, and writes what is found of each.
+pub fn probe_rows<C: Catalogue, T: Wire, W: io::Write>(
+    alloc: Global,
+    clips: &C,
+    naming: &Naming,
+    rows: &[Row],
+    settings: ProbeSettings,
+    wire: &mut T,
+    out: &mut W,
+) -> Result<Vec<Told>, Failure<'static>>
+    requires unit { naming.now.unit ≤ 15 }
+    requires works { T.failures wire.old ≡ 0 }
+{
+    let mut all = Vec::new(alloc);
+    for k in 0..rows.len() {
+        let row = rows[k];
+        if settings.only.has(row.group) {
+            let differs = walk_row(alloc, clips, naming, &row, wire)?;
+            let told = Told { row, differs };
+            write_flushed(&told, out)?;
+            add(told, &mut all)?;
+        }
+    }
+    write_end(all.as_slice(), out)?;
+    Ok(all)
+}
+
+fn add(told: Told, all: &mut Vec<Told>) -> Result<(), AllocError> {
+    all.push(told)?;
+    Ok(())
+}
+
+fn write_flushed<W: io::Write>(told: &Told, out: &mut W) -> Result<(), Failure<'static>> {
+    if write_told(told, out).is_err() || out.flush().is_err() {
+        return Err(Failure::Writer);
+    }
+    Ok(())
+}
+
+fn write_end<W: io::Write>(told: &[Told], out: &mut W) -> Result<(), Failure<'static>> {
+    if write_counts(told, out).is_err() || out.flush().is_err() {
+        return Err(Failure::Writer);
+    }
+    Ok(())
+}

@@ -1,0 +1,580 @@
+use crate::row::Ask::{
+    Active, Close, Cue, CuePart, Exists, Open, Play, Select, Size, Status, Stop,
+};
+use crate::row::Awaited::{ClipEnded, CueDone};
+use crate::row::Clip::{First, Second, Unknown};
+use crate::row::Number::{Other, Own};
+use crate::row::Step::{Ask, Await, Bytes, Cut, Damaged, Elsewhere, Framed, Send};
+use crate::row::{Group, Row, Start};
+
+// Times of a part, in bytes.
+const START: [u8; 4] = [0x00, 0x00, 0x00, 0x00];
+
+const FRAME: [u8; 4] = [0x01, 0x00, 0x00, 0x00];
+
+const DAY: [u8; 4] = [0x23, 0x59, 0x59, 0x23];
+
+const NO_TIME: [u8; 4] = [0xff, 0xff, 0xff, 0xff];
+
+macro_rules! row {
+    ($name:literal, $group:ident, $start:ident, $steps:expr) => {
+        Row {
+            name: $name,
+            group: Group::$group,
+            start: Start::$start,
+            steps: $steps,
+        }
+    };
+}
+
+/// The rows, those that can falsify no list first.
+pub const ROWS: [Row; 96] = [
+    row!("closed-open", Safe, Closed, &[Ask(Open(Own)), Send]),
+    row!("closed-open-other", Safe, Closed, &[Ask(Open(Other)), Send]),
+    row!("closed-close", Safe, Closed, &[Ask(Close(Own)), Send]),
+    row!(
+        "closed-close-other",
+        Safe,
+        Closed,
+        &[Ask(Close(Other)), Send]
+    ),
+    row!("closed-select", Safe, Closed, &[Ask(Select(Own)), Send]),
+    row!("closed-cue", Safe, Closed, &[Ask(Cue(First)), Send]),
+    row!("closed-stop", Safe, Closed, &[Ask(Stop), Send]),
+    row!("closed-active", Safe, Closed, &[Ask(Active), Send]),
+    row!(
+        "closed-exists-known",
+        Safe,
+        Closed,
+        &[Ask(Exists(First)), Send]
+    ),
+    row!(
+        "closed-exists-unknown",
+        Safe,
+        Closed,
+        &[Ask(Exists(Unknown)), Send]
+    ),
+    row!("closed-size-known", Safe, Closed, &[Ask(Size(First)), Send]),
+    row!(
+        "closed-size-unknown",
+        Safe,
+        Closed,
+        &[Ask(Size(Unknown)), Send]
+    ),
+    row!("open-open", Safe, Open, &[Ask(Open(Own)), Send]),
+    row!("open-close", Safe, Open, &[Ask(Close(Own)), Send]),
+    row!("open-select-other", Safe, Open, &[Ask(Select(Other)), Send]),
+    row!("open-cue", Safe, Open, &[Ask(Cue(First)), Send]),
+    row!("open-stop", Safe, Open, &[Ask(Stop), Send]),
+    row!("open-active", Safe, Open, &[Ask(Active), Send]),
+    row!("open-exists", Safe, Open, &[Ask(Exists(First)), Send]),
+    row!(
+        "selected-open",
+        Safe,
+        Selected,
+        &[Ask(Open(Own)), Send, Ask(Status(1)), Send]
+    ),
+    row!(
+        "selected-open-other",
+        Safe,
+        Selected,
+        &[Ask(Open(Other)), Send, Ask(Status(1)), Send]
+    ),
+    row!(
+        "selected-select",
+        Safe,
+        Selected,
+        &[Ask(Select(Own)), Send, Ask(Status(1)), Send]
+    ),
+    row!(
+        "selected-select-other",
+        Safe,
+        Selected,
+        &[Ask(Select(Other)), Send, Ask(Status(1)), Send]
+    ),
+    row!(
+        "close-other-keeps",
+        Safe,
+        Cued,
+        &[Ask(Close(Other)), Send, Ask(Status(1)), Send]
+    ),
+    row!(
+        "open-keeps",
+        Safe,
+        Cued,
+        &[
+            Ask(Open(Own)),
+            Send,
+            Ask(Select(Own)),
+            Send,
+            Ask(Status(1)),
+            Send
+        ]
+    ),
+    row!(
+        "stop-ends-clip",
+        Safe,
+        Cued,
+        &[
+            Ask(Play),
+            Send,
+            Ask(Stop),
+            Ask(Status(1)),
+            Ask(Active),
+            Send
+        ]
+    ),
+    row!("exists-known", Safe, Selected, &[Ask(Exists(First)), Send]),
+    row!(
+        "exists-unknown",
+        Safe,
+        Selected,
+        &[Ask(Exists(Unknown)), Send]
+    ),
+    row!("size-known", Safe, Selected, &[Ask(Size(Second)), Send]),
+    row!("size-unknown", Safe, Selected, &[Ask(Size(Unknown)), Send]),
+    row!(
+        "questions-keep-cue",
+        Safe,
+        Cued,
+        &[
+            Ask(Exists(First)),
+            Send,
+            Ask(Size(First)),
+            Send,
+            Ask(Active),
+            Send,
+            Ask(Status(1)),
+            Send
+        ]
+    ),
+    row!("active-none", Safe, Selected, &[Ask(Active), Send]),
+    row!("state-unasked", Safe, Selected, &[Ask(Status(0)), Send]),
+    row!(
+        "state-among-others",
+        Safe,
+        Selected,
+        &[Ask(Status(0xff)), Send]
+    ),
+    row!(
+        "part-too-long",
+        Safe,
+        Selected,
+        &[Ask(CuePart(First, START, DAY)), Send, Ask(Status(1)), Send]
+    ),
+    row!(
+        "part-without-frames",
+        Safe,
+        Selected,
+        &[
+            Ask(CuePart(First, START, START)),
+            Send,
+            Ask(Status(1)),
+            Send
+        ]
+    ),
+    row!(
+        "part-without-time",
+        Safe,
+        Selected,
+        &[
+            Ask(CuePart(First, NO_TIME, FRAME)),
+            Send,
+            Ask(Status(1)),
+            Send
+        ]
+    ),
+    row!(
+        "unknown-type",
+        Safe,
+        Selected,
+        &[Framed(7, 0x01, &[]), Send]
+    ),
+    row!(
+        "unknown-code",
+        Safe,
+        Selected,
+        &[Framed(2, 0x7f, &[]), Send]
+    ),
+    row!(
+        "stop-with-data",
+        Safe,
+        Selected,
+        &[Framed(1, 0x00, &[0]), Send]
+    ),
+    row!(
+        "open-without-lock",
+        Safe,
+        Selected,
+        &[Framed(3, 0x01, &[1]), Send]
+    ),
+    row!(
+        "status-without-bitmap",
+        Safe,
+        Selected,
+        &[Framed(3, 0x05, &[]), Send]
+    ),
+    row!(
+        "longest-message",
+        Safe,
+        Selected,
+        &[Framed(2, 0x24, &[0x41; 253]), Send]
+    ),
+    row!("ack-unanswered", Safe, Selected, &[Bytes(&[0x04]), Send]),
+    row!(
+        "nak-unanswered",
+        Safe,
+        Selected,
+        &[Bytes(&[0x05, 0x01]), Send]
+    ),
+    row!(
+        "other-unit-status",
+        Safe,
+        Selected,
+        &[Elsewhere(Status(1)), Send]
+    ),
+    row!(
+        "other-unit-unknown",
+        Safe,
+        Selected,
+        &[Elsewhere(Exists(Unknown)), Send]
+    ),
+    row!(
+        "several-commands",
+        Safe,
+        Selected,
+        &[
+            Ask(Exists(First)),
+            Ask(Size(Second)),
+            Ask(Exists(Unknown)),
+            Send
+        ]
+    ),
+    row!("bad-start", Safe, Selected, &[Bytes(&[0xff]), Send]),
+    row!("bad-count", Safe, Selected, &[Bytes(&[0x02, 0x00]), Send]),
+    row!("bad-sum", Safe, Selected, &[Damaged(Exists(First)), Send]),
+    row!("cut-after-start", Safe, Selected, &[Bytes(&[0x02]), Send]),
+    row!(
+        "cut-before-sum",
+        Safe,
+        Selected,
+        &[Cut(Exists(First)), Send]
+    ),
+    row!(
+        "answers-before-fault",
+        Safe,
+        Selected,
+        &[Ask(Exists(First)), Damaged(Size(First)), Send]
+    ),
+    row!(
+        "answers-before-cut",
+        Safe,
+        Selected,
+        &[Ask(Exists(First)), Cut(Size(First)), Send]
+    ),
+    row!("state-idle", Unaired, Selected, &[Ask(Status(1)), Send]),
+    row!(
+        "state-cueing",
+        Unaired,
+        Selected,
+        &[Ask(Cue(First)), Ask(Status(1)), Send]
+    ),
+    row!(
+        "state-done",
+        Unaired,
+        Selected,
+        &[Ask(Cue(First)), Send, Await(CueDone)]
+    ),
+    row!(
+        "state-playing",
+        Unaired,
+        Cued,
+        &[Ask(Play), Ask(Status(1)), Send]
+    ),
+    row!(
+        "state-playing-cueing",
+        Unaired,
+        Cued,
+        &[Ask(Play), Ask(Cue(Second)), Ask(Status(1)), Send]
+    ),
+    row!(
+        "state-playing-done",
+        Unaired,
+        Cued,
+        &[Ask(Play), Send, Ask(Cue(Second)), Send, Await(CueDone)]
+    ),
+    row!(
+        "state-ended",
+        Unaired,
+        Selected,
+        &[
+            Ask(CuePart(First, START, FRAME)),
+            Send,
+            Await(CueDone),
+            Ask(Play),
+            Send,
+            Await(ClipEnded)
+        ]
+    ),
+    row!(
+        "state-after-stop",
+        Unaired,
+        Cued,
+        &[Ask(Stop), Ask(Status(1)), Send]
+    ),
+    row!("status-closed", Unaired, Closed, &[Ask(Status(1)), Send]),
+    row!("status-open", Unaired, Open, &[Ask(Status(1)), Send]),
+    row!("play-closed", Unaired, Closed, &[Ask(Play), Send]),
+    row!("play-open", Unaired, Open, &[Ask(Play), Send]),
+    row!("play-airs", Unaired, Cued, &[Ask(Play), Ask(Active), Send]),
+    row!(
+        "play-airs-next",
+        Unaired,
+        Cued,
+        &[
+            Ask(Play),
+            Send,
+            Ask(Cue(Second)),
+            Send,
+            Await(CueDone),
+            Ask(Play),
+            Ask(Active),
+            Send
+        ]
+    ),
+    row!(
+        "status-keeps-cue",
+        Unaired,
+        Cued,
+        &[Ask(Status(1)), Send, Ask(Status(1)), Send]
+    ),
+    row!(
+        "status-keeps-clip",
+        Unaired,
+        Cued,
+        &[Ask(Play), Ask(Status(1)), Ask(Status(1)), Ask(Active), Send]
+    ),
+    row!(
+        "other-unit-stop",
+        Unaired,
+        Cued,
+        &[Elsewhere(Stop), Send, Ask(Status(1)), Send]
+    ),
+    row!(
+        "damaged-stop",
+        Unaired,
+        Cued,
+        &[Damaged(Stop), Send, Ask(Status(1)), Send]
+    ),
+    row!(
+        "cut-stop",
+        Unaired,
+        Cued,
+        &[Cut(Stop), Send, Ask(Status(1)), Send]
+    ),
+    row!(
+        "stop-after-fault",
+        Unaired,
+        Cued,
+        &[Bytes(&[0xff]), Ask(Stop), Send, Ask(Status(1)), Send]
+    ),
+    row!(
+        "play-nothing",
+        Unlisted,
+        Selected,
+        &[Ask(Play), Send, Ask(Status(1)), Send, Ask(Active), Send]
+    ),
+    row!(
+        "play-cueing",
+        Unlisted,
+        Selected,
+        &[
+            Ask(Cue(First)),
+            Ask(Play),
+            Ask(Status(1)),
+            Ask(Active),
+            Send
+        ]
+    ),
+    row!(
+        "play-twice",
+        Unlisted,
+        Selected,
+        &[
+            Ask(CuePart(First, START, FRAME)),
+            Send,
+            Await(CueDone),
+            Ask(Play),
+            Send,
+            Await(ClipEnded),
+            Ask(Play),
+            Ask(Status(1)),
+            Ask(Active),
+            Send
+        ]
+    ),
+    row!(
+        "play-copied",
+        Unlisted,
+        Cued,
+        &[Ask(Play), Ask(Play), Ask(Status(1)), Ask(Active), Send]
+    ),
+    row!(
+        "play-copied-late",
+        Unlisted,
+        Cued,
+        &[
+            Ask(Play),
+            Ask(Cue(Second)),
+            Ask(Play),
+            Ask(Status(1)),
+            Ask(Active),
+            Send
+        ]
+    ),
+    row!(
+        "cue-replaces-done",
+        Unlisted,
+        Cued,
+        &[
+            Ask(Cue(Second)),
+            Send,
+            Await(CueDone),
+            Ask(Play),
+            Ask(Active),
+            Send
+        ]
+    ),
+    row!(
+        "cue-replaces-cueing",
+        Unlisted,
+        Selected,
+        &[
+            Ask(Cue(First)),
+            Ask(Cue(Second)),
+            Send,
+            Await(CueDone),
+            Ask(Play),
+            Ask(Active),
+            Send
+        ]
+    ),
+    row!(
+        "cue-copied",
+        Unlisted,
+        Selected,
+        &[
+            Ask(Cue(First)),
+            Ask(Cue(First)),
+            Send,
+            Await(CueDone),
+            Ask(Play),
+            Ask(Status(1)),
+            Ask(Active),
+            Send
+        ]
+    ),
+    row!(
+        "cue-keeps-clip",
+        Unlisted,
+        Cued,
+        &[Ask(Play), Ask(Cue(Second)), Ask(Active), Send]
+    ),
+    row!(
+        "cue-part-replaces",
+        Unlisted,
+        Cued,
+        &[
+            Ask(CuePart(Second, START, FRAME)),
+            Send,
+            Await(CueDone),
+            Ask(Play),
+            Ask(Active),
+            Send
+        ]
+    ),
+    row!(
+        "cue-unknown",
+        Unlisted,
+        Selected,
+        &[Ask(Cue(Unknown)), Send, Ask(Status(1)), Send]
+    ),
+    row!(
+        "cue-refused-keeps",
+        Unlisted,
+        Cued,
+        &[Ask(Cue(Unknown)), Send, Ask(Play), Ask(Active), Send]
+    ),
+    row!(
+        "stop-empties-cue",
+        Unlisted,
+        Cued,
+        &[
+            Ask(Stop),
+            Send,
+            Ask(Status(1)),
+            Send,
+            Ask(Play),
+            Send,
+            Ask(Status(1)),
+            Send
+        ]
+    ),
+    row!(
+        "close-empties-cue",
+        Unlisted,
+        Cued,
+        &[
+            Ask(Close(Own)),
+            Send,
+            Ask(Open(Own)),
+            Send,
+            Ask(Select(Own)),
+            Send,
+            Ask(Status(1)),
+            Send
+        ]
+    ),
+    row!(
+        "other-unit-play",
+        Unlisted,
+        Cued,
+        &[Elsewhere(Play), Send, Ask(Status(1)), Send]
+    ),
+    row!(
+        "other-unit-cue",
+        Unlisted,
+        Cued,
+        &[Elsewhere(Cue(Second)), Send, Ask(Play), Ask(Active), Send]
+    ),
+    row!(
+        "damaged-play",
+        Unlisted,
+        Cued,
+        &[Damaged(Play), Send, Ask(Status(1)), Send]
+    ),
+    row!(
+        "damaged-cue",
+        Unlisted,
+        Cued,
+        &[Damaged(Cue(Second)), Send, Ask(Play), Ask(Active), Send]
+    ),
+    row!(
+        "cut-play",
+        Unlisted,
+        Cued,
+        &[Cut(Play), Send, Ask(Status(1)), Send]
+    ),
+    row!(
+        "play-after-fault",
+        Unlisted,
+        Cued,
+        &[Bytes(&[0xff]), Ask(Play), Send, Ask(Status(1)), Send]
+    ),
+    row!(
+        "play-with-data",
+        Unlisted,
+        Cued,
+        &[Framed(1, 0x01, &[0]), Send, Ask(Status(1)), Send]
+    ),
+];

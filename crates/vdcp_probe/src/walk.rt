@@ -1,0 +1,236 @@
+ghost use Rattle.std.specs.Prelude.{◌≡◌, ◌≤◌, IfOk, IsSome, None, OnOk};
+ghost use Rattle.vdcp_probe.specs.Following.{IsForeseen, IsUnforeseen, followed};
+ghost use Rattle.vdcp_probe.specs.Walks.{is_reached};
+
+use crate::asking::ask;
+use crate::follower::{Turn, add_turn, happened, may_come, state_after};
+use crate::naming::Naming;
+use crate::reading::difference;
+use crate::row::Ask::{Close, Cue, Open, Select, Status, Stop};
+use crate::row::{Awaited, Clip, Number, Row, Start, Step};
+use std::alloc::{AllocError, Global};
+use vdcp_port::Catalogue;
+use vdcp_text::Failure;
+use vdcp_wire::Wire;
+
+/// How often the state is asked for until it is as awaited.
+const MOST_POLLS: u32 = 250;
+
+const TO_CLOSED: [Step; 8] = [
+    Step::Ask(Open(Number::Own)),
+    Step::Send,
+    Step::Ask(Select(Number::Own)),
+    Step::Send,
+    Step::Ask(Stop),
+    Step::Send,
+    Step::Ask(Close(Number::Own)),
+    Step::Send,
+];
+
+const TO_OPEN: [Step; 10] = [
+    Step::Ask(Open(Number::Own)),
+    Step::Send,
+    Step::Ask(Select(Number::Own)),
+    Step::Send,
+    Step::Ask(Stop),
+    Step::Send,
+    Step::Ask(Close(Number::Own)),
+    Step::Send,
+    Step::Ask(Open(Number::Own)),
+    Step::Send,
+];
+
+const TO_SELECTED: [Step; 6] = [
+    Step::Ask(Open(Number::Own)),
+    Step::Send,
+    Step::Ask(Select(Number::Own)),
+    Step::Send,
+    Step::Ask(Stop),
+    Step::Send,
+];
+
+const TO_CUED: [Step; 9] = [
+    Step::Ask(Open(Number::Own)),
+    Step::Send,
+    Step::Ask(Select(Number::Own)),
+    Step::Send,
+    Step::Ask(Stop),
+    Step::Send,
+    Step::Ask(Cue(Clip::First)),
+    Step::Send,
+    Step::Await(Awaited::CueDone),
+];
+
+// The steps that bring a port there from wherever it is.
+fn steps_to(start: Start) -> &'static [Step] {
+    match start {
+        Start::Closed => &TO_CLOSED,
+        Start::Open => &TO_OPEN,
+        Start::Selected => &TO_SELECTED,
+        Start::Cued => &TO_CUED,
+    }
+}
+
+/// Puts a row to a server whose port has these clips. Where what comes for a burst is none of what the port that got
+/// the same bursts may answer, the row is over, and the answer says what was sent, what came, and what may come.
+pub fn walk_row<C: Catalogue, W: Wire>(
+    alloc: Global,
+    catalogue: &C,
+    naming: &Naming,
+    row: &Row,
+    wire: &mut W,
+) -> Result<Option<String>, Failure<'static>>
+    requires unit { naming.now.unit ≤ 15 }
+    requires works { W.failures wire.old ≡ 0 }
+    ensures works { OnOk result (W.failures wire.new ≡ 0) }
+{
+    let mut steps = Vec::from_slice(alloc, steps_to(row.start))?;
+    steps.extend_from_slice(row.steps)?;
+    walk(alloc, catalogue, naming, steps.as_slice(), wire)
+}
+
+// Takes steps, one after another, from a new port.
+fn walk<C: Catalogue, W: Wire>(
+    alloc: Global,
+    catalogue: &C,
+    naming: &Naming,
+    steps: &[Step],
+    wire: &mut W,
+) -> Result<Option<String>, Failure<'static>>
+    requires unit { naming.now.unit ≤ 15 }
+    requires works { W.failures wire.old ≡ 0 }
+    ensures works { OnOk result (W.failures wire.new ≡ 0) }
+{
+    let mut turns = Vec::new(alloc);
+    let mut burst = Vec::new(alloc);
+    for k in 0..steps.len() {
+        let step = &steps[k];
+        let differs = take_step(alloc, catalogue, naming, step, &mut burst, &mut turns, wire)?;
+        if differs.is_some() {
+            return Ok(differs);
+        }
+    }
+    Ok(None)
+}
+
+fn take_step<C: Catalogue, W: Wire>(
+    alloc: Global,
+    catalogue: &C,
+    naming: &Naming,
+    step: &Step,
+    burst: &mut Vec<u8>,
+    turns: &mut Vec<Turn>,
+    wire: &mut W,
+) -> Result<Option<String>, Failure<'static>>
+    requires unit { naming.now.unit ≤ 15 }
+    requires works { W.failures wire.old ≡ 0 }
+    ensures works { OnOk result (W.failures wire.new ≡ 0) }
+{
+    match step {
+        Step::Send => {
+            let differs = hold(alloc, catalogue, naming, burst.as_slice(), turns, wire)?;
+            burst.clear();
+            Ok(differs)
+        }
+        Step::Await(awaited) => wait(alloc, catalogue, naming, *awaited, turns, wire),
+        _ => {
+            naming.add_step(step, burst)?;
+            Ok(None)
+        }
+    }
+}
+
+// Asks for the state until it is as awaited.
+fn wait<C: Catalogue, W: Wire>(
+    alloc: Global,
+    catalogue: &C,
+    naming: &Naming,
+    awaited: Awaited,
+    turns: &mut Vec<Turn>,
+    wire: &mut W,
+) -> Result<Option<String>, Failure<'static>>
+    requires unit { naming.now.unit ≤ 15 }
+    requires works { W.failures wire.old ≡ 0 }
+    ensures works { OnOk result (W.failures wire.new ≡ 0) }
+{
+    let mut status = Vec::new(alloc);
+    naming.add_ask(&Status(0x01), &mut status)?;
+    let status = status.as_slice();
+    'polls: for _ in 0..MOST_POLLS {
+        let differs = hold(alloc, catalogue, naming, status, turns, wire)?;
+        if differs.is_some() {
+            return Ok(differs);
+        }
+        let state = state_after(alloc, catalogue, naming, turns.as_slice())?;
+        if is_reached(awaited, state) {
+            return Ok(None);
+        }
+    }
+    let answers = may_come(alloc, catalogue, naming, turns.as_slice(), status)?;
+    Ok(Some(overdue(alloc, status, answers.as_slice())?))
+}
+
+// Whether a state byte is as awaited.
+fn is_reached(awaited: Awaited, state: u8) -> bool
+    ensures { result ≡ is_reached awaited state }
+{
+    match awaited {
+        Awaited::CueDone => state & 0x80 != 0,
+        Awaited::ClipEnded => state & 0x04 == 0,
+    }
+}
+
+// What is said of a state that didn't become as awaited: the first of what may come came each time.
+fn overdue(alloc: Global, status: &[u8], answers: &[Vec<u8>]) -> Result<String, AllocError> {
+    match answers {
+        [first, rest @ ..] => difference(alloc, status, first.as_slice(), rest),
+        [] => Ok(String::new(alloc)),
+    }
+}
+
+// Sends a burst to a server that has got these turns, and judges what comes.
+fn hold<C: Catalogue, W: Wire>(
+    alloc: Global,
+    catalogue: &C,
+    naming: &Naming,
+    burst: &[u8],
+    turns: &mut Vec<Turn>,
+    wire: &mut W,
+) -> Result<Option<String>, Failure<'static>>
+    requires unit { naming.now.unit ≤ 15 }
+    requires works { W.failures wire.old ≡ 0 }
+    ensures works { OnOk result (W.failures wire.new ≡ 0) }
+{
+    let came = ask(alloc, burst, wire)?;
+    Ok(judge(alloc, catalogue, naming, burst, came.as_slice(), turns)?)
+}
+
+/// Holds what came for a burst, after these turns, against what the port may answer that got the same. If it is none of
+/// this, the text says so; else the burst is one turn more.
+pub fn judge<C: Catalogue>(
+    alloc: Global,
+    catalogue: &C,
+    naming: &Naming,
+    burst: &[u8],
+    came: &[u8],
+    turns: &mut Vec<Turn>,
+) -> Result<Option<String>, AllocError>
+    requires { naming.now.unit ≤ 15 }
+    ensures differs { IfOk result (λ text. IsSome text → IsUnforeseen
+        (followed (C.clips catalogue.now) naming.now.unit naming.now.port turns.old.items) burst.now came.now) }
+    ensures kept { IfOk result (λ text. text ≡ None → IsForeseen
+        (followed (C.clips catalogue.now) naming.now.unit naming.now.port turns.old.items) burst.now came.now
+        (followed (C.clips catalogue.now) naming.now.unit naming.now.port turns.new.items)) }
+{
+    match happened(alloc, catalogue, naming, turns.as_slice(), burst, came)? {
+        Some(meanwhile) => {
+            add_turn(alloc, meanwhile, burst, turns)?;
+            Ok(None)
+        }
+        None => {
+            let answers = may_come(alloc, catalogue, naming, turns.as_slice(), burst)?;
+            let text = difference(alloc, burst, came, answers.as_slice())?;
+            Ok(Some(text))
+        }
+    }
+}
