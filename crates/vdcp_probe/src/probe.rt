@@ -1,5 +1,7 @@
-ghost use Rattle.std.specs.Prelude.{◌≡◌, ◌==◌, ◌≤◌, IfOk, if◌then◌else◌};
-ghost use Rattle.vdcp_probe.specs.Told.{differing_in};
+ghost use Rattle.std.specs.Io.KnownBytes.{Appends};
+ghost use Rattle.std.specs.List.{flat_map};
+ghost use Rattle.std.specs.Prelude.{◌≡◌, ◌==◌, ◌≤◌, ◌∷◌, ◌++◌, [], ℕ, IfOk, List, OnOk, Option, if◌then◌else◌};
+ghost use Rattle.vdcp_probe.specs.Told.{counts_text, differing_in, probed_text, told_text};
 
 use crate::clips::{first_ids, read_all};
 use crate::naming::Naming;
@@ -160,7 +162,7 @@ fn probe_connected<T: io::Read + io::Write + OpenStream + Drop, C: Catalogue, W:
     }
 }
 
-/// Puts rows to a server over a wire, and writes what is found of each.
+/// Puts rows to a server over a wire, and writes what is found of each, and then the counts.
 pub fn probe_rows<C: Catalogue, T: Wire, W: io::Write>(
     alloc: Global,
     clips: &C,
@@ -172,36 +174,65 @@ pub fn probe_rows<C: Catalogue, T: Wire, W: io::Write>(
 ) -> Result<Vec<Told>, Failure<'static>>
     requires unit { naming.now.unit ≤ 15 }
     requires works { T.failures wire.old ≡ 0 }
+    ensures printed { IfOk result (λ told. Appends (W.contents out.old) (W.contents out.new) (probed_text told.items)) }
 {
     let mut all = Vec::new(alloc);
     for k in 0..rows.len() {
-        let row = rows[k];
+        let row = &rows[k];
         if settings.only.has(row.group) {
-            let differs = walk_row(alloc, clips, naming, &row, wire)?;
-            let told = Told { row, differs };
-            write_flushed(&told, out)?;
-            add(told, &mut all)?;
+            put_row(alloc, clips, naming, row, wire, out, &mut all)?;
         }
     }
-    write_end(all.as_slice(), out)?;
-    Ok(all)
+    match write_end(all.as_slice(), out) {
+        Ok(()) => Ok(all),
+        Err(_) => Err(Failure::Writer),
+    }
 }
 
-fn add(told: Told, all: &mut Vec<Told>) -> Result<(), AllocError> {
+// Puts a row, writes what is found of it, and adds that.
+fn put_row<C: Catalogue, T: Wire, W: io::Write>(
+    alloc: Global,
+    clips: &C,
+    naming: &Naming,
+    row: &Row,
+    wire: &mut T,
+    out: &mut W,
+    all: &mut Vec<Told>,
+) -> Result<(), Failure<'static>>
+    requires unit { naming.now.unit ≤ 15 }
+    requires works { T.failures wire.old ≡ 0 }
+    ensures works { OnOk result (T.failures wire.new ≡ 0) }
+    // What was printed before, of the rows before, goes on with this one.
+    ensures printed { OnOk result ((start : Option (List ℕ)) →
+        Appends start (W.contents out.old) (flat_map told_text all.old.items) →
+        Appends start (W.contents out.new) (flat_map told_text all.new.items)) }
+{
+    let differs = walk_row(alloc, clips, naming, row, wire)?;
+    let told = Told { row: *row, differs };
+    if write_flushed(&told, out).is_err() {
+        return Err(Failure::Writer);
+    }
+    add(told, all)?;
+    Ok(())
+}
+
+fn add(told: Told, all: &mut Vec<Told>) -> Result<(), AllocError>
+    ensures { OnOk result (all.new.items ≡ all.old.items ++ told ∷ []) }
+{
     all.push(told)?;
     Ok(())
 }
 
-fn write_flushed<W: io::Write>(told: &Told, out: &mut W) -> Result<(), Failure<'static>> {
-    if write_told(told, out).is_err() || out.flush().is_err() {
-        return Err(Failure::Writer);
-    }
-    Ok(())
+fn write_flushed<W: io::Write>(told: &Told, out: &mut W) -> io::Result<()>
+    ensures { OnOk result (Appends (W.contents out.old) (W.contents out.new) (told_text told.now)) }
+{
+    write_told(told, out)?;
+    out.flush()
 }
 
-fn write_end<W: io::Write>(told: &[Told], out: &mut W) -> Result<(), Failure<'static>> {
-    if write_counts(told, out).is_err() || out.flush().is_err() {
-        return Err(Failure::Writer);
-    }
-    Ok(())
+fn write_end<W: io::Write>(told: &[Told], out: &mut W) -> io::Result<()>
+    ensures { OnOk result (Appends (W.contents out.old) (W.contents out.new) (counts_text told.now)) }
+{
+    write_counts(told, out)?;
+    out.flush()
 }

@@ -188,7 +188,7 @@ fn overdue(alloc: Global, status: &[u8], answers: &[Vec<u8>]) -> Result<String, 
     }
 }
 
-// Sends a burst to a server that has got these turns, and judges what comes.
+// Sends a burst to a server that has got these turns, and holds what comes against the port.
 fn hold<C: Catalogue, W: Wire>(
     alloc: Global,
     catalogue: &C,
@@ -202,12 +202,12 @@ fn hold<C: Catalogue, W: Wire>(
     ensures works { OnOk result (W.failures wire.new ≡ 0) }
 {
     let came = ask(alloc, burst, wire)?;
-    Ok(judge(alloc, catalogue, naming, burst, came.as_slice(), turns)?)
+    Ok(hold_answer(alloc, catalogue, naming, burst, came.as_slice(), turns)?)
 }
 
 /// Holds what came for a burst, after these turns, against what the port may answer that got the same. If it is none of
 /// this, the text says so; else the burst is one turn more.
-pub fn judge<C: Catalogue>(
+pub fn hold_answer<C: Catalogue>(
     alloc: Global,
     catalogue: &C,
     naming: &Naming,
