@@ -25,7 +25,7 @@ _vdcp() {
         fi
         case $rest$word in
         --) rest=1 ;;
-        --unit | --rate | --only | --port | --limit | --cue-frames | --silence | --turns | --idle | --listens | --poll | --asrun | --journal | --resume | --seed | --lose | --copy | --cut | --damage | --forge | --within) wish=$word ;;
+        --unit | --rate | --only | --port | --limit | --cue-frames | --silence | --turns | --idle | --listens | --poll | --lengths | --asrun | --journal | --resume | --seed | --lose | --copy | --cut | --damage | --forge | --within) wish=$word ;;
         -*) ;;
         *) if [[ -z $subcommand ]]; then subcommand=$word; else ((++place)); fi ;;
         esac
@@ -53,7 +53,7 @@ _vdcp() {
     lossy:-) offers="--seed --lose --copy --cut --damage --forge --silence --within --turns -h --help" ;;
     vectors:-) offers="-h --help" ;;
     make:1) offers="open close select cue cue-data play stop status active exists size" ;;
-    check:1 | check:2 | sim:1 | sim:2 | sim:3 | serve:2 | run:2 | run:--asrun | run:--journal | run:--resume | asrun:2 | judge:1 | judge:2 | probe:2 | vectors:1) offers="files" ;;
+    check:1 | check:2 | sim:1 | sim:2 | sim:3 | serve:2 | run:2 | run:--lengths | run:--asrun | run:--journal | run:--resume | asrun:2 | judge:1 | judge:2 | probe:2 | vectors:1) offers="files" ;;
     check:--rate | sim:--rate | serve:--rate | run:--rate | asrun:--rate | judge:--rate | probe:--rate) offers="24 25 30 30df" ;;
     probe:--only) offers="safe unsafe" ;;
     esac
