@@ -23,7 +23,7 @@ use vdcp_options::{
     asrun_settings_of, judge_settings_of, lossy_settings_of, open_file, probe_settings_of, rate_of,
     run_settings_of, serve_settings_of, sim_settings_of, unit_of,
 };
-use vdcp_probe::{ROWS, do_probe};
+use vdcp_probe::{do_probe, rows};
 use vdcp_record::do_asrun;
 use vdcp_sim::do_sim;
 use vdcp_text::{Failure, do_make, do_show};
@@ -225,7 +225,8 @@ fn run_probe<'a, W: Write, E: Write>(
     let catalogue = open_file(rt, matches, "CATALOGUE")?;
     let address = matches.get_str("ADDR").unwrap_or("");
     let settings = probe_settings_of(matches);
-    Ok(do_probe(rt, address, catalogue, &ROWS, settings, out, err))
+    let rows = rows(rt.alloc())?;
+    Ok(do_probe(rt, address, catalogue, rows.as_slice(), settings, out, err))
 }
 
 fn run_lossy<E: Write>(rt: &HostRuntime, matches: &ArgMatches<'_>, err: &mut E) -> u8 {

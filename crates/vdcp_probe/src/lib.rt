@@ -1,6 +1,6 @@
 //! The subcommand `probe`: does a server's port keep the port's table, on which as-run lists rest?
 //!
-//! `do_probe` puts rows of the table to a server over TCP, `probe_rows` over any `Wire`. `ROWS` are the rows of the
+//! `do_probe` puts rows of the table to a server over TCP, `probe_rows` over any `Wire`. `rows` gives the rows of the
 //! program. A `Row` brings the port to a `Start`, and then takes its `Step`s. Each burst that a step sends is
 //! also given to a port of `vdcp_port`, and `hold_answer` holds what comes against what that may answer, whatever got
 //! done or ended by itself before the burst.
@@ -29,5 +29,5 @@ pub use probe::{do_probe, probe_rows};
 pub use report::Told;
 pub use row::{Ask, Awaited, Clip, Group, Number, Row, Start, Step};
 pub use settings::{Only, ProbeSettings};
-pub use table::ROWS;
+pub use table::rows;
 pub use walk::hold_answer;
