@@ -25,7 +25,7 @@ _vdcp() {
         fi
         case $rest$word in
         --) rest=1 ;;
-        --unit | --rate | --only | --port | --limit | --cue-frames | --silence | --turns | --idle | --listens | --poll | --lengths | --asrun | --journal | --resume | --seed | --lose | --copy | --cut | --damage | --forge | --within) wish=$word ;;
+        --unit | --rate | --port | --limit | --cue-frames | --silence | --turns | --idle | --listens | --poll | --lengths | --asrun | --journal | --resume | --only | --seed | --lose | --copy | --cut | --damage | --forge | --within) wish=$word ;;
         -*) ;;
         *) if [[ -z $subcommand ]]; then subcommand=$word; else ((++place)); fi ;;
         esac
