@@ -1,3 +1,3 @@
 pub mod Chains
-pub mod LastRun
+pub mod OpenedAgain
 pub mod Shown

@@ -163,6 +163,15 @@ abbrev pub BeginsAfter : Heading → Run → Option ℕ → ℕ → Type 0
 BeginsAfter heading run (Some word) from = from ≡ word
 BeginsAfter heading run None from = (from ≡ next_event heading run) × IsFalse (may_have_aired run)
 
+-- why no controller begins after a run
+pub data IsNoBeginning (items : List Item) (heading : Heading) (run : Run) (word : Option ℕ) (failure : Failure)
+    : Type 0 where
+  may_have : word ≡ None → IsTrue (may_have_aired run) → failure ≡ failures.MayHaveAired (next_event heading run)
+      → IsNoBeginning items heading run word failure
+  not_listed : (k : ℕ) → word ≡ Some k → length items < k → failure ≡ failures.NoEvent k
+      → IsNoBeginning items heading run word failure
+  out_of_memory : failure ≡ failures.Memory → IsNoBeginning items heading run word failure
+
 -- a run came to its end, and nothing is to be sent after it
 abbrev pub IsOver : Option Outcome → Type 0
 IsOver outcome = (outcome ≡ Some Done) ⊎ (outcome ≡ Some Stopped)

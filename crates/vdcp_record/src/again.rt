@@ -3,7 +3,7 @@ ghost use Rattle.vdcp_auto.specs.Plan.{plan_of};
 ghost use Rattle.vdcp_auto.specs.Turn.{outcome_of};
 ghost use Rattle.vdcp_journal.specs.Runs.{run_at};
 ghost use Rattle.vdcp_list.specs.Rests.{items_left};
-ghost use Rattle.vdcp_record.specs.Resuming.{BeginsAfter, IsOpenedAgain, IsOver, IsResumed, IsUnopenedAgain, may_have_aired, next_event, plan_of_run};
+ghost use Rattle.vdcp_record.specs.Resuming.{BeginsAfter, IsNoBeginning, IsOpenedAgain, IsOver, IsResumed, IsUnopenedAgain, may_have_aired, next_event, plan_of_run};
 ghost use Rattle.vdcp_text.specs.declared.failure.Failure.TheVariants as failures;
 
 use crate::pending::Pending;
@@ -39,36 +39,72 @@ pub fn begin_again<'a, 'r, 's, R: Files<File = File> + Clock + AllocGlobal, S: S
 {
     let (file, bytes) = read_file(rt, name)?;
     let replayed = replay(rt.alloc(), name, bytes.as_slice(), wanted, source)?;
-    if word.is_none() && is_over(&replayed.controller) {
+    if is_told_again(word, &replayed.controller) {
         cut(name, &file, replayed.whole, bytes.len())?;
         return go_on(rt, name, wanted.unit, file, replayed);
     }
-    let event = match word {
-        Some(event) => listed(source, event)?,
-        None => next_event(rt.alloc(), wanted, source, &replayed)?,
-    };
+    let event = beginning(rt.alloc(), wanted, source, word, &replayed)?;
     cut(name, &file, replayed.whole, bytes.len())?;
     let mut recorder = Recorder::after(rt, name, wanted.unit, file, Pending::Nothing);
     recorder.note_from(event);
+    let rest = Rest::new(source, event);
+    let controller = controller_of(rest, wanted);
     Ok(Resumption {
-        controller: controller_of(Rest::new(source, event), wanted),
+        controller,
         recorder: Some(recorder),
     })
 }
 
-// Whether the controller has come to its end, so that nothing is to be sent after it.
-fn is_over<S: Source>(controller: &Controller<S>) -> bool
-    ensures { IsTrue result ↔ IsOver (outcome_of controller.now.state.stage) }
+// Whether the controller has come to its end, and the operator says nothing else.
+fn is_told_again<S: Source>(word: Option<usize>, controller: &Controller<S>) -> bool
+    ensures unsaid { IsTrue result → word ≡ None }
+    ensures is_over { IsTrue result → IsOver (outcome_of controller.now.state.stage) }
 {
-    matches!(
-        controller.outcome(),
-        Some(Outcome::Done | Outcome::Stopped)
-    )
+    match word {
+        None => is_over(controller),
+        Some(_) => false,
+    }
+}
+
+// Whether nothing is to be sent any more.
+fn is_over<S: Source>(controller: &Controller<S>) -> bool
+    ensures { IsTrue result → IsOver (outcome_of controller.now.state.stage) }
+{
+    match controller.outcome() {
+        Some(Outcome::Done | Outcome::Stopped) => true,
+        _ => false,
+    }
+}
+
+// The event with which a controller begins after the last run of a journal.
+fn beginning<'a, S: Source>(
+    alloc: Global,
+    wanted: &Heading,
+    source: &S,
+    word: Option<usize>,
+    replayed: &Replayed<&S>,
+) -> Result<usize, Failure<'a>>
+    requires begin { replayed.now.run.begin ≤ replayed.now.run.«end» }
+    requires within { replayed.now.run.«end» ≤ length replayed.now.rows.items }
+    requires listed { replayed.now.run.from ≤ length (S.items source.now) }
+    requires resumed { IsResumed (plan_of_run wanted.now (S.items source.now)
+        (run_at replayed.now.rows.items replayed.now.run)) (run_at replayed.now.rows.items replayed.now.run).rows
+        (plan_of (items_left (λ s. S.items s.now)) replayed.now.controller) replayed.now.controller.state }
+    ensures begins { IfOk result (BeginsAfter wanted.now (run_at replayed.now.rows.items replayed.now.run) word) }
+    ensures listed { IfOk result (λ k. k ≤ length (S.items source.now)) }
+    ensures none { IfErr result (IsNoBeginning (S.items source.now) wanted.now
+        (run_at replayed.now.rows.items replayed.now.run) word) }
+{
+    match word {
+        Some(event) => listed(source, event),
+        None => next_event(alloc, wanted, source, replayed),
+    }
 }
 
 // The event of this number, if the list has it or ends before it.
 fn listed<'a, S: Source>(source: &S, event: usize) -> Result<usize, Failure<'a>>
-    ensures listed { IfOk result (λ k. (k ≡ event) × (event ≤ length (S.items source.now))) }
+    ensures event { IfOk result (λ k. k ≡ event) }
+    ensures listed { IfOk result (λ k. k ≤ length (S.items source.now)) }
     ensures none { IfErr result (λ failure. (failure ≡ failures.NoEvent event) × (length (S.items source.now) < event)) }
 {
     if event > source.len() {
@@ -98,7 +134,8 @@ fn next_event<'a, S: Source>(
         × (failure ≡ failures.MayHaveAired
         (next_event wanted.now (run_at replayed.now.rows.items replayed.now.run))))) }
 {
-    let _ = (wanted, source);
+    let _ = wanted;
+    let _ = source;
     let run = replayed.run;
     let rows = &replayed.rows[run.begin..run.end];
     let found = airings_in(alloc, &replayed.controller, rows)?;

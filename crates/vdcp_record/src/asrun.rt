@@ -2,7 +2,6 @@ ghost use Rattle.std.specs.Io.KnownBytes.{Appends, Keeps};
 ghost use Rattle.std.specs.Prelude.{◌≡◌, ◌≢◌, ◌⊎◌, ◌≤◌, ◌<◌, ◌+◌, ◌^◌, ◌++◌, ℕ, List, [], IfErr, IfOk, IfSome, OnOk, length};
 ghost use Rattle.vdcp_files.specs.Files.{file};
 ghost use Rattle.vdcp_journal.specs.Runs.{run_at, runs_of};
-ghost use Rattle.vdcp_list.specs.declared.faults.WriteFault.TheVariants.{Device};
 ghost use Rattle.vdcp_record.specs.Showing.{IsShown, IsShownAndTold, IsToldOnly, ShowRuns, ShowsRows, ShowsRun, digest_of, event_told, heading_text, reported_text};
 ghost use Rattle.vdcp_text.specs.Failure.{status_of};
 ghost use Rattle.vdcp_text.specs.declared.failure.Failure.TheVariants as failures;
@@ -14,7 +13,7 @@ use std::io::{self, Write};
 use vdcp_auto::Source;
 use vdcp_files::NamedFile;
 use vdcp_journal::{Airing, Heading, Journal, JournalRun, airings_in, digest_of, runs_in};
-use vdcp_list::{WriteFault, write_events, write_timed_events, write_timed_heading};
+use vdcp_list::{write_events, write_timed_events, write_timed_heading};
 use vdcp_text::{Failure, JournalFault};
 use vdcp_value::Rate;
 
@@ -152,14 +151,15 @@ fn add_heading<'a, S: Source>(
     text: &mut Vec<u8>,
 ) -> Result<(), Failure<'a>>
     ensures text { OnOk result (text.new.items ≡ text.old.items ++ heading_text settings (S.items events.now)) }
-    ensures unshown { IfErr result (λ f. (f ≡ failures.Writer) ⊎ (f ≡ failures.Memory)) }
+    ensures memory { IfErr result (λ f. f ≡ failures.Memory) }
 {
-    if settings.times {
-        if let Err(fault) = write_timed_heading(alloc, events, text) {
-            return Err(failure_of(fault));
-        }
+    if !settings.times {
+        return Ok(());
     }
-    Ok(())
+    match write_timed_heading(alloc, events, text) {
+        Ok(()) => Ok(()),
+        Err(_) => Err(Failure::Memory),
+    }
 }
 
 // Adds what the runs of a journal show.
@@ -178,8 +178,8 @@ fn add_runs<'a, S: Source>(
         × (shown.new.text.items ≡ shown.old.text.items ++ text) × (shown.new.told.items ≡ shown.old.told.items ++ told)) }
     ensures statuses { IfErr result (λ f. (status_of f ≢ 2) × (f ≢ failures.Writer)) }
 {
-    let rows = journal.rows.as_slice();
-    let runs = runs_in(alloc, rows)?;
+    let found = runs_in(alloc, journal.rows.as_slice())?;
+    let runs = found.as_slice();
     for k in 0..runs.len() {
         add_run(alloc, name, journal, runs[k], events, settings, shown)?;
     }
@@ -229,7 +229,7 @@ fn add_reported<'a, S: Source>(
     requires listed { from + reported ≤ length (S.items events.now) }
     ensures text { OnOk result (text.new.items ≡ text.old.items
         ++ reported_text settings (S.items events.now) from reported airings.now) }
-    ensures unshown { IfErr result (λ f. (f ≡ failures.Writer) ⊎ (f ≡ failures.Memory)) }
+    ensures memory { IfErr result (λ f. f ≡ failures.Memory) }
 {
     let AsrunSettings { rate, times, .. } = settings;
     let added = if times {
@@ -237,9 +237,10 @@ fn add_reported<'a, S: Source>(
     } else {
         write_events(alloc, events, rate, from, reported, text)
     };
+    // (the text is written to memory, and each part of a list was read at this rate)
     match added {
         Ok(()) => Ok(()),
-        Err(fault) => Err(failure_of(fault)),
+        Err(_) => Err(Failure::Memory),
     }
 }
 
@@ -296,16 +297,4 @@ fn expect_limit<'a>(name: &'a str, heading: &Heading) -> Result<(), Failure<'a>>
         return Err(Failure::JournalRow(name, 1, JournalFault::Limit));
     }
     Ok(())
-}
-
-// The failure of a list that isn't written.
-fn failure_of<'a>(fault: WriteFault) -> Failure<'a>
-    ensures device { fault ≡ Device → result ≡ failures.Writer }
-    ensures unprinted { (result ≡ failures.Writer) ⊎ (result ≡ failures.Memory) }
-{
-    match fault {
-        WriteFault::Memory => Failure::Memory,
-        // (each part of a list was read at this rate)
-        WriteFault::Device | WriteFault::Time(_) => Failure::Writer,
-    }
 }

@@ -55,23 +55,19 @@ pub fn replay<'a, S: Source + Drop>(
     ensures within { IfOk result (λ r. r.run.«end» ≤ length r.rows.items) }
     ensures refused { IfErr result (IsRefused (S.items source) name.entry wanted.now bytes.now) }
 {
-    let Journal {
-        heading,
-        rows,
-        whole,
-        ..
-    } = journal_in(alloc, name, bytes)?;
-    if let Some(fault) = difference(&heading, wanted) {
+    let journal = journal_in(alloc, name, bytes)?;
+    if let Some(fault) = difference(&journal.heading, wanted) {
         return Err(Failure::JournalRow(name, 1, fault));
     }
-    let run = last_run(alloc, rows.as_slice())?;
-    let Resumed { controller, open } = run_resumed(name, wanted, source, rows.as_slice(), run)?;
+    let rows = journal.rows.as_slice();
+    let run = last_run(alloc, rows)?;
+    let Resumed { controller, open } = run_resumed(name, wanted, source, rows, run)?;
     Ok(Replayed {
         controller,
         open,
-        rows,
+        rows: journal.rows,
         run,
-        whole,
+        whole: journal.whole,
     })
 }
 

@@ -145,8 +145,11 @@ impl<'a, 'r, R: Clock + AllocGlobal, F: JournalFile + Drop> Recorder<'a, 'r, R, 
         ensures { (time : Moment) × (self.new ≡ record self.old
             { pending = ended self.old.pending (record { time = time; note = From event }) }) }
     {
-        let row = row_now(self.rt, Note::From(event));
-        self.note_row(row);
+        let time = now(self.rt);
+        self.note_row(Row {
+            time,
+            note: Note::From(event),
+        });
     }
 
     fn note_row(&mut self, row: Row)

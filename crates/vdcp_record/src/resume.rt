@@ -119,18 +119,17 @@ pub(crate) fn go_on<'a, 'r, R: Files<File = File> + Clock + AllocGlobal, S: Sour
         None => Pending::Nothing,
     };
     let mut recorder = Recorder::after(rt, name, unit, file, pending);
-    let outcome = controller.outcome();
-    if outcome.is_none() {
+    if let Some(outcome) = controller.outcome() {
+        if !has_end(rows.as_slice()) {
+            recorder.finish(Some(outcome))?;
+        }
         return Ok(Resumption {
             controller,
-            recorder: Some(recorder),
+            recorder: None,
         });
-    }
-    if !has_end(rows.as_slice()) {
-        recorder.finish(outcome)?;
     }
     Ok(Resumption {
         controller,
-        recorder: None,
+        recorder: Some(recorder),
     })
 }
