@@ -37,15 +37,15 @@ one_run_more settings items heading [] run text told more more_told (text_is, to
 )
 one_run_more settings items heading (first ∷ runs) run text told more more_told (t, d, rest, rest_told, one, others, text_is, told_is)
     shows = (
-  t,
-  d,
-  rest ++ more,
-  rest_told ++ more_told,
-  one,
-  one_run_more settings items heading runs run rest rest_told more more_told others shows,
-  ap (λ (l : List ℕ). l ++ more) text_is ∙ append_assoc t rest more,
-  ap (λ (l : List ℕ). l ++ more_told) told_is ∙ append_assoc d rest_told more_told,
-)
+      t,
+      d,
+      rest ++ more,
+      rest_told ++ more_told,
+      one,
+      one_run_more settings items heading runs run rest rest_told more more_told others shows,
+      ap (λ (l : List ℕ). l ++ more) text_is ∙ append_assoc t rest more,
+      ap (λ (l : List ℕ). l ++ more_told) told_is ∙ append_assoc d rest_told more_told,
+    )
 
 -- the runs up to the next one
 pub mapped_more : {X Y : Type 0} (f : X → Y) (xs : List X) (k : ℕ) (d : X) → k < length xs

@@ -36,7 +36,7 @@ abbrev pub reported_text : AsrunSettings → List Item → ℕ → ℕ → List 
 reported_text settings items from reported airings =
     if settings.times
     then timed_rows (λ airing. moment_text airing.played) (λ airing. moment_text airing.known) settings.rate (has_part items)
-        from (drop from items) airings
+    from (drop from items) airings
     else events_text settings.rate (has_part items) from (take reported (drop from items))
 
 -- what stands above them

@@ -83,7 +83,12 @@ pub(crate) fn read_to_end<'a, I: Read>(
 }
 
 /// Cuts a file off after its whole rows, if it has more than these.
-pub(crate) fn cut<'a>(name: &'a str, file: &File, whole: usize, all: usize) -> Result<(), Failure<'a>>
+pub(crate) fn cut<'a>(
+    name: &'a str,
+    file: &File,
+    whole: usize,
+    all: usize,
+) -> Result<(), Failure<'a>>
     ensures { IfErr result (IsUnwritten name.entry) }
 {
     if whole >= all {

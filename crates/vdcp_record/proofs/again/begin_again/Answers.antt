@@ -1,11 +1,9 @@
-use Rattle.std.proofs.Common.{refl, subst, sym}
+use Rattle.std.proofs.Common.{refl}
 use Rattle.std.proofs.lemmas.Result.{IfOk-weaker, err_from_is_err_and}
-use Rattle.vdcp_auto.specs.Plan.{View, plan_of}
 use Rattle.vdcp_journal.specs.Runs.{run_at}
-use Rattle.vdcp_list.specs.Rests.{FromEvent, items_left}
 use Rattle.vdcp_record.proofs.OpenedAgain.{not_begun}
 use Rattle.vdcp_record.proofs.again.begin_again.Goals as goal
-use Rattle.vdcp_record.specs.Resuming.{IsOpenedAgain, bad, begins, is_over, unresumed}
+use Rattle.vdcp_record.specs.Resuming.{bad, begins, is_over, unresumed}
 
 pub returns-in_err-replayed-clause-unopened : goal.returns-in_err-replayed-clause-unopened
 returns-in_err-replayed-clause-unopened g c =
