@@ -148,7 +148,10 @@ fn failing_log_is_left_alone(rt: HostRuntime) -> Result<(), Fail> {
         let mut log = FailingWriter::new(rt.alloc(), Fails::From(left));
         let mut out = Vec::new(rt.alloc());
         let (status, err) = serve_to(&rt, ready, 4, Telling::All(&mut log), &mut out);
-        assert_eq!(rt; (status, out.as_slice(), err.len()), (0, text.as_bytes(), 0));
+        assert_eq!(rt;
+            (status, out.as_slice(), err.len()),
+            (0, text.as_bytes(), 0)
+        );
         assert!(rt; LINES.starts_with(log.bytes.as_slice()));
         if log.calls <= left {
             assert_eq!(rt; log.bytes.as_slice(), LINES);
