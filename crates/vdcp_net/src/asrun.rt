@@ -144,6 +144,3 @@ fn write_reported<S: Source, W: io::Write>(
         writer,
     )
 }
-
-#[cfg(test)]
-mod tests;

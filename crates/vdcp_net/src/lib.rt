@@ -14,8 +14,6 @@
 //! while a channel is up.
 #![tactic(auto)]
 
-#[cfg(test)]
-mod answers;
 mod asrun;
 mod back_to_back;
 mod dead;
@@ -26,8 +24,6 @@ mod lapsing;
 mod lines;
 mod log;
 mod notice;
-#[cfg(test)]
-mod output;
 mod paced;
 mod place;
 mod polling;

@@ -140,6 +140,3 @@ impl<W: io::Write> io::Write for Lines<W> {
         Ok(())
     }
 }
-
-#[cfg(test)]
-mod tests;

@@ -232,6 +232,3 @@ fn tell_burst_fault<L: io::Write + Drop>(log: &Log<L>, direction: Direction, end
     let end = EndText(end);
     log.tell(&format_args!("{direction} {end}"));
 }
-
-#[cfg(test)]
-mod tests;

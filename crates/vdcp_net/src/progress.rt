@@ -200,6 +200,3 @@ fn write_time<W: fmt::Write>(seconds: u64, f: &mut W) -> fmt::Result {
     let seconds = seconds % 60;
     write!(f, "{hours}:{minutes:02}:{seconds:02}")
 }
-
-#[cfg(test)]
-mod tests;

@@ -910,6 +910,3 @@ fn ended<'a, R: Files + AllocGlobal, S: Source>(
         unkept: None,
     }
 }
-
-#[cfg(test)]
-mod tests;

@@ -360,6 +360,3 @@ fn write_end<W: io::Write>(end: ServeEnd, out: &mut W) -> io::Result<()>
     }
     out.flush()
 }
-
-#[cfg(test)]
-mod tests;

@@ -115,6 +115,3 @@ fn tell_failed<L: io::Write + Drop>(log: &Log<L>) {
     let failure = Failure::LineFailed;
     log.tell_fault(&format_args!("vdcp: {failure}"));
 }
-
-#[cfg(test)]
-mod tests;

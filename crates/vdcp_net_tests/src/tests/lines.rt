@@ -1,7 +1,8 @@
-use super::Lines;
+//! Lines that nobody reads.
 use std::alloc::Global;
 use std::io::{self, ErrorKind, Write};
 use std::test::Fail;
+use vdcp_net::Lines;
 
 /// A writer that takes this many bytes, and then none until this many writes were refused.
 #[derive(Drop)]

@@ -1,0 +1,4 @@
+//! Writers, connections and listeners that fail.
+mod lines;
+mod run;
+mod serve;
