@@ -5,7 +5,7 @@ use std::process::Abort;
 use std::test::Fail;
 use vdcp_auto::Controller;
 use vdcp_drive::AutoDriver;
-use vdcp_list::{List, WriteFault, read_list};
+use vdcp_list::{List, Rest, WriteFault, read_list};
 use vdcp_testing::{FailingWriter, Fails};
 use vdcp_value::Rate;
 use vdcp_wire::ScriptWire;
@@ -16,10 +16,10 @@ const PLAYED: &[u8] = b"0,CLIP0001\n1,\"A,B\"\n";
 fn driver_after(
     rt: &HostRuntime,
     listens: u64,
-) -> Result<AutoDriver<List, ScriptWire<Global>>, Fail> {
+) -> Result<AutoDriver<Rest<List>, ScriptWire<Global>>, Fail> {
     let list = read_list(rt.alloc(), TWO_EVENTS, Rate::F25)?;
     let wire = wire_of(rt.alloc(), &two_played())?;
-    let mut driver = AutoDriver::new(Controller::new(list, 1, 3), 0, wire);
+    let mut driver = AutoDriver::new(Controller::new(Rest::new(list, 0), 1, 3), 0, wire);
     let _ = driver.run(listens);
     Ok(driver)
 }

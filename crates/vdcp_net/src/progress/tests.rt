@@ -9,7 +9,7 @@ use std::time::Duration;
 use std::{io, str};
 use vdcp_auto::{Controller, Heard};
 use vdcp_drive::{AutoDriver, Watch};
-use vdcp_list::{List, read_list};
+use vdcp_list::{List, Rest, read_list};
 use vdcp_testing::{FailingWriter, Fails};
 use vdcp_value::Rate;
 use vdcp_wire::ScriptWire;
@@ -50,10 +50,10 @@ impl Clock for Ticking {
 }
 
 // The automation of a list of two events that are played.
-fn driver(rt: &HostRuntime) -> Result<AutoDriver<List, ScriptWire<Global>>, Fail> {
+fn driver(rt: &HostRuntime) -> Result<AutoDriver<Rest<List>, ScriptWire<Global>>, Fail> {
     let list = read_list(rt.alloc(), TWO_EVENTS, Rate::F25)?;
     let wire = wire_of(rt.alloc(), &two_played())?;
-    Ok(AutoDriver::new(Controller::new(list, 1, 3), 0, wire))
+    Ok(AutoDriver::new(Controller::new(Rest::new(list, 0), 1, 3), 0, wire))
 }
 
 // Plays the two events, and shows that on a terminal: how many are settled.
@@ -106,7 +106,7 @@ fn unchanged_line_is_drawn_ten_times_a_second_at_most(rt: HostRuntime) -> Result
 fn line_fits_a_narrow_terminal(rt: HostRuntime) -> Result<(), Fail> {
     let list = b"0x8000000000000000,00:00:08:00,00:00:03:00\n".as_slice();
     let list = read_list(rt.alloc(), list, Rate::F25)?;
-    let mut controller = Controller::new(list, 1, 3);
+    let mut controller = Controller::new(Rest::new(list, 0), 1, 3);
     let clock = Ticking::new(1000, 1000);
     let mut text = Vec::new(rt.alloc());
     let mut progress = Progress::new(&clock, &mut text);
@@ -127,7 +127,7 @@ fn line_fits_a_narrow_terminal(rt: HostRuntime) -> Result<(), Fail> {
 #[test]
 fn many_waits_for_a_status_are_shown(rt: HostRuntime) -> Result<(), Fail> {
     let list = read_list(rt.alloc(), TWO_EVENTS, Rate::F25)?;
-    let mut controller = Controller::new(list, 1, 3);
+    let mut controller = Controller::new(Rest::new(list, 0), 1, 3);
     let clock = Ticking::new(1000, 5000);
     let mut text = Vec::new(rt.alloc());
     let mut progress = Progress::new(&clock, &mut text);

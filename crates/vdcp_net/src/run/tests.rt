@@ -12,7 +12,7 @@ use std::process::Abort;
 use std::test::Fail;
 use std::{env, fs, process};
 use vdcp_drive::{AutoDriver, Unkept, Unwatched};
-use vdcp_list::read_list;
+use vdcp_list::{Rest, read_list};
 use vdcp_testing::{FailingWriter, Fails};
 use vdcp_value::Rate;
 use vdcp_wire::{Entry, ScriptWire};
@@ -29,6 +29,7 @@ const SETTINGS: RunSettings<'static> = RunSettings {
     hearing: Hearing::AtSilences,
     lengths: None,
     listens: 100,
+    from: None,
     asrun: None,
     journal: None,
 };
@@ -57,7 +58,7 @@ fn played(
         ..settings
     };
     let list = read_list(rt.alloc(), list, settings.rate)?;
-    let mut driver = AutoDriver::new(new_controller(list, settings), 0, wire);
+    let mut driver = AutoDriver::new(new_controller(Rest::new(list, 0), settings), 0, wire);
     let end = play(rt, &mut driver, &mut Unwatched, NO_JOURNAL, settings);
     tell(rt.alloc(), end)
 }
@@ -382,7 +383,7 @@ fn spent_end(rt: &HostRuntime) -> Result<RunEnd<'static>, Fail> {
         ..SETTINGS
     };
     let wire = wire_of(rt.alloc(), &two_played())?;
-    let mut driver = AutoDriver::new(new_controller(list, settings), 0, wire);
+    let mut driver = AutoDriver::new(new_controller(Rest::new(list, 0), settings), 0, wire);
     Ok(play(rt, &mut driver, &mut Unwatched, NO_JOURNAL, settings))
 }
 
@@ -456,7 +457,7 @@ fn messages_are_shown(rt: HostRuntime) -> Result<(), Fail> {
         unit: 0,
         ..SETTINGS
     };
-    let controller = new_controller(list, settings);
+    let controller = new_controller(Rest::new(list, 0), settings);
     let wire = wire_of(rt.alloc(), &[DENIED])?;
     let mut log = Vec::new(rt.alloc());
     let showing = Showing::Messages(&mut log);

@@ -13,7 +13,7 @@ use std::time::{Duration, Instant};
 use std::{fs, mem};
 use vdcp_drive::{Line, Server};
 use vdcp_files::NamedFile;
-use vdcp_list::{Table, read_catalogue, read_list};
+use vdcp_list::{Rest, Table, read_catalogue, read_list};
 use vdcp_port::Port;
 use vdcp_value::Rate;
 use vdcp_wire::StreamWire;
@@ -138,7 +138,7 @@ fn played(
         ..settings
     };
     let list = read_list(rt.alloc(), list, settings.rate)?;
-    let controller = new_controller(list, settings);
+    let controller = new_controller(Rest::new(list, 0), settings);
     let showing: Showing<Vec<u8>> = Showing::Nothing;
     let end = play_connected(rt, controller, near, NO_JOURNAL, settings, showing);
     tell(rt.alloc(), end)
