@@ -21,8 +21,7 @@ use Rattle.vdcp_journal.specs.declared.row.Heading.{Heading}
 use Rattle.vdcp_journal.specs.Runs.{Run}
 use Rattle.vdcp_list.specs.Asrun.{events_text, has_part}
 use Rattle.vdcp_list.specs.Playlists.{IsListOf}
-use Rattle.vdcp_list.specs.Rest.{rest_items}
-use Rattle.vdcp_list.specs.declared.rest.Rest.{Rest}
+use Rattle.vdcp_list.specs.Rests.{FromEvent, items_left}
 use Rattle.vdcp_record.specs.Recording.{IsUnbegun}
 use Rattle.vdcp_record.specs.Resuming.{IsOpenedAgain, IsReplayed, IsUnopenedAgain, IsUnresumed}
 use Rattle.vdcp_record.specs.Showing.{digest_of}
@@ -123,7 +122,7 @@ older_after zero true = older.Replaced
 older_after (suc n) answered = older.Replaced
 
 -- the text of the list: the events that a controller reports of the rest of a list, with the numbers of the whole list
-abbrev pub reported_text : {S : Type 0} → Rate → (S → List Item) → View (Rest S) → List ℕ
+abbrev pub reported_text : {S : Type 0} → Rate → (S → List Item) → View (FromEvent S) → List ℕ
 reported_text rate items controller =
     events_text rate (has_part (items controller.source.source)) controller.source.from
     (take controller.state.settled (drop controller.source.from (items controller.source.source)))
@@ -238,10 +237,10 @@ pub record IsEndOf (plan : Plan) (end : RunEnd) : Type 0 where
   pub told : end.line ≡ line_end.Unkept → IsSome end.unkept
 
 -- this is the end of a controller that plays the rest of a list: whatever its log is, from there it came to this end
-pub record ComesTo {S : Type 0} (items : S → List Item) (controller : View (Rest S)) (end : RunEnd) : Type 0 where
+pub record ComesTo {S : Type 0} (items : S → List Item) (controller : View (FromEvent S)) (end : RunEnd) : Type 0 where
   pub from_is : end.from ≡ controller.source.from
-  pub ends : (log : List Exchange) → Reached (plan_of (rest_items items) controller) controller.state log
-      → IsEndOf (plan_of (rest_items items) controller) end
+  pub ends : (log : List Exchange) → Reached (plan_of (items_left items) controller) controller.state log
+      → IsEndOf (plan_of (items_left items) controller) end
 
 -- the last run of some journal of these items, which is made with these settings, began with this event
 pub record GoesOnFrom (settings : RunSettings) (items : List Item) (from : ℕ) : Type 0 where

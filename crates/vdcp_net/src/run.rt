@@ -6,7 +6,7 @@ ghost use Rattle.vdcp_drive.specs.KeptLeaves.{KeptLeaves};
 ghost use Rattle.vdcp_drive.specs.Vacancy.{HasAsked};
 ghost use Rattle.vdcp_files.specs.Files.{IsWholeList, file};
 ghost use Rattle.vdcp_files.specs.Mode.{mode_of};
-ghost use Rattle.vdcp_list.specs.Rest.{rest_items};
+ghost use Rattle.vdcp_list.specs.Rests.{items_left};
 ghost use Rattle.vdcp_wire.specs.Address.{IsAddress};
 ghost use Rattle.vdcp_wire.specs.Wires.{IfTold, nothing_told};
 ghost use Rattle.vdcp_net.specs.Run.{ComesTo, IsEventRefused, IsListRefused, IsNoEvent, IsNotBegun, IsOpening, IsPlayed, IsRun, IsRunOf, IsRunRefused, IsUnplayed, MayBeUnkept, MayBeUnwritten, journal_in};
@@ -672,7 +672,7 @@ fn play<'a, R: Files + AllocGlobal, S: Source, W: Wire, V: Watch<Rest<S>>, J: Jo
 ) -> RunEnd<'a>
     // What the driver's run left and answered, which is how the line ended.
     ensures leaves { (ran : Result Ran KeptFault) × (result.line ≡ line_end_of ran)
-        × KeptLeaves (rest_items S.items) W.told W.failures settings.entry.listens driver.old driver.new ran }
+        × KeptLeaves (items_left S.items) W.told W.failures settings.entry.listens driver.old driver.new ran }
     ensures from { result.from ≡ driver.new.controller.source.from }
     ensures outcome { result.outcome ≡ outcome_in_list driver.new.controller.source.from
         (turns.outcome_of driver.new.controller.state.stage) }

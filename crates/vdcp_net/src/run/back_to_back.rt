@@ -2,7 +2,7 @@ ghost use Rattle.std.specs.Prelude.{◌≡◌, ◌+◌, IsSome, Result};
 ghost use Rattle.vdcp_auto.specs.Turn as turns;
 ghost use Rattle.vdcp_drive.specs.KeptLeaves.{OnUnkept};
 ghost use Rattle.vdcp_net.specs.BackToBack.{MayTake, RunsWithTakes};
-ghost use Rattle.vdcp_list.specs.Rest.{rest_items};
+ghost use Rattle.vdcp_list.specs.Rests.{items_left};
 ghost use Rattle.vdcp_net.specs.Run.{MayBeUnkept, MayBeUnwritten, journal_in, line_end_of, outcome_in_list};
 
 use super::{LineEnd, RunEnd, RunSettings, ended};
@@ -37,7 +37,7 @@ pub(super) fn play_back_to_back<
 ) -> RunEnd<'a>
     // What the driver's runs left and answered, which is how the line ended.
     ensures leaves { (ran : Result Ran KeptFault) × (result.line ≡ line_end_of ran)
-        × RunsWithTakes (rest_items S.items) driver.old driver.new ran }
+        × RunsWithTakes (items_left S.items) driver.old driver.new ran }
     ensures from { result.from ≡ driver.new.controller.source.from }
     ensures outcome { result.outcome ≡ outcome_in_list driver.new.controller.source.from
         (turns.outcome_of driver.new.controller.state.stage) }

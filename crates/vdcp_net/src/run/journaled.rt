@@ -14,7 +14,7 @@ use std::rt::{Clock, Files};
 use vdcp_auto::{Controller, Source};
 use vdcp_journal::{Heading, digest_of};
 use vdcp_list::Rest;
-use vdcp_record::{Recorder, Resumption, begin_again, begin_journal, resume_journal};
+use vdcp_record::{Resumption, begin_again, begin_journal, resume_journal};
 use vdcp_text::Failure;
 
 /// Plays a list with a journal.
@@ -176,7 +176,7 @@ fn play_again<
 {
     test_journal(rt, settings.asrun, name)?;
     let heading = heading_of(rt, &source, settings)?;
-    let resumed = match begin_again(rt, name, &heading, source, settings.from) {
+    let resumed = match begin_again(rt, name, &heading, &source, settings.from) {
         Ok(resumed) => resumed,
         Err(failure) => return Err(failure),
     };

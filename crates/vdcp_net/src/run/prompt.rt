@@ -1,7 +1,7 @@
 ghost use Rattle.std.specs.Prelude.{◌≡◌, ◌+◌, IsSome, Result};
 ghost use Rattle.vdcp_auto.specs.Turn as turns;
 ghost use Rattle.vdcp_drive.specs.PromptKept.{PromptKeptLeaves};
-ghost use Rattle.vdcp_list.specs.Rest.{rest_items};
+ghost use Rattle.vdcp_list.specs.Rests.{items_left};
 ghost use Rattle.vdcp_net.specs.Run.{MayBeUnkept, MayBeUnwritten, journal_in, line_end_of, outcome_in_list};
 
 use super::{LineEnd, RunEnd, RunSettings, ended};
@@ -34,7 +34,7 @@ pub(super) fn play_prompt<
 ) -> RunEnd<'a>
     // What the driver's run left and answered, which is how the line ended.
     ensures leaves { (ran : Result Ran KeptFault) × (result.line ≡ line_end_of ran)
-        × PromptKeptLeaves (rest_items S.items) W.told W.failures settings.entry.listens driver.old driver.new ran }
+        × PromptKeptLeaves (items_left S.items) W.told W.failures settings.entry.listens driver.old driver.new ran }
     ensures from { result.from ≡ driver.new.controller.source.from }
     ensures outcome { result.outcome ≡ outcome_in_list driver.new.controller.source.from
         (turns.outcome_of driver.new.controller.state.stage) }
