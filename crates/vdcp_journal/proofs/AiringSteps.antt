@@ -43,6 +43,7 @@ at_front asked note.Silence log more = with_front None asked log more
 at_front asked note.Take log more = refl
 at_front asked note.Stop log more = refl
 at_front asked (note.End outcome) log more = refl
+at_front asked (note.From k) log more = refl
 
 ended_on : (asked : Option Command) (rows : List Row) (row : Row)
     → ended_from asked (rows ++ row ∷ []) ≡ ended_from asked rows ++ ended_at (asked_after asked rows) row.note []
@@ -133,6 +134,7 @@ row_grows law mode log asked note.Silence = with_grows law mode log None asked
 row_grows law mode log asked note.Take = none_grows mode log
 row_grows law mode log asked note.Stop = none_grows mode log
 row_grows law mode log asked (note.End outcome) = none_grows mode log
+row_grows law mode log asked (note.From k) = none_grows mode log
 
 -- Without a PLAY no row settles anything.
 
@@ -182,6 +184,7 @@ quiet_row law opens mode log asked note.Silence h = quiet_with law opens mode lo
 quiet_row law opens mode log asked note.Take h = quiet_none mode log h.shut
 quiet_row law opens mode log asked note.Stop h = quiet_none mode log h.shut
 quiet_row law opens mode log asked (note.End outcome) h = quiet_none mode log h.shut
+quiet_row law opens mode log asked (note.From k) h = quiet_none mode log h.shut
 
 asks_after : (asked : Option Command) (n : Note) → asks_play asked ≡ false → sends_play n ≡ false
     → asks_play (open_after asked n) ≡ false
@@ -191,6 +194,7 @@ asks_after asked note.Silence before now = refl
 asks_after asked note.Take before now = before
 asks_after asked note.Stop before now = before
 asks_after asked (note.End outcome) before now = before
+asks_after asked (note.From k) before now = before
 
 -- The last PLAY that went out.
 
@@ -343,6 +347,7 @@ room asked note.Silence = omega arith
 room asked note.Take = omega arith
 room asked note.Stop = omega arith
 room asked (note.End outcome) = omega arith
+room asked (note.From k) = omega arith
 
 -- what came of one row more: the command that is open, the last PLAY and the airings
 pub record Steps (mode : Mode) (rows : List Row) (row : Row) (asked asked' : Option Command)

@@ -157,6 +157,7 @@ note_plain v unit note.Silence h = (refl, (refl, (refl, tt)))
 note_plain v unit note.Take h = (refl, (refl, (refl, tt)))
 note_plain v unit note.Stop h = (refl, (refl, (refl, tt)))
 note_plain v unit (note.End outcome) h = (refl, outcome_plain outcome h)
+note_plain v unit (note.From k) h = (refl, (numeral k h, (refl, tt)))
 
 -- only what is no reply has no digits
 pub heard_other : (unit : ℕ) (h : Heard) (text digits : List ℕ)

@@ -4,7 +4,7 @@ use Rattle.csv.specs.Records.{field_at}
 use Rattle.std.specs.Prelude.{None, Option, Some, is_some, option_map, slice_get, true}
 use Rattle.vdcp_journal.specs.Journals.{HasNoNote, IsFaultOfWord, IsRowFault}
 use Rattle.vdcp_journal.specs.Rows.{Fields}
-use Rattle.vdcp_journal.specs.declared.faults.JournalRowFault.TheVariants.{Fields as Many, Time, Word, Command, Reply, Outcome, Detail, Digest, Mode, Number}
+use Rattle.vdcp_journal.specs.declared.faults.JournalRowFault.TheVariants.{Fields as Many, Time, Word, Command, Reply, Outcome, Event, Detail, Digest, Mode, Number}
 use Rattle.vdcp_journal.specs.declared.faults.JournalRowFault.{JournalRowFault}
 
 pub row_fault : (unit : ℕ) (time word text detail : List ℕ) (fault : JournalRowFault) → IsFaultOfWord word fault
@@ -15,6 +15,7 @@ row_fault unit time word text detail Word h n = record { none = n; word = word; 
 row_fault unit time word text detail Command h n = record { none = n; word = word; second = refl; of_word = h }
 row_fault unit time word text detail Reply h n = record { none = n; word = word; second = refl; of_word = h }
 row_fault unit time word text detail Outcome h n = record { none = n; word = word; second = refl; of_word = h }
+row_fault unit time word text detail Event h n = record { none = n; word = word; second = refl; of_word = h }
 row_fault unit time word text detail Detail h n = record { none = n; word = word; second = refl; of_word = h }
 row_fault unit time word text detail Digest h n = absurd h
 row_fault unit time word text detail Mode h n = absurd h

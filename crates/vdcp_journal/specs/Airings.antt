@@ -18,6 +18,7 @@ sends_play note.Silence = false
 sends_play note.Take = false
 sends_play note.Stop = false
 sends_play (note.End outcome) = false
+sends_play (note.From k) = false
 
 abbrev pub is_play_row : Row → Bool
 is_play_row row = sends_play row.note

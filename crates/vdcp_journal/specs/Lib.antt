@@ -4,5 +4,6 @@ pub mod Clocks
 pub mod Rows
 pub mod Resume
 pub mod Airings
+pub mod Runs
 pub mod Reading
 pub mod Journals

@@ -43,6 +43,7 @@ IsWritableNote note.Silence = ⊤
 IsWritableNote note.Take = ⊤
 IsWritableNote note.Stop = ⊤
 IsWritableNote (note.End outcome) = IsWritableOutcome outcome
+IsWritableNote (note.From k) = k < 2 ^ 64
 
 abbrev pub AreWritable : List Row → Type 0
 AreWritable [] = ⊤

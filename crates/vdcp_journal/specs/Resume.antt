@@ -1,5 +1,5 @@
 -- What the rows of a journal make of a controller, and the log that they show.
-use Rattle.std.specs.Prelude.{◌≡◌, ℕ, IsTrue, Option, None, Some, is_some, List, [], ◌∷◌, take, slice_get}
+use Rattle.std.specs.Prelude.{◌≡◌, ℕ, ⊥, IsTrue, Option, None, Some, is_some, List, [], ◌∷◌, take, slice_get}
 use Rattle.vdcp_auto.specs.Course.{Call, Tick, Receive, Take, Stop, after_call}
 use Rattle.vdcp_auto.specs.Plan.{Plan}
 use Rattle.vdcp_auto.specs.State.{State}
@@ -13,7 +13,7 @@ use Rattle.vdcp_journal.specs.declared.row.Note.TheVariants as note
 use Rattle.vdcp_journal.specs.declared.row.Row.{Row}
 use Rattle.vdcp_words.specs.declared.command.Command.{Command as Asked}
 
--- the call of a controller that a note tells of; an end is no call
+-- the call of a controller that a note tells of; an end is no call, nor is the beginning of another run
 abbrev pub call_of : Note → Option Call
 call_of (note.Sent c) = Some Tick
 call_of (note.Heard h) = Some (Receive (Some h))
@@ -21,6 +21,7 @@ call_of note.Silence = Some (Receive None)
 call_of note.Take = Some Take
 call_of note.Stop = Some Stop
 call_of (note.End outcome) = None
+call_of (note.From k) = None
 
 abbrev pub after_call_if : Plan → Option Call → State → State
 after_call_if plan None state = state
@@ -32,7 +33,7 @@ after_rows plan state [] = state
 after_rows plan state (row ∷ rows) = after_rows plan (after_call_if plan (call_of row.note) state) rows
 
 -- the note is what the controller does there: a command is the one that it gives, what came ends an exchange,
--- the operator's calls come while it goes on, and an end is the one that it came to
+-- the operator's calls come while it goes on, and an end is the one that it came to. No controller begins another run
 abbrev pub Tells : Plan → State → Note → Type 0
 Tells plan state (note.Sent c) = given plan state ≡ Some c
 Tells plan state (note.Heard h) = IsTrue (is_some (ended_by plan (Some h) state))
@@ -40,6 +41,7 @@ Tells plan state note.Silence = IsTrue (is_some (ended_by plan None state))
 Tells plan state note.Take = outcome_of state.stage ≡ None
 Tells plan state note.Stop = outcome_of state.stage ≡ None
 Tells plan state (note.End outcome) = outcome_of state.stage ≡ Some outcome
+Tells plan state (note.From k) = ⊥
 
 -- each row tells what the controller does there
 abbrev pub AreTold : Plan → State → List Row → Type 0
@@ -59,6 +61,7 @@ fault_of k note.Silence = Unawaited k
 fault_of k note.Take = Unawaited k
 fault_of k note.Stop = Unawaited k
 fault_of k (note.End outcome) = Outcome k
+fault_of k (note.From event) = Unawaited k
 
 -- row k is the first that doesn't tell what the controller does there
 pub record IsResumeFault (plan : Plan) (state : State) (rows : List Row) (fault : ResumeFault) : Type 0 where
@@ -84,6 +87,7 @@ open_after asked note.Silence = None
 open_after asked note.Take = asked
 open_after asked note.Stop = asked
 open_after asked (note.End outcome) = asked
+open_after asked (note.From k) = asked
 
 -- the exchange that a note ends, if it ends one, before those that come after it
 abbrev pub ended_at : Option Asked → Note → List Exchange → List Exchange
@@ -93,6 +97,7 @@ ended_at asked note.Silence log = exchange_with None asked log
 ended_at asked note.Take log = log
 ended_at asked note.Stop log = log
 ended_at asked (note.End outcome) log = log
+ended_at asked (note.From k) log = log
 
 abbrev pub log_from : Option Asked → List Row → List Exchange
 log_from asked [] = exchange_with None asked []

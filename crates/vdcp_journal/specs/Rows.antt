@@ -44,6 +44,7 @@ note_fields unit note.Silence = codes "silence" ∷ [] ∷ [] ∷ []
 note_fields unit note.Take = codes "take" ∷ [] ∷ [] ∷ []
 note_fields unit note.Stop = codes "stop" ∷ [] ∷ [] ∷ []
 note_fields unit (note.End outcome) = codes "end" ∷ outcome_fields outcome
+note_fields unit (note.From k) = codes "from" ∷ decimal k ∷ [] ∷ []
 
 abbrev pub row_fields : ℕ → Row → Fields
 row_fields unit row = moment_text row.time ∷ note_fields unit row.note

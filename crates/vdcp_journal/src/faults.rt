@@ -66,6 +66,9 @@ pub enum JournalRowFault {
     /// It isn't the row of any end.
     #[error("has no outcome")]
     Outcome,
+    /// It isn't the row of the beginning of any run.
+    #[error("has no event to begin with")]
+    Event,
     /// It is of a note that has no text and no bytes, and has some.
     #[error("has more than its word")]
     Detail,

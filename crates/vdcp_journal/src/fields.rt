@@ -14,7 +14,7 @@ use vdcp_words::Command;
 pub(crate) struct NoteFields {
     /// What is noted.
     pub word: &'static str,
-    /// Its text, for people; or how the controller ended.
+    /// Its text, for people; or how the controller ended; or the event that a run begins with.
     pub text: ArrayString<64>,
     /// Its bytes on the line; or the number of an event.
     pub detail: ArrayString<64>,
@@ -48,6 +48,10 @@ pub(crate) fn fields_of(unit: u8, note: &Note) -> NoteFields
         Note::End(outcome) => {
             show_outcome(outcome, &mut text, &mut detail);
             "end"
+        }
+        Note::From(event) => {
+            push_number(&mut text, *event);
+            "from"
         }
     };
     NoteFields { word, text, detail }

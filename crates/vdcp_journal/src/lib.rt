@@ -11,8 +11,11 @@
 //! `resume` gives a new controller the rows of a journal, and times out the exchange that was open.
 //! `airings_in` finds in them when each reported event aired.
 //!
+//! A journal may have the rows of several runs, one after another: `runs_in` finds them. `resume` and `airings_in` are
+//! given those of one run.
+//!
 //! Files: `moment`, `digest`, `row` (headings, rows and notes), `fields` (a note's fields), `texts` (what fields name),
-//! `write`, `read`, `faults`, `replay`, `airings`, `laws`.
+//! `write`, `read`, `faults`, `replay`, `airings`, `runs`, `laws`.
 #![tactic(auto)]
 
 mod airings;
@@ -24,6 +27,7 @@ mod moment;
 mod read;
 mod replay;
 mod row;
+mod runs;
 mod texts;
 mod write;
 
@@ -34,4 +38,5 @@ pub use moment::Moment;
 pub use read::{Journal, read_journal};
 pub use replay::{Resumed, resume};
 pub use row::{Heading, Note, Row};
+pub use runs::{JournalRun, has_stop, runs_in};
 pub use write::{write_heading, write_row};

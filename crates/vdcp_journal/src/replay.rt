@@ -80,6 +80,8 @@ fn goes_on<S: Source>(controller: &mut Controller<S>, note: &Note) -> bool
             controller.outcome().is_none()
         }
         Note::End(outcome) => controller.outcome() == Some(*outcome),
+        // (no controller goes on as a new one)
+        Note::From(_) => false,
     }
 }
 
@@ -88,7 +90,9 @@ fn fault_of(k: usize, note: &Note) -> ResumeFault
 {
     match note {
         Note::Sent(_) => ResumeFault::Command(k),
-        Note::Heard(_) | Note::Silence | Note::Take | Note::Stop => ResumeFault::Unawaited(k),
+        Note::Heard(_) | Note::Silence | Note::Take | Note::Stop | Note::From(_) => {
+            ResumeFault::Unawaited(k)
+        }
         Note::End(_) => ResumeFault::Outcome(k),
     }
 }

@@ -39,4 +39,6 @@ pub enum Note {
     Stop,
     /// The controller ended.
     End(Outcome),
+    /// A new run begins here, with this event of the list, counted from 0.
+    From(usize),
 }

@@ -192,6 +192,7 @@ pub(crate) fn note_in(unit: u8, word: &[u8], text: &[u8], detail: &[u8]) -> Opti
         b"take" => Some(Note::Take),
         b"stop" => Some(Note::Stop),
         b"end" => outcome_in(text, detail).map(Note::End),
+        b"from" => number_in(text).map(Note::From),
         _ => None,
     }
 }

@@ -6,5 +6,7 @@ pub mod Listings
 pub mod Places
 pub mod Playlists
 pub mod Reading
+pub mod RestLaws
+pub mod Rests
 pub mod Rows
 pub mod Timed

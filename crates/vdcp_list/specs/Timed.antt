@@ -1,7 +1,6 @@
--- The text of a timed as-run list. A time is of any form.
+-- The rows of a timed as-run list. A time is of any form.
 use Rattle.csv.specs.Writing.{default_writer, row_text}
 use Rattle.std.specs.Prelude.{ℕ, suc, Bool, true, false, List, [], ◌∷◌, ◌++◌, codes, decimal}
-use Rattle.vdcp_list.specs.Asrun.{has_part}
 use Rattle.vdcp_list.specs.Playlists.{item_row}
 use Rattle.vdcp_list.specs.Rows.{FileRow}
 use Rattle.vdcp_value.specs.declared.part.Item.{Item}
@@ -24,9 +23,3 @@ timed_rows played known rate with_parts k [] (time ∷ times) = []
 timed_rows played known rate with_parts k (item ∷ items) (time ∷ times) =
     row_text default_writer (decimal k ∷ timed_fields rate with_parts item (played time) (known time))
     ++ timed_rows played known rate with_parts (suc k) items times
-
--- the timed text: what the columns are, and the first events, as many as there are times
-abbrev pub timed_text : {T : Type 0} → (T → List ℕ) → (T → List ℕ) → Rate → List Item → List T → List ℕ
-timed_text played known rate items times =
-    row_text default_writer (timed_heading (has_part items))
-    ++ timed_rows played known rate (has_part items) 0 items times

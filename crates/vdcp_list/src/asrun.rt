@@ -1,7 +1,7 @@
 ghost use Rattle.csv.specs.Writing.{default_writer, fields_written, has_written, row_text, text_written, writer_setup};
 ghost use Rattle.std.specs.Io.KnownBytes.{Appends, Keeps};
-ghost use Rattle.std.specs.Prelude.{◌≡◌, ◌≢◌, ◌↔◌, ◌≤◌, ◌∷◌, [], Err, IfErr, IfOk, IsTrue, OnErr, OnOk, decimal, false, length, string_bytes, take, ℕ};
-ghost use Rattle.vdcp_list.specs.Asrun.{AppendsBeginning, IsUnlawful, are_lawful, asrun_text, has_part, is_lawful_event};
+ghost use Rattle.std.specs.Prelude.{◌≡◌, ◌≢◌, ◌↔◌, ◌≤◌, ◌+◌, ◌∷◌, [], Err, IfErr, IfOk, IsTrue, OnErr, OnOk, decimal, drop, false, length, string_bytes, take, ℕ};
+ghost use Rattle.vdcp_list.specs.Asrun.{AppendsBeginning, IsUnlawful, are_lawful, asrun_text, events_text, has_part, is_lawful_event};
 ghost use Rattle.vdcp_list.specs.Playlists.{item_row, part_fields, time_text};
 ghost use Rattle.vdcp_list.specs.declared.faults.WriteFault.TheVariants.{Device, Time};
 ghost use Rattle.vdcp_value.specs.Bcd.{is_time};
@@ -40,9 +40,33 @@ pub fn write_asrun<S: Source, W: Write, A: Allocator>(
         → AppendsBeginning (W.contents writer.old) (W.contents writer.new)
         (asrun_text rate (S.items source.now) reported)) }
 {
-    let among = check_parts(source, rate, reported)?;
-    let with_parts = has_part(source, reported, among);
-    let text = asrun_text(&alloc, source, rate, with_parts, reported)?;
+    write_events(alloc, source, rate, 0, reported, writer)
+}
+
+/// Writes the rows that the as-run list of a source has of `count` events from event `from` on, as `write_asrun` does:
+/// numbers and columns are those of the whole list. The parts of the events before them are tested, too.
+pub fn write_events<S: Source, W: Write, A: Allocator>(
+    alloc: A,
+    source: &S,
+    rate: Rate,
+    from: usize,
+    count: usize,
+    writer: &mut W,
+) -> Result<(), WriteFault>
+    requires { from + count ≤ length (S.items source.now) }
+    ensures ok { OnOk result (Appends (W.contents writer.old) (W.contents writer.new)
+        (events_text rate (has_part (S.items source.now)) from (take count (drop from (S.items source.now))))) }
+    ensures unlawful { (k : ℕ) → (result ≡ Err (Time k)) ↔ IsUnlawful rate (S.items source.now) (from + count) k }
+    ensures kept { IfErr result (λ fault. fault ≢ Device → Keeps (W.contents writer.old) (W.contents writer.new)) }
+    ensures beginning { IfErr result (λ fault. fault ≡ Device
+        → AppendsBeginning (W.contents writer.old) (W.contents writer.new)
+        (events_text rate (has_part (S.items source.now)) from (take count (drop from (S.items source.now))))) }
+{
+    let all = source.len();
+    let end = from + count;
+    let among = check_parts(source, rate, end)?;
+    let with_parts = has_part(source, end, among);
+    let text = events_text(&alloc, source, rate, with_parts, from, count)?;
     write_out(writer, text.as_slice())
 }
 
@@ -138,27 +162,29 @@ fn is_lawful(rate: Rate, bytes: [u8; 4]) -> bool
     Timecode::from_bcd(rate, bytes).is_ok()
 }
 
-/// The as-run list's text. It is written to memory, so that only want of memory can refuse it.
-fn asrun_text<'a, S: Source, A: Allocator>(
+/// The rows' text. It is written to memory, so that only want of memory can refuse it.
+fn events_text<'a, S: Source, A: Allocator>(
     alloc: &'a A,
     source: &S,
     rate: Rate,
     with_parts: bool,
-    reported: usize,
+    from: usize,
+    count: usize,
 ) -> Result<Vec<u8, &'a A>, WriteFault>
-    requires parts { with_parts ≡ has_part (S.items source.now) }
-    requires within { reported ≤ length (S.items source.now) }
-    requires lawful { IsTrue (are_lawful rate (take reported (S.items source.now))) }
-    ensures text { IfOk result (λ text. text.items ≡ asrun_text rate (S.items source.now) reported) }
+    requires within { from + count ≤ length (S.items source.now) }
+    requires lawful { IsTrue (are_lawful rate (take (from + count) (S.items source.now))) }
+    ensures text { IfOk result
+        (λ text. text.items ≡ events_text rate with_parts from (take count (drop from (S.items source.now)))) }
     ensures memory { IfErr result (λ fault. fault ≡ WriteFault.Memory) }
 {
+    let all = source.len();
     let mut rows = WriterBuilder::new().from_writer(Vec::new(alloc));
     let mut number = String::new(alloc);
-    for k in 0..reported {
-        if show_number(k, &mut number).is_err() {
+    for k in 0..count {
+        if show_number(from + k, &mut number).is_err() {
             return Err(WriteFault::Memory);
         }
-        let item = source.at(k);
+        let item = source.at(from + k);
         if write_event(&mut rows, number.as_str(), &item, rate, with_parts).is_err() {
             return Err(WriteFault::Memory);
         }

@@ -1,8 +1,8 @@
 ghost use Rattle.csv.specs.Writing.{default_writer, fields_written, has_written, row_text, text_written, writer_setup};
 ghost use Rattle.std.specs.Io.KnownBytes.{Appends, Keeps};
-ghost use Rattle.std.specs.Prelude.{◌≡◌, ◌≢◌, ◌≤◌, ◌∷◌, IfErr, IfOk, IsTrue, List, OnOk, false, length, take, ℕ};
+ghost use Rattle.std.specs.Prelude.{◌≡◌, ◌≢◌, ◌≤◌, ◌+◌, ◌∷◌, IfErr, IfOk, IsTrue, List, OnOk, drop, false, length, take, ℕ};
 ghost use Rattle.vdcp_list.specs.Asrun.{AppendsBeginning, are_lawful, has_part, is_lawful_event};
-ghost use Rattle.vdcp_list.specs.Timed.{timed_fields, timed_heading, timed_text};
+ghost use Rattle.vdcp_list.specs.Timed.{timed_fields, timed_heading, timed_rows};
 ghost use Rattle.vdcp_list.specs.declared.faults.WriteFault.TheVariants.{Device};
 
 use crate::asrun::{check_parts, has_part, show_number, show_part, write_out};
@@ -29,64 +29,96 @@ pub trait Timed {
         ensures { result.now ≡ known self.now };
 }
 
-/// Writes the as-run list of the first events of a source, as `write_asrun` does, with two columns more: the times of
-/// each event, of which there are as many as events. A row that says what the columns are goes first.
-pub fn write_timed<S: Source, T: Timed, W: Write, A: Allocator>(
+/// Writes the row that goes before a timed as-run list of a source: what the columns are. They are those of `write_asrun`,
+/// and two more.
+pub fn write_timed_heading<S: Source, W: Write, A: Allocator>(
     alloc: A,
     source: &S,
-    rate: Rate,
-    times: &[T],
     writer: &mut W,
 ) -> Result<(), WriteFault>
-    requires { length times.now ≤ length (S.items source.now) }
     ensures ok { OnOk result (Appends (W.contents writer.old) (W.contents writer.new)
-        (timed_text T.played T.known rate (S.items source.now) times.now)) }
+        (row_text default_writer (timed_heading (has_part (S.items source.now))))) }
     ensures kept { IfErr result (λ fault. fault ≢ Device → Keeps (W.contents writer.old) (W.contents writer.new)) }
     ensures beginning { IfErr result (λ fault. fault ≡ Device
         → AppendsBeginning (W.contents writer.old) (W.contents writer.new)
-        (timed_text T.played T.known rate (S.items source.now) times.now)) }
+        (row_text default_writer (timed_heading (has_part (S.items source.now))))) }
 {
-    let among = check_parts(source, rate, times.len())?;
-    let with_parts = has_part(source, times.len(), among);
-    let text = timed_text(&alloc, source, rate, with_parts, times)?;
+    let with_parts = has_part(source, 0, false);
+    let text = heading_text(&alloc, with_parts)?;
     write_out(writer, text.as_slice())
 }
 
-/// The timed list's text. It is written to memory, so that only want of memory can refuse it.
+/// Writes the rows that `write_events` writes of the events from event `from` on, with two columns more: the times of
+/// each event, of which there are as many as events.
+pub fn write_timed_events<S: Source, T: Timed, W: Write, A: Allocator>(
+    alloc: A,
+    source: &S,
+    rate: Rate,
+    from: usize,
+    times: &[T],
+    writer: &mut W,
+) -> Result<(), WriteFault>
+    requires { from + length times.now ≤ length (S.items source.now) }
+    ensures ok { OnOk result (Appends (W.contents writer.old) (W.contents writer.new)
+        (timed_rows T.played T.known rate (has_part (S.items source.now)) from (drop from (S.items source.now))
+        times.now)) }
+    ensures kept { IfErr result (λ fault. fault ≢ Device → Keeps (W.contents writer.old) (W.contents writer.new)) }
+    ensures beginning { IfErr result (λ fault. fault ≡ Device
+        → AppendsBeginning (W.contents writer.old) (W.contents writer.new)
+        (timed_rows T.played T.known rate (has_part (S.items source.now)) from (drop from (S.items source.now))
+        times.now)) }
+{
+    let all = source.len();
+    let end = from + times.len();
+    let among = check_parts(source, rate, end)?;
+    let with_parts = has_part(source, end, among);
+    let text = timed_text(&alloc, source, rate, with_parts, from, times)?;
+    write_out(writer, text.as_slice())
+}
+
+/// The text of what the columns are. It is written to memory, so that only want of memory can refuse it.
+fn heading_text<'a, A: Allocator>(
+    alloc: &'a A,
+    with_parts: bool,
+) -> Result<Vec<u8, &'a A>, WriteFault>
+    ensures text { IfOk result (λ text. text.items ≡ row_text default_writer (timed_heading with_parts)) }
+    ensures memory { IfErr result (λ fault. fault ≡ WriteFault.Memory) }
+{
+    let mut rows = WriterBuilder::new().from_writer(Vec::new(alloc));
+    if write_heading(&mut rows, with_parts).is_err() {
+        return Err(WriteFault::Memory);
+    }
+    match rows.into_inner() {
+        Ok(text) => Ok(text),
+        Err(_) => Err(WriteFault::Memory),
+    }
+}
+
+/// The rows' text. It is written to memory, so that only want of memory can refuse it.
 fn timed_text<'a, S: Source, T: Timed, A: Allocator>(
     alloc: &'a A,
     source: &S,
     rate: Rate,
     with_parts: bool,
+    from: usize,
     times: &[T],
 ) -> Result<Vec<u8, &'a A>, WriteFault>
-    requires parts { with_parts ≡ has_part (S.items source.now) }
-    requires within { length times.now ≤ length (S.items source.now) }
-    requires lawful { IsTrue (are_lawful rate (take (length times.now) (S.items source.now))) }
+    requires within { from + length times.now ≤ length (S.items source.now) }
+    requires lawful { IsTrue (are_lawful rate (take (from + length times.now) (S.items source.now))) }
     ensures text { IfOk result (λ text. text.items
-        ≡ timed_text T.played T.known rate (S.items source.now) times.now) }
+        ≡ timed_rows T.played T.known rate with_parts from (drop from (S.items source.now)) times.now) }
     ensures memory { IfErr result (λ fault. fault ≡ WriteFault.Memory) }
 {
+    let all = source.len();
     let mut rows = WriterBuilder::new().from_writer(Vec::new(alloc));
     let mut number = String::new(alloc);
-    if write_heading(&mut rows, with_parts).is_err() {
-        return Err(WriteFault::Memory);
-    }
     for k in 0..times.len() {
-        if show_number(k, &mut number).is_err() {
+        if show_number(from + k, &mut number).is_err() {
             return Err(WriteFault::Memory);
         }
-        let item = source.at(k);
-        if write_event(
-            &mut rows,
-            number.as_str(),
-            &item,
-            rate,
-            with_parts,
-            &times[k],
-        )
-        .is_err()
-        {
+        let item = source.at(from + k);
+        let time = &times[k];
+        if write_event(&mut rows, number.as_str(), &item, rate, with_parts, time).is_err() {
             return Err(WriteFault::Memory);
         }
     }

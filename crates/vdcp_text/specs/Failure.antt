@@ -2,7 +2,7 @@
 use Rattle.std.specs.Prelude.{ℕ, List, ◌++◌, codes, decimal}
 use Rattle.vdcp_text.specs.Text.{line}
 use Rattle.vdcp_text.specs.declared.failure.Failure.{Failure}
-use Rattle.vdcp_text.specs.declared.failure.Failure.TheVariants.{Hex, Word, Arguments, Text, Open, Read, Row, ScriptLine, TooManyEvents, NotText, Write, IsList, Exists, InUse, JournalRow, Memory, Writer}
+use Rattle.vdcp_text.specs.declared.failure.Failure.TheVariants.{Hex, Word, Arguments, Text, Open, Read, Row, ScriptLine, TooManyEvents, NotText, Write, IsList, Exists, InUse, JournalRow, MayHaveAired, NoEvent, Memory, Writer}
 use Rattle.vdcp_text.specs.declared.failure.Failure.TheVariants.{Address, Connect, NotEmpty, Bind, LineFailed, LineClosed, Spent}
 use Rattle.vdcp_text.specs.declared.failure.JournalFault.{JournalFault}
 use Rattle.vdcp_text.specs.declared.failure.JournalFault.TheVariants as journal
@@ -28,6 +28,8 @@ status_of (IsList name) = 3
 status_of (Exists name) = 3
 status_of (InUse name) = 3
 status_of (JournalRow name row fault) = 1
+status_of (MayHaveAired event) = 1
+status_of (NoEvent event) = 1
 status_of Address = 2
 status_of Connect = 3
 status_of NotEmpty = 1
@@ -66,6 +68,7 @@ journal_fault_text journal.Command = codes "command"
 journal_fault_text journal.Reply = codes "reply"
 journal_fault_text journal.Detail = codes "detail"
 journal_fault_text journal.Unawaited = codes "unawaited"
+journal_fault_text journal.Event = codes "event"
 journal_fault_text journal.Outcome = codes "outcome"
 
 -- the words of a failure; those of a failed writer are never printed
@@ -87,6 +90,8 @@ failure_text (Exists name) = name.now ++ codes ": exists"
 failure_text (InUse name) = name.now ++ codes ": in use"
 failure_text (JournalRow name row fault) =
     name.now ++ codes ": row " ++ decimal row ++ codes ": " ++ journal_fault_text fault
+failure_text (MayHaveAired event) = codes "event " ++ decimal event ++ codes " may have aired"
+failure_text (NoEvent event) = codes "no event " ++ decimal event
 failure_text Address = codes "address"
 failure_text Connect = codes "cannot connect"
 failure_text NotEmpty = codes "port not empty"

@@ -37,6 +37,10 @@ pub enum Failure<'a> {
     InUse(&'a str),
     /// A row of the journal of this name, counted from 1, is refused.
     JournalRow(&'a str, usize, JournalFault),
+    /// The event of this number, counted from 0, may have aired.
+    MayHaveAired(usize),
+    /// The list has no event of this number, counted from 0.
+    NoEvent(usize),
     /// The address isn't an IPv4 address, a colon and a port number.
     Address,
     /// Nobody takes the connection.
@@ -60,9 +64,9 @@ pub enum Failure<'a> {
 impl Failure<'_> {
     ghost use Rattle.vdcp_text.specs.Failure.{failure_line, status_of};
 
-    /// Reports the failure to `err` in one line and gives the exit status: 1 for refused data and for a port
-    /// that isn't empty, 2 for words that aren't text and for an address that is none, and 3 for the others. The
-    /// status is also 3 where the line can't be written. `Writer` writes no line.
+    /// Reports the failure to `err` in one line and gives the exit status: 1 for refused data, for a port that isn't
+    /// empty and for an event that a run can't begin with, 2 for words that aren't text and for an address that is
+    /// none, and 3 for the others. The status is also 3 where the line can't be written. `Writer` writes no line.
     pub fn report<E: io::Write>(self, err: &mut E) -> u8
         ensures status { (result ≡ status_of self.entry) ⊎ (result ≡ 3) }
         ensures told { result < 3 → Appends (E.contents err.old) (E.contents err.new) (failure_line self.entry) }
@@ -85,6 +89,7 @@ impl Failure<'_> {
             Failure::Hex | Failure::Word | Failure::Arguments | Failure::NotEmpty => 1,
             Failure::Row(..) | Failure::ScriptLine(..) | Failure::JournalRow(..) => 1,
             Failure::TooManyEvents(_) | Failure::NotText(_) => 1,
+            Failure::MayHaveAired(_) | Failure::NoEvent(_) => 1,
             Failure::Text | Failure::Address => 2,
             Failure::Open(_) | Failure::Read(_) | Failure::Write(_) | Failure::IsList(_) => 3,
             Failure::Exists(_) | Failure::InUse(_) => 3,
@@ -118,6 +123,8 @@ impl fmt::Display for Failure<'_> {
             Failure::Exists(name) => write!(f, "{name}: exists"),
             Failure::InUse(name) => write!(f, "{name}: in use"),
             Failure::JournalRow(name, row, fault) => write!(f, "{name}: row {row}: {fault}"),
+            Failure::MayHaveAired(event) => write!(f, "event {event} may have aired"),
+            Failure::NoEvent(event) => write!(f, "no event {event}"),
             Failure::Address => write!(f, "address"),
             Failure::Connect => write!(f, "cannot connect"),
             Failure::NotEmpty => write!(f, "port not empty"),
@@ -233,6 +240,8 @@ pub enum JournalFault {
     Detail,
     /// The controller awaits no such thing there.
     Unawaited,
+    /// It has no event to begin with, or one that the list hasn't.
+    Event,
     /// It has no outcome, or one that the controller doesn't come to there.
     Outcome,
 }
@@ -260,6 +269,7 @@ impl fmt::Display for JournalFault {
             JournalFault::Reply => write!(f, "reply"),
             JournalFault::Detail => write!(f, "detail"),
             JournalFault::Unawaited => write!(f, "unawaited"),
+            JournalFault::Event => write!(f, "event"),
             JournalFault::Outcome => write!(f, "outcome"),
         }
     }

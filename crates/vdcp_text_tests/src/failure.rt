@@ -4,7 +4,7 @@ use std::test::Fail;
 use vdcp_text::{Failure, JournalFault, RowFault, ScriptLineFault};
 
 // Each failure, with the line that tells it and its status.
-const ROWS: [(Failure<'static>, &str, u8); 33] = [
+const ROWS: [(Failure<'static>, &str, u8); 36] = [
     (Failure::Hex, "vdcp: hex\n", 1),
     (Failure::Word, "vdcp: word\n", 1),
     (Failure::Arguments, "vdcp: arguments\n", 1),
@@ -86,6 +86,17 @@ const ROWS: [(Failure<'static>, &str, u8); 33] = [
         "vdcp: a.csv: row 12: unawaited\n",
         1,
     ),
+    (
+        Failure::JournalRow("a.csv", 7, JournalFault::Event),
+        "vdcp: a.csv: row 7: event\n",
+        1,
+    ),
+    (
+        Failure::MayHaveAired(12),
+        "vdcp: event 12 may have aired\n",
+        1,
+    ),
+    (Failure::NoEvent(3), "vdcp: no event 3\n", 1),
     (Failure::Address, "vdcp: address\n", 2),
     (Failure::Connect, "vdcp: cannot connect\n", 3),
     (Failure::NotEmpty, "vdcp: port not empty\n", 1),

@@ -1,0 +1,64 @@
+ghost use Rattle.std.specs.Prelude.{◌≡◌, ◌≤◌, ◌×◌, All, IfOk, length, map};
+ghost use Rattle.vdcp_journal.specs.Runs.{has_stop, run_at, runs_of, sends_stop};
+
+use crate::row::{Note, Row};
+use std::alloc::{AllocError, Global};
+use vdcp_words::Command;
+
+/// A run of a journal: its rows are those from `begin` to `end`, that one left out.
+#[derive(Clone, Copy, Debug, PartialEq, Eq)]
+pub struct JournalRun {
+    /// The event of the list that its controller begins with, counted from 0.
+    pub from: usize,
+    pub begin: usize,
+    pub end: usize,
+}
+
+/// The runs whose rows these are, one after another. There is one at least. A row `From` stands between two runs, and is
+/// of neither.
+pub fn runs_in(alloc: Global, rows: &[Row]) -> Result<Vec<JournalRun>, AllocError>
+    ensures runs { IfOk result (λ runs. map (run_at rows.now) runs.items ≡ runs_of rows.now) }
+    ensures within { IfOk result
+        (λ runs. All (λ run. (run.begin ≤ run.end) × (run.end ≤ length rows.now)) runs.items) }
+    ensures some { IfOk result (λ runs. 1 ≤ length runs.items) }
+{
+    let mut runs = Vec::new(alloc);
+    let mut run = JournalRun {
+        from: 0,
+        begin: 0,
+        end: 0,
+    };
+    for k in 0..rows.len() {
+        if let Note::From(event) = rows[k].note {
+            runs.push(run)?;
+            run = JournalRun {
+                from: event,
+                begin: k + 1,
+                end: k + 1,
+            };
+        } else {
+            run.end = k + 1;
+        }
+    }
+    runs.push(run)?;
+    Ok(runs)
+}
+
+/// Whether a STOP went out by these rows.
+pub fn has_stop(rows: &[Row]) -> bool
+    ensures { result ≡ has_stop rows.now }
+{
+    for k in 0..rows.len() {
+        if sends_stop(&rows[k].note) {
+            return true;
+        }
+    }
+    false
+}
+
+/// Whether a note tells of a STOP that goes out.
+fn sends_stop(note: &Note) -> bool
+    ensures { result ≡ sends_stop note.now }
+{
+    matches!(note, Note::Sent(Command::Stop))
+}
