@@ -630,9 +630,8 @@ fn unbegun<'a, R: Files + AllocGlobal, S: Source>(
     requires begun { line ≢ LineEnd.Unneeded }
     requires kept { line ≢ LineEnd.Unkept }
     ensures from { result.from ≡ controller.now.source.from }
-    ensures outcome { result.outcome ≡ outcome_in_list controller.now.source.from
-        (turns.outcome_of controller.now.state.stage) }
-    ensures reported { result.reported ≡ controller.now.source.from + controller.now.state.settled }
+    ensures outcome { result.outcome ≡ outcome_in_list result.from (turns.outcome_of controller.now.state.stage) }
+    ensures reported { result.reported ≡ result.from + controller.now.state.settled }
     ensures unneeded { result.line ≡ LineEnd.Unneeded → IsSome result.outcome }
     ensures ended { IsSome result.outcome → result.line ≡ LineEnd.Unneeded }
     ensures told { result.line ≢ LineEnd.Unkept }
@@ -674,9 +673,9 @@ fn play<'a, R: Files + AllocGlobal, S: Source, W: Wire, V: Watch<Rest<S>>, J: Jo
     ensures leaves { (ran : Result Ran KeptFault) × (result.line ≡ line_end_of ran)
         × KeptLeaves (items_left S.items) W.told W.failures settings.entry.listens driver.old driver.new ran }
     ensures from { result.from ≡ driver.new.controller.source.from }
-    ensures outcome { result.outcome ≡ outcome_in_list driver.new.controller.source.from
+    ensures outcome { result.outcome ≡ outcome_in_list result.from
         (turns.outcome_of driver.new.controller.state.stage) }
-    ensures reported { result.reported ≡ driver.new.controller.source.from + driver.new.controller.state.settled }
+    ensures reported { result.reported ≡ result.from + driver.new.controller.state.settled }
     ensures unwritten { MayBeUnwritten settings.entry.asrun result.unwritten }
     ensures unkept { MayBeUnkept (journal_in keeping.entry) result.unkept }
     ensures told { result.line ≡ LineEnd.Unkept → IsSome result.unkept }
@@ -732,9 +731,8 @@ fn ended<'a, R: Files + AllocGlobal, S: Source>(
     settings: RunSettings<'a>,
 ) -> RunEnd<'a>
     ensures from { result.from ≡ controller.now.source.from }
-    ensures outcome { result.outcome ≡ outcome_in_list controller.now.source.from
-        (turns.outcome_of controller.now.state.stage) }
-    ensures reported { result.reported ≡ controller.now.source.from + controller.now.state.settled }
+    ensures outcome { result.outcome ≡ outcome_in_list result.from (turns.outcome_of controller.now.state.stage) }
+    ensures reported { result.reported ≡ result.from + controller.now.state.settled }
     ensures line { result.line ≡ line }
     ensures unwritten { MayBeUnwritten settings.entry.asrun result.unwritten }
     ensures kept { result.unkept ≡ None }
@@ -755,9 +753,8 @@ fn ended<'a, R: Files + AllocGlobal, S: Source>(
 // The same, where no as-run list is wanted.
 fn end_of<'a, S: Source>(controller: &Controller<Rest<S>>, line: LineEnd) -> RunEnd<'a>
     ensures from { result.from ≡ controller.now.source.from }
-    ensures outcome { result.outcome ≡ outcome_in_list controller.now.source.from
-        (turns.outcome_of controller.now.state.stage) }
-    ensures reported { result.reported ≡ controller.now.source.from + controller.now.state.settled }
+    ensures outcome { result.outcome ≡ outcome_in_list result.from (turns.outcome_of controller.now.state.stage) }
+    ensures reported { result.reported ≡ result.from + controller.now.state.settled }
     ensures line { result.line ≡ line }
     ensures written { result.unwritten ≡ None }
     ensures kept { result.unkept ≡ None }

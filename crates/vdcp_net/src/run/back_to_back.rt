@@ -39,9 +39,9 @@ pub(super) fn play_back_to_back<
     ensures leaves { (ran : Result Ran KeptFault) × (result.line ≡ line_end_of ran)
         × RunsWithTakes (items_left S.items) driver.old driver.new ran }
     ensures from { result.from ≡ driver.new.controller.source.from }
-    ensures outcome { result.outcome ≡ outcome_in_list driver.new.controller.source.from
+    ensures outcome { result.outcome ≡ outcome_in_list result.from
         (turns.outcome_of driver.new.controller.state.stage) }
-    ensures reported { result.reported ≡ driver.new.controller.source.from + driver.new.controller.state.settled }
+    ensures reported { result.reported ≡ result.from + driver.new.controller.state.settled }
     ensures unwritten { MayBeUnwritten settings.entry.asrun result.unwritten }
     ensures unkept { MayBeUnkept (journal_in keeping.entry) result.unkept }
     ensures told { result.line ≡ LineEnd.Unkept → IsSome result.unkept }
