@@ -1,7 +1,7 @@
 -- An as-run list, event by event.
 use Rattle.csv.specs.Writing.{default_writer, row_text}
 use Rattle.std.specs.Io.KnownBytes.{Appends}
-use Rattle.std.proofs.Common.{◌≡◌, ℕ, ◌+◌, ◌<◌, Bool, true, false, List, [], ◌∷◌, ◌++◌, length, take, refl, sym, ap, ap₂, subst, ◌∙◌, arith, zero}
+use Rattle.std.proofs.Common.{◌≡◌, ℕ, ◌+◌, ◌<◌, Bool, true, false, List, [], ◌∷◌, ◌++◌, length, take, drop, refl, sym, ap, ap₂, subst, ◌∙◌, arith, zero}
 use Rattle.std.proofs.Common.{suc, add-one, add-zero, zero-add, append_assoc, append-nil, true≢false, IfErr, Ok, Err, Result}
 use Rattle.std.proofs.Math.Bool.{and-eq-true_iff}
 use Rattle.std.proofs.lemmas.List.Folds.{list_all-append, list_any-append}
@@ -206,22 +206,32 @@ taken (first ∷ items) (suc k) item e = ap suc (taken items k item e)
 one_text : (a b : List ℕ) → ◌≡◌ {A = Option (List ℕ)} (Some a) (Some b) → a ≡ b
 one_text a b e = cc
 
+-- an event of those from a place on
+pub at_left : (items : List Item) (from k : ℕ) (item : Item) → slice_get items (from + k) ≡ Some item
+    → slice_get (drop from items) k ≡ Some item
+at_left items zero k item e = ap (λ (n : ℕ). slice_get items n) (sym (zero-add k)) ∙ e
+at_left [] (suc from) k item e = cc e
+at_left (first ∷ items) (suc from) k item e =
+    let next : suc (from + k) ≡ suc from + k = omega arith in
+    at_left items from k item (ap (λ (n : ℕ). slice_get (first ∷ items) n) next ∙ e)
+
 -- the text after one more row
-pub events_step : (rate : Rate) (with_parts : Bool) (items : List Item) (k : ℕ) (item : Item) (number : List ℕ)
-    (old new : Option (List ℕ))
-    → slice_get items k ≡ Some item → number ≡ decimal k → old ≡ Some (events_text rate with_parts 0 (take k items))
+pub events_step : (rate : Rate) (with_parts : Bool) (from : ℕ) (items : List Item) (k : ℕ) (item : Item)
+    (number : List ℕ) (old new : Option (List ℕ))
+    → slice_get items k ≡ Some item → number ≡ decimal (from + k)
+    → old ≡ Some (events_text rate with_parts from (take k items))
     → Appends old new (row_text default_writer (number ∷ item_row rate with_parts item))
-    → new ≡ Some (events_text rate with_parts 0 (take (k + 1) items))
-events_step rate with_parts items k item number None new at is were grown = cc were
-events_step rate with_parts items k item number (Some old) None at is were grown = absurd grown
-events_step rate with_parts items k item number (Some old) (Some new) at is were grown =
-    let count : 0 + length (take k items) ≡ k = zero-add (length (take k items)) ∙ taken items k item at in
+    → new ≡ Some (events_text rate with_parts from (take (k + 1) items))
+events_step rate with_parts from items k item number None new at is were grown = cc were
+events_step rate with_parts from items k item number (Some old) None at is were grown = absurd grown
+events_step rate with_parts from items k item number (Some old) (Some new) at is were grown =
+    let count : from + length (take k items) ≡ from + k = ap (λ n. from + n) (taken items k item at) in
     ap Some (grown
     ∙ ap₂ (λ text n. text ++ row_text default_writer (n ∷ item_row rate with_parts item))
-    (one_text old (events_text rate with_parts 0 (take k items)) were)
+    (one_text old (events_text rate with_parts from (take k items)) were)
     (is ∙ ap decimal (sym count))
-    ∙ sym (events_text-push rate with_parts 0 (take k items) item)
-    ∙ ap (events_text rate with_parts 0) (sym (take_more items k item at)))
+    ∙ sym (events_text-push rate with_parts from (take k items) item)
+    ∙ ap (events_text rate with_parts from) (sym (take_more items k item at)))
 
 pub on_ok : {P T E : Type 0} (result : Result T E) → is_err result ≡ false → OnOk result P → P
 on_ok (Ok x) e h = h

@@ -38,33 +38,32 @@ one_text : (a b : List ℕ) → ◌≡◌ {A = Option (List ℕ)} (Some a) (Some
 one_text a b e = cc e
 
 -- the text after one more row
-pub timed_step : {T : Type 0} (played known : T → List ℕ) (rate : Rate) (with_parts : Bool) (items : List Item)
-    (times : List T) (k : ℕ) (item : Item) (time : T) (number heading : List ℕ) (old new : Option (List ℕ))
-    → slice_get items k ≡ Some item → k < length times → time ≡ get_or times k time → number ≡ decimal k
-    → old ≡ Some (heading ++ timed_rows played known rate with_parts 0 items (take k times))
+pub timed_step : {T : Type 0} (played known : T → List ℕ) (rate : Rate) (with_parts : Bool) (from : ℕ)
+    (items : List Item) (times : List T) (k : ℕ) (item : Item) (time : T) (number : List ℕ) (old new : Option (List ℕ))
+    → slice_get items k ≡ Some item → k < length times → time ≡ get_or times k time → number ≡ decimal (from + k)
+    → old ≡ Some (timed_rows played known rate with_parts from items (take k times))
     → Appends old new
     (row_text default_writer (number ∷ timed_fields rate with_parts item (played time) (known time)))
-    → new ≡ Some (heading ++ timed_rows played known rate with_parts 0 items (take (k + 1) times))
-timed_step played known rate with_parts items times k item time number heading None new at below here is were grown =
+    → new ≡ Some (timed_rows played known rate with_parts from items (take (k + 1) times))
+timed_step played known rate with_parts from items times k item time number None new at below here is were grown =
     cc were
-timed_step played known rate with_parts items times k item time number heading (Some old) None at below here is were
+timed_step played known rate with_parts from items times k item time number (Some old) None at below here is were
     grown = absurd grown
-timed_step played known rate with_parts items times k item time number heading (Some old) (Some new) at below here is
+timed_step played known rate with_parts from items times k item time number (Some old) (Some new) at below here is
     were grown =
     let front = take k times in
-    let rows = timed_rows played known rate with_parts 0 items front in
+    let rows = timed_rows played known rate with_parts from items front in
     let size : length front ≡ k = omega (arith, length-take k times, below) in
-    let count : 0 + length front ≡ k = omega (arith, size) in
+    let count : from + length front ≡ from + k = ap (λ n. from + n) size in
     let more : take (k + 1) times ≡ front ++ time ∷ [] = take_more times k time below
     ∙ ap (λ t. front ++ t ∷ []) (sym here) in
-    let row = row_of rate with_parts k item (played time) (known time) in
-    let added : rows ++ row ≡ timed_rows played known rate with_parts 0 items (front ++ time ∷ []) =
+    let added : rows ++ row_of rate with_parts (from + k) item (played time) (known time)
+    ≡ timed_rows played known rate with_parts from items (front ++ time ∷ []) =
     ap (λ n. rows ++ row_of rate with_parts n item (played time) (known time)) (sym count)
-    ∙ sym (timed_rows-push played known rate with_parts 0 items front item time
+    ∙ sym (timed_rows-push played known rate with_parts from items front item time
     (ap (λ (n : ℕ). slice_get items n) size ∙ at)) in
     ap Some (grown
     ∙ ap₂ (λ text n. text ++ row_text default_writer
     (n ∷ timed_fields rate with_parts item (played time) (known time)))
-    (one_text old (heading ++ rows) were) is
-    ∙ append_assoc heading rows row
-    ∙ ap (λ text. heading ++ text) (added ∙ ap (timed_rows played known rate with_parts 0 items) (sym more)))
+    (one_text old rows were) is
+    ∙ added ∙ ap (timed_rows played known rate with_parts from items) (sym more))

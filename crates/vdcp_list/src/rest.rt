@@ -18,8 +18,8 @@ impl<S: Source> Model for Rest<S> {
     ghost Value = { FromEvent S };
 
     ghost view = { λ rest. record {
-        source = rest.source;
-        from = rest.from;
+      source = rest.source;
+      from = rest.from;
     } };
 
     ghost invariant = { λ rest. rest.from ≤ length (S.items rest.source) };
@@ -30,8 +30,8 @@ impl<S: Source> Rest<S> {
     pub fn new(source: S, from: usize) -> Self
         requires { from ≤ length (S.items source) }
         ensures { result ≡ record {
-            source = source;
-            from = from;
+          source = source;
+          from = from;
         } }
     {
         Rest { source, from }
