@@ -2,10 +2,10 @@
 use Rattle.csv.proofs.RoundTrip.{read-write}
 use Rattle.csv.specs.Machine.{next_record}
 use Rattle.csv.specs.Reading.{default_config, records_from, strip_bom}
-use Rattle.csv.specs.Writing.{default_writer, escaped, field_text, fields_text as more_text, is_blank, needs_quotes, read_back, row_body, row_text}
+use Rattle.csv.specs.Writing.{default_writer, escaped, field_text, fields_text as more_text, is_blank, needs_quotes, read_back, row_body}
 use Rattle.csv.specs.declared.parser.State.TheVariants.{StartRecord}
-use Rattle.std.proofs.Common.{◌≡◌, ℕ, ◌+◌, ◌<◌, ◌≤◌, zero, suc, Bool, true, false, List, [], ◌∷◌, ◌++◌, length, map, refl, sym, ap, subst, ◌∙◌, append_assoc, arith}
-use Rattle.std.proofs.lemmas.List.{append-nil, length-append}
+use Rattle.std.proofs.Common.{◌≡◌, ℕ, ◌+◌, ◌<◌, ◌≤◌, zero, suc, Bool, true, false, List, [], ◌∷◌, ◌++◌, length, map, refl, sym, ap, ◌∙◌, append_assoc, arith}
+use Rattle.std.proofs.lemmas.List.{length-append}
 use Rattle.std.specs.Prelude.{◌==◌, if◌then◌else◌}
 use Rattle.vdcp_journal.proofs.Lines.{AreLines, IsLine, both-false, feed-append, has_feed, joined, or-left, or-right}
 use Rattle.vdcp_journal.specs.Rows.{Fields, fields_text}

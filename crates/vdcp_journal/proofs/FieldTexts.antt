@@ -1,12 +1,11 @@
 -- No field of a journal has a line feed.
 use Rattle.hex.specs.Hex.{encode_lower, encode_with, lower_digits}
-use Rattle.std.proofs.Common.{◌≡◌, ℕ, ◌+◌, ◌*◌, ◌/◌, ◌%◌, ◌<◌, ◌≤◌, ◌^◌, zero, suc, Bool, true, false, List, [], ◌∷◌, ◌++◌, length, take, refl, sym, ap, subst, ◌∙◌, arith, get_or}
-use Rattle.std.proofs.lemmas.Bool.{ne_eqb}
+use Rattle.std.proofs.Common.{◌≡◌, ℕ, ◌+◌, ◌/◌, ◌%◌, ◌<◌, ◌^◌, zero, suc, Bool, true, false, List, [], ◌∷◌, ◌++◌, length, refl, ap, ◌∙◌, arith}
 use Rattle.std.proofs.lemmas.Fmt.{decimal_by_steps}
 use Rattle.std.proofs.lemmas.Bool.Decides.{nat_tests}
 use Rattle.std.proofs.Math.Bool.{and-eq-true_iff}
 use Rattle.std.specs.List.{flat_map, list_all}
-use Rattle.std.specs.Prelude.{◌==◌, ◌⊎◌, ◌&&◌, not, nat_le, Some, None, decimal, nat_lt, slice_index, if◌then◌else◌, codes}
+use Rattle.std.specs.Prelude.{◌==◌, ◌&&◌, not, nat_le, Some, None, decimal, slice_index, codes}
 use Rattle.std.proofs.Common.{inl, inr}
 use Rattle.vdcp_auto.specs.declared.exchange.Heard.{Heard}
 use Rattle.vdcp_auto.specs.declared.exchange.Heard.TheVariants as heard

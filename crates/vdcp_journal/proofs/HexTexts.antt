@@ -2,16 +2,13 @@
 use Rattle.hex.proofs.HexLemmas.{decode_sized-encode_lower, length-encode_with}
 use Rattle.hex.specs.Hex.{IsBytes, decode_sized, encode_lower, encode_with, lower_digits}
 use Rattle.hex.specs.declared.error.FromHexError.{FromHexError}
-use Rattle.std.proofs.Common.{◌≡◌, ℕ, ◌+◌, ◌*◌, ◌/◌, ◌<◌, ◌≤◌, zero, suc, All, Bool, true, false, List, [], ◌∷◌, length, slice_index_or, take, refl, sym, ap, subst, ◌∙◌, arith, true≢false}
+use Rattle.std.proofs.Common.{◌≡◌, ℕ, ◌*◌, ◌/◌, ◌<◌, ◌≤◌, zero, suc, All, Bool, true, false, List, [], ◌∷◌, length, slice_index_or, take, refl, sym, ap, subst, ◌∙◌, arith, true≢false}
 use Rattle.std.proofs.lemmas.List.{length-take-le}
 use Rattle.std.proofs.lemmas.List.Elements.{All-head, All-tail}
 use Rattle.std.specs.Cmp.Lexicographic.{bytes_decides, pointwise}
-use Rattle.std.specs.Prelude.{MatchResult, Result, Ok, Err, nat_eq, not, slice_index}
+use Rattle.std.specs.Prelude.{MatchResult, Result, Ok, Err, nat_eq, not}
 use Rattle.std.specs.Result.{is_err}
-use Rattle.vdcp_auto.specs.declared.exchange.Heard.{Heard}
-use Rattle.vdcp_auto.specs.declared.exchange.Heard.TheVariants as heard
 use Rattle.vdcp_frame.specs.Message.{Content, ack, nak, framed, spelling}
-use Rattle.vdcp_words.specs.Replies.{reply_message}
 
 pub are_bytes : (xs : List ℕ) → All (λ b. b < 256) xs → IsBytes xs
 are_bytes [] h i = omega arith

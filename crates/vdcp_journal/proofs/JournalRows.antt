@@ -1,5 +1,5 @@
 -- Rows of a journal as fields.
-use Rattle.std.proofs.Common.{◌≡◌, ℕ, ◌+◌, ◌<◌, zero, suc, List, [], ◌∷◌, length, refl, sym, ap, arith, ◌∙◌}
+use Rattle.std.proofs.Common.{◌≡◌, ℕ, ◌<◌, zero, suc, List, [], ◌∷◌, length, refl, arith, ◌∙◌}
 use Rattle.csv.specs.Records.{field_at}
 use Rattle.std.specs.Prelude.{None, Option, Some, is_some, option_map, slice_get, true}
 use Rattle.vdcp_journal.specs.Journals.{HasNoNote, IsFaultOfWord, IsRowFault}

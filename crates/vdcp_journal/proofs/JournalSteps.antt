@@ -1,12 +1,11 @@
 -- The rows of a journal, read one after another.
-use Rattle.std.proofs.Common.{◌≡◌, ℕ, ◌+◌, ◌≤◌, true, false, List, [], ◌∷◌, ◌++◌, length, map, take, refl, sym, ap, subst, ◌∙◌, arith, append_assoc}
+use Rattle.std.proofs.Common.{◌≡◌, ℕ, ◌+◌, ◌≤◌, true, false, List, [], ◌∷◌, ◌++◌, length, take, refl, sym, ap, subst, ◌∙◌, arith, append_assoc}
 use Rattle.std.proofs.lemmas.List.{length-append, length-map, map-append}
-use Rattle.std.specs.Prelude.{None, Option, Some, option_map, slice_get}
+use Rattle.std.specs.Prelude.{Option, Some, option_map, slice_get}
 use Rattle.vdcp_journal.specs.Journals.{AreLinesOf, IsBadLine, IsHeading, IsHeadingFault, IsLinesFault, IsRow, IsRowFault}
 use Rattle.vdcp_journal.specs.Reading.{AreWritable, IsWritableHeading, IsWritableNote}
 use Rattle.vdcp_journal.specs.Rows.{Fields, heading_fields, journal_fields, row_fields}
 use Rattle.vdcp_journal.specs.declared.faults.JournalReadFault.TheVariants.{Row as BadRow, Heading as BadHeading}
-use Rattle.vdcp_journal.specs.declared.faults.JournalReadFault.{JournalReadFault}
 use Rattle.vdcp_journal.specs.declared.faults.JournalRowFault.{JournalRowFault}
 use Rattle.vdcp_journal.specs.declared.moment.Moment.{Moment}
 use Rattle.vdcp_journal.specs.declared.row.Heading.{Heading}

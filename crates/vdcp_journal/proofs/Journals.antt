@@ -1,13 +1,11 @@
 -- A journal's text, its rows, and what is left of it where it is cut short.
 use Rattle.csv.specs.Reading.{strip_bom}
-use Rattle.csv.specs.Writing.{default_writer, escaped, fields_text as more_text, field_text, is_blank, needs_quotes}
-use Rattle.hex.specs.Hex.{encode_lower}
-use Rattle.std.proofs.Common.{◌≡◌, ℕ, ◌+◌, ◌<◌, ◌^◌, zero, suc, Bool, true, false, List, [], ◌∷◌, ◌++◌, length, map, take, refl, sym, ap, subst, ◌∙◌, arith}
+use Rattle.csv.specs.Writing.{default_writer, escaped, fields_text as more_text, field_text, needs_quotes}
+use Rattle.std.proofs.Common.{◌≡◌, ℕ, zero, suc, Bool, true, false, List, [], ◌∷◌, ◌++◌, map, take, refl, ap, ◌∙◌, arith}
 use Rattle.std.proofs.Math.Bool.{and-eq-true_iff}
 use Rattle.std.proofs.lemmas.Bool.Decides.{nat_tests}
-use Rattle.std.specs.List.{flat_map}
-use Rattle.std.specs.Prelude.{◌==◌, ◌&&◌, if◌then◌else◌, decimal, codes}
-use Rattle.vdcp_journal.proofs.CsvRows.{ArePlain, AreRows, HasField, are_lines, no_mark, rows-read}
+use Rattle.std.specs.Prelude.{◌==◌, if◌then◌else◌, codes}
+use Rattle.vdcp_journal.proofs.CsvRows.{ArePlain, AreRows, are_lines, no_mark, rows-read}
 use Rattle.vdcp_journal.proofs.FieldTexts.{IdTexts, encoded, note_plain, numeral}
 use Rattle.vdcp_journal.proofs.Lines.{all-whole, beginning, both-false, has_feed, joined, or-left, or-right}
 use Rattle.vdcp_journal.specs.Moments.{fits_place, has_form}

@@ -11,4 +11,5 @@ mod FieldTexts
 mod JournalRows
 mod JournalSteps
 mod AiringSteps
+mod RunSteps
 mod Journals

@@ -1,5 +1,5 @@
 -- A step along a burst that found no message found its end.
-use Rattle.std.proofs.Common.{◌≡◌, ℕ, refl, sym, inl, inr}
+use Rattle.std.proofs.Common.{◌≡◌, ℕ, refl, inl, inr}
 use Rattle.std.specs.Prelude.{◌⊎◌}
 use Rattle.vdcp_frame.specs.Reading.{End, clean, cut, fault}
 use Rattle.vdcp_frame.specs.Step.{IfEnd}

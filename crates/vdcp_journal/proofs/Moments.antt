@@ -1,5 +1,5 @@
 -- A moment is its text.
-use Rattle.std.proofs.Common.{◌≡◌, ℕ, true, false, List, [], ◌∷◌, length, suc, refl, ap}
+use Rattle.std.proofs.Common.{◌≡◌, ℕ, true, List, [], ◌∷◌, length, suc, refl, ap}
 use Rattle.std.proofs.Math.Bool.{and-eq-true_iff}
 use Rattle.vdcp_journal.specs.Moments.{fits_place, has_form, is_moment}
 use Rattle.vdcp_journal.specs.Times.{moment_text}

@@ -3,13 +3,13 @@ use Rattle.std.proofs.Common.{◌≡◌, ℕ, ◌+◌, ◌<◌, zero, suc, arith
 use Rattle.std.proofs.lemmas.List.{append-nil}
 use Rattle.std.proofs.Math.Seq.{take-suc}
 use Rattle.std.specs.Option.{option_map_or}
-use Rattle.std.specs.Prelude.{if◌then◌else◌, is_some, IsTrue, slice_get}
+use Rattle.std.specs.Prelude.{if◌then◌else◌, is_some, slice_get}
 use Rattle.vdcp_auto.specs.Course.{Receive, Reached, Stop, Take, Tick, called, logged}
 use Rattle.vdcp_auto.specs.Plan.{Plan}
 use Rattle.vdcp_auto.specs.State.{Stage}
 use Rattle.vdcp_auto.specs.State.{Ready, Awaiting, Ended}
 use Rattle.vdcp_auto.specs.State.{State}
-use Rattle.vdcp_auto.specs.Turn.{awaited, awaited_in, came_to, ended_by, ended_in, exchange_of, given, given_in, is_end, outcome_of, phase_to_send, stage_after, stopped, taken, tick_in, ticked, transition_of}
+use Rattle.vdcp_auto.specs.Turn.{awaited, awaited_in, came_to, ended_by, ended_in, exchange_of, given_in, is_end, stage_after, stopped, taken, tick_in, ticked, transition_of}
 use Rattle.vdcp_auto.specs.declared.exchange.Exchange.{Exchange}
 use Rattle.vdcp_auto.specs.declared.exchange.Heard.{Heard}
 use Rattle.vdcp_auto.specs.declared.phase.Mode.{Mode}

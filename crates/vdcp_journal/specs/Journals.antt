@@ -1,6 +1,6 @@
 -- Which journal lines are, and which of them is refused.
 use Rattle.hex.specs.Hex.{encode_lower}
-use Rattle.std.specs.Prelude.{◌≡◌, ◌≢◌, ℕ, ◌+◌, ◌<◌, ◌≤◌, ◌^◌, ◌⊎◌, ⊤, Bool, Option, Some, List, [], ◌∷◌, codes, decimal, drop, length, take, slice_get}
+use Rattle.std.specs.Prelude.{◌≡◌, ◌≢◌, ℕ, ◌+◌, ◌<◌, ◌≤◌, ◌^◌, ◌⊎◌, ⊤, Bool, Some, List, [], ◌∷◌, codes, decimal, drop, length, take, slice_get}
 use Rattle.vdcp_journal.specs.Reading.{AreWritable, IsWritableHeading, IsWritableNote, whole_lines}
 use Rattle.vdcp_journal.specs.Rows.{Fields, heading_fields, journal_fields, mode_text, note_fields, row_fields}
 use Rattle.vdcp_journal.specs.Times.{moment_text}

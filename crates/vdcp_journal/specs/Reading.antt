@@ -1,7 +1,5 @@
 -- What is read of a journal's bytes.
-use Rattle.std.specs.Prelude.{◌≡◌, ℕ, ◌+◌, ◌<◌, ◌≤◌, ◌^◌, ◌==◌, ⊤, Option, None, Some, List, [], ◌∷◌, ◌++◌, map, take, if◌then◌else◌}
-use Rattle.std.specs.Prelude.{All}
-use Rattle.vdcp_auto.specs.declared.exchange.Heard.{Heard}
+use Rattle.std.specs.Prelude.{ℕ, ◌<◌, ◌^◌, ◌==◌, ⊤, List, [], ◌∷◌, if◌then◌else◌}
 use Rattle.vdcp_auto.specs.declared.exchange.Heard.TheVariants as heard
 use Rattle.vdcp_auto.specs.declared.outcome.Outcome.{Outcome}
 use Rattle.vdcp_auto.specs.declared.outcome.Outcome.TheVariants.{Done, Stopped, Lost, Denied, Missing, Refused, Foreign, Strange}

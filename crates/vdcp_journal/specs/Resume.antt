@@ -1,9 +1,9 @@
 -- What the rows of a journal make of a controller, and the log that they show.
-use Rattle.std.specs.Prelude.{◌≡◌, ℕ, ⊥, IsTrue, Option, None, Some, is_some, List, [], ◌∷◌, take, slice_get}
+use Rattle.std.specs.Prelude.{◌≡◌, ℕ, IsTrue, Option, None, Some, is_some, List, [], ◌∷◌, take, slice_get}
 use Rattle.vdcp_auto.specs.Course.{Call, Tick, Receive, Take, Stop, after_call}
 use Rattle.vdcp_auto.specs.Plan.{Plan}
 use Rattle.vdcp_auto.specs.State.{State}
-use Rattle.vdcp_auto.specs.Turn.{awaited, came_to, ended_by, given, outcome_of, start}
+use Rattle.vdcp_auto.specs.Turn.{came_to, ended_by, given, outcome_of}
 use Rattle.vdcp_auto.specs.declared.exchange.Exchange.{Exchange}
 use Rattle.vdcp_auto.specs.declared.exchange.Heard.{Heard}
 use Rattle.vdcp_journal.specs.declared.faults.ResumeFault.{ResumeFault}

@@ -4,7 +4,6 @@ use Rattle.hex.specs.Hex.{encode_lower}
 use Rattle.std.specs.Io.KnownBytes.{Appends}
 use Rattle.std.specs.Prelude.{ℕ, Bool, true, false, Option, List, [], ◌∷◌, ◌++◌, codes, decimal, map, take}
 use Rattle.std.specs.List.{flat_map}
-use Rattle.vdcp_auto.specs.declared.exchange.Heard.{Heard}
 use Rattle.vdcp_auto.specs.declared.exchange.Heard.TheVariants as heard
 use Rattle.vdcp_auto.specs.declared.outcome.Outcome.{Outcome}
 use Rattle.vdcp_auto.specs.declared.outcome.Outcome.TheVariants.{Done, Stopped, Lost, Denied, Missing, Refused, Foreign, Strange}
@@ -15,8 +14,8 @@ use Rattle.vdcp_journal.specs.declared.row.Heading.{Heading}
 use Rattle.vdcp_journal.specs.declared.row.Note.{Note}
 use Rattle.vdcp_journal.specs.declared.row.Note.TheVariants as note
 use Rattle.vdcp_journal.specs.declared.row.Row.{Row}
-use Rattle.vdcp_words.specs.Commands.{command_message, IsWritableCommand}
-use Rattle.vdcp_words.specs.Replies.{reply_message, IsWritableReply}
+use Rattle.vdcp_words.specs.Commands.{command_message}
+use Rattle.vdcp_words.specs.Replies.{reply_message}
 use Rattle.vdcp_words.specs.Texts.{command_text, reply_text}
 
 -- the fields of a row, each a text

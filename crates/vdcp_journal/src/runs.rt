@@ -1,5 +1,5 @@
-ghost use Rattle.std.specs.Prelude.{◌≡◌, ◌≤◌, ◌×◌, All, IfOk, length, map};
-ghost use Rattle.vdcp_journal.specs.Runs.{has_stop, run_at, runs_of, sends_stop};
+ghost use Rattle.std.specs.Prelude.{◌≡◌, ◌≤◌, All, IfOk, length, map};
+ghost use Rattle.vdcp_journal.specs.Runs.{begins_at, has_stop, run_at, runs_of, sends_stop};
 
 use crate::row::{Note, Row};
 use std::alloc::{AllocError, Global};
@@ -29,19 +29,30 @@ pub fn runs_in(alloc: Global, rows: &[Row]) -> Result<Vec<JournalRun>, AllocErro
         end: 0,
     };
     for k in 0..rows.len() {
-        if let Note::From(event) = rows[k].note {
-            runs.push(run)?;
-            run = JournalRun {
-                from: event,
-                begin: k + 1,
-                end: k + 1,
-            };
-        } else {
-            run.end = k + 1;
+        match begins_at(&rows[k].note) {
+            Some(event) => {
+                runs.push(run)?;
+                run = JournalRun {
+                    from: event,
+                    begin: k + 1,
+                    end: k + 1,
+                };
+            }
+            None => run.end = k + 1,
         }
     }
     runs.push(run)?;
     Ok(runs)
+}
+
+/// The event with which a run begins after this note, if one does.
+fn begins_at(note: &Note) -> Option<usize>
+    ensures { result ≡ begins_at note.now }
+{
+    match note {
+        Note::From(event) => Some(*event),
+        _ => None,
+    }
 }
 
 /// Whether a STOP went out by these rows.

@@ -1,4 +1,3 @@
-use Rattle.std.proofs.Common.{◌≡◌, sym}
 use Rattle.vdcp_journal.proofs.digest.digest_of.Goals as goal
 
 pub returns-in-Ok-clause-unlawful : goal.returns-in-Ok-clause-unlawful

@@ -1,5 +1,4 @@
-use Rattle.std.proofs.Common.{length, ◌≡◌, IfNone, IfSome, IsFalse, IsTrue, Some, ℕ, ◌+◌, ◌-◌, ◌*◌, ◌<◌, ◌≤◌}
-use Rattle.vdcp_journal.specs.Moments.{fits_place, has_form, is_moment}
+use Rattle.std.proofs.Common.{length}
 use Rattle.vdcp_journal.proofs.moment.+has_form.Given as goal
 
 -- proposed from what the function passes where it calls itself

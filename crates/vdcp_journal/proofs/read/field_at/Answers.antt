@@ -1,5 +1,5 @@
 use Rattle.csv.specs.Records.{fields_of}
-use Rattle.std.proofs.Common.{◌≡◌, sym, ap, ◌∙◌, Bor, List, ℕ}
+use Rattle.std.proofs.Common.{sym, ap, ◌∙◌}
 use Rattle.std.specs.Prelude.{is_some, option_map}
 use Rattle.vdcp_journal.proofs.JournalRows.{at-is, at-some, some-before}
 use Rattle.vdcp_journal.proofs.read.field_at.Goals as goal

@@ -1,4 +1,4 @@
-use Rattle.std.proofs.Common.{◌≡◌, sym, ap, ◌∙◌, arith}
+use Rattle.std.proofs.Common.{◌≡◌, ◌∙◌, arith}
 use Rattle.std.specs.Prelude.{codes}
 use Rattle.vdcp_journal.proofs.HexTexts.{same_unless}
 use Rattle.vdcp_journal.proofs.read.heading_of.Goals as goal

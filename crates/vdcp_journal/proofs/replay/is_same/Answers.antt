@@ -1,4 +1,4 @@
-use Rattle.std.proofs.Common.{◌≡◌, true, ap, sym, ◌∙◌, arith, rules}
+use Rattle.std.proofs.Common.{ap, sym, ◌∙◌, arith}
 use Rattle.std.specs.Cmp.Lexicographic.{bytes_decides, same_text}
 use Rattle.vdcp_frame.specs.Message.{spelling}
 use Rattle.vdcp_words.specs.Commands.{command_message}

@@ -1,10 +1,9 @@
-use Rattle.std.proofs.Common.{◌≡◌, ◌<◌, length, take, get_or, true, false, Some, refl, ap, sym, subst, ◌∙◌, arith}
-use Rattle.std.specs.Prelude.{slice_get}
+use Rattle.std.proofs.Common.{◌<◌, length, take, get_or, true, false, refl, sym, arith}
 use Rattle.vdcp_auto.specs.Plan.{plan_of}
 use Rattle.vdcp_auto.specs.Turn.{start}
 use Rattle.vdcp_journal.proofs.Told.{after_front, at_place, told_front}
 use Rattle.vdcp_journal.proofs.replay.resume.Goals as goal
-use Rattle.vdcp_journal.specs.Resume.{Tells, after_call_if, after_rows, call_of}
+use Rattle.vdcp_journal.specs.Resume.{Tells, after_rows}
 
 pub returns-then-not-goes_on-clause-refused : goal.returns-then-not-goes_on-clause-refused
 returns-then-not-goes_on-clause-refused g c =

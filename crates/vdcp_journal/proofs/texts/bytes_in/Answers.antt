@@ -1,4 +1,4 @@
-use Rattle.std.proofs.Common.{◌≡◌, ◌≤◌, sym, ap, subst, ◌∙◌, arith, length}
+use Rattle.std.proofs.Common.{◌≤◌, sym, ap, ◌∙◌, arith, length}
 use Rattle.std.specs.Prelude.{Some}
 use Rattle.vdcp_journal.proofs.HexTexts.{half, no_error, read_back, room_for}
 use Rattle.vdcp_journal.proofs.texts.bytes_in.Goals as goal

@@ -1,4 +1,4 @@
-use Rattle.std.proofs.Common.{◌≡◌, sym, ap, ◌∙◌}
+use Rattle.std.proofs.Common.{◌≡◌, ap, ◌∙◌}
 use Rattle.std.specs.Result.{result_ok}
 use Rattle.vdcp_frame.specs.Message.{content_of}
 use Rattle.vdcp_words.specs.Commands.{command_message}

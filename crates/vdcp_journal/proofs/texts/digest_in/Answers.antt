@@ -1,5 +1,5 @@
 use Rattle.hex.specs.Hex.{encode_lower}
-use Rattle.std.proofs.Common.{◌≡◌, sym, ap, ◌∙◌, length, rules, arith}
+use Rattle.std.proofs.Common.{◌≡◌, sym, ap, ◌∙◌, length, rules}
 use Rattle.std.specs.Prelude.{Some}
 use Rattle.vdcp_journal.proofs.HexTexts.{differ, no_error, read_back}
 use Rattle.vdcp_journal.proofs.texts.digest_in.Goals as goal

@@ -1,4 +1,3 @@
-use Rattle.std.proofs.Common.{◌≡◌, ◌<◌, arith}
 use Rattle.vdcp_journal.proofs.HexTexts.{all_below}
 use Rattle.vdcp_journal.proofs.texts.digits_of.Goals as goal
 

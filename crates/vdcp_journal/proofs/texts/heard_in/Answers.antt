@@ -1,7 +1,6 @@
-use Rattle.std.proofs.Common.{◌≡◌, ℕ, List, [], ◌∷◌, length, sym, ap, ◌∙◌, refl}
+use Rattle.std.proofs.Common.{◌≡◌, length, sym, ap, ◌∙◌}
 use Rattle.std.proofs.lemmas.Bool.{eqb-true}
-use Rattle.std.specs.Prelude.{Some, Option}
-use Rattle.vdcp_auto.specs.declared.exchange.Heard.{Heard}
+use Rattle.std.specs.Prelude.{Some}
 use Rattle.vdcp_journal.proofs.FieldTexts.{heard_other}
 use Rattle.vdcp_journal.proofs.texts.heard_in.Goals as goal
 

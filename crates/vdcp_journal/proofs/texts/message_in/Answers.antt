@@ -1,7 +1,6 @@
-use Rattle.std.proofs.Common.{◌≡◌, ◌∷◌, [], sym, ap, subst, ◌∙◌, arith, List, refl, take}
-use Rattle.std.specs.Prelude.{Some}
-use Rattle.vdcp_frame.specs.Message.{Content, spelling}
-use Rattle.vdcp_frame.specs.Reading.{End, Reads}
+use Rattle.std.proofs.Common.{◌≡◌, [], subst, refl}
+use Rattle.vdcp_frame.specs.Message.{spelling}
+use Rattle.vdcp_frame.specs.Reading.{Reads}
 use Rattle.vdcp_journal.proofs.Messages.{ended, not_message}
 use Rattle.vdcp_journal.proofs.texts.message_in.Goals as goal
 

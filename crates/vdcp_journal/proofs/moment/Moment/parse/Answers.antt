@@ -1,4 +1,4 @@
-use Rattle.std.proofs.Common.{◌≡◌, true, ap, sym, ◌∙◌, arith, length}
+use Rattle.std.proofs.Common.{◌≡◌, true, ap, sym, ◌∙◌, arith}
 use Rattle.std.specs.Prelude.{Some, codes}
 use Rattle.vdcp_journal.proofs.Moments.{form_size, same_moment}
 use Rattle.vdcp_journal.proofs.moment.Moment.parse.Goals as goal
