@@ -371,7 +371,8 @@ fn open_again<'a>(alloc: Global) -> Result<Arg<'a>, AllocError> {
         .help(
             "With --resume, after the server was lost: a new run, from the first event that can't have aired",
         )
-        .requires_arg("resume")
+        .requires_arg("resume")?
+        .conflicts_with("journal")
 }
 
 fn log<'a>(alloc: Global, help: &'a str) -> Arg<'a> {

@@ -24,7 +24,7 @@ use Rattle.vdcp_record.specs.Resuming as resuming
 use Rattle.vdcp_record.specs.Resuming.{IsOpenedAgain, IsReplayed, plan_of_run, state_after}
 use Rattle.vdcp_text.specs.declared.failure.Failure.{Failure}
 use Rattle.vdcp_net.proofs.Ends.{EndedWith, ended_unneeded, ends_in_list, unneeded_ended}
-use Rattle.vdcp_net.specs.Run.{BeginsAgainFrom, BeginsAt, ComesTo, GoesOnFrom, IsEndOf, IsRunOf, heading_for, line_end_of, outcome_in_list, plan_for}
+use Rattle.vdcp_net.specs.Run.{BeginsAgainFrom, BeginsAt, ComesTo, GoesOnFrom, IsEndOf, IsRunOf, first_event, heading_for, line_end_of, outcome_in_list, plan_for}
 use Rattle.vdcp_net.specs.declared.keeping.RunJournal.{RunJournal}
 use Rattle.vdcp_net.specs.declared.keeping.RunJournal.TheVariants as journals
 use Rattle.vdcp_net.specs.declared.run.LineEnd.{LineEnd}
@@ -217,12 +217,14 @@ pub new_run_if : {S : Type 0} (items : S → List Item) (source : S) (settings :
     (from : ℕ)
     → rest ≡ record { source = source; from = from }
     → controller ≡ new_controller rest (mode_of settings.confirm) settings.port settings.limit
-    → 1 ≤ settings.limit → settings.limit ≤ 1000 → from ≤ length (items source)
-    → BeginsAt settings (items source) journal from → IfOk result (ComesTo items controller)
-    → IfOk result (IsRunOf settings (items source) journal)
-new_run_if items source settings journal rest controller (Ok end) from is made some few within begins came =
-    new_run items source settings journal rest controller end from is made some few within begins came
-new_run_if items source settings journal rest controller (Err failure) from is made some few within begins came = tt
+    → 1 ≤ settings.limit → settings.limit ≤ 1000 → first_event settings.from ≤ length (items source)
+    → from ≡ first_event settings.from → BeginsAt settings (items source) journal from
+    → IfOk result (ComesTo items controller) → IfOk result (IsRunOf settings (items source) journal)
+new_run_if items source settings journal rest controller (Ok end) from is made some few listed first begins came =
+    new_run items source settings journal rest controller end from is made some few
+    (subst (λ (event : ℕ). event ≤ length (items source)) (sym first) listed) begins came
+new_run_if items source settings journal rest controller (Err failure) from is made some few listed first begins came =
+    tt
 
 -- it goes on from the last run of a journal
 replayed_run : {S : Type 0} (items : S → List Item) (source : S) (settings : RunSettings) (journal : Option RunJournal)

@@ -1,7 +1,7 @@
 //! Runs with a journal: a new one, or one that is gone on with.
 ghost use Rattle.std.specs.Prelude.{◌≡◌, ◌⊎◌, ◌≤◌, ◌↔◌, IfErr, IfOk, IsSome, None, Some, length};
 ghost use Rattle.vdcp_auto.specs.Turn as turns;
-ghost use Rattle.vdcp_net.specs.Run.{ComesTo, GoesOn, IsBegunAgain, IsJournalOf, IsRunOf, IsUnkept, MayBeUnkept, MayBeUnwritten};
+ghost use Rattle.vdcp_net.specs.Run.{ComesTo, IsJournalOf, IsRunOf, IsUnkept, MayBeUnkept, MayBeUnwritten};
 ghost use Rattle.vdcp_net.specs.Run.{first_event, heading_for, name_of};
 
 use super::{LineEnd, RunEnd, RunSettings, Showing, ended, first_event, new_controller, play_at};
