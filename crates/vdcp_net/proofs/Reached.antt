@@ -123,7 +123,7 @@ comes_to items told failures listens controller old new answer end same left lin
 -- who has ended has ended with the number that its event has in the list, too
 pub in_list_some : (from : ℕ) (outcome : Option Outcome) → IsSome outcome → IsSome (outcome_in_list from outcome)
 in_list_some from None some = some
-in_list_some from (Some outcome) some = tt
+in_list_some from (Some outcome) some = some
 
 -- a run has ended before its controller's first command
 pub unbegun_comes_to : {S : Type 0} (items : S → List Item) (controller : View (FromEvent S)) (end : RunEnd)
@@ -183,13 +183,13 @@ has_ended recorder (Some outcome) h none = cc
 -- ---- a run that came to an end, by where its controller comes from
 
 -- a controller of the rest of a list, and a state that it was led to
-run_of : {S : Type 0} (items : S → List Item) (source : S) (settings : RunSettings) (journal : Option RunJournal)
+run_of : {S : Type 0} (items : S → List Item) (list : List Item) (settings : RunSettings) (journal : Option RunJournal)
     (controller : View (FromEvent S)) (end : RunEnd) (from : ℕ) (log : List Exchange)
-    → BeginsAt settings (items source) journal from → from ≤ length (items source)
-    → plan_of (items_left items) controller ≡ plan_for settings (drop from (items source))
+    → BeginsAt settings list journal from → from ≤ length list
+    → plan_of (items_left items) controller ≡ plan_for settings (drop from list)
     → controller.source.from ≡ from → Reached (plan_of (items_left items) controller) controller.state log
-    → ComesTo items controller end → IsRunOf settings (items source) journal end
-run_of items source settings journal controller end from log begins within plan_is is reached came = record {
+    → ComesTo items controller end → IsRunOf settings list journal end
+run_of items list settings journal controller end from log begins within plan_is is reached came = record {
   from = from;
   begins = begins;
   within = within;
@@ -209,7 +209,7 @@ new_run {S} items source settings journal rest controller end from is made some 
     let new = λ (r : FromEvent S). new_controller r (mode_of settings.confirm) settings.port settings.limit in
     let first : FromEvent S = record { source = source; from = from } in
     let made : controller ≡ new first = made ∙ ap new is in
-    run_of items source settings journal (new first) end from [] begins within refl refl (begun some few)
+    run_of items (items source) settings journal (new first) end from [] begins within refl refl (begun some few)
     (subst (λ (v : View (FromEvent S)). ComesTo items v end) made came)
 
 pub new_run_if : {S : Type 0} (items : S → List Item) (source : S) (settings : RunSettings)
@@ -227,33 +227,33 @@ new_run_if items source settings journal rest controller (Err failure) from is m
     tt
 
 -- it goes on from the last run of a journal
-replayed_run : {S : Type 0} (items : S → List Item) (source : S) (settings : RunSettings) (journal : Option RunJournal)
+replayed_run : {S : Type 0} (items : S → List Item) (list : List Item) (settings : RunSettings) (journal : Option RunJournal)
     (controller : View (FromEvent S)) (end : RunEnd) (bytes : List ℕ) (run : Run) (whole : ℕ)
     → 1 ≤ settings.limit → settings.limit ≤ 1000
-    → IsReplayed (items source) (heading_for settings (items source)) bytes run (plan_of (items_left items) controller)
+    → IsReplayed list (heading_for settings list) bytes run (plan_of (items_left items) controller)
     controller.state whole
-    → controller.source.from ≡ run.from → BeginsAt settings (items source) journal run.from
-    → ComesTo items controller end → IsRunOf settings (items source) journal end
-replayed_run items source settings journal controller end bytes run whole some few replayed is begins came =
-    let heading : Heading = heading_for settings (items source) in
+    → controller.source.from ≡ run.from → BeginsAt settings list journal run.from
+    → ComesTo items controller end → IsRunOf settings list journal end
+replayed_run items list settings journal controller end bytes run whole some few replayed is begins came =
+    let heading : Heading = heading_for settings list in
     let resumed = replayed.resumes in
-    let reached = reached_after (plan_of_run heading (items source) run) (plan_of (items_left items) controller)
+    let reached = reached_after (plan_of_run heading list run) (plan_of (items_left items) controller)
     controller.state run.rows some few resumed.plan_is resumed.state_is in
-    run_of items source settings journal controller end run.from reached.0 begins replayed.within resumed.plan_is is
+    run_of items list settings journal controller end run.from reached.0 begins replayed.within resumed.plan_is is
     reached.1 came
 
-pub resumed_run_if : {S : Type 0} (items : S → List Item) (source : S) (settings : RunSettings) (name : Bor (List ℕ))
+pub resumed_run_if : {S : Type 0} (items : S → List Item) (list : List Item) (settings : RunSettings) (name : Bor (List ℕ))
     (heading : Heading) (controller : View (FromEvent S)) (result : Result RunEnd Failure) (bytes : List ℕ) (run : Run)
     (whole : ℕ)
-    → 1 ≤ settings.limit → settings.limit ≤ 1000 → heading ≡ heading_for settings (items source)
-    → IsReplayed (items source) heading bytes run (plan_of (items_left items) controller) controller.state whole
+    → 1 ≤ settings.limit → settings.limit ≤ 1000 → heading ≡ heading_for settings list
+    → IsReplayed list heading bytes run (plan_of (items_left items) controller) controller.state whole
     → controller.source.from ≡ run.from → IfOk result (ComesTo items controller)
-    → IfOk result (IsRunOf settings (items source) (Some (journals.Older name)))
-resumed_run_if items source settings name heading controller (Ok end) bytes run whole some few of replayed is came =
+    → IfOk result (IsRunOf settings list (Some (journals.Older name)))
+resumed_run_if items list settings name heading controller (Ok end) bytes run whole some few of replayed is came =
     let plan : Plan = plan_of (items_left items) controller in
-    let replayed = subst (λ (h : Heading). IsReplayed (items source) h bytes run plan controller.state whole) of
+    let replayed = subst (λ (h : Heading). IsReplayed list h bytes run plan controller.state whole) of
     replayed in
-    let goes : GoesOnFrom settings (items source) run.from = record {
+    let goes : GoesOnFrom settings list run.from = record {
       bytes = bytes;
       run = run;
       plan = plan;
@@ -262,60 +262,71 @@ resumed_run_if items source settings name heading controller (Ok end) bytes run 
       replayed = replayed;
       from_is = refl;
     } in
-    replayed_run items source settings (Some (journals.Older name)) controller end bytes run whole some few replayed is
+    replayed_run items list settings (Some (journals.Older name)) controller end bytes run whole some few replayed is
     goes came
-resumed_run_if items source settings name heading controller (Err failure) bytes run whole some few of replayed is
+resumed_run_if items list settings name heading controller (Err failure) bytes run whole some few of replayed is
     came = tt
 
 -- it begins after the last run of a journal, or tells that run's end again
-opened_so : {S : Type 0} (items : S → List Item) (source : S) (settings : RunSettings) (name : Bor (List ℕ))
+opened_so : {S : Type 0} (items : S → List Item) (list : List Item) (settings : RunSettings) (name : Bor (List ℕ))
     (controller : View (FromEvent S)) (end : RunEnd)
-    → 1 ≤ settings.limit → settings.limit ≤ 1000 → BeginsAgainFrom settings (items source) controller.source.from
-    → IsOpenedAgain (items source) (heading_for settings (items source)) settings.from controller.source.from
+    → 1 ≤ settings.limit → settings.limit ≤ 1000 → BeginsAgainFrom settings list controller.source.from
+    → IsOpenedAgain list (heading_for settings list) settings.from controller.source.from
     (plan_of (items_left items) controller) controller.state
-    → ComesTo items controller end → IsRunOf settings (items source) (Some (journals.Again name)) end
-opened_so items source settings name controller end some few begins
+    → ComesTo items controller end → IsRunOf settings list (Some (journals.Again name)) end
+opened_so items list settings name controller end some few begins
     (resuming.begins bytes run ended state whole replayed within after plan_is state_is) came =
-    let plan : Plan = plan_for settings (drop controller.source.from (items source)) in
+    let plan : Plan = plan_for settings (drop controller.source.from list) in
     let new : Reached plan start [] = begun some few in
-    run_of items source settings (Some (journals.Again name)) controller end controller.source.from [] begins within
+    run_of items list settings (Some (journals.Again name)) controller end controller.source.from [] begins within
     plan_is refl
     (subst (λ (p : Plan). Reached p controller.state []) (sym plan_is)
         (subst (λ (s : State). Reached plan s []) (sym state_is) new))
     came
-opened_so items source settings name controller end some few begins
+opened_so items list settings name controller end some few begins
     (resuming.is_over unsaid bytes run whole replayed from_is over) came =
-    replayed_run items source settings (Some (journals.Again name)) controller end bytes run whole some few replayed
-    from_is (subst (λ (from : ℕ). BeginsAgainFrom settings (items source) from) from_is begins) came
+    replayed_run items list settings (Some (journals.Again name)) controller end bytes run whole some few replayed
+    from_is (subst (λ (from : ℕ). BeginsAgainFrom settings list from) from_is begins) came
 
-opened_run : {S : Type 0} (items : S → List Item) (source : S) (settings : RunSettings) (name : Bor (List ℕ))
+opened_run : {S : Type 0} (items : S → List Item) (list : List Item) (settings : RunSettings) (name : Bor (List ℕ))
     (controller : View (FromEvent S)) (end : RunEnd)
     → 1 ≤ settings.limit → settings.limit ≤ 1000
-    → IsOpenedAgain (items source) (heading_for settings (items source)) settings.from controller.source.from
+    → IsOpenedAgain list (heading_for settings list) settings.from controller.source.from
     (plan_of (items_left items) controller) controller.state
-    → ComesTo items controller end → IsRunOf settings (items source) (Some (journals.Again name)) end
-opened_run items source settings name controller end some few opened came =
-    let begins : BeginsAgainFrom settings (items source) controller.source.from = record {
+    → ComesTo items controller end → IsRunOf settings list (Some (journals.Again name)) end
+opened_run items list settings name controller end some few opened came =
+    let begins : BeginsAgainFrom settings list controller.source.from = record {
       plan = plan_of (items_left items) controller;
       state = controller.state;
       opened = opened;
     } in
-    opened_so items source settings name controller end some few begins opened came
+    opened_so items list settings name controller end some few begins opened came
 
-pub opened_run_if : {S : Type 0} (items : S → List Item) (source : S) (settings : RunSettings) (name : Bor (List ℕ))
+pub opened_run_if : {S : Type 0} (items : S → List Item) (list : List Item) (settings : RunSettings) (name : Bor (List ℕ))
     (heading : Heading) (controller : View (FromEvent S)) (result : Result RunEnd Failure)
-    → 1 ≤ settings.limit → settings.limit ≤ 1000 → heading ≡ heading_for settings (items source)
-    → IsOpenedAgain (items source) heading settings.from controller.source.from
+    → 1 ≤ settings.limit → settings.limit ≤ 1000 → heading ≡ heading_for settings list
+    → IsOpenedAgain list heading settings.from controller.source.from
     (plan_of (items_left items) controller) controller.state
     → IfOk result (ComesTo items controller)
-    → IfOk result (IsRunOf settings (items source) (Some (journals.Again name)))
-opened_run_if items source settings name heading controller (Ok end) some few of opened came =
+    → IfOk result (IsRunOf settings list (Some (journals.Again name)))
+opened_run_if items list settings name heading controller (Ok end) some few of opened came =
     let plan : Plan = plan_of (items_left items) controller in
-    opened_run items source settings name controller end some few
-    (subst (λ (h : Heading). IsOpenedAgain (items source) h settings.from controller.source.from plan controller.state)
+    opened_run items list settings name controller end some few
+    (subst (λ (h : Heading). IsOpenedAgain list h settings.from controller.source.from plan controller.state)
         of opened)
     came
-opened_run_if items source settings name heading controller (Err failure) some few of opened came = tt
+opened_run_if items list settings name heading controller (Err failure) some few of opened came = tt
+
+-- it plays a list that is lent
+pub opened_lent_if : {S : Type 0} (items : S → List Item) (list : List Item) (settings : RunSettings)
+    (name : Bor (List ℕ)) (heading : Heading) (controller : View (FromEvent (Bor S))) (result : Result RunEnd Failure)
+    → 1 ≤ settings.limit → settings.limit ≤ 1000 → heading ≡ heading_for settings list
+    → IsOpenedAgain list heading settings.from controller.source.from
+    (plan_of (items_left (λ (s : Bor S). items s.now)) controller) controller.state
+    → IfOk result (ComesTo (λ (s : Bor S). items s.now) controller)
+    → IfOk result (IsRunOf settings list (Some (journals.Again name)))
+opened_lent_if {S} items list settings name heading controller result some few of opened came =
+    opened_run_if (λ (s : Bor S). items s.now) list settings name heading controller result some few of opened came
 
 -- a line that isn't needed is none where a command wasn't kept
 pub not_unkept : (line : LineEnd) → line ≡ line_end.Unneeded → ¬ (line ≡ line_end.Unkept)
