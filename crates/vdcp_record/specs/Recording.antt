@@ -15,7 +15,6 @@ use Rattle.vdcp_record.specs.declared.pending.RecordFault.{RecordFault}
 use Rattle.vdcp_record.specs.declared.pending.RecordFault.TheVariants as fault
 use Rattle.vdcp_text.specs.declared.failure.Failure.{Failure}
 use Rattle.vdcp_text.specs.declared.failure.Failure.TheVariants as failures
-use Rattle.vdcp_words.specs.declared.command.Command.{Command}
 
 -- a recorder: the journal's name, the unit of its server, its file, and what is still to be written
 pub record Recording (F : Type 0) : Type 0 where

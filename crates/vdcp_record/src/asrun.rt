@@ -1,21 +1,19 @@
 ghost use Rattle.std.specs.Io.KnownBytes.{Appends, Keeps};
-ghost use Rattle.std.specs.Prelude.{◌≡◌, ◌≢◌, ◌⊎◌, ◌≤◌, ◌<◌, IfErr, IfOk, OnOk, length};
-ghost use Rattle.vdcp_auto.specs.Turn.{new_controller};
+ghost use Rattle.std.specs.Prelude.{◌≡◌, ◌≢◌, ◌⊎◌, ◌≤◌, ◌<◌, ◌+◌, ◌^◌, ◌++◌, ℕ, List, [], IfErr, IfOk, IfSome, OnOk, length};
 ghost use Rattle.vdcp_files.specs.Files.{file};
-ghost use Rattle.vdcp_files.specs.Mode.{mode_of};
-ghost use Rattle.vdcp_list.specs.declared.faults.WriteFault.TheVariants.{Device};
-ghost use Rattle.vdcp_record.specs.Showing.{IsShown, IsShownAndTold, IsToldOnly, ShowsRows, digest_of, event_told, printed_text, wanted_event};
+ghost use Rattle.vdcp_journal.specs.Runs.{run_at, runs_of};
+ghost use Rattle.vdcp_record.specs.Showing.{IsShown, IsShownAndTold, IsToldOnly, ShowRuns, ShowsRows, ShowsRun, digest_of, event_told, heading_text, reported_text};
 ghost use Rattle.vdcp_text.specs.Failure.{status_of};
 ghost use Rattle.vdcp_text.specs.declared.failure.Failure.TheVariants as failures;
 
-use crate::reading::{journal_in, resumed};
+use crate::reading::{journal_in, run_resumed};
 use crate::resume::read_to_end;
 use std::alloc::Global;
-use std::io;
-use vdcp_auto::{Controller, Source};
+use std::io::{self, Write};
+use vdcp_auto::Source;
 use vdcp_files::NamedFile;
-use vdcp_journal::{Airing, Heading, Journal, airings_in, digest_of};
-use vdcp_list::{WriteFault, write_asrun, write_timed};
+use vdcp_journal::{Airing, Heading, Journal, JournalRun, airings_in, digest_of, runs_in};
+use vdcp_list::{write_events, write_timed_events, write_timed_heading};
 use vdcp_text::{Failure, JournalFault};
 use vdcp_value::Rate;
 
@@ -26,16 +24,16 @@ pub struct AsrunSettings {
     pub rate: Rate,
     /// The list says of each event when it aired.
     pub times: bool,
-    /// The event that may have aired though it isn't reported is told.
+    /// The events that may have aired though they aren't reported are told.
     pub may_have_aired: bool,
 }
 
-/// Prints the as-run list that a journal of this list shows: the events that the controller reports to which the
-/// journal's rows were given, and the times of each if they are wanted. A torn last row counts as none.
+/// Prints the as-run list that a journal of this list shows: run by run, the events that the controller reports to which
+/// the run's rows were given, and the times of each if they are wanted. A torn last row counts as none.
 ///
 /// The status is 0 where it is printed, 1 where a row of the list or of the journal is refused, and 3 where a file
 /// can't be read, memory was refused or a writer failed. The list is read first. Where it isn't 0, `err` gets one
-/// line, unless it was a writer that failed. Where it is 0, `err` gets a line if an event is to be told.
+/// line, unless it was a writer that failed. Where it is 0, `err` gets a line for each event that is to be told.
 pub fn do_asrun<J: io::Read + Drop, L: io::Read + Drop, W: io::Write, E: io::Write>(
     alloc: Global,
     journal: NamedFile<'_, J>,
@@ -52,35 +50,33 @@ pub fn do_asrun<J: io::Read + Drop, L: io::Read + Drop, W: io::Write, E: io::Wri
     ensures statuses { (result < 2) ⊎ (result ≡ 3) }
 {
     match print_asrun(alloc, journal, list, settings, out) {
-        Ok(event) => tell_event(event, err),
+        Ok(told) => tell(told.as_slice(), err),
         Err(failure) => failure.report(err),
     }
 }
 
-// Tells of the event that may have aired, if there is one, and gives the status.
-fn tell_event<E: io::Write>(event: Option<usize>, err: &mut E) -> u8
-    ensures told { result ≡ 0 → Appends (E.contents err.old) (E.contents err.new) (event_told event) }
+// Tells of the events that may have aired, and gives the status.
+fn tell<E: io::Write>(told: &[u8], err: &mut E) -> u8
+    ensures told { result ≡ 0 → Appends (E.contents err.old) (E.contents err.new) told.now }
     ensures statuses { (result ≡ 0) ⊎ (result ≡ 3) }
 {
-    let Some(k) = event else {
-        return 0;
-    };
-    match writeln!(err, "vdcp: event {k} may have aired") {
+    match err.write_all(told) {
         Ok(()) => 0,
         Err(_) => 3,
     }
 }
 
-// Prints the list, and gives the event that is to be told.
+// Prints the list, and gives what is to be told.
 fn print_asrun<'a, J: io::Read + Drop, L: io::Read + Drop, W: io::Write>(
     alloc: Global,
     journal: NamedFile<'a, J>,
     list: NamedFile<'a, L>,
     settings: AsrunSettings,
     out: &mut W,
-) -> Result<Option<usize>, Failure<'a>>
-    ensures shown { IfOk result (IsShown settings (file list.entry.name (L.remaining list.entry.reader))
-        (file journal.entry.name (J.remaining journal.entry.reader)) (W.contents out.old) (W.contents out.new)) }
+) -> Result<Vec<u8>, Failure<'a>>
+    ensures shown { IfOk result (λ told. IsShown settings (file list.entry.name (L.remaining list.entry.reader))
+        (file journal.entry.name (J.remaining journal.entry.reader)) (W.contents out.old) (W.contents out.new)
+        told.items) }
     ensures silent { IfErr result (λ f. f ≢ failures.Writer → Keeps (W.contents out.old) (W.contents out.new)) }
     ensures statuses { IfErr result (λ f. status_of f ≢ 2) }
 {
@@ -89,43 +85,186 @@ fn print_asrun<'a, J: io::Read + Drop, L: io::Read + Drop, W: io::Write>(
     let mut bytes = Vec::new(alloc);
     read_to_end(name, &mut reader, &mut bytes)?;
     let journal = journal_in(alloc, name, bytes.as_slice())?;
-    print_rows(alloc, name, &journal, events, settings, out)
+    print_rows(alloc, name, &journal, &events, settings, out)
 }
 
-// Prints what the rows of a journal show, if it is one of these events, and gives the event that is to be told.
-fn print_rows<'a, S: Source + Drop, W: io::Write>(
+// Prints what the rows of a journal show, if it is one of these events, and gives what is to be told.
+fn print_rows<'a, S: Source, W: io::Write>(
     alloc: Global,
     name: &'a str,
     journal: &Journal,
-    events: S,
+    events: &S,
     settings: AsrunSettings,
     out: &mut W,
-) -> Result<Option<usize>, Failure<'a>>
-    ensures shown { IfOk result (ShowsRows settings (S.items events) journal.now.heading journal.now.rows.items
-        (W.contents out.old) (W.contents out.new)) }
+) -> Result<Vec<u8>, Failure<'a>>
+    ensures shown { IfOk result (λ told. ShowsRows settings (S.items events.now) journal.now.heading
+        journal.now.rows.items (W.contents out.old) (W.contents out.new) told.items) }
     ensures silent { IfErr result (λ f. f ≢ failures.Writer → Keeps (W.contents out.old) (W.contents out.new)) }
     ensures statuses { IfErr result (λ f. status_of f ≢ 2) }
 {
-    expect_list(alloc, name, &events, settings.rate, &journal.heading)?;
+    expect_list(alloc, name, events, settings.rate, &journal.heading)?;
     expect_limit(name, &journal.heading)?;
-    let controller = controller_of(events, &journal.heading);
-    let resumed = resumed(name, controller, journal.rows.as_slice())?;
-    let found = airings_in(alloc, &resumed.controller, journal.rows.as_slice())?;
-    print(
-        alloc,
-        &resumed.controller,
-        found.airings.as_slice(),
-        settings,
-        out,
-    )?;
-    Ok(wanted_event(settings, found.open))
+    let mut shown = Shown::new(alloc);
+    add_heading(alloc, events, settings, &mut shown.text)?;
+    add_runs(alloc, name, journal, events, settings, &mut shown)?;
+    let Shown { text, told } = shown;
+    write_out(text.as_slice(), out)?;
+    Ok(told)
 }
 
-// The event that may have aired, if it is wanted.
-fn wanted_event(settings: AsrunSettings, event: Option<usize>) -> Option<usize>
-    ensures { result ≡ wanted_event settings.may_have_aired event }
+// What is printed of a journal.
+#[derive(Drop)]
+struct Shown {
+    text: Vec<u8>,
+    // What is told of the events that may have aired.
+    told: Vec<u8>,
+}
+
+impl Shown {
+    fn new(alloc: Global) -> Shown
+        ensures text { result.text.items ≡ [] }
+        ensures told { result.told.items ≡ [] }
+    {
+        Shown {
+            text: Vec::new(alloc),
+            told: Vec::new(alloc),
+        }
+    }
+}
+
+// Writes a text and flushes the writer.
+fn write_out<'a, W: io::Write>(text: &[u8], out: &mut W) -> Result<(), Failure<'a>>
+    ensures written { OnOk result (Appends (W.contents out.old) (W.contents out.new) text.now) }
+    ensures failed { IfErr result (λ f. f ≡ failures.Writer) }
 {
-    if settings.may_have_aired { event } else { None }
+    if out.write_all(text).is_err() || out.flush().is_err() {
+        return Err(Failure::Writer);
+    }
+    Ok(())
+}
+
+// Adds what stands above the rows.
+fn add_heading<'a, S: Source>(
+    alloc: Global,
+    events: &S,
+    settings: AsrunSettings,
+    text: &mut Vec<u8>,
+) -> Result<(), Failure<'a>>
+    ensures text { OnOk result (text.new.items ≡ text.old.items ++ heading_text settings (S.items events.now)) }
+    ensures memory { IfErr result (λ f. f ≡ failures.Memory) }
+{
+    if !settings.times {
+        return Ok(());
+    }
+    match write_timed_heading(alloc, events, text) {
+        Ok(()) => Ok(()),
+        Err(_) => Err(Failure::Memory),
+    }
+}
+
+// Adds what the runs of a journal show.
+fn add_runs<'a, S: Source>(
+    alloc: Global,
+    name: &'a str,
+    journal: &Journal,
+    events: &S,
+    settings: AsrunSettings,
+    shown: &mut Shown,
+) -> Result<(), Failure<'a>>
+    requires some { 1 ≤ journal.now.heading.limit }
+    requires few { journal.now.heading.limit ≤ 1000 }
+    ensures shown { OnOk result ((text : List ℕ) × (told : List ℕ)
+        × ShowRuns settings (S.items events.now) journal.now.heading (runs_of journal.now.rows.items) text told
+        × (shown.new.text.items ≡ shown.old.text.items ++ text) × (shown.new.told.items ≡ shown.old.told.items ++ told)) }
+    ensures statuses { IfErr result (λ f. (status_of f ≢ 2) × (f ≢ failures.Writer)) }
+{
+    let found = runs_in(alloc, journal.rows.as_slice())?;
+    let runs = found.as_slice();
+    for k in 0..runs.len() {
+        add_run(alloc, name, journal, runs[k], events, settings, shown)?;
+    }
+    Ok(())
+}
+
+// Adds what a run of a journal shows.
+fn add_run<'a, S: Source>(
+    alloc: Global,
+    name: &'a str,
+    journal: &Journal,
+    run: JournalRun,
+    events: &S,
+    settings: AsrunSettings,
+    shown: &mut Shown,
+) -> Result<(), Failure<'a>>
+    requires some { 1 ≤ journal.now.heading.limit }
+    requires few { journal.now.heading.limit ≤ 1000 }
+    requires begin { run.begin ≤ run.«end» }
+    requires within { run.«end» ≤ length journal.now.rows.items }
+    ensures shown { OnOk result ((text : List ℕ) × (told : List ℕ)
+        × ShowsRun settings (S.items events.now) journal.now.heading (run_at journal.now.rows.items run) text told
+        × (shown.new.text.items ≡ shown.old.text.items ++ text) × (shown.new.told.items ≡ shown.old.told.items ++ told)) }
+    ensures statuses { IfErr result (λ f. (status_of f ≢ 2) × (f ≢ failures.Writer)) }
+{
+    let rows = journal.rows.as_slice();
+    let resumed = run_resumed(name, &journal.heading, events, rows, run)?;
+    let found = airings_in(alloc, &resumed.controller, &rows[run.begin..run.end])?;
+    let reported = resumed.controller.settled();
+    let airings = found.airings.as_slice();
+    let text = &mut shown.text;
+    add_reported(alloc, events, run.from, reported, airings, settings, text)?;
+    add_event(settings, run.from, found.open, &mut shown.told)
+}
+
+// Adds the rows of the events from one on that aired then.
+fn add_reported<'a, S: Source>(
+    alloc: Global,
+    events: &S,
+    from: usize,
+    reported: usize,
+    airings: &[Airing],
+    settings: AsrunSettings,
+    text: &mut Vec<u8>,
+) -> Result<(), Failure<'a>>
+    requires one_each { length airings.now ≡ reported }
+    requires listed { from + reported ≤ length (S.items events.now) }
+    ensures text { OnOk result (text.new.items ≡ text.old.items
+        ++ reported_text settings (S.items events.now) from reported airings.now) }
+    ensures memory { IfErr result (λ f. f ≡ failures.Memory) }
+{
+    let AsrunSettings { rate, times, .. } = settings;
+    let added = if times {
+        write_timed_events(alloc, events, rate, from, airings, text)
+    } else {
+        write_events(alloc, events, rate, from, reported, text)
+    };
+    // (the text is written to memory, and each part of a list was read at this rate)
+    match added {
+        Ok(()) => Ok(()),
+        Err(_) => Err(Failure::Memory),
+    }
+}
+
+// Adds what is told of the event that may have aired, if there is one and that is wanted.
+fn add_event<'a>(
+    settings: AsrunSettings,
+    from: usize,
+    event: Option<usize>,
+    told: &mut Vec<u8>,
+) -> Result<(), Failure<'a>>
+    requires { IfSome event (λ k. from + k < 2 ^ 64) }
+    ensures told { OnOk result (told.new.items ≡ told.old.items ++ event_told settings from event) }
+    ensures memory { IfErr result (λ f. f ≡ failures.Memory) }
+{
+    match event {
+        Some(k) if settings.may_have_aired => {
+            let event = from + k;
+            match writeln!(told, "vdcp: event {event} may have aired") {
+                Ok(()) => Ok(()),
+                Err(_) => Err(Failure::Memory),
+            }
+        }
+        _ => Ok(()),
+    }
 }
 
 // Refuses a journal of another list.
@@ -158,59 +297,4 @@ fn expect_limit<'a>(name: &'a str, heading: &Heading) -> Result<(), Failure<'a>>
         return Err(Failure::JournalRow(name, 1, JournalFault::Limit));
     }
     Ok(())
-}
-
-// The new controller of a list, with a journal's settings.
-fn controller_of<S: Source>(events: S, heading: &Heading) -> Controller<S>
-    requires some { 1 ≤ heading.now.limit }
-    requires few { heading.now.limit ≤ 1000 }
-    ensures { result ≡ new_controller events (mode_of heading.now.confirming) heading.now.port heading.now.limit }
-{
-    if heading.confirming {
-        Controller::confirming(events, heading.port, heading.limit)
-    } else {
-        Controller::new(events, heading.port, heading.limit)
-    }
-}
-
-// Writes the events that the controller reports, and their times if these are wanted, and flushes the writer.
-fn print<'a, S: Source, W: io::Write>(
-    alloc: Global,
-    controller: &Controller<S>,
-    airings: &[Airing],
-    settings: AsrunSettings,
-    out: &mut W,
-) -> Result<(), Failure<'a>>
-    requires { length airings.now ≡ controller.now.state.settled }
-    ensures printed { OnOk result (Appends (W.contents out.old) (W.contents out.new)
-        (printed_text settings.times settings.rate (S.items controller.now.source) controller.now.state.settled
-        airings.now)) }
-    ensures silent { IfErr result (λ f. f ≢ failures.Writer → Keeps (W.contents out.old) (W.contents out.new)) }
-    ensures unprinted { IfErr result (λ f. (f ≡ failures.Writer) ⊎ (f ≡ failures.Memory)) }
-{
-    let AsrunSettings { rate, times, .. } = settings;
-    let (source, reported) = (controller.source(), controller.settled());
-    if times {
-        match write_timed(alloc, source, rate, airings, out) {
-            Ok(()) => Ok(()),
-            Err(fault) => Err(failure_of(fault)),
-        }
-    } else {
-        match write_asrun(alloc, source, rate, reported, out) {
-            Ok(()) => Ok(()),
-            Err(fault) => Err(failure_of(fault)),
-        }
-    }
-}
-
-// The failure of a list that isn't written.
-fn failure_of<'a>(fault: WriteFault) -> Failure<'a>
-    ensures device { fault ≡ Device → result ≡ failures.Writer }
-    ensures unprinted { (result ≡ failures.Writer) ⊎ (result ≡ failures.Memory) }
-{
-    match fault {
-        WriteFault::Memory => Failure::Memory,
-        // (each part of a list was read at this rate)
-        WriteFault::Device | WriteFault::Time(_) => Failure::Writer,
-    }
 }

@@ -2,14 +2,16 @@
 //!
 //! `begin_journal` makes a journal's file and gives a `Recorder`, which keeps each command there before it goes out: its
 //! `run` and `run_prompt` run an automation, and `finish` writes what is left. `resume_journal` makes the controller of
-//! a journal anew, and a `Recorder` that appends to it; `replay` does so with a journal's bytes alone. `do_asrun` prints
-//! the as-run list that a journal shows, as its `AsrunSettings` say. Each failure is told in one line.
+//! a journal's last run anew, and a `Recorder` that appends to it; `replay` does so with a journal's bytes alone.
+//! `begin_again` begins a new controller after that run. `do_asrun` prints the as-run list that a journal shows, as its
+//! `AsrunSettings` say. Each failure is told in one line.
 //!
 //! Files: `file` (a file whose bytes are safe once it says so; it is made, opened and locked), `pending` and `recorder`
 //! (what is still to be written; the rows), `begin`, `reading` (a journal's bytes against what is wanted), `resume`,
-//! `asrun` (the subcommand).
+//! `again`, `asrun` (the subcommand).
 #![tactic(auto)]
 
+mod again;
 mod asrun;
 mod begin;
 mod file;
@@ -18,6 +20,7 @@ mod reading;
 mod recorder;
 mod resume;
 
+pub use again::begin_again;
 pub use asrun::{AsrunSettings, do_asrun};
 pub use begin::begin_journal;
 pub use file::{AppendFault, JournalFile};

@@ -1,62 +1,133 @@
 ghost use Rattle.std.specs.Prelude.{◌≡◌, ◌+◌, ◌<◌, ◌≤◌, length, IfErr, IfOk, IfNone, IfSome, OnOk};
 ghost use Rattle.vdcp_auto.specs.Plan.{plan_of};
-ghost use Rattle.vdcp_auto.specs.Turn.{awaited, start};
+ghost use Rattle.vdcp_auto.specs.Turn.{new_controller, start};
+ghost use Rattle.vdcp_files.specs.Mode.{mode_of};
 ghost use Rattle.vdcp_journal.specs.Journals.{IsJournal, IsJournalFault};
 ghost use Rattle.vdcp_journal.specs.Resume.{IsResumeFault};
-ghost use Rattle.vdcp_record.specs.Resuming.{Differs, IsRefused, IsReplayed, IsResumed, place_of, read_failure, row_fault, untold_failure};
+ghost use Rattle.vdcp_journal.specs.Runs.{run_at};
+ghost use Rattle.vdcp_list.specs.Rests.{items_left};
+ghost use Rattle.vdcp_record.specs.Resuming.{Differs, IsLastRun, IsRefused, IsReplayed, IsResumed, IsRunRefused, place_of, plan_of_run, read_failure, row_fault, untold_failure};
 ghost use Rattle.vdcp_journal.specs.declared.faults.JournalReadFault.{JournalReadFault};
 ghost use Rattle.vdcp_journal.specs.declared.faults.ResumeFault.{ResumeFault};
 ghost use Rattle.vdcp_text.specs.declared.failure.JournalFault.{JournalFault};
 ghost use Rattle.vdcp_text.specs.declared.failure.Failure.TheVariants as failures;
 
-use std::alloc::Global;
+use std::alloc::{AllocError, Global};
 use vdcp_auto::{Controller, Source};
 use vdcp_journal::{
-    Heading, Journal, JournalReadFault, JournalRowFault, Note, ResumeFault, Resumed, Row,
-    read_journal, resume,
+    Heading, Journal, JournalReadFault, JournalRowFault, JournalRun, Note, ResumeFault, Resumed,
+    Row, read_journal, resume, runs_in,
 };
+use vdcp_list::Rest;
 use vdcp_text::{Failure, JournalFault};
 use vdcp_words::Command;
 
-/// What goes on from a journal.
+/// What goes on from a journal: its last run.
 #[derive(Drop)]
 pub struct Replayed<S: Source> {
-    pub controller: Controller<S>,
+    pub controller: Controller<Rest<S>>,
     /// The command whose exchange was open, and is timed out now.
     pub open: Option<Command>,
-    /// The last row says how the controller ended.
-    pub is_ended: bool,
+    /// The rows of the journal.
+    pub rows: Vec<Row>,
+    /// The run, by its place among them.
+    pub run: JournalRun,
     /// How many bytes the whole rows are. What follows them is torn.
     pub whole: usize,
 }
 
-/// Gives the rows of a journal, by its bytes, to a new controller, and times out the exchange that was open. Refused
-/// where it is no journal of what is wanted, with the failure of this name.
+/// Gives the rows of the last run of a journal, by its bytes, to a new controller of the list's events from the run's
+/// first on, and times out the exchange that was open. Refused where it is no journal of what is wanted, with the
+/// failure of this name.
 pub fn replay<'a, S: Source + Drop>(
     alloc: Global,
     name: &'a str,
     bytes: &[u8],
     wanted: &Heading,
-    controller: Controller<S>,
+    source: S,
 ) -> Result<Replayed<S>, Failure<'a>>
-    requires new { controller.state ≡ start }
-    requires some { 1 ≤ controller.limit }
-    requires few { controller.limit ≤ 1000 }
-    ensures replayed { IfOk result (λ r. IsReplayed (plan_of S.items controller) wanted.now bytes.now controller
-        r.controller r.whole) }
-    ensures refused { IfErr result (IsRefused (plan_of S.items controller) name.entry wanted.now bytes.now) }
+    requires some { 1 ≤ wanted.now.limit }
+    requires few { wanted.now.limit ≤ 1000 }
+    ensures replayed { IfOk result (λ r. IsReplayed (S.items source) wanted.now bytes.now (run_at r.rows.items r.run)
+        (plan_of (items_left S.items) r.controller) r.controller.state r.whole) }
+    ensures from { IfOk result (λ r. r.controller.source.from ≡ r.run.from) }
+    ensures begin { IfOk result (λ r. r.run.begin ≤ r.run.«end») }
+    ensures within { IfOk result (λ r. r.run.«end» ≤ length r.rows.items) }
+    ensures refused { IfErr result (IsRefused (S.items source) name.entry wanted.now bytes.now) }
 {
     let journal = journal_in(alloc, name, bytes)?;
     if let Some(fault) = difference(&journal.heading, wanted) {
         return Err(Failure::JournalRow(name, 1, fault));
     }
-    let Resumed { controller, open } = resumed(name, controller, journal.rows.as_slice())?;
+    let rows = journal.rows.as_slice();
+    let run = last_run(alloc, rows)?;
+    let Resumed { controller, open } = run_resumed(name, wanted, source, rows, run)?;
     Ok(Replayed {
         controller,
         open,
-        is_ended: has_end(journal.rows.as_slice()),
+        rows: journal.rows,
+        run,
         whole: journal.whole,
     })
+}
+
+// The last run of a journal with these rows.
+fn last_run(alloc: Global, rows: &[Row]) -> Result<JournalRun, AllocError>
+    ensures last { IfOk result (λ run. IsLastRun rows.now (run_at rows.now run)) }
+    ensures begin { IfOk result (λ run. run.begin ≤ run.«end») }
+    ensures within { IfOk result (λ run. run.«end» ≤ length rows.now) }
+{
+    let runs = runs_in(alloc, rows)?;
+    Ok(runs[runs.len() - 1])
+}
+
+/// The controller that the rows of a run make of a new one, of the list's events from the run's first on.
+pub(crate) fn run_resumed<'a, S: Source + Drop>(
+    name: &'a str,
+    heading: &Heading,
+    source: S,
+    rows: &[Row],
+    run: JournalRun,
+) -> Result<Resumed<Rest<S>>, Failure<'a>>
+    requires some { 1 ≤ heading.now.limit }
+    requires few { heading.now.limit ≤ 1000 }
+    requires begin { run.begin ≤ run.«end» }
+    requires within { run.«end» ≤ length rows.now }
+    ensures listed { OnOk result (run.from ≤ length (S.items source)) }
+    ensures from { IfOk result (λ r. r.controller.source.from ≡ run.from) }
+    ensures resumed { IfOk result (λ r. IsResumed (plan_of_run heading.now (S.items source) (run_at rows.now run))
+        (run_at rows.now run).rows (plan_of (items_left S.items) r.controller) r.controller.state) }
+    ensures refused { IfErr result (IsRunRefused (S.items source) name.entry heading.now (run_at rows.now run)) }
+{
+    if run.from > source.len() {
+        let row = from_row(rows, run);
+        return Err(Failure::JournalRow(name, row, JournalFault::Event));
+    }
+    let controller = controller_of(Rest::new(source, run.from), heading);
+    resumed(name, controller, rows, run)
+}
+
+// The number of the row that says with which event a run begins: the heading is row 1.
+fn from_row(rows: &[Row], run: JournalRun) -> usize
+    requires begin { run.begin ≤ run.«end» }
+    requires within { run.«end» ≤ length rows.now }
+    ensures { result ≡ run.begin + 1 }
+{
+    let _ = rows;
+    run.begin + 1
+}
+
+/// The new controller of a list, with a journal's settings.
+pub(crate) fn controller_of<S: Source>(events: S, heading: &Heading) -> Controller<S>
+    requires some { 1 ≤ heading.now.limit }
+    requires few { heading.now.limit ≤ 1000 }
+    ensures { result ≡ new_controller events (mode_of heading.now.confirming) heading.now.port heading.now.limit }
+{
+    if heading.confirming {
+        Controller::confirming(events, heading.port, heading.limit)
+    } else {
+        Controller::new(events, heading.port, heading.limit)
+    }
 }
 
 /// The journal of this name that these bytes are.
@@ -101,6 +172,7 @@ fn row_fault(fault: JournalRowFault) -> JournalFault
         JournalRowFault::Digest => JournalFault::Digest,
         JournalRowFault::Mode => JournalFault::Mode,
         JournalRowFault::Number => JournalFault::Number,
+        JournalRowFault::Event => JournalFault::Event,
     }
 }
 
@@ -127,46 +199,55 @@ fn difference(found: &Heading, wanted: &Heading) -> Option<JournalFault>
     None
 }
 
-/// The controller that a journal's rows make of a new one.
-pub(crate) fn resumed<'a, S: Source + Drop>(
+// The controller that the rows of a run make of a new one.
+fn resumed<'a, S: Source + Drop>(
     name: &'a str,
     controller: Controller<S>,
     rows: &[Row],
+    run: JournalRun,
 ) -> Result<Resumed<S>, Failure<'a>>
     requires new { controller.state ≡ start }
     requires some { 1 ≤ controller.limit }
     requires few { controller.limit ≤ 1000 }
-    ensures resumed { IfOk result
-        (λ r. IsResumed (plan_of S.items controller) controller rows.now r.controller) }
+    requires begin { run.begin ≤ run.«end» }
+    requires within { run.«end» ≤ length rows.now }
+    ensures resumed { IfOk result (λ r. IsResumed (plan_of S.items controller) (run_at rows.now run).rows
+        (plan_of S.items r.controller) r.controller.state) }
+    ensures source { IfOk result (λ r. r.controller.source ≡ controller.source) }
     ensures untold { IfErr result (λ failure. (wrong : ResumeFault)
-        × IsResumeFault (plan_of S.items controller) start rows.now wrong
-        × (failure ≡ untold_failure name.entry wrong)) }
+        × IsResumeFault (plan_of S.items controller) start (run_at rows.now run).rows wrong
+        × (failure ≡ untold_failure name.entry run.begin wrong)) }
 {
-    match resume(controller, rows) {
+    match resume(controller, &rows[run.begin..run.end]) {
         Ok(resumed) => Ok(resumed),
-        Err(fault) => Err(untold_failure(name, fault, rows)),
+        Err(fault) => Err(untold_failure(name, fault, rows, run)),
     }
 }
 
-// The failure of a fault of one of these rows.
-fn untold_failure<'a>(name: &'a str, fault: ResumeFault, rows: &[Row]) -> Failure<'a>
-    requires { place_of fault < length rows.now }
-    ensures { result ≡ untold_failure name.entry fault }
+// The failure of a fault of one of the rows of a run.
+fn untold_failure<'a>(
+    name: &'a str,
+    fault: ResumeFault,
+    rows: &[Row],
+    run: JournalRun,
+) -> Failure<'a>
+    requires place { run.begin + place_of fault < length rows.now }
+    ensures { result ≡ untold_failure name.entry run.begin fault }
 {
     match fault {
         ResumeFault::Command(k) => Failure::JournalRow(
             name,
-            row_number(k, rows),
+            row_number(run.begin + k, rows),
             JournalFault::Command,
         ),
         ResumeFault::Unawaited(k) => Failure::JournalRow(
             name,
-            row_number(k, rows),
+            row_number(run.begin + k, rows),
             JournalFault::Unawaited,
         ),
         ResumeFault::Outcome(k) => Failure::JournalRow(
             name,
-            row_number(k, rows),
+            row_number(run.begin + k, rows),
             JournalFault::Outcome,
         ),
     }
@@ -180,8 +261,8 @@ fn row_number(k: usize, rows: &[Row]) -> usize
     k + 2
 }
 
-// The last row says how the controller ended.
-fn has_end(rows: &[Row]) -> bool {
+/// The last row says how the controller ended.
+pub(crate) fn has_end(rows: &[Row]) -> bool {
     match rows.last() {
         Some(row) => matches!(row.note, Note::End(_)),
         None => false,

@@ -3,7 +3,7 @@ ghost use Rattle.std.specs.Option.{option_to_list};
 ghost use Rattle.std.specs.Prelude.{◌≡◌, ◌≢◌, ◌≤◌, ◌∷◌, [], ◌++◌, Err, IfErr, IfOk, OnErr, OnOk};
 ghost use Rattle.vdcp_journal.specs.Rows.{AppendsBeginning, fields_text, heading_fields, rows_text};
 ghost use Rattle.vdcp_journal.specs.declared.moment.Moment.{Moment};
-ghost use Rattle.vdcp_journal.specs.declared.row.Note.TheVariants.{Sent, Take};
+ghost use Rattle.vdcp_journal.specs.declared.row.Note.TheVariants.{From, Sent, Take};
 ghost use Rattle.vdcp_drive.specs.KeptLeaves.{KeptLeaves};
 ghost use Rattle.vdcp_drive.specs.PromptKept.{PromptKeptLeaves};
 ghost use Rattle.vdcp_record.specs.Recorded.{HoldsNoCommand, RecordsPromptRun, RecordsRun, commands_of_note};
@@ -137,6 +137,18 @@ impl<'a, 'r, R: Clock + AllocGlobal, F: JournalFile + Drop> Recorder<'a, 'r, R, 
         self.note_row(Row {
             time,
             note: note_of(heard),
+        });
+    }
+
+    /// Notes the operator's word on the event that the run begins with. It is written with the first command.
+    pub fn note_from(&mut self, event: usize)
+        ensures { (time : Moment) × (self.new ≡ record self.old
+            { pending = ended self.old.pending (record { time = time; note = From event }) }) }
+    {
+        let time = now(self.rt);
+        self.note_row(Row {
+            time,
+            note: Note::From(event),
         });
     }
 

@@ -1,55 +1,69 @@
-ghost use Rattle.std.specs.Prelude.{◌≡◌, ◌⊎◌, ◌≤◌, ◌↔◌, ◌++◌, List, IfErr, IfOk, IfSome, IsSome, None, OnOk};
+ghost use Rattle.std.specs.Prelude.{◌≡◌, ◌⊎◌, ◌≤◌, ◌↔◌, ◌++◌, ℕ, List, IfErr, IfOk, IfSome, IsSome, None, OnOk};
 ghost use Rattle.vdcp_auto.specs.Plan.{plan_of};
-ghost use Rattle.vdcp_auto.specs.Turn.{outcome_of, start};
-ghost use Rattle.vdcp_journal.specs.declared.row.Row.{Row};
-ghost use Rattle.vdcp_record.specs.Recording.{IsUnwritten};
-ghost use Rattle.vdcp_record.specs.Resuming.{IsResumed, IsUnresumed};
+ghost use Rattle.vdcp_auto.specs.Turn.{outcome_of};
+ghost use Rattle.vdcp_journal.specs.Runs.{Run};
+ghost use Rattle.vdcp_list.specs.Rests.{items_left};
+ghost use Rattle.vdcp_record.specs.Recording.{IsUnopened, IsUnwritten};
+ghost use Rattle.vdcp_record.specs.Resuming.{IsReplayed, IsUnresumed};
 ghost use Rattle.vdcp_text.specs.declared.failure.Failure.TheVariants as failures;
 
 use crate::file::open;
 use crate::pending::Pending;
-use crate::reading::{Replayed, replay};
+use crate::reading::{Replayed, has_end, replay};
 use crate::recorder::{Recorder, row_now};
 use std::fs::{File, OpenFile};
 use std::io::{ErrorKind, Read};
 use std::rt::{Clock, Files};
 use vdcp_auto::{Controller, Source};
 use vdcp_journal::{Heading, Note};
+use vdcp_list::Rest;
 use vdcp_text::Failure;
 
 /// What goes on from a journal in a file.
 #[derive(Drop)]
 pub struct Resumption<'a, 'r, R, S: Source> {
-    pub controller: Controller<S>,
+    /// It plays the list's events from one on.
+    pub controller: Controller<Rest<S>>,
     /// It appends to the journal. None where the controller has ended: there is nothing to send.
     pub recorder: Option<Recorder<'a, 'r, R, File>>,
 }
 
-/// Goes on with the journal of this name, where it is one of what is wanted: gives its rows to a new controller, and
-/// times out the exchange that was open. A torn last row is cut off. Where it is refused nothing is written.
+/// Goes on with the last run of the journal of this name, where it is one of what is wanted: gives its rows to a new
+/// controller of the list, and times out the exchange that was open. A torn last row is cut off. Where it is refused
+/// nothing is written.
 pub fn resume_journal<'a, 'r, R: Files<File = File> + Clock + AllocGlobal, S: Source + Drop>(
     rt: &'r R,
     name: &'a str,
     wanted: &Heading,
-    controller: Controller<S>,
+    source: S,
 ) -> Result<Resumption<'a, 'r, R, S>, Failure<'a>>
     requires unit { wanted.now.unit ≤ 15 }
-    requires new { controller.state ≡ start }
-    requires some { 1 ≤ controller.limit }
-    requires few { controller.limit ≤ 1000 }
-    ensures resumed { IfOk result (λ r. (rows : List Row)
-        × IsResumed (plan_of S.items controller) controller rows r.controller) }
+    requires some { 1 ≤ wanted.now.limit }
+    requires few { wanted.now.limit ≤ 1000 }
+    ensures resumed { IfOk result (λ r. (bytes : List ℕ) × (run : Run) × (whole : ℕ)
+        × IsReplayed (S.items source) wanted.now bytes run (plan_of (items_left S.items) r.controller)
+        r.controller.state whole
+        × (r.controller.source.from ≡ run.from)) }
     ensures goes_on { IfOk result (λ r. IsSome r.recorder ↔ (outcome_of r.controller.state.stage ≡ None)) }
-    ensures unresumed { IfErr result (IsUnresumed (plan_of S.items controller) name.entry wanted.now) }
+    ensures unresumed { IfErr result (IsUnresumed (S.items source) name.entry wanted.now) }
+{
+    let (file, bytes) = read_file(rt, name)?;
+    let replayed = replay(rt.alloc(), name, bytes.as_slice(), wanted, source)?;
+    cut(name, &file, replayed.whole, bytes.len())?;
+    go_on(rt, name, wanted.unit, file, replayed)
+}
+
+/// Opens the file of this name, and reads it.
+pub(crate) fn read_file<'a, R: Files<File = File> + AllocGlobal>(
+    rt: &R,
+    name: &'a str,
+) -> Result<(File, Vec<u8>), Failure<'a>>
+    ensures { IfErr result (λ failure. IsUnopened name.entry failure ⊎ (failure ≡ failures.Read name.entry)) }
 {
     let mut file = open(rt, name)?;
     let mut bytes = Vec::new(rt.alloc());
     read_to_end(name, &mut file, &mut bytes)?;
-    let replayed = replay(rt.alloc(), name, bytes.as_slice(), wanted, controller)?;
-    if replayed.whole < bytes.len() {
-        cut(name, &file, replayed.whole)?;
-    }
-    go_on(rt, name, wanted.unit, file, replayed)
+    Ok((file, bytes))
 }
 
 /// Reads what a reader has left.
@@ -68,25 +82,33 @@ pub(crate) fn read_to_end<'a, I: Read>(
     }
 }
 
-// Cuts off what follows this many bytes.
-fn cut<'a>(name: &'a str, file: &File, whole: usize) -> Result<(), Failure<'a>>
+/// Cuts a file off after its whole rows, if it has more than these.
+pub(crate) fn cut<'a>(
+    name: &'a str,
+    file: &File,
+    whole: usize,
+    all: usize,
+) -> Result<(), Failure<'a>>
     ensures { IfErr result (IsUnwritten name.entry) }
 {
+    if whole >= all {
+        return Ok(());
+    }
     match file.set_len(whole as u64) {
         Ok(()) => Ok(()),
         Err(_) => Err(Failure::Write(name)),
     }
 }
 
-// What goes on, in a file of whole rows. Where the controller has ended and no row says so, one is written.
-fn go_on<'a, 'r, R: Files<File = File> + Clock + AllocGlobal, S: Source + Drop>(
+/// What goes on, in a file of whole rows. Where the controller has ended and no row says so, one is written.
+pub(crate) fn go_on<'a, 'r, R: Files<File = File> + Clock + AllocGlobal, S: Source + Drop>(
     rt: &'r R,
     name: &'a str,
     unit: u8,
     file: File,
     replayed: Replayed<S>,
 ) -> Result<Resumption<'a, 'r, R, S>, Failure<'a>>
-    requires { unit ≤ 15 }
+    requires unit { unit ≤ 15 }
     ensures controller { IfOk result (λ r. r.controller ≡ replayed.controller) }
     ensures goes_on { IfOk result (λ r. IsSome r.recorder ↔ (outcome_of r.controller.state.stage ≡ None)) }
     ensures unwritten { IfErr result (IsUnwritten name.entry) }
@@ -94,7 +116,7 @@ fn go_on<'a, 'r, R: Files<File = File> + Clock + AllocGlobal, S: Source + Drop>(
     let Replayed {
         controller,
         open,
-        is_ended,
+        rows,
         ..
     } = replayed;
     let pending = match open {
@@ -102,18 +124,17 @@ fn go_on<'a, 'r, R: Files<File = File> + Clock + AllocGlobal, S: Source + Drop>(
         None => Pending::Nothing,
     };
     let mut recorder = Recorder::after(rt, name, unit, file, pending);
-    let outcome = controller.outcome();
-    if outcome.is_none() {
+    if let Some(outcome) = controller.outcome() {
+        if !has_end(rows.as_slice()) {
+            recorder.finish(Some(outcome))?;
+        }
         return Ok(Resumption {
             controller,
-            recorder: Some(recorder),
+            recorder: None,
         });
-    }
-    if !is_ended {
-        recorder.finish(outcome)?;
     }
     Ok(Resumption {
         controller,
-        recorder: None,
+        recorder: Some(recorder),
     })
 }

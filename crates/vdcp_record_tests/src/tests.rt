@@ -1,16 +1,15 @@
 //! A list of two events that is played with a journal, killed, gone on with and shown.
 ghost use Rattle.std.specs.Prelude.{◌≡◌, IfOk};
-ghost use Rattle.vdcp_auto.specs.Turn.{start};
 
 use std::alloc::Global;
 use std::test::Fail;
 use std::{env, fs, process};
-use vdcp_auto::{Controller, Outcome};
+use vdcp_auto::{Controller, Outcome, Source};
 use vdcp_drive::{AutoDriver, Unwatched};
 use vdcp_files::NamedFile;
 use vdcp_journal::{Heading, digest_of};
 use vdcp_list::{List, read_list};
-use vdcp_record::{AsrunSettings, begin_journal, do_asrun, resume_journal};
+use vdcp_record::{AsrunSettings, begin_again, begin_journal, do_asrun, resume_journal};
 use vdcp_text::{Failure, JournalFault};
 use vdcp_value::Rate;
 use vdcp_wire::{Entry, ScriptWire};
@@ -50,7 +49,8 @@ fn driver(rt: &HostRuntime) -> Result<AutoDriver<List, ScriptWire<Global>>, Fail
 }
 
 fn heading(rt: &HostRuntime) -> Result<Heading, Fail>
-    ensures { IfOk result (λ heading. heading.unit ≡ 0) }
+    ensures unit { IfOk result (λ heading. heading.unit ≡ 0) }
+    ensures limit { IfOk result (λ heading. heading.limit ≡ 3) }
 {
     let list = read_list(rt.alloc(), EVENTS, Rate::F25)?;
     Ok(Heading {
@@ -135,13 +135,8 @@ fn a_list_is_played_with_a_journal(rt: HostRuntime) -> Result<(), Fail> {
     Ok(())
 }
 
-/// A new controller of the list.
-fn controller(rt: &HostRuntime) -> Result<Controller<List>, Fail>
-    ensures new { IfOk result (λ controller. controller.state ≡ start) }
-    ensures limit { IfOk result (λ controller. controller.limit ≡ 3) }
-{
-    let list = read_list(rt.alloc(), EVENTS, Rate::F25)?;
-    Ok(Controller::new(list, 1, 3))
+fn list(rt: &HostRuntime) -> Result<List, Fail> {
+    Ok(read_list(rt.alloc(), EVENTS, Rate::F25)?)
 }
 
 #[test]
@@ -152,19 +147,19 @@ fn a_killed_run_goes_on(rt: HostRuntime) -> Result<(), Fail> {
     let mut driver = driver(&rt)?;
     let mut recorder = begin_journal(&rt, name, &heading).ok().ok_or("begun")?;
     let _ = recorder.run(&mut driver, 12, &mut Unwatched);
-    let used = resume_journal(&rt, name, &heading, controller(&rt)?);
+    let used = resume_journal(&rt, name, &heading, list(&rt)?);
     assert_eq!(rt; used.err(), Some(Failure::InUse(name)));
     drop(recorder);
     let other = Heading {
         confirming: true,
         ..heading
     };
-    let other = resume_journal(&rt, name, &other, controller(&rt)?);
+    let other = resume_journal(&rt, name, &other, list(&rt)?);
     assert_eq!(rt;
         other.err(),
         Some(Failure::JournalRow(name, 1, JournalFault::Mode))
     );
-    let resumed = resume_journal(&rt, name, &heading, controller(&rt)?);
+    let resumed = resume_journal(&rt, name, &heading, list(&rt)?);
     let resumed = resumed.ok().ok_or("resumed")?;
     // (PLAY was answered, and that isn't written yet: it counts as unanswered)
     assert_eq!(rt;
@@ -175,7 +170,7 @@ fn a_killed_run_goes_on(rt: HostRuntime) -> Result<(), Fail> {
     assert_eq!(rt; recorder.finish(Some(Outcome::Lost)), Ok(()));
     drop(recorder);
     // (the controller hasn't come to that)
-    let ended = resume_journal(&rt, name, &heading, controller(&rt)?);
+    let ended = resume_journal(&rt, name, &heading, list(&rt)?);
     assert!(rt;
         matches!(
             ended.err(),
@@ -183,5 +178,45 @@ fn a_killed_run_goes_on(rt: HostRuntime) -> Result<(), Fail> {
         )
     );
     fs::remove_file(&rt, name)?;
+    Ok(())
+}
+
+#[test]
+fn a_journal_is_opened_again(rt: HostRuntime) -> Result<(), Fail> {
+    let name = temporary(&rt, "again")?;
+    let name = name.as_str();
+    let heading = heading(&rt)?;
+    let list = list(&rt)?;
+    let mut driver = driver(&rt)?;
+    let mut recorder = begin_journal(&rt, name, &heading).ok().ok_or("begun")?;
+    let _ = recorder.run(&mut driver, 12, &mut Unwatched);
+    drop(recorder);
+    // (the PLAY of event 0 is open)
+    let unsettled = begin_again(&rt, name, &heading, &list, None);
+    assert_eq!(rt; unsettled.err(), Some(Failure::MayHaveAired(0)));
+    let beyond = begin_again(&rt, name, &heading, &list, Some(3));
+    assert_eq!(rt; beyond.err(), Some(Failure::NoEvent(3)));
+    let again = begin_again(&rt, name, &heading, &list, Some(1));
+    let again = again.ok().ok_or("again")?;
+    assert_eq!(rt; again.controller.source().len(), 1);
+    let mut recorder = again.recorder.ok_or("a recorder")?;
+    assert_eq!(rt; recorder.finish(None), Ok(()));
+    drop(recorder);
+    // (the run of the row `from` goes on)
+    let resumed = resume_journal(&rt, name, &heading, &list);
+    let resumed = resumed.ok().ok_or("resumed")?;
+    assert_eq!(rt;
+        (resumed.controller.source().len(), resumed.controller.settled()),
+        (1, 0)
+    );
+    drop(resumed);
+    let bytes = fs::read(&rt, name)?;
+    fs::remove_file(&rt, name)?;
+    assert!(rt; bytes.as_slice().ends_with(b",from,1,\n"));
+    let (status, out, err) = shown(&rt, bytes.as_slice(), false);
+    assert_eq!(rt;
+        (status, out.len(), err.as_slice()),
+        (0, 0, b"vdcp: event 0 may have aired\n".as_slice())
+    );
     Ok(())
 }

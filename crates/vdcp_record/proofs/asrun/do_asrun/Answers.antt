@@ -1,9 +1,8 @@
-use Rattle.std.specs.Io.KnownBytes.{Appends}
 use Rattle.vdcp_record.proofs.asrun.do_asrun.Goals as goal
 
 pub returns-in-Ok-clause-shown : goal.returns-in-Ok-clause-shown
 returns-in-Ok-clause-shown g c = λ ok. record {
-  event = c.in-Ok.event;
+  told = c.in-Ok.told.items;
   shown = c.in-Ok.ensures.shown;
-  told = c.tell_event.ensures.told ok;
+  tells = rw c.as_slice.ensures.value at (c.tell.ensures.told ok);
 }

@@ -1,24 +1,23 @@
-use Rattle.std.proofs.Common.{length, ap, sym, ◌∙◌}
+use Rattle.std.proofs.Common.{ℕ, List, ◌++◌, ap, subst, sym, ◌∙◌}
+use Rattle.std.specs.Io.KnownBytes.{Appends}
+use Rattle.vdcp_journal.specs.Runs.{runs_of}
 use Rattle.vdcp_record.proofs.asrun.print_rows.Goals as goal
-
-pub print-requires : goal.print-requires
-print-requires g c =
-    let resumed = rw (c.controller_of-controller.ensures, c.as_slice.ensures.value) at c.in_ok-resumed.ensures.resumed
-    in
-    let are = rw (resumed.controller, c.as_slice-2.ensures.value) at c.in_ok-found.ensures in
-    ap length c.as_slice-3.ensures.value ∙ are.one_each ∙ sym resumed.lawful.is_settled
+use Rattle.vdcp_record.specs.Showing.{ShowRuns, heading_text}
 
 pub returns-clause-shown : goal.returns-clause-shown
 returns-clause-shown g c =
-    let resumed = rw (c.controller_of-controller.ensures, c.as_slice.ensures.value) at c.in_ok-resumed.ensures.resumed
-    in
+    let items = g.S.Source.items c.args.events.now in
+    let journal = c.args.journal.now in
+    let added = c.in_ok-add_runs.ensures.shown in
+    let heading = c.in_ok-add_heading.ensures.text
+    ∙ ap (λ (l : List ℕ). l ++ heading_text c.args.settings items) c.new-shown.ensures.text in
     record {
       digest = c.in_ok-expect_list.ensures.digest;
-      told = resumed.told;
-      lawful = rw resumed.controller at resumed.lawful;
-      airings = c.in_ok-found.found.airings.items;
-      may_have_aired = c.in_ok-found.found.«open»;
-      are_airings = rw (resumed.controller, c.as_slice-2.ensures.value) at c.in_ok-found.ensures;
-      printed = rw (resumed.controller, c.as_slice-3.ensures.value) at c.in_ok-print.ensures.printed;
-      wanted = c.wanted_event.ensures;
+      text = added.0;
+      runs = subst (λ (told : List ℕ). ShowRuns c.args.settings items journal.heading (runs_of journal.rows.items)
+          added.0 told) (sym (added.4 ∙ ap (λ (l : List ℕ). l ++ added.1) c.new-shown.ensures.told)) added.2;
+      printed = subst (λ (text : List ℕ). Appends (g.W.Write.contents c.args.out.now)
+          (g.W.Write.contents c.write_out.new.out) text)
+          (c.as_slice.ensures.value ∙ added.3 ∙ ap (λ (l : List ℕ). l ++ added.0) heading)
+          c.in_ok-write_out.ensures.written;
     }

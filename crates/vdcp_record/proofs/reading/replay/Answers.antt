@@ -1,7 +1,8 @@
 use Rattle.std.proofs.Common.{refl}
 use Rattle.std.proofs.lemmas.Result.{err_from_is_err_and}
+use Rattle.vdcp_journal.specs.Runs.{run_at}
 use Rattle.vdcp_record.proofs.reading.replay.Goals as goal
-use Rattle.vdcp_record.specs.Resuming.{no_journal, of_other, untold}
+use Rattle.vdcp_record.specs.Resuming.{bad_run, no_journal, of_other}
 
 pub returns-in_err-journal-clause-refused : goal.returns-in_err-journal-clause-refused
 returns-in_err-journal-clause-refused g c =
@@ -16,8 +17,11 @@ returns-in-Some-clause-refused g c =
 pub returns-in_err-controller-clause-refused : goal.returns-in_err-controller-clause-refused
 returns-in_err-controller-clause-refused g c =
     let p = err_from_is_err_and c.from_residual-in_err-controller.result c.from_residual-in_err-controller.ensures.1 in
-    let refused = rw c.as_slice.ensures.value at c.in_err-controller.ensures.untold in
-    rw (p.1, p.2) (untold c.in_ok-journal.journal c.in_ok-journal.ensures.journal refused.0 refused.1 refused.2)
+    rw (p.1, p.2)
+    (bad_run c.in_ok-journal.journal c.in_ok-journal.ensures.journal
+    (run_at c.in_ok-journal.journal.rows.items c.in_ok-run.run')
+    (rw c.as_slice-rows.ensures.value at c.in_ok-run.ensures.last)
+    (rw c.as_slice-rows.ensures.value at c.in_err-controller.ensures.refused))
 
 pub returns-clause-replayed : goal.returns-clause-replayed
 returns-clause-replayed g c =
@@ -25,6 +29,8 @@ returns-clause-replayed g c =
       journal = c.in_ok-journal.journal;
       reads = c.in_ok-journal.ensures.journal;
       wanted_is = c.in_default.ensures.same;
-      resumes = rw c.as_slice.ensures.value at c.in_ok-controller.ensures.resumed;
+      last = rw c.as_slice-rows.ensures.value at c.in_ok-run.ensures.last;
+      within = c.in_ok-controller.ensures.listed;
+      resumes = rw c.as_slice-rows.ensures.value at c.in_ok-controller.ensures.resumed;
       whole_is = refl;
     }
