@@ -217,7 +217,9 @@ pub fn from_option<'a>(alloc: Global) -> Arg<'a> {
         .long("from")
         .value_name("K")
         .value_parser(value_parser!(u32).range(0..=4_294_967_295))
-        .help("Begins with this event of the list, the first being 0; with --resume, whatever may have aired")
+        .help(
+            "Begins with this event of the list, the first being 0; with --resume, whatever may have aired",
+        )
 }
 
 /// The event to begin with, if it is said.
