@@ -6,12 +6,12 @@ ghost use Rattle.vdcp_auto.specs.Turn.{start};
 use std::alloc::Global;
 use std::process::Abort;
 use std::test::Fail;
-use vdcp_auto::{Controller, Heard, Outcome};
+use vdcp_auto::{Controller, Heard, Outcome, Source};
 use vdcp_journal::{
-    Heading, JournalReadFault, JournalRowFault, JournalWriteFault, Moment, Note, ResumeFault, Row,
-    read_journal, resume, write_heading, write_row,
+    Airing, Heading, JournalReadFault, JournalRowFault, JournalWriteFault, Moment, Note,
+    ResumeFault, Row, has_stop, read_journal, resume, runs_in, write_heading, write_row,
 };
-use vdcp_list::{List, read_list};
+use vdcp_list::{List, read_list, write_timed_events, write_timed_heading};
 use vdcp_testing::{FailingWriter, Fails};
 use vdcp_value::{ClipId, Rate};
 use vdcp_words::{Command, Reply};
@@ -41,7 +41,7 @@ fn only_a_moment_of_the_form_is_one(rt: HostRuntime) {
 #[test]
 fn rows_are_written(rt: HostRuntime) -> Result<(), Fail> {
     let alloc = rt.alloc();
-    let cases: [(Note, &str); 12] = [
+    let cases: [(Note, &str); 13] = [
         (
             Note::Sent(Command::Open(1, 1)),
             "sent,open 01 01,020430010101cd",
@@ -66,6 +66,7 @@ fn rows_are_written(rt: HostRuntime) -> Result<(), Fail> {
         (Note::Stop, "stop,,"),
         (Note::End(Outcome::Done), "end,done,"),
         (Note::End(Outcome::Missing(3)), "end,missing,3"),
+        (Note::From(12), "from,12,"),
     ];
     for (note, text) in cases.as_slice() {
         let row = Row {
@@ -199,7 +200,7 @@ fn what_the_controller_does_not_do_is_refused(rt: HostRuntime) {
     let open = Note::Sent(Command::Open(1, 1));
     let granted = Note::Heard(Heard::Reply(Reply::Opened(true)));
     let denied = Note::Heard(Heard::Reply(Reply::Opened(false)));
-    let cases: [(&[Note], ResumeFault); 9] = [
+    let cases: [(&[Note], ResumeFault); 10] = [
         (&[Note::Sent(Command::Play)], ResumeFault::Command(0)),
         (&[Note::Sent(Command::Open(2, 1))], ResumeFault::Command(0)),
         (&[open, open], ResumeFault::Command(1)),
@@ -212,6 +213,7 @@ fn what_the_controller_does_not_do_is_refused(rt: HostRuntime) {
             ResumeFault::Outcome(2),
         ),
         (&[Note::End(Outcome::Done)], ResumeFault::Outcome(0)),
+        (&[open, Note::From(0)], ResumeFault::Unawaited(1)),
     ];
     for (notes, fault) in cases.as_slice() {
         let rows = told(&rt, notes, alloc);
@@ -220,6 +222,72 @@ fn what_the_controller_does_not_do_is_refused(rt: HostRuntime) {
             Err(found) => assert_eq!(rt; found, *fault),
         }
     }
+}
+
+#[test]
+fn each_run_has_its_rows(rt: HostRuntime) -> Result<(), Fail> {
+    let alloc = rt.alloc();
+    let cases: [(&[Note], &[(usize, usize, usize)]); 5] = [
+        (&[], &[(0, 0, 0)]),
+        (&[Note::Silence, Note::Take], &[(0, 0, 2)]),
+        (&[Note::From(3)], &[(0, 0, 0), (3, 1, 1)]),
+        (
+            &[Note::Silence, Note::From(2), Note::Take, Note::Take],
+            &[(0, 0, 1), (2, 2, 4)],
+        ),
+        (
+            &[Note::From(1), Note::Take, Note::From(5), Note::From(0)],
+            &[(0, 0, 0), (1, 1, 2), (5, 3, 3), (0, 4, 4)],
+        ),
+    ];
+    for (notes, wanted) in cases.as_slice() {
+        let rows = told(&rt, notes, alloc);
+        let runs = runs_in(alloc, rows.as_slice())?;
+        assert_eq!(rt; runs.len(), wanted.len());
+        for k in 0..runs.len().min(wanted.len()) {
+            let run = runs[k];
+            assert_eq!(rt; (run.from, run.begin, run.end), wanted[k]);
+        }
+    }
+    Ok(())
+}
+
+#[test]
+fn a_stop_is_found(rt: HostRuntime) {
+    let alloc = rt.alloc();
+    let stop = Note::Sent(Command::Stop);
+    let cases: [(&[Note], bool); 4] = [
+        (&[], false),
+        (&[Note::Sent(Command::Play), Note::Stop], false),
+        (&[stop], true),
+        (&[Note::Stop, stop, Note::Silence], true),
+    ];
+    for (notes, wanted) in cases.as_slice() {
+        let rows = told(&rt, notes, alloc);
+        assert_eq!(rt; has_stop(rows.as_slice()), *wanted);
+    }
+}
+
+#[test]
+fn airings_from_the_middle_are_written(rt: HostRuntime) -> Result<(), Fail> {
+    let alloc = rt.alloc();
+    let text = b"A,,\nB,00:00:02:00,00:00:03:00\nC,,\n";
+    let list = read_list(alloc, text.as_slice(), Rate::F25)?;
+    let known = Moment::parse(b"2026-11-24T09:30:01.000Z").expect(&rt, "a moment");
+    let airing = Airing {
+        played: time(&rt),
+        known,
+    };
+    let mut written = Vec::new(alloc);
+    write_timed_heading(alloc, &list, &mut written)?;
+    assert!(rt; 3 <= list.len());
+    write_timed_events(alloc, &list, Rate::F25, 1, &[airing, airing], &mut written)?;
+    let times = "2026-11-24T09:30:00.125Z,2026-11-24T09:30:01.000Z";
+    let wanted = format!(in alloc;
+        "number,id,start,duration,played,known\n1,B,00:00:02:00,00:00:03:00,{times}\n2,C,,,{times}\n"
+    )?;
+    assert_eq!(rt; written.as_slice(), wanted.as_bytes());
+    Ok(())
 }
 
 // The heading of a journal of the server at this unit, and the row that begins it.
@@ -232,7 +300,8 @@ fn a_journal_is_read_without_its_torn_row(rt: HostRuntime) -> Result<(), Fail> {
     let rows = "2026-11-24T09:30:00.125Z,sent,\"cue A,B\",020a2024412c4220202020206d\n\
         2026-11-24T09:30:00.125Z,heard,nak 01,0501\n\
         2026-11-24T09:30:00.125Z,silence,,\n\
-        2026-11-24T09:30:00.125Z,end,missing,3\n";
+        2026-11-24T09:30:00.125Z,end,missing,3\n\
+        2026-11-24T09:30:00.125Z,from,4,\n";
     let text = format!(in alloc; "{HEADING}{rows}2026-11-24T09:3")?;
     let Ok(journal) = read_journal(alloc, text.as_bytes()) else {
         panic!(rt; "the journal is read");
@@ -242,6 +311,7 @@ fn a_journal_is_read_without_its_torn_row(rt: HostRuntime) -> Result<(), Fail> {
         Note::Heard(Heard::Reply(Reply::Nak(1))),
         Note::Silence,
         Note::End(Outcome::Missing(3)),
+        Note::From(4),
     ];
     assert_eq!(rt; journal.time, time(&rt));
     assert_eq!(rt; journal.heading.digest, [0x0f; 32]);
@@ -257,7 +327,7 @@ fn a_journal_is_read_without_its_torn_row(rt: HostRuntime) -> Result<(), Fail> {
 #[test]
 fn a_line_that_is_no_row_is_refused(rt: HostRuntime) -> Result<(), Fail> {
     let alloc = rt.alloc();
-    let cases: [(&str, JournalRowFault); 9] = [
+    let cases: [(&str, JournalRowFault); 12] = [
         ("2026-11-24T09:30:00.125Z,silence,", JournalRowFault::Fields),
         ("2026-11-24 09:30,silence,,", JournalRowFault::Time),
         ("2026-11-24T09:30:00.125Z,quiet,,", JournalRowFault::Word),
@@ -285,6 +355,9 @@ fn a_line_that_is_no_row_is_refused(rt: HostRuntime) -> Result<(), Fail> {
             "2026-11-24T09:30:00.125Z,take,now,",
             JournalRowFault::Detail,
         ),
+        ("2026-11-24T09:30:00.125Z,from,,", JournalRowFault::Event),
+        ("2026-11-24T09:30:00.125Z,from,04,", JournalRowFault::Event),
+        ("2026-11-24T09:30:00.125Z,from,4,4", JournalRowFault::Event),
     ];
     for (line, fault) in cases.as_slice() {
         let text = format!(in alloc; "{HEADING}2026-11-24T09:30:00.125Z,silence,,\n{line}\n")?;

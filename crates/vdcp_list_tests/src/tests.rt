@@ -12,8 +12,8 @@ use std::test::Fail;
 use vdcp_auto::Source;
 use vdcp_list::laws::rows_are_read_in_order;
 use vdcp_list::{
-    List, ListFault, MAX_ROWS, SlotFault, Slots, Table, WriteFault, next_row, read_catalogue,
-    read_list, rows_in, write_asrun,
+    List, ListFault, MAX_ROWS, Rest, SlotFault, Slots, Table, WriteFault, next_row, read_catalogue,
+    read_list, rows_in, write_asrun, write_events,
 };
 use vdcp_port::Catalogue;
 use vdcp_value::{ClipId, Item, Part, Rate, Timecode};
@@ -324,6 +324,54 @@ fn asrun_lists_are_written(rt: HostRuntime) -> Result<(), Fail> {
 }
 
 #[test]
+fn events_from_the_middle_are_written(rt: HostRuntime) -> Result<(), Fail> {
+    let cases = [
+        ("CLIP0001\n\"A,B\"\nC\n", 1, 2, "1,\"A,B\"\n2,C\n"),
+        ("CLIP0001\n\"A,B\"\nC\n", 1, 1, "1,\"A,B\"\n"),
+        ("CLIP0001\n\"A,B\"\nC\n", 3, 0, ""),
+        (
+            "A,00:00:02:00,00:00:03:00\nB,,\nC,00:00:04:00,00:00:05:00\n",
+            1,
+            2,
+            "1,B,,\n2,C,00:00:04:00,00:00:05:00\n",
+        ),
+        // (the part that isn't written gives the others its columns, before them and after)
+        ("A,00:00:02:00,00:00:03:00\nB,,\n", 1, 1, "1,B,,\n"),
+        ("A,,\nB,,\nC,00:00:02:00,00:00:03:00\n", 1, 1, "1,B,,\n"),
+    ];
+    for (text, from, count, written) in cases {
+        let list = read_list(rt.alloc(), text.as_bytes(), Rate::F25)?;
+        let mut out = Vec::new(rt.alloc());
+        assert!(rt; from <= list.len());
+        assert!(rt; count <= list.len() - from);
+        write_events(rt.alloc(), &list, Rate::F25, from, count, &mut out)?;
+        assert_eq!(rt; out.as_slice(), written.as_bytes(), "{text:?}");
+    }
+    Ok(())
+}
+
+#[test]
+fn a_list_can_begin_with_a_later_event(rt: HostRuntime) -> Result<(), Fail> {
+    let text = b"CLIP0001\nCLIP0002\nCLIP0003\n";
+    let ids = [b"CLIP0001", b"CLIP0002", b"CLIP0003"];
+    for from in 0..4 {
+        let list = read_list(rt.alloc(), text.as_slice(), Rate::F25)?;
+        assert!(rt; from <= list.len());
+        let rest = Rest::new(list, from);
+        assert_eq!(rt; rest.from(), from);
+        assert_eq!(rt; rest.whole().len(), 3);
+        assert_eq!(rt; rest.len(), 3 - from);
+        for k in 0..rest.len() {
+            assert_eq!(rt;
+                Some(&rest.at(k)),
+                ids.get(from + k).map(|id| whole(id)).as_ref()
+            );
+        }
+    }
+    Ok(())
+}
+
+#[test]
 fn unlawful_parts_are_told_and_nothing_is_written(rt: HostRuntime) -> Result<(), Fail> {
     let text = b"A,,\nB,00:00:02:00,00:00:03:00\nC,00:00:02:24,00:00:03:00\n";
     let list = read_list(rt.alloc(), text.as_slice(), Rate::F25)?;
@@ -331,6 +379,13 @@ fn unlawful_parts_are_told_and_nothing_is_written(rt: HostRuntime) -> Result<(),
     assert!(rt; 3 <= list.len());
     let fault = write_asrun(rt.alloc(), &list, Rate::F24, 3, &mut out).err();
     assert!(rt; fault == Some(WriteFault::Time(2)));
+    assert!(rt; out.is_empty());
+    // (the row of an event before those that are written is tested, too)
+    let text = b"A,00:00:02:24,00:00:03:00\nB,,\n";
+    let first = read_list(rt.alloc(), text.as_slice(), Rate::F25)?;
+    assert!(rt; 2 <= first.len());
+    let fault = write_events(rt.alloc(), &first, Rate::F24, 1, 1, &mut out).err();
+    assert!(rt; fault == Some(WriteFault::Time(0)));
     assert!(rt; out.is_empty());
     write_asrun(rt.alloc(), &list, Rate::F24, 2, &mut out)?;
     assert_eq!(rt;
