@@ -2,8 +2,8 @@ use clap::{Arg, ArgAction, Command};
 use std::alloc::{AllocError, Global};
 use vdcp_options::{
     COPY, CUE_FRAMES, CUT, DAMAGE, FORGE, LIMIT, LISTENS, LOSE, LOSSY_SILENCE, POLL, PORT,
-    RUN_LIMIT, RUN_SILENCE, SEED, SERVE_SILENCE, TURNS, UNIT, WITHIN, idle_option, number_option,
-    rate_option,
+    RUN_LIMIT, RUN_SILENCE, SEED, SERVE_SILENCE, TURNS, UNIT, WITHIN, from_option, idle_option,
+    number_option, rate_option,
 };
 
 // The program's version, and the toolchain that it is proved with.
@@ -146,6 +146,8 @@ fn run<'a>(alloc: Global) -> Result<Command<'a>, AllocError> {
         .arg(asrun(alloc))?
         .arg(journal(alloc))?
         .arg(resume(alloc)?)?
+        .arg(open_again(alloc)?)?
+        .arg(from_option(alloc))?
         .arg(log(alloc, "Tells standard error of each message"))
 }
 
@@ -359,6 +361,17 @@ fn resume<'a>(alloc: Global) -> Result<Arg<'a>, AllocError> {
         .long("resume")
         .value_name("FILE")
         .help("Goes on with a run that was killed, from its journal")
+        .conflicts_with("journal")
+}
+
+fn open_again<'a>(alloc: Global) -> Result<Arg<'a>, AllocError> {
+    Arg::new(alloc, "open-again")
+        .long("open-again")
+        .action(ArgAction::SetTrue)
+        .help(
+            "With --resume, after the server was lost: a new run, from the first event that can't have aired",
+        )
+        .requires_arg("resume")?
         .conflicts_with("journal")
 }
 

@@ -1,14 +1,14 @@
 -- How a line ended, by what the driver's run or turns answered.
 use Rattle.std.proofs.Common.{◌≡◌, ◌⊎◌, List, ℕ, inl, inr, refl, sym, ◌∙◌, subst}
 use Rattle.std.specs.Io.KnownBytes.{Keeps}
-use Rattle.std.specs.Prelude.{◌↔◌, Bool, false, IfErr, IsSome, OnOk, Option, Result, Ok, Err}
+use Rattle.std.specs.Prelude.{◌↔◌, Bool, false, IfErr, IsSome, None, OnOk, Option, Result, Ok, Err, Some}
 use Rattle.vdcp_auto.specs.declared.outcome.Outcome.{Outcome}
 use Rattle.vdcp_drive.specs.declared.keep.KeptFault.{KeptFault}
 use Rattle.vdcp_drive.specs.declared.keep.KeptFault.TheVariants as fault
 use Rattle.vdcp_drive.specs.declared.line.DriveFault.{DriveFault}
 use Rattle.vdcp_drive.specs.declared.line.Ran.{Ran}
 use Rattle.vdcp_drive.specs.declared.line.Ran.TheVariants as ran
-use Rattle.vdcp_net.specs.Run.{line_end_of}
+use Rattle.vdcp_net.specs.Run.{line_end_of, outcome_in_list}
 use Rattle.vdcp_net.specs.Serve.{EndsAs, MayEnd, PrintsEnd, end_of}
 use Rattle.vdcp_net.specs.declared.serve.ServeEnd.{ServeEnd}
 use Rattle.vdcp_net.specs.declared.serve.ServeEnd.TheVariants as ends
@@ -23,6 +23,15 @@ abbrev pub EndedWith : Result Ran KeptFault → Option Outcome → Type 0
 EndedWith (Ok a) outcome = (a ≡ ran.Ended) ↔ IsSome outcome
 EndedWith (Err (fault.Drive f)) outcome = Unit {0}
 EndedWith (Err fault.Unkept) outcome = ¬ IsSome outcome
+
+-- so it is with the number that the event of the outcome has in the list
+pub ends_in_list : (answer : Result Ran KeptFault) (from : ℕ) (outcome : Option Outcome) → EndedWith answer outcome
+    → EndedWith answer (outcome_in_list from outcome)
+ends_in_list (Ok a) from None h = h
+ends_in_list (Ok a) from (Some outcome) h = h
+ends_in_list (Err (fault.Drive f)) from outcome h = tt
+ends_in_list (Err fault.Unkept) from None h = h
+ends_in_list (Err fault.Unkept) from (Some outcome) h = h
 
 ends_unneeded : (answer : Result Ran KeptFault) (outcome : Option Outcome) → EndedWith answer outcome
     → line_end_of answer ≡ line_end.Unneeded

@@ -1,5 +1,5 @@
 -- Runs of an automation with takes between them.
-use Rattle.std.proofs.Common.{ℕ, ◌≡◌, List, [], ◌++◌, ap, append_assoc, append-nil, inl, inr, refl, subst, sym, ◌∙◌}
+use Rattle.std.proofs.Common.{ℕ, ◌≡◌, List, [], ◌+◌, ◌++◌, ap, append_assoc, append-nil, inl, inr, refl, subst, sym, ◌∙◌}
 use Rattle.std.specs.Prelude.{Err, IsSome, Ok, Option, Result}
 use Rattle.vdcp_auto.specs.Course.{Reached, Take, called}
 use Rattle.vdcp_auto.specs.Plan.{Plan, View, plan_of}
@@ -15,10 +15,12 @@ use Rattle.vdcp_drive.specs.declared.keep.KeptFault.TheVariants as fault
 use Rattle.vdcp_drive.specs.declared.line.Ran.{Ran}
 use Rattle.vdcp_value.specs.declared.part.Item.{Item}
 use Rattle.vdcp_wire.specs.Wires.{Told}
-use Rattle.vdcp_net.proofs.Ends.{EndedWith, ended_unneeded, unneeded_ended}
-use Rattle.vdcp_net.proofs.Reached.{gives_none}
+use Rattle.vdcp_list.specs.Rests.{FromEvent, items_left}
+use Rattle.vdcp_net.proofs.Ends.{EndedWith, ended_unneeded, ends_in_list, unneeded_ended}
+use Rattle.vdcp_net.proofs.PromptEnds.{same_by}
+use Rattle.vdcp_net.proofs.Reached.{begins_with, gives_none}
 use Rattle.vdcp_net.specs.BackToBack.{IsLed, MayTake, RunsWithTakes}
-use Rattle.vdcp_net.specs.Run.{IsEndOf, line_end_of}
+use Rattle.vdcp_net.specs.Run.{ComesTo, IsEndOf, line_end_of, outcome_in_list}
 use Rattle.vdcp_net.specs.declared.run.LineEnd.TheVariants as line_end
 use Rattle.vdcp_net.specs.declared.run.RunEnd.{RunEnd}
 
@@ -64,14 +66,6 @@ reached_by : {S W : Type 0} (items : S → List Item) (told : W → Option Told)
 reached_by items told failures listens old new (Ok a) left = left.driven.reached
 reached_by items told failures listens old new (Err (fault.Drive f)) left = left.driven.reached
 reached_by items told failures listens old new (Err fault.Unkept) left = left.unkept.reached
-
-same_by : {S W : Type 0} (items : S → List Item) (told : W → Option Told) (failures : W → ℕ) (listens : ℕ)
-    (old new : Prompting S W) (answer : Result Ran KeptFault)
-    → PromptKeptLeaves items told failures listens old new answer
-    → new.controller ≡ record old.controller { state = new.controller.state }
-same_by items told failures listens old new (Ok a) left = left.driven.controller
-same_by items told failures listens old new (Err (fault.Drive f)) left = left.driven.controller
-same_by items told failures listens old new (Err fault.Unkept) left = left.unkept.controller
 
 pub led_by_run : {S W : Type 0} (items : S → List Item) (told : W → Option Told) (failures : W → ℕ) (listens : ℕ)
     (old new : Prompting S W) (answer : Result Ran KeptFault)
@@ -132,17 +126,19 @@ ended_with items old new (Err fault.Unkept) runs =
     gives_none (plan_of items new.controller) state.stop state.stage runs.unsent
 
 -- a driver that was made with this controller has run, and the end is that of its controller
-pub is_end_with_takes : {S W : Type 0} (items : S → List Item) (controller : View S) (old new : Prompting S W)
+is_end_with_takes : {S W : Type 0} (items : S → List Item) (controller : View S) (old new : Prompting S W)
     (answer : Result Ran KeptFault) (end : RunEnd) (log : List Exchange)
     → old.controller ≡ controller → RunsWithTakes items old new answer → end.line ≡ line_end_of answer
-    → end.outcome ≡ outcome_of new.controller.state.stage → end.reported ≡ new.controller.state.settled
+    → end.outcome ≡ outcome_in_list end.from (outcome_of new.controller.state.stage)
+    → end.reported ≡ end.from + new.controller.state.settled
     → (end.line ≡ line_end.Unkept → IsSome end.unkept)
     → Reached (plan_of items controller) controller.state log → IsEndOf (plan_of items controller) end
 is_end_with_takes {S} items controller old new answer end log same runs line outcome reported kept reached =
     let after : State = new.controller.state in
     let further = subst (λ (v : View S). IsReachedFrom (plan_of items v) v.state after) same runs.led.reached log
     reached in
-    let ends = subst (λ (o : Option Outcome). EndedWith answer o) (sym outcome) (ended_with items old new answer runs) in
+    let ends = subst (λ (o : Option Outcome). EndedWith answer o) (sym outcome)
+    (ends_in_list answer end.from (outcome_of new.controller.state.stage) (ended_with items old new answer runs)) in
     record {
       log = log ++ further.0;
       state = after;
@@ -153,3 +149,18 @@ is_end_with_takes {S} items controller old new answer end log same runs line out
       ended = ended_unneeded end.line answer end.outcome line ends;
       told = kept;
     }
+
+-- a driver that was made with a controller of the rest of a list has run
+pub comes_to_with_takes : {S W : Type 0} (items : S → List Item) (controller : View (FromEvent S))
+    (old new : Prompting (FromEvent S) W) (answer : Result Ran KeptFault) (end : RunEnd)
+    → old.controller ≡ controller → RunsWithTakes (items_left items) old new answer → end.line ≡ line_end_of answer
+    → end.from ≡ new.controller.source.from
+    → end.outcome ≡ outcome_in_list end.from (outcome_of new.controller.state.stage)
+    → end.reported ≡ end.from + new.controller.state.settled
+    → (end.line ≡ line_end.Unkept → IsSome end.unkept)
+    → ComesTo items controller end
+comes_to_with_takes items controller old new answer end same runs line from outcome reported kept = record {
+  from_is = begins_with controller old.controller new.controller end.from from runs.led.controller same;
+  ends = λ log. is_end_with_takes (items_left items) controller old new answer end log same runs line outcome reported
+      kept;
+}

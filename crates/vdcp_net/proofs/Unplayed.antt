@@ -4,15 +4,15 @@ use Rattle.std.specs.Io.KnownBytes.{Appends, Keeps}
 use Rattle.std.specs.Prelude.{IfErr, Option, None, Some, Result, Ok, Err}
 use Rattle.vdcp_list.specs.declared.faults.ListFault.{ListFault}
 use Rattle.vdcp_list.specs.declared.faults.ListFault.TheVariants as lists
-use Rattle.vdcp_auto.specs.Plan.{Plan}
 use Rattle.vdcp_journal.specs.declared.faults.JournalReadFault.{JournalReadFault}
 use Rattle.vdcp_journal.specs.declared.faults.JournalReadFault.TheVariants as refused
 use Rattle.vdcp_journal.specs.declared.faults.ResumeFault.{ResumeFault}
 use Rattle.vdcp_journal.specs.declared.faults.ResumeFault.TheVariants as untold
+use Rattle.vdcp_journal.specs.Runs.{Run}
 use Rattle.vdcp_journal.specs.declared.row.Heading.{Heading}
 use Rattle.vdcp_record.specs.Recording.{IsUnbegun, IsUnopened, IsUnwritten as IsRowsUnwritten}
 use Rattle.vdcp_record.specs.Resuming as resuming
-use Rattle.vdcp_record.specs.Resuming.{IsRefused, IsUnresumed, read_failure, untold_failure}
+use Rattle.vdcp_record.specs.Resuming.{IsRefused, IsUnopenedAgain, IsUnresumed, read_failure, untold_failure}
 use Rattle.vdcp_text.specs.Failure.{failure_line, status_of}
 use Rattle.vdcp_value.specs.declared.part.Item.{Item}
 use Rattle.vdcp_text.specs.declared.failure.Failure.{Failure}
@@ -21,7 +21,7 @@ use Rattle.vdcp_text.specs.declared.failure.Failure.TheVariants as failures
 use Rattle.vdcp_files.specs.Files.{File, bytes_of, file, file_failure}
 use Rattle.vdcp_list.specs.Playlists.{IsListOf}
 use Rattle.vdcp_wire.specs.Address.{IsAddress}
-use Rattle.vdcp_net.specs.Run.{IsJournalOf, IsJournalRefused, IsListRefused, IsPlaceRefused, IsRunRefused, IsUnkept, IsUnplayed, heading_for, plan_for, no_address, no_journal, no_list, no_place, not_connected, not_empty, IsNotBegun}
+use Rattle.vdcp_net.specs.Run.{IsEventRefused, IsJournalOf, IsJournalRefused, IsListRefused, IsNoEvent, IsNotBegun, IsPlaceRefused, IsRunRefused, IsUnkept, IsUnplayed, heading_for, no_address, no_event, no_journal, no_list, no_place, not_connected, not_empty}
 use Rattle.vdcp_net.specs.declared.keeping.RunJournal.{RunJournal}
 use Rattle.vdcp_net.specs.declared.keeping.RunJournal.TheVariants as journals
 use Rattle.vdcp_net.specs.declared.run.RunSettings.{RunSettings}
@@ -90,32 +90,49 @@ read_status name failure (refused.Row row wrong) e = inl (ap status_of e)
 read_status name failure refused.Memory e = inr (ap status_of e)
 read_status name failure refused.Device e = inr (ap status_of e)
 
-untold_status : (name : Bor (List ℕ)) (failure : Failure) (wrong : ResumeFault) → failure ≡ untold_failure name wrong
-    → one_or_three failure
-untold_status name failure (untold.Command k) e = inl (ap status_of e)
-untold_status name failure (untold.Unawaited k) e = inl (ap status_of e)
-untold_status name failure (untold.Outcome k) e = inl (ap status_of e)
+untold_status : (name : Bor (List ℕ)) (failure : Failure) (before : ℕ) (wrong : ResumeFault)
+    → failure ≡ untold_failure name before wrong → one_or_three failure
+untold_status name failure before (untold.Command k) e = inl (ap status_of e)
+untold_status name failure before (untold.Unawaited k) e = inl (ap status_of e)
+untold_status name failure before (untold.Outcome k) e = inl (ap status_of e)
 
-refused_status : (plan : Plan) (name : Bor (List ℕ)) (wanted : Heading) (bytes : List ℕ) (failure : Failure)
-    → IsRefused plan name wanted bytes failure → one_or_three failure
-refused_status plan name wanted bytes failure (resuming.no_journal wrong h e) = read_status name failure wrong e
-refused_status plan name wanted bytes failure (resuming.of_other journal is differs h e) = inl (ap status_of e)
-refused_status plan name wanted bytes failure (resuming.untold journal is wrong h e) =
-    untold_status name failure wrong e
+run_refused_status : (items : List Item) (name : Bor (List ℕ)) (heading : Heading) (run : Run) (failure : Failure)
+    → resuming.IsRunRefused items name heading run failure → one_or_three failure
+run_refused_status items name heading run failure (resuming.no_event few e) = inl (ap status_of e)
+run_refused_status items name heading run failure (resuming.untold wrong h e) =
+    untold_status name failure run.begin wrong e
 
-unresumed_status : (plan : Plan) (name : Bor (List ℕ)) (wanted : Heading) (failure : Failure)
-    → IsUnresumed plan name wanted failure → one_or_three failure
-unresumed_status plan name wanted failure (resuming.no_file h) = unopened_status name failure h
-unresumed_status plan name wanted failure (resuming.failed e) = inr (ap status_of e)
-unresumed_status plan name wanted failure (resuming.kept h) = rows_unwritten_status name failure h
-unresumed_status plan name wanted failure (resuming.bad bytes h) =
-    refused_status plan name wanted bytes failure h
+refused_status : (items : List Item) (name : Bor (List ℕ)) (wanted : Heading) (bytes : List ℕ) (failure : Failure)
+    → IsRefused items name wanted bytes failure → one_or_three failure
+refused_status items name wanted bytes failure (resuming.no_journal wrong h e) = read_status name failure wrong e
+refused_status items name wanted bytes failure (resuming.of_other journal is differs h e) = inl (ap status_of e)
+refused_status items name wanted bytes failure (resuming.bad_run journal is run last h) =
+    run_refused_status items name wanted run failure h
+refused_status items name wanted bytes failure (resuming.no_memory e) = inr (ap status_of e)
+
+unresumed_status : (items : List Item) (name : Bor (List ℕ)) (wanted : Heading) (failure : Failure)
+    → IsUnresumed items name wanted failure → one_or_three failure
+unresumed_status items name wanted failure (resuming.no_file h) = unopened_status name failure h
+unresumed_status items name wanted failure (resuming.failed e) = inr (ap status_of e)
+unresumed_status items name wanted failure (resuming.kept h) = rows_unwritten_status name failure h
+unresumed_status items name wanted failure (resuming.bad bytes h) = refused_status items name wanted bytes failure h
+
+unopened_again_status : (items : List Item) (name : Bor (List ℕ)) (wanted : Heading) (word : Option ℕ)
+    (failure : Failure) → IsUnopenedAgain items name wanted word failure → one_or_three failure
+unopened_again_status items name wanted word failure (resuming.unresumed h) =
+    unresumed_status items name wanted failure h
+unopened_again_status items name wanted word failure (resuming.unsettled unsaid bytes run ended end whole is may e) =
+    inl (ap status_of e)
+unopened_again_status items name wanted word failure (resuming.no_event k said few e) =
+    inl (ap status_of e)
 
 journal_status : (settings : RunSettings) (items : List Item) (journal : RunJournal) (failure : Failure)
     → IsJournalRefused settings items journal failure → one_or_three failure
 journal_status settings items (journals.New name) failure h = unbegun_status name failure h
 journal_status settings items (journals.Older name) failure h =
-    unresumed_status (plan_for settings items) name (heading_for settings items) failure h
+    unresumed_status items name (heading_for settings items) failure h
+journal_status settings items (journals.Again name) failure h =
+    unopened_again_status items name (heading_for settings items) settings.from failure h
 
 asrun_status : (name : Option (Bor (List ℕ))) (failure : Failure) → IsJournalOf name failure → one_or_three failure
 asrun_status None failure is = absurd is
@@ -128,6 +145,12 @@ unkept_status settings items (Some journal) failure (inl e) = inr (ap status_of 
 unkept_status settings items (Some journal) failure (inr (inl h)) = journal_status settings items journal failure h
 unkept_status settings items (Some journal) failure (inr (inr h)) = asrun_status settings.asrun failure h
 
+-- that of an event that the list hasn't is 1
+no_event_status : (from : Option ℕ) (items : List Item) (failure : Failure) → IsNoEvent from items failure
+    → status_of failure ≡ 1
+no_event_status None items failure missing = absurd missing
+no_event_status (Some event) items failure missing = ap status_of missing.1
+
 pub told_with_2 : (settings : RunSettings) (text : List ℕ) (list : File) (failure : Failure) (status : ℕ)
     (err err' : Option (List ℕ))
     → IsUnplayed settings text list failure → (status ≡ status_of failure) ⊎ (status ≡ 3)
@@ -138,6 +161,9 @@ told_with_2 settings text list failure status err err' (no_address none e) is to
     (none, subst P e (told (omega (arith, two))))
 told_with_2 settings text (file name bytes) failure status err err' (no_list some (fault, e, rows)) is told two =
     absurd (list_status name fault (sym (ap status_of e) ∙ own_status failure status is two))
+told_with_2 settings text list failure status err err' (no_event some items lists missing) is told two =
+    let one : status_of failure ≡ 1 = no_event_status settings.from items failure missing in
+    absurd (omega (arith, one, own_status failure status is two))
 told_with_2 settings text list failure status err err' (no_place some whole refused) is told two =
     let three : status_of failure ≡ 3 = place_status settings.asrun failure refused in
     absurd (omega (arith, three, own_status failure status is two))
@@ -156,7 +182,8 @@ pub told_with_1 : (settings : RunSettings) (text : List ℕ) (list : File) (fail
     → IsUnplayed settings text list failure → (status ≡ status_of failure) ⊎ (status ≡ 3)
     → (status < 3 → Appends err err' (failure_line failure))
     → status ≡ 1 → IsListRefused settings.rate list out out err err'
-    ⊎ (IsRunRefused settings list out out err err' ⊎ IsNotBegun settings.rate list out out err err')
+    ⊎ (IsRunRefused settings list out out err err'
+    ⊎ (IsNotBegun settings.rate list out out err err' ⊎ IsEventRefused settings list out out err err'))
 told_with_1 settings text list failure status out err err' (no_address none e) is told one =
     let two : status_of failure ≡ 2 = ap status_of e in
     absurd (omega (arith, two, own_status_1 failure status is one))
@@ -167,6 +194,15 @@ told_with_1 settings text list failure status out err err' (no_list some refused
   told = told (omega (arith, one));
   silent = keeps_itself out;
 })
+told_with_1 settings text list failure status out err err' (no_event some items lists missing) is told one =
+    inr (inr (inr (record {
+      failure = failure;
+      items = items;
+      lists = lists;
+      missing = missing;
+      told = told (omega (arith, one));
+      silent = keeps_itself out;
+    })))
 told_with_1 settings text list failure status out err err' (no_place some whole refused) is told one =
     let three : status_of failure ≡ 3 = place_status settings.asrun failure refused in
     absurd (omega (arith, three, own_status_1 failure status is one))
@@ -183,11 +219,11 @@ told_with_1 settings text list failure status out err err' (no_journal some item
 told_with_1 settings text list failure status out err err' (not_connected some whole e) is told one =
     let three : status_of failure ≡ 3 = ap status_of e in
     absurd (omega (arith, three, own_status_1 failure status is one))
-told_with_1 settings text list failure status out err err' (not_empty some whole e) is told one = inr (inr (record {
+told_with_1 settings text list failure status out err err' (not_empty some whole e) is told one = inr (inr (inl (record {
   whole = whole;
   told = subst (λ (f : Failure). Appends err err' (failure_line f)) e (told (omega (arith, one)));
   silent = keeps_itself out;
-}))
+})))
 
 -- a list with a journal, where it isn't played
 pub unplayed_with : {A : Type 0} (settings : RunSettings) (text : List ℕ) (list : File) (items : List Item)
@@ -204,3 +240,17 @@ unplayed_with settings text list items journal (Err failure) some lists is (inr 
     not_connected some (items, lists) e
 unplayed_with settings text list items journal (Err failure) some lists is (inr (inr e)) =
     not_empty some (items, lists) e
+
+-- a journal that is refused, of a run that is made with these settings
+pub unresumed_as : (settings : RunSettings) (items : List Item) (name : Bor (List ℕ)) (heading : Heading)
+    (failure : Failure) → heading ≡ heading_for settings items → IsUnresumed items name heading failure
+    → IsUnkept settings items (Some (journals.Older name)) failure
+unresumed_as settings items name heading failure of h =
+    inr (inl (subst (λ (w : Heading). IsUnresumed items name w failure) of h))
+
+pub unopened_as : (settings : RunSettings) (items : List Item) (name : Bor (List ℕ)) (heading : Heading)
+    (failure : Failure) → heading ≡ heading_for settings items
+    → IsUnopenedAgain items name heading settings.from failure
+    → IsUnkept settings items (Some (journals.Again name)) failure
+unopened_as settings items name heading failure of h =
+    inr (inl (subst (λ (w : Heading). IsUnopenedAgain items name w settings.from failure) of h))

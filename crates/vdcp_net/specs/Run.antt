@@ -1,11 +1,11 @@
 -- How a run ends: what it tells then, and its exit status.
 use Rattle.std.specs.Borrow.{Bor}
 use Rattle.std.specs.Io.KnownBytes.{Appends, Keeps}
-use Rattle.std.specs.Prelude.{ℕ, zero, suc, ◌≡◌, ◌⊎◌, Bool, true, false, List, [], ◌++◌, codes, decimal, Option, None, Some, option_map, IsSome, Result, Ok, Err}
+use Rattle.std.specs.Prelude.{ℕ, zero, suc, ◌≡◌, ◌⊎◌, ◌+◌, ◌-◌, ◌^◌, ◌<◌, ◌≤◌, min, Bool, true, false, List, [], ◌++◌, codes, decimal, drop, length, take, Option, None, Some, option_map, IsSome, Result, Ok, Err}
 use Rattle.vdcp_value.specs.declared.part.Item.{Item}
 use Rattle.vdcp_value.specs.declared.rate.Rate.{Rate}
 use Rattle.vdcp_auto.specs.Course.{Reached}
-use Rattle.vdcp_auto.specs.Plan.{Plan}
+use Rattle.vdcp_auto.specs.Plan.{Plan, View, plan_of}
 use Rattle.vdcp_auto.specs.Turn.{outcome_of}
 use Rattle.vdcp_auto.specs.declared.exchange.Exchange.{Exchange}
 use Rattle.vdcp_auto.specs.declared.outcome.Outcome.{Outcome}
@@ -18,9 +18,12 @@ use Rattle.vdcp_text.specs.declared.failure.Failure.TheVariants as failures
 use Rattle.vdcp_files.specs.Files.{File, IsWholeList, RefusesList, bytes_of}
 use Rattle.vdcp_files.specs.Mode.{mode_of}
 use Rattle.vdcp_journal.specs.declared.row.Heading.{Heading}
+use Rattle.vdcp_journal.specs.Runs.{Run}
+use Rattle.vdcp_list.specs.Asrun.{events_text, has_part}
 use Rattle.vdcp_list.specs.Playlists.{IsListOf}
+use Rattle.vdcp_list.specs.Rests.{FromEvent, items_left}
 use Rattle.vdcp_record.specs.Recording.{IsUnbegun}
-use Rattle.vdcp_record.specs.Resuming.{IsUnresumed}
+use Rattle.vdcp_record.specs.Resuming.{IsOpenedAgain, IsReplayed, IsUnopenedAgain, IsUnresumed}
 use Rattle.vdcp_record.specs.Showing.{digest_of}
 use Rattle.vdcp_text.specs.Outcome.{outcome_text}
 use Rattle.vdcp_drive.specs.declared.keep.KeptFault.{KeptFault}
@@ -49,6 +52,31 @@ plan_for settings items = record {
   port = settings.port;
   limit = settings.limit;
 }
+
+-- ---- numbers in the whole list, of a controller that plays the rest of it from an event on
+
+-- the event that a new controller begins with: the one that is said, or else the list's first
+abbrev pub first_event : Option ℕ → ℕ
+first_event None = 0
+first_event (Some event) = event
+
+-- the event that is this many after the one that the controller began with; no number is above the largest
+abbrev pub event_in_list : (from k : ℕ) → ℕ
+event_in_list from k = min (from + k) (2 ^ 64 - 1)
+
+abbrev pub outcome_with : ℕ → Outcome → Outcome
+outcome_with from Done = Done
+outcome_with from Stopped = Stopped
+outcome_with from Lost = Lost
+outcome_with from Denied = Denied
+outcome_with from (Missing k) = Missing (event_in_list from k)
+outcome_with from (Refused k) = Refused (event_in_list from k)
+outcome_with from (Foreign k) = Foreign (event_in_list from k)
+outcome_with from (Strange k) = Strange (event_in_list from k)
+
+-- how a controller ended that began with this event, if it has ended
+abbrev pub outcome_in_list : ℕ → Option Outcome → Option Outcome
+outcome_in_list from outcome = option_map (outcome_with from) outcome
 
 -- ---- how the line ended
 
@@ -93,12 +121,19 @@ older_after zero false = older.Kept
 older_after zero true = older.Replaced
 older_after (suc n) answered = older.Replaced
 
+-- the text of the list: the events that a controller reports of the rest of a list, with the numbers of the whole list
+abbrev pub reported_text : {S : Type 0} → Rate → (S → List Item) → View (FromEvent S) → List ℕ
+reported_text rate items controller =
+    events_text rate (has_part (items controller.source.source)) controller.source.from
+    (take controller.state.settled (drop controller.source.from (items controller.source.source)))
+
 -- ---- the journal
 
 -- the name of its file
 abbrev pub name_of : RunJournal → Bor (List ℕ)
 name_of (journals.New name) = name
 name_of (journals.Older name) = name
+name_of (journals.Again name) = name
 
 -- its name, where there is one
 abbrev pub journal_in : {J : Type 0} → Keeping J → Option (Bor (List ℕ))
@@ -119,7 +154,9 @@ heading_for settings items = record {
 abbrev pub IsJournalRefused : RunSettings → List Item → RunJournal → Failure → Type 0
 IsJournalRefused settings items (journals.New name) failure = IsUnbegun name failure
 IsJournalRefused settings items (journals.Older name) failure =
-    IsUnresumed (plan_for settings items) name (heading_for settings items) failure
+    IsUnresumed items name (heading_for settings items) failure
+IsJournalRefused settings items (journals.Again name) failure =
+    IsUnopenedAgain items name (heading_for settings items) settings.from failure
 
 -- the file that is named for the as-run list is the journal
 abbrev pub IsJournalOf : Option (Bor (List ℕ)) → Failure → Type 0
@@ -185,26 +222,63 @@ run_status end =
 -- ---- the whole
 
 -- this is the end of a controller that was made with this plan: some calls led it to this state, and its log has the
--- exchanges that
--- they ended. The outcome and the count of reported events are the state's. The line was unneeded only where the
--- controller has
--- ended, and where it has, the line was unneeded or it failed
+-- exchanges that they ended. The outcome and the first event that isn't reported are the state's, with the numbers of the
+-- whole list. The line was unneeded only where the controller has ended, and where it has, the line was unneeded or it
+-- failed
 pub record IsEndOf (plan : Plan) (end : RunEnd) : Type 0 where
   pub log : List Exchange
   pub state : State
   pub reached : Reached plan state log
-  pub outcome_is : end.outcome ≡ outcome_of state.stage
-  pub reported_is : end.reported ≡ state.settled
+  pub outcome_is : end.outcome ≡ outcome_in_list end.from (outcome_of state.stage)
+  pub reported_is : end.reported ≡ end.from + state.settled
   pub unneeded : end.line ≡ line_end.Unneeded → IsSome end.outcome
   pub ended : IsSome end.outcome → (end.line ≡ line_end.Unneeded) ⊎ (end.line ≡ line_end.Failed)
   -- a command that couldn't be kept is told
   pub told : end.line ≡ line_end.Unkept → IsSome end.unkept
 
--- the file is a playlist, and this is the end of a controller that plays it
+-- this is the end of a controller that plays the rest of a list: whatever its log is, from there it came to this end
+pub record ComesTo {S : Type 0} (items : S → List Item) (controller : View (FromEvent S)) (end : RunEnd) : Type 0 where
+  pub from_is : end.from ≡ controller.source.from
+  pub ends : (log : List Exchange) → Reached (plan_of (items_left items) controller) controller.state log
+      → IsEndOf (plan_of (items_left items) controller) end
+
+-- the last run of some journal of these items, which is made with these settings, began with this event
+pub record GoesOnFrom (settings : RunSettings) (items : List Item) (from : ℕ) : Type 0 where
+  pub bytes : List ℕ
+  pub run : Run
+  pub plan : Plan
+  pub state : State
+  pub whole : ℕ
+  pub replayed : IsReplayed items (heading_for settings items) bytes run plan state whole
+  pub from_is : from ≡ run.from
+
+-- what goes on where a journal of these items is opened again, which is made with these settings, began with this event
+pub record BeginsAgainFrom (settings : RunSettings) (items : List Item) (from : ℕ) : Type 0 where
+  pub plan : Plan
+  pub state : State
+  pub opened : IsOpenedAgain items (heading_for settings items) settings.from from plan state
+
+-- the event that the controller of a run of these items began with, by the journal that it has, if it has one
+abbrev pub BeginsAt : RunSettings → List Item → Option RunJournal → ℕ → Type 0
+BeginsAt settings items None from = from ≡ first_event settings.from
+BeginsAt settings items (Some (journals.New name)) from = from ≡ first_event settings.from
+BeginsAt settings items (Some (journals.Older name)) from = GoesOnFrom settings items from
+BeginsAt settings items (Some (journals.Again name)) from = BeginsAgainFrom settings items from
+
+-- this is the end of a controller that plays these items from one on, by the journal that the run has, if it has one
+pub record IsRunOf (settings : RunSettings) (items : List Item) (journal : Option RunJournal) (end : RunEnd)
+    : Type 0 where
+  pub from : ℕ
+  pub begins : BeginsAt settings items journal from
+  pub within : from ≤ length items
+  pub ends : IsEndOf (plan_for settings (drop from items)) end
+  pub from_is : end.from ≡ from
+
+-- the file is a playlist, and this is the end of a controller that plays it, from an event on
 pub record IsPlayed (settings : RunSettings) (list : File) (end : RunEnd) : Type 0 where
   pub items : List Item
   pub lists : IsListOf settings.rate (bytes_of list) items
-  pub ends : IsEndOf (plan_for settings items) end
+  pub runs : IsRunOf settings items settings.journal end
   pub unwritten : MayBeUnwritten settings.asrun end.unwritten
   pub unkept : MayBeUnkept (option_map name_of settings.journal) end.unkept
 
@@ -215,11 +289,19 @@ pub record IsRun (settings : RunSettings) (list : File) (out out' : Option (List
   pub gained : Appends out out' (end_text end)
   pub status_is : status ≡ run_status end
 
--- why a list isn't played: the text is no address, or else the list isn't read, or else the as-run list can't be
--- written, or else the journal can't be kept, or else nobody takes the connection, or else the port isn't empty
+-- the list has fewer events than the one that a controller is to begin with, if it is said
+abbrev pub IsNoEvent : Option ℕ → List Item → Failure → Type 0
+IsNoEvent None items failure = ⊥
+IsNoEvent (Some event) items failure = (length items < event) × (failure ≡ failures.NoEvent event)
+
+-- why a list isn't played: the text is no address, or else the list isn't read, or else it has no event to begin with, or
+-- else the as-run list can't be written, or else the journal can't be kept, or else nobody takes the connection, or else
+-- the port isn't empty
 pub data IsUnplayed (settings : RunSettings) (text : List ℕ) (list : File) (failure : Failure) : Type 0 where
   no_address : ¬ IsAddress text → failure ≡ failures.Address → IsUnplayed settings text list failure
   no_list : IsAddress text → RefusesList settings.rate list failure → IsUnplayed settings text list failure
+  no_event : IsAddress text → (items : List Item) → IsListOf settings.rate (bytes_of list) items →
+      IsNoEvent settings.from items failure → IsUnplayed settings text list failure
   no_place : IsAddress text → IsWholeList settings.rate list → IsPlaceRefused settings.asrun failure →
       IsUnplayed settings text list failure
   no_journal : IsAddress text → (items : List Item) → IsListOf settings.rate (bytes_of list) items →
@@ -235,7 +317,17 @@ pub record IsNotBegun (rate : Rate) (list : File) (out out' err err' : Option (L
   pub told : Appends err err' (failure_line failures.NotEmpty)
   pub silent : Keeps out out'
 
--- a row of the journal is refused: one writer gained the line that tells it, and the other nothing
+-- the list has no event to begin with: one writer gained the line that tells it, and the other nothing
+pub record IsEventRefused (settings : RunSettings) (list : File) (out out' err err' : Option (List ℕ)) : Type 0 where
+  pub failure : Failure
+  pub items : List Item
+  pub lists : IsListOf settings.rate (bytes_of list) items
+  pub missing : IsNoEvent settings.from items failure
+  pub told : Appends err err' (failure_line failure)
+  pub silent : Keeps out out'
+
+-- a row of the journal is refused, or the event to go on with may have aired: one writer gained the line that tells it,
+-- and the other nothing
 pub record IsRunRefused (settings : RunSettings) (list : File) (out out' err err' : Option (List ℕ)) : Type 0 where
   pub failure : Failure
   pub items : List Item

@@ -1,7 +1,7 @@
 ghost use Rattle.std.specs.Io.KnownBytes.{Appends, Keeps};
 ghost use Rattle.std.specs.Prelude.{◌≡◌, ◌≢◌, IfErr, OnOk};
-ghost use Rattle.vdcp_list.specs.Asrun.{AppendsBeginning, asrun_text};
-ghost use Rattle.vdcp_net.specs.Run.{IsUnwritten, older_after};
+ghost use Rattle.vdcp_list.specs.Asrun.{AppendsBeginning};
+ghost use Rattle.vdcp_net.specs.Run.{IsUnwritten, older_after, reported_text};
 
 use crate::place::{Place, make_beside, not_made};
 use std::alloc::Global;
@@ -10,7 +10,7 @@ use std::io;
 use std::path::Path;
 use std::rt::Files;
 use vdcp_auto::{Controller, Source};
-use vdcp_list::{WriteFault, write_asrun};
+use vdcp_list::{Rest, WriteFault, write_events};
 use vdcp_text::Failure;
 use vdcp_value::Rate;
 
@@ -36,13 +36,13 @@ impl Older {
     }
 }
 
-/// Makes the file of this name and writes the as-run list to it: the events that the controller reports. An older file
-/// is there, whole, until the new one is.
+/// Makes the file of this name and writes the as-run list to it: the events that the controller reports, with the
+/// numbers of the whole list. An older file is there, whole, until the new one is.
 pub fn save_asrun<'a, R: Files + AllocGlobal, S: Source>(
     rt: &R,
     name: &'a str,
     older: Older,
-    controller: &Controller<S>,
+    controller: &Controller<Rest<S>>,
     rate: Rate,
 ) -> Result<(), Failure<'a>>
     ensures { IfErr result (IsUnwritten name.entry) }
@@ -65,7 +65,7 @@ fn save_beside<'a, R: Files + AllocGlobal, S: Source>(
     rt: &R,
     name: &'a str,
     whole: &str,
-    controller: &Controller<S>,
+    controller: &Controller<Rest<S>>,
     rate: Rate,
 ) -> Result<(), Failure<'a>>
     ensures { IfErr result (IsUnwritten name.entry) }
@@ -108,7 +108,7 @@ fn save_to<'a, R: AllocGlobal, S: Source, W: io::Write>(
     rt: &R,
     name: &'a str,
     file: &mut W,
-    controller: &Controller<S>,
+    controller: &Controller<Rest<S>>,
     rate: Rate,
 ) -> Result<(), Failure<'a>>
     ensures { IfErr result (IsUnwritten name.entry) }
@@ -124,22 +124,23 @@ fn save_to<'a, R: AllocGlobal, S: Source, W: io::Write>(
 /// Writes the as-run list of the events that the controller reports, and flushes the writer.
 fn write_reported<S: Source, W: io::Write>(
     alloc: Global,
-    controller: &Controller<S>,
+    controller: &Controller<Rest<S>>,
     rate: Rate,
     writer: &mut W,
 ) -> Result<(), WriteFault>
     ensures ok { OnOk result (Appends (W.contents writer.old) (W.contents writer.new)
-        (asrun_text rate (S.items controller.now.source) controller.now.state.settled)) }
+        (reported_text rate S.items controller.now)) }
     ensures kept { IfErr result (λ fault. fault ≢ WriteFault.Device →
         Keeps (W.contents writer.old) (W.contents writer.new)) }
     ensures beginning { IfErr result (λ fault. fault ≡ WriteFault.Device →
-        AppendsBeginning (W.contents writer.old) (W.contents writer.new)
-        (asrun_text rate (S.items controller.now.source) controller.now.state.settled)) }
+        AppendsBeginning (W.contents writer.old) (W.contents writer.new) (reported_text rate S.items controller.now)) }
 {
-    write_asrun(
+    let rest = controller.source();
+    write_events(
         alloc,
-        controller.source(),
+        rest.whole(),
         rate,
+        rest.from(),
         controller.settled(),
         writer,
     )

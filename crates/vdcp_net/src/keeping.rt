@@ -10,8 +10,10 @@ use vdcp_wire::Wire;
 pub enum RunJournal<'a> {
     /// A new one, whose file is made.
     New(&'a str),
-    /// The one from which the run goes on.
+    /// The one whose last run goes on.
     Older(&'a str),
+    /// The one after whose last run a new controller begins, since the server was lost.
+    Again(&'a str),
 }
 
 /// What keeps the exchanges of a run.

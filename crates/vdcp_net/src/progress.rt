@@ -1,3 +1,4 @@
+use crate::in_list::reported_in_list;
 use crate::screen::write_at_once;
 use crate::statuses::{HINT, MANY, Statuses, is_status};
 use arrayvec::ArrayString;
@@ -7,6 +8,7 @@ use std::rt::Clock;
 use std::time::Instant;
 use vdcp_auto::{Controller, Source};
 use vdcp_drive::Watch;
+use vdcp_list::Rest;
 use vdcp_value::ClipId;
 use vdcp_words::Command;
 
@@ -23,7 +25,7 @@ const MANY_WAITS: u32 = 2 * MANY;
 const ERASE: &'static str = "\r\x1b[K";
 
 /// A line of a terminal that shows how far a run is: the event at hand, the command whose answer is awaited,
-/// how many events are reported, and the time so far. It is drawn again where something changed, and ten
+/// how many events are reported (with the numbers of the whole list), and the time so far. It is drawn again where something changed, and ten
 /// times a second at most where nothing did. Where `MANY_WAITS` waits in a row were for the answer to a status, it says
 /// what to look at. Where the terminal or the clock fails, nothing more is drawn.
 #[derive(Drop)]
@@ -58,8 +60,9 @@ struct Glance {
     command: Command,
     /// There were many waits for the answer to a status.
     has_many: bool,
+    /// The first event that isn't reported, by its number in the whole list.
     reported: usize,
-    /// How many events there are.
+    /// How many events the whole list has.
     events: usize,
 }
 
@@ -135,8 +138,8 @@ fn begun_before(drawing: Drawing, glance: &Glance, now: Instant) -> Option<Insta
     }
 }
 
-impl<S: Source, R: Clock, V: io::Write> Watch<S> for Progress<'_, R, V> {
-    fn look(&mut self, controller: &Controller<S>) {
+impl<S: Source, R: Clock, V: io::Write> Watch<Rest<S>> for Progress<'_, R, V> {
+    fn look(&mut self, controller: &Controller<Rest<S>>) {
         let Some(command) = controller.awaited() else {
             return;
         };
@@ -152,12 +155,15 @@ impl<S: Source, R: Clock, V: io::Write> Watch<S> for Progress<'_, R, V> {
 
 impl Glance {
     // What is seen of a controller that awaits the answer to this command.
-    fn of<S: Source>(controller: &Controller<S>, command: Command, has_many: bool) -> Glance {
-        let source = controller.source();
-        let reported = controller.settled();
-        let events = source.len();
-        let event = if reported < events {
-            Some(source.at(reported).id)
+    fn of<S: Source>(
+        controller: &Controller<Rest<S>>,
+        command: Command,
+        has_many: bool,
+    ) -> Glance {
+        let rest = controller.source();
+        let settled = controller.settled();
+        let event = if settled < rest.len() {
+            Some(rest.at(settled).id)
         } else {
             None
         };
@@ -165,8 +171,8 @@ impl Glance {
             event,
             command,
             has_many,
-            reported,
-            events,
+            reported: reported_in_list(controller),
+            events: rest.whole().len(),
         }
     }
 }

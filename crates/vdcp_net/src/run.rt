@@ -1,35 +1,35 @@
 ghost use Rattle.std.specs.Io.KnownBytes.{Appends, Keeps};
-ghost use Rattle.std.specs.Prelude.{◌≡◌, ◌≢◌, ◌⊎◌, ◌≤◌, ◌↔◌, true, false, List, IfErr, IfOk, IsSome, IsTrue, None, Ok, OnErr, OnOk, Result, Some};
-ghost use Rattle.vdcp_auto.specs.Course.{Reached};
+ghost use Rattle.std.specs.Prelude.{◌≡◌, ◌≢◌, ◌⊎◌, ◌≤◌, ◌↔◌, ◌+◌, true, false, IfErr, IfOk, IsSome, IsTrue, None, Ok, OnErr, OnOk, Result, length};
 ghost use Rattle.vdcp_auto.specs.Plan.{plan_of};
 ghost use Rattle.vdcp_auto.specs.Turn as turns;
-ghost use Rattle.vdcp_auto.specs.declared.exchange.Exchange.{Exchange};
 ghost use Rattle.vdcp_drive.specs.KeptLeaves.{KeptLeaves};
 ghost use Rattle.vdcp_drive.specs.Vacancy.{HasAsked};
 ghost use Rattle.vdcp_files.specs.Files.{IsWholeList, file};
 ghost use Rattle.vdcp_files.specs.Mode.{mode_of};
+ghost use Rattle.vdcp_list.specs.Rests.{items_left};
 ghost use Rattle.vdcp_wire.specs.Address.{IsAddress};
 ghost use Rattle.vdcp_wire.specs.Wires.{IfTold, nothing_told};
-ghost use Rattle.vdcp_net.specs.Run.{IsEndOf, IsJournalOf, IsListRefused, IsNotBegun, IsOpening, IsPlayed, IsRun, IsRunRefused, IsUnkept, IsUnplayed, MayBeUnkept, MayBeUnwritten, journal_in};
-ghost use Rattle.vdcp_net.specs.Run.{end_text, fault_text, faults_text, line_end_of, heading_for, line_failure, name_of, plan_for, run_status};
-ghost use Rattle.vdcp_journal.specs.declared.row.Row.{Row};
-ghost use Rattle.vdcp_record.specs.Resuming.{IsResumed};
+ghost use Rattle.vdcp_net.specs.Run.{ComesTo, IsEventRefused, IsListRefused, IsNoEvent, IsNotBegun, IsOpening, IsPlayed, IsRun, IsRunOf, IsRunRefused, IsUnplayed, MayBeUnkept, MayBeUnwritten, journal_in};
+ghost use Rattle.vdcp_net.specs.Run.{end_text, fault_text, faults_text, first_event, line_end_of, line_failure, outcome_in_list, run_status};
 ghost use Rattle.vdcp_text.specs.Failure.{failure_line};
 
 mod back_to_back;
+mod journaled;
 mod prompt;
 
 use self::back_to_back::play_back_to_back;
+use self::journaled::play_kept;
 use self::prompt::play_prompt;
 use crate::asrun::{Older, save_asrun};
 use crate::dead::DeadWire;
+use crate::in_list::{outcome_in_list, reported_in_list};
 use crate::keeping::{Journal, Keeping, RunJournal};
 use crate::lapsing::Lapsing;
 use crate::log::{Log, Logged};
 use crate::notice::Notice;
-use crate::place::{test_journal, test_place};
+use crate::place::test_place;
 use crate::progress::Progress;
-use std::fs::{self, File};
+use std::fs::File;
 use std::io;
 use std::net::{Net, OpenStream, SocketAddr, SocketAddrV4};
 use std::rt::{Clock, Files};
@@ -39,9 +39,8 @@ use vdcp_drive::{
     AutoDriver, KeptFault, PromptDriver, Ran, Unkept, Unwatched, Vacancy, Watch, ask_port,
 };
 use vdcp_files::NamedFile;
-use vdcp_journal::{Heading, digest_of};
-use vdcp_list::Table;
-use vdcp_record::{RecordFault, Resumption, begin_journal, resume_journal};
+use vdcp_list::{Rest, Table};
+use vdcp_record::RecordFault;
 use vdcp_text::{Failure, OutcomeText};
 use vdcp_value::Rate;
 use vdcp_wire::{StreamWire, Wire, WireFault, address_of};
@@ -80,6 +79,8 @@ pub struct RunSettings<'a> {
     pub lengths: Option<&'a Table>,
     /// The most listens that are made.
     pub listens: u32,
+    /// The event of the list that a new controller begins with, if it is said; else it is the first one, 0.
+    pub from: Option<usize>,
     /// The file that is made for the as-run list, if one is wanted.
     pub asrun: Option<&'a str>,
     /// The journal, if one is kept.
@@ -146,9 +147,11 @@ impl LineEnd {
 /// How a run ended.
 #[derive(Clone, Copy, Debug, PartialEq, Eq)]
 struct RunEnd<'a> {
-    /// How the controller ended; None where it would go on.
+    /// The event of the list that the controller began with.
+    from: usize,
+    /// How the controller ended, with the number that its event has in the list; None where it would go on.
     outcome: Option<Outcome>,
-    /// How many events it reports.
+    /// The first event of the list that isn't reported, by its number: how many are, counted from the list's first.
     reported: usize,
     line: LineEnd,
     /// Why the as-run list that is wanted isn't written, if it isn't.
@@ -223,6 +226,9 @@ fn write_fault<E: io::Write>(failure: Option<Failure<'_>>, err: &mut E) -> io::R
 /// row for each reported event; and `out` gets how many events are reported, and how the controller ended,
 /// and is flushed. `err` gets the fault line of the as-run file, if there is one, and then that of the line.
 ///
+/// A controller begins with the list's first event, or with the one that is said, or after what a journal shows; the
+/// numbers that are told are always those of the whole list.
+///
 /// What the headline says of a controller and its log holds of the reported events: they are those that the
 /// exchanges over the line show to be settled.
 ///
@@ -236,9 +242,9 @@ fn write_fault<E: io::Write>(failure: Option<Failure<'_>>, err: &mut E) -> io::R
 ///
 /// Where it doesn't come to this, no file is made, `out` gets nothing, and `err` gets one fault line. The
 /// status is 2 where the address is none, which is tested before the list is read; 1 where a row of the list
-/// is refused, and where the port isn't empty; and 3 where the list can't be read, memory was refused or
-/// nobody takes the connection. It is 3 too where `out` or `err` failed. To a writer that failed nothing more
-/// is written.
+/// or of the journal is refused, where the event to begin with isn't there or may have aired, and where the port isn't
+/// empty; and 3 where the list can't be read, memory was refused or nobody takes the connection. It is 3 too where `out`
+/// or `err` failed. To a writer that failed nothing more is written.
 pub fn do_run<
     R: Net + Files<File = File> + Clock + AllocGlobal,
     L: io::Read + Drop,
@@ -260,7 +266,8 @@ pub fn do_run<
     ensures run { result ≡ 0 → IsRun settings.entry (file list.entry.name (L.remaining list.entry.reader))
         (W.contents out.old) (W.contents out.new) 0 }
     ensures untold { result ≡ 0 → Keeps (E.contents err.old) (E.contents err.new) }
-    // The status is 1 for how the controller ended, for a row that is refused, and for a port that isn't empty.
+    // The status is 1 for how the controller ended, for a row that is refused, for an event that isn't there or may have
+    // aired, and for a port that isn't empty.
     ensures others { result ≡ 1 →
         (IsRun settings.entry (file list.entry.name (L.remaining list.entry.reader)) (W.contents out.old)
         (W.contents out.new) 1
@@ -270,6 +277,8 @@ pub fn do_run<
         ⊎ IsRunRefused settings.entry (file list.entry.name (L.remaining list.entry.reader))
         (W.contents out.old) (W.contents out.new) (E.contents err.old) (E.contents err.new)
         ⊎ IsNotBegun settings.entry.rate (file list.entry.name (L.remaining list.entry.reader))
+        (W.contents out.old) (W.contents out.new) (E.contents err.old) (E.contents err.new)
+        ⊎ IsEventRefused settings.entry (file list.entry.name (L.remaining list.entry.reader))
         (W.contents out.old) (W.contents out.new) (E.contents err.old) (E.contents err.new) }
     // The status is 2 for an address that is none, unless this can't be told.
     ensures no_address { result ≡ 2 → ¬ IsAddress address.now
@@ -314,10 +323,32 @@ fn run_list<
     };
     let name = list.name;
     let events = list.read_list(rt.alloc(), settings.rate)?;
+    test_event(&events, settings.from)?;
     test_place(rt, settings.asrun, name)?;
     match settings.journal {
         None => play_unkept(rt, address, events, settings, showing),
         Some(journal) => play_kept(rt, address, journal, events, settings, showing),
+    }
+}
+
+// Tests that a list has the event that a controller is to begin with, if it is said, or ends before it.
+fn test_event<'a, S: Source>(source: &S, from: Option<usize>) -> Result<(), Failure<'a>>
+    ensures listed { OnOk result (first_event from ≤ length (S.items source.now)) }
+    ensures missing { IfErr result (IsNoEvent from (S.items source.now)) }
+{
+    match from {
+        Some(event) if event > source.len() => Err(Failure::NoEvent(event)),
+        _ => Ok(()),
+    }
+}
+
+// The event that a new controller begins with.
+fn first_event(from: Option<usize>) -> usize
+    ensures { result ≡ first_event from }
+{
+    match from {
+        Some(event) => event,
+        None => 0,
     }
 }
 
@@ -332,189 +363,16 @@ fn play_unkept<'a, R: Net + Files + Clock + AllocGlobal, S: Source + Drop, V: io
     requires unit { settings.unit ≤ 15 }
     requires some { 1 ≤ settings.limit }
     requires few { settings.limit ≤ 1000 }
+    requires listed { first_event settings.from ≤ length (S.items source) }
     ensures unwritten { IfOk result (λ end. MayBeUnwritten settings.entry.asrun end.unwritten) }
     ensures unkept { IfOk result (λ end. MayBeUnkept None end.unkept) }
-    ensures end { IfOk result (IsEndOf (plan_for settings.entry (S.items source))) }
+    ensures end { IfOk result (IsRunOf settings.entry (S.items source) None) }
     ensures refused { IfErr result (λ failure. (failure ≡ Failure.Connect) ⊎ (failure ≡ Failure.NotEmpty)) }
 {
-    let controller = new_controller(source, settings);
+    let rest = Rest::new(source, first_event(settings.from));
+    let controller = new_controller(rest, settings);
     let keeping: Keeping<'_, Unkept> = Keeping::Nothing;
     play_at(rt, address, controller, keeping, settings, showing)
-}
-
-// Plays a list with a journal.
-fn play_kept<
-    'a,
-    R: Net + Files<File = File> + Clock + AllocGlobal,
-    S: Source + Drop,
-    V: io::Write + Drop,
->(
-    rt: &R,
-    address: SocketAddrV4,
-    journal: RunJournal<'a>,
-    source: S,
-    settings: RunSettings<'a>,
-    showing: Showing<V>,
-) -> Result<RunEnd<'a>, Failure<'a>>
-    requires unit { settings.unit ≤ 15 }
-    requires some { 1 ≤ settings.limit }
-    requires few { settings.limit ≤ 1000 }
-    ensures unwritten { IfOk result (λ end. MayBeUnwritten settings.entry.asrun end.unwritten) }
-    ensures unkept { IfOk result (λ end. MayBeUnkept (Some (name_of journal.entry)) end.unkept) }
-    ensures end { IfOk result (IsEndOf (plan_for settings.entry (S.items source))) }
-    ensures refused { IfErr result (λ failure. IsUnkept settings.entry (S.items source) (Some journal.entry) failure
-        ⊎ (failure ≡ Failure.Connect) ⊎ (failure ≡ Failure.NotEmpty)) }
-{
-    match journal {
-        RunJournal::New(name) => play_new(rt, address, name, source, settings, showing),
-        RunJournal::Older(name) => play_older(rt, address, name, source, settings, showing),
-    }
-}
-
-// Plays a list with a new journal of this name. It is gone again where nothing was sent.
-fn play_new<
-    'a,
-    R: Net + Files<File = File> + Clock + AllocGlobal,
-    S: Source + Drop,
-    V: io::Write + Drop,
->(
-    rt: &R,
-    address: SocketAddrV4,
-    name: &'a str,
-    source: S,
-    settings: RunSettings<'a>,
-    showing: Showing<V>,
-) -> Result<RunEnd<'a>, Failure<'a>>
-    requires unit { settings.unit ≤ 15 }
-    requires some { 1 ≤ settings.limit }
-    requires few { settings.limit ≤ 1000 }
-    ensures unwritten { IfOk result (λ end. MayBeUnwritten settings.entry.asrun end.unwritten) }
-    ensures unkept { IfOk result (λ end. MayBeUnkept (Some name.entry) end.unkept) }
-    ensures end { IfOk result (IsEndOf (plan_for settings.entry (S.items source))) }
-    ensures refused { IfErr result (λ failure. IsUnkept settings.entry (S.items source)
-        (Some (RunJournal.New name.entry)) failure
-        ⊎ (failure ≡ Failure.Connect) ⊎ (failure ≡ Failure.NotEmpty)) }
-{
-    let heading = heading_of(rt, &source, settings)?;
-    let controller = new_controller(source, settings);
-    let journal = begin_journal(rt, name, &heading)?;
-    let end = play_begun(rt, address, controller, name, journal, settings, showing);
-    if end.is_err() {
-        let _ = fs::remove_file(rt, name);
-    }
-    end
-}
-
-// Plays a list with the journal of this name, which is there now.
-fn play_begun<
-    'a,
-    R: Net + Files + Clock + AllocGlobal,
-    S: Source + Drop,
-    J: Journal + Drop,
-    V: io::Write + Drop,
->(
-    rt: &R,
-    address: SocketAddrV4,
-    controller: Controller<S>,
-    name: &'a str,
-    journal: J,
-    settings: RunSettings<'a>,
-    showing: Showing<V>,
-) -> Result<RunEnd<'a>, Failure<'a>>
-    requires unit { settings.unit ≤ 15 }
-    requires some { 1 ≤ settings.limit }
-    ensures unwritten { IfOk result (λ end. MayBeUnwritten settings.entry.asrun end.unwritten) }
-    ensures unkept { IfOk result (λ end. MayBeUnkept (Some name.entry) end.unkept) }
-    ensures end { IfOk result (λ end. (log : List Exchange) → Reached (plan_of S.items controller) controller.state log
-        → IsEndOf (plan_of S.items controller) end) }
-    ensures refused { IfErr result (λ failure. IsJournalOf settings.entry.asrun failure
-        ⊎ (failure ≡ Failure.Connect) ⊎ (failure ≡ Failure.NotEmpty)) }
-{
-    test_journal(rt, settings.asrun, name)?;
-    let keeping = Keeping::Journal(name, journal);
-    play_at(rt, address, controller, keeping, settings, showing)
-}
-
-// Goes on with a list from the journal of this name. Where the controller has ended there, nothing is sent.
-fn play_older<
-    'a,
-    R: Net + Files<File = File> + Clock + AllocGlobal,
-    S: Source + Drop,
-    V: io::Write + Drop,
->(
-    rt: &R,
-    address: SocketAddrV4,
-    name: &'a str,
-    source: S,
-    settings: RunSettings<'a>,
-    showing: Showing<V>,
-) -> Result<RunEnd<'a>, Failure<'a>>
-    requires unit { settings.unit ≤ 15 }
-    requires some { 1 ≤ settings.limit }
-    requires few { settings.limit ≤ 1000 }
-    ensures unwritten { IfOk result (λ end. MayBeUnwritten settings.entry.asrun end.unwritten) }
-    ensures unkept { IfOk result (λ end. MayBeUnkept (Some name.entry) end.unkept) }
-    ensures end { IfOk result (IsEndOf (plan_for settings.entry (S.items source))) }
-    ensures refused { IfErr result (λ failure. IsUnkept settings.entry (S.items source)
-        (Some (RunJournal.Older name.entry)) failure
-        ⊎ (failure ≡ Failure.Connect) ⊎ (failure ≡ Failure.NotEmpty)) }
-{
-    test_journal(rt, settings.asrun, name)?;
-    let resumed = match resume(rt, name, source, settings) {
-        Ok(resumed) => resumed,
-        Err(failure) => return Err(failure),
-    };
-    let controller = resumed.controller;
-    match resumed.recorder {
-        Some(journal) => {
-            let keeping = Keeping::Journal(name, journal);
-            play_at(rt, address, controller, keeping, settings, showing)
-        }
-        None => Ok(ended(rt, &controller, LineEnd::Unneeded, true, settings)),
-    }
-}
-
-// What goes on from the journal of this name, if it is one of this list.
-fn resume<'a, 'r, R: Files<File = File> + Clock + AllocGlobal, S: Source + Drop>(
-    rt: &'r R,
-    name: &'a str,
-    source: S,
-    settings: RunSettings<'_>,
-) -> Result<Resumption<'a, 'r, R, S>, Failure<'a>>
-    requires unit { settings.unit ≤ 15 }
-    requires some { 1 ≤ settings.limit }
-    requires few { settings.limit ≤ 1000 }
-    ensures resumed { IfOk result (λ resumed. (rows : List Row)
-        × IsResumed (plan_for settings.entry (S.items source)) (turns.new_controller source
-        (mode_of settings.entry.confirm) settings.entry.port settings.entry.limit) rows resumed.controller) }
-    ensures goes_on { IfOk result (λ resumed. IsSome resumed.recorder
-        ↔ (turns.outcome_of resumed.controller.state.stage ≡ None)) }
-    ensures refused { IfErr result (IsUnkept settings.entry (S.items source) (Some (RunJournal.Older name.entry))) }
-{
-    let heading = heading_of(rt, &source, settings)?;
-    resume_journal(rt, name, &heading, new_controller(source, settings))
-}
-
-// What a journal of a run is of.
-fn heading_of<'a, R: AllocGlobal, S: Source>(
-    rt: &R,
-    source: &S,
-    settings: RunSettings<'_>,
-) -> Result<Heading, Failure<'a>>
-    ensures heading { IfOk result (λ heading. heading ≡ heading_for settings.entry (S.items source.now)) }
-    ensures refused { IfErr result (λ failure. failure ≡ Failure.Memory) }
-{
-    // (each part of a list was read at the rate at which it is written)
-    let Ok(digest) = digest_of(rt.alloc(), source, settings.rate) else {
-        return Err(Failure::Memory);
-    };
-    Ok(Heading {
-        digest,
-        confirming: settings.confirm,
-        unit: settings.unit,
-        port: settings.port,
-        limit: settings.limit,
-    })
 }
 
 // Connects, and plays a list.
@@ -527,7 +385,7 @@ fn play_at<
 >(
     rt: &R,
     address: SocketAddrV4,
-    controller: Controller<S>,
+    controller: Controller<Rest<S>>,
     keeping: Keeping<'a, J>,
     settings: RunSettings<'a>,
     showing: Showing<V>,
@@ -536,9 +394,7 @@ fn play_at<
     requires some { 1 ≤ settings.limit }
     ensures unwritten { IfOk result (λ end. MayBeUnwritten settings.entry.asrun end.unwritten) }
     ensures unkept { IfOk result (λ end. MayBeUnkept (journal_in keeping.entry) end.unkept) }
-    // Whatever the controller's log is: from there it came to this end.
-    ensures end { IfOk result (λ end. (log : List Exchange) → Reached (plan_of S.items controller) controller.state log
-        → IsEndOf (plan_of S.items controller) end) }
+    ensures end { IfOk result (ComesTo S.items controller) }
     ensures refused { IfErr result (λ failure. (failure ≡ Failure.Connect) ⊎ (failure ≡ Failure.NotEmpty)) }
 {
     let Ok(stream) = rt.connect(SocketAddr::V4(address)) else {
@@ -561,7 +417,7 @@ fn play_connected<
     V: io::Write + Drop,
 >(
     rt: &R,
-    controller: Controller<S>,
+    controller: Controller<Rest<S>>,
     stream: T,
     keeping: Keeping<'a, J>,
     settings: RunSettings<'a>,
@@ -571,9 +427,7 @@ fn play_connected<
     requires some { 1 ≤ settings.limit }
     ensures unwritten { MayBeUnwritten settings.entry.asrun result.unwritten }
     ensures unkept { MayBeUnkept (journal_in keeping.entry) result.unkept }
-    // Whatever the controller's log is: from there it came to this end.
-    ensures end { (log : List Exchange) → Reached (plan_of S.items controller) controller.state log →
-        IsEndOf (plan_of S.items controller) result }
+    ensures end { ComesTo S.items controller result }
 {
     let silence = Duration::from_millis(u64::from(settings.silence));
     let wire = StreamWire::new(stream, silence);
@@ -590,7 +444,7 @@ fn play_over<
     V: io::Write + Drop,
 >(
     rt: &R,
-    controller: Controller<S>,
+    controller: Controller<Rest<S>>,
     wire: io::Result<W>,
     keeping: Keeping<'a, J>,
     settings: RunSettings<'a>,
@@ -602,9 +456,7 @@ fn play_over<
     ensures failed { OnErr wire (result.line ≡ LineEnd.Failed) }
     ensures unwritten { MayBeUnwritten settings.entry.asrun result.unwritten }
     ensures unkept { MayBeUnkept (journal_in keeping.entry) result.unkept }
-    // Whatever the controller's log is: from there it came to this end.
-    ensures end { (log : List Exchange) → Reached (plan_of S.items controller) controller.state log →
-        IsEndOf (plan_of S.items controller) result }
+    ensures end { ComesTo S.items controller result }
 {
     match wire {
         Ok(wire) => play_shown(rt, controller, wire, keeping, settings, showing),
@@ -622,7 +474,7 @@ fn play_shown<
     V: io::Write + Drop,
 >(
     rt: &R,
-    controller: Controller<S>,
+    controller: Controller<Rest<S>>,
     wire: W,
     keeping: Keeping<'a, J>,
     settings: RunSettings<'a>,
@@ -633,9 +485,7 @@ fn play_shown<
     requires works { W.failures wire ≡ 0 }
     ensures unwritten { MayBeUnwritten settings.entry.asrun result.unwritten }
     ensures unkept { MayBeUnkept (journal_in keeping.entry) result.unkept }
-    // Whatever the controller's log is: from there it came to this end.
-    ensures end { (log : List Exchange) → Reached (plan_of S.items controller) controller.state log →
-        IsEndOf (plan_of S.items controller) result }
+    ensures end { ComesTo S.items controller result }
 {
     match showing {
         Showing::Nothing => play_asked(rt, controller, wire, &mut Unwatched, keeping, settings),
@@ -660,11 +510,11 @@ fn play_asked<
     R: Files + Clock + AllocGlobal,
     S: Source + Drop,
     W: Wire + Drop,
-    V: Watch<S>,
+    V: Watch<Rest<S>>,
     J: Journal + Drop,
 >(
     rt: &R,
-    controller: Controller<S>,
+    controller: Controller<Rest<S>>,
     mut wire: W,
     watcher: &mut V,
     keeping: Keeping<'a, J>,
@@ -675,9 +525,7 @@ fn play_asked<
     requires works { W.failures wire ≡ 0 }
     ensures unwritten { MayBeUnwritten settings.entry.asrun result.unwritten }
     ensures unkept { MayBeUnkept (journal_in keeping.entry) result.unkept }
-    // Whatever the controller's log is: from there it came to this end.
-    ensures end { (log : List Exchange) → Reached (plan_of S.items controller) controller.state log →
-        IsEndOf (plan_of S.items controller) result }
+    ensures end { ComesTo S.items controller result }
 {
     let mut left = settings.listens;
     match vacancy_for(&controller, settings, &mut left, &mut wire) {
@@ -737,11 +585,11 @@ fn play_on<
     R: Files + Clock + AllocGlobal,
     S: Source + Drop,
     W: Wire + Drop,
-    V: Watch<S>,
+    V: Watch<Rest<S>>,
     J: Journal + Drop,
 >(
     rt: &R,
-    controller: Controller<S>,
+    controller: Controller<Rest<S>>,
     wire: W,
     watcher: &mut V,
     keeping: Keeping<'a, J>,
@@ -751,9 +599,7 @@ fn play_on<
     requires works { W.failures wire ≡ 0 }
     ensures unwritten { MayBeUnwritten settings.entry.asrun result.unwritten }
     ensures unkept { MayBeUnkept (journal_in keeping.entry) result.unkept }
-    // Whatever the controller's log is: from there it came to this end.
-    ensures end { (log : List Exchange) → Reached (plan_of S.items controller) controller.state log →
-        IsEndOf (plan_of S.items controller) result }
+    ensures end { ComesTo S.items controller result }
 {
     match settings.hearing {
         Hearing::AtSilences => {
@@ -777,33 +623,26 @@ fn play_on<
 // empty no as-run list is written.
 fn unbegun<'a, R: Files + AllocGlobal, S: Source>(
     rt: &R,
-    controller: &Controller<S>,
+    controller: &Controller<Rest<S>>,
     line: LineEnd,
     settings: RunSettings<'a>,
 ) -> RunEnd<'a>
     requires begun { line ≢ LineEnd.Unneeded }
     requires kept { line ≢ LineEnd.Unkept }
-    ensures outcome { result.outcome ≡ turns.outcome_of controller.now.state.stage }
-    ensures reported { result.reported ≡ controller.now.state.settled }
+    ensures from { result.from ≡ controller.now.source.from }
+    ensures outcome { result.outcome ≡ outcome_in_list result.from (turns.outcome_of controller.now.state.stage) }
+    ensures reported { result.reported ≡ result.from + controller.now.state.settled }
     ensures unneeded { result.line ≡ LineEnd.Unneeded → IsSome result.outcome }
     ensures ended { IsSome result.outcome → result.line ≡ LineEnd.Unneeded }
     ensures told { result.line ≢ LineEnd.Unkept }
     ensures unwritten { MayBeUnwritten settings.entry.asrun result.unwritten }
     ensures kept { result.unkept ≡ None }
 {
-    let outcome = controller.outcome();
-    if outcome.is_some() {
+    if controller.outcome().is_some() {
         return ended(rt, controller, LineEnd::Unneeded, false, settings);
     }
     if line == LineEnd::Occupied {
-        let reported = controller.settled();
-        return RunEnd {
-            outcome,
-            reported,
-            line,
-            unwritten: None,
-            unkept: None,
-        };
+        return end_of(controller, line);
     }
     ended(rt, controller, line, false, settings)
 }
@@ -823,18 +662,20 @@ fn new_controller<S: Source>(source: S, settings: RunSettings<'_>) -> Controller
 }
 
 // Runs an automation, and writes what is reported of it.
-fn play<'a, R: Files + AllocGlobal, S: Source, W: Wire, V: Watch<S>, J: Journal + Drop>(
+fn play<'a, R: Files + AllocGlobal, S: Source, W: Wire, V: Watch<Rest<S>>, J: Journal + Drop>(
     rt: &R,
-    driver: &mut AutoDriver<S, W>,
+    driver: &mut AutoDriver<Rest<S>, W>,
     watcher: &mut V,
     keeping: Keeping<'a, J>,
     settings: RunSettings<'a>,
 ) -> RunEnd<'a>
     // What the driver's run left and answered, which is how the line ended.
     ensures leaves { (ran : Result Ran KeptFault) × (result.line ≡ line_end_of ran)
-        × KeptLeaves S.items W.told W.failures settings.entry.listens driver.old driver.new ran }
-    ensures outcome { result.outcome ≡ turns.outcome_of driver.new.controller.state.stage }
-    ensures reported { result.reported ≡ driver.new.controller.state.settled }
+        × KeptLeaves (items_left S.items) W.told W.failures settings.entry.listens driver.old driver.new ran }
+    ensures from { result.from ≡ driver.new.controller.source.from }
+    ensures outcome { result.outcome ≡ outcome_in_list result.from
+        (turns.outcome_of driver.new.controller.state.stage) }
+    ensures reported { result.reported ≡ result.from + driver.new.controller.state.settled }
     ensures unwritten { MayBeUnwritten settings.entry.asrun result.unwritten }
     ensures unkept { MayBeUnkept (journal_in keeping.entry) result.unkept }
     ensures told { result.line ≡ LineEnd.Unkept → IsSome result.unkept }
@@ -884,13 +725,14 @@ fn run_kept<'a, S: Source, W: Wire, V: Watch<S>, J: Journal + Drop>(
 // written.
 fn ended<'a, R: Files + AllocGlobal, S: Source>(
     rt: &R,
-    controller: &Controller<S>,
+    controller: &Controller<Rest<S>>,
     line: LineEnd,
     is_answered: bool,
     settings: RunSettings<'a>,
 ) -> RunEnd<'a>
-    ensures outcome { result.outcome ≡ turns.outcome_of controller.now.state.stage }
-    ensures reported { result.reported ≡ controller.now.state.settled }
+    ensures from { result.from ≡ controller.now.source.from }
+    ensures outcome { result.outcome ≡ outcome_in_list result.from (turns.outcome_of controller.now.state.stage) }
+    ensures reported { result.reported ≡ result.from + controller.now.state.settled }
     ensures line { result.line ≡ line }
     ensures unwritten { MayBeUnwritten settings.entry.asrun result.unwritten }
     ensures kept { result.unkept ≡ None }
@@ -903,10 +745,27 @@ fn ended<'a, R: Files + AllocGlobal, S: Source>(
         None => None,
     };
     RunEnd {
-        outcome: controller.outcome(),
-        reported: controller.settled(),
-        line,
         unwritten,
+        ..end_of(controller, line)
+    }
+}
+
+// The same, where no as-run list is wanted.
+fn end_of<'a, S: Source>(controller: &Controller<Rest<S>>, line: LineEnd) -> RunEnd<'a>
+    ensures from { result.from ≡ controller.now.source.from }
+    ensures outcome { result.outcome ≡ outcome_in_list result.from (turns.outcome_of controller.now.state.stage) }
+    ensures reported { result.reported ≡ result.from + controller.now.state.settled }
+    ensures line { result.line ≡ line }
+    ensures written { result.unwritten ≡ None }
+    ensures kept { result.unkept ≡ None }
+{
+    let from = controller.source().from();
+    RunEnd {
+        from,
+        outcome: outcome_in_list(from, controller.outcome()),
+        reported: reported_in_list(controller),
+        line,
+        unwritten: None,
         unkept: None,
     }
 }

@@ -1,5 +1,5 @@
 -- What an option says: a number, a rate, or whether it is wanted.
-use Rattle.std.specs.Prelude.{ℕ, List, ◌≡◌, ◌≤◌, ◌⊎◌, Bool, true, false, Option, None, Some, codes}
+use Rattle.std.specs.Prelude.{ℕ, List, ◌≡◌, ◌≤◌, ◌⊎◌, Bool, true, false, Option, None, Some, IsSome, codes}
 use Rattle.std.specs.Str.Parse.{IsNumeral, digits_value, without_leading_plus}
 use Rattle.clap.specs.Matches.{first_value, one_text}
 use Rattle.clap.specs.declared.parser.matches.Found.{Found}
@@ -35,8 +35,19 @@ abbrev pub HasFlag : Found → List ℕ → Bool → Type 0
 HasFlag found name true = one_text found name ≡ Some (codes "true")
 HasFlag found name false = (one_text found name ≡ None) ⊎ (one_text found name ≡ Some (codes "false"))
 
--- the journal of a run, by the two options that name one: that to go on from goes first
-abbrev pub NamesJournal : (new older : Option (List ℕ)) → Option RunJournal → Type 0
-NamesJournal new older None = (new ≡ None) × (older ≡ None)
-NamesJournal new older (Some (journals.New name)) = (new ≡ Some name.now) × (older ≡ None)
-NamesJournal new older (Some (journals.Older name)) = older ≡ Some name.now
+-- the option of this name has a text
+abbrev pub HasOption : Found → List ℕ → Type 0
+HasOption found name = IsSome (first_value found name)
+
+-- a journal that is gone on with is opened again: its flag is there, or the event to begin with is said
+abbrev pub OpensAgain : Found → Bool → Type 0
+OpensAgain found true = HasFlag found (codes "open-again") true ⊎ HasOption found (codes "from")
+OpensAgain found false = HasFlag found (codes "open-again") false × (first_value found (codes "from") ≡ None)
+
+-- the journal of a run, by the two options that name one, and by whether it is opened again: that to go on from goes
+-- first
+abbrev pub NamesJournal : (new older : Option (List ℕ)) → (again : Bool) → Option RunJournal → Type 0
+NamesJournal new older again None = (new ≡ None) × (older ≡ None)
+NamesJournal new older again (Some (journals.New name)) = (new ≡ Some name.now) × (older ≡ None)
+NamesJournal new older again (Some (journals.Older name)) = (older ≡ Some name.now) × (again ≡ false)
+NamesJournal new older again (Some (journals.Again name)) = (older ≡ Some name.now) × (again ≡ true)

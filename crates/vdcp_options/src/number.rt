@@ -211,6 +211,26 @@ pub fn idle_of(matches: &ArgMatches) -> Option<u32>
     Some(number_in(text, 1, 86_400))
 }
 
+/// The option `--from`, for the command line: the number of an event. Left out, it says none.
+pub fn from_option<'a>(alloc: Global) -> Arg<'a> {
+    Arg::new(alloc, "from")
+        .long("from")
+        .value_name("K")
+        .value_parser(value_parser!(u32).range(0..=4_294_967_295))
+        .help(
+            "Begins with this event of the list, the first being 0; with --resume, whatever may have aired",
+        )
+}
+
+/// The event to begin with, if it is said.
+pub fn from_of(matches: &ArgMatches) -> Option<usize>
+    ensures number { (n : ℕ) → GivesNumber (found_of matches.now) (codes "from") 0 4294967295 n → result ≡ Some n }
+    ensures missing { first_value (found_of matches.now) (codes "from") ≡ None → result ≡ None }
+{
+    let text = matches.get_str("from")?;
+    Some(number_in(text, 0, u32::MAX) as usize)
+}
+
 /// The number that the option's text writes; `clap` lets no text through that writes none in the
 /// range, and gives the default where the option is left out.
 pub fn number_of(matches: &ArgMatches, option: &NumberOption) -> u32

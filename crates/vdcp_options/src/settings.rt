@@ -1,11 +1,11 @@
 ghost use Rattle.clap.specs.Matches.{first_value, found_of};
-ghost use Rattle.std.specs.Prelude.{◌≡◌, ◌≤◌, ℕ, codes, false, None, option_map, Some, true};
-ghost use Rattle.vdcp_options.specs.Options.{GivesNumber, GivesRate, HasFlag, NamesJournal};
+ghost use Rattle.std.specs.Prelude.{◌≡◌, ◌≤◌, ℕ, Bool, codes, false, None, option_map, Some, true};
+ghost use Rattle.vdcp_options.specs.Options.{GivesNumber, GivesRate, HasFlag, NamesJournal, OpensAgain};
 ghost use Rattle.vdcp_value.specs.declared.rate.Rate.{Rate};
 
 use crate::number::{
     COPY, CUT, DAMAGE, FORGE, LISTENS, LOSE, LOSSY_SILENCE, POLL, RUN_SILENCE, SEED, SERVE_SILENCE,
-    WITHIN, cue_frames_of, idle_of, limit_of, number_of, port_of, turns_of, unit_of,
+    WITHIN, cue_frames_of, from_of, idle_of, limit_of, number_of, port_of, turns_of, unit_of,
 };
 use crate::rate::rate_of;
 use clap::ArgMatches;
@@ -98,14 +98,23 @@ pub fn serve_settings_of(matches: &ArgMatches) -> ServeSettings
 
 // The journal that is named; that to go on from goes first.
 fn journal_of<'a>(matches: &'a ArgMatches<'_>) -> Option<RunJournal<'a>>
-    ensures { NamesJournal (first_value (found_of matches.now) (codes "journal"))
-        (first_value (found_of matches.now) (codes "resume")) result }
+    ensures { (again : Bool) → OpensAgain (found_of matches.now) again →
+        NamesJournal (first_value (found_of matches.now) (codes "journal"))
+        (first_value (found_of matches.now) (codes "resume")) again result }
 {
     match (matches.get_str("resume"), matches.get_str("journal")) {
+        (Some(name), _) if opens_again(matches) => Some(RunJournal::Again(name)),
         (Some(name), _) => Some(RunJournal::Older(name)),
         (None, Some(name)) => Some(RunJournal::New(name)),
         (None, None) => None,
     }
+}
+
+// Whether a journal that is gone on with is opened again. Where an event to begin with is said, it is.
+fn opens_again(matches: &ArgMatches) -> bool
+    ensures { (again : Bool) → OpensAgain (found_of matches.now) again → result ≡ again }
+{
+    flag_of(matches, "open-again") || matches.get_str("from").is_some()
 }
 
 /// What the options say of a list that is played. The lengths of clips, which stand in a file, are the caller's to read.
@@ -129,8 +138,12 @@ pub fn run_settings_of<'a>(matches: &'a ArgMatches<'_>) -> RunSettings<'a>
     ensures prompts_not { HasFlag (found_of matches.now) (codes "prompt") false →
         result.hearing ≡ Hearing.AtSilences }
     ensures asruns { option_map (λ name. name.now) result.asrun ≡ first_value (found_of matches.now) (codes "asrun") }
-    ensures journals { NamesJournal (first_value (found_of matches.now) (codes "journal"))
-        (first_value (found_of matches.now) (codes "resume")) result.journal }
+    ensures begins { (n : ℕ) → GivesNumber (found_of matches.now) (codes "from") 0 4294967295 n
+        → result.from ≡ Some n }
+    ensures begins_not { first_value (found_of matches.now) (codes "from") ≡ None → result.from ≡ None }
+    ensures journals { (again : Bool) → OpensAgain (found_of matches.now) again →
+        NamesJournal (first_value (found_of matches.now) (codes "journal"))
+        (first_value (found_of matches.now) (codes "resume")) again result.journal }
 {
     RunSettings {
         unit: unit_of(matches),
@@ -142,6 +155,7 @@ pub fn run_settings_of<'a>(matches: &'a ArgMatches<'_>) -> RunSettings<'a>
         hearing: hearing_of(matches),
         lengths: None,
         listens: number_of(matches, &LISTENS),
+        from: from_of(matches),
         asrun: matches.get_str("asrun"),
         journal: journal_of(matches),
     }

@@ -1,7 +1,8 @@
-ghost use Rattle.std.specs.Prelude.{◌≡◌, IsSome, Result};
+ghost use Rattle.std.specs.Prelude.{◌≡◌, ◌+◌, IsSome, Result};
 ghost use Rattle.vdcp_auto.specs.Turn as turns;
 ghost use Rattle.vdcp_drive.specs.PromptKept.{PromptKeptLeaves};
-ghost use Rattle.vdcp_net.specs.Run.{MayBeUnkept, MayBeUnwritten, journal_in, line_end_of};
+ghost use Rattle.vdcp_list.specs.Rests.{items_left};
+ghost use Rattle.vdcp_net.specs.Run.{MayBeUnkept, MayBeUnwritten, journal_in, line_end_of, outcome_in_list};
 
 use super::{LineEnd, RunEnd, RunSettings, ended};
 use crate::keeping::{Journal, Keeping};
@@ -10,6 +11,7 @@ use crate::polling::Polling;
 use std::rt::{Clock, Files};
 use vdcp_auto::Source;
 use vdcp_drive::{KeptFault, PromptDriver, Ran, Unkept, Watch};
+use vdcp_list::Rest;
 use vdcp_record::RecordFault;
 use vdcp_text::Failure;
 use vdcp_wire::Wire;
@@ -20,11 +22,11 @@ pub(super) fn play_prompt<
     R: Files + Clock + AllocGlobal,
     S: Source,
     W: Wire,
-    V: Watch<S>,
+    V: Watch<Rest<S>>,
     J: Journal + Drop,
 >(
     rt: &R,
-    driver: &mut PromptDriver<S, W>,
+    driver: &mut PromptDriver<Rest<S>, W>,
     poll: u32,
     watcher: &mut V,
     keeping: Keeping<'a, J>,
@@ -32,9 +34,11 @@ pub(super) fn play_prompt<
 ) -> RunEnd<'a>
     // What the driver's run left and answered, which is how the line ended.
     ensures leaves { (ran : Result Ran KeptFault) × (result.line ≡ line_end_of ran)
-        × PromptKeptLeaves S.items W.told W.failures settings.entry.listens driver.old driver.new ran }
-    ensures outcome { result.outcome ≡ turns.outcome_of driver.new.controller.state.stage }
-    ensures reported { result.reported ≡ driver.new.controller.state.settled }
+        × PromptKeptLeaves (items_left S.items) W.told W.failures settings.entry.listens driver.old driver.new ran }
+    ensures from { result.from ≡ driver.new.controller.source.from }
+    ensures outcome { result.outcome ≡ outcome_in_list result.from
+        (turns.outcome_of driver.new.controller.state.stage) }
+    ensures reported { result.reported ≡ result.from + driver.new.controller.state.settled }
     ensures unwritten { MayBeUnwritten settings.entry.asrun result.unwritten }
     ensures unkept { MayBeUnkept (journal_in keeping.entry) result.unkept }
     ensures told { result.line ≡ LineEnd.Unkept → IsSome result.unkept }
