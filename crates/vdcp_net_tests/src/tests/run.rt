@@ -34,6 +34,7 @@ fn run_with<V: Write + Drop, W: Write, E: Write>(
         listens: 1,
         asrun: None,
         journal: None,
+        from: None,
     };
     let list = NamedFile {
         name: "list.csv",
