@@ -166,9 +166,11 @@ reached_after : (plan plan' : Plan) (state : State) (rows : List Row) → 1 ≤ 
     → plan' ≡ plan → state ≡ state_after plan rows → (log : List Exchange) × Reached plan' state log
 reached_after plan plan' state rows some few plan_is state_is =
     let told = told_by plan start [] (begun some few) rows in
-    let log = logged told.0 (ended_by_call plan (Receive None) (after_rows plan start rows)) in
-    (log, subst (λ (p : Plan). Reached p state log) (sym plan_is)
-        (subst (λ (s : State). Reached plan s log) (sym state_is) (called told.1 (Receive None))))
+    let log = logged told.0 (ended_by_call plan (Receive None) (after_rows plan start rows)) in (
+      log,
+      subst (λ (p : Plan). Reached p state log) (sym plan_is)
+          (subst (λ (s : State). Reached plan s log) (sym state_is) (called told.1 (Receive None))),
+    )
 
 none_is_some : {A : Type 0} (o : Option A) → o ≡ None → ¬ IsSome o
 none_is_some None none = λ some. cc
@@ -281,7 +283,7 @@ opened_so items list settings name controller end some few begins
     run_of items list settings (Some (journals.Again name)) controller end controller.source.from [] begins within
     plan_is refl
     (subst (λ (p : Plan). Reached p controller.state []) (sym plan_is)
-        (subst (λ (s : State). Reached plan s []) (sym state_is) new))
+    (subst (λ (s : State). Reached plan s []) (sym state_is) new))
     came
 opened_so items list settings name controller end some few begins
     (resuming.is_over unsaid bytes run whole replayed from_is over) came =
@@ -313,7 +315,7 @@ opened_run_if items list settings name heading controller (Ok end) some few of o
     let plan : Plan = plan_of (items_left items) controller in
     opened_run items list settings name controller end some few
     (subst (λ (h : Heading). IsOpenedAgain list h settings.from controller.source.from plan controller.state)
-        of opened)
+    of opened)
     came
 opened_run_if items list settings name heading controller (Err failure) some few of opened came = tt
 

@@ -155,11 +155,7 @@ impl<S: Source, R: Clock, V: io::Write> Watch<Rest<S>> for Progress<'_, R, V> {
 
 impl Glance {
     // What is seen of a controller that awaits the answer to this command.
-    fn of<S: Source>(
-        controller: &Controller<Rest<S>>,
-        command: Command,
-        has_many: bool,
-    ) -> Glance {
+    fn of<S: Source>(controller: &Controller<Rest<S>>, command: Command, has_many: bool) -> Glance {
         let rest = controller.source();
         let settled = controller.settled();
         let event = if settled < rest.len() {

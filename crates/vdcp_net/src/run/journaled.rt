@@ -236,4 +236,3 @@ fn heading_of<'a, R: AllocGlobal, S: Source>(
         limit: settings.limit,
     })
 }
-

@@ -16,4 +16,4 @@ returns-in_err-test_event-clause-unplayed g c =
     let p = err_from_is_err_and r.result r.ensures.1 in
     rw (p.1, p.2)
     (no_event (c.in-Ok.address, c.in-Ok.ensures.address) (items_of c.in_ok-events.events) c.in_ok-events.ensures.events
-        c.in_err-test_event.ensures.missing)
+    c.in_err-test_event.ensures.missing)

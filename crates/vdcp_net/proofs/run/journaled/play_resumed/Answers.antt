@@ -8,5 +8,5 @@ returns-clause-end g c =
     let e = c.ended.ensures in
     unbegun_comes_to g.S.Source.items c.args.resumed.controller c.ended.result e.from e.outcome e.reported
     (λ unneeded. subst (λ o. IsSome o) (sym e.outcome)
-        (in_list_some _ _ (has_ended c.args.resumed.recorder _ c.requires.goes_on c.in-None.is)))
+    (in_list_some _ _ (has_ended c.args.resumed.recorder _ c.requires.goes_on c.in-None.is)))
     (λ some. e.line) (not_unkept _ e.line)
