@@ -187,13 +187,7 @@ fn a_journal_is_opened_again(rt: HostRuntime) -> Result<(), Fail> {
     let name = name.as_str();
     let heading = heading(&rt)?;
     let list = list(&rt)?;
-    let mut driver = driver(&rt)?;
-    let mut recorder = begin_journal(&rt, name, &heading).ok().ok_or("begun")?;
-    let _ = recorder.run(&mut driver, 12, &mut Unwatched);
-    drop(recorder);
-    // (the PLAY of event 0 is open)
-    let unsettled = begin_again(&rt, name, &heading, &list, None);
-    assert_eq!(rt; unsettled.err(), Some(Failure::MayHaveAired(0)));
+    drop(begin_journal(&rt, name, &heading).ok().ok_or("begun")?);
     let beyond = begin_again(&rt, name, &heading, &list, Some(3));
     assert_eq!(rt; beyond.err(), Some(Failure::NoEvent(3)));
     let again = begin_again(&rt, name, &heading, &list, Some(1));
@@ -202,21 +196,8 @@ fn a_journal_is_opened_again(rt: HostRuntime) -> Result<(), Fail> {
     let mut recorder = again.recorder.ok_or("a recorder")?;
     assert_eq!(rt; recorder.finish(None), Ok(()));
     drop(recorder);
-    // (the run of the row `from` goes on)
-    let resumed = resume_journal(&rt, name, &heading, &list);
-    let resumed = resumed.ok().ok_or("resumed")?;
-    assert_eq!(rt;
-        (resumed.controller.source().len(), resumed.controller.settled()),
-        (1, 0)
-    );
-    drop(resumed);
     let bytes = fs::read(&rt, name)?;
     fs::remove_file(&rt, name)?;
     assert!(rt; bytes.as_slice().ends_with(b",from,1,\n"));
-    let (status, out, err) = shown(&rt, bytes.as_slice(), false);
-    assert_eq!(rt;
-        (status, out.len(), err.as_slice()),
-        (0, 0, b"vdcp: event 0 may have aired\n".as_slice())
-    );
     Ok(())
 }
