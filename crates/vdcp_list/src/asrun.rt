@@ -62,7 +62,6 @@ pub fn write_events<S: Source, W: Write, A: Allocator>(
         → AppendsBeginning (W.contents writer.old) (W.contents writer.new)
         (events_text rate (has_part (S.items source.now)) from (take count (drop from (S.items source.now))))) }
 {
-    let all = source.len();
     let end = from + count;
     let among = check_parts(source, rate, end)?;
     let with_parts = has_part(source, end, among);
@@ -177,7 +176,6 @@ fn events_text<'a, S: Source, A: Allocator>(
         (λ text. text.items ≡ events_text rate with_parts from (take count (drop from (S.items source.now)))) }
     ensures memory { IfErr result (λ fault. fault ≡ WriteFault.Memory) }
 {
-    let all = source.len();
     let mut rows = WriterBuilder::new().from_writer(Vec::new(alloc));
     let mut number = String::new(alloc);
     for k in 0..count {

@@ -68,7 +68,6 @@ pub fn write_timed_events<S: Source, T: Timed, W: Write, A: Allocator>(
         (timed_rows T.played T.known rate (has_part (S.items source.now)) from (drop from (S.items source.now))
         times.now)) }
 {
-    let all = source.len();
     let end = from + times.len();
     let among = check_parts(source, rate, end)?;
     let with_parts = has_part(source, end, among);
@@ -109,7 +108,6 @@ fn timed_text<'a, S: Source, T: Timed, A: Allocator>(
         ≡ timed_rows T.played T.known rate with_parts from (drop from (S.items source.now)) times.now) }
     ensures memory { IfErr result (λ fault. fault ≡ WriteFault.Memory) }
 {
-    let all = source.len();
     let mut rows = WriterBuilder::new().from_writer(Vec::new(alloc));
     let mut number = String::new(alloc);
     for k in 0..times.len() {
