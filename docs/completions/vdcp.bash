@@ -25,7 +25,7 @@ _vdcp() {
         fi
         case $rest$word in
         --) rest=1 ;;
-        --unit | --rate | --port | --limit | --cue-frames | --silence | --turns | --idle | --listens | --poll | --lengths | --asrun | --journal | --resume | --only | --seed | --lose | --copy | --cut | --damage | --forge | --within) wish=$word ;;
+        --unit | --rate | --port | --limit | --cue-frames | --silence | --turns | --idle | --listens | --poll | --lengths | --asrun | --journal | --resume | --from | --only | --seed | --lose | --copy | --cut | --damage | --forge | --within) wish=$word ;;
         -*) ;;
         *) if [[ -z $subcommand ]]; then subcommand=$word; else ((++place)); fi ;;
         esac
@@ -46,7 +46,7 @@ _vdcp() {
     check:-) offers="--rate -h --help" ;;
     sim:-) offers="--unit --port --limit --rate --trace --cue-frames --confirm --late -h --help" ;;
     serve:-) offers="--unit --port --rate --cue-frames --silence --turns --real-time --stay --idle --log -h --help" ;;
-    run:-) offers="--unit --port --limit --rate --confirm --silence --listens --prompt --poll --lengths --asrun --journal --resume --log -h --help" ;;
+    run:-) offers="--unit --port --limit --rate --confirm --silence --listens --prompt --poll --lengths --asrun --journal --resume --open-again --from --log -h --help" ;;
     asrun:-) offers="--rate --times --open -h --help" ;;
     judge:-) offers="--unit --rate --confirm --server -h --help" ;;
     probe:-) offers="--yes-it-may-stop --only --unit --port --rate --silence -h --help" ;;
