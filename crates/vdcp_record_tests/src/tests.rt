@@ -2,6 +2,8 @@
 ghost use Rattle.std.specs.Prelude.{◌≡◌, IfOk};
 
 use std::alloc::Global;
+use std::fs::File;
+use std::process::Abort;
 use std::test::Fail;
 use std::{env, fs, process};
 use vdcp_auto::{Controller, Outcome, Source};
@@ -9,7 +11,7 @@ use vdcp_drive::{AutoDriver, Unwatched};
 use vdcp_files::NamedFile;
 use vdcp_journal::{Heading, digest_of};
 use vdcp_list::{List, read_list};
-use vdcp_record::{AsrunSettings, begin_again, begin_journal, do_asrun, resume_journal};
+use vdcp_record::{AsrunSettings, Recorder, begin_again, begin_journal, do_asrun, resume_journal};
 use vdcp_text::{Failure, JournalFault};
 use vdcp_value::Rate;
 use vdcp_wire::{Entry, ScriptWire};
@@ -48,14 +50,19 @@ fn driver(rt: &HostRuntime) -> Result<AutoDriver<List, ScriptWire<Global>>, Fail
     Ok(AutoDriver::new(Controller::new(list, 1, 3), 0, wire))
 }
 
-fn heading(rt: &HostRuntime) -> Result<Heading, Fail>
+fn list(rt: &HostRuntime) -> Result<List, Fail> {
+    Ok(read_list(rt.alloc(), EVENTS, Rate::F25)?)
+}
+
+/// What a journal of the list in this mode has first.
+fn heading(rt: &HostRuntime, confirming: bool) -> Result<Heading, Fail>
     ensures unit { IfOk result (λ heading. heading.unit ≡ 0) }
     ensures limit { IfOk result (λ heading. heading.limit ≡ 3) }
 {
-    let list = read_list(rt.alloc(), EVENTS, Rate::F25)?;
+    let list = list(rt)?;
     Ok(Heading {
         digest: digest_of(rt.alloc(), &list, Rate::F25)?,
-        confirming: false,
+        confirming,
         unit: 0,
         port: 1,
         limit: 3,
@@ -69,10 +76,17 @@ fn temporary(rt: &HostRuntime, name: &str) -> Result<String, Fail> {
     Ok(format!(in rt.alloc(); "{folder}/vdcp_record_{id}_{name}.csv")?)
 }
 
+/// What the file of this name had, which is no more.
+fn taken(rt: &HostRuntime, name: &str) -> Result<Vec<u8>, Fail> {
+    let bytes = fs::read(rt, name)?;
+    fs::remove_file(rt, name)?;
+    Ok(bytes)
+}
+
 /// What is printed of a journal.
-fn shown(rt: &HostRuntime, journal: &[u8], times: bool) -> (u8, Vec<u8>, Vec<u8>) {
-    let mut out = Vec::new(rt.alloc());
-    let mut err = Vec::new(rt.alloc());
+fn shown(alloc: Global, journal: &[u8], times: bool) -> (u8, Vec<u8>, Vec<u8>) {
+    let mut out = Vec::new(alloc);
+    let mut err = Vec::new(alloc);
     let journal = NamedFile {
         name: "j.csv",
         reader: journal,
@@ -86,94 +100,130 @@ fn shown(rt: &HostRuntime, journal: &[u8], times: bool) -> (u8, Vec<u8>, Vec<u8>
         times,
         may_have_aired: true,
     };
-    let status = do_asrun(rt.alloc(), journal, list, settings, &mut out, &mut err);
+    let status = do_asrun(alloc, journal, list, settings, &mut out, &mut err);
     (status, out, err)
+}
+
+/// A new journal of the list.
+fn begun<'a, 'r>(
+    rt: &'r HostRuntime,
+    name: &'a str,
+) -> Result<Recorder<'a, 'r, HostRuntime, File>, Fail> {
+    let heading = heading(rt, false)?;
+    Ok(begin_journal(rt, name, &heading).ok().ok_or("begun")?)
+}
+
+/// Why no journal of this name can be begun.
+fn unbegun<'a>(rt: &HostRuntime, name: &'a str) -> Result<Option<Failure<'a>>, Fail> {
+    let heading = heading(rt, false)?;
+    Ok(begin_journal(rt, name, &heading).err())
+}
+
+/// Why the journal of this name can't be gone on with in this mode.
+fn unresumed<'a>(
+    rt: &HostRuntime,
+    name: &'a str,
+    confirming: bool,
+) -> Result<Option<Failure<'a>>, Fail> {
+    let heading = heading(rt, confirming)?;
+    Ok(resume_journal(rt, name, &heading, list(rt)?).err())
+}
+
+/// The list is played with a new journal, for some listens, and the journal ends where the run does: how many events are
+/// settled then.
+fn play(rt: &HostRuntime, name: &str, listens: u64) -> Result<usize, Fail> {
+    let mut driver = driver(rt)?;
+    let mut recorder = begun(rt, name)?;
+    let _ = recorder.run(&mut driver, listens, &mut Unwatched);
+    let controller = driver.controller();
+    if let Some(outcome) = controller.outcome() {
+        recorder.finish(Some(outcome)).ok().ok_or("finished")?;
+    }
+    Ok(controller.settled())
+}
+
+/// The journal of this name is gone on with, and ends: how many events are settled by it.
+fn end(rt: &HostRuntime, name: &str, outcome: Outcome) -> Result<usize, Fail> {
+    let heading = heading(rt, false)?;
+    let resumed = resume_journal(rt, name, &heading, list(rt)?)
+        .ok()
+        .ok_or("resumed")?;
+    let settled = resumed.controller.settled();
+    let mut recorder = resumed.recorder.ok_or("a recorder")?;
+    recorder.finish(Some(outcome)).ok().ok_or("finished")?;
+    Ok(settled)
+}
+
+/// A controller begins at an event after the last run of the journal of this name: how many events are left to it.
+fn open_again<'a>(
+    rt: &HostRuntime,
+    name: &'a str,
+    event: usize,
+) -> Result<Result<usize, Failure<'a>>, Fail> {
+    let heading = heading(rt, false)?;
+    let list = list(rt)?;
+    match begin_again(rt, name, &heading, &list, Some(event)) {
+        Ok(again) => {
+            let mut recorder = again.recorder.ok_or("a recorder")?;
+            recorder.finish(None).ok().ok_or("finished")?;
+            Ok(Ok(again.controller.source().len()))
+        }
+        Err(failure) => Ok(Err(failure)),
+    }
+}
+
+/// The journal shows that the whole list was played, in 14 exchanges.
+fn shows_all(rt: &impl Abort, alloc: Global, journal: &[u8]) {
+    let (status, out, err) = shown(alloc, journal, false);
+    assert_eq!(rt;
+        (status, out.as_slice(), err.as_slice()),
+        (0, PLAYED, b"".as_slice())
+    );
+    let (status, out, err) = shown(alloc, journal, true);
+    assert_eq!(rt; (status, err.len()), (0, 0));
+    let first = b"number,id,played,known\n0,CLIP0001,20";
+    assert!(rt; out.as_slice().starts_with(first));
+    // (the heading, two rows for each exchange, and the end)
+    let rows = journal.iter().filter(|byte| **byte == b'\n').count();
+    assert_eq!(rt; rows, 30);
+}
+
+/// Of a beginning of the journal, a beginning of the list is shown, or nothing where the heading isn't whole.
+fn shows_some(rt: &impl Abort, alloc: Global, journal: &[u8]) {
+    let (status, out, _) = shown(alloc, journal, false);
+    let size = journal.len();
+    assert_eq!(rt; status, if size < 107 { 1 } else { 0 }, "{size}");
+    assert!(rt; PLAYED.starts_with(out.as_slice()), "{size}");
 }
 
 #[test]
 fn a_list_is_played_with_a_journal(rt: HostRuntime) -> Result<(), Fail> {
     let name = temporary(&rt, "played")?;
-    let heading = heading(&rt)?;
-    let mut driver = driver(&rt)?;
-    let mut recorder = begin_journal(&rt, name.as_str(), &heading)
-        .ok()
-        .ok_or("begun")?;
-    assert_eq!(rt;
-        begin_journal(&rt, name.as_str(), &heading).err(),
-        Some(Failure::Exists(name.as_str()))
-    );
-    let _ = recorder.run(&mut driver, 100, &mut Unwatched);
-    assert_eq!(rt; recorder.finish(driver.controller().outcome()), Ok(()));
-    drop(recorder);
-    let bytes = fs::read(&rt, name.as_str())?;
-    fs::remove_file(&rt, name.as_str())?;
-    let (status, out, err) = shown(&rt, bytes.as_slice(), false);
-    assert_eq!(rt;
-        (status, out.as_slice(), err.as_slice()),
-        (0, PLAYED, b"".as_slice())
-    );
-    let (status, out, err) = shown(&rt, bytes.as_slice(), true);
-    assert_eq!(rt; (status, err.len()), (0, 0));
-    assert!(rt;
-        out.as_slice()
-            .starts_with(b"number,id,played,known\n0,CLIP0001,20")
-    );
-    // (29 rows: the heading, two for each exchange but the last, and the end)
-    assert_eq!(rt;
-        bytes
-            .as_slice()
-            .iter()
-            .filter(|byte| **byte == b'\n')
-            .count(),
-        30
-    );
+    let name = name.as_str();
+    assert_eq!(rt; play(&rt, name, 100)?, 2);
+    assert_eq!(rt; unbegun(&rt, name)?, Some(Failure::Exists(name)));
+    let bytes = taken(&rt, name)?;
+    shows_all(&rt, rt.alloc(), bytes.as_slice());
     for size in 0..bytes.len() {
-        let (status, out, _) = shown(&rt, &bytes[..size], false);
-        assert_eq!(rt; status, if size < 107 { 1 } else { 0 }, "{size}");
-        assert!(rt; PLAYED.starts_with(out.as_slice()), "{size}");
+        shows_some(&rt, rt.alloc(), &bytes[..size]);
     }
     Ok(())
-}
-
-fn list(rt: &HostRuntime) -> Result<List, Fail> {
-    Ok(read_list(rt.alloc(), EVENTS, Rate::F25)?)
 }
 
 #[test]
 fn a_killed_run_goes_on(rt: HostRuntime) -> Result<(), Fail> {
     let name = temporary(&rt, "killed")?;
     let name = name.as_str();
-    let heading = heading(&rt)?;
-    let mut driver = driver(&rt)?;
-    let mut recorder = begin_journal(&rt, name, &heading).ok().ok_or("begun")?;
-    let _ = recorder.run(&mut driver, 12, &mut Unwatched);
-    let used = resume_journal(&rt, name, &heading, list(&rt)?);
-    assert_eq!(rt; used.err(), Some(Failure::InUse(name)));
-    drop(recorder);
-    let other = Heading {
-        confirming: true,
-        ..heading
-    };
-    let other = resume_journal(&rt, name, &other, list(&rt)?);
-    assert_eq!(rt;
-        other.err(),
-        Some(Failure::JournalRow(name, 1, JournalFault::Mode))
-    );
-    let resumed = resume_journal(&rt, name, &heading, list(&rt)?);
-    let resumed = resumed.ok().ok_or("resumed")?;
+    assert_eq!(rt; play(&rt, name, 12)?, 1);
+    let mode = Failure::JournalRow(name, 1, JournalFault::Mode);
+    assert_eq!(rt; unresumed(&rt, name, true)?, Some(mode));
     // (PLAY was answered, and that isn't written yet: it counts as unanswered)
-    assert_eq!(rt;
-        (driver.controller().settled(), resumed.controller.settled()),
-        (1, 0)
-    );
-    let mut recorder = resumed.recorder.ok_or("a recorder")?;
-    assert_eq!(rt; recorder.finish(Some(Outcome::Lost)), Ok(()));
-    drop(recorder);
+    assert_eq!(rt; end(&rt, name, Outcome::Lost)?, 0);
     // (the controller hasn't come to that)
-    let ended = resume_journal(&rt, name, &heading, list(&rt)?);
+    let outcome = unresumed(&rt, name, false)?;
     assert!(rt;
         matches!(
-            ended.err(),
+            outcome,
             Some(Failure::JournalRow(_, _, JournalFault::Outcome))
         )
     );
@@ -182,22 +232,24 @@ fn a_killed_run_goes_on(rt: HostRuntime) -> Result<(), Fail> {
 }
 
 #[test]
+fn a_journal_in_use_is_refused(rt: HostRuntime) -> Result<(), Fail> {
+    let name = temporary(&rt, "in_use")?;
+    let name = name.as_str();
+    let recorder = begun(&rt, name)?;
+    assert_eq!(rt; unresumed(&rt, name, false)?, Some(Failure::InUse(name)));
+    drop(recorder);
+    fs::remove_file(&rt, name)?;
+    Ok(())
+}
+
+#[test]
 fn a_journal_is_opened_again(rt: HostRuntime) -> Result<(), Fail> {
     let name = temporary(&rt, "again")?;
     let name = name.as_str();
-    let heading = heading(&rt)?;
-    let list = list(&rt)?;
-    drop(begin_journal(&rt, name, &heading).ok().ok_or("begun")?);
-    let beyond = begin_again(&rt, name, &heading, &list, Some(3));
-    assert_eq!(rt; beyond.err(), Some(Failure::NoEvent(3)));
-    let again = begin_again(&rt, name, &heading, &list, Some(1));
-    let again = again.ok().ok_or("again")?;
-    assert_eq!(rt; again.controller.source().len(), 1);
-    let mut recorder = again.recorder.ok_or("a recorder")?;
-    assert_eq!(rt; recorder.finish(None), Ok(()));
-    drop(recorder);
-    let bytes = fs::read(&rt, name)?;
-    fs::remove_file(&rt, name)?;
+    drop(begun(&rt, name)?);
+    assert_eq!(rt; open_again(&rt, name, 3)?, Err(Failure::NoEvent(3)));
+    assert_eq!(rt; open_again(&rt, name, 1)?, Ok(1));
+    let bytes = taken(&rt, name)?;
     assert!(rt; bytes.as_slice().ends_with(b",from,1,\n"));
     Ok(())
 }
