@@ -1,7 +1,6 @@
-mod anew;
 mod clips;
-mod events;
-mod lateness;
 mod memory;
+mod ports;
+mod rows;
 mod scripts;
 mod seen;

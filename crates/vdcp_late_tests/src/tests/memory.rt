@@ -1,12 +1,13 @@
 //! Late worlds to which growth is refused.
 use super::clips::{first, second};
-use super::seen::{Counts, Late, counts_of, events_of, plain, run, step};
+use super::seen::{Counts, Late, counts_of, plain, run, step};
 use linked_list_allocator::LocalHeap;
 use std::alloc::{AllocError, Global};
 use std::process::Abort;
 use std::test::Fail;
 use vdcp_auto::Outcome;
 use vdcp_late::LateEvent;
+use vdcp_world::read_script;
 
 /// Takes blocks of this size from a heap, as many as it has, 64 at most.
 fn take_blocks<'a>(
@@ -67,13 +68,13 @@ fn run_where_there_is_room<'a>(
 fn each_refused_growth_leaves_the_world_as_it_was(rt: HostRuntime) -> Result<(), Fail> {
     let heap = LocalHeap::new(rt.alloc(), 16384)?;
     let mut world = plain(&heap)?;
-    // OPEN is damaged, and what is heard is damaged too; then it comes after junk, and its answer too.
-    let first = "tick alter-down down-copy alter-up up-copy lose-up down lose-up";
-    let second = "tick junk-down down down junk-up lose-up lose-up up";
-    let third = "tick timeout tick automation-anew";
+    // OPEN is damaged, and what is heard is damaged too; then junk comes after it, and after its answer.
+    let first = "tick\nalter-down ff\ndown-copy\nalter-up 0580\nup-copy\nlose-up\ndown\nlose-up\n";
+    let second = "tick\njunk-down ff\ndown\ndown\njunk-up 0580\nlose-up 3\nlose-up 2\nup\n";
+    let third = "tick\ntimeout\ntick\nautomation-anew\n";
     let mut refused: u32 = 0;
-    for words in [first, second, third] {
-        let events = events_of(rt.alloc(), words)?;
+    for script in [first, second, third] {
+        let events = read_script(rt.alloc(), script)?;
         let more = run_where_there_is_room(&rt, rt.alloc(), &heap, &mut world, events.as_slice())?;
         refused = refused.saturating_add(more);
     }
@@ -93,7 +94,7 @@ fn each_refused_growth_leaves_the_world_as_it_was(rt: HostRuntime) -> Result<(),
 fn each_refused_growth_leaves_what_aired_as_it_was(rt: HostRuntime) -> Result<(), Fail> {
     let heap = LocalHeap::new(rt.alloc(), 16384)?;
     let mut world = plain(&heap)?;
-    let round = events_of(rt.alloc(), "ready end tick down up")?;
+    let round = read_script(rt.alloc(), "ready\nend\nround\n")?;
     for _ in 0..14 {
         let refused = run_where_there_is_room(
             &rt,
@@ -113,14 +114,14 @@ fn each_refused_growth_leaves_what_aired_as_it_was(rt: HostRuntime) -> Result<()
 fn a_run_goes_as_far_as_memory_does(rt: HostRuntime) -> Result<(), Fail> {
     let heap = LocalHeap::new(rt.alloc(), 4096)?;
     let mut world = plain(&heap)?;
-    run(rt.alloc(), &mut world, "tick timeout tick")?;
+    run(rt.alloc(), &mut world, "tick\ntimeout\ntick\n")?;
     let blocks = fill(rt.alloc(), &heap)?;
     // The log has room for the second exchange, and the third command has none.
-    let more = events_of(rt.alloc(), "timeout tick timeout")?;
+    let more = read_script(rt.alloc(), "timeout\ntick\ntimeout\n")?;
     assert!(rt; world.run(more.as_slice()).is_err());
     assert_eq!(rt; world.log().len(), 2);
     drop(blocks);
-    run(rt.alloc(), &mut world, "tick timeout")?;
+    run(rt.alloc(), &mut world, "tick\ntimeout\n")?;
     assert_eq!(rt; world.log().len(), 3);
     assert_eq!(rt; world.outcome(), Some(Outcome::Lost));
     Ok(())

@@ -1,5 +1,4 @@
 //! Scripts of a late line that are read, and those that are refused.
-use super::seen::burst;
 use std::process::Abort;
 use std::test::Fail;
 use vdcp_late::LateEvent;
@@ -13,45 +12,16 @@ fn each_word_is_its_event(rt: HostRuntime) -> Result<(), Fail> {
         alter-down 02FF\nalter-up fe\njunk-down Ff\njunk-up 0580\ntimeout\nready\nend\nframe\ntake\nstop\n\
         server-anew\nautomation-anew\nstray-ack\nstray-nak 0a\nframe 2\nround\ngood\n";
     let events: Vec<LateEvent> = read_script(alloc, text)?;
-    let at_end = usize::MAX;
-    let wanted = [
-        LateEvent::Tick,
-        LateEvent::Down,
-        LateEvent::Up,
-        LateEvent::DownCopy,
-        LateEvent::UpCopy,
-        LateEvent::LoseDown(0),
-        LateEvent::LoseUp(0),
-        LateEvent::LoseDown(0),
-        LateEvent::LoseDown(1),
-        LateEvent::LoseUp(9_999),
-        LateEvent::AlterDown(0, burst(alloc, &[0x02, 0xFF])?),
-        LateEvent::AlterUp(0, burst(alloc, &[0xFE])?),
-        LateEvent::JunkDown(at_end, burst(alloc, &[0xFF])?),
-        LateEvent::JunkUp(at_end, burst(alloc, &[0x05, 0x80])?),
-        LateEvent::Timeout,
-        LateEvent::Ready,
-        LateEvent::End,
-        LateEvent::Frame,
-        LateEvent::Take,
-        LateEvent::Stop,
-        LateEvent::ServerAnew,
-        LateEvent::AutomationAnew,
-        LateEvent::StrayAck,
-        LateEvent::StrayNak(0x0A),
-        LateEvent::Frame,
-        LateEvent::Frame,
-        LateEvent::Tick,
-        LateEvent::Down,
-        LateEvent::Up,
-        LateEvent::Timeout,
-        LateEvent::Ready,
-        LateEvent::End,
-        LateEvent::Tick,
-        LateEvent::Down,
-        LateEvent::Up,
-    ];
-    assert_eq!(rt; events.as_slice(), wanted.as_slice());
+    // (what comes from nowhere comes last: at the greatest place)
+    let wanted =
+        "[Tick, Down, Up, DownCopy, UpCopy, LoseDown(0), LoseUp(0), LoseDown(0), LoseDown(1), \
+        LoseUp(9999), AlterDown(0, Burst { bytes: [2, 255] }), AlterUp(0, Burst { bytes: [254] }), \
+        JunkDown(18446744073709551615, Burst { bytes: [255] }), \
+        JunkUp(18446744073709551615, Burst { bytes: [5, 128] }), Timeout, Ready, End, Frame, Take, \
+        Stop, ServerAnew, AutomationAnew, StrayAck, StrayNak(10), Frame, Frame, Tick, Down, Up, \
+        Timeout, Ready, End, Tick, Down, Up]";
+    let shown = format!(in alloc; "{events:?}")?;
+    assert_eq!(rt; shown.as_str(), wanted);
     Ok(())
 }
 

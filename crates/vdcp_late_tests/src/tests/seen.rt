@@ -2,15 +2,13 @@
 //! anything: a test looks at what it gets.
 use super::clips::TwoClips;
 use std::alloc::{AllocError, Allocator, Global};
-use std::process::Abort;
 use std::test::Fail;
-use vdcp_auto::{Exchange, Heard, Outcome};
+use vdcp_auto::Outcome;
 use vdcp_late::{LateEvent, LateWorld};
 use vdcp_port::Port;
 use vdcp_testing::two_clips;
 use vdcp_value::{ClipId, Timecode};
-use vdcp_words::{Command, Reply};
-use vdcp_world::Burst;
+use vdcp_world::{Burst, read_script};
 
 /// A catalogue of two clips.
 pub type Shelf = [(ClipId, Timecode); 2];
@@ -40,77 +38,14 @@ pub fn step<A: Allocator + Copy>(world: &mut Late<A>, event: &LateEvent) -> Resu
     world.step(event)
 }
 
-/// Events happen, a word for each.
+/// A script's events happen.
 pub fn run<A: Allocator + Copy>(
     alloc: Global,
     world: &mut Late<A>,
-    words: &str,
+    script: &str,
 ) -> Result<(), Fail> {
-    let events = events_of(alloc, words)?;
+    let events: Vec<LateEvent> = read_script(alloc, script)?;
     world.run(events.as_slice())?;
-    Ok(())
-}
-
-/// The events of words.
-pub fn events_of(alloc: Global, words: &str) -> Result<Vec<LateEvent>, Fail> {
-    let mut events = Vec::new(alloc);
-    for word in words.split_whitespace() {
-        let event = event_of(alloc, word)?;
-        events.push(event).map_err(AllocError::from)?;
-    }
-    Ok(events)
-}
-
-/// The event of a word. What is lost or damaged is the oldest burst: on the way down it becomes FFh, and on the way
-/// up NAK 80h, which are also the junk that comes before it.
-fn event_of(alloc: Global, word: &str) -> Result<LateEvent, Fail> {
-    match word {
-        "alter-down" => Ok(LateEvent::AlterDown(0, burst(alloc, &[0xff])?)),
-        "alter-up" => Ok(LateEvent::AlterUp(0, burst(alloc, &[0x05, 0x80])?)),
-        "junk-down" => Ok(LateEvent::JunkDown(0, burst(alloc, &[0xff])?)),
-        "junk-up" => Ok(LateEvent::JunkUp(0, burst(alloc, &[0x05, 0x80])?)),
-        _ => Ok(event_without_bytes(word).ok_or("no event")?),
-    }
-}
-
-fn event_without_bytes(word: &str) -> Option<LateEvent> {
-    match word {
-        "tick" => Some(LateEvent::Tick),
-        "down" => Some(LateEvent::Down),
-        "up" => Some(LateEvent::Up),
-        "down-copy" => Some(LateEvent::DownCopy),
-        "up-copy" => Some(LateEvent::UpCopy),
-        "lose-down" => Some(LateEvent::LoseDown(0)),
-        "lose-up" => Some(LateEvent::LoseUp(0)),
-        "timeout" => Some(LateEvent::Timeout),
-        "ready" => Some(LateEvent::Ready),
-        "end" => Some(LateEvent::End),
-        "frame" => Some(LateEvent::Frame),
-        "take" => Some(LateEvent::Take),
-        "stop" => Some(LateEvent::Stop),
-        "server-anew" => Some(LateEvent::ServerAnew),
-        "automation-anew" => Some(LateEvent::AutomationAnew),
-        _ => None,
-    }
-}
-
-/// A number of rounds: a command goes out, and its answer is heard.
-pub fn rounds<A: Allocator + Copy>(world: &mut Late<A>, times: u32) -> Result<(), AllocError> {
-    for _ in 0..times {
-        step(world, &LateEvent::Tick)?;
-        step(world, &LateEvent::Down)?;
-        step(world, &LateEvent::Up)?;
-    }
-    Ok(())
-}
-
-/// A number of rounds, before each of which what cues is done, and what plays has ended.
-pub fn good<A: Allocator + Copy>(world: &mut Late<A>, times: u32) -> Result<(), AllocError> {
-    for _ in 0..times {
-        step(world, &LateEvent::Ready)?;
-        step(world, &LateEvent::End)?;
-        rounds(world, 1)?;
-    }
     Ok(())
 }
 
@@ -118,30 +53,6 @@ pub fn good<A: Allocator + Copy>(world: &mut Late<A>, times: u32) -> Result<(), 
 pub fn burst(alloc: Global, bytes: &[u8]) -> Result<Burst, AllocError> {
     Ok(Burst::new(Vec::from_slice(alloc, bytes)?))
 }
-
-/// A command, and the reply that was heard for it.
-pub fn heard(command: Command, reply: Reply) -> Exchange {
-    Exchange {
-        command,
-        heard: Some(Heard::Reply(reply)),
-    }
-}
-
-/// A command for which nothing was heard.
-pub fn unheard(command: Command) -> Exchange {
-    Exchange {
-        command,
-        heard: None,
-    }
-}
-
-/// OPEN of the port, to which it gave leave.
-pub fn opened() -> Exchange {
-    heard(OPEN, Reply::Opened(true))
-}
-
-/// What is sent first.
-pub const OPEN: Command = Command::Open(0x01, 0x01);
 
 /// How much went to air, how much of it is reported, how many exchanges there were, and how the controller
 /// ended.
@@ -160,9 +71,4 @@ pub fn counts_of<A: Allocator + Copy>(world: &Late<A>) -> Counts {
         exchanges: world.log().len(),
         outcome: world.outcome(),
     }
-}
-
-/// The log has these exchanges and no more.
-pub fn has_log<A: Allocator + Copy>(rt: &impl Abort, world: &Late<A>, wanted: &[Exchange]) {
-    assert_eq!(rt; world.log(), wanted);
 }

@@ -1,7 +1,7 @@
 //! Scripts that are read, and scripts that are refused.
 use std::process::Abort;
 use std::test::Fail;
-use vdcp_world::{Burst, Event, ScriptFault, read_script};
+use vdcp_world::{Event, ScriptFault, read_script};
 
 #[test]
 fn each_word_is_its_event(rt: HostRuntime) -> Result<(), Fail> {
@@ -10,45 +10,13 @@ fn each_word_is_its_event(rt: HostRuntime) -> Result<(), Fail> {
         "tick\ndown\nup\ndown-copy\nup-copy\nlose-down\nlose-up\ntimeout\nready\nend\ntake\nstop\n\
                 frame\nstray-ack\nstray-nak 0a\nalter-down 02FF\nalter-up fe\nframe 2\nround\nround 2\ngood\n";
     let events: Vec<Event> = read_script(alloc, text)?;
-    let two = Burst::new(Vec::from_slice(alloc, &[0x02, 0xFF])?);
-    let one = Burst::new(Vec::from_slice(alloc, &[0xFE])?);
-    let wanted = [
-        Event::Tick,
-        Event::Down,
-        Event::Up,
-        Event::DownCopy,
-        Event::UpCopy,
-        Event::LoseDown,
-        Event::LoseUp,
-        Event::Timeout,
-        Event::Ready,
-        Event::End,
-        Event::Take,
-        Event::Stop,
-        Event::Frame,
-        Event::StrayAck,
-        Event::StrayNak(0x0A),
-        Event::AlterDown(two),
-        Event::AlterUp(one),
-        Event::Frame,
-        Event::Frame,
-        Event::Tick,
-        Event::Down,
-        Event::Up,
-        Event::Tick,
-        Event::Down,
-        Event::Up,
-        Event::Tick,
-        Event::Down,
-        Event::Up,
-        Event::Timeout,
-        Event::Ready,
-        Event::End,
-        Event::Tick,
-        Event::Down,
-        Event::Up,
-    ];
-    assert_eq!(rt; events.as_slice(), wanted.as_slice());
+    let wanted =
+        "[Tick, Down, Up, DownCopy, UpCopy, LoseDown, LoseUp, Timeout, Ready, End, Take, Stop, Frame, \
+        StrayAck, StrayNak(10), AlterDown(Burst { bytes: [2, 255] }), AlterUp(Burst { bytes: [254] }), \
+        Frame, Frame, Tick, Down, Up, Tick, Down, Up, Tick, Down, Up, Timeout, Ready, End, Tick, Down, \
+        Up]";
+    let shown = format!(in alloc; "{events:?}")?;
+    assert_eq!(rt; shown.as_str(), wanted);
     Ok(())
 }
 
@@ -157,31 +125,12 @@ fn are_all_different<T: PartialEq>(rt: &impl Abort, values: &[T]) {
 
 #[test]
 fn events_differ_by_what_they_bring(rt: HostRuntime) -> Result<(), Fail> {
-    let alloc = rt.alloc();
-    let events = [
-        Event::Tick,
-        Event::Down,
-        Event::Up,
-        Event::DownCopy,
-        Event::UpCopy,
-        Event::LoseDown,
-        Event::LoseUp,
-        Event::AlterDown(Burst::new(Vec::from_slice(alloc, &[0x02])?)),
-        Event::AlterDown(Burst::new(Vec::from_slice(alloc, &[0x03])?)),
-        Event::AlterDown(Burst::new(Vec::from_slice(alloc, &[0x02, 0x02])?)),
-        Event::AlterUp(Burst::new(Vec::from_slice(alloc, &[0x02])?)),
-        Event::AlterUp(Burst::new(Vec::from_slice(alloc, &[0x03])?)),
-        Event::Timeout,
-        Event::Ready,
-        Event::End,
-        Event::Frame,
-        Event::Take,
-        Event::Stop,
-        Event::StrayAck,
-        Event::StrayNak(0x00),
-        Event::StrayNak(0x01),
-    ];
-    are_all_different(&rt, &events);
+    let script =
+        "tick\ndown\nup\ndown-copy\nup-copy\nlose-down\nlose-up\nalter-down 02\nalter-down 03\nalter-down 0202\n\
+        alter-up 02\nalter-up 03\ntimeout\nready\nend\nframe\ntake\nstop\nstray-ack\nstray-nak 00\nstray-nak 01\n";
+    let events: Vec<Event> = read_script(rt.alloc(), script)?;
+    assert_eq!(rt; events.len(), 21);
+    are_all_different(&rt, events.as_slice());
     Ok(())
 }
 

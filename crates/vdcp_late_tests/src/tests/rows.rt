@@ -1,0 +1,516 @@
+//! What comes of a late world, for some scripts, by the tables of the port and of the controller.
+use super::clips::{TwoClips, first, second};
+use super::seen::{Counts, Late, burst, confirming, counts_of, plain, run, shelf};
+use std::alloc::Global;
+use std::process::Abort;
+use std::test::Fail;
+use vdcp_auto::{Exchange, Heard, Outcome};
+use vdcp_late::{LateEvent, LateWorld};
+use vdcp_port::Port;
+use vdcp_words::{Command, Reply};
+
+/// An exchange.
+#[derive(Clone, Copy)]
+enum Known {
+    LostOpen,
+    Opened,
+    UnreadOpen,
+    DamagedOpen,
+    /// SELECT, for which the answer to OPEN was heard.
+    OpenedLate,
+    Selected,
+    UnreadSelect,
+    DamagedSelect,
+    LostPlay,
+    RefusedPlay,
+    /// STATUS, for which the answer to PLAY was heard.
+    PlayedLate,
+    State(u8),
+    RefusedStop,
+    Closed,
+}
+
+impl Known {
+    fn exchange(self) -> Exchange {
+        let open = Command::Open(0x01, 0x01);
+        let (command, reply) = match self {
+            Known::LostOpen => (open, None),
+            Known::Opened => (open, Some(Reply::Opened(true))),
+            Known::UnreadOpen => (open, Some(Reply::Nak(0x04))),
+            Known::DamagedOpen => (open, Some(Reply::Nak(0x80))),
+            Known::OpenedLate => (Command::Select(0x01), Some(Reply::Opened(true))),
+            Known::Selected => (Command::Select(0x01), Some(Reply::Ack)),
+            Known::UnreadSelect => (Command::Select(0x01), Some(Reply::Nak(0x04))),
+            Known::DamagedSelect => (Command::Select(0x01), Some(Reply::Nak(0x80))),
+            Known::LostPlay => (Command::Play, None),
+            Known::RefusedPlay => (Command::Play, Some(Reply::Nak(0x01))),
+            Known::PlayedLate => (Command::Status(0x01), Some(Reply::Ack)),
+            Known::State(byte) => (Command::Status(0x01), Some(Reply::State(0x01, Some(byte)))),
+            Known::RefusedStop => (Command::Stop, Some(Reply::Nak(0x01))),
+            Known::Closed => (Command::Close(0x01), Some(Reply::Ack)),
+        };
+        let heard = reply.map(|reply| Heard::Reply(reply));
+        Exchange { command, heard }
+    }
+}
+
+/// A script for a playlist of two clips, how many of them it airs, and what the controller makes of it.
+#[derive(Clone, Copy)]
+struct Row {
+    name: &'static str,
+    script: &'static str,
+    aired: usize,
+    reported: usize,
+    outcome: Option<Outcome>,
+    exchanges: usize,
+    /// Some of the exchanges, with their places from 1.
+    at: &'static [(usize, Known)],
+}
+
+const PLAIN: &'static [Row] = &[
+    Row {
+        name: "no answer is there yet",
+        script: "tick\nup\ndown\n",
+        aired: 0,
+        reported: 0,
+        outcome: None,
+        exchanges: 0,
+        at: &[],
+    },
+    Row {
+        name: "an answer is heard once it comes",
+        script: "tick\nup\ndown\nup\n",
+        aired: 0,
+        reported: 0,
+        outcome: None,
+        exchanges: 1,
+        at: &[(1, Known::Opened)],
+    },
+    Row {
+        name: "the answer to a copy goes up",
+        script: "tick\ndown-copy\nlose-down\nup\n",
+        aired: 0,
+        reported: 0,
+        outcome: None,
+        exchanges: 1,
+        at: &[(1, Known::Opened)],
+    },
+    Row {
+        name: "a copy of an answer is heard for the next command",
+        script: "tick\ndown\nup-copy\ntick\nup\n",
+        aired: 0,
+        reported: 0,
+        outcome: None,
+        exchanges: 2,
+        at: &[(1, Known::Opened), (2, Known::OpenedLate)],
+    },
+    Row {
+        name: "a lost command isn't read",
+        script: "tick\nlose-down\ndown\nup\n",
+        aired: 0,
+        reported: 0,
+        outcome: None,
+        exchanges: 0,
+        at: &[],
+    },
+    Row {
+        name: "a lost answer isn't heard",
+        script: "tick\nlose-down\ndown\nup\ntimeout\ntick\ndown\nlose-up\nup\n",
+        aired: 0,
+        reported: 0,
+        outcome: None,
+        exchanges: 1,
+        at: &[(1, Known::LostOpen)],
+    },
+    // OPEN and SELECT are on the way; SELECT is lost, and there is no third burst to lose. OPEN is read again, and its
+    // answer is heard for SELECT; then nothing is on the way.
+    Row {
+        name: "a burst is lost at its place",
+        script: "tick\ndown-copy\nup\ntick\nlose-down 3\nlose-down 2\ndown\nup\ntick\nlose-down\ndown\nup\n",
+        aired: 0,
+        reported: 0,
+        outcome: None,
+        exchanges: 2,
+        at: &[(1, Known::Opened), (2, Known::OpenedLate)],
+    },
+    Row {
+        name: "damage is answered by a NAK",
+        script: "tick\nalter-down ff\ndown\nup\n",
+        aired: 0,
+        reported: 0,
+        outcome: None,
+        exchanges: 1,
+        at: &[(1, Known::UnreadOpen)],
+    },
+    Row {
+        name: "damage makes no other command",
+        script: "tick\nalter-down 0203202101be\ndown\nup\n",
+        aired: 0,
+        reported: 0,
+        outcome: None,
+        exchanges: 1,
+        at: &[(1, Known::Opened)],
+    },
+    Row {
+        name: "an answer becomes no ACK",
+        script: "tick\ndown\nalter-up 04\nup-copy\n",
+        aired: 0,
+        reported: 0,
+        outcome: None,
+        exchanges: 1,
+        at: &[(1, Known::Opened)],
+    },
+    Row {
+        name: "an answer becomes a NAK",
+        script: "tick\ndown\nup-copy\ntick\nalter-up 0580\nup\n",
+        aired: 0,
+        reported: 0,
+        outcome: None,
+        exchanges: 2,
+        at: &[(1, Known::Opened), (2, Known::DamagedSelect)],
+    },
+    Row {
+        name: "junk comes last",
+        script: "tick\njunk-down ff\ndown\nup\ntick\ndown\nup\n",
+        aired: 0,
+        reported: 0,
+        outcome: None,
+        exchanges: 2,
+        at: &[(1, Known::Opened), (2, Known::UnreadSelect)],
+    },
+    Row {
+        name: "no refusal comes from nowhere",
+        script: "tick\njunk-up 0501\nup\n",
+        aired: 0,
+        reported: 0,
+        outcome: None,
+        exchanges: 0,
+        at: &[],
+    },
+    Row {
+        name: "a NAK comes from nowhere",
+        script: "tick\njunk-up 0501\nup\njunk-up 0580\nup\n",
+        aired: 0,
+        reported: 0,
+        outcome: None,
+        exchanges: 1,
+        at: &[(1, Known::DamagedOpen)],
+    },
+    Row {
+        name: "no receipt comes from nowhere",
+        script: "tick\ndown\nstray-ack\nstray-nak 01\n",
+        aired: 0,
+        reported: 0,
+        outcome: None,
+        exchanges: 0,
+        at: &[],
+    },
+    Row {
+        name: "what is on the way comes after receipts from nowhere",
+        script: "tick\ndown\nstray-ack\nstray-nak 01\nup\n",
+        aired: 0,
+        reported: 0,
+        outcome: None,
+        exchanges: 1,
+        at: &[(1, Known::Opened)],
+    },
+    Row {
+        name: "the next clip waits for the end",
+        script: "good 6\nround 3\nready\nround\n",
+        aired: 1,
+        reported: 1,
+        outcome: None,
+        exchanges: 10,
+        at: &[(10, Known::State(0x84))],
+    },
+    Row {
+        name: "the next clip waits for a take",
+        script: "good 6\nround 3\nready\nround\ntake\nround 2\n",
+        aired: 2,
+        reported: 2,
+        outcome: None,
+        exchanges: 12,
+        at: &[],
+    },
+    Row {
+        name: "the last clip ends",
+        script: "good 6\nround 3\nready\nround\ntake\nround 2\nend\nround 3\n",
+        aired: 2,
+        reported: 2,
+        outcome: Some(Outcome::Done),
+        exchanges: 15,
+        at: &[],
+    },
+    Row {
+        name: "a stop goes out first",
+        script: "stop\nround 2\n",
+        aired: 0,
+        reported: 0,
+        outcome: Some(Outcome::Stopped),
+        exchanges: 2,
+        at: &[(1, Known::RefusedStop), (2, Known::Closed)],
+    },
+    Row {
+        name: "two clips in fourteen good rounds",
+        script: "good 14\n",
+        aired: 2,
+        reported: 2,
+        outcome: Some(Outcome::Done),
+        exchanges: 14,
+        at: &[],
+    },
+];
+
+const ANEW: &'static [Row] = &[
+    Row {
+        name: "a server that is started anew airs nothing",
+        script: "good 5\ntick\nserver-anew\ndown\nup\n",
+        aired: 0,
+        reported: 0,
+        outcome: Some(Outcome::Refused(0)),
+        exchanges: 6,
+        at: &[(6, Known::RefusedPlay)],
+    },
+    // OPEN was executed and its answer lost; the second try opens the port again.
+    Row {
+        name: "a server that is started anew can be opened",
+        script: "tick\ndown\nlose-up\nserver-anew\ntimeout\ngood 14\n",
+        aired: 2,
+        reported: 2,
+        outcome: Some(Outcome::Done),
+        exchanges: 15,
+        at: &[],
+    },
+    Row {
+        name: "what aired before a server is started anew stays reported",
+        script: "good 6\nserver-anew\nround\n",
+        aired: 1,
+        reported: 1,
+        outcome: Some(Outcome::Refused(0)),
+        exchanges: 7,
+        at: &[],
+    },
+    Row {
+        name: "an automation that is started anew reports what it did",
+        script: "good 6\nautomation-anew\n",
+        aired: 1,
+        reported: 1,
+        outcome: None,
+        exchanges: 6,
+        at: &[],
+    },
+    Row {
+        name: "an automation that is started anew goes on",
+        script: "good 6\nautomation-anew\ngood 8\n",
+        aired: 2,
+        reported: 2,
+        outcome: Some(Outcome::Done),
+        exchanges: 14,
+        at: &[],
+    },
+    Row {
+        name: "what an automation awaited has timed out",
+        script: "tick\nautomation-anew\ndown\ntick\nup\n",
+        aired: 0,
+        reported: 0,
+        outcome: None,
+        exchanges: 2,
+        at: &[(1, Known::LostOpen), (2, Known::Opened)],
+    },
+    Row {
+        name: "a wish to stop is forgotten",
+        script: "stop\nautomation-anew\ntick\ndown\nup\n",
+        aired: 0,
+        reported: 0,
+        outcome: None,
+        exchanges: 1,
+        at: &[(1, Known::Opened)],
+    },
+    // CLIP0001 still plays, and CLIP0002 waits for its end.
+    Row {
+        name: "a take is forgotten",
+        script: "good 6\nround 3\ntake\nautomation-anew\nready\nround 2\n",
+        aired: 1,
+        reported: 1,
+        outcome: None,
+        exchanges: 11,
+        at: &[],
+    },
+];
+
+const LATE: &'static [Row] = &[
+    Row {
+        name: "a late answer is heard for the next try",
+        script: "tick\ndown\ntimeout\ntick\nup\n",
+        aired: 0,
+        reported: 0,
+        outcome: None,
+        exchanges: 2,
+        at: &[(1, Known::LostOpen), (2, Known::Opened)],
+    },
+    // OPEN is sent twice, and SELECT after the answer to the first: its own answer comes third.
+    Row {
+        name: "answers come in the order of their commands",
+        script: "tick\ntimeout\ntick\ndown\nup\ntick\ndown\ndown\nup\ntick\nup\n",
+        aired: 0,
+        reported: 0,
+        outcome: None,
+        exchanges: 4,
+        at: &[
+            (1, Known::LostOpen),
+            (2, Known::Opened),
+            (3, Known::OpenedLate),
+            (4, Known::Selected),
+        ],
+    },
+    Row {
+        name: "PLAY is executed and times out",
+        script: "good 5\ntick\ndown\ntimeout\n",
+        aired: 1,
+        reported: 0,
+        outcome: None,
+        exchanges: 6,
+        at: &[(6, Known::LostPlay)],
+    },
+    // PLAY's ACK is heard for the first status, and its state for the second, which settles.
+    Row {
+        name: "from then on each answer comes an exchange late",
+        script: "good 5\ntick\ndown\ntimeout\ntick\nup\ntick\ndown\nup\n",
+        aired: 1,
+        reported: 1,
+        outcome: None,
+        exchanges: 8,
+        at: &[(7, Known::PlayedLate), (8, Known::State(0x04))],
+    },
+    // Two rounds for each of the seven phases that are left, and three for PLAY with its status.
+    Row {
+        name: "a run whose answers are late airs each clip once",
+        script: "good 5\ntick\ndown\ntimeout\ntick\nup\ntick\ndown\nup\ngood 20\n",
+        aired: 2,
+        reported: 2,
+        outcome: Some(Outcome::Done),
+        exchanges: 25,
+        at: &[],
+    },
+];
+
+const CONFIRMING: &'static [Row] = &[
+    Row {
+        name: "an answer becomes a receipt, which answers nothing",
+        script: "tick\ndown\nalter-up 04\nup\nup\n",
+        aired: 0,
+        reported: 0,
+        outcome: None,
+        exchanges: 0,
+        at: &[],
+    },
+    Row {
+        name: "a refusal from nowhere answers nothing",
+        script: "tick\njunk-up 0501\ndown\nup\n",
+        aired: 0,
+        reported: 0,
+        outcome: None,
+        exchanges: 0,
+        at: &[],
+    },
+    Row {
+        name: "what is on the way comes after it",
+        script: "tick\njunk-up 0501\ndown\nup\nup\n",
+        aired: 0,
+        reported: 0,
+        outcome: None,
+        exchanges: 1,
+        at: &[(1, Known::Opened)],
+    },
+    Row {
+        name: "receipts from nowhere end nothing",
+        script: "tick\ndown\nup\ntick\ndown\nlose-up\nstray-ack\nstray-nak 01\n",
+        aired: 0,
+        reported: 0,
+        outcome: None,
+        exchanges: 1,
+        at: &[(1, Known::Opened)],
+    },
+    Row {
+        name: "two clips in eighteen good rounds",
+        script: "good 18\n",
+        aired: 2,
+        reported: 2,
+        outcome: Some(Outcome::Done),
+        exchanges: 17,
+        at: &[],
+    },
+];
+
+const BY_THE_FRAME: Row = Row {
+    name: "a cue takes its frames",
+    script: "round 4\nframe 2\nround\nframe\nround\n",
+    aired: 0,
+    reported: 0,
+    outcome: None,
+    exchanges: 6,
+    at: &[(5, Known::State(0x02)), (6, Known::State(0x80))],
+};
+
+/// These exchanges stand in the log at their places.
+fn has_exchanges(rt: &impl Abort, log: &[Exchange], at: &[(usize, Known)], name: &str) {
+    for (number, known) in at {
+        let there = log.get(number.saturating_sub(1)).copied();
+        assert_eq!(rt; there, Some(known.exchange()), "{name}");
+    }
+}
+
+/// The script's events happen, and the world is then as the row says.
+fn check(rt: &impl Abort, alloc: Global, mut world: Late<Global>, row: &Row) -> Result<(), Fail> {
+    run(alloc, &mut world, row.script)?;
+    let wanted = Counts {
+        aired: row.aired,
+        reported: row.reported,
+        exchanges: row.exchanges,
+        outcome: row.outcome,
+    };
+    assert_eq!(rt; counts_of(&world), wanted, "{}", row.name);
+    for (aired, item) in world.aired().iter().zip([first(), second()]) {
+        assert_eq!(rt; *aired, item, "{}", row.name);
+    }
+    has_exchanges(rt, world.log(), row.at, row.name);
+    Ok(())
+}
+
+#[test]
+fn scripts_come_to_their_rows_in_plain_mode(rt: HostRuntime) -> Result<(), Fail> {
+    for rows in [PLAIN, ANEW, LATE] {
+        for row in rows {
+            check(&rt, rt.alloc(), plain(rt.alloc())?, row)?;
+        }
+    }
+    Ok(())
+}
+
+#[test]
+fn scripts_come_to_their_rows_in_confirm_mode(rt: HostRuntime) -> Result<(), Fail> {
+    for row in CONFIRMING {
+        check(&rt, rt.alloc(), confirming(rt.alloc())?, row)?;
+    }
+    Ok(())
+}
+
+#[test]
+fn a_script_comes_to_its_row_by_the_frame(rt: HostRuntime) -> Result<(), Fail> {
+    let port = Port::with_clock(shelf()?, 0, 0x01, 3);
+    let world = LateWorld::new(rt.alloc(), TwoClips::new(), port, 3);
+    check(&rt, rt.alloc(), world, &BY_THE_FRAME)
+}
+
+#[test]
+fn junk_comes_before_a_command(rt: HostRuntime) -> Result<(), Fail> {
+    let mut world = plain(rt.alloc())?;
+    let junk = burst(rt.alloc(), &[0xff])?;
+    run(rt.alloc(), &mut world, "tick\n")?;
+    world.step(&LateEvent::JunkDown(0, junk))?;
+    run(rt.alloc(), &mut world, "down\nup\ntick\ndown\nup\n")?;
+    assert_eq!(rt; world.log().len(), 2);
+    let both = [(1, Known::UnreadOpen), (2, Known::Opened)];
+    has_exchanges(&rt, world.log(), &both, "junk comes before a command");
+    Ok(())
+}
