@@ -162,7 +162,7 @@ const PLAIN: &'static [Row] = &[
     },
     Row {
         name: "an answer becomes a NAK",
-        script: "tick\ndown\nup-copy\ntick\nalter-up 0580\nup\n",
+        script: "tick\ndown\nalter-up 04\nup-copy\ntick\nalter-up 0580\nup\n",
         aired: 0,
         reported: 0,
         outcome: None,
@@ -329,7 +329,7 @@ const ANEW: &'static [Row] = &[
     // CLIP0001 still plays, and CLIP0002 waits for its end.
     Row {
         name: "a take is forgotten",
-        script: "good 6\nround 3\ntake\nautomation-anew\nready\nround 2\n",
+        script: "stop\nautomation-anew\ntick\ndown\nup\ngood 5\nround 3\ntake\nautomation-anew\nready\nround 2\n",
         aired: 1,
         reported: 1,
         outcome: None,
@@ -347,6 +347,19 @@ const LATE: &'static [Row] = &[
         outcome: None,
         exchanges: 2,
         at: &[(1, Known::LostOpen), (2, Known::Opened)],
+    },
+    Row {
+        name: "an answer to a second try is heard for the next command",
+        script: "tick\ntimeout\ntick\ndown\nup\ntick\ndown\ndown\nup\n",
+        aired: 0,
+        reported: 0,
+        outcome: None,
+        exchanges: 3,
+        at: &[
+            (1, Known::LostOpen),
+            (2, Known::Opened),
+            (3, Known::OpenedLate),
+        ],
     },
     // OPEN is sent twice, and SELECT after the answer to the first: its own answer comes third.
     Row {
@@ -512,5 +525,18 @@ fn junk_comes_before_a_command(rt: HostRuntime) -> Result<(), Fail> {
     assert_eq!(rt; world.log().len(), 2);
     let both = [(1, Known::UnreadOpen), (2, Known::Opened)];
     has_exchanges(&rt, world.log(), &both, "junk comes before a command");
+    Ok(())
+}
+
+#[test]
+fn junk_past_the_end_comes_last(rt: HostRuntime) -> Result<(), Fail> {
+    let mut world = plain(rt.alloc())?;
+    let junk = burst(rt.alloc(), &[0xff])?;
+    run(rt.alloc(), &mut world, "tick\n")?;
+    world.step(&LateEvent::JunkDown(9, junk))?;
+    run(rt.alloc(), &mut world, "down\nup\ntick\ndown\nup\n")?;
+    assert_eq!(rt; world.log().len(), 2);
+    let both = [(1, Known::Opened), (2, Known::UnreadSelect)];
+    has_exchanges(&rt, world.log(), &both, "junk past the end comes last");
     Ok(())
 }
