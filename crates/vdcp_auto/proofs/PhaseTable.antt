@@ -1,6 +1,6 @@
 -- The phase table, line by line, computed from the definitions: where each kind of answer leads in each phase of both
 -- modes.
-use Rattle.std.specs.Prelude.{◌≡◌, ℕ, Bool, true, false, Option, None, Some, List, [], ◌∷◌, ◌++◌, map, refl}
+use Rattle.std.specs.Prelude.{◌≡◌, ℕ, Bool, true, false, not, Option, None, Some, is_some, List, [], ◌∷◌, ◌++◌, map, refl}
 use Rattle.vdcp_words.specs.declared.reply.Reply.{Reply}
 use Rattle.vdcp_words.specs.declared.reply.Reply.TheVariants as reply
 use Rattle.vdcp_auto.specs.declared.exchange.Heard.{Heard}
@@ -13,7 +13,7 @@ use Rattle.vdcp_auto.specs.declared.phase.Phase.TheVariants as phase
 use Rattle.vdcp_auto.specs.State.{Stage}
 use Rattle.vdcp_auto.specs.State.{Ready, Awaiting, Ended}
 use Rattle.vdcp_auto.specs.State.{State}
-use Rattle.vdcp_auto.specs.Turn.{came_to, stopped, ticked}
+use Rattle.vdcp_auto.specs.Turn.{is_awaiting, ended_by, came_to, stopped, ticked}
 use Rattle.vdcp_auto.proofs.Examples.{clip_one, clip_two, two, plan}
 
 abbrev heard_reply : Reply → Option Heard
@@ -111,23 +111,34 @@ abbrev in_phase : Phase → Bool → ℕ → ℕ → State
 in_phase p take unanswered tries =
     record { stage = Awaiting p; take = take; stop = false; unanswered = unanswered; settled = 0; tries = tries }
 
--- a line of the table: in this phase each of these answers leads there, where none of the exchanges before is
--- unanswered
+-- a line of the table: in this state each of these answers leads there
 record Line : Type 0 where
-  phase : Phase
+  state : State
   answers : List (Option Heard)
   stage : Stage
 
-abbrev line : Phase → List (Option Heard) → Stage → Line
-line p answers stage = record { phase = p; answers = answers; stage = stage }
+abbrev line_from : State → List (Option Heard) → Stage → Line
+line_from s answers stage = record { state = s; answers = answers; stage = stage }
 
--- where the answers of a line lead
-abbrev led : Mode → Line → List Stage
-led mode l = map (λ came. (came_to (plan mode two) came (in_phase l.phase false 0 0)).stage) l.answers
+-- none of the exchanges before is unanswered
+abbrev line : Phase → List (Option Heard) → Stage → Line
+line p = line_from (in_phase p false 0 0)
+
+-- the same where a take is wished, and where the cue was lost once less than the limit
+abbrev line_with_take : List (Option Heard) → Stage → Line
+line_with_take = line_from (in_phase (phase.Wait 0) true 0 0)
+
+abbrev line_of_last_try : List (Option Heard) → Stage → Line
+line_of_last_try = line_from (in_phase (phase.Wait 0) false 0 2)
+
+-- where the answers of a line lead, and whether they end the exchange
+abbrev led : Mode → Line → List (Stage × Bool)
+led mode l = map
+    (λ came. ((came_to (plan mode two) came l.state).stage, is_some (ended_by (plan mode two) came l.state))) l.answers
 
 -- where the line says that they lead
-abbrev told : Line → List Stage
-told l = map (λ came. l.stage) l.answers
+abbrev told : Line → List (Stage × Bool)
+told l = map (λ came. (l.stage, not (is_awaiting l.stage))) l.answers
 
 -- every line of the table says where its answers lead
 abbrev Leads : Mode → List Line → Type 0
@@ -202,6 +213,12 @@ plain_lines =
     ∷ line phase.HaltClose refusal (Ended Stopped)
     ∷ line phase.HaltClose (fault ++ silence ++ other) (Ready phase.HaltClose)
     ∷ line phase.HaltClose (opened ++ state ++ no_state ++ active ++ presence ++ size) (Ready phase.HaltClose)
+    ∷ line_with_take (done ++ done_and_playing) (Ready (phase.Play 0))
+    ∷ line_with_take (cueing ++ cueing_and_playing) (Ready (phase.Wait 0))
+    ∷ line_with_take (idle ++ playing) (Ended (Strange 0))
+    ∷ line_with_take refusal (Ended (Refused 0))
+    ∷ line_with_take (fault ++ silence ++ other) (Ready (phase.Wait 0))
+    ∷ line_with_take (ack ++ opened ++ no_state ++ active ++ presence ++ size) (Ready (phase.Wait 0))
     ∷ []
 
 plain_table : Leads Plain plain_lines
@@ -280,6 +297,19 @@ confirming_lines =
     ∷ line phase.HaltClose receipt (Awaiting phase.HaltClose)
     ∷ line phase.HaltClose other (Awaiting phase.HaltClose)
     ∷ line phase.HaltClose (opened ++ state ++ no_state ++ active ++ presence ++ size) (Awaiting phase.HaltClose)
+    ∷ line_with_take (done ++ done_and_playing) (Ready (phase.Play 0))
+    ∷ line_with_take (cueing ++ cueing_and_playing) (Ready (phase.Wait 0))
+    ∷ line_with_take (idle ++ playing) (Ready (phase.Cue 0))
+    ∷ line_with_take receipt (Awaiting (phase.Wait 0))
+    ∷ line_with_take (silence ++ other) (Ready (phase.Wait 0))
+    ∷ line_with_take (opened ++ no_state ++ active ++ presence ++ size) (Ready (phase.Wait 0))
+    ∷ line_of_last_try done (Ready (phase.Play 0))
+    ∷ line_of_last_try done_and_playing (Ready (phase.Wait 0))
+    ∷ line_of_last_try (cueing ++ cueing_and_playing) (Ready (phase.Wait 0))
+    ∷ line_of_last_try (idle ++ playing) (Ended (Refused 0))
+    ∷ line_of_last_try receipt (Awaiting (phase.Wait 0))
+    ∷ line_of_last_try (silence ++ other) (Ready (phase.Wait 0))
+    ∷ line_of_last_try (opened ++ no_state ++ active ++ presence ++ size) (Ready (phase.Wait 0))
     ∷ []
 
 confirming_table : Leads Confirming confirming_lines
@@ -289,21 +319,6 @@ confirming_table = refl
 
 abbrev after : Mode → Phase → Bool → ℕ → ℕ → Option Heard → State
 after mode p take unanswered tries came = came_to (plan mode two) came (in_phase p take unanswered tries)
-
-take_over_a_playing_clip : (mode : Mode) → (after mode (phase.Wait 0) true 0 0 (heard_state 0x84)).stage
-    ≡ Ready (phase.Play 0)
-take_over_a_playing_clip Plain = refl
-take_over_a_playing_clip Confirming = refl
-
-take_with_nothing_playing : (mode : Mode) → (after mode (phase.Wait 0) true 0 0 (heard_state 0x80)).stage
-    ≡ Ready (phase.Play 0)
-take_with_nothing_playing Plain = refl
-take_with_nothing_playing Confirming = refl
-
-take_waits_for_the_cue : (mode : Mode) → (after mode (phase.Wait 0) true 0 0 (heard_state 0x06)).stage
-    ≡ Ready (phase.Wait 0)
-take_waits_for_the_cue Plain = refl
-take_waits_for_the_cue Confirming = refl
 
 take_is_spent_when_play_is_sent : (ticked (record (in_phase (phase.Play 0) true 0 0)
     { stage = Ready (phase.Play 0) })).take ≡ false
@@ -337,9 +352,6 @@ second_lost_cue_is_tried_again = refl
 
 lost_cues_are_counted : (after Confirming (phase.Wait 0) false 0 1 (heard_state 0x01)).tries ≡ 2
 lost_cues_are_counted = refl
-
-third_lost_cue_ends_refused : (after Confirming (phase.Wait 0) false 0 2 (heard_state 0x01)).stage ≡ Ended (Refused 0)
-third_lost_cue_ends_refused = refl
 
 tries_stay_when_the_cue_is_sent_again : (after Confirming (phase.Cue 0) false 0 2 None).tries ≡ 2
 tries_stay_when_the_cue_is_sent_again = refl

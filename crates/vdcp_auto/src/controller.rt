@@ -12,8 +12,6 @@ use std::marker::Model;
 use vdcp_words::Command;
 
 mod table;
-#[cfg(test)]
-mod tests;
 
 /// Plays a list through one port.
 ///

@@ -22,6 +22,3 @@ pub use exchange::{Exchange, Heard, Input};
 pub use outcome::Outcome;
 pub use rehearsal::{rehearse, rehearse_confirming};
 pub use source::Source;
-
-#[cfg(test)]
-mod tests;

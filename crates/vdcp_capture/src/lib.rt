@@ -18,6 +18,3 @@ mod settings;
 
 pub use judge::do_judge;
 pub use settings::JudgeSettings;
-
-#[cfg(test)]
-mod tests;

@@ -178,6 +178,3 @@ fn fault_of<C: Catalogue>(clips: &C, item: &Item) -> Option<EventFault>
         Some(_) | None => None,
     }
 }
-
-#[cfg(test)]
-mod tests;

@@ -308,6 +308,3 @@ impl fmt::Display for CountText {
         }
     }
 }
-
-#[cfg(test)]
-mod tests;

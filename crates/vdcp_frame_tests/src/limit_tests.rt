@@ -4,6 +4,7 @@ use crate::reader_tests::{is_read_as, read_in_pieces, read_next};
 use crate::tests::reading_of;
 use arrayvec::ArrayVec;
 use std::alloc::{AllocError, Global};
+use std::process::Abort;
 use std::test::Fail;
 use vdcp_frame::{Fault, Full, Message, Reader, Step, write};
 
@@ -71,19 +72,23 @@ fn what_stands_at_the_limit_and_after_it(rt: HostRuntime) -> Result<(), Fail> {
     ];
     for (after, count, end) in rows {
         let burst = plays(rt.alloc(), 819, after)?;
-        let (messages, ended) = reading_of(rt.alloc(), burst.as_slice())?;
-        assert_eq!(rt; messages.len(), count, "in {after:?}");
-        assert_eq!(rt; ended, end, "in {after:?}");
-        for cut in 4094..=4097 {
-            read_in_pieces(
-                &rt,
-                burst.as_slice(),
-                cut,
-                burst.len(),
-                messages.as_slice(),
-                end,
-            );
-        }
+        ends_after(&rt, burst.as_slice(), count, end)?;
+    }
+    Ok(())
+}
+
+// The burst has this many messages and ends so, cut at each place around the limit too.
+fn ends_after(
+    rt: &(impl Abort + AllocGlobal),
+    burst: &[u8],
+    count: usize,
+    end: Step,
+) -> Result<(), AllocError> {
+    let (messages, ended) = reading_of(rt.alloc(), burst)?;
+    assert_eq!(rt; messages.len(), count);
+    assert_eq!(rt; ended, end);
+    for cut in 4094..=4097 {
+        read_in_pieces(rt, burst, cut, burst.len(), messages.as_slice(), end);
     }
     Ok(())
 }

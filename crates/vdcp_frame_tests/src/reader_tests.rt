@@ -201,33 +201,62 @@ fn pieces_read_as_the_whole(rt: HostRuntime) -> Result<(), Fail> {
     Ok(())
 }
 
+// The next call gives this, and leaves these bytes of the piece.
+fn expect_next(rt: &impl Abort, reader: &mut Reader, rest: &mut &[u8], got: Got, left: &[u8]) {
+    assert_eq!(rt; reader.next(rest), got);
+    assert_eq!(rt; *rest, left);
+}
+
 #[test]
 fn a_piece_is_read_message_by_message(rt: HostRuntime) {
     let mut reader = Reader::new();
     let mut rest: &[u8] = &[0x04, 0x05, 0x80, 0x02, 0x02];
-    assert_eq!(rt; reader.next(&mut rest), Got::Message(Message::Ack));
-    assert_eq!(rt; rest, [0x05, 0x80, 0x02, 0x02].as_slice());
-    assert_eq!(rt; reader.next(&mut rest), Got::Message(Message::Nak(0x80)));
-    assert_eq!(rt; reader.next(&mut rest), Got::More);
-    assert!(rt; rest.is_empty());
+    let left: &[u8] = &[0x05, 0x80, 0x02, 0x02];
+    expect_next(
+        &rt,
+        &mut reader,
+        &mut rest,
+        Got::Message(Message::Ack),
+        left,
+    );
+    let left: &[u8] = &[0x02, 0x02];
+    expect_next(
+        &rt,
+        &mut reader,
+        &mut rest,
+        Got::Message(Message::Nak(0x80)),
+        left,
+    );
+    expect_next(&rt, &mut reader, &mut rest, Got::More, &[]);
     rest = &[0x10, 0x00, 0x04, 0x04];
-    assert_eq!(rt; reader.next(&mut rest), Got::Fault(Fault::BadSum, 8));
-    assert_eq!(rt; rest, [0x04].as_slice());
-    assert_eq!(rt; reader.next(&mut rest), Got::More);
-    assert!(rt; rest.is_empty());
+    expect_next(
+        &rt,
+        &mut reader,
+        &mut rest,
+        Got::Fault(Fault::BadSum, 8),
+        &[0x04],
+    );
+    expect_next(&rt, &mut reader, &mut rest, Got::More, &[]);
     assert_eq!(rt; reader.silence(), Ended::AfterFault);
+}
+
+// A call takes one byte, and gives this.
+fn expect_fed(rt: &impl Abort, reader: &mut Reader, piece: &[u8], got: Got) {
+    assert_eq!(rt; reader.feed(piece), (1, got));
 }
 
 #[test]
 fn after_a_fault_all_is_taken_until_the_silence(rt: HostRuntime) {
     let mut reader = Reader::new();
-    assert_eq!(rt;
-        reader.feed(&[0x03, 0x04]),
-        (1, Got::Fault(Fault::BadStart, 1))
+    expect_fed(
+        &rt,
+        &mut reader,
+        &[0x03, 0x04],
+        Got::Fault(Fault::BadStart, 1),
     );
-    assert_eq!(rt; reader.feed(&[0x04]), (1, Got::More));
+    expect_fed(&rt, &mut reader, &[0x04], Got::More);
     assert_eq!(rt; reader.silence(), Ended::AfterFault);
-    assert_eq!(rt; reader.feed(&[0x04]), (1, Got::Message(Message::Ack)));
+    expect_fed(&rt, &mut reader, &[0x04], Got::Message(Message::Ack));
     assert_eq!(rt; reader.silence(), Ended::Clean);
 }
 

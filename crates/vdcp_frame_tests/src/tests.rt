@@ -5,6 +5,7 @@ ghost use Rattle.vdcp_frame.specs.Reading.{Reads};
 ghost use Rattle.vdcp_frame.specs.Step.{IfMessage, IfEnd};
 ghost use Rattle.vdcp_frame.specs.Walk.{end_seen};
 
+use crate::reader_tests::is_read_as;
 use arrayvec::ArrayVec;
 use std::alloc::{AllocError, Global};
 use std::test::Fail;
@@ -110,9 +111,7 @@ fn small_bursts_are_read(rt: HostRuntime) -> Result<(), Fail> {
         ),
     ];
     for (burst, messages, end) in rows {
-        let (read, ended) = reading_of(rt.alloc(), burst)?;
-        assert_eq!(rt; read.as_slice(), messages, "in {burst:?}");
-        assert_eq!(rt; ended, end, "in {burst:?}");
+        is_read_as(&rt, rt.alloc(), burst, messages, end)?;
     }
     Ok(())
 }

@@ -1,4 +1,5 @@
 //! Faults are told apart by what they tell, and have their texts.
+use std::fmt;
 use std::process::Abort;
 use std::test::Fail;
 use vdcp_list::{ListFault, SlotFault, WriteFault};
@@ -43,9 +44,17 @@ fn faults_differ_by_what_they_tell(rt: HostRuntime) {
     );
 }
 
+fn expect_text(
+    rt: &(impl Abort + AllocGlobal),
+    fault: impl fmt::Display + Drop,
+    text: &str,
+) -> Result<(), Fail> {
+    assert_eq!(rt; format!(in rt.alloc(); "{fault}")?.as_str(), text);
+    Ok(())
+}
+
 #[test]
 fn faults_are_worded(rt: HostRuntime) -> Result<(), Fail> {
-    let alloc = rt.alloc();
     for (fault, text) in [
         (ListFault::Columns(2), "row 2 has a wrong number of fields"),
         (ListFault::Id(3), "row 3 has no clip id"),
@@ -61,13 +70,13 @@ fn faults_are_worded(rt: HostRuntime) -> Result<(), Fail> {
         (ListFault::Memory, "out of memory"),
         (ListFault::Read, "the reader failed"),
     ] {
-        assert_eq!(rt; format!(in alloc; "{fault}")?.as_str(), text);
+        expect_text(&rt, fault, text)?;
     }
     for (fault, text) in [
         (SlotFault::Twice, "the clip is there already"),
         (SlotFault::Full, "there is no room for another clip"),
     ] {
-        assert_eq!(rt; format!(in alloc; "{fault}")?.as_str(), text);
+        expect_text(&rt, fault, text)?;
     }
     for (fault, text) in [
         (WriteFault::Device, "the writer failed"),
@@ -77,7 +86,7 @@ fn faults_are_worded(rt: HostRuntime) -> Result<(), Fail> {
             "the part of event 6 isn't lawful at the rate",
         ),
     ] {
-        assert_eq!(rt; format!(in alloc; "{fault}")?.as_str(), text);
+        expect_text(&rt, fault, text)?;
     }
     Ok(())
 }

@@ -37,6 +37,40 @@ fn part(name: &[u8; 8], start: [u8; 4], duration: [u8; 4]) -> Item {
     }
 }
 
+// These promise nothing, so the proof of a test needn't go through the clauses of each call.
+
+fn list_of(alloc: Global, text: &[u8]) -> Result<List, ListFault> {
+    read_list(alloc, text, Rate::F25)
+}
+
+fn table_of(alloc: Global, text: &[u8]) -> Result<Table, ListFault> {
+    read_catalogue(alloc, text, Rate::F25)
+}
+
+/// Writes this many events, or all.
+fn write_first<W: Write>(
+    alloc: Global,
+    list: &List,
+    rate: Rate,
+    count: usize,
+    out: &mut W,
+) -> Result<(), WriteFault> {
+    write_asrun(alloc, list, rate, count.min(list.len()), out)
+}
+
+/// Writes this many events from this one on, or all.
+fn write_from(
+    alloc: Global,
+    list: &List,
+    rate: Rate,
+    from: usize,
+    count: usize,
+    out: &mut Vec<u8>,
+) -> Result<(), WriteFault> {
+    let from = from.min(list.len());
+    write_events(alloc, list, rate, from, count.min(list.len() - from), out)
+}
+
 /// Whether a playlist has these items.
 fn has_items(list: &List, items: &[Item]) -> bool {
     if list.len() != items.len() {
@@ -49,9 +83,6 @@ fn has_items(list: &List, items: &[Item]) -> bool {
     }
     true
 }
-
-/// Ten seconds at 25 frames a second.
-const TEN_SECONDS: [u8; 4] = [0x00, 0x10, 0x00, 0x00];
 
 #[test]
 fn playlists_are_read(rt: HostRuntime) -> Result<(), Fail> {
@@ -86,7 +117,7 @@ fn playlists_are_read(rt: HostRuntime) -> Result<(), Fail> {
         ("A,,\nB,,\n", &[whole(b"A       "), whole(b"B       ")]),
     ];
     for (text, items) in cases {
-        let list = read_list(rt.alloc(), text.as_bytes(), Rate::F25)?;
+        let list = list_of(rt.alloc(), text.as_bytes())?;
         assert!(rt; has_items(&list, items), "{text:?}");
     }
     Ok(())
@@ -118,7 +149,7 @@ fn playlists_are_refused(rt: HostRuntime) -> Result<(), Fail> {
 }
 
 fn refused_list(alloc: Global, text: &[u8]) -> Option<ListFault> {
-    read_list(alloc, text, Rate::F25).err()
+    list_of(alloc, text).err()
 }
 
 #[test]
@@ -148,22 +179,25 @@ fn rows_in_turn(alloc: Global, count: usize) -> Result<String, Fail> {
     Ok(text)
 }
 
+/// Whether a playlist has these two items in turn.
+fn has_in_turn(list: &List, first: Item, second: Item) -> bool {
+    for k in 0..list.len() {
+        if list.at(k) != if k % 2 == 0 { first } else { second } {
+            return false;
+        }
+    }
+    true
+}
+
 #[test]
 fn ten_thousand_rows_are_a_playlist(rt: HostRuntime) -> Result<(), Fail> {
     let text = rows_in_turn(rt.alloc(), 10_000)?;
-    let list = read_list(rt.alloc(), text.as_bytes(), Rate::F25)?;
+    let list = list_of(rt.alloc(), text.as_bytes())?;
     assert_eq!(rt; list.len(), 10_000);
     assert_eq!(rt; list.text().len(), 55_000);
     assert_eq!(rt; list.ends().len(), 10_000);
     assert_eq!(rt; list.ends().get(1).copied(), Some(11));
-    for k in 0..list.len() {
-        let item = if k % 2 == 0 {
-            whole(b"CLIP0001")
-        } else {
-            whole(b"A,B     ")
-        };
-        assert_eq!(rt; list.at(k), item);
-    }
+    assert!(rt; has_in_turn(&list, whole(b"CLIP0001"), whole(b"A,B     ")));
     let text = rows_in_turn(rt.alloc(), 10_001)?;
     assert!(rt; refused_list(rt.alloc(), text.as_bytes()) == Some(ListFault::TooMany(10_001)));
     Ok(())
@@ -206,34 +240,35 @@ fn clips_in_rows(alloc: Global, count: u32) -> Result<String, Fail> {
     Ok(text)
 }
 
+/// Looks a clip up through the trait.
+fn frames_in<C: Catalogue>(catalogue: &C, name: &[u8; 8]) -> Option<u32> {
+    match catalogue.length(&clip(name)) {
+        Some(length) => Some(length.frames()),
+        None => None,
+    }
+}
+
 #[test]
 fn catalogues_are_read(rt: HostRuntime) -> Result<(), Fail> {
     let text = b"CLIP0002,00:00:00:01\r\n\r\n\"A,B\",00:00:10:00\n";
-    let table = read_catalogue(rt.alloc(), text.as_slice(), Rate::F25)?;
+    let table = table_of(rt.alloc(), text)?;
     assert_eq!(rt; table.len(), 2);
-    let length = table.length(&clip(b"A,B     ")).ok_or("a clip")?;
-    assert_eq!(rt; length.to_bcd(), TEN_SECONDS);
-    assert_eq!(rt;
-        table.length(&clip(b"CLIP0002")).ok_or("a clip")?.frames(),
-        1
-    );
-    assert!(rt; table.length(&clip(b"CLIP0001")).is_none());
-    assert_eq!(rt;
-        read_catalogue(rt.alloc(), b"".as_slice(), Rate::F25)?.len(),
-        0
-    );
+    assert_eq!(rt; frames_in(&table, b"A,B     "), Some(250));
+    assert_eq!(rt; frames_in(&table, b"CLIP0002"), Some(1));
+    assert_eq!(rt; frames_in(&table, b"CLIP0001"), None);
+    assert_eq!(rt; table_of(rt.alloc(), b"")?.len(), 0);
     Ok(())
 }
 
 #[test]
 fn ten_thousand_rows_are_a_catalogue(rt: HostRuntime) -> Result<(), Fail> {
     let text = clips_in_rows(rt.alloc(), 10_000)?;
-    let table = read_catalogue(rt.alloc(), text.as_bytes(), Rate::F25)?;
+    let table = table_of(rt.alloc(), text.as_bytes())?;
     assert_eq!(rt; table.len(), 10_000);
-    assert!(rt; table.length(&clip(b"C1      ")).is_some());
-    assert!(rt; table.length(&clip(b"C5000   ")).is_some());
-    assert!(rt; table.length(&clip(b"C10000  ")).is_some());
-    assert!(rt; table.length(&clip(b"C0      ")).is_none());
+    for name in [b"C1      ", b"C5000   ", b"C10000  "] {
+        assert_eq!(rt; frames_in(&table, name), Some(250));
+    }
+    assert_eq!(rt; frames_in(&table, b"C0      "), None);
     let text = clips_in_rows(rt.alloc(), 10_001)?;
     assert!(rt; refused_table(rt.alloc(), text.as_bytes()) == Some(ListFault::TooMany(10_001)));
     Ok(())
@@ -267,32 +302,32 @@ fn catalogues_are_refused(rt: HostRuntime) -> Result<(), Fail> {
 }
 
 fn refused_table(alloc: Global, text: &[u8]) -> Option<ListFault> {
-    read_catalogue(alloc, text, Rate::F25).err()
+    table_of(alloc, text).err()
 }
 
-/// Looks a clip up through the trait.
-fn frames_in<C: Catalogue>(catalogue: &C, id: &ClipId) -> Option<u32> {
-    match catalogue.length(id) {
-        Some(length) => Some(length.frames()),
-        None => None,
-    }
+/// Adds a clip of this many frames.
+fn add(slots: &mut Slots<2>, name: &[u8; 8], frames: u32) -> Option<Result<(), SlotFault>> {
+    let length = Timecode::from_frames(Rate::F25, frames)?;
+    Some(slots.add(clip(name), length))
 }
 
 #[test]
-fn slots_take_what_fits(rt: HostRuntime) -> Result<(), Fail> {
-    let second = Timecode::from_frames(Rate::F25, 25).ok_or("a time code")?;
-    let frame = Timecode::from_frames(Rate::F25, 1).ok_or("a time code")?;
+fn slots_take_what_fits(rt: HostRuntime) {
     let mut slots: Slots<2> = Slots::new();
-    assert_eq!(rt; frames_in(&slots, &clip(b"CLIP0001")), None);
-    assert!(rt; slots.add(clip(b"CLIP0001"), second) == Ok(()));
-    assert!(rt; slots.add(clip(b"CLIP0001"), frame) == Err(SlotFault::Twice));
-    assert!(rt; slots.add(clip(b"CLIP0002"), frame) == Ok(()));
-    assert!(rt; slots.add(clip(b"CLIP0003"), frame) == Err(SlotFault::Full));
-    assert!(rt; slots.add(clip(b"CLIP0002"), second) == Err(SlotFault::Twice));
-    assert_eq!(rt; frames_in(&slots, &clip(b"CLIP0001")), Some(25));
-    assert_eq!(rt; frames_in(&slots, &clip(b"CLIP0002")), Some(1));
-    assert_eq!(rt; frames_in(&slots, &clip(b"CLIP0003")), None);
-    Ok(())
+    assert_eq!(rt; frames_in(&slots, b"CLIP0001"), None);
+    let rows = [
+        (b"CLIP0001", 25, Ok(())),
+        (b"CLIP0001", 1, Err(SlotFault::Twice)),
+        (b"CLIP0002", 1, Ok(())),
+        (b"CLIP0003", 1, Err(SlotFault::Full)),
+        (b"CLIP0002", 25, Err(SlotFault::Twice)),
+    ];
+    for (name, frames, added) in rows {
+        assert!(rt; add(&mut slots, name, frames) == Some(added), "{name:?}");
+    }
+    assert_eq!(rt; frames_in(&slots, b"CLIP0001"), Some(25));
+    assert_eq!(rt; frames_in(&slots, b"CLIP0002"), Some(1));
+    assert_eq!(rt; frames_in(&slots, b"CLIP0003"), None);
 }
 
 #[test]
@@ -314,10 +349,9 @@ fn asrun_lists_are_written(rt: HostRuntime) -> Result<(), Fail> {
         ("A,,\nB,,\n", 2, "0,A\n1,B\n"),
     ];
     for (text, reported, written) in cases {
-        let list = read_list(rt.alloc(), text.as_bytes(), Rate::F25)?;
+        let list = list_of(rt.alloc(), text.as_bytes())?;
         let mut out = Vec::new(rt.alloc());
-        assert!(rt; reported <= list.len());
-        write_asrun(rt.alloc(), &list, Rate::F25, reported, &mut out)?;
+        write_first(rt.alloc(), &list, Rate::F25, reported, &mut out)?;
         assert_eq!(rt; out.as_slice(), written.as_bytes(), "{text:?}");
     }
     Ok(())
@@ -340,11 +374,9 @@ fn events_from_the_middle_are_written(rt: HostRuntime) -> Result<(), Fail> {
         ("A,,\nB,,\nC,00:00:02:00,00:00:03:00\n", 1, 1, "1,B,,\n"),
     ];
     for (text, from, count, written) in cases {
-        let list = read_list(rt.alloc(), text.as_bytes(), Rate::F25)?;
+        let list = list_of(rt.alloc(), text.as_bytes())?;
         let mut out = Vec::new(rt.alloc());
-        assert!(rt; from <= list.len());
-        assert!(rt; count <= list.len() - from);
-        write_events(rt.alloc(), &list, Rate::F25, from, count, &mut out)?;
+        write_from(rt.alloc(), &list, Rate::F25, from, count, &mut out)?;
         assert_eq!(rt; out.as_slice(), written.as_bytes(), "{text:?}");
     }
     Ok(())
@@ -374,20 +406,18 @@ fn a_list_can_begin_with_a_later_event(rt: HostRuntime) -> Result<(), Fail> {
 #[test]
 fn unlawful_parts_are_told_and_nothing_is_written(rt: HostRuntime) -> Result<(), Fail> {
     let text = b"A,,\nB,00:00:02:00,00:00:03:00\nC,00:00:02:24,00:00:03:00\n";
-    let list = read_list(rt.alloc(), text.as_slice(), Rate::F25)?;
+    let list = list_of(rt.alloc(), text)?;
     let mut out = Vec::new(rt.alloc());
-    assert!(rt; 3 <= list.len());
-    let fault = write_asrun(rt.alloc(), &list, Rate::F24, 3, &mut out).err();
-    assert!(rt; fault == Some(WriteFault::Time(2)));
+    let written = write_first(rt.alloc(), &list, Rate::F24, 3, &mut out);
+    assert!(rt; written == Err(WriteFault::Time(2)));
     assert!(rt; out.is_empty());
     // (the row of an event before those that are written is tested, too)
     let text = b"A,00:00:02:24,00:00:03:00\nB,,\n";
-    let first = read_list(rt.alloc(), text.as_slice(), Rate::F25)?;
-    assert!(rt; 2 <= first.len());
-    let fault = write_events(rt.alloc(), &first, Rate::F24, 1, 1, &mut out).err();
-    assert!(rt; fault == Some(WriteFault::Time(0)));
+    let first = list_of(rt.alloc(), text)?;
+    let written = write_from(rt.alloc(), &first, Rate::F24, 1, 1, &mut out);
+    assert!(rt; written == Err(WriteFault::Time(0)));
     assert!(rt; out.is_empty());
-    write_asrun(rt.alloc(), &list, Rate::F24, 2, &mut out)?;
+    write_first(rt.alloc(), &list, Rate::F24, 2, &mut out)?;
     assert_eq!(rt;
         out.as_slice(),
         b"0,A,,\n1,B,00:00:02:00,00:00:03:00\n".as_slice()
@@ -486,7 +516,7 @@ fn a_read_that_fails_is_told_of_a_catalogue(rt: HostRuntime) -> Result<(), Fail>
 #[test]
 fn many_rows_of_parts_are_read(rt: HostRuntime) -> Result<(), Fail> {
     let text = rows_of_parts(rt.alloc(), 700)?;
-    let list = match read_list(rt.alloc(), text.as_bytes(), Rate::F25) {
+    let list = match list_of(rt.alloc(), text.as_bytes()) {
         Ok(list) => list,
         Err(fault) => {
             // Nothing but a refused growth keeps these rows from being read.
@@ -495,21 +525,15 @@ fn many_rows_of_parts_are_read(rt: HostRuntime) -> Result<(), Fail> {
         }
     };
     assert_eq!(rt; list.len(), 700);
-    for k in 0..list.len() {
-        let item = if k % 2 == 0 {
-            part(b"CLIP0001", [0, 2, 0, 0], [0, 3, 0, 0])
-        } else {
-            whole(b"A,B     ")
-        };
-        assert_eq!(rt; list.at(k), item);
-    }
+    let first = part(b"CLIP0001", [0, 2, 0, 0], [0, 3, 0, 0]);
+    assert!(rt; has_in_turn(&list, first, whole(b"A,B     ")));
     Ok(())
 }
 
 #[test]
 fn many_clips_are_read(rt: HostRuntime) -> Result<(), Fail> {
     let text = clips_in_rows(rt.alloc(), 700)?;
-    match read_catalogue(rt.alloc(), text.as_bytes(), Rate::F25) {
+    match table_of(rt.alloc(), text.as_bytes()) {
         Ok(table) => assert_eq!(rt; table.len(), 700),
         Err(fault) => {
             assert!(rt; fault == ListFault::Memory, "{fault:?}");
@@ -567,10 +591,10 @@ const ASRUN: &[u8] = b"0,CLIP0001\n1,\"A,B\"\n";
 
 #[test]
 fn a_write_that_fails_leaves_a_beginning(rt: HostRuntime) -> Result<(), Fail> {
-    let list = read_list(rt.alloc(), b"CLIP0001\n\"A,B\"\n".as_slice(), Rate::F25)?;
+    let list = list_of(rt.alloc(), b"CLIP0001\n\"A,B\"\n")?;
     for calls in 0..8 {
         let mut out = FailingWriter::new(rt.alloc(), calls, io::ErrorKind::Other);
-        let written = write_asrun(rt.alloc(), &list, Rate::F25, list.len(), &mut out);
+        let written = write_first(rt.alloc(), &list, Rate::F25, 2, &mut out);
         let taken = ASRUN.len().min(5 * calls);
         assert_eq!(rt; out.taken.as_slice(), &ASRUN[..taken]);
         if calls < 5 {
@@ -584,10 +608,10 @@ fn a_write_that_fails_leaves_a_beginning(rt: HostRuntime) -> Result<(), Fail> {
 
 #[test]
 fn an_interrupted_write_is_made_again(rt: HostRuntime) -> Result<(), Fail> {
-    let list = read_list(rt.alloc(), b"CLIP0001\n\"A,B\"\n".as_slice(), Rate::F25)?;
+    let list = list_of(rt.alloc(), b"CLIP0001\n\"A,B\"\n")?;
     for calls in 0..4 {
         let mut out = FailingWriter::new(rt.alloc(), calls, io::ErrorKind::Interrupted);
-        write_asrun(rt.alloc(), &list, Rate::F25, list.len(), &mut out)?;
+        write_first(rt.alloc(), &list, Rate::F25, 2, &mut out)?;
         assert_eq!(rt; out.taken.as_slice(), ASRUN);
     }
     Ok(())
@@ -595,10 +619,10 @@ fn an_interrupted_write_is_made_again(rt: HostRuntime) -> Result<(), Fail> {
 
 #[test]
 fn a_writer_that_takes_no_more_has_failed(rt: HostRuntime) -> Result<(), Fail> {
-    let list = read_list(rt.alloc(), b"CLIP0001\n\"A,B\"\n".as_slice(), Rate::F25)?;
+    let list = list_of(rt.alloc(), b"CLIP0001\n\"A,B\"\n")?;
     let mut room = [0; 7];
     let mut out = room.as_mut_slice();
-    let written = write_asrun(rt.alloc(), &list, Rate::F25, list.len(), &mut out);
+    let written = write_first(rt.alloc(), &list, Rate::F25, 2, &mut out);
     assert!(rt; written == Err(WriteFault::Device));
     assert_eq!(rt; room.as_slice(), &ASRUN[..7]);
     Ok(())

@@ -1,6 +1,6 @@
 use arrayvec::ArrayVec;
 use linked_list_allocator::LocalHeap;
-use std::alloc::{AllocError, Global};
+use std::alloc::{AllocError, Allocator, Global};
 use std::process::Abort;
 use std::test::Fail;
 use vdcp_frame::{Ended, Message};
@@ -55,6 +55,35 @@ fn selected<C: Catalogue + Drop>(alloc: Global, catalogue: C) -> Result<Port<C>,
     Ok(port)
 }
 
+/// The burst is answered so, nothing airs, and the port is then in this state.
+fn expect<C: Catalogue>(
+    rt: &(impl Abort + AllocGlobal),
+    port: &mut Port<C>,
+    burst: &[u8],
+    answer: &[u8],
+    state: u8,
+) -> Result<(), AllocError> {
+    let (out, aired) = sent(rt.alloc(), port, burst)?;
+    assert_eq!(rt; out.as_slice(), answer, "to {burst:?}");
+    assert!(rt; aired.is_empty(), "at {burst:?}");
+    assert_eq!(rt; port.status_byte(), state, "after {burst:?}");
+    Ok(())
+}
+
+/// Each of this many frames answers this (a cue was done, a clip ended), and the port is then in this state.
+fn expect_frames<C: Catalogue>(
+    rt: &impl Abort,
+    port: &mut Port<C>,
+    count: u32,
+    done_and_ended: (bool, bool),
+    state: u8,
+) {
+    for _ in 0..count {
+        assert_eq!(rt; port.frame(), done_and_ended);
+    }
+    assert_eq!(rt; port.status_byte(), state);
+}
+
 #[test]
 fn a_new_port_answers_by_its_table(rt: HostRuntime) -> Result<(), Fail> {
     let rows: [(&'static [u8], &'static [u8]); 15] = [
@@ -88,10 +117,7 @@ fn a_new_port_answers_by_its_table(rt: HostRuntime) -> Result<(), Fail> {
     ];
     for (burst, answer) in rows {
         let mut port = Port::new(ten_seconds_each()?, 0, 1);
-        let (out, aired) = sent(rt.alloc(), &mut port, burst)?;
-        assert_eq!(rt; out.as_slice(), answer, "to {burst:?}");
-        assert!(rt; aired.is_empty(), "at {burst:?}");
-        assert_eq!(rt; port.status_byte(), 0x01, "after {burst:?}");
+        expect(&rt, &mut port, burst, answer, 0x01)?;
     }
     Ok(())
 }
@@ -146,10 +172,7 @@ fn a_selected_port_answers_by_its_table(rt: HostRuntime) -> Result<(), Fail> {
     ];
     for (burst, answer, state) in rows {
         let mut port = selected(rt.alloc(), ten_seconds_each()?)?;
-        let (out, aired) = sent(rt.alloc(), &mut port, burst)?;
-        assert_eq!(rt; out.as_slice(), answer, "to {burst:?}");
-        assert!(rt; aired.is_empty(), "at {burst:?}");
-        assert_eq!(rt; port.status_byte(), state, "after {burst:?}");
+        expect(&rt, &mut port, burst, answer, state)?;
     }
     Ok(())
 }
@@ -157,9 +180,7 @@ fn a_selected_port_answers_by_its_table(rt: HostRuntime) -> Result<(), Fail> {
 #[test]
 fn a_clip_is_refused_by_an_empty_catalogue(rt: HostRuntime) -> Result<(), Fail> {
     let mut port = selected(rt.alloc(), [])?;
-    let (out, _) = sent(rt.alloc(), &mut port, CUE_1)?;
-    assert_eq!(rt; out.as_slice(), [0x05, 0x01].as_slice());
-    assert_eq!(rt; port.status_byte(), 0x01);
+    expect(&rt, &mut port, CUE_1, &[0x05, 0x01], 0x01)?;
     Ok(())
 }
 
@@ -186,10 +207,17 @@ fn bursts_after_one_another_are_answered(rt: HostRuntime) -> Result<(), Fail> {
     ];
     let mut port = Port::new(ten_seconds_each()?, 0, 1);
     for (burst, answer) in rows {
-        let (out, _) = sent(rt.alloc(), &mut port, burst)?;
-        assert_eq!(rt; out.as_slice(), answer, "to {burst:?}");
+        expect(&rt, &mut port, burst, answer, 0x01)?;
     }
     Ok(())
+}
+
+/// A whole clip.
+fn whole(name: &[u8; 8]) -> Item {
+    Item {
+        id: ClipId::new(*name),
+        part: None,
+    }
 }
 
 /// What happens to a port.
@@ -205,9 +233,9 @@ fn clips_are_cued_and_aired(rt: HostRuntime) -> Result<(), Fail> {
     let ack: &'static [u8] = &[0x04];
     let refused: &'static [u8] = &[0x05, 0x01];
     let none: &'static [u8] = &[];
-    let first = Some(ClipId::new(*b"CLIP0001"));
-    let second = Some(ClipId::new(*b"CLIP0002"));
-    let rows: [(Happening, &'static [u8], u8, Option<ClipId>); 14] = [
+    let first = Some(whole(b"CLIP0001"));
+    let second = Some(whole(b"CLIP0002"));
+    let rows: [(Happening, &'static [u8], u8, Option<Item>); 14] = [
         (Happening::Comes(CUE_1), ack, 0x02, None),
         (Happening::Comes(PLAY), ack, 0x02, None),
         (Happening::Ready, none, 0x80, None),
@@ -230,18 +258,29 @@ fn clips_are_cued_and_aired(rt: HostRuntime) -> Result<(), Fail> {
     ];
     let mut port = selected(rt.alloc(), ten_seconds_each()?)?;
     for (happening, answer, state, airs) in rows {
-        match happening {
-            Happening::Comes(burst) => {
-                let (out, aired) = sent(rt.alloc(), &mut port, burst)?;
-                assert_eq!(rt; out.as_slice(), answer, "to {burst:?}");
-                let item = airs.map(|id| Item { id, part: None });
-                assert_eq!(rt; aired.first().copied(), item, "at {burst:?}");
-                assert!(rt; aired.len() <= 1, "at {burst:?}");
-            }
-            Happening::Ready => port.ready(),
-            Happening::Ended => port.ended(),
-        }
+        happens(&rt, &mut port, happening, answer, airs)?;
         assert_eq!(rt; port.status_byte(), state, "after {happening:?}");
+    }
+    Ok(())
+}
+
+/// What happens is answered so, and airs this.
+fn happens<C: Catalogue>(
+    rt: &(impl Abort + AllocGlobal),
+    port: &mut Port<C>,
+    happening: Happening,
+    answer: &[u8],
+    airs: Option<Item>,
+) -> Result<(), AllocError> {
+    match happening {
+        Happening::Comes(burst) => {
+            let (out, aired) = sent(rt.alloc(), port, burst)?;
+            assert_eq!(rt; out.as_slice(), answer, "to {burst:?}");
+            assert_eq!(rt; aired.first().copied(), airs, "at {burst:?}");
+            assert!(rt; aired.len() <= 1, "at {burst:?}");
+        }
+        Happening::Ready => port.ready(),
+        Happening::Ended => port.ended(),
     }
     Ok(())
 }
@@ -255,8 +294,7 @@ fn a_part_airs_as_a_part(rt: HostRuntime) -> Result<(), Fail> {
     };
     let mut port = selected(rt.alloc(), ten_seconds_each()?)?;
     let cue = b"\x02\x12\x20\x25CLIP0001\x00\x02\x00\x00\x00\x03\x00\x00\xCD";
-    let (out, _) = sent(rt.alloc(), &mut port, cue)?;
-    assert_eq!(rt; out.as_slice(), [0x04].as_slice());
+    expect(&rt, &mut port, cue, &[0x04], 0x02)?;
     port.ready();
     let (_, aired) = sent(rt.alloc(), &mut port, PLAY)?;
     let item = Item {
@@ -264,12 +302,8 @@ fn a_part_airs_as_a_part(rt: HostRuntime) -> Result<(), Fail> {
         part: Some(part),
     };
     assert_eq!(rt; aired.as_slice(), [item].as_slice());
-    for _ in 0..74 {
-        assert_eq!(rt; port.frame(), (false, false));
-    }
-    assert_eq!(rt; port.status_byte(), 0x04);
-    assert_eq!(rt; port.frame(), (false, true));
-    assert_eq!(rt; port.status_byte(), 0x01);
+    expect_frames(&rt, &mut port, 74, (false, false), 0x04);
+    expect_frames(&rt, &mut port, 1, (false, true), 0x01);
     Ok(())
 }
 
@@ -280,20 +314,13 @@ fn the_frame_clock_completes_cues_and_ends_clips(rt: HostRuntime) -> Result<(), 
         let (_, aired) = sent(rt.alloc(), &mut port, burst)?;
         assert!(rt; aired.is_empty());
     }
-    assert_eq!(rt; port.frame(), (false, false));
-    assert_eq!(rt; port.frame(), (false, false));
-    assert_eq!(rt; port.status_byte(), 0x02);
-    assert_eq!(rt; port.frame(), (true, false));
-    assert_eq!(rt; port.status_byte(), 0x80);
+    expect_frames(&rt, &mut port, 2, (false, false), 0x02);
+    expect_frames(&rt, &mut port, 1, (true, false), 0x80);
     let (_, aired) = sent(rt.alloc(), &mut port, PLAY)?;
     assert_eq!(rt; aired.len(), 1);
-    for _ in 0..249 {
-        assert_eq!(rt; port.frame(), (false, false));
-    }
-    assert_eq!(rt; port.status_byte(), 0x04);
-    assert_eq!(rt; port.frame(), (false, true));
-    assert_eq!(rt; port.status_byte(), 0x01);
-    assert_eq!(rt; port.frame(), (false, false));
+    expect_frames(&rt, &mut port, 249, (false, false), 0x04);
+    expect_frames(&rt, &mut port, 1, (false, true), 0x01);
+    expect_frames(&rt, &mut port, 1, (false, false), 0x01);
     Ok(())
 }
 
@@ -321,24 +348,18 @@ fn the_largest_message_is_refused(rt: HostRuntime) -> Result<(), Fail> {
     burst.extend_from_slice(&[0x00; 253])?;
     burst.push(0x90)?;
     let mut port = selected(rt.alloc(), ten_seconds_each()?)?;
-    let (out, _) = sent(rt.alloc(), &mut port, burst.as_slice())?;
-    assert_eq!(rt; out.as_slice(), [0x05, 0x01].as_slice());
+    expect(&rt, &mut port, burst.as_slice(), &[0x05, 0x01], 0x01)?;
     Ok(())
 }
 
-/// A burst that is answered by one NAK, and leaves the second clip cueing while the first one plays.
+/// The burst is answered by one NAK, and leaves the second clip cueing while the first one plays.
 fn is_refused<C: Catalogue>(
-    rt: &impl Abort,
-    alloc: Global,
+    rt: &(impl Abort + AllocGlobal),
     port: &mut Port<C>,
     burst: &[u8],
     byte: u8,
 ) -> Result<(), AllocError> {
-    let (out, aired) = sent(alloc, port, burst)?;
-    assert_eq!(rt; out.as_slice(), [0x05, byte].as_slice(), "to {burst:?}");
-    assert!(rt; aired.is_empty(), "at {burst:?}");
-    assert_eq!(rt; port.status_byte(), 0x06, "after {burst:?}");
-    Ok(())
+    expect(rt, port, burst, &[0x05, byte], 0x06)
 }
 
 #[test]
@@ -351,7 +372,7 @@ fn hostile_bursts_change_nothing(rt: HostRuntime) -> Result<(), Fail> {
         let (_, _) = sent(rt.alloc(), &mut port, burst)?;
     }
     for len in 1..13 {
-        is_refused(&rt, rt.alloc(), &mut port, &base[..len], 0x80)?;
+        is_refused(&rt, &mut port, &base[..len], 0x80)?;
     }
     for place in 2..13 {
         for byte in 0..=255 {
@@ -360,44 +381,53 @@ fn hostile_bursts_change_nothing(rt: HostRuntime) -> Result<(), Fail> {
                 continue;
             }
             burst[place] = byte;
-            is_refused(&rt, rt.alloc(), &mut port, &burst, 0x04)?;
+            is_refused(&rt, &mut port, &burst, 0x04)?;
         }
     }
     for count in 0..=255 {
         let mut burst = base;
         burst[1] = count;
         match count {
-            0..=9 => is_refused(&rt, rt.alloc(), &mut port, &burst, 0x04)?,
+            0..=9 => is_refused(&rt, &mut port, &burst, 0x04)?,
             10 => {}
-            11..=255 => is_refused(&rt, rt.alloc(), &mut port, &burst, 0x80)?,
+            11..=255 => is_refused(&rt, &mut port, &burst, 0x80)?,
         }
     }
     for start in 0..=255 {
         let mut burst = base;
         burst[0] = start;
         if start != 0x02 {
-            is_refused(&rt, rt.alloc(), &mut port, &burst, 0x04)?;
+            is_refused(&rt, &mut port, &burst, 0x04)?;
         }
     }
     Ok(())
+}
+
+/// The port's answer to a command for this unit. Nothing airs.
+fn expect_reply<C: Catalogue>(
+    rt: &impl Abort,
+    port: &mut Port<C>,
+    unit: u8,
+    command: Command,
+    reply: Option<Reply>,
+) {
+    let mut room = [0; 16];
+    let message = command.to_message(unit.min(15), &mut room);
+    assert_eq!(rt; port.answer(&message), (reply, None));
 }
 
 #[test]
 fn single_messages_are_answered(rt: HostRuntime) -> Result<(), Fail> {
     let mut port = Port::new(ten_seconds_each()?, 3, 7);
     assert_eq!(rt; port.unit(), 3);
-    let mut room = [0; 16];
     assert_eq!(rt; port.answer(&Message::Ack), (None, None));
     assert_eq!(rt; port.answer(&Message::Nak(0x01)), (None, None));
-    let open = Command::Open(7, 0x01).to_message(3, &mut room);
-    assert_eq!(rt; port.answer(&open), (Some(Reply::Opened(true)), None));
-    let elsewhere = Command::Open(7, 0x01).to_message(4, &mut room);
-    assert_eq!(rt; port.answer(&elsewhere), (None, None));
-    let select = Command::Select(7).to_message(3, &mut room);
-    assert_eq!(rt; port.answer(&select), (Some(Reply::Ack), None));
-    let status = Command::Status(0xFF).to_message(3, &mut room);
+    let open = Command::Open(7, 0x01);
+    expect_reply(&rt, &mut port, 3, open, Some(Reply::Opened(true)));
+    expect_reply(&rt, &mut port, 4, open, None);
+    expect_reply(&rt, &mut port, 3, Command::Select(7), Some(Reply::Ack));
     let idle = Reply::State(0x01, Some(0x01));
-    assert_eq!(rt; port.answer(&status), (Some(idle), None));
+    expect_reply(&rt, &mut port, 3, Command::Status(0xFF), Some(idle));
     Ok(())
 }
 
@@ -413,45 +443,54 @@ fn forty_plays(alloc: Global) -> Result<(Port<[(ClipId, Timecode); 2]>, Vec<u8>)
     Ok((port, burst))
 }
 
+// This promises nothing, so the proof of a test needn't go through the clauses of each call.
+fn answer<A: Allocator, B: Allocator>(
+    port: &mut Port<[(ClipId, Timecode); 2]>,
+    burst: &[u8],
+    out: &mut Vec<u8, A>,
+    aired: &mut Vec<Item, B>,
+) -> Result<(), AllocError> {
+    port.burst_answer(burst, out, aired)
+}
+
 #[test]
-fn refused_growth_changes_nothing(rt: HostRuntime) -> Result<(), Fail> {
+fn refused_room_for_answers_changes_nothing(rt: HostRuntime) -> Result<(), Fail> {
     let heap = LocalHeap::new(rt.alloc(), 128)?;
     let (mut port, burst) = forty_plays(rt.alloc())?;
-    let item = Item {
-        id: ClipId::new(*b"CLIP0001"),
-        part: None,
-    };
     let mut out = Vec::from_slice(&heap, &[0xAA])?;
-    let mut aired = Vec::new(rt.alloc());
-    aired.push(item)?;
-    assert!(rt;
-        port.burst_answer(burst.as_slice(), &mut out, &mut aired)
-            .is_err()
-    );
+    let mut aired = Vec::from_slice(rt.alloc(), &[whole(b"CLIP0001")])?;
+    let refused = answer(&mut port, burst.as_slice(), &mut out, &mut aired);
+    assert!(rt; refused.is_err());
     assert_eq!(rt; out.as_slice(), [0xAA].as_slice());
     assert_eq!(rt; aired.len(), 1);
     assert_eq!(rt; port.status_byte(), 0x80);
+    Ok(())
+}
 
-    // One item airs, and there is no room for one more.
+// One item airs, and there is no room for one more.
+#[test]
+fn refused_room_for_an_item_changes_nothing(rt: HostRuntime) -> Result<(), Fail> {
+    let heap = LocalHeap::new(rt.alloc(), 128)?;
+    let (mut port, burst) = forty_plays(rt.alloc())?;
+    let item = whole(b"CLIP0001");
     let mut out = Vec::from_slice(rt.alloc(), &[0xAA])?;
     let mut full = Vec::new(&heap);
     for _ in 0..32 {
         let _ = full.push(item);
     }
     let items = full.len();
-    assert!(rt;
-        port.burst_answer(burst.as_slice(), &mut out, &mut full)
-            .is_err()
-    );
+    let refused = answer(&mut port, burst.as_slice(), &mut out, &mut full);
+    assert!(rt; refused.is_err());
     assert_eq!(rt; out.as_slice(), [0xAA].as_slice());
     assert_eq!(rt; full.len(), items);
     assert_eq!(rt; port.status_byte(), 0x80);
 
     // A burst that is too short for a PLAY needs no room for an item.
-    port.burst_answer(&[0x04], &mut out, &mut full)?;
+    answer(&mut port, &[0x04], &mut out, &mut full)?;
     assert_eq!(rt; full.len(), items);
 
-    port.burst_answer(burst.as_slice(), &mut out, &mut aired)?;
+    let mut aired = Vec::from_slice(rt.alloc(), &[item])?;
+    answer(&mut port, burst.as_slice(), &mut out, &mut aired)?;
     assert_eq!(rt; out.len(), 41);
     assert_eq!(rt; aired.as_slice(), [item, item].as_slice());
     assert_eq!(rt; port.status_byte(), 0x04);
@@ -460,10 +499,7 @@ fn refused_growth_changes_nothing(rt: HostRuntime) -> Result<(), Fail> {
 
 #[test]
 fn a_burst_is_answered_into_fixed_room(rt: HostRuntime) -> Result<(), Fail> {
-    let item = Item {
-        id: ClipId::new(*b"CLIP0001"),
-        part: None,
-    };
+    let item = whole(b"CLIP0001");
     let mut port = selected(rt.alloc(), ten_seconds_each()?)?;
     let (_, _) = sent(rt.alloc(), &mut port, CUE_1)?;
     port.ready();

@@ -62,6 +62,3 @@ fn script_failure<'a>(name: &'a str, fault: ScriptFault) -> Failure<'a>
         ScriptFault::Memory => Failure::Memory,
     }
 }
-
-#[cfg(test)]
-mod tests;

@@ -311,6 +311,3 @@ fn write_end<W: io::Write>(
     writeln!(out, "exchanges {exchanges}")?;
     writeln!(out, "outcome {outcome}")
 }
-
-#[cfg(test)]
-mod tests;

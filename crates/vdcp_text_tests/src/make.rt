@@ -1,5 +1,6 @@
 use std::alloc::{AllocError, Global};
 use std::io;
+use std::process::Abort;
 use std::test::Fail;
 use vdcp_testing::{FailingWriter, Fails};
 use vdcp_text::do_make;
@@ -16,6 +17,23 @@ fn make<W: io::Write, E: io::Write>(
         [word, arguments @ ..] => do_make(word, arguments, 0, out, err),
         [] => do_make("", &[], 0, out, err),
     })
+}
+
+// These words make this text, or are refused in this line.
+fn expect(
+    rt: &(impl Abort + AllocGlobal),
+    words: &str,
+    text: &str,
+    line: &str,
+    status: u8,
+) -> Result<(), Fail> {
+    let mut out = Vec::new(rt.alloc());
+    let mut err = Vec::new(rt.alloc());
+    let got = make(rt.alloc(), words, &mut out, &mut err)?;
+    assert_eq!(rt; out.as_slice(), text.as_bytes(), "{words}");
+    assert_eq!(rt; err.as_slice(), line.as_bytes(), "{words}");
+    assert_eq!(rt; got, status, "{words}");
+    Ok(())
 }
 
 #[test]
@@ -40,12 +58,7 @@ fn commands_are_made(rt: HostRuntime) -> Result<(), Fail> {
         ("size CLIP0001", "020a3014434c495030303031d3\n"),
     ];
     for (words, text) in rows {
-        let mut out = Vec::new(rt.alloc());
-        let mut err = Vec::new(rt.alloc());
-        let status = make(rt.alloc(), words, &mut out, &mut err)?;
-        assert_eq!(rt; out.as_slice(), text.as_bytes(), "{words}");
-        assert_eq!(rt; status, 0, "{words}");
-        assert!(rt; err.is_empty(), "{words}");
+        expect(&rt, words, text, "", 0)?;
     }
     Ok(())
 }
@@ -78,12 +91,7 @@ fn other_words_are_refused(rt: HostRuntime) -> Result<(), Fail> {
         ("cue-data CLIP0001 0002000 00030000", "vdcp: arguments\n"),
     ];
     for (words, line) in rows {
-        let mut out = Vec::new(rt.alloc());
-        let mut err = Vec::new(rt.alloc());
-        let status = make(rt.alloc(), words, &mut out, &mut err)?;
-        assert_eq!(rt; err.as_slice(), line.as_bytes(), "{words}");
-        assert_eq!(rt; status, 1, "{words}");
-        assert!(rt; out.is_empty(), "{words}");
+        expect(&rt, words, "", line, 1)?;
     }
     Ok(())
 }

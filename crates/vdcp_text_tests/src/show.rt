@@ -105,18 +105,30 @@ fn a_long_burst_is_shown_as_far_as_it_is_read(rt: HostRuntime) -> Result<(), Fai
     Ok(())
 }
 
+fn expect_refused(rt: &(impl Abort + AllocGlobal), hex: &str) {
+    let (out, err, status) = shown(rt.alloc(), hex, false);
+    assert!(rt; out.is_empty(), "lines for {hex}");
+    assert_eq!(rt;
+        err.as_slice(),
+        b"vdcp: hex\n".as_slice(),
+        "the fault line of {hex}"
+    );
+    assert_eq!(rt; status, 1, "the status of {hex}");
+}
+
 #[test]
 fn other_text_is_refused(rt: HostRuntime) {
     for hex in ["0", "020", "zz", "0g", "02 021001ef", "0x04", "é", "-4"] {
-        let (out, err, status) = shown(rt.alloc(), hex, false);
-        assert!(rt; out.is_empty(), "lines for {hex}");
-        assert_eq!(rt;
-            err.as_slice(),
-            b"vdcp: hex\n".as_slice(),
-            "the fault line of {hex}"
-        );
-        assert_eq!(rt; status, 1, "the status of {hex}");
+        expect_refused(&rt, hex);
     }
+}
+
+// The same as `shown`, with memory of this heap.
+fn shown_in(alloc: Global, heap: &LocalHeap, hex: &str) -> (Vec<u8>, Vec<u8>, u8) {
+    let mut out = Vec::new(alloc);
+    let mut err = Vec::new(alloc);
+    let status = do_show(heap, hex, false, &mut out, &mut err);
+    (out, err, status)
 }
 
 #[test]
@@ -124,40 +136,37 @@ fn refused_memory_is_told(rt: HostRuntime) -> Result<(), Fail> {
     let alloc = rt.alloc();
     let hex = copies(alloc, "04", 2000)?;
     let heap = LocalHeap::new(alloc, 1024)?;
-    let mut out = Vec::new(alloc);
-    let mut err = Vec::new(alloc);
-    assert_eq!(rt; do_show(&heap, hex.as_str(), false, &mut out, &mut err), 3);
+    let (out, err, status) = shown_in(alloc, &heap, hex.as_str());
+    assert_eq!(rt; status, 3);
     assert!(rt; out.is_empty());
     assert_eq!(rt; err.as_slice(), b"vdcp: memory\n".as_slice());
-    assert_eq!(rt; do_show(&heap, "04", false, &mut out, &mut err), 0);
+    let (out, _, status) = shown_in(alloc, &heap, "04");
+    assert_eq!(rt; status, 0);
     assert_eq!(rt; out.as_slice(), b"ack\nclean\n".as_slice());
     Ok(())
 }
 
+// Shows a PLAY to a writer that may fail.
+fn show_to(alloc: Global, out: &mut FailingWriter, err: &mut Vec<u8>) -> u8 {
+    do_show(alloc, "02021001ef", false, out, err)
+}
+
 #[test]
-fn a_failing_call_of_the_writer_is_the_last(rt: HostRuntime) -> Result<(), Fail> {
+fn a_failing_call_of_the_writer_is_the_last(rt: HostRuntime) {
     let alloc = rt.alloc();
     let text = b"unit 0 type 1 code 01 data -\nclean\n".as_slice();
     let mut whole = FailingWriter::new(alloc, Fails::Before(0));
     let mut err = Vec::new(alloc);
-    assert_eq!(rt;
-        do_show(alloc, "02021001ef", false, &mut whole, &mut err),
-        0
-    );
+    assert_eq!(rt; show_to(alloc, &mut whole, &mut err), 0);
     assert_eq!(rt; whole.bytes.as_slice(), text);
     assert_eq!(rt; whole.flushes, 1);
     for left in 0..whole.calls {
         let mut out = FailingWriter::new(alloc, Fails::From(left));
-        assert_eq!(rt;
-            do_show(alloc, "02021001ef", false, &mut out, &mut err),
-            3,
-            "after {left}"
-        );
+        assert_eq!(rt; show_to(alloc, &mut out, &mut err), 3, "after {left}");
         assert_eq!(rt; out.calls, left + 1);
         assert!(rt; text.starts_with(out.bytes.as_slice()), "after {left}");
     }
     assert!(rt; err.is_empty());
-    Ok(())
 }
 
 #[test]

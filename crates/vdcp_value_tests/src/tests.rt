@@ -1,9 +1,25 @@
 use arrayvec::ArrayString;
+use std::fmt;
 use std::process::Abort;
 use std::test::Fail;
 use vdcp_value::{ClipId, Field, IdFault, Item, Part, Rate, TcFault, Timecode, laws};
 
 const CLIP0001: [u8; 8] = [0x43, 0x4c, 0x49, 0x50, 0x30, 0x30, 0x30, 0x31];
+
+fn is_shown_as(rt: &impl Abort, bytes: [u8; 8], shown: &str) {
+    let id = ClipId::new(bytes);
+    assert_eq!(rt; id.bytes(), bytes, "bytes of {shown}");
+    let mut text = ArrayString::new();
+    text.push_str("what stood here");
+    id.show(&mut text);
+    assert_eq!(rt; text.as_str(), shown, "text of {shown}");
+    assert_eq!(rt; ClipId::parse(shown), Ok(id), "id of {shown}");
+    assert_eq!(rt;
+        laws::a_shown_id_is_read_back(&id),
+        Ok(id),
+        "round trip of {shown}"
+    );
+}
 
 #[test]
 fn ids_are_shown_and_read_back(rt: HostRuntime) {
@@ -25,18 +41,7 @@ fn ids_are_shown_and_read_back(rt: HostRuntime) {
             "0x4142434445464700",
         ),
     ] {
-        let id = ClipId::new(bytes);
-        assert_eq!(rt; id.bytes(), bytes, "bytes of {shown}");
-        let mut text = ArrayString::new();
-        text.push_str("what stood here");
-        id.show(&mut text);
-        assert_eq!(rt; text.as_str(), shown, "text of {shown}");
-        assert_eq!(rt; ClipId::parse(shown), Ok(id), "id of {shown}");
-        assert_eq!(rt;
-            laws::a_shown_id_is_read_back(&id),
-            Ok(id),
-            "round trip of {shown}"
-        );
+        is_shown_as(&rt, bytes, shown);
     }
 }
 
@@ -96,28 +101,32 @@ const TIME_CODES: [(Rate, &str, u32, [u8; 4]); 8] = [
     ),
 ];
 
+fn is_packed_as(rt: &impl Abort, rate: Rate, number: u32, bytes: [u8; 4]) {
+    let Some(timecode) = Timecode::from_frames(rate, number) else {
+        panic!(rt; "no time code of frame {number}");
+    };
+    assert_eq!(rt; timecode.rate(), rate, "rate of {number}");
+    assert_eq!(rt; timecode.frames(), number);
+    assert_eq!(rt; timecode.to_bcd(), bytes, "bytes of {number}");
+    assert_eq!(rt;
+        Timecode::from_bcd(rate, bytes),
+        Ok(timecode),
+        "bytes of {number}"
+    );
+    assert_eq!(rt;
+        laws::a_packed_time_code_is_read_back(&timecode),
+        Ok(timecode)
+    );
+    assert_eq!(rt;
+        laws::a_numbered_time_code_is_read_back(&timecode),
+        Some(timecode)
+    );
+}
+
 #[test]
 fn time_codes_are_numbered_and_packed(rt: HostRuntime) {
-    for (rate, text, number, bytes) in TIME_CODES {
-        let Some(timecode) = Timecode::from_frames(rate, number) else {
-            panic!(rt; "no time code of frame {number}");
-        };
-        assert_eq!(rt; timecode.rate(), rate, "rate of {text}");
-        assert_eq!(rt; timecode.frames(), number, "frames of {text}");
-        assert_eq!(rt; timecode.to_bcd(), bytes, "bytes of {text}");
-        assert_eq!(rt;
-            Timecode::from_bcd(rate, bytes),
-            Ok(timecode),
-            "bytes of {text}"
-        );
-        assert_eq!(rt;
-            laws::a_packed_time_code_is_read_back(&timecode),
-            Ok(timecode)
-        );
-        assert_eq!(rt;
-            laws::a_numbered_time_code_is_read_back(&timecode),
-            Some(timecode)
-        );
+    for (rate, _, number, bytes) in TIME_CODES {
+        is_packed_as(&rt, rate, number, bytes);
     }
 }
 
@@ -141,6 +150,18 @@ fn time_codes_are_shown_and_read_back(rt: HostRuntime) {
     for (rate, text, number, _) in TIME_CODES {
         reads_back(&rt, rate, text, number);
     }
+}
+
+fn is_numbered(rt: &impl Abort, rate: Rate, text: &str, number: u32) {
+    let Ok(timecode) = Timecode::parse(rate, text) else {
+        panic!(rt; "no time code {text}");
+    };
+    assert_eq!(rt; timecode.frames(), number, "at {text}");
+    assert_eq!(rt;
+        Timecode::from_frames(rate, number),
+        Some(timecode),
+        "at {text}"
+    );
 }
 
 // The numbers were counted off by a script that goes through the day label by label and leaves out
@@ -213,17 +234,7 @@ fn frames_round_each_boundary(rt: HostRuntime) {
         (Rate::D30, "23:00:00;00", 2_481_516),
         (Rate::D30, "23:59:59;29", 2_589_407),
     ] {
-        let read = Timecode::parse(rate, text);
-        assert_eq!(rt;
-            read.map(|timecode| timecode.frames()),
-            Ok(number),
-            "at {text}"
-        );
-        assert_eq!(rt;
-            Timecode::from_frames(rate, number),
-            read.ok(),
-            "at {number}"
-        );
+        is_numbered(&rt, rate, text, number);
     }
 }
 
@@ -400,9 +411,17 @@ fn parts_fit_within_their_clip(rt: HostRuntime) {
     }
 }
 
+fn expect_text(
+    rt: &(impl Abort + AllocGlobal),
+    fault: impl fmt::Display + Drop,
+    text: &str,
+) -> Result<(), Fail> {
+    assert_eq!(rt; format!(in rt.alloc(); "{fault}")?.as_str(), text);
+    Ok(())
+}
+
 #[test]
 fn faults_are_worded(rt: HostRuntime) -> Result<(), Fail> {
-    let alloc = rt.alloc();
     for (fault, words) in [
         (IdFault::Empty, "the id is empty"),
         (IdFault::TooLong, "the id has more than eight bytes"),
@@ -417,7 +436,7 @@ fn faults_are_worded(rt: HostRuntime) -> Result<(), Fail> {
         ),
         (IdFault::HasPlainForm, "the id has a plain form"),
     ] {
-        assert_eq!(rt; format!(in alloc; "{fault}")?.as_str(), words);
+        expect_text(&rt, fault, words)?;
     }
     for (fault, words) in [
         (
@@ -443,7 +462,7 @@ fn faults_are_worded(rt: HostRuntime) -> Result<(), Fail> {
         (TcFault::Dropped, "the time code is dropped at this rate"),
         (TcFault::Shape, "the time code has not the form of one"),
     ] {
-        assert_eq!(rt; format!(in alloc; "{fault}")?.as_str(), words);
+        expect_text(&rt, fault, words)?;
     }
     Ok(())
 }

@@ -1,0 +1,5 @@
+use vdcp_files::NamedFile;
+
+pub fn file<R>(name: &str, reader: R) -> NamedFile<'_, R> {
+    NamedFile { name, reader }
+}
