@@ -376,6 +376,7 @@ fn events_from_the_middle_are_written(rt: HostRuntime) -> Result<(), Fail> {
     for (text, from, count, written) in cases {
         let list = list_of(rt.alloc(), text.as_bytes())?;
         let mut out = Vec::new(rt.alloc());
+        assert!(rt; from <= list.len(), "{text:?}");
         write_from(rt.alloc(), &list, Rate::F25, from, count, &mut out)?;
         assert_eq!(rt; out.as_slice(), written.as_bytes(), "{text:?}");
     }
@@ -414,6 +415,7 @@ fn unlawful_parts_are_told_and_nothing_is_written(rt: HostRuntime) -> Result<(),
     // (the row of an event before those that are written is tested, too)
     let text = b"A,00:00:02:24,00:00:03:00\nB,,\n";
     let first = list_of(rt.alloc(), text)?;
+    assert_eq!(rt; first.len(), 2);
     let written = write_from(rt.alloc(), &first, Rate::F24, 1, 1, &mut out);
     assert!(rt; written == Err(WriteFault::Time(0)));
     assert!(rt; out.is_empty());

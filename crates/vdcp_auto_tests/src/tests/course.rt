@@ -34,21 +34,26 @@ fn input_of(word: &str) -> Option<Input> {
         "silence" => return Some(Input::Silence),
         "take" => return Some(Input::Take),
         "stop" => return Some(Input::Stop),
+        "other" => return Some(Input::Heard(Heard::Other)),
         "ack" => Reply::Ack,
         "refusal" => Reply::Nak(0x01),
         "unread" => Reply::Nak(0x04),
+        "cut" => Reply::Nak(0x80),
         "granted" => Reply::Opened(true),
         "denied" => Reply::Opened(false),
         "present" => Reply::Present(true),
         "absent" => Reply::Present(false),
         "no-state" => Reply::State(0x00, None),
         "idle" => Reply::State(0x01, Some(0x01)),
+        "cueing" => Reply::State(0x01, Some(0x02)),
         "playing" => Reply::State(0x01, Some(0x04)),
+        "cueing+playing" => Reply::State(0x01, Some(0x06)),
         "cued" => Reply::State(0x01, Some(0x80)),
         "cued+playing" => Reply::State(0x01, Some(0x84)),
         "nothing-plays" => Reply::Active(None),
         "one-plays" => Reply::Active(Some(ClipId::new(ONE))),
         "two-plays" => Reply::Active(Some(ClipId::new(TWO))),
+        "size" => Reply::Size([0x00, 0x00, 0x10, 0x00]),
         _ => return None,
     };
     Some(Input::Heard(Heard::Reply(reply)))
@@ -85,12 +90,12 @@ fn command_of(word: &str) -> Option<Command> {
     })
 }
 
-/// The exchanges have just the commands of these words.
-pub fn check_commands(rt: &impl Abort, log: &[Exchange], words: &str) {
+/// The exchanges of the course of this name have just the commands of these words.
+pub fn check_commands(rt: &impl Abort, name: &str, log: &[Exchange], words: &str) {
     let mut words = words.split_whitespace();
     for exchange in log {
         let word = words.next().unwrap_or("");
-        assert_eq!(rt; Some(exchange.command), command_of(word), "{word}");
+        assert_eq!(rt; Some(exchange.command), command_of(word), "{name}: {word}");
     }
-    assert_eq!(rt; words.next(), None);
+    assert_eq!(rt; words.next(), None, "{name}");
 }

@@ -52,6 +52,14 @@ const PLAIN: &[Course] = &[
         settled: 0,
     },
     Course {
+        name: "what shows no state leaves the status unanswered",
+        clips: &[ONE],
+        inputs: "granted ack present ack cueing cut other cueing+playing size cued ack",
+        commands: "open select request-1 cue-1 status status status status status status play",
+        outcome: None,
+        settled: 1,
+    },
+    Course {
         name: "an unread play is probed and sent again",
         clips: &[ONE],
         inputs: "granted ack present ack cued unread cued ack",
@@ -227,6 +235,22 @@ const CONFIRMING: &[Course] = &[
         settled: 1,
     },
     Course {
+        name: "a cue is lost also where a clip plays",
+        clips: &[ONE],
+        inputs: "granted silence idle present silence idle silence playing silence idle",
+        commands: "open select status request-1 cue-1 status cue-1 status cue-1 status",
+        outcome: Some(Outcome::Refused(0)),
+        settled: 0,
+    },
+    Course {
+        name: "a receipt doesn't end the status, and what shows no state leaves it unanswered",
+        clips: &[ONE],
+        inputs: "granted silence idle present silence cut other size cueing cued silence",
+        commands: "open select status request-1 cue-1 status status status status play",
+        outcome: None,
+        settled: 0,
+    },
+    Course {
         name: "three unanswered requests lose the port",
         clips: &[ONE],
         inputs: "silence silence silence",
@@ -316,7 +340,7 @@ fn check(
     mut controller: Controller<Clips>,
     inputs: &[Input],
 ) {
-    check_commands(rt, log, course.commands);
+    check_commands(rt, course.name, log, course.commands);
     drive(&mut controller, inputs);
     assert_eq!(rt; controller.outcome(), course.outcome, "{}", course.name);
     assert_eq!(rt; controller.settled(), course.settled, "{}", course.name);
@@ -327,7 +351,12 @@ fn a_refused_part(rt: HostRuntime) -> Result<(), Fail> {
     let part = Segment::new(ClipId::new(ONE));
     let inputs = inputs_of(&rt, "granted ack present refusal idle")?;
     let log = rehearse(rt.alloc(), part, 0x01, 3, inputs.as_slice())?;
-    check_commands(&rt, log.as_slice(), "open select request-1 cue-part");
+    check_commands(
+        &rt,
+        "plain",
+        log.as_slice(),
+        "open select request-1 cue-part",
+    );
     Ok(())
 }
 
@@ -341,7 +370,7 @@ fn a_refused_part_in_confirm_mode(rt: HostRuntime) -> Result<(), Fail> {
     )?;
     let log = rehearse_confirming(rt.alloc(), part, 0x01, 3, inputs.as_slice())?;
     let commands = "open select status request-1 cue-part status cue-part status cue-part status";
-    check_commands(&rt, log.as_slice(), commands);
+    check_commands(&rt, "confirming", log.as_slice(), commands);
     Ok(())
 }
 
