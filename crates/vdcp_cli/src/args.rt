@@ -62,7 +62,11 @@ fn show<'a>(alloc: Global) -> Result<Command<'a>, AllocError> {
         .about("Shows a burst: its messages, and how it ends")
         .after_help("Example: vdcp show 02021001ef --words")
         .arg(required(alloc, "HEX", "The burst's bytes in hexadecimal digits"))?
-        .arg(words(alloc))
+        .arg(flag(
+            alloc,
+            "words",
+            "Shows the command or reply that each message carries",
+        ))
 }
 
 fn make<'a>(alloc: Global) -> Result<Command<'a>, AllocError> {
@@ -97,10 +101,10 @@ fn sim<'a>(alloc: Global) -> Result<Command<'a>, AllocError> {
         .arg(number_option(alloc, &PORT))?
         .arg(number_option(alloc, &LIMIT))?
         .arg(rate_option(alloc))?
-        .arg(trace(alloc))?
+        .arg(flag(alloc, "trace", "Prints each exchange too"))?
         .arg(number_option(alloc, &CUE_FRAMES))?
         .arg(confirm(alloc))?
-        .arg(late(alloc))
+        .arg(flag(alloc, "late", "The line keeps order, and may be late"))
 }
 
 fn serve<'a>(alloc: Global) -> Result<Command<'a>, AllocError> {
@@ -118,11 +122,20 @@ fn serve<'a>(alloc: Global) -> Result<Command<'a>, AllocError> {
         .arg(number_option(alloc, &CUE_FRAMES))?
         .arg(number_option(alloc, &SERVE_SILENCE))?
         .arg(number_option(alloc, &TURNS))?
-        .arg(real_time(alloc))?
-        .arg(stay(alloc))?
-        .arg(idle_option(alloc))?
-        .arg(log(
+        .arg(flag(
             alloc,
+            "real-time",
+            "Frames pass by the clock, as many a second as --rate has, and not at silences",
+        ))?
+        .arg(flag(
+            alloc,
+            "stay",
+            "Keeps the port when a connection ends, and takes the next one",
+        ))?
+        .arg(idle_option(alloc))?
+        .arg(flag(
+            alloc,
+            "log",
             "Tells standard error of each message, and of each item that goes to air",
         ))
 }
@@ -140,15 +153,29 @@ fn run<'a>(alloc: Global) -> Result<Command<'a>, AllocError> {
         .arg(confirm(alloc))?
         .arg(number_option(alloc, &RUN_SILENCE))?
         .arg(number_option(alloc, &LISTENS))?
-        .arg(prompt(alloc))?
+        .arg(flag(
+            alloc,
+            "prompt",
+            "Hears each answer as soon as it has come, torn or late; for a line that keeps order, as TCP does",
+        ))?
         .arg(number_option(alloc, &POLL))?
         .arg(lengths(alloc)?)?
-        .arg(asrun(alloc))?
-        .arg(journal(alloc))?
+        .arg(option(
+            alloc,
+            "asrun",
+            "FILE",
+            "Makes this file, with the as-run list of the reported events",
+        ))?
+        .arg(option(
+            alloc,
+            "journal",
+            "FILE",
+            "Makes this file, and keeps each command there before it is sent",
+        ))?
         .arg(resume(alloc)?)?
         .arg(open_again(alloc)?)?
         .arg(from_option(alloc))?
-        .arg(log(alloc, "Tells standard error of each message"))
+        .arg(flag(alloc, "log", "Tells standard error of each message"))
 }
 
 fn asrun_list<'a>(alloc: Global) -> Result<Command<'a>, AllocError> {
@@ -158,8 +185,16 @@ fn asrun_list<'a>(alloc: Global) -> Result<Command<'a>, AllocError> {
         .arg(required(alloc, "JOURNAL", "The journal's file"))?
         .arg(list(alloc))?
         .arg(rate_option(alloc))?
-        .arg(times(alloc))?
-        .arg(may_have_aired(alloc))
+        .arg(flag(
+            alloc,
+            "times",
+            "Says of each event when it was played, and when it was known to have aired",
+        ))?
+        .arg(flag(
+            alloc,
+            "open",
+            "Tells standard error of an event that may have aired too",
+        ))
 }
 
 fn judge<'a>(alloc: Global) -> Result<Command<'a>, AllocError> {
@@ -170,8 +205,8 @@ fn judge<'a>(alloc: Global) -> Result<Command<'a>, AllocError> {
         .arg(required(alloc, "CAPTURE", "The file of what was captured"))?
         .arg(number_option(alloc, &UNIT))?
         .arg(rate_option(alloc))?
-        .arg(judge_confirm(alloc))?
-        .arg(server(alloc))
+        .arg(flag(alloc, "confirm", "The automation trusts no ACK and no NAK"))?
+        .arg(flag(alloc, "server", "The log is of the server's end"))
 }
 
 fn probe<'a>(alloc: Global) -> Result<Command<'a>, AllocError> {
@@ -180,7 +215,11 @@ fn probe<'a>(alloc: Global) -> Result<Command<'a>, AllocError> {
         .after_help(PROBE_EXAMPLE)
         .arg(address(alloc, "Where the server listens, as 127.0.0.1:7400"))?
         .arg(catalogue(alloc))?
-        .arg(may_stop(alloc))?
+        .arg(flag(
+            alloc,
+            "yes-it-may-stop",
+            "What the port plays may be stopped; without this nothing is sent",
+        ))?
         .arg(only(alloc))?
         .arg(number_option(alloc, &UNIT))?
         .arg(number_option(alloc, &PORT))?
@@ -226,6 +265,22 @@ fn required<'a>(alloc: Global, name: &'a str, help: &'a str) -> Arg<'a> {
     Arg::new(alloc, name).required(true).help(help)
 }
 
+// An option without a value.
+fn flag<'a>(alloc: Global, name: &'a str, help: &'a str) -> Arg<'a> {
+    Arg::new(alloc, name)
+        .long(name)
+        .action(ArgAction::SetTrue)
+        .help(help)
+}
+
+// An option whose value is called so.
+fn option<'a>(alloc: Global, name: &'a str, value: &'a str, help: &'a str) -> Arg<'a> {
+    Arg::new(alloc, name)
+        .long(name)
+        .value_name(value)
+        .help(help)
+}
+
 fn list<'a>(alloc: Global) -> Arg<'a> {
     required(alloc, "LIST", "The playlist's file")
 }
@@ -238,39 +293,8 @@ fn address<'a>(alloc: Global, help: &'a str) -> Arg<'a> {
     required(alloc, "ADDR", help)
 }
 
-fn words<'a>(alloc: Global) -> Arg<'a> {
-    Arg::new(alloc, "words")
-        .long("words")
-        .action(ArgAction::SetTrue)
-        .help("Shows the command or reply that each message carries")
-}
-
-fn trace<'a>(alloc: Global) -> Arg<'a> {
-    Arg::new(alloc, "trace")
-        .long("trace")
-        .action(ArgAction::SetTrue)
-        .help("Prints each exchange too")
-}
-
 fn confirm<'a>(alloc: Global) -> Arg<'a> {
-    Arg::new(alloc, "confirm")
-        .long("confirm")
-        .action(ArgAction::SetTrue)
-        .help("The controller trusts no ACK and no NAK")
-}
-
-fn judge_confirm<'a>(alloc: Global) -> Arg<'a> {
-    Arg::new(alloc, "confirm")
-        .long("confirm")
-        .action(ArgAction::SetTrue)
-        .help("The automation trusts no ACK and no NAK")
-}
-
-fn may_stop<'a>(alloc: Global) -> Arg<'a> {
-    Arg::new(alloc, "yes-it-may-stop")
-        .long("yes-it-may-stop")
-        .action(ArgAction::SetTrue)
-        .help("What the port plays may be stopped; without this nothing is sent")
+    flag(alloc, "confirm", "The controller trusts no ACK and no NAK")
 }
 
 fn only<'a>(alloc: Global) -> Arg<'a> {
@@ -281,103 +305,32 @@ fn only<'a>(alloc: Global) -> Arg<'a> {
         .help("Puts only the rows that can falsify no as-run list, or only the others")
 }
 
-fn server<'a>(alloc: Global) -> Arg<'a> {
-    Arg::new(alloc, "server")
-        .long("server")
-        .action(ArgAction::SetTrue)
-        .help("The log is of the server's end")
-}
-
-fn late<'a>(alloc: Global) -> Arg<'a> {
-    Arg::new(alloc, "late")
-        .long("late")
-        .action(ArgAction::SetTrue)
-        .help("The line keeps order, and may be late")
-}
-
-fn stay<'a>(alloc: Global) -> Arg<'a> {
-    Arg::new(alloc, "stay")
-        .long("stay")
-        .action(ArgAction::SetTrue)
-        .help("Keeps the port when a connection ends, and takes the next one")
-}
-
-fn real_time<'a>(alloc: Global) -> Arg<'a> {
-    Arg::new(alloc, "real-time")
-        .long("real-time")
-        .action(ArgAction::SetTrue)
-        .help("Frames pass by the clock, as many a second as --rate has, and not at silences")
-}
-
-fn prompt<'a>(alloc: Global) -> Arg<'a> {
-    Arg::new(alloc, "prompt")
-        .long("prompt")
-        .action(ArgAction::SetTrue)
-        .help(
-            "Hears each answer as soon as it has come, torn or late; for a line that keeps order, as TCP does",
-        )
-}
-
 fn lengths<'a>(alloc: Global) -> Result<Arg<'a>, AllocError> {
-    Arg::new(alloc, "lengths")
-        .long("lengths")
-        .value_name("CATALOGUE")
-        .help(
-            "With --prompt, each clip is played when the one before it ends, by its length in this file",
-        )
-        .requires_arg("prompt")
-}
-
-fn asrun<'a>(alloc: Global) -> Arg<'a> {
-    Arg::new(alloc, "asrun")
-        .long("asrun")
-        .value_name("FILE")
-        .help("Makes this file, with the as-run list of the reported events")
-}
-
-fn times<'a>(alloc: Global) -> Arg<'a> {
-    Arg::new(alloc, "times")
-        .long("times")
-        .action(ArgAction::SetTrue)
-        .help("Says of each event when it was played, and when it was known to have aired")
-}
-
-fn may_have_aired<'a>(alloc: Global) -> Arg<'a> {
-    Arg::new(alloc, "open")
-        .long("open")
-        .action(ArgAction::SetTrue)
-        .help("Tells standard error of an event that may have aired too")
-}
-
-fn journal<'a>(alloc: Global) -> Arg<'a> {
-    Arg::new(alloc, "journal")
-        .long("journal")
-        .value_name("FILE")
-        .help("Makes this file, and keeps each command there before it is sent")
+    option(
+        alloc,
+        "lengths",
+        "CATALOGUE",
+        "With --prompt, each clip is played when the one before it ends, by its length in this file",
+    )
+    .requires_arg("prompt")
 }
 
 fn resume<'a>(alloc: Global) -> Result<Arg<'a>, AllocError> {
-    Arg::new(alloc, "resume")
-        .long("resume")
-        .value_name("FILE")
-        .help("Goes on with a run that was killed, from its journal")
-        .conflicts_with("journal")
+    option(
+        alloc,
+        "resume",
+        "FILE",
+        "Goes on with a run that was killed, from its journal",
+    )
+    .conflicts_with("journal")
 }
 
 fn open_again<'a>(alloc: Global) -> Result<Arg<'a>, AllocError> {
-    Arg::new(alloc, "open-again")
-        .long("open-again")
-        .action(ArgAction::SetTrue)
-        .help(
-            "With --resume, after the server was lost: a new run, from the first event that can't have aired",
-        )
-        .requires_arg("resume")?
-        .conflicts_with("journal")
-}
-
-fn log<'a>(alloc: Global, help: &'a str) -> Arg<'a> {
-    Arg::new(alloc, "log")
-        .long("log")
-        .action(ArgAction::SetTrue)
-        .help(help)
+    flag(
+        alloc,
+        "open-again",
+        "With --resume, after the server was lost: a new run, from the first event that can't have aired",
+    )
+    .requires_arg("resume")?
+    .conflicts_with("journal")
 }
