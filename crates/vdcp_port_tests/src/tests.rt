@@ -464,6 +464,13 @@ fn refused_room_for_answers_changes_nothing(rt: HostRuntime) -> Result<(), Fail>
     assert_eq!(rt; out.as_slice(), [0xAA].as_slice());
     assert_eq!(rt; aired.len(), 1);
     assert_eq!(rt; port.status_byte(), 0x80);
+
+    // (with room the same burst is answered, and airs the item)
+    let mut out = Vec::from_slice(rt.alloc(), &[0xAA])?;
+    answer(&mut port, burst.as_slice(), &mut out, &mut aired)?;
+    assert_eq!(rt; out.len(), 41);
+    assert_eq!(rt; aired.as_slice(), [whole(b"CLIP0001"); 2].as_slice());
+    assert_eq!(rt; port.status_byte(), 0x04);
     Ok(())
 }
 
