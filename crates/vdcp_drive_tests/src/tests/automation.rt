@@ -4,7 +4,6 @@ use super::ends::{Auto, automation, controller, failing_automation};
 use super::messages::{ACK, CLOSE, GRANTED, IDLE, OPEN, SELECT, STATUS, STOP};
 use super::scripts::{SILENCE, spells};
 use std::alloc::{AllocError, Global};
-use std::process::Abort;
 use std::test::Fail;
 use vdcp_auto::Outcome;
 use vdcp_drive::{AutoDriver, Ran};

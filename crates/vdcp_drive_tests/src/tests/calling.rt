@@ -2,7 +2,6 @@
 use super::clips::Playlist;
 use super::messages::{ACK, CUE_1, GRANTED, IDLE, OPEN, PLAY, SELECT};
 use super::scripts::{SILENCE, wire_of};
-use std::alloc::Global;
 use std::test::Fail;
 use vdcp_auto::{Controller, Outcome};
 use vdcp_drive::{AutoDriver, Line, Server};

@@ -5,7 +5,6 @@ use super::messages::OPEN;
 use super::scripts::spells;
 use linked_list_allocator::LocalHeap;
 use std::alloc::{AllocError, Global};
-use std::process::Abort;
 use std::test::Fail;
 use vdcp_auto::Outcome;
 use vdcp_drive::{AutoDriver, DriveFault, Ran, Server};

@@ -3,7 +3,6 @@ use super::ends::{Auto, automation};
 use super::messages::GRANTED;
 use super::scripts::SILENCE;
 use std::alloc::Global;
-use std::process::Abort;
 use std::test::Fail;
 use vdcp_auto::Heard;
 use vdcp_drive::{Keep, KeepFault, Kept, KeptFault, Ran, Unwatched};

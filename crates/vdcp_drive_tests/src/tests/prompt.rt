@@ -1,8 +1,7 @@
 //! An automation that hears each answer at once, over a wire in memory.
 use super::clips::Playlist;
-use super::messages::{
-    ACK, CLOSE, CUE_1, CUED, GRANTED, IDLE, OPEN, PLAY, PRESENT, SELECT, STATUS,
-};
+use super::messages::{ACK, CLOSE, CUED, GRANTED, IDLE, OPEN, PRESENT, SELECT, STATUS};
+use super::scripts::{SILENCE, spells};
 use std::alloc::{AllocError, Global};
 use std::process::Abort;
 use std::test::Fail;
@@ -24,14 +23,6 @@ fn pieces(alloc: Global, pieces: &[&[u8]]) -> Result<Vec<Entry<Global>>, AllocEr
         }
     }
     Ok(entries)
-}
-
-fn joined(alloc: Global, words: &[&[u8]]) -> Result<Vec<u8>, AllocError> {
-    let mut bytes = Vec::new(alloc);
-    for word in words {
-        bytes.extend_from_slice(word)?;
-    }
-    Ok(bytes)
 }
 
 fn plain(alloc: Global, entries: Vec<Entry<Global>>) -> Driver {
@@ -61,29 +52,119 @@ fn listen(driver: &mut Driver) -> Result<Line, DriveFault> {
     driver.listen()
 }
 
-/// A run in plain mode that listens to these pieces, and no more, sends these commands, passes over this many messages,
-/// and is Done. It drops nothing.
-fn expect_done(
-    rt: &impl Abort,
-    alloc: Global,
-    came: &[&[u8]],
-    commands: &[&[u8]],
+/// What comes to a new automation in plain mode, in as many listens as there are pieces, what it sends then, and how many
+/// messages it passes over. It drops nothing, and is Done.
+#[derive(Clone, Copy)]
+struct Row {
+    came: &'static [&'static [u8]],
+    sent: &'static [&'static [u8]],
     passed: u64,
+}
+
+const ROWS: [Row; 8] = [
+    Row {
+        came: &[GRANTED, ACK, IDLE, ACK],
+        sent: &[OPEN, SELECT, STATUS, CLOSE],
+        passed: 0,
+    },
+    // A state's second byte is an ACK by itself. Torn before it, the state is read on, and its bytes answer nothing else.
+    Row {
+        came: &[
+            GRANTED,
+            ACK,
+            b"\x02",
+            SILENCE,
+            b"\x04\x30\x85\x01\x01\x49",
+            ACK,
+        ],
+        sent: &[OPEN, SELECT, STATUS, STATUS, CLOSE],
+        passed: 0,
+    },
+    // An answer ahead of its time, in the same piece, is passed over.
+    Row {
+        came: &[b"\x02\x03\x30\x81\x01\x4E\x04", ACK, IDLE, ACK],
+        sent: &[OPEN, SELECT, STATUS, CLOSE],
+        passed: 1,
+    },
+    // So is a copy. One that comes later is heard for the next command, which is sent again.
+    Row {
+        came: &[
+            b"\x02\x03\x30\x81\x01\x4E\x02\x03\x30\x81\x01\x4E",
+            ACK,
+            IDLE,
+            ACK,
+        ],
+        sent: &[OPEN, SELECT, STATUS, CLOSE],
+        passed: 1,
+    },
+    Row {
+        came: &[GRANTED, GRANTED, ACK, IDLE, ACK],
+        sent: &[OPEN, SELECT, SELECT, STATUS, CLOSE],
+        passed: 0,
+    },
+    // Each answer comes when the next command is awaited, and each command goes out twice.
+    Row {
+        came: &[SILENCE, GRANTED, GRANTED, ACK, ACK, IDLE, IDLE, ACK],
+        sent: &[OPEN, OPEN, SELECT, SELECT, STATUS, STATUS, CLOSE, CLOSE],
+        passed: 0,
+    },
+    // Each comes when the next but one is. Three commands in a row without an answer would be too many.
+    Row {
+        came: &[
+            SILENCE, SILENCE, GRANTED, GRANTED, GRANTED, ACK, ACK, ACK, IDLE, IDLE, IDLE, ACK,
+        ],
+        sent: &[
+            OPEN, OPEN, OPEN, SELECT, SELECT, SELECT, STATUS, STATUS, STATUS, CLOSE, CLOSE, CLOSE,
+        ],
+        passed: 0,
+    },
+    // After a fault reading begins anew at the silence.
+    Row {
+        came: &[
+            b"\x03\x02\x03\x30\x81\x01\x4E",
+            GRANTED,
+            SILENCE,
+            GRANTED,
+            ACK,
+            IDLE,
+            ACK,
+        ],
+        sent: &[OPEN, OPEN, SELECT, STATUS, CLOSE],
+        passed: 0,
+    },
+];
+
+/// These pieces give what such a row says.
+fn expect_done(
+    rt: &(impl Abort + AllocGlobal),
+    came: &[&[u8]],
+    sent: &[&[u8]],
+    passed: u64,
+    row: usize,
 ) -> Result<(), Fail> {
-    let mut driver = plain(alloc, pieces(alloc, came)?);
-    assert_eq!(rt; run(&mut driver, came.len() as u64), Ok(Ran::Ended));
-    let sent = joined(alloc, commands)?;
-    assert_eq!(rt; driver.wire().sent(), sent.as_slice());
-    assert!(rt; driver.wire().drops().is_empty());
-    assert_eq!(rt; driver.passed(), passed);
-    assert_eq!(rt; driver.controller().outcome(), Some(Outcome::Done));
+    let mut driver = plain(rt.alloc(), pieces(rt.alloc(), came)?);
+    assert_eq!(rt;
+        run(&mut driver, came.len() as u64),
+        Ok(Ran::Ended),
+        "row {row}"
+    );
+    assert!(rt; spells(driver.wire().sent(), sent), "row {row}");
+    assert!(rt; driver.wire().drops().is_empty(), "row {row}");
+    assert_eq!(rt; driver.passed(), passed, "row {row}");
+    assert_eq!(rt;
+        driver.controller().outcome(),
+        Some(Outcome::Done),
+        "row {row}"
+    );
     Ok(())
 }
 
 #[test]
-fn empty_playlist_is_played(rt: HostRuntime) -> Result<(), Fail> {
-    let commands = [OPEN, SELECT, STATUS, CLOSE];
-    expect_done(&rt, rt.alloc(), &[GRANTED, ACK, IDLE, ACK], &commands, 0)
+fn what_comes_is_answered(rt: HostRuntime) -> Result<(), Fail> {
+    for (k, row) in ROWS.iter().enumerate() {
+        expect_done(&rt, row.came, row.sent, row.passed, k)?;
+    }
+    Ok(())
 }
 
 // The silence is a time-out, so OPEN is sent again, and the answer to the first OPEN is heard for it.
@@ -92,97 +173,12 @@ fn answer_split_at_each_place_by_a_silence_is_heard(rt: HostRuntime) -> Result<(
     for cut in 1..6 {
         let front = GRANTED.get(..cut).ok_or("six bytes")?;
         let rest = GRANTED.get(cut..).ok_or("six bytes")?;
-        let came: [&[u8]; 6] = [front, &[], rest, ACK, IDLE, ACK];
-        expect_done(
-            &rt,
-            rt.alloc(),
-            &came,
-            &[OPEN, OPEN, SELECT, STATUS, CLOSE],
-            0,
-        )?;
+        let came: [&[u8]; 6] = [front, SILENCE, rest, ACK, IDLE, ACK];
+        expect_done(&rt, &came, &[OPEN, OPEN, SELECT, STATUS, CLOSE], 0, cut)?;
         let came: [&[u8]; 5] = [front, rest, ACK, IDLE, ACK];
-        expect_done(&rt, rt.alloc(), &came, &[OPEN, SELECT, STATUS, CLOSE], 0)?;
+        expect_done(&rt, &came, &[OPEN, SELECT, STATUS, CLOSE], 0, cut)?;
     }
     Ok(())
-}
-
-// A state's second byte is an ACK by itself. Torn before it, the state is read on, and its bytes answer nothing else.
-#[test]
-fn torn_state_is_no_receipt(rt: HostRuntime) -> Result<(), Fail> {
-    let came: [&[u8]; 6] = [GRANTED, ACK, &IDLE[..1], &[], &IDLE[1..], ACK];
-    expect_done(
-        &rt,
-        rt.alloc(),
-        &came,
-        &[OPEN, SELECT, STATUS, STATUS, CLOSE],
-        0,
-    )
-}
-
-#[test]
-fn answer_ahead_of_its_time_is_passed_over(rt: HostRuntime) -> Result<(), Fail> {
-    let both = joined(rt.alloc(), &[GRANTED, ACK])?;
-    let commands = [OPEN, SELECT, STATUS, CLOSE];
-    expect_done(
-        &rt,
-        rt.alloc(),
-        &[both.as_slice(), ACK, IDLE, ACK],
-        &commands,
-        1,
-    )
-}
-
-// A copy in the same piece is passed over; one that comes later is heard for the next command, which is sent again.
-#[test]
-fn answer_that_comes_twice_plays_on(rt: HostRuntime) -> Result<(), Fail> {
-    let twice = joined(rt.alloc(), &[GRANTED, GRANTED])?;
-    let commands = [OPEN, SELECT, STATUS, CLOSE];
-    expect_done(
-        &rt,
-        rt.alloc(),
-        &[twice.as_slice(), ACK, IDLE, ACK],
-        &commands,
-        1,
-    )?;
-    let commands = [OPEN, SELECT, SELECT, STATUS, CLOSE];
-    expect_done(
-        &rt,
-        rt.alloc(),
-        &[GRANTED, GRANTED, ACK, IDLE, ACK],
-        &commands,
-        0,
-    )
-}
-
-// Each answer comes when the next command is awaited, and each command but CLOSE goes out twice.
-#[test]
-fn answers_late_by_one_exchange_play_on(rt: HostRuntime) -> Result<(), Fail> {
-    let came: [&[u8]; 8] = [&[], GRANTED, GRANTED, ACK, ACK, IDLE, IDLE, ACK];
-    let commands = [OPEN, OPEN, SELECT, SELECT, STATUS, STATUS, CLOSE, CLOSE];
-    expect_done(&rt, rt.alloc(), &came, &commands, 0)
-}
-
-// Three commands in a row without an answer would be too many.
-#[test]
-fn answers_late_by_two_exchanges_play_on(rt: HostRuntime) -> Result<(), Fail> {
-    let came: [&[u8]; 12] = [
-        &[],
-        &[],
-        GRANTED,
-        GRANTED,
-        GRANTED,
-        ACK,
-        ACK,
-        ACK,
-        IDLE,
-        IDLE,
-        IDLE,
-        ACK,
-    ];
-    let commands = [
-        OPEN, OPEN, OPEN, SELECT, SELECT, SELECT, STATUS, STATUS, STATUS, CLOSE, CLOSE, CLOSE,
-    ];
-    expect_done(&rt, rt.alloc(), &came, &commands, 0)
 }
 
 // Nothing is dropped before a send, so what waited is heard.
@@ -219,20 +215,6 @@ fn junk_without_end_answers_nothing(rt: HostRuntime) -> Result<(), Fail> {
     assert_eq!(rt; driver.controller().outcome(), Some(Outcome::Lost));
     assert_eq!(rt; driver.passed(), 0);
     Ok(())
-}
-
-#[test]
-fn reading_begins_anew_at_the_silence_after_a_fault(rt: HostRuntime) -> Result<(), Fail> {
-    let mut wrong = Vec::from_slice(rt.alloc(), &[0x03])?;
-    wrong.extend_from_slice(GRANTED)?;
-    let came: [&[u8]; 7] = [wrong.as_slice(), GRANTED, &[], GRANTED, ACK, IDLE, ACK];
-    expect_done(
-        &rt,
-        rt.alloc(),
-        &came,
-        &[OPEN, OPEN, SELECT, STATUS, CLOSE],
-        0,
-    )
 }
 
 // Far more than a burst may have, and no silence: each message is read, wherever it is torn.
@@ -275,8 +257,7 @@ fn empty_playlist_is_played_in_confirm_mode(rt: HostRuntime) -> Result<(), Fail>
     let came: [&[u8]; 6] = [GRANTED, ACK, &[], answer.as_slice(), IDLE, &[]];
     let mut driver = confirming(rt.alloc(), pieces(rt.alloc(), &came)?);
     assert_eq!(rt; run(&mut driver, 100), Ok(Ran::Ended));
-    let sent = joined(rt.alloc(), &[OPEN, SELECT, STATUS, STATUS, CLOSE])?;
-    assert_eq!(rt; driver.wire().sent(), sent.as_slice());
+    assert!(rt; spells(driver.wire().sent(), &[OPEN, SELECT, STATUS, STATUS, CLOSE]));
     assert_eq!(rt; driver.controller().outcome(), Some(Outcome::Done));
     Ok(())
 }
@@ -317,11 +298,14 @@ fn operator_stops(rt: HostRuntime) -> Result<(), Fail> {
     Ok(())
 }
 
+/// OPEN, SELECT, STATUS and CLOSE.
+const ALL_SENT: &'static [u8] =
+    b"\x02\x04\x30\x01\x01\x01\xCD\x02\x03\x20\x22\x01\xBD\x02\x03\x30\x05\x01\xCA\x02\x03\x20\x21\x01\xBE";
+
 // Each command is two calls, a send and a listen; the wire fails in each of them in turn.
 #[test]
 fn each_call_fails_in_turn(rt: HostRuntime) -> Result<(), Fail> {
     let commands = [OPEN, SELECT, STATUS, CLOSE];
-    let all = joined(rt.alloc(), &commands)?;
     for part in [0, 1, 100] {
         let mut before: usize = 0;
         for (k, command) in commands.iter().enumerate() {
@@ -337,11 +321,19 @@ fn each_call_fails_in_turn(rt: HostRuntime) -> Result<(), Fail> {
                 let mut driver = PromptDriver::new(controller, 0, wire);
                 assert_eq!(rt; run(&mut driver, 100), Err(DriveFault::Device));
                 assert!(rt; driver.controller().awaiting());
-                assert_eq!(rt; all.get(..sent), Some(driver.wire().sent()), "call {call}");
+                assert_eq!(rt;
+                    ALL_SENT.get(..sent),
+                    Some(driver.wire().sent()),
+                    "call {call}"
+                );
                 assert_eq!(rt; run(&mut driver, 100), Err(DriveFault::Device));
                 assert_eq!(rt; send(&mut driver), Err(DriveFault::Device));
                 assert_eq!(rt; listen(&mut driver), Err(DriveFault::Device));
-                assert_eq!(rt; all.get(..sent), Some(driver.wire().sent()), "call {call}");
+                assert_eq!(rt;
+                    ALL_SENT.get(..sent),
+                    Some(driver.wire().sent()),
+                    "call {call}"
+                );
             }
         }
     }

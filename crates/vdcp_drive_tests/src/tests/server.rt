@@ -4,7 +4,6 @@ use super::ends::{failing_server, server};
 use super::messages::{ACK, CUE_1, GRANTED, IDLE, OPEN, PLAY, SELECT, STATUS, STOP};
 use super::scripts::{SILENCE, spells};
 use std::alloc::Global;
-use std::process::Abort;
 use std::test::Fail;
 use vdcp_drive::Ran;
 

@@ -4,7 +4,6 @@ ghost use Rattle.std.specs.Prelude.{◌≡◌};
 use super::messages::{ACK, CUED, GRANTED, IDLE, OPEN, PRESENT, SELECT, STATUS};
 use super::scripts::{SILENCE, spells, wire_of};
 use std::alloc::Global;
-use std::process::Abort;
 use std::test::Fail;
 use vdcp_drive::{Vacancy, ask_port};
 use vdcp_wire::{Wire, WireFault};

@@ -3,7 +3,6 @@ use super::calls::{run_watched, serve_watched};
 use super::ends::{automation, server};
 use super::messages::{ACK, CUE_1, CUE_2, GRANTED, IDLE, OPEN, PLAY, SELECT};
 use super::scripts::SILENCE;
-use std::process::Abort;
 use std::test::Fail;
 use vdcp_auto::{Controller, Source};
 use vdcp_drive::{Ran, Watch, WatchAir};
