@@ -85,8 +85,8 @@ fn ends_after(
     end: Step,
 ) -> Result<(), AllocError> {
     let (messages, ended) = reading_of(rt.alloc(), burst)?;
-    assert_eq!(rt; messages.len(), count);
-    assert_eq!(rt; ended, end);
+    assert_eq!(rt; messages.len(), count, "{end:?}");
+    assert_eq!(rt; ended, end, "{count}");
     for cut in 4094..=4097 {
         read_in_pieces(rt, burst, cut, burst.len(), messages.as_slice(), end);
     }
