@@ -105,6 +105,7 @@ impl<'a, R: Clock, K: Journal> BackToBack<'a, R, K> {
 
     /// The take is going to be given, and is kept. Err where it couldn't be kept.
     pub fn take(&mut self) -> Result<(), KeepFault>
+        ensures kept { OnOk result (K.takes self.old.keep self.new.keep) }
         ensures air { OnOk result (self.new.air ≡ taken_in self.old.air) }
         ensures asks { OnOk result (self.new.asks ≡ asks_once_taken self.old.air self.old.asks self.old.took) }
         ensures keeps { OnErr result (self.new ≡ record self.old { keep = self.new.keep }) }

@@ -26,7 +26,11 @@ pub enum Keeping<'a, J> {
 
 /// A journal of a run.
 pub trait Journal: Keep {
+    ghost use Rattle.std.specs.Prelude.{OnOk, ⊤};
     ghost use Rattle.vdcp_drive.specs.KeptLeaves.{KeptLeaves};
+
+    /// From one of its states to the next a take is made safe, if it tells that.
+    ghost takes: { Self → Self → Type 0 } = { λ _ _. ⊤ };
 
     /// Runs an automation that hears its answers once the line is silent, and keeps its exchanges.
     fn run_kept<S: Source, W: Wire, V: Watch<S>>(
@@ -42,7 +46,8 @@ pub trait Journal: Keep {
     fn close(&mut self, outcome: Option<Outcome>) -> Result<(), RecordFault>;
 
     /// The operator's take is going to be given: it is made safe, with all that was noted before.
-    fn keep_take(&mut self) -> Result<(), KeepFault>;
+    fn keep_take(&mut self) -> Result<(), KeepFault>
+        ensures kept { OnOk result (takes self.old self.new) };
 }
 
 impl Journal for Unkept {
@@ -65,6 +70,13 @@ impl Journal for Unkept {
 }
 
 impl<R: Clock + AllocGlobal, F: JournalFile + Drop> Journal for Recorder<'_, '_, R, F> {
+    ghost use Rattle.std.specs.Prelude.{◌∷◌, []};
+    ghost use Rattle.vdcp_journal.specs.declared.moment.Moment.{Moment};
+    ghost use Rattle.vdcp_journal.specs.declared.row.Note.TheVariants.{Take};
+    ghost use Rattle.vdcp_record.specs.Recording.{Adds};
+
+    ghost takes = { λ b c. (time : Moment) × Adds F.safe b c (record { time = time; note = Take } ∷ []) };
+
     fn run_kept<S: Source, W: Wire, V: Watch<S>>(
         &mut self,
         driver: &mut AutoDriver<S, W>,
