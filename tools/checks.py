@@ -1,15 +1,19 @@
 #!/usr/bin/env python3
-"""What tools/ci and tools/wrong_bodies share: the toolchain's functions, how many checks fit on this machine, and the line that
-says how far a long run is."""
+"""What tools/ci and tools/wrong_bodies share: the toolchain's functions, how many checks fit on this machine, a folder that goes away
+however they end, and the line that says how far a long run is."""
 
+import contextlib
 import importlib.machinery
 import importlib.util
 import os
 import shutil
+import signal
 import sys
+import tempfile
 import threading
 import time
 
+ENDING = (signal.SIGHUP, signal.SIGINT, signal.SIGTERM)
 # The most memory that a check was measured to take, in bytes.
 LARGEST = 4_100_000_000
 
@@ -28,6 +32,30 @@ def toolchain():
 def at_once(rt):
     """Returns how many checks fit: one for each processor, as far as the free memory holds the largest."""
     return max(1, min(rt.processors(), rt.free() // LARGEST))
+
+
+def end_by_signals():
+    """Has a signal end the program as an exit does, so that what it has begun can be ended and removed."""
+
+    def end(number, _):
+        raise SystemExit(128 + number)
+
+    for it in ENDING:
+        signal.signal(it, end)
+
+
+@contextlib.contextmanager
+def room(prefix):
+    """A new folder, which is gone afterwards, also where a check that ends with this still writes there."""
+    made = tempfile.mkdtemp(prefix=prefix)
+    try:
+        yield made
+    finally:
+        for _ in range(100):
+            shutil.rmtree(made, ignore_errors=True)
+            if not os.path.exists(made):
+                break
+            time.sleep(0.05)
 
 
 def minutes(seconds):
