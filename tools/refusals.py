@@ -1,3 +1,4 @@
+#!/usr/bin/env python3
 """Tries wrong bodies of crates, side by side and several in a check; what tools/wrong_bodies and tools/ci share.
 
 A check says of each function why it isn't proved: a goal of its own is left open, an answer in its own proof is refused, or it only
