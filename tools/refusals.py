@@ -187,16 +187,22 @@ class Trial:
     def try_some(self, crate):
         """Tries wrong bodies of the crate, as long as there are some."""
         while edits := self.next_edits(crate):
-            while edits and all(map(self.changed.get, edits)):
-                begun = time.monotonic()
-                refused = self.refused_together(crate, edits)
-                for it in refused:
-                    self.tell(it, True, f"refused ({len(edits)} in a check of {time.monotonic() - begun:.0f} s)")
-                edits = [it for it in edits if it not in refused]
-                if not refused:
-                    break
-            for it in edits:
-                self.tell(it, *self.tried_alone(crate, it))
+            self.try_edits(crate, edits)
+
+    def try_edits(self, crate, edits):
+        """Tries these together; then those that this doesn't show to be refused, in halves where it shows none, as where the compiler
+        refuses one of them; and one that is left alone."""
+        begun = time.monotonic()
+        refused = self.refused_together(crate, edits) if all(map(self.changed.get, edits)) else []
+        for it in refused:
+            self.tell(it, True, f"refused ({len(edits)} in a check of {time.monotonic() - begun:.0f} s)")
+        left = [it for it in edits if it not in refused]
+        if edits == left[:1]:
+            self.tell(left[0], *self.tried_alone(crate, left[0]))
+            return
+        half = 0 if refused else len(left) // 2
+        for it in filter(None, (left[:half], left[half:])):
+            self.try_edits(crate, it)
 
     def refused_together(self, crate, edits):
         """Returns those that are refused where all of these are tried, each by a fault in a function that it changes."""

@@ -1,9 +1,9 @@
 use clap::{Arg, ArgAction, Command};
 use std::alloc::{AllocError, Global};
 use vdcp_options::{
-    COPY, CUE_FRAMES, CUT, DAMAGE, FORGE, LIMIT, LISTENS, LOSE, LOSSY_SILENCE, POLL, PORT,
-    RUN_LIMIT, RUN_SILENCE, SEED, SERVE_SILENCE, TURNS, UNIT, WITHIN, from_option, idle_option,
-    number_option, rate_option,
+    COPY, CUE_FRAMES, CUT, DAMAGE, FORGE, LIMIT, LISTENS, LOSE, LOSSY_SILENCE, NumberOption, POLL,
+    PORT, RUN_LIMIT, RUN_SILENCE, SEED, SERVE_SILENCE, TURNS, UNIT, WITHIN, from_option,
+    idle_option, number_option, rate_option,
 };
 
 // The program's version, and the toolchain that it is proved with.
@@ -36,6 +36,36 @@ Example, in three terminals:
   vdcp lossy 127.0.0.1:7401 127.0.0.1:7400 --seed 7 --lose 20 --within 150
   vdcp run 127.0.0.1:7401 examples/playlist.csv --silence 200 --limit 20";
 
+// An argument of a subcommand. The last text of each is its help.
+#[derive(Clone, Copy)]
+enum Argument {
+    // One that has to be there: its name.
+    Required(&'static str, &'static str),
+    // Any number of words: their name.
+    Words(&'static str, &'static str),
+    // An option without a value: its name.
+    Flag(&'static str, &'static str),
+    // An option with a value: its name, and what the value is called.
+    Value(&'static str, &'static str, &'static str),
+    Number(&'static NumberOption),
+    Rate,
+    Idle,
+    From,
+    Only,
+    Lengths,
+    Resume,
+    OpenAgain,
+}
+
+const LIST: Argument = Argument::Required("LIST", "The playlist's file");
+
+const CATALOGUE: Argument = Argument::Required("CATALOGUE", "The catalogue's file");
+
+const CONFIRM: Argument = Argument::Flag("confirm", "The controller trusts no ACK and no NAK");
+
+// Where `run` and `probe` find a server.
+const SERVER: Argument = Argument::Required("ADDR", "Where the server listens, as 127.0.0.1:7400");
+
 /// What the command line may be.
 pub fn command<'a>(alloc: Global) -> Result<Command<'a>, AllocError> {
     Command::new(alloc, "vdcp")
@@ -58,211 +88,246 @@ pub fn command<'a>(alloc: Global) -> Result<Command<'a>, AllocError> {
 }
 
 fn show<'a>(alloc: Global) -> Result<Command<'a>, AllocError> {
-    Command::new(alloc, "show")
+    let command = Command::new(alloc, "show")
         .about("Shows a burst: its messages, and how it ends")
-        .after_help("Example: vdcp show 02021001ef --words")
-        .arg(required(alloc, "HEX", "The burst's bytes in hexadecimal digits"))?
-        .arg(flag(
-            alloc,
+        .after_help("Example: vdcp show 02021001ef --words");
+    let arguments = [
+        Argument::Required("HEX", "The burst's bytes in hexadecimal digits"),
+        Argument::Flag(
             "words",
             "Shows the command or reply that each message carries",
-        ))
+        ),
+    ];
+    with_arguments(alloc, command, &arguments)
 }
 
 fn make<'a>(alloc: Global) -> Result<Command<'a>, AllocError> {
-    let arguments = Arg::new(alloc, "ARG")
-        .num_args(0..)
-        .help("The command's arguments, such as an ID");
-    Command::new(alloc, "make")
+    let command = Command::new(alloc, "make")
         .about("Makes the bytes of a command")
-        .after_help("Example: vdcp make cue CLIP0001")
-        .arg(required(alloc, "COMMAND", "The command's name, such as play or cue"))?
-        .arg(arguments)?
-        .arg(number_option(alloc, &UNIT))
+        .after_help("Example: vdcp make cue CLIP0001");
+    let arguments = [
+        Argument::Required("COMMAND", "The command's name, such as play or cue"),
+        Argument::Words("ARG", "The command's arguments, such as an ID"),
+        Argument::Number(&UNIT),
+    ];
+    with_arguments(alloc, command, &arguments)
 }
 
 fn check<'a>(alloc: Global) -> Result<Command<'a>, AllocError> {
-    Command::new(alloc, "check")
+    let command = Command::new(alloc, "check")
         .about("Checks a playlist against a catalogue")
-        .after_help("Example: vdcp check examples/playlist.csv examples/catalogue.csv")
-        .arg(list(alloc))?
-        .arg(catalogue(alloc))?
-        .arg(rate_option(alloc))
+        .after_help("Example: vdcp check examples/playlist.csv examples/catalogue.csv");
+    with_arguments(alloc, command, &[LIST, CATALOGUE, Argument::Rate])
 }
 
 fn sim<'a>(alloc: Global) -> Result<Command<'a>, AllocError> {
-    Command::new(alloc, "sim")
+    let command = Command::new(alloc, "sim")
         .about("Runs a script of events on the line between a controller and a port")
-        .after_help(SIM_EXAMPLE)
-        .arg(list(alloc))?
-        .arg(catalogue(alloc))?
-        .arg(required(alloc, "SCRIPT", "The script's file"))?
-        .arg(number_option(alloc, &UNIT))?
-        .arg(number_option(alloc, &PORT))?
-        .arg(number_option(alloc, &LIMIT))?
-        .arg(rate_option(alloc))?
-        .arg(flag(alloc, "trace", "Prints each exchange too"))?
-        .arg(number_option(alloc, &CUE_FRAMES))?
-        .arg(confirm(alloc))?
-        .arg(flag(alloc, "late", "The line keeps order, and may be late"))
+        .after_help(SIM_EXAMPLE);
+    let arguments = [
+        LIST,
+        CATALOGUE,
+        Argument::Required("SCRIPT", "The script's file"),
+        Argument::Number(&UNIT),
+        Argument::Number(&PORT),
+        Argument::Number(&LIMIT),
+        Argument::Rate,
+        Argument::Flag("trace", "Prints each exchange too"),
+        Argument::Number(&CUE_FRAMES),
+        CONFIRM,
+        Argument::Flag("late", "The line keeps order, and may be late"),
+    ];
+    with_arguments(alloc, command, &arguments)
 }
 
 fn serve<'a>(alloc: Global) -> Result<Command<'a>, AllocError> {
-    Command::new(alloc, "serve")
+    let command = Command::new(alloc, "serve")
         .about("Serves a port with the clips of a catalogue to an automation, over TCP")
-        .after_help(SERVE_EXAMPLE)
-        .arg(address(
-            alloc,
+        .after_help(SERVE_EXAMPLE);
+    let arguments = [
+        Argument::Required(
+            "ADDR",
             "Where it listens, as 127.0.0.1:7400; for TCP port 0 the system chooses one",
-        ))?
-        .arg(catalogue(alloc))?
-        .arg(number_option(alloc, &UNIT))?
-        .arg(number_option(alloc, &PORT))?
-        .arg(rate_option(alloc))?
-        .arg(number_option(alloc, &CUE_FRAMES))?
-        .arg(number_option(alloc, &SERVE_SILENCE))?
-        .arg(number_option(alloc, &TURNS))?
-        .arg(flag(
-            alloc,
+        ),
+        CATALOGUE,
+        Argument::Number(&UNIT),
+        Argument::Number(&PORT),
+        Argument::Rate,
+        Argument::Number(&CUE_FRAMES),
+        Argument::Number(&SERVE_SILENCE),
+        Argument::Number(&TURNS),
+        Argument::Flag(
             "real-time",
             "Frames pass by the clock, as many a second as --rate has, and not at silences",
-        ))?
-        .arg(flag(
-            alloc,
+        ),
+        Argument::Flag(
             "stay",
             "Keeps the port when a connection ends, and takes the next one",
-        ))?
-        .arg(idle_option(alloc))?
-        .arg(flag(
-            alloc,
+        ),
+        Argument::Idle,
+        Argument::Flag(
             "log",
             "Tells standard error of each message, and of each item that goes to air",
-        ))
+        ),
+    ];
+    with_arguments(alloc, command, &arguments)
 }
 
 fn run<'a>(alloc: Global) -> Result<Command<'a>, AllocError> {
-    Command::new(alloc, "run")
+    let command = Command::new(alloc, "run")
         .about("Plays a list through the port of a server, over TCP")
-        .after_help(RUN_EXAMPLE)
-        .arg(address(alloc, "Where the server listens, as 127.0.0.1:7400"))?
-        .arg(list(alloc))?
-        .arg(number_option(alloc, &UNIT))?
-        .arg(number_option(alloc, &PORT))?
-        .arg(number_option(alloc, &RUN_LIMIT))?
-        .arg(rate_option(alloc))?
-        .arg(confirm(alloc))?
-        .arg(number_option(alloc, &RUN_SILENCE))?
-        .arg(number_option(alloc, &LISTENS))?
-        .arg(flag(
-            alloc,
+        .after_help(RUN_EXAMPLE);
+    let arguments = [
+        SERVER,
+        LIST,
+        Argument::Number(&UNIT),
+        Argument::Number(&PORT),
+        Argument::Number(&RUN_LIMIT),
+        Argument::Rate,
+        CONFIRM,
+        Argument::Number(&RUN_SILENCE),
+        Argument::Number(&LISTENS),
+        Argument::Flag(
             "prompt",
             "Hears each answer as soon as it has come, torn or late; for a line that keeps order, as TCP does",
-        ))?
-        .arg(number_option(alloc, &POLL))?
-        .arg(lengths(alloc)?)?
-        .arg(option(
-            alloc,
+        ),
+        Argument::Number(&POLL),
+        Argument::Lengths,
+        Argument::Value(
             "asrun",
             "FILE",
             "Makes this file, with the as-run list of the reported events",
-        ))?
-        .arg(option(
-            alloc,
+        ),
+        Argument::Value(
             "journal",
             "FILE",
             "Makes this file, and keeps each command there before it is sent",
-        ))?
-        .arg(resume(alloc)?)?
-        .arg(open_again(alloc)?)?
-        .arg(from_option(alloc))?
-        .arg(flag(alloc, "log", "Tells standard error of each message"))
+        ),
+        Argument::Resume,
+        Argument::OpenAgain,
+        Argument::From,
+        Argument::Flag("log", "Tells standard error of each message"),
+    ];
+    with_arguments(alloc, command, &arguments)
 }
 
 fn asrun_list<'a>(alloc: Global) -> Result<Command<'a>, AllocError> {
-    Command::new(alloc, "asrun")
+    let command = Command::new(alloc, "asrun")
         .about("Prints the as-run list that a journal shows")
-        .after_help("Example: vdcp asrun run.journal examples/playlist.csv")
-        .arg(required(alloc, "JOURNAL", "The journal's file"))?
-        .arg(list(alloc))?
-        .arg(rate_option(alloc))?
-        .arg(flag(
-            alloc,
+        .after_help("Example: vdcp asrun run.journal examples/playlist.csv");
+    let arguments = [
+        Argument::Required("JOURNAL", "The journal's file"),
+        LIST,
+        Argument::Rate,
+        Argument::Flag(
             "times",
             "Says of each event when it was played, and when it was known to have aired",
-        ))?
-        .arg(flag(
-            alloc,
+        ),
+        Argument::Flag(
             "open",
             "Tells standard error of an event that may have aired too",
-        ))
+        ),
+    ];
+    with_arguments(alloc, command, &arguments)
 }
 
 fn judge<'a>(alloc: Global) -> Result<Command<'a>, AllocError> {
-    Command::new(alloc, "judge")
+    let command = Command::new(alloc, "judge")
         .about("Holds an automation's commands on a captured line against the rule book")
-        .after_help("Example: vdcp judge examples/playlist.csv run.log")
-        .arg(list(alloc))?
-        .arg(required(alloc, "CAPTURE", "The file of what was captured"))?
-        .arg(number_option(alloc, &UNIT))?
-        .arg(rate_option(alloc))?
-        .arg(flag(alloc, "confirm", "The automation trusts no ACK and no NAK"))?
-        .arg(flag(alloc, "server", "The log is of the server's end"))
+        .after_help("Example: vdcp judge examples/playlist.csv run.log");
+    let arguments = [
+        LIST,
+        Argument::Required("CAPTURE", "The file of what was captured"),
+        Argument::Number(&UNIT),
+        Argument::Rate,
+        Argument::Flag("confirm", "The automation trusts no ACK and no NAK"),
+        Argument::Flag("server", "The log is of the server's end"),
+    ];
+    with_arguments(alloc, command, &arguments)
 }
 
 fn probe<'a>(alloc: Global) -> Result<Command<'a>, AllocError> {
-    Command::new(alloc, "probe")
+    let command = Command::new(alloc, "probe")
         .about("Asks a server whether its port keeps the table that as-run lists rest on, over TCP")
-        .after_help(PROBE_EXAMPLE)
-        .arg(address(alloc, "Where the server listens, as 127.0.0.1:7400"))?
-        .arg(catalogue(alloc))?
-        .arg(flag(
-            alloc,
+        .after_help(PROBE_EXAMPLE);
+    let arguments = [
+        SERVER,
+        CATALOGUE,
+        Argument::Flag(
             "yes-it-may-stop",
             "What the port plays may be stopped; without this nothing is sent",
-        ))?
-        .arg(only(alloc))?
-        .arg(number_option(alloc, &UNIT))?
-        .arg(number_option(alloc, &PORT))?
-        .arg(rate_option(alloc))?
-        .arg(number_option(alloc, &RUN_SILENCE))
+        ),
+        Argument::Only,
+        Argument::Number(&UNIT),
+        Argument::Number(&PORT),
+        Argument::Rate,
+        Argument::Number(&RUN_SILENCE),
+    ];
+    with_arguments(alloc, command, &arguments)
 }
 
 fn lossy<'a>(alloc: Global) -> Result<Command<'a>, AllocError> {
-    Command::new(alloc, "lossy")
+    let command = Command::new(alloc, "lossy")
         .about(
             "A line between a run and a server, over TCP, that loses, copies, cuts and damages bursts",
         )
-        .after_help(LOSSY_EXAMPLE)
-        .arg(address(
-            alloc,
+        .after_help(LOSSY_EXAMPLE);
+    let arguments = [
+        Argument::Required(
+            "ADDR",
             "Where it listens for a run, as 127.0.0.1:7401; for TCP port 0 the system chooses one",
-        ))?
-        .arg(required(
-            alloc,
-            "SERVER",
-            "Where the server listens, as 127.0.0.1:7400",
-        ))?
-        .arg(number_option(alloc, &SEED))?
-        .arg(number_option(alloc, &LOSE))?
-        .arg(number_option(alloc, &COPY))?
-        .arg(number_option(alloc, &CUT))?
-        .arg(number_option(alloc, &DAMAGE))?
-        .arg(number_option(alloc, &FORGE))?
-        .arg(number_option(alloc, &LOSSY_SILENCE))?
-        .arg(number_option(alloc, &WITHIN))?
-        .arg(number_option(alloc, &TURNS))
+        ),
+        Argument::Required("SERVER", "Where the server listens, as 127.0.0.1:7400"),
+        Argument::Number(&SEED),
+        Argument::Number(&LOSE),
+        Argument::Number(&COPY),
+        Argument::Number(&CUT),
+        Argument::Number(&DAMAGE),
+        Argument::Number(&FORGE),
+        Argument::Number(&LOSSY_SILENCE),
+        Argument::Number(&WITHIN),
+        Argument::Number(&TURNS),
+    ];
+    with_arguments(alloc, command, &arguments)
 }
 
 fn vectors<'a>(alloc: Global) -> Result<Command<'a>, AllocError> {
-    Command::new(alloc, "vectors")
+    let command = Command::new(alloc, "vectors")
         .about("Tests each row of a file of bursts and their readings")
-        .after_help("Example: vdcp vectors examples/bursts.csv")
-        .arg(required(alloc, "FILE", "The file of bursts and their readings"))
+        .after_help("Example: vdcp vectors examples/bursts.csv");
+    let arguments = [Argument::Required("FILE", "The file of bursts and their readings")];
+    with_arguments(alloc, command, &arguments)
 }
 
-// An argument that has to be there.
-fn required<'a>(alloc: Global, name: &'a str, help: &'a str) -> Arg<'a> {
-    Arg::new(alloc, name).required(true).help(help)
+// The subcommand with these arguments, in this order.
+fn with_arguments<'a>(
+    alloc: Global,
+    command: Command<'a>,
+    arguments: &[Argument],
+) -> Result<Command<'a>, AllocError> {
+    let mut command = command;
+    for argument in arguments {
+        command = command.arg(argument_of(alloc, argument)?)?;
+    }
+    Ok(command)
+}
+
+// As `clap` has it.
+fn argument_of<'a>(alloc: Global, argument: &Argument) -> Result<Arg<'a>, AllocError> {
+    match *argument {
+        Argument::Required(name, help) => Ok(Arg::new(alloc, name).required(true).help(help)),
+        Argument::Words(name, help) => Ok(Arg::new(alloc, name).num_args(0..).help(help)),
+        Argument::Flag(name, help) => Ok(flag(alloc, name, help)),
+        Argument::Value(name, value, help) => Ok(option(alloc, name, value, help)),
+        Argument::Number(number) => Ok(number_option(alloc, number)),
+        Argument::Rate => Ok(rate_option(alloc)),
+        Argument::Idle => Ok(idle_option(alloc)),
+        Argument::From => Ok(from_option(alloc)),
+        Argument::Only => Ok(only(alloc)),
+        Argument::Lengths => lengths(alloc),
+        Argument::Resume => resume(alloc),
+        Argument::OpenAgain => open_again(alloc),
+    }
 }
 
 // An option without a value.
@@ -279,22 +344,6 @@ fn option<'a>(alloc: Global, name: &'a str, value: &'a str, help: &'a str) -> Ar
         .long(name)
         .value_name(value)
         .help(help)
-}
-
-fn list<'a>(alloc: Global) -> Arg<'a> {
-    required(alloc, "LIST", "The playlist's file")
-}
-
-fn catalogue<'a>(alloc: Global) -> Arg<'a> {
-    required(alloc, "CATALOGUE", "The catalogue's file")
-}
-
-fn address<'a>(alloc: Global, help: &'a str) -> Arg<'a> {
-    required(alloc, "ADDR", help)
-}
-
-fn confirm<'a>(alloc: Global) -> Arg<'a> {
-    flag(alloc, "confirm", "The controller trusts no ACK and no NAK")
 }
 
 fn only<'a>(alloc: Global) -> Arg<'a> {
