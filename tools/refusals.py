@@ -207,15 +207,18 @@ class Trial:
     def refused_together(self, crate, edits):
         """Returns those that are refused where all of these are tried, each by a fault in a function that it changes."""
         edits, texts = applied_together(self.rt, edits, crate.folder)
+        functions = [it for edit in edits for it in self.changed[edit]]
         with kept_of(crate) as kept:
-            paths = {it.path() for edit in edits for it in self.changed[edit]}
+            paths = {it.path() for it in functions}
             only = [word for path in sorted(paths) for word in ("--only", path)]
             ran = self.rt.checked(crate, texts, ONE_JOB + only, kept)
             if ran.returncode == 2:
                 # (a name fits no function, or several)
                 ran = self.rt.checked(crate, texts, ONE_JOB, kept)
         faulty = called_unproved(ran.stdout) if ran.returncode == 1 else []
-        return [edit for edit in edits if any(it.is_called(names) for it in self.changed[edit] for names in faulty)]
+        refused = [edit for edit in edits if any(it.is_called(names) for it in self.changed[edit] for names in faulty)]
+        # (a fault in a function that none of them changes isn't understood)
+        return refused if all(any(it.is_called(names) for it in functions) for names in faulty) else []
 
     def tried_alone(self, crate, edit):
         """Returns whether the prover refuses it, and what is said of that: as in rt ci, what isn't refused over what is kept is tried again
