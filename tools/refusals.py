@@ -120,12 +120,6 @@ def called_unproved(said):
     return [tuple(it[1].split("::")) for it in goals if it] + [tuple(it[1].split("/")) for it in answers if it]
 
 
-def size_of(folder):
-    """Returns how many bytes a crate's code, definitions and proofs have."""
-    parts = (os.walk(f"{folder}/{part}") for part in ("src", "specs", "proofs"))
-    return sum(os.path.getsize(f"{at}/{name}") for part in parts for at, _, names in part for name in names)
-
-
 @contextlib.contextmanager
 def kept_of(crate):
     """A copy of what is kept of a crate's proof, if something is: so no check is over what another one has left."""
@@ -145,7 +139,7 @@ class Trial:
         self.rt, self.root, self.lock, self.progress = rt, root, threading.Lock(), checks.Progress("wrong bodies")
         self.left = {crate: list(files) for crate, files in edits.items() if files}
         self.changed = {it: changed_by(rt, it, crate.folder) for crate, files in self.left.items() for it in files}
-        self.size, self.workers = {it: size_of(it.folder) for it in self.left}, collections.Counter()
+        self.workers = collections.Counter()
         self.count = len(self.changed)
         self.passed, self.failed = 0, []
 
@@ -166,11 +160,11 @@ class Trial:
             self.try_some(crate)
 
     def next_crate(self):
-        """Returns a crate that is left: first one that nobody is at, and of those the largest, which takes longest."""
+        """Returns a crate that is left: first one that nobody is at, and of those the one that takes longest."""
         with self.lock:
             # (a second copy of a crate's work pays for many wrong bodies only)
             left = [it for it, edits in self.left.items() if len(edits) > MOST * min(self.workers[it], 1)]
-            found = min(left, key=lambda it: (self.workers[it], -self.size[it]), default=None)
+            found = min(left, key=lambda it: (self.workers[it], -len(self.left[it]), -len(it.below())), default=None)
             if found:
                 self.workers[found] += 1
             return found
