@@ -120,14 +120,16 @@ def called_unproved(said):
     return [tuple(it[1].split("::")) for it in goals if it] + [tuple(it[1].split("/")) for it in answers if it]
 
 
+def is_kept(crate):
+    return os.path.isdir(f"{crate.folder}/out/incremental")
+
+
 @contextlib.contextmanager
 def kept_of(crate):
-    """A copy of what is kept of a crate's proof, if something is: so no check is over what another one has left."""
-    if not os.path.isdir(f"{crate.folder}/out/incremental"):
-        yield None
-        return
+    """A copy of what is kept of a crate's proof, empty where nothing is."""
     with tempfile.TemporaryDirectory(prefix="kept-") as kept:
-        shutil.copytree(f"{crate.folder}/out/incremental", kept, dirs_exist_ok=True)
+        if is_kept(crate):
+            shutil.copytree(f"{crate.folder}/out/incremental", kept, dirs_exist_ok=True)
         yield kept
 
 
@@ -190,19 +192,28 @@ class Trial:
             self.try_edits(crate, edits)
 
     def try_edits(self, crate, edits):
-        """Tries these together; then those that this doesn't show to be refused, in halves where it shows none, as where the compiler
-        refuses one of them; and one that is left alone."""
+        """Tries these together, and then those that this doesn't show to be refused. Where it shows none, as where the compiler refuses one
+        of them, the halves are tried, and one that is left alone; where nothing is kept of the crate, which is dear, each in turn."""
         begun = time.monotonic()
         refused = self.refused_together(crate, edits) if all(map(self.changed.get, edits)) else []
         for it in refused:
             self.tell(it, True, f"refused ({len(edits)} in a check of {time.monotonic() - begun:.0f} s)")
         left = [it for it in edits if it not in refused]
-        if edits == left[:1]:
-            self.tell(left[0], *self.tried_alone(crate, left[0]))
+        if not refused and (len(left) == 1 or not is_kept(crate)):
+            self.try_in_turn(crate, left)
             return
         half = 0 if refused else len(left) // 2
         for it in filter(None, (left[:half], left[half:])):
             self.try_edits(crate, it)
+
+    def try_in_turn(self, crate, edits):
+        """Tries each alone, over what is kept and what the checks before have proved. As in rt ci, what isn't refused so is tried again
+        from nothing, and so is each where the crate itself isn't proved over what these checks have left."""
+        with kept_of(crate) as kept:
+            tried = {it: self.tried_alone(crate, it, kept) for it in edits}
+            is_sound = len(edits) == 1 or not self.rt.checked(crate, {}, ONE_JOB, kept).returncode
+        for edit, (is_refused, said) in tried.items():
+            self.tell(edit, *((is_refused, said) if is_sound and is_refused else self.tried_alone(crate, edit)))
 
     def refused_together(self, crate, edits):
         """Returns those that are refused where all of these are tried, each by a fault in a function that it changes."""
@@ -211,6 +222,7 @@ class Trial:
         with kept_of(crate) as kept:
             paths = {it.path() for it in functions}
             only = [word for path in sorted(paths) for word in ("--only", path)]
+            kept = kept if is_kept(crate) else None
             ran = self.rt.checked(crate, texts, ONE_JOB + only, kept)
             if ran.returncode == 2:
                 # (a name fits no function, or several)
@@ -220,14 +232,10 @@ class Trial:
         # (a fault in a function that none of them changes isn't understood)
         return refused if all(any(it.is_called(names) for it in functions) for names in faulty) else []
 
-    def tried_alone(self, crate, edit):
-        """Returns whether the prover refuses it, and what is said of that: as in rt ci, what isn't refused over what is kept is tried again
-        from nothing. (Some kits answer with a word for each way it can end.)"""
+    def tried_alone(self, crate, edit, kept=None):
+        """Returns whether the prover refuses it, and what is said of that. (Some kits answer with a word for each way it can end.)"""
         begun = time.monotonic()
-        with kept_of(crate) as kept:
-            found, said = self.rt.must_fail(crate, edit, ONE_JOB, kept)
-            if kept and found not in REFUSED:
-                found, said = self.rt.must_fail(crate, edit, ONE_JOB)
+        found, said = self.rt.must_fail(crate, edit, ONE_JOB, kept)
         return found in REFUSED, f"{said.partition('.edit: ')[2] or said} (alone, {time.monotonic() - begun:.0f} s)"
 
     def tell(self, edit, is_refused, said):
