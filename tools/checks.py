@@ -1,8 +1,9 @@
 #!/usr/bin/env python3
 """What tools/ci and tools/wrong_bodies share: the toolchain's functions, how many checks fit on this machine, a folder that goes away
-however they end, and the line that says how far a long run is."""
+however they end, the lock of what is built, and the line that says how far a long run is."""
 
 import contextlib
+import fcntl
 import importlib.machinery
 import importlib.util
 import os
@@ -56,6 +57,15 @@ def room(prefix):
             if not os.path.exists(made):
                 break
             time.sleep(0.05)
+
+
+@contextlib.contextmanager
+def build_lock():
+    """Holds the lock of ./vdcp, which builds too."""
+    os.makedirs("out", exist_ok=True)
+    with open("out/vdcp.lock", "w", encoding="utf-8") as lock:
+        fcntl.flock(lock, fcntl.LOCK_EX)
+        yield
 
 
 def minutes(seconds):

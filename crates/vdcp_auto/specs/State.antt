@@ -20,7 +20,7 @@ pub record State : Type 0 where
   pub stop : Bool
   -- how many exchanges in a row were unanswered (in confirm mode, of those that ask for a reply)
   pub unanswered : ℕ
-  -- how many events are known to have been aired
+  -- how many events it takes for aired
   pub settled : ℕ
   -- how often the event's cue was lost (confirm mode)
   pub tries : ℕ

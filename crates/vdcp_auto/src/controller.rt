@@ -23,7 +23,7 @@ mod table;
 ///   `source` only look.
 /// - `hear` and `timeout` bring in what happens on the line; `receive` does both, and gives the
 ///   exchange that ended.
-/// - `take` and `stop` are commands of the operator, and `forget` withdraws them.
+/// - `take` and `stop` are calls of the operator, and `forget` withdraws them.
 /// - `tick` gives out the next command.
 #[derive(Drop)]
 pub struct Controller<S: Source> {
@@ -38,7 +38,7 @@ pub struct Controller<S: Source> {
     stop: bool,
     // how many exchanges in a row were unanswered (in confirm mode, of those that ask for a reply)
     unanswered: u32,
-    // how many events are known to have been aired
+    // how many events it takes for aired
     settled: usize,
     // how often the event's cue was lost (confirm mode)
     tries: u32,
@@ -169,7 +169,7 @@ impl<S: Source> Controller<S> {
         Some(self.command_in(next))
     }
 
-    /// How many events are known to have been aired. They are the first of the list.
+    /// How many events the controller takes for aired. They are the first of the list.
     pub fn settled(&self) -> usize
         ensures count { result ≡ self.now.state.settled }
         ensures within { result ≤ length (S.items self.now.source) }
@@ -243,8 +243,9 @@ impl<S: Source> Controller<S> {
         self.take = true;
     }
 
-    /// The operator wants to stop. The awaited exchange is still ended, then STOP and CLOSE go out. Once
-    /// the port is being closed or stopped, the call changes nothing.
+    /// The operator wants to stop. The awaited exchange is still ended; unless that ends the controller,
+    /// STOP and then CLOSE go out. Once CLOSE is next, or STOP is on its way, or after an end, the call
+    /// changes nothing.
     pub fn stop(&mut self)
         ensures { self.new ≡ record self.old { state = turns.stopped self.old.state } }
     {
@@ -258,8 +259,8 @@ impl<S: Source> Controller<S> {
         }
     }
 
-    /// The wishes of `take` and `stop` that the controller hasn't acted on are forgotten: so is an
-    /// automation that is started anew.
+    /// The wishes of `take` and `stop` that the controller hasn't acted on are forgotten, as where an
+    /// automation is started anew.
     pub fn forget(&mut self)
         ensures { self.new ≡ record self.old { state = turns.forgotten self.old.state } }
     {

@@ -8,7 +8,7 @@ use vdcp_words::{Command, Reply};
 /// What came for a command.
 #[derive(Clone, Copy, Debug, PartialEq, Eq)]
 pub enum Heard {
-    /// A reply of the port that was asked.
+    /// A reply: ACK or NAK, or one that the asked unit framed.
     Reply(Reply),
     /// Something else: no reply, or a message of another unit.
     Other,

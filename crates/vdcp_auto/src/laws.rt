@@ -24,7 +24,7 @@ ghost use Rattle.vdcp_auto.specs.Settled.{tells_of_play, has_open_play, settles,
 /// - the rule book allows each command of the log where it stands, and the one that is awaited now;
 /// - the next tick gives a command exactly where nothing is awaited and the controller hasn't ended,
 ///   and a command is awaited exactly where the controller awaits its answer;
-/// - where the next command is that of Halt or HaltClose, a STOP was sent before;
+/// - where the controller is ready in Halt or HaltClose, a STOP was sent before;
 /// - the controller's count of settled events is what the log shows to be settled;
 /// - the controller has ended Lost exactly where the log's last `limit` exchanges (in confirm mode,
 ///   requests) have no answer, and where that was true at no earlier point of the log;
@@ -35,7 +35,7 @@ pub fn reached_is_lawful()
     ensures { (plan : Plan) (state : State) (log : List Exchange) → Reached plan state log → IsLawful plan state log }
 {}
 
-/// Where the playlist's items are of bytes and the port's number is one, the command that is awaited and
+/// Where the list's items are of bytes and the port's number a byte, the command that is awaited and
 /// the one that the next tick gives can be written.
 pub fn commands_can_be_written()
     ensures awaited { (plan : Plan) (state : State) → All IsItem plan.list → plan.port < 256 →

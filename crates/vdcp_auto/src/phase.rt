@@ -25,10 +25,10 @@ pub enum Mode {
 ///   +-> Exists(k) -> Cue(k) -> Wait(k)        +-> Exists(k) -> Cue(k) <-> Wait(k)
 ///   |                             |           |                              |
 ///   |                             v           |                              v
-///   |              Probe(k) <-> Play(k)       |                 Play(k) <-> Probe(k)
-///   |                  |          |           |                                |
-///   |                  v          v           |                                v
-///   +- k + 1 ---------- Check(k)              +- k + 1 ------------------- Check(k)
+///   |              Probe(k) <-> Play(k)       |               Probe(k) <-> Play(k)
+///   |                  |          |           |                   |
+///   |                  v          v           |                   v
+///   +- k + 1 ---------- Check(k)              +- k + 1 ------- Check(k)
 ///   |                                         |
 ///   +- no event left -> Drain -> Close        +- no event left -> Drain -> Close
 /// ```

@@ -40,7 +40,7 @@ IsCaptureFailure name failure =
     ((number : ℕ) × (fault : ScriptLineFault) × (failure ≡ failures.ScriptLine name number fault))
     ⊎ ((failure ≡ failures.NotText name) ⊎ ((failure ≡ failures.Read name) ⊎ (failure ≡ failures.Memory)))
 
--- a row or a line is refused: one writer gained the line that says so, and the other nothing
+-- a row or the capture is refused: one writer gained the line that says so, and the other nothing
 pub record IsToldOnly (out out' err err' : Option (List ℕ)) : Type 0 where
   pub failure : Failure
   pub refused : status_of failure ≡ 1

@@ -18,8 +18,8 @@ use vdcp_text::Failure;
 /// a line for each command that wasn't allowed where it stands, one for each event that the exchanges show to be
 /// aired, and then how many exchanges there are, how many commands were forbidden, and how many events are reported.
 ///
-/// The status is 0 where no command was forbidden, and 1 where one was. It is also 1 where a row of the list or a line
-/// of the capture is refused, and 3 where a file can't be read or memory was refused: `err` gets a line of either, and
+/// The status is 0 where no command was forbidden, and 1 where one was. It is also 1 where a row of the list or the
+/// capture is refused, and 3 where a file can't be read or memory was refused: `err` gets a line of either, and
 /// `out` nothing. The list is read first. The status is 3 where a writer failed: nothing more is written to that one.
 /// `out` is flushed after the last line.
 pub fn do_judge<L: io::Read + Drop, C: io::Read + Drop, W: io::Write, E: io::Write>(
@@ -33,7 +33,7 @@ pub fn do_judge<L: io::Read + Drop, C: io::Read + Drop, W: io::Write, E: io::Wri
     ensures judged { result ≡ 0 → IsJudged settings (file list.entry.name (L.remaining list.entry.reader))
         (C.remaining capture.entry.reader) (W.contents out.old) (W.contents out.new) 0 }
     ensures untold { result ≡ 0 → Keeps (E.contents err.old) (E.contents err.new) }
-    // The status is 1 where a command was forbidden, and for a row or a line that is refused.
+    // The status is 1 where a command was forbidden, and for a row or a capture that is refused.
     ensures others { result ≡ 1 →
         ((forbidden : ℕ) × (0 < forbidden)
         × IsJudged settings (file list.entry.name (L.remaining list.entry.reader))

@@ -61,7 +61,7 @@ pub fn said_in_log(
 ) -> Result<Vec<Captured>, LineFault>
     ensures { IfOk result (λ said. Says settings Form.Log text.now said.items) }
 {
-    // (after this line some are missing)
+    // (before this line some are missing)
     if starts(text, "dropped ") {
         return Err(LineFault::Word);
     }
@@ -127,7 +127,7 @@ fn is_shown(
     Ok(shown.as_bytes() == text.as_bytes())
 }
 
-/// The message that a line can only show, if it shows one. `data` is the room for its bytes.
+/// The only message that a line can show, if it shows one. `data` is the room for its bytes.
 fn message_in<'d>(text: &str, data: &'d mut Vec<u8>) -> Result<Option<Message<'d>>, AllocError> {
     let mut words = text.split_whitespace();
     let (Some(_), Some(first)) = (words.next(), words.next()) else {

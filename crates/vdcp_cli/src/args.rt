@@ -378,7 +378,7 @@ fn open_again<'a>(alloc: Global) -> Result<Arg<'a>, AllocError> {
     flag(
         alloc,
         "open-again",
-        "With --resume, after the server was lost: a new run, from the first event that can't have aired",
+        "With --resume, after the server was lost: a new run, from the first event that isn't reported",
     )
     .requires_arg("resume")?
     .conflicts_with("journal")

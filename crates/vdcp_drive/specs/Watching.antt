@@ -1,4 +1,4 @@
--- What a watcher tells of a drive that it is lent.
+-- What a watcher tells of what it is lent.
 use Rattle.std.specs.Prelude.{List, [], ◌∷◌, ◌++◌, Option, Some, None}
 
 -- what it has watched, and then one more. A watcher that doesn't tell what it watched tells nothing

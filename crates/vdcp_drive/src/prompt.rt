@@ -28,8 +28,8 @@ use vdcp_wire::{Came, PIECE, Wire, WireFault};
 /// are the operator's. `controller`, `wire` and `passed` only look.
 ///
 /// Each message that comes is heard when its last byte is there, while a command is awaited; any other message
-/// is passed over and counted. A silence is a time-out. A message that a silence has torn is read on; only after
-/// a fault is all passed over until the next silence. Nothing that waits is dropped before a command.
+/// is passed over and counted. A silence or the close is a time-out. A message that a silence has torn is read on;
+/// only after a fault is all passed over until the next silence. Nothing that waits is dropped before a command.
 #[derive(Drop)]
 pub struct PromptDriver<S: Source, W: Wire> {
     controller: Controller<S>,

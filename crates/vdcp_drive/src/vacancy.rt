@@ -14,7 +14,7 @@ use vdcp_words::{Command, Reply};
 pub enum Vacancy {
     /// It is open and selected, nothing is cued, and nothing plays.
     Vacant,
-    /// Something is cued, is being cued or plays: its state byte.
+    /// Its state byte, which is another than 01h.
     Occupied(u8),
     /// OPEN was denied.
     Denied,

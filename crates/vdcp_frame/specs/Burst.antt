@@ -1,4 +1,4 @@
--- The reading of a burst as a computation, which Reading.antt says in words.
+-- The reading of a burst as a computation; Reading.antt says what it is.
 use Rattle.std.specs.Prelude.{ℕ, zero, suc, ◌+◌, ◌-◌, List, [], ◌∷◌, length, take, drop, nat_lt, if◌then◌else◌}
 use Rattle.vdcp_frame.specs.Message.{Content}
 use Rattle.vdcp_frame.specs.Reading.{End, clean, cut, fault, long_end, burst_limit}

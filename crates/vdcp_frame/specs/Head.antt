@@ -53,8 +53,8 @@ size_of (part needs) = needs
 size_of (wrong which size) = size
 size_of (found message size) = size
 
--- what each answer means. While there are fewer bytes than are needed, no message is whole and none is
--- ruled out
+-- what each head means. As long as fewer bytes have come than are needed, whatever they are, they begin a
+-- message and hold no whole one
 pub record IsPart (bytes : List ℕ) (needs : ℕ) : Type 0 where
   pub short : length bytes < needs
   pub most : needs ≤ 258

@@ -91,7 +91,7 @@ pub record FollowsReading (burst : List ℕ) (ms : List Content) (taken : ℕ) (
 abbrev pub FollowsFault : List ℕ → List Content → Fault → ℕ → Type 0
 FollowsFault burst ms which place = (later : List ℕ) → Reads (burst ++ later) ms (fault which place)
 
--- a reader that took the burst so far and gave these messages is so far
+-- how far a reader is that took this burst and gave these messages
 abbrev pub Follows : List ℕ → List Content → Progress → Type 0
 Follows burst ms (reading taken held) = FollowsReading burst ms taken held
 Follows burst ms failed = (which : Fault) × (place : ℕ) × FollowsFault burst ms which place

@@ -38,8 +38,9 @@ pub fn one_reading()
         Reads burst ms end → (ms ≡ messages_of burst) × (end ≡ end_of burst) }
 {}
 
-/// A framed message of which exactly one byte from CMD-1 to the checksum is changed reads as a bad
-/// sum at the place of the checksum, whatever whole messages come before and whatever follows.
+/// A framed message in a burst's first 4,096 bytes, of which exactly one byte from CMD-1 to the
+/// checksum is changed, reads as a bad sum at the place of the checksum, whatever whole messages come
+/// before and whatever follows.
 pub fn one_changed_byte()
     ensures { (kind unit code : ℕ) (rest frame : List ℕ) (i byte : ℕ) (ms : List Content) (before more : List ℕ) →
         Spells (framed kind unit code rest) frame →

@@ -5,7 +5,7 @@ pub enum Message<'a> {
     Ack,
     /// NAK: the byte 05h and one byte, which may be any.
     Nak(u8),
-    /// A framed message: a command or a sense reply.
+    /// A framed message, of whatever type and code.
     Framed {
         /// The command type, 0 to 15: the upper half of CMD-1.
         kind: u8,

@@ -55,7 +55,7 @@ impl Moment {
 /// The form of a moment's text: 0 stands for any digit.
 const FORM: &[u8; 24] = b"0000-00-00T00:00:00.000Z";
 
-/// The latest time that is told apart from later ones.
+/// The latest time that is shown, in milliseconds after 1970 began: a later one counts as it.
 const LAST: u64 = 253_402_207_200_000;
 
 /// What a clock in UTC shows this many milliseconds after 1970 began.

@@ -13,7 +13,7 @@ pub struct Heading {
     pub unit: u8,
     /// The number of the server's port.
     pub port: u8,
-    /// How many unanswered exchanges in a row the controller bears.
+    /// How many unanswered exchanges in a row end the controller Lost.
     pub limit: u32,
 }
 

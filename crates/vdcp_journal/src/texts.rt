@@ -78,7 +78,7 @@ pub(crate) fn digest_in(text: &[u8]) -> Option<[u8; 32]>
 /// Most bytes of a message.
 const LONGEST: usize = 258;
 
-/// The bytes that hexadecimal digits name, where they are a message's at most.
+/// The bytes that hexadecimal digits name, 258 at most.
 fn bytes_in<'a>(digits: &[u8], room: &'a mut [u8; 258]) -> Option<&'a [u8]>
     ensures { (bytes : List ℕ) → All (λ byte. byte < 256) bytes → length bytes ≤ 258 → encode_lower bytes ≡ digits.now →
         option_copied result ≡ Some bytes }

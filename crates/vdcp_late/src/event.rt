@@ -27,7 +27,7 @@ pub enum LateEvent {
     /// These bytes, of which no message is read, come into the queue down at this place, or at its end.
     JunkDown(usize, Burst),
     /// These bytes, of which no answer to a command is heard, come into the queue up at this place, or at its end:
-    /// nothing is heard of them, or what no controller asks for, or a NAK other than 01h; in confirm mode also
+    /// nothing is heard of them, or what isn't a reply, or a NAK other than 01h; in confirm mode also
     /// ACK and any NAK.
     JunkUp(usize, Burst),
     /// Nothing came in time, whatever is on the way.

@@ -20,8 +20,8 @@ ghost use Rattle.vdcp_world.specs.declared.event.Event.{Event};
 ///   to be aired;
 /// - the rule book allows each command of the log where it stands, and the one that is awaited;
 /// - Done means that the whole playlist went to air and is reported; Missing(k), that event k's clip isn't in the
-///   catalogue, and in confirm mode Refused(k), that since the last exchange that settles `limit` empty statuses
-///   came after a cue of event k; and either, that the events before k went to air and are reported; Lost, that the
+///   catalogue, and in confirm mode Refused(k), that `limit` or more empty statuses came after a cue of event k,
+///   since which nothing settled; and both, that the events before k went to air and are reported; Lost, that the
 ///   log shows it lost.
 pub fn a_late_line_keeps_the_headline()
     ensures { (c : LateChannel) → IsLateReached c → LateHeadline c }

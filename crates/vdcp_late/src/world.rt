@@ -64,7 +64,7 @@ impl<S: Source, C: Catalogue, A: Allocator + Copy> LateWorld<S, C, A> {
         }
     }
 
-    /// As `new`, but in confirm mode, in which the port may have nothing in its cued slot: bits 1 and 7 of its
+    /// As `new`, but in confirm mode, in which the port's cued slot has to be empty: bits 1 and 7 of its
     /// `status_byte` are off. Something may play. Receipts may come to the controller from nowhere.
     pub fn confirming(alloc: A, source: S, port: Port<C>, limit: u32) -> Self
         requires nothing_cued { bit_and (state_byte port.state) 0x82 ≡ 0 }

@@ -58,7 +58,8 @@ fn last_length(row: &ByteRecord, rate: Rate) -> Option<Timecode>
 ///
 /// The first row that is refused is reported as `TooMany` where 10,000 stand before it, else as `Columns`,
 /// `Id` (also where the field isn't UTF-8), `Time`: a text that is no lawful time code, or one of
-/// frame 0; or `Twice`, where an earlier row has its ID. `Read` is a failure of the reader.
+/// frame 0; or `Twice`, where an earlier row has its ID. `Read`: the reader failed; `Memory`:
+/// memory was refused.
 pub fn read_catalogue<R: Read + Drop>(
     alloc: Global,
     reader: R,

@@ -86,7 +86,8 @@ fn part_in(start: &[u8], duration: &[u8], rate: Rate) -> Option<Option<Part>>
 ///
 /// The first row that is refused is reported as `TooMany` where 10,000 stand before it, else as
 /// `Columns`, `Id` (also where the field isn't UTF-8), or `Time`: a text that is no lawful time code,
-/// one of the two fields empty, or a duration of frame 0. `Read` is a failure of the reader.
+/// one of the two fields empty, or a duration of frame 0. `Read`: the reader failed; `Memory`: memory was
+/// refused.
 pub fn read_list<R: Read + Drop>(alloc: Global, reader: R, rate: Rate) -> Result<List, ListFault>
     ensures items { IfOk result (λ list. IsListOf rate (R.remaining reader) (items_of list)) }
     ensures refused { IfErr result (IsListFaultOf rate (R.remaining reader)) }

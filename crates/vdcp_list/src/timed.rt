@@ -20,7 +20,7 @@ pub trait Timed {
 
     ghost known: { Self → List ℕ };
 
-    /// When the PLAY that aired the event went out.
+    /// When the event's last PLAY went out.
     fn played(&self) -> &[u8]
         ensures { result.now ≡ played self.now };
 
@@ -48,8 +48,8 @@ pub fn write_timed_heading<S: Source, W: Write, A: Allocator>(
     write_out(writer, text.as_slice())
 }
 
-/// Writes the rows that `write_events` writes of the events from event `from` on, with two columns more: the times of
-/// each event, of which there are as many as events.
+/// Writes the rows that `write_events` writes of as many events from event `from` on as there are `times`, with two
+/// columns more: the event's times.
 pub fn write_timed_events<S: Source, T: Timed, W: Write, A: Allocator>(
     alloc: A,
     source: &S,

@@ -45,7 +45,7 @@ pub enum Doing {
     Lost,
     /// It is lost since its exchange has taken too long.
     Late,
-    /// It goes on twice.
+    /// It goes on twice; a command once, where it is too late for the copy.
     Copied,
     /// Only this many of its first bytes go on.
     Cut(usize),

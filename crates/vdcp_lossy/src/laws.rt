@@ -10,8 +10,8 @@ ghost use Rattle.vdcp_world.specs.Channel.{Channel, after_events};
 
 /// Everything `lossy` does is a sequence of channel events, those of which the headline speaks. On the way down
 /// they leave the port that the bursts which go on leave, one after another, and the answer to the last of them;
-/// on the way up they leave the controller that hears what goes on as one burst. A receipt is forged in confirm
-/// mode alone.
+/// on the way up they leave the controller that hears what goes on as one burst. Of a forged receipt this holds
+/// in confirm mode alone.
 pub fn what_is_done_is_events()
     ensures down { (c : Channel) (doing : Doing) → CanBe way.Down c.down doing →
         after_events c (events_down doing c.down) ≡ answering c (goes_on doing c.down) }

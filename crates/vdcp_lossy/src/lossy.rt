@@ -23,7 +23,7 @@ pub struct LossySettings {
     pub seed: u32,
     /// What is done with how many bursts.
     pub chances: Chances,
-    /// How long a silence ends a burst, in milliseconds, 1 to 60,000: more than the silence of the server.
+    /// The silence that ends a burst, in milliseconds, 1 to 60,000: more than the server's.
     pub silence: u32,
     /// How long after its command anything may still go on, in milliseconds, 1 to 60,000: less than the silence of the
     /// automation.
@@ -33,7 +33,7 @@ pub struct LossySettings {
 }
 
 /// Carries bursts between the first automation that connects to `address` and the server at `server`, each an
-/// IPv4 address, a colon and a port number; for `address` 0 is one that the system chooses. `out` gets a line
+/// IPv4 address, a colon and a TCP port; for `address` 0 is one that the system chooses. `out` gets a line
 /// with the address that is listened at, one for each burst, which says what was done with it, one that says
 /// whether either end has `closed` or the turns are `spent`, and nine counts. Each line is flushed at once.
 ///

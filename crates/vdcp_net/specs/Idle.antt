@@ -32,7 +32,7 @@ abbrev pub told_with : Patience → Option Told → Option Told
 told_with (patience.Waits silences) told = told
 told_with patience.GaveUp told = adds_came close told
 
--- of a wire that gives up, what it tells, how often it failed, and how often it was listened to
+-- of a wire that gives up, what it tells, and how often it failed
 abbrev pub idling_told : {W : Type 0} → (W → Option Told) → Idling W → Option Told
 idling_told told w = told_with w.patience (told w.wire)
 

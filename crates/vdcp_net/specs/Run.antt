@@ -289,7 +289,7 @@ pub record IsRun (settings : RunSettings) (list : File) (out out' : Option (List
   pub gained : Appends out out' (end_text end)
   pub status_is : status ≡ run_status end
 
--- the list has fewer events than the one that a controller is to begin with, if it is said
+-- the number of the event to begin with, if it is said, is above the list's length
 abbrev pub IsNoEvent : Option ℕ → List Item → Failure → Type 0
 IsNoEvent None items failure = ⊥
 IsNoEvent (Some event) items failure = (length items < event) × (failure ≡ failures.NoEvent event)

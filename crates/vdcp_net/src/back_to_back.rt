@@ -56,7 +56,8 @@ pub struct BackToBack<'a, R: Clock, K: Journal> {
 }
 
 impl<'a, R: Clock, K: Journal> BackToBack<'a, R, K> {
-    /// Over this one, by these lengths, with this many milliseconds from one STATUS to the next at least.
+    /// Over this one, by these lengths, with this many milliseconds from one STATUS to the next at least, but to the
+    /// one after a take.
     pub fn new(keep: K, clock: &'a R, poll: u32, lengths: &'a Table) -> Self
         ensures keep { result.keep ≡ keep }
         ensures air { result.air ≡ Air.Unknown }

@@ -77,7 +77,7 @@ pub struct Paced<'a, R: Clock, W: Wire> {
     pace: Pace,
     clock: &'a R,
     began: Instant,
-    // How long a silence ends a burst; the time now, when something came last (in nanoseconds); the frames that passed.
+    // In nanoseconds the silence that ends a burst, the time now, and when something came last; the frames that passed.
     silence: u64,
     now: u64,
     heard: u64,

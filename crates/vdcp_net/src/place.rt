@@ -17,7 +17,7 @@ pub enum Place {
     Free(String),
     /// The file of this name has an older list. A new one is written beside it, and takes its place once it is whole.
     Taken(String),
-    /// It is written to what has the name: a device or a pipe, which keeps no older list.
+    /// It is written to what has the name: a device, a pipe or a link to nothing, where no older list is kept.
     Device,
 }
 

@@ -18,7 +18,7 @@ const REDRAWN_AFTER: u128 = 100;
 /// The columns of a line at most, so that no terminal breaks it in two.
 const MOST_COLUMNS: usize = 79;
 
-/// An answered status takes two waits: one for its bytes, and one for the silence that ends it.
+/// An answered status takes two waits, for its bytes and for the silence that ends it; one where it is heard at once.
 const MANY_WAITS: u32 = 2 * MANY;
 
 /// Puts the cursor at the front of its line, and erases that.

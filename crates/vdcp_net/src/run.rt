@@ -220,11 +220,11 @@ fn write_fault<E: io::Write>(failure: Option<Failure<'_>>, err: &mut E) -> io::R
     }
 }
 
-/// Plays a list through the port of a server at `address`: an IPv4 address, a colon and a port number. It
+/// Plays a list through the port of a server at `address`: an IPv4 address, a colon and a TCP port. It
 /// reads the list, connects, and runs a new controller until that ends, the other end closes, all listens
 /// are made or the line fails. Then, whatever the end is, it makes the as-run file, if one is named, with a
 /// row for each reported event; and `out` gets how many events are reported, and how the controller ended,
-/// and is flushed. `err` gets the fault line of the as-run file, if there is one, and then that of the line.
+/// and is flushed. `err` gets the fault lines of the as-run file, the journal and the line, of which there are any.
 ///
 /// A controller begins with the list's first event, or with the one that is said, or after what a journal shows; the
 /// numbers that are told are always those of the whole list.
@@ -234,17 +234,18 @@ fn write_fault<E: io::Write>(failure: Option<Failure<'_>>, err: &mut E) -> io::R
 ///
 /// The status is 0 where the controller ended Done or Stopped, and 1 where it ended Denied, Missing, Refused,
 /// Foreign or Strange. It is 3 where it ended Lost, where the other end closed, the listens are used up or
-/// the line failed, and where the as-run list isn't written.
+/// the line failed, and where the as-run list or a row of the journal isn't written.
 ///
-/// In confirm mode the port is asked first, by OPEN, SELECT and STATUS. Where something is cued at it or plays, the
-/// run ends. Questions that aren't answered, as many as the limit in a row, end it as Lost, and an OPEN that is
-/// denied as Denied.
+/// In confirm mode the port is asked first, by OPEN, SELECT and STATUS, where the next command is OPEN. Where something
+/// is cued at it or plays, the run ends. Questions that aren't answered, as many as the limit in a row, end it as Lost,
+/// and an OPEN that is denied as Denied.
 ///
 /// Where it doesn't come to this, no file is made, `out` gets nothing, and `err` gets one fault line. The
 /// status is 2 where the address is none, which is tested before the list is read; 1 where a row of the list
 /// or of the journal is refused, where the event to begin with isn't there or may have aired, and where the port isn't
-/// empty; and 3 where the list can't be read, memory was refused or nobody takes the connection. It is 3 too where `out`
-/// or `err` failed. To a writer that failed nothing more is written.
+/// empty; and 3 where the list can't be read, the as-run file can't be made or is the list or the journal, the journal
+/// exists, is in use or can't be opened, read or written, memory was refused or nobody takes the connection. It is 3
+/// too where `out` or `err` failed. To a writer that failed nothing more is written.
 pub fn do_run<
     R: Net + Files<File = File> + Clock + AllocGlobal,
     L: io::Read + Drop,
@@ -331,7 +332,7 @@ fn run_list<
     }
 }
 
-// Tests that a list has the event that a controller is to begin with, if it is said, or ends before it.
+// Tests that the number of the event to begin with, if it is said, isn't above how many events the list has.
 fn test_event<'a, S: Source>(source: &S, from: Option<usize>) -> Result<(), Failure<'a>>
     ensures listed { OnOk result (first_event from ≤ length (S.items source.now)) }
     ensures missing { IfErr result (IsNoEvent from (S.items source.now)) }

@@ -38,7 +38,7 @@ pub struct ServeSettings {
     pub rate: Rate,
     /// When frames pass.
     pub pace: Pace,
-    /// How long a silence ends a burst, in milliseconds, 1 to 60,000.
+    /// The silence that ends a burst, in milliseconds, 1 to 60,000.
     pub silence: u32,
     /// The most turns that are made, each a wait for bytes or for a silence, or for the next connection.
     pub turns: u32,
@@ -94,7 +94,7 @@ impl ServeEnd {
 }
 
 /// Serves a new port with the clips of a catalogue to the first automation that connects to `address`: an
-/// IPv4 address, a colon and a port number, 0 for one that the system chooses. `out` gets a line with the
+/// IPv4 address, a colon and a TCP port, 0 for one that the system chooses. `out` gets a line with the
 /// address that is listened at, which is flushed before the connection is taken, and then one that says
 /// whether the automation has `closed` the connection, it was `idle` for too long, or the turns are `spent`. The other
 /// connections are refused from then on.
@@ -102,8 +102,8 @@ impl ServeEnd {
 /// A server that stays keeps its port when a connection ends, is idle for too long or fails, and takes the next one,
 /// which finds the port as it is; meanwhile frames pass. It ends where the turns are spent.
 ///
-/// By the clock a frame passes when its time is over, whatever comes meanwhile, and a wait is five milliseconds at
-/// most.
+/// By the clock a frame passes when its time is over, whatever comes meanwhile, and a wait for bytes is five
+/// milliseconds at most.
 ///
 /// Where all is told, the writer gets a line for each message that came (`<-`) and went out (`->`), with the words
 /// that it has, one for each burst that is at fault or cut, and one for each item that goes to air (`aired` and its

@@ -16,7 +16,7 @@ use vdcp_wire::{Wire, WireFault};
 /// What a wait for a connection brings.
 #[derive(Drop)]
 pub enum Coming<W> {
-    /// Nobody came for the time of a silence.
+    /// Nobody came for the time of a silence, or by the clock of a frame.
     Nobody,
     /// Somebody came, and the line failed at once.
     Failed,
@@ -28,7 +28,7 @@ pub enum Coming<W> {
 pub trait Connections<W: Wire> {
     ghost use Rattle.std.specs.Prelude.{◌≡◌, IfOk};
 
-    /// Waits for the next line, no longer than a silence lasts.
+    /// Waits for the next line, no longer than a silence or, by the clock, a frame lasts.
     fn wait(&mut self) -> Result<Coming<W>, WireFault>
         ensures works { IfOk result (λ coming. (line : W) → coming ≡ Coming.Line line → W.failures line ≡ 0) };
 }

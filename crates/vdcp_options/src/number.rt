@@ -44,7 +44,7 @@ pub const LIMIT: NumberOption = NumberOption {
     help: "The controller gives up after this many unanswered exchanges in a row, 1 to 1000",
 };
 
-/// The limit over TCP: the port isn't given up before the system has had the time to send twice what was lost.
+/// The limit over TCP: before the port is given up the system can send what was lost again, and once more.
 pub const RUN_LIMIT: NumberOption = NumberOption {
     name: "limit",
     value_name: "L",

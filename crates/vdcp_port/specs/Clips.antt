@@ -25,7 +25,7 @@ whole id = record { id = id; part = None }
 abbrev pub part_of : ClipId → List ℕ → List ℕ → Item
 part_of id start duration = record { id = id; part = Some (record { start = start; duration = duration }) }
 
--- of a clip of some length, or of one that isn't known, the whole or a part can be cued
+-- whether a clip of this length, or a part of it, can be cued; an unknown clip can't
 abbrev pub can_cue : Option Timecode → Option Part → Bool
 can_cue None part = false
 can_cue (Some clip) None = true

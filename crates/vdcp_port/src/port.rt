@@ -14,9 +14,9 @@ const REFUSED: Reply = Reply::Nak(0x01);
 /// The server's end of one playout channel: a port that its controller opens, selects, and lets cue and
 /// play. It speaks only in answer.
 ///
-/// `answer` and `burst_answer` bring in what the controller sends. `ready` and `ended`, or `frame` at
-/// each frame, bring in what the clips do. `start_anew` forgets all that came. `status_byte`, `unit` and
-/// `number` only look.
+/// `answer`, `burst_answer` and `answer_into` bring in what the controller sends. `ready` and `ended`, or
+/// `frame` at each frame, bring in what the clips do. `start_anew` forgets all that came. `status_byte`,
+/// `unit` and `number` only look.
 ///
 /// ```text
 ///        OPEN          SELECT

@@ -62,7 +62,7 @@ impl ProbeFault<'_> {
     }
 }
 
-/// Puts rows of the port's table to a server at `address`: an IPv4 address, a colon and a port number. It stops
+/// Puts rows of the port's table to a server at `address`: an IPv4 address, a colon and a TCP port. It stops
 /// what its port plays. `out` gets a line for each row, as soon as it is known, and at last one with how many rows
 /// were put, how many were kept, how many differ, and how many of these can falsify an as-run list.
 ///
@@ -162,7 +162,8 @@ fn probe_connected<T: io::Read + io::Write + OpenStream + Drop, C: Catalogue, W:
     }
 }
 
-/// Puts rows to a server over a wire, and writes what is found of each, and then the counts.
+/// Puts those of the rows that `settings.only` has to a server over a wire, and writes what is found of each, and then
+/// the counts. Of the settings nothing else counts: the port is asked as `naming` says, and is stopped.
 pub fn probe_rows<C: Catalogue, T: Wire, W: io::Write>(
     alloc: Global,
     clips: &C,

@@ -12,7 +12,7 @@ pub struct Told {
     pub differs: Option<String>,
 }
 
-/// Writes the line of a row, and where it can falsify a list, a second one that says how.
+/// Writes the line of a row, and where it differs and can falsify a list, a second one that says how.
 pub fn write_told<W: io::Write>(told: &Told, out: &mut W) -> io::Result<()>
     ensures { OnOk result (Appends (W.contents out.old) (W.contents out.new) (told_text told.now)) }
 {

@@ -52,8 +52,8 @@ abbrev pub event_told : AsrunSettings → ℕ → Option ℕ → List ℕ
 event_told settings from event = if settings.may_have_aired then open_text from event else []
 
 -- a run of a journal of these items shows this text, and this is told of it: its rows are those of a controller of the
--- items from its first event on, and the text is the rows of what that one reports; its count is what the log shows that
--- the rows show. The event that may have aired besides is told, if that is wanted
+-- items from its first event on, and the text is the rows of what that one reports; its count is what the log of the
+-- rows shows. The event that may have aired besides is told, if that is wanted
 pub record ShowsRun (settings : AsrunSettings) (items : List Item) (heading : Heading) (run : Run)
     (text told : List ℕ) : Type 0 where
   pub within : run.from ≤ length items

@@ -20,8 +20,9 @@ use vdcp_text::Failure;
 
 /// Begins a new controller after the last run of the journal of this name, where it is one of what is wanted: at the event
 /// of this number, if the operator says one, or else at the first that the run doesn't report. Where that may have aired,
-/// `MayHaveAired`. A run that is done or stopped is told again, where the operator says nothing. The row that says where
-/// the controller begins is written with the first command. Where it is refused nothing is written.
+/// `MayHaveAired`; for a number above the list's length, `NoEvent`. A run that is done or stopped is told again, where
+/// the operator says nothing. The row that says where the controller begins is written with the first command. Where
+/// it is refused nothing is written.
 pub fn begin_again<'a, 'r, 's, R: Files<File = File> + Clock + AllocGlobal, S: Source>(
     rt: &'r R,
     name: &'a str,
@@ -101,7 +102,7 @@ fn beginning<'a, S: Source>(
     }
 }
 
-// The event of this number, if the list has it or ends before it.
+// This number, unless it is above how many events the list has.
 fn listed<'a, S: Source>(source: &S, event: usize) -> Result<usize, Failure<'a>>
     ensures event { IfOk result (λ k. k ≡ event) }
     ensures listed { IfOk result (λ k. k ≤ length (S.items source.now)) }

@@ -28,8 +28,8 @@ pub struct AsrunSettings {
     pub may_have_aired: bool,
 }
 
-/// Prints the as-run list that a journal of this list shows: run by run, the events that the controller reports to which
-/// the run's rows were given, and the times of each if they are wanted. A torn last row counts as none.
+/// Prints the as-run list that a journal of this list shows: run by run, the events that a controller given the run's
+/// rows reports, and the times of each if they are wanted. A torn last row counts as none.
 ///
 /// The status is 0 where it is printed, 1 where a row of the list or of the journal is refused, and 3 where a file
 /// can't be read, memory was refused or a writer failed. The list is read first. Where it isn't 0, `err` gets one
@@ -215,7 +215,7 @@ fn add_run<'a, S: Source>(
     add_event(settings, run.from, found.open, &mut shown.told)
 }
 
-// Adds the rows of the events from one on that aired then.
+// Adds the rows of the events that a run reports.
 fn add_reported<'a, S: Source>(
     alloc: Global,
     events: &S,

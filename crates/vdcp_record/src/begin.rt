@@ -9,8 +9,8 @@ use std::rt::{Clock, Files};
 use vdcp_journal::Heading;
 use vdcp_text::Failure;
 
-/// Makes a journal: its file, with the first row. Both are safe when this returns. `Exists` where there is a file of
-/// this name, and then it stays as it is.
+/// Makes a journal: its file, with the first row. Both are safe then, where the system can say that of a folder.
+/// `Exists` where there is a file of this name, which stays as it is; else `Open`, `InUse`, `Write` or `Memory`.
 pub fn begin_journal<'a, 'r, R: Files<File = File> + Clock + AllocGlobal>(
     rt: &'r R,
     name: &'a str,

@@ -2,7 +2,7 @@
 //!
 //! `begin_journal` makes a journal's file and gives a `Recorder`, which keeps each command there before it goes out: its
 //! `run` and `run_prompt` run an automation, and `finish` writes what is left. `resume_journal` makes the controller of
-//! a journal's last run anew, and a `Recorder` that appends to it; `replay` does so with a journal's bytes alone.
+//! a journal's last run anew, and a `Recorder` that appends to it; `replay` makes the controller of bytes alone.
 //! `begin_again` begins a new controller after that run. `do_asrun` prints the as-run list that a journal shows, as its
 //! `AsrunSettings` say. Each failure is told in one line.
 //!

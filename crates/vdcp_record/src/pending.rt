@@ -12,7 +12,7 @@ use vdcp_text::Failure;
 #[derive(Clone, Copy, Debug, PartialEq, Eq)]
 pub enum Pending {
     Nothing,
-    /// What ended the last exchange.
+    /// What ended the last exchange, or the event that the run begins with.
     End(Row),
     /// Nothing, whatever comes: this befell the journal.
     Failed(RecordFault),

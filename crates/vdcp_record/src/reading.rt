@@ -37,8 +37,8 @@ pub struct Replayed<S: Source> {
 }
 
 /// Gives the rows of the last run of a journal, by its bytes, to a new controller of the list's events from the run's
-/// first on, and times out the exchange that was open. Refused where it is no journal of what is wanted, with the
-/// failure of this name.
+/// first on, and times out the exchange that was open. `JournalRow` where it is no journal of what is wanted, and
+/// `Memory`.
 pub fn replay<'a, S: Source + Drop>(
     alloc: Global,
     name: &'a str,

@@ -140,7 +140,7 @@ impl<'a, 'r, R: Clock + AllocGlobal, F: JournalFile + Drop> Recorder<'a, 'r, R, 
         });
     }
 
-    /// Notes the operator's word on the event that the run begins with. It is written with the first command.
+    /// Notes the event that the run begins with. It is written with the first command.
     pub fn note_from(&mut self, event: usize)
         ensures { (time : Moment) × (self.new ≡ record self.old
             { pending = ended self.old.pending (record { time = time; note = From event }) }) }

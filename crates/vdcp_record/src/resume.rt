@@ -22,7 +22,7 @@ use vdcp_text::Failure;
 /// What goes on from a journal in a file.
 #[derive(Drop)]
 pub struct Resumption<'a, 'r, R, S: Source> {
-    /// It plays the list's events from one on.
+    /// It plays the list from an event on.
     pub controller: Controller<Rest<S>>,
     /// It appends to the journal. None where the controller has ended: there is nothing to send.
     pub recorder: Option<Recorder<'a, 'r, R, File>>,

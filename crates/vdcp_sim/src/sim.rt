@@ -44,7 +44,7 @@ pub struct SimSettings {
 /// each item that went to air, and then how many events are reported, how many exchanges ended, and how the
 /// controller ended.
 ///
-/// The status is 0 whatever came of the events. It is 1 where a row or a line is refused, and 3 where a
+/// The status is 0 whatever came of the events. It is 1 where a row or the script is refused, and 3 where a
 /// file can't be read or memory was refused: `err` gets a line of either, and `out` nothing. The list is
 /// read first, and then the catalogue. The status is 3 where a writer failed: nothing more is written to
 /// that one. `out` is flushed after the last line.

@@ -21,11 +21,11 @@ pub enum Failure<'a> {
     Read(&'a str),
     /// A row of the file of this name, counted from 1, is refused.
     Row(&'a str, usize, RowFault),
-    /// A line of the script of this name, counted from 1, is refused.
+    /// A line of the script or capture of this name, counted from 1, is refused.
     ScriptLine(&'a str, usize, ScriptLineFault),
     /// The script of this name has too many events.
     TooManyEvents(&'a str),
-    /// The script of this name isn't UTF-8.
+    /// The script or capture of this name isn't UTF-8.
     NotText(&'a str),
     /// The file of this name can't be written.
     Write(&'a str),
@@ -41,7 +41,7 @@ pub enum Failure<'a> {
     MayHaveAired(usize),
     /// The list has no event of this number, counted from 0.
     NoEvent(usize),
-    /// The address isn't an IPv4 address, a colon and a port number.
+    /// The address isn't an IPv4 address, a colon and a TCP port.
     Address,
     /// Nobody takes the connection.
     Connect,
@@ -181,10 +181,10 @@ impl fmt::Display for RowFault {
     }
 }
 
-/// Why a line of a script is refused.
+/// Why a line of a script or of a capture is refused.
 #[derive(Clone, Copy, Debug, PartialEq, Eq)]
 pub enum ScriptLineFault {
-    /// No event has its words.
+    /// It hasn't the words of an event, or in a capture the form of a line.
     Word,
     /// Its number isn't one that it can have.
     Number,

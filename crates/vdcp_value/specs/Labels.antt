@@ -4,7 +4,7 @@ use Rattle.vdcp_value.specs.declared.label.Label.{Label}
 use Rattle.vdcp_value.specs.declared.rate.Rate.{Rate}
 use Rattle.vdcp_value.specs.declared.rate.Rate.TheVariants.{F24, F25, F30, D30}
 
--- how many frame numbers a second has
+-- a label's frames are below this
 abbrev pub frames_per_second : Rate → ℕ
 frames_per_second F24 = 24
 frames_per_second F25 = 25

@@ -17,7 +17,7 @@ pub enum Rate {
 }
 
 impl Rate {
-    /// How many frame numbers a second has.
+    /// A label's frames are below this.
     pub(crate) fn frames_per_second(self) -> u32
         ensures { result ≡ frames_per_second self }
     {

@@ -22,8 +22,8 @@ pub record Streamed : Type 0 where
 abbrev pub Takes : Option (List ℕ) → Option (List ℕ) → Type 0
 Takes old new = (bytes : List ℕ) × Consumes old new bytes
 
--- what a read that failed so brought, or else the failure: it waited long enough, or it was interrupted. The system
--- gives up a connection in which nothing is acknowledged by another kind than that of a read that waited
+-- what a read that failed so brought, or else the failure: it waited long enough, or it was interrupted. Where the
+-- system gives up a connection, nothing being acknowledged, the kind isn't that of a read that waited
 abbrev pub came_of_kind : ErrorKind → Error → Result Came Error
 came_of_kind WouldBlock error = Ok came.Silence
 came_of_kind Interrupted error = Ok (came.Bytes 0)

@@ -17,8 +17,8 @@ pub enum AcceptFault {
     Writer,
 }
 
-/// Listens at an address, of which port 0 is one that the system chooses. Once it listens, `out` gets a line with the
-/// address, and is flushed.
+/// Listens at an address; for TCP port 0 the system chooses one. Once it listens, `out` gets a line with the address,
+/// and is flushed.
 pub fn listen_at<R: Net, W: io::Write>(
     rt: &R,
     address: SocketAddrV4,

@@ -1,4 +1,4 @@
--- The reading of a word as a computation, which Commands.antt and Replies.antt say in words.
+-- The reading of a word as a computation; Commands.antt and Replies.antt say what it is.
 use Rattle.std.specs.Prelude.{ℕ, not, nat_eq, nat_lt, if◌then◌else◌, List, [], ◌∷◌, length, take, drop, Option, Some, None, Result, Ok, Err}
 use Rattle.vdcp_value.specs.Bytes.{are_bytes}
 use Rattle.vdcp_value.specs.Ids.{id_of}

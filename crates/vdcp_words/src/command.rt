@@ -30,7 +30,7 @@ pub enum Command {
     /// CUE WITH DATA: the clip, and the start and the duration of the part to cue, both as packed
     /// BCD time codes in the order frames, seconds, minutes, hours.
     CueData(ClipId, [u8; 4], [u8; 4]),
-    /// PLAY: airs what is cued.
+    /// PLAY: airs the item whose cue is done.
     Play,
     /// STOP: empties the port's slots.
     Stop,

@@ -6,7 +6,7 @@ pub enum WordFault {
     /// An ACK or a NAK was read as a command.
     #[error("an answer and no command")]
     NotCommand,
-    /// The type and code stand for no word of the table.
+    /// No command, or where a reply is read no reply, has the type and code.
     #[error("an unknown type and code")]
     Unknown,
     /// The type and code stand for a word, but the data has another length: for a command any other,

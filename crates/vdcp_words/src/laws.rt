@@ -99,7 +99,7 @@ pub fn reply_is_read_first()
     written_is_read();
 }
 
-/// No bytes read as no message.
+/// An empty burst: no message.
 pub fn no_bytes_are_no_message()
     ensures { (ms : List Content) (end : End) → Reads [] ms end → (ms ≡ []) × (end ≡ clean) }
 {

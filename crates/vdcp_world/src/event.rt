@@ -18,10 +18,11 @@ pub enum Event {
     LoseDown,
     /// What is on the way up is lost.
     LoseUp,
-    /// What is on the way down becomes these bytes, of which a beginning of its messages can be read.
+    /// What is on the way down becomes these bytes, 1,024 at most, of which no more is read than a
+    /// beginning of its messages.
     AlterDown(Burst),
-    /// What is on the way up becomes these bytes, of which a beginning of its messages can be read; in
-    /// confirm mode also bytes of which ACK or NAK is read first.
+    /// What is on the way up becomes such bytes; in confirm mode also 1,024 at most of which ACK or NAK
+    /// is read first.
     AlterUp(Burst),
     /// Nothing is on the way, and nothing came in time.
     Timeout,

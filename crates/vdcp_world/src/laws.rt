@@ -19,8 +19,8 @@ ghost use Rattle.vdcp_world.specs.NoCut.{NoCut};
 /// - the rule book allows each command of the log where it stands, and the one that is awaited;
 /// - Done means that the whole playlist went to air and is reported; Missing(k), that event k's clip isn't
 ///   in the catalogue, and Refused(k), in plain mode, that event k is a part that doesn't fit its clip, and
-///   in confirm mode, that since the last exchange that settles `limit` empty statuses came after a cue of
-///   event k; and either, that the events before k went to air and are reported;
+///   in confirm mode, that `limit` or more empty statuses came after a cue of event k, since which nothing
+///   settled; and both, that the events before k went to air and are reported;
 /// - the controller never ends Denied, Foreign or Strange.
 pub fn reached_keeps_the_headline()
     ensures { (c : Channel) → IsReached c → Headline c }

@@ -17,8 +17,8 @@ use vdcp_record::RecordFault;
 use vdcp_text::Failure;
 use vdcp_wire::Wire;
 
-/// Runs an automation that hears at once, takes each event whose clip has a known length when the last one ends, and
-/// writes what is reported of it.
+/// Runs an automation that hears at once, takes each event when the clip before it ends, if that one's length is
+/// known, and writes what is reported of it.
 pub(super) fn play_back_to_back<
     'a,
     R: Files + Clock + AllocGlobal,

@@ -48,7 +48,7 @@ pub(super) fn play_kept<
     }
 }
 
-// Plays a list with a new journal of this name. It is gone again where nothing was sent.
+// Plays a list with a new journal of this name. It is gone again where that is refused.
 fn play_new<
     'a,
     R: Net + Files<File = File> + Clock + AllocGlobal,
