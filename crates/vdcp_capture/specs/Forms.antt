@@ -3,6 +3,7 @@ use Rattle.hex.specs.Hex.{decode_of}
 use Rattle.std.specs.List.{enumerate_from, starts_with}
 use Rattle.std.specs.Option.{option_to_list}
 use Rattle.std.specs.Prelude.{ℕ, ◌≡◌, ◌+◌, ◌||◌, ⊤, Bool, true, false, List, [], ◌∷◌, ◌++◌, codes, map, nat_eq, Ok, Option, None, Some, if◌then◌else◌}
+use Rattle.std.specs.Str.{bytes_eq}
 use Rattle.std.specs.Str.Lines.{lines}
 use Rattle.vdcp_capture.specs.declared.capture.Form.{Form}
 use Rattle.vdcp_capture.specs.declared.capture.Form.TheVariants.{Log, Rows}
@@ -85,9 +86,13 @@ pub data SayAll (settings : JudgeSettings) (form : Form) : List (ℕ × List ℕ
       → SayAll settings form before pieces → SaysMore settings form (place + 1) text pieces more
       → SayAll settings form (before ++ (place, text) ∷ []) more
 
--- a log begins with an arrow, or with the line of a server that has taken a connection
+-- the first line is that of a server that has taken a connection
+abbrev pub begins_with_taken : List ℕ → Bool
+begins_with_taken text = starts_with nat_eq text (codes "taken\n") || starts_with nat_eq text (codes "taken\r\n")
+    || bytes_eq text (codes "taken")
+
 abbrev pub form_of : List ℕ → Form
-form_of text = if has_arrow text || starts_with nat_eq text (codes "taken\n") then Log else Rows
+form_of text = if has_arrow text || begins_with_taken text then Log else Rows
 
 -- the text is a capture of these pieces
 abbrev pub IsCapture : JudgeSettings → List ℕ → List Piece → Type 0

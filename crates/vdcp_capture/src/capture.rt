@@ -1,7 +1,7 @@
 ghost use Rattle.hex.specs.Hex.{decode_of};
 ghost use Rattle.std.specs.List.{starts_with};
 ghost use Rattle.std.specs.Prelude.{◌≡◌, ◌⊎◌, ◌++◌, ◌∷◌, IfErr, IfOk, IfSome, OnOk, codes, nat_eq};
-ghost use Rattle.vdcp_capture.specs.Forms.{IsCapture, IsCaptureOf, Says, SaysMore, form_of, has_arrow, numbered, said_by, way_text};
+ghost use Rattle.vdcp_capture.specs.Forms.{IsCapture, IsCaptureOf, Says, SaysMore, begins_with_taken, form_of, has_arrow, numbered, said_by, way_text};
 ghost use Rattle.vdcp_capture.specs.Judged.{IsCaptureFailure};
 ghost use Rattle.vdcp_text.specs.declared.failure.Failure.TheVariants as failures;
 
@@ -112,11 +112,18 @@ fn line_failure<'a>(name: &'a str, number: usize, fault: LineFault) -> Failure<'
 fn form_of(text: &str) -> Form
     ensures { result ≡ form_of text.now }
 {
-    if has_arrow(text) || starts(text, "taken\n") {
+    if has_arrow(text) || begins_with_taken(text) {
         Form::Log
     } else {
         Form::Rows
     }
+}
+
+/// The first line is that of a server that has taken a connection.
+fn begins_with_taken(text: &str) -> bool
+    ensures { result ≡ begins_with_taken text.now }
+{
+    starts(text, "taken\n") || starts(text, "taken\r\n") || text == "taken"
 }
 
 /// The text begins so.

@@ -2,7 +2,7 @@ ghost use Rattle.std.specs.Prelude.{◌≡◌, ◌⊎◌, IfErr};
 ghost use Rattle.vdcp_record.specs.Recording.{IsUnopened};
 ghost use Rattle.vdcp_text.specs.declared.failure.Failure.TheVariants as failures;
 
-use std::fs::{File, OpenOptions, TryLockError};
+use std::fs::{self, File, OpenOptions, TryLockError};
 use std::io::{self, ErrorKind, Write};
 use std::path::Path;
 use std::rt::Files;
@@ -43,7 +43,7 @@ fn write_safely(file: &mut File, bytes: &[u8]) -> io::Result<()> {
     file.sync_data()
 }
 
-/// Makes the file of this name, which mustn't exist, and locks it.
+/// Makes the file of this name, which mustn't exist, and locks it. Where it can't be locked there is none.
 pub(crate) fn make<'a, R: Files<File = File>>(rt: &R, name: &'a str) -> Result<File, Failure<'a>>
     ensures { IfErr result (λ failure. (failure ≡ failures.Exists name.entry) ⊎ IsUnopened name.entry failure) }
 {
@@ -56,7 +56,11 @@ pub(crate) fn make<'a, R: Files<File = File>>(rt: &R, name: &'a str) -> Result<F
         Err(error) if error.kind() == ErrorKind::AlreadyExists => return Err(Failure::Exists(name)),
         Err(error) => return Err(not_opened(&error, name)),
     };
-    locked(file, name)
+    let locked = locked(file, name);
+    if locked.is_err() {
+        let _ = fs::remove_file(rt, name);
+    }
+    locked
 }
 
 /// Opens the file of this name, to be read and then appended to, and locks it.
