@@ -3,7 +3,7 @@
 //! and also what damages it between them.
 //!
 //! Files: `main` (which subcommand, and the exit status), `args` (what the command line may be). A subcommand has a
-//! function in `args`, one in `main` and a line in `run_named`; a number among its options is a `NumberOption` of
+//! constant in `args`, a function in `main` and a line in `run_named`; a number among its options is a `NumberOption` of
 //! `vdcp_options`. `args` and `stdout`, beside `src/`, are the words of one run and what it prints.
 #![tactic(auto)]
 
@@ -17,14 +17,16 @@ use std::process::ExitCode;
 use std::{env, io};
 use vdcp_capture::do_judge;
 use vdcp_files::{do_check, do_vectors};
+use vdcp_log::{Lines, Screen};
 use vdcp_lossy::do_lossy;
-use vdcp_net::{Lines, RunSettings, Screen, Showing, Telling, do_run, do_serve};
 use vdcp_options::{
     asrun_settings_of, judge_settings_of, lossy_settings_of, open_file, probe_settings_of, rate_of,
     run_settings_of, serve_settings_of, sim_settings_of, unit_of,
 };
 use vdcp_probe::{do_probe, rows};
 use vdcp_record::do_asrun;
+use vdcp_run::{RunSettings, Showing, do_run};
+use vdcp_serve::{Telling, do_serve};
 use vdcp_sim::do_sim;
 use vdcp_text::{Failure, do_make, do_show};
 

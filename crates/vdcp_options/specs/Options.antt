@@ -3,8 +3,8 @@ use Rattle.std.specs.Prelude.{ℕ, List, ◌≡◌, ◌≤◌, ◌⊎◌, Bool, 
 use Rattle.std.specs.Str.Parse.{IsNumeral, digits_value, without_leading_plus}
 use Rattle.clap.specs.Matches.{first_value, one_text}
 use Rattle.clap.specs.declared.parser.matches.Found.{Found}
-use Rattle.vdcp_net.specs.declared.keeping.RunJournal.{RunJournal}
-use Rattle.vdcp_net.specs.declared.keeping.RunJournal.TheVariants as journals
+use Rattle.vdcp_run.specs.declared.keeping.RunJournal.{RunJournal}
+use Rattle.vdcp_run.specs.declared.keeping.RunJournal.TheVariants as journals
 use Rattle.vdcp_value.specs.declared.rate.Rate.{Rate}
 use Rattle.vdcp_value.specs.declared.rate.Rate.TheVariants.{F24, F25, F30, D30}
 

@@ -11,9 +11,10 @@ use crate::rate::rate_of;
 use clap::ArgMatches;
 use vdcp_capture::JudgeSettings;
 use vdcp_lossy::{Chances, LossySettings};
-use vdcp_net::{Hearing, Pace, RunJournal, RunSettings, ServeSettings};
 use vdcp_probe::{Only, ProbeSettings};
 use vdcp_record::AsrunSettings;
+use vdcp_run::{Hearing, RunJournal, RunSettings};
+use vdcp_serve::{Pace, ServeSettings};
 use vdcp_sim::SimSettings;
 
 // Whether the flag of this name is there.

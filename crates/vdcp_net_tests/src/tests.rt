@@ -1,4 +1,0 @@
-//! Writers, connections and listeners that fail.
-mod lines;
-mod run;
-mod serve;

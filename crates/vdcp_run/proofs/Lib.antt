@@ -1,0 +1,5 @@
+mod Ends
+mod Reached
+mod PromptEnds
+mod Unplayed
+mod Takes

@@ -1,0 +1,256 @@
+-- Of the reasons why a list isn't played, only an address that is none has status 2, and only a refused row status 1.
+use Rattle.std.proofs.Common.{◌≡◌, ◌≢◌, ◌⊎◌, refl, ℕ, ◌<◌, List, inl, inr, sym, ap, subst, ◌∙◌, arith, Bor}
+use Rattle.std.specs.Io.KnownBytes.{Appends, Keeps}
+use Rattle.std.specs.Prelude.{IfErr, Option, None, Some, Result, Ok, Err}
+use Rattle.vdcp_list.specs.declared.faults.ListFault.{ListFault}
+use Rattle.vdcp_list.specs.declared.faults.ListFault.TheVariants as lists
+use Rattle.vdcp_journal.specs.declared.faults.JournalReadFault.{JournalReadFault}
+use Rattle.vdcp_journal.specs.declared.faults.JournalReadFault.TheVariants as refused
+use Rattle.vdcp_journal.specs.declared.faults.ResumeFault.{ResumeFault}
+use Rattle.vdcp_journal.specs.declared.faults.ResumeFault.TheVariants as untold
+use Rattle.vdcp_journal.specs.Runs.{Run}
+use Rattle.vdcp_journal.specs.declared.row.Heading.{Heading}
+use Rattle.vdcp_record.specs.Recording.{IsUnbegun, IsUnopened, IsUnwritten as IsRowsUnwritten}
+use Rattle.vdcp_record.specs.Resuming as resuming
+use Rattle.vdcp_record.specs.Resuming.{IsRefused, IsUnopenedAgain, IsUnresumed, read_failure, untold_failure}
+use Rattle.vdcp_text.specs.Failure.{failure_line, status_of}
+use Rattle.vdcp_value.specs.declared.part.Item.{Item}
+use Rattle.vdcp_text.specs.declared.failure.Failure.{Failure}
+use Rattle.vdcp_text.specs.declared.failure.Failure.TheVariants.{Address}
+use Rattle.vdcp_text.specs.declared.failure.Failure.TheVariants as failures
+use Rattle.vdcp_files.specs.Files.{File, bytes_of, file, file_failure}
+use Rattle.vdcp_list.specs.Playlists.{IsListOf}
+use Rattle.vdcp_wire.specs.Address.{IsAddress}
+use Rattle.vdcp_run.specs.Run.{IsEventRefused, IsJournalOf, IsJournalRefused, IsListRefused, IsNoEvent, IsNotBegun, IsPlaceRefused, IsRunRefused, IsUnkept, IsUnplayed, heading_for, no_address, no_event, no_journal, no_list, no_place, not_connected, not_empty}
+use Rattle.vdcp_run.specs.declared.keeping.RunJournal.{RunJournal}
+use Rattle.vdcp_run.specs.declared.keeping.RunJournal.TheVariants as journals
+use Rattle.vdcp_run.specs.declared.run.RunSettings.{RunSettings}
+
+list_status : (name : Bor (List ℕ)) (fault : ListFault) → status_of (file_failure name fault) ≢ 2
+list_status name (lists.Columns row) e = omega (arith, e)
+list_status name (lists.Id row) e = omega (arith, e)
+list_status name (lists.Time row) e = omega (arith, e)
+list_status name (lists.Twice row) e = omega (arith, e)
+list_status name (lists.TooMany row) e = omega (arith, e)
+list_status name lists.Memory e = omega (arith, e)
+list_status name lists.Read e = omega (arith, e)
+
+-- a status of 2 is the failure's own
+own_status : (failure : Failure) (status : ℕ) → (status ≡ status_of failure) ⊎ (status ≡ 3) → status ≡ 2
+    → status_of failure ≡ 2
+own_status failure status (inl e) two = sym e ∙ two
+own_status failure status (inr three) two = absurd (omega (arith, three, two))
+
+-- so is one of 1
+own_status_1 : (failure : Failure) (status : ℕ) → (status ≡ status_of failure) ⊎ (status ≡ 3) → status ≡ 1
+    → status_of failure ≡ 1
+own_status_1 failure status (inl e) one = sym e ∙ one
+own_status_1 failure status (inr three) one = absurd (omega (arith, three, one))
+
+keeps_itself : (out : Option (List ℕ)) → Keeps out out
+keeps_itself None = tt
+keeps_itself (Some xs) = refl
+
+-- that of a name for the as-run file is 3
+place_status : (name : Option (Bor (List ℕ))) (failure : Failure) → IsPlaceRefused name failure → status_of failure ≡ 3
+place_status None failure refused = absurd refused
+place_status (Some name) failure (inl e) = ap status_of e
+place_status (Some name) failure (inr (inl e)) = ap status_of e
+place_status (Some name) failure (inr (inr (inl e))) = ap status_of e
+place_status (Some name) failure (inr (inr (inr e))) = ap status_of e
+
+-- that of a journal is 1 or 3
+abbrev one_or_three : (failure : Failure) → Type 0
+one_or_three failure = (status_of failure ≡ 1) ⊎ (status_of failure ≡ 3)
+
+not_2 : (failure : Failure) → one_or_three failure → status_of failure ≢ 2
+not_2 failure (inl one) two = absurd (omega (arith, one, two))
+not_2 failure (inr three) two = absurd (omega (arith, three, two))
+
+unopened_status : (name : Bor (List ℕ)) (failure : Failure) → IsUnopened name failure → one_or_three failure
+unopened_status name failure (inl e) = inr (ap status_of e)
+unopened_status name failure (inr (inl e)) = inr (ap status_of e)
+unopened_status name failure (inr (inr e)) = inr (ap status_of e)
+
+rows_unwritten_status : (name : Bor (List ℕ)) (failure : Failure) → IsRowsUnwritten name failure
+    → one_or_three failure
+rows_unwritten_status name failure (inl e) = inr (ap status_of e)
+rows_unwritten_status name failure (inr e) = inr (ap status_of e)
+
+unbegun_status : (name : Bor (List ℕ)) (failure : Failure) → IsUnbegun name failure → one_or_three failure
+unbegun_status name failure (inl e) = inr (ap status_of e)
+unbegun_status name failure (inr (inl h)) = unopened_status name failure h
+unbegun_status name failure (inr (inr h)) = rows_unwritten_status name failure h
+
+read_status : (name : Bor (List ℕ)) (failure : Failure) (wrong : JournalReadFault) → failure ≡ read_failure name wrong
+    → one_or_three failure
+read_status name failure refused.Empty e = inl (ap status_of e)
+read_status name failure (refused.Heading wrong) e = inl (ap status_of e)
+read_status name failure (refused.Row row wrong) e = inl (ap status_of e)
+read_status name failure refused.Memory e = inr (ap status_of e)
+read_status name failure refused.Device e = inr (ap status_of e)
+
+untold_status : (name : Bor (List ℕ)) (failure : Failure) (before : ℕ) (wrong : ResumeFault)
+    → failure ≡ untold_failure name before wrong → one_or_three failure
+untold_status name failure before (untold.Command k) e = inl (ap status_of e)
+untold_status name failure before (untold.Unawaited k) e = inl (ap status_of e)
+untold_status name failure before (untold.Outcome k) e = inl (ap status_of e)
+
+run_refused_status : (items : List Item) (name : Bor (List ℕ)) (heading : Heading) (run : Run) (failure : Failure)
+    → resuming.IsRunRefused items name heading run failure → one_or_three failure
+run_refused_status items name heading run failure (resuming.no_event few e) = inl (ap status_of e)
+run_refused_status items name heading run failure (resuming.untold wrong h e) =
+    untold_status name failure run.begin wrong e
+
+refused_status : (items : List Item) (name : Bor (List ℕ)) (wanted : Heading) (bytes : List ℕ) (failure : Failure)
+    → IsRefused items name wanted bytes failure → one_or_three failure
+refused_status items name wanted bytes failure (resuming.no_journal wrong h e) = read_status name failure wrong e
+refused_status items name wanted bytes failure (resuming.of_other journal is differs h e) = inl (ap status_of e)
+refused_status items name wanted bytes failure (resuming.bad_run journal is run last h) =
+    run_refused_status items name wanted run failure h
+refused_status items name wanted bytes failure (resuming.no_memory e) = inr (ap status_of e)
+
+unresumed_status : (items : List Item) (name : Bor (List ℕ)) (wanted : Heading) (failure : Failure)
+    → IsUnresumed items name wanted failure → one_or_three failure
+unresumed_status items name wanted failure (resuming.no_file h) = unopened_status name failure h
+unresumed_status items name wanted failure (resuming.failed e) = inr (ap status_of e)
+unresumed_status items name wanted failure (resuming.kept h) = rows_unwritten_status name failure h
+unresumed_status items name wanted failure (resuming.bad bytes h) = refused_status items name wanted bytes failure h
+
+unopened_again_status : (items : List Item) (name : Bor (List ℕ)) (wanted : Heading) (word : Option ℕ)
+    (failure : Failure) → IsUnopenedAgain items name wanted word failure → one_or_three failure
+unopened_again_status items name wanted word failure (resuming.unresumed h) =
+    unresumed_status items name wanted failure h
+unopened_again_status items name wanted word failure (resuming.unsettled unsaid bytes run ended end whole is may e) =
+    inl (ap status_of e)
+unopened_again_status items name wanted word failure (resuming.no_event k said few e) =
+    inl (ap status_of e)
+
+journal_status : (settings : RunSettings) (items : List Item) (journal : RunJournal) (failure : Failure)
+    → IsJournalRefused settings items journal failure → one_or_three failure
+journal_status settings items (journals.New name) failure h = unbegun_status name failure h
+journal_status settings items (journals.Older name) failure h =
+    unresumed_status items name (heading_for settings items) failure h
+journal_status settings items (journals.Again name) failure h =
+    unopened_again_status items name (heading_for settings items) settings.from failure h
+
+asrun_status : (name : Option (Bor (List ℕ))) (failure : Failure) → IsJournalOf name failure → one_or_three failure
+asrun_status None failure is = absurd is
+asrun_status (Some name) failure e = inr (ap status_of e)
+
+unkept_status : (settings : RunSettings) (items : List Item) (journal : Option RunJournal) (failure : Failure)
+    → IsUnkept settings items journal failure → one_or_three failure
+unkept_status settings items None failure h = absurd h
+unkept_status settings items (Some journal) failure (inl e) = inr (ap status_of e)
+unkept_status settings items (Some journal) failure (inr (inl h)) = journal_status settings items journal failure h
+unkept_status settings items (Some journal) failure (inr (inr h)) = asrun_status settings.asrun failure h
+
+-- that of an event that the list hasn't is 1
+no_event_status : (from : Option ℕ) (items : List Item) (failure : Failure) → IsNoEvent from items failure
+    → status_of failure ≡ 1
+no_event_status None items failure missing = absurd missing
+no_event_status (Some event) items failure missing = ap status_of missing.1
+
+pub told_with_2 : (settings : RunSettings) (text : List ℕ) (list : File) (failure : Failure) (status : ℕ)
+    (err err' : Option (List ℕ))
+    → IsUnplayed settings text list failure → (status ≡ status_of failure) ⊎ (status ≡ 3)
+    → (status < 3 → Appends err err' (failure_line failure))
+    → status ≡ 2 → (¬ IsAddress text) × Appends err err' (failure_line Address)
+told_with_2 settings text list failure status err err' (no_address none e) is told two =
+    let P : Failure → Type 0 = λ f. Appends err err' (failure_line f) in
+    (none, subst P e (told (omega (arith, two))))
+told_with_2 settings text (file name bytes) failure status err err' (no_list some (fault, e, rows)) is told two =
+    absurd (list_status name fault (sym (ap status_of e) ∙ own_status failure status is two))
+told_with_2 settings text list failure status err err' (no_event some items lists missing) is told two =
+    let one : status_of failure ≡ 1 = no_event_status settings.from items failure missing in
+    absurd (omega (arith, one, own_status failure status is two))
+told_with_2 settings text list failure status err err' (no_place some whole refused) is told two =
+    let three : status_of failure ≡ 3 = place_status settings.asrun failure refused in
+    absurd (omega (arith, three, own_status failure status is two))
+told_with_2 settings text list failure status err err' (no_journal some items lists refused) is told two =
+    absurd (not_2 failure (unkept_status settings items settings.journal failure refused)
+    (own_status failure status is two))
+told_with_2 settings text list failure status err err' (not_connected some whole e) is told two =
+    let three : status_of failure ≡ 3 = ap status_of e in
+    absurd (omega (arith, three, own_status failure status is two))
+told_with_2 settings text list failure status err err' (not_empty some whole e) is told two =
+    let one : status_of failure ≡ 1 = ap status_of e in
+    absurd (omega (arith, one, own_status failure status is two))
+
+pub told_with_1 : (settings : RunSettings) (text : List ℕ) (list : File) (failure : Failure) (status : ℕ)
+    (out err err' : Option (List ℕ))
+    → IsUnplayed settings text list failure → (status ≡ status_of failure) ⊎ (status ≡ 3)
+    → (status < 3 → Appends err err' (failure_line failure))
+    → status ≡ 1 → IsListRefused settings.rate list out out err err'
+    ⊎ (IsRunRefused settings list out out err err'
+    ⊎ (IsNotBegun settings.rate list out out err err' ⊎ IsEventRefused settings list out out err err'))
+told_with_1 settings text list failure status out err err' (no_address none e) is told one =
+    let two : status_of failure ≡ 2 = ap status_of e in
+    absurd (omega (arith, two, own_status_1 failure status is one))
+told_with_1 settings text list failure status out err err' (no_list some refused) is told one = inl (record {
+  failure = failure;
+  refused = refused;
+  of_row = own_status_1 failure status is one;
+  told = told (omega (arith, one));
+  silent = keeps_itself out;
+})
+told_with_1 settings text list failure status out err err' (no_event some items lists missing) is told one =
+    inr (inr (inr (record {
+      failure = failure;
+      items = items;
+      lists = lists;
+      missing = missing;
+      told = told (omega (arith, one));
+      silent = keeps_itself out;
+    })))
+told_with_1 settings text list failure status out err err' (no_place some whole refused) is told one =
+    let three : status_of failure ≡ 3 = place_status settings.asrun failure refused in
+    absurd (omega (arith, three, own_status_1 failure status is one))
+told_with_1 settings text list failure status out err err' (no_journal some items lists refused) is told one =
+    inr (inl (record {
+      failure = failure;
+      items = items;
+      lists = lists;
+      refused = refused;
+      of_row = own_status_1 failure status is one;
+      told = told (omega (arith, one));
+      silent = keeps_itself out;
+    }))
+told_with_1 settings text list failure status out err err' (not_connected some whole e) is told one =
+    let three : status_of failure ≡ 3 = ap status_of e in
+    absurd (omega (arith, three, own_status_1 failure status is one))
+told_with_1 settings text list failure status out err err' (not_empty some whole e) is told one = inr (inr (inl (record {
+  whole = whole;
+  told = subst (λ (f : Failure). Appends err err' (failure_line f)) e (told (omega (arith, one)));
+  silent = keeps_itself out;
+})))
+
+-- a list with a journal, where it isn't played
+pub unplayed_with : {A : Type 0} (settings : RunSettings) (text : List ℕ) (list : File) (items : List Item)
+    (journal : RunJournal) (result : Result A Failure)
+    → IsAddress text → IsListOf settings.rate (bytes_of list) items → settings.journal ≡ Some journal
+    → IfErr result (λ failure. IsUnkept settings items (Some journal) failure
+    ⊎ ((failure ≡ failures.Connect) ⊎ (failure ≡ failures.NotEmpty)))
+    → IfErr result (IsUnplayed settings text list)
+unplayed_with settings text list items journal (Ok a) some lists is h = tt
+unplayed_with settings text list items journal (Err failure) some lists is (inl refused) =
+    no_journal some items lists
+    (subst (λ (j : Option RunJournal). IsUnkept settings items j failure) (sym is) refused)
+unplayed_with settings text list items journal (Err failure) some lists is (inr (inl e)) =
+    not_connected some (items, lists) e
+unplayed_with settings text list items journal (Err failure) some lists is (inr (inr e)) =
+    not_empty some (items, lists) e
+
+-- a journal that is refused, of a run that is made with these settings
+pub unresumed_as : (settings : RunSettings) (items : List Item) (name : Bor (List ℕ)) (heading : Heading)
+    (failure : Failure) → heading ≡ heading_for settings items → IsUnresumed items name heading failure
+    → IsUnkept settings items (Some (journals.Older name)) failure
+unresumed_as settings items name heading failure of h =
+    inr (inl (subst (λ (w : Heading). IsUnresumed items name w failure) of h))
+
+pub unopened_as : (settings : RunSettings) (items : List Item) (name : Bor (List ℕ)) (heading : Heading)
+    (failure : Failure) → heading ≡ heading_for settings items
+    → IsUnopenedAgain items name heading settings.from failure
+    → IsUnkept settings items (Some (journals.Again name)) failure
+unopened_as settings items name heading failure of h =
+    inr (inl (subst (λ (w : Heading). IsUnopenedAgain items name w settings.from failure) of h))

@@ -1,0 +1,3 @@
+pub mod BackToBack
+pub mod Lapse
+pub mod Run

@@ -1,0 +1,346 @@
+-- How a run ends: what it tells then, and its exit status.
+use Rattle.std.specs.Borrow.{Bor}
+use Rattle.std.specs.Io.KnownBytes.{Appends, Keeps}
+use Rattle.std.specs.Prelude.{ℕ, zero, suc, ◌≡◌, ◌⊎◌, ◌+◌, ◌-◌, ◌^◌, ◌<◌, ◌≤◌, min, Bool, true, false, List, [], ◌++◌, codes, decimal, drop, length, take, Option, None, Some, option_map, IsSome, Result, Ok, Err}
+use Rattle.vdcp_value.specs.declared.part.Item.{Item}
+use Rattle.vdcp_value.specs.declared.rate.Rate.{Rate}
+use Rattle.vdcp_auto.specs.Course.{Reached}
+use Rattle.vdcp_auto.specs.Plan.{Plan, View, plan_of}
+use Rattle.vdcp_auto.specs.Turn.{outcome_of}
+use Rattle.vdcp_auto.specs.declared.exchange.Exchange.{Exchange}
+use Rattle.vdcp_auto.specs.declared.outcome.Outcome.{Outcome}
+use Rattle.vdcp_auto.specs.declared.outcome.Outcome.TheVariants.{Done, Stopped, Lost, Denied, Missing, Refused, Foreign, Strange}
+use Rattle.vdcp_auto.specs.State.{State}
+use Rattle.vdcp_text.specs.Failure.{failure_line, status_of}
+use Rattle.vdcp_text.specs.Text.{line}
+use Rattle.vdcp_text.specs.declared.failure.Failure.{Failure}
+use Rattle.vdcp_text.specs.declared.failure.Failure.TheVariants as failures
+use Rattle.vdcp_files.specs.Files.{File, IsWholeList, RefusesList, bytes_of}
+use Rattle.vdcp_files.specs.Mode.{mode_of}
+use Rattle.vdcp_journal.specs.declared.row.Heading.{Heading}
+use Rattle.vdcp_journal.specs.Runs.{Run}
+use Rattle.vdcp_list.specs.Asrun.{events_text, has_part}
+use Rattle.vdcp_list.specs.Playlists.{IsListOf}
+use Rattle.vdcp_list.specs.Rests.{FromEvent, items_left}
+use Rattle.vdcp_record.specs.Recording.{IsUnbegun}
+use Rattle.vdcp_record.specs.Resuming.{IsOpenedAgain, IsReplayed, IsUnopenedAgain, IsUnresumed}
+use Rattle.vdcp_record.specs.Showing.{digest_of}
+use Rattle.vdcp_text.specs.Outcome.{outcome_text}
+use Rattle.vdcp_drive.specs.declared.keep.KeptFault.{KeptFault}
+use Rattle.vdcp_drive.specs.declared.keep.KeptFault.TheVariants as fault
+use Rattle.vdcp_drive.specs.declared.line.Ran.{Ran}
+use Rattle.vdcp_drive.specs.declared.line.Ran.TheVariants as ran
+use Rattle.vdcp_wire.specs.Address.{IsAddress}
+use Rattle.vdcp_run.specs.declared.asrun.Older.{Older}
+use Rattle.vdcp_run.specs.declared.asrun.Older.TheVariants as older
+use Rattle.vdcp_run.specs.declared.keeping.Keeping.{Keeping}
+use Rattle.vdcp_run.specs.declared.keeping.Keeping.TheVariants as keeping
+use Rattle.vdcp_run.specs.declared.keeping.RunJournal.{RunJournal}
+use Rattle.vdcp_run.specs.declared.keeping.RunJournal.TheVariants as journals
+use Rattle.vdcp_run.specs.declared.run.LineEnd.{LineEnd}
+use Rattle.vdcp_run.specs.declared.run.LineEnd.TheVariants as line_end
+use Rattle.vdcp_run.specs.declared.run.RunEnd.{RunEnd}
+use Rattle.vdcp_run.specs.declared.run.RunSettings.{RunSettings}
+use Rattle.vdcp_words.specs.declared.command.Command.{Command}
+use Rattle.vdcp_words.specs.declared.command.Command.TheVariants.{Open}
+
+-- what the controller is made with for these items
+abbrev pub plan_for : RunSettings → List Item → Plan
+plan_for settings items = record {
+  mode = mode_of settings.confirm;
+  list = items;
+  port = settings.port;
+  limit = settings.limit;
+}
+
+-- ---- numbers in the whole list, of a controller that plays the rest of it from an event on
+
+-- the event that a new controller begins with: the one that is said, or else the list's first
+abbrev pub first_event : Option ℕ → ℕ
+first_event None = 0
+first_event (Some event) = event
+
+-- the event that is this many after the one that the controller began with; no number is above the largest
+abbrev pub event_in_list : (from k : ℕ) → ℕ
+event_in_list from k = min (from + k) (2 ^ 64 - 1)
+
+abbrev pub outcome_with : ℕ → Outcome → Outcome
+outcome_with from Done = Done
+outcome_with from Stopped = Stopped
+outcome_with from Lost = Lost
+outcome_with from Denied = Denied
+outcome_with from (Missing k) = Missing (event_in_list from k)
+outcome_with from (Refused k) = Refused (event_in_list from k)
+outcome_with from (Foreign k) = Foreign (event_in_list from k)
+outcome_with from (Strange k) = Strange (event_in_list from k)
+
+-- how a controller ended that began with this event, if it has ended
+abbrev pub outcome_in_list : ℕ → Option Outcome → Option Outcome
+outcome_in_list from outcome = option_map (outcome_with from) outcome
+
+-- ---- how the line ended
+
+-- by what the driver's run answered
+abbrev pub line_end_of : Result Ran KeptFault → LineEnd
+line_end_of (Ok ran.Ended) = line_end.Unneeded
+line_end_of (Ok ran.Closed) = line_end.Closed
+line_end_of (Ok ran.Spent) = line_end.Spent
+line_end_of (Err (fault.Drive f)) = line_end.Failed
+line_end_of (Err fault.Unkept) = line_end.Unkept
+
+-- the failure to report of the line itself; a journal that failed is reported by its own
+abbrev pub line_failure : LineEnd → Option Failure
+line_failure line_end.Unneeded = None
+line_failure line_end.Closed = Some failures.LineClosed
+line_failure line_end.Spent = Some failures.Spent
+line_failure line_end.Failed = Some failures.LineFailed
+line_failure line_end.Unkept = None
+line_failure line_end.Occupied = Some failures.NotEmpty
+
+-- ---- the as-run file
+
+-- why a file of this name hasn't got the as-run list, if it hasn't: it can't be made or written, or memory was refused
+abbrev pub IsUnwritten : Bor (List ℕ) → Failure → Type 0
+IsUnwritten name failure = (failure ≡ failures.Open name)
+    ⊎ ((failure ≡ failures.Write name) ⊎ (failure ≡ failures.Memory))
+
+-- where no file is named nothing is written, and that is no failure
+abbrev pub MayBeUnwritten : Option (Bor (List ℕ)) → Option Failure → Type 0
+MayBeUnwritten name None = Unit {0}
+MayBeUnwritten None (Some failure) = ⊥
+MayBeUnwritten (Some name) (Some failure) = IsUnwritten name failure
+
+-- why a run isn't begun with this name for its file, if it has one: it names the list, or the file can't have its list
+abbrev pub IsPlaceRefused : Option (Bor (List ℕ)) → Failure → Type 0
+IsPlaceRefused None failure = ⊥
+IsPlaceRefused (Some name) failure = (failure ≡ failures.IsList name) ⊎ IsUnwritten name failure
+
+-- what becomes of an older file, by how many events are reported and whether the port has answered
+abbrev pub older_after : ℕ → Bool → Older
+older_after zero false = older.Kept
+older_after zero true = older.Replaced
+older_after (suc n) answered = older.Replaced
+
+-- the text of the list: the events that a controller reports of the rest of a list, with the numbers of the whole list
+abbrev pub reported_text : {S : Type 0} → Rate → (S → List Item) → View (FromEvent S) → List ℕ
+reported_text rate items controller =
+    events_text rate (has_part (items controller.source.source)) controller.source.from
+    (take controller.state.settled (drop controller.source.from (items controller.source.source)))
+
+-- ---- the journal
+
+-- the name of its file
+abbrev pub name_of : RunJournal → Bor (List ℕ)
+name_of (journals.New name) = name
+name_of (journals.Older name) = name
+name_of (journals.Again name) = name
+
+-- its name, where there is one
+abbrev pub journal_in : {J : Type 0} → Keeping J → Option (Bor (List ℕ))
+journal_in keeping.Nothing = None
+journal_in (keeping.Journal name journal) = Some name
+
+-- what a journal of these items is of
+abbrev pub heading_for : RunSettings → List Item → Heading
+heading_for settings items = record {
+  digest = digest_of settings.rate items;
+  confirming = settings.confirm;
+  unit = settings.unit;
+  port = settings.port;
+  limit = settings.limit;
+}
+
+-- why the journal can't be kept, of a run that plays these items
+abbrev pub IsJournalRefused : RunSettings → List Item → RunJournal → Failure → Type 0
+IsJournalRefused settings items (journals.New name) failure = IsUnbegun name failure
+IsJournalRefused settings items (journals.Older name) failure =
+    IsUnresumed items name (heading_for settings items) failure
+IsJournalRefused settings items (journals.Again name) failure =
+    IsUnopenedAgain items name (heading_for settings items) settings.from failure
+
+-- the file that is named for the as-run list is the journal
+abbrev pub IsJournalOf : Option (Bor (List ℕ)) → Failure → Type 0
+IsJournalOf None failure = ⊥
+IsJournalOf (Some name) failure = failure ≡ failures.Exists name
+
+-- why a run of these items isn't begun with this journal, if it has one: that can't be kept, or it is the as-run file
+abbrev pub IsUnkept : RunSettings → List Item → Option RunJournal → Failure → Type 0
+IsUnkept settings items None failure = ⊥
+IsUnkept settings items (Some journal) failure =
+    (failure ≡ failures.Memory) ⊎ (IsJournalRefused settings items journal failure
+    ⊎ IsJournalOf settings.asrun failure)
+
+-- why the journal of this name isn't whole, if it isn't: it can't be written, or memory was refused
+abbrev pub MayBeUnkept : Option (Bor (List ℕ)) → Option Failure → Type 0
+MayBeUnkept name None = Unit {0}
+MayBeUnkept None (Some failure) = ⊥
+MayBeUnkept (Some name) (Some failure) = (failure ≡ failures.Write name) ⊎ (failure ≡ failures.Memory)
+
+-- the next command is OPEN
+abbrev pub IsOpening : Option Command → Type 0
+IsOpening None = ⊥
+IsOpening (Some (Open port mode)) = Unit {0}
+IsOpening (Some command) = ⊥
+
+-- ---- what is printed and reported
+
+-- the lines of how many events are reported, and how the controller ended
+abbrev pub end_text : RunEnd → List ℕ
+end_text end = line (codes "reported " ++ decimal end.reported) ++ line (codes "outcome " ++ outcome_text end.outcome)
+
+abbrev pub fault_text : Option Failure → List ℕ
+fault_text None = []
+fault_text (Some failure) = failure_line failure
+
+-- the fault lines of the as-run file, the journal and the line, of which there are any
+abbrev pub faults_text : RunEnd → List ℕ
+faults_text end = fault_text end.unwritten ++ fault_text end.unkept ++ fault_text (line_failure end.line)
+
+-- ---- the exit status
+
+abbrev pub outcome_status : Option Outcome → ℕ
+outcome_status None = 3
+outcome_status (Some Done) = 0
+outcome_status (Some Stopped) = 0
+outcome_status (Some Lost) = 3
+outcome_status (Some Denied) = 1
+outcome_status (Some (Missing k)) = 1
+outcome_status (Some (Refused k)) = 1
+outcome_status (Some (Foreign k)) = 1
+outcome_status (Some (Strange k)) = 1
+
+-- 3 where there is a failure
+abbrev pub status_unless : Option Failure → ℕ → ℕ
+status_unless None status = status
+status_unless (Some failure) status = 3
+
+abbrev pub run_status : RunEnd → ℕ
+run_status end =
+    status_unless end.unwritten
+    (status_unless end.unkept (status_unless (line_failure end.line) (outcome_status end.outcome)))
+
+-- ---- the whole
+
+-- this is the end of a controller that was made with this plan: some calls led it to this state, and its log has the
+-- exchanges that they ended. The outcome and the first event that isn't reported are the state's, with the numbers of the
+-- whole list. The line was unneeded only where the controller has ended, and where it has, the line was unneeded or it
+-- failed
+pub record IsEndOf (plan : Plan) (end : RunEnd) : Type 0 where
+  pub log : List Exchange
+  pub state : State
+  pub reached : Reached plan state log
+  pub outcome_is : end.outcome ≡ outcome_in_list end.from (outcome_of state.stage)
+  pub reported_is : end.reported ≡ end.from + state.settled
+  pub unneeded : end.line ≡ line_end.Unneeded → IsSome end.outcome
+  pub ended : IsSome end.outcome → (end.line ≡ line_end.Unneeded) ⊎ (end.line ≡ line_end.Failed)
+  -- a command that couldn't be kept is told
+  pub told : end.line ≡ line_end.Unkept → IsSome end.unkept
+
+-- this is the end of a controller that plays the rest of a list: whatever its log is, from there it came to this end
+pub record ComesTo {S : Type 0} (items : S → List Item) (controller : View (FromEvent S)) (end : RunEnd) : Type 0 where
+  pub from_is : end.from ≡ controller.source.from
+  pub ends : (log : List Exchange) → Reached (plan_of (items_left items) controller) controller.state log
+      → IsEndOf (plan_of (items_left items) controller) end
+
+-- the last run of some journal of these items, which is made with these settings, began with this event
+pub record GoesOnFrom (settings : RunSettings) (items : List Item) (from : ℕ) : Type 0 where
+  pub bytes : List ℕ
+  pub run : Run
+  pub plan : Plan
+  pub state : State
+  pub whole : ℕ
+  pub replayed : IsReplayed items (heading_for settings items) bytes run plan state whole
+  pub from_is : from ≡ run.from
+
+-- what goes on where a journal of these items is opened again, which is made with these settings, began with this event
+pub record BeginsAgainFrom (settings : RunSettings) (items : List Item) (from : ℕ) : Type 0 where
+  pub plan : Plan
+  pub state : State
+  pub opened : IsOpenedAgain items (heading_for settings items) settings.from from plan state
+
+-- the event that the controller of a run of these items began with, by the journal that it has, if it has one
+abbrev pub BeginsAt : RunSettings → List Item → Option RunJournal → ℕ → Type 0
+BeginsAt settings items None from = from ≡ first_event settings.from
+BeginsAt settings items (Some (journals.New name)) from = from ≡ first_event settings.from
+BeginsAt settings items (Some (journals.Older name)) from = GoesOnFrom settings items from
+BeginsAt settings items (Some (journals.Again name)) from = BeginsAgainFrom settings items from
+
+-- this is the end of a controller that plays these items from one on, by the journal that the run has, if it has one
+pub record IsRunOf (settings : RunSettings) (items : List Item) (journal : Option RunJournal) (end : RunEnd)
+    : Type 0 where
+  pub from : ℕ
+  pub begins : BeginsAt settings items journal from
+  pub within : from ≤ length items
+  pub ends : IsEndOf (plan_for settings (drop from items)) end
+  pub from_is : end.from ≡ from
+
+-- the file is a playlist, and this is the end of a controller that plays it, from an event on
+pub record IsPlayed (settings : RunSettings) (list : File) (end : RunEnd) : Type 0 where
+  pub items : List Item
+  pub lists : IsListOf settings.rate (bytes_of list) items
+  pub runs : IsRunOf settings items settings.journal end
+  pub unwritten : MayBeUnwritten settings.asrun end.unwritten
+  pub unkept : MayBeUnkept (option_map name_of settings.journal) end.unkept
+
+-- the list was played to this end: a writer gained the lines of that, and this is the status
+pub record IsRun (settings : RunSettings) (list : File) (out out' : Option (List ℕ)) (status : ℕ) : Type 0 where
+  pub end : RunEnd
+  pub played : IsPlayed settings list end
+  pub gained : Appends out out' (end_text end)
+  pub status_is : status ≡ run_status end
+
+-- the number of the event to begin with, if it is said, is above the list's length
+abbrev pub IsNoEvent : Option ℕ → List Item → Failure → Type 0
+IsNoEvent None items failure = ⊥
+IsNoEvent (Some event) items failure = (length items < event) × (failure ≡ failures.NoEvent event)
+
+-- why a list isn't played: the text is no address, or else the list isn't read, or else it has no event to begin with, or
+-- else the as-run list can't be written, or else the journal can't be kept, or else nobody takes the connection, or else
+-- the port isn't empty
+pub data IsUnplayed (settings : RunSettings) (text : List ℕ) (list : File) (failure : Failure) : Type 0 where
+  no_address : ¬ IsAddress text → failure ≡ failures.Address → IsUnplayed settings text list failure
+  no_list : IsAddress text → RefusesList settings.rate list failure → IsUnplayed settings text list failure
+  no_event : IsAddress text → (items : List Item) → IsListOf settings.rate (bytes_of list) items →
+      IsNoEvent settings.from items failure → IsUnplayed settings text list failure
+  no_place : IsAddress text → IsWholeList settings.rate list → IsPlaceRefused settings.asrun failure →
+      IsUnplayed settings text list failure
+  no_journal : IsAddress text → (items : List Item) → IsListOf settings.rate (bytes_of list) items →
+      IsUnkept settings items settings.journal failure → IsUnplayed settings text list failure
+  not_connected : IsAddress text → IsWholeList settings.rate list → failure ≡ failures.Connect →
+      IsUnplayed settings text list failure
+  not_empty : IsAddress text → IsWholeList settings.rate list → failure ≡ failures.NotEmpty →
+      IsUnplayed settings text list failure
+
+-- a list isn't begun, since the port isn't empty: one writer gained the line that tells it, and the other nothing
+pub record IsNotBegun (rate : Rate) (list : File) (out out' err err' : Option (List ℕ)) : Type 0 where
+  pub whole : IsWholeList rate list
+  pub told : Appends err err' (failure_line failures.NotEmpty)
+  pub silent : Keeps out out'
+
+-- the list has no event to begin with: one writer gained the line that tells it, and the other nothing
+pub record IsEventRefused (settings : RunSettings) (list : File) (out out' err err' : Option (List ℕ)) : Type 0 where
+  pub failure : Failure
+  pub items : List Item
+  pub lists : IsListOf settings.rate (bytes_of list) items
+  pub missing : IsNoEvent settings.from items failure
+  pub told : Appends err err' (failure_line failure)
+  pub silent : Keeps out out'
+
+-- a row of the journal is refused, or the event to go on with may have aired: one writer gained the line that tells it,
+-- and the other nothing
+pub record IsRunRefused (settings : RunSettings) (list : File) (out out' err err' : Option (List ℕ)) : Type 0 where
+  pub failure : Failure
+  pub items : List Item
+  pub lists : IsListOf settings.rate (bytes_of list) items
+  pub refused : IsUnkept settings items settings.journal failure
+  pub of_row : status_of failure ≡ 1
+  pub told : Appends err err' (failure_line failure)
+  pub silent : Keeps out out'
+
+-- a row of the list is refused: one writer gained the line that tells it, and the other nothing
+pub record IsListRefused (rate : Rate) (list : File) (out out' err err' : Option (List ℕ)) : Type 0 where
+  pub failure : Failure
+  pub refused : RefusesList rate list failure
+  pub of_row : status_of failure ≡ 1
+  pub told : Appends err err' (failure_line failure)
+  pub silent : Keeps out out'

@@ -1,0 +1,123 @@
+ghost use Rattle.std.specs.Prelude.{◌≡◌, ◌≤◌, true, false, IfOk, Ok, OnErr, OnOk};
+ghost use Rattle.vdcp_wire.specs.Wires.{FitsBuffer};
+ghost use Rattle.vdcp_run.specs.Lapse.{has_lapsed, since_with};
+
+use crate::stopwatch::{Stopwatch, nanoseconds};
+use std::rt::Clock;
+use vdcp_wire::{Came, PIECE, Wire, WireFault};
+
+/// What has come since a command went out, and since the last silence.
+#[derive(Clone, Copy, Debug, PartialEq, Eq)]
+enum Since {
+    Nothing,
+    Bytes,
+}
+
+/// A wire whose silences can't be held up. It answers those of the wire below; and where bytes keep coming, but as much
+/// time as a silence takes has passed since the last command went out, it answers a silence too, before it listens
+/// again. Nothing that comes is lost by that.
+///
+/// As the wire below is silent after that time itself where nothing comes, a silence is answered before twice that time
+/// has passed, whatever comes, while the caller listens.
+#[derive(Drop)]
+pub struct Lapsing<'a, R: Clock, W: Wire> {
+    wire: W,
+    stopwatch: Stopwatch<'a, R>,
+    // (in nanoseconds)
+    silence: u64,
+    sent: u64,
+    since: Since,
+}
+
+impl<'a, R: Clock, W: Wire> Lapsing<'a, R, W> {
+    /// A wire over this one, whose silences are of this many milliseconds.
+    pub fn new(wire: W, clock: &'a R, silence: u32) -> Self
+        ensures wire { result.wire ≡ wire }
+        ensures since { result.since ≡ Since.Nothing }
+    {
+        Lapsing {
+            wire,
+            stopwatch: Stopwatch::new(clock),
+            silence: nanoseconds(silence),
+            sent: 0,
+            since: Since::Nothing,
+        }
+    }
+
+    // Whether bytes came, and a silence's time has passed since the last command.
+    fn has_lapsed(&mut self) -> bool
+        ensures lapsed { result ≡ has_lapsed self.old.since self.old.silence self.old.sent self.new.stopwatch.now }
+        ensures keeps { self.new ≡ record self.old { stopwatch = self.new.stopwatch } }
+    {
+        let now = self.stopwatch.read();
+        match self.since {
+            Since::Nothing => false,
+            Since::Bytes => self.silence <= now.saturating_sub(self.sent),
+        }
+    }
+
+    // A command went out.
+    fn note_sent(&mut self)
+        ensures sent { self.new.sent ≡ self.new.stopwatch.now }
+        ensures since { self.new.since ≡ Since.Nothing }
+        ensures wire { self.new.wire ≡ self.old.wire }
+    {
+        self.sent = self.stopwatch.read();
+        self.since = Since::Nothing;
+    }
+
+    // Listens once, unless a silence is due.
+    fn listen_in_time(&mut self, buffer: &mut [u8; PIECE]) -> Result<Came, WireFault>
+        requires { W.failures self.old.wire ≡ 0 }
+        ensures fits { IfOk result FitsBuffer }
+        ensures works { OnOk result (W.failures self.new.wire ≡ 0) }
+        ensures failed { OnErr result (W.failures self.new.wire ≡ 1) }
+        ensures lapsed { has_lapsed self.old.since self.old.silence self.old.sent self.new.stopwatch.now ≡ true →
+            (result ≡ Ok Came.Silence) × (self.new.wire ≡ self.old.wire) }
+        ensures since { IfOk result (λ came. self.new.since ≡ since_with came self.old.since) }
+        ensures sent { self.new.sent ≡ self.old.sent }
+    {
+        if self.has_lapsed() {
+            self.since = Since::Nothing;
+            return Ok(Came::Silence);
+        }
+        let came = self.wire.listen(buffer)?;
+        self.since = since_with(came, self.since);
+        Ok(came)
+    }
+}
+
+// What has come since, with what came now.
+fn since_with(came: Came, since: Since) -> Since
+    ensures { result ≡ since_with came since }
+{
+    match came {
+        Came::Silence => Since::Nothing,
+        Came::Bytes(0) | Came::Closed => since,
+        Came::Bytes(_) => Since::Bytes,
+    }
+}
+
+impl<R: Clock, W: Wire> Wire for Lapsing<'_, R, W> {
+    ghost use Rattle.std.specs.Prelude.{None};
+
+    ghost told = { λ _. None };
+
+    ghost failures = { λ w. W.failures w.wire };
+
+    fn send(&mut self, bytes: &[u8]) -> Result<(), WireFault> {
+        self.wire.send(bytes)?;
+        self.note_sent();
+        Ok(())
+    }
+
+    fn listen(&mut self, buffer: &mut [u8; PIECE]) -> Result<Came, WireFault> {
+        self.listen_in_time(buffer)
+    }
+
+    fn drop_waiting(&mut self) -> Result<(), WireFault> {
+        self.wire.drop_waiting()
+    }
+
+    ghost fails_once = { λ w. W.fails_once w.wire };
+}

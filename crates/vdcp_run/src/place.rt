@@ -1,0 +1,132 @@
+ghost use Rattle.std.specs.Prelude.{IfErr};
+ghost use Rattle.vdcp_run.specs.Run.{IsJournalOf, IsPlaceRefused, IsUnwritten};
+
+use std::fs::{self, File, OpenFile, OpenOptions};
+use std::io::{self, ErrorKind};
+use std::os::unix::fs::MetadataExt;
+use std::rt::Files;
+use vdcp_text::Failure;
+
+/// How many names are tried for a file beside another one.
+const MOST_NAMES: u32 = 100;
+
+/// How a list comes into the file of a name.
+#[derive(Drop)]
+pub enum Place {
+    /// No file has this name. The list is written beside it, and gets it once it is whole.
+    Free(String),
+    /// The file of this name has an older list. A new one is written beside it, and takes its place once it is whole.
+    Taken(String),
+    /// It is written to what has the name: a device, a pipe or a link to nothing, where no older list is kept.
+    Device,
+}
+
+impl Place {
+    /// How a list can come into the file of this name. Err where it can't: the name is a folder's, say, or its file
+    /// isn't to be written.
+    pub fn of<R: Files + AllocGlobal>(rt: &R, name: &str) -> io::Result<Place> {
+        match fs::metadata(rt, name) {
+            Ok(found) if found.is_file() => {
+                let _ = OpenOptions::new().write(true).open(rt, name)?;
+                // (a link stays, and what it names is replaced)
+                let whole = fs::canonicalize(rt, name)?;
+                Ok(Place::Taken(whole.into_string()))
+            }
+            Ok(found) if found.is_dir() => Err(io::Error::from(ErrorKind::IsADirectory)),
+            Ok(_) => Ok(Place::Device),
+            Err(error) if error.kind() == ErrorKind::NotFound => Place::of_no_file(rt, name),
+            Err(error) => Err(error),
+        }
+    }
+
+    // Of a name that leads to no file.
+    fn of_no_file<R: Files + AllocGlobal>(rt: &R, name: &str) -> io::Result<Place> {
+        if name.is_empty() {
+            return Err(io::Error::from(ErrorKind::NotFound));
+        }
+        // (a link to nothing stays, and what it names is made)
+        if fs::symlink_metadata(rt, name).is_ok() {
+            return Ok(Place::Device);
+        }
+        Ok(Place::Free(String::from_str(rt.alloc(), name)?))
+    }
+}
+
+/// Tests, before anything is sent, whether the as-run list can come into the file that is named for it, if one is: the
+/// file isn't that of the list, and its folder takes a new file.
+pub fn test_place<'a, R: Files + AllocGlobal>(
+    rt: &R,
+    name: Option<&'a str>,
+    list: &str,
+) -> Result<(), Failure<'a>>
+    ensures { IfErr result (IsPlaceRefused name.entry) }
+{
+    let Some(name) = name else {
+        return Ok(());
+    };
+    if is_same_file(rt, name, list) {
+        return Err(Failure::IsList(name));
+    }
+    match try_place(rt, name) {
+        Ok(()) => Ok(()),
+        Err(error) => Err(not_made(&error, name)),
+    }
+}
+
+/// Why the file of this name isn't made.
+pub fn not_made<'a>(error: &io::Error, name: &'a str) -> Failure<'a>
+    ensures { IsUnwritten name.entry result }
+{
+    if error.kind() == ErrorKind::OutOfMemory {
+        Failure::Memory
+    } else {
+        Failure::Open(name)
+    }
+}
+
+/// A new file beside the one of this name, with its own name.
+pub fn make_beside<R: Files + AllocGlobal>(rt: &R, name: &str) -> io::Result<(R::File, String)> {
+    for number in 0..MOST_NAMES {
+        let beside = format!(in rt.alloc(); "{name}.new{number}")?;
+        match File::create_new(rt, beside.as_str()) {
+            Ok(file) => return Ok((file, beside)),
+            Err(error) if error.kind() == ErrorKind::AlreadyExists => {}
+            Err(error) => return Err(error),
+        }
+    }
+    Err(io::Error::from(ErrorKind::AlreadyExists))
+}
+
+/// Tests that the file for the as-run list, if one is named, isn't that of the journal.
+pub fn test_journal<'a, R: Files>(
+    rt: &R,
+    name: Option<&'a str>,
+    journal: &str,
+) -> Result<(), Failure<'a>>
+    ensures { IfErr result (IsJournalOf name.entry) }
+{
+    match name {
+        Some(name) if is_same_file(rt, name, journal) => Err(Failure::Exists(name)),
+        _ => Ok(()),
+    }
+}
+
+// Both names are those of one file, by another path or a link.
+fn is_same_file<R: Files>(rt: &R, name: &str, other: &str) -> bool {
+    let (Ok(file), Ok(other)) = (fs::metadata(rt, name), fs::metadata(rt, other)) else {
+        return false;
+    };
+    file.is_file() && file.dev() == other.dev() && file.ino() == other.ino()
+}
+
+// Makes a file where the list is to be written, and removes it.
+fn try_place<R: Files + AllocGlobal>(rt: &R, name: &str) -> io::Result<()> {
+    match Place::of(rt, name)? {
+        Place::Free(name) | Place::Taken(name) => {
+            let (file, beside) = make_beside(rt, name.as_str())?;
+            drop(file);
+            fs::remove_file(rt, beside.as_str())
+        }
+        Place::Device => Ok(()),
+    }
+}

@@ -1,0 +1,4 @@
+mod Ends
+mod GivenUp
+mod Kept
+mod Unserved

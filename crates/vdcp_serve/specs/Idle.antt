@@ -1,0 +1,40 @@
+-- A line that is given up where nothing comes for too long.
+use Rattle.std.specs.Int.{div_ceil}
+use Rattle.std.specs.Prelude.{ℕ, ◌*◌, Bool, true, false, Option, None, Some, max, nat_le}
+use Rattle.vdcp_value.specs.Labels.{frames_per_second}
+use Rattle.vdcp_value.specs.declared.rate.Rate.{Rate}
+use Rattle.vdcp_wire.specs.Wires.{Told, close, adds_came}
+use Rattle.vdcp_serve.specs.declared.idling.Idling.{Idling}
+use Rattle.vdcp_serve.specs.declared.idling.Patience.{Patience}
+use Rattle.vdcp_serve.specs.declared.idling.Patience.TheVariants as patience
+
+-- how many silences of these milliseconds are as long as the seconds for which a connection may be idle
+abbrev pub idle_silences : Option ℕ → ℕ → Option ℕ
+idle_silences None silence = None
+idle_silences (Some seconds) silence = Some (div_ceil (seconds * 1000) (max silence 1))
+
+-- and how many frames at this rate
+abbrev pub idle_frames : Option ℕ → Rate → Option ℕ
+idle_frames None rate = None
+idle_frames (Some seconds) rate = Some (seconds * frames_per_second rate)
+
+-- whether these silences one after another are too many
+abbrev pub are_too_many : Option ℕ → ℕ → Bool
+are_too_many None silences = false
+are_too_many (Some most) silences = nat_le most silences
+
+abbrev pub has_given_up : Patience → Bool
+has_given_up (patience.Waits silences) = false
+has_given_up patience.GaveUp = true
+
+-- what the wire below tells, and then that the other end has closed, where the line was given up
+abbrev pub told_with : Patience → Option Told → Option Told
+told_with (patience.Waits silences) told = told
+told_with patience.GaveUp told = adds_came close told
+
+-- of a wire that gives up, what it tells, and how often it failed
+abbrev pub idling_told : {W : Type 0} → (W → Option Told) → Idling W → Option Told
+idling_told told w = told_with w.patience (told w.wire)
+
+abbrev pub idling_failures : {W : Type 0} → (W → ℕ) → Idling W → ℕ
+idling_failures failures w = failures w.wire

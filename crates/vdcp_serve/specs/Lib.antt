@@ -1,0 +1,4 @@
+pub mod Idle
+pub mod Pace
+pub mod Stay
+pub mod Serve

@@ -1,0 +1,108 @@
+ghost use Rattle.std.specs.Prelude.{◌≡◌};
+ghost use Rattle.vdcp_serve.specs.Idle.{are_too_many, has_given_up};
+
+use vdcp_wire::{Came, PIECE, Wire, WireFault};
+
+/// Whether a line is still waited at.
+#[derive(Clone, Copy, Debug, PartialEq, Eq)]
+enum Patience {
+    /// This many silences came one after another.
+    Waits(u64),
+    /// They were too many.
+    GaveUp,
+}
+
+/// A wire that gives its line up where nothing comes for too long: it answers then that the other end has closed.
+#[derive(Drop)]
+pub struct Idling<W: Wire> {
+    wire: W,
+    // How many silences one after another are too many; None where no number is.
+    most: Option<u64>,
+    patience: Patience,
+    listens: u64,
+}
+
+impl<W: Wire> Idling<W> {
+    /// A wire over this one, which gives up after this many silences one after another.
+    pub fn new(wire: W, most: Option<u64>) -> Self
+        ensures wire { result.wire ≡ wire }
+        ensures most { result.most ≡ most }
+        ensures waits { result.patience ≡ Patience.Waits 0 }
+        ensures listens { result.listens ≡ 0 }
+    {
+        Idling {
+            wire,
+            most,
+            patience: Patience::Waits(0),
+            listens: 0,
+        }
+    }
+
+    /// Whether the line was given up.
+    pub fn has_given_up(&self) -> bool
+        ensures { result ≡ has_given_up self.now.patience }
+    {
+        match self.patience {
+            Patience::Waits(_) => false,
+            Patience::GaveUp => true,
+        }
+    }
+
+    /// How often it was listened to.
+    pub fn listens(&self) -> u64
+        ensures { result ≡ self.now.listens }
+    {
+        self.listens
+    }
+
+    // Whether this many silences one after another are too many.
+    fn are_too_many(&self, silences: u64) -> bool
+        ensures { result ≡ are_too_many self.now.most silences }
+    {
+        match self.most {
+            Some(most) => most <= silences,
+            None => false,
+        }
+    }
+}
+
+// How many silences came one after another, with what came now.
+fn silences_with(silences: u64, came: Came) -> u64 {
+    match came {
+        Came::Silence => silences.saturating_add(1),
+        Came::Bytes(0) => silences,
+        Came::Bytes(_) | Came::Closed => 0,
+    }
+}
+
+impl<W: Wire> Wire for Idling<W> {
+    ghost use Rattle.vdcp_serve.specs.Idle.{idling_failures, idling_told};
+
+    ghost told = { λ w. idling_told W.told w };
+
+    ghost failures = { λ w. idling_failures W.failures w };
+
+    fn send(&mut self, bytes: &[u8]) -> Result<(), WireFault> {
+        self.wire.send(bytes)
+    }
+
+    fn listen(&mut self, buffer: &mut [u8; PIECE]) -> Result<Came, WireFault> {
+        let Patience::Waits(silences) = self.patience else {
+            return Ok(Came::Closed);
+        };
+        self.listens = self.listens.saturating_add(1);
+        if self.are_too_many(silences) {
+            self.patience = Patience::GaveUp;
+            return Ok(Came::Closed);
+        }
+        let came = self.wire.listen(buffer)?;
+        self.patience = Patience::Waits(silences_with(silences, came));
+        Ok(came)
+    }
+
+    fn drop_waiting(&mut self) -> Result<(), WireFault> {
+        self.wire.drop_waiting()
+    }
+
+    ghost fails_once = { λ w. W.fails_once w.wire };
+}

@@ -1,0 +1,362 @@
+ghost use Rattle.std.specs.Io.KnownBytes.{Appends, Keeps};
+ghost use Rattle.std.specs.Prelude.{◌≡◌, ◌≢◌, ◌⊎◌, ◌≤◌, IfErr, OnOk, Result, false, true};
+ghost use Rattle.vdcp_drive.specs.ServeLeaves.{ServeLeaves};
+ghost use Rattle.vdcp_files.specs.Files.{IsWholeCatalogue, file};
+ghost use Rattle.vdcp_wire.specs.Address.{IsAddress};
+ghost use Rattle.vdcp_serve.specs.Idle.{has_given_up, idle_frames, idle_silences, idling_failures, idling_told};
+ghost use Rattle.vdcp_serve.specs.Serve.{EndsAs, IsCatalogueRefused, IsServedThere, IsUnheard, IsUnserved, PrintsEnd};
+ghost use Rattle.vdcp_serve.specs.Serve.{end_of};
+ghost use Rattle.vdcp_port.specs.Clock.{new_port};
+ghost use Rattle.vdcp_text.specs.Failure.{failure_line};
+
+use crate::entrance::Entrance;
+use crate::idling::Idling;
+use crate::paced::{Pace, Paced, frames_in_second};
+use crate::stay::stay;
+use std::io::{self, ErrorKind};
+use std::net::{Net, SocketAddrV4};
+use std::rt::Clock;
+use std::time::Instant;
+use vdcp_drive::{DriveFault, Ran, Server, WatchAir};
+use vdcp_files::NamedFile;
+use vdcp_log::{AirLog, Log, Logged};
+use vdcp_port::{Catalogue, Port};
+use vdcp_text::Failure;
+use vdcp_value::Rate;
+use vdcp_wire::{AcceptFault, StreamWire, Wire, accept_one, address_of, listen_at};
+
+/// What a channel is served with.
+#[derive(Clone, Copy, Debug, PartialEq, Eq)]
+pub struct ServeSettings {
+    /// The unit address, 0 to 15.
+    pub unit: u8,
+    /// The port's number.
+    pub port: u8,
+    /// How many frames a cue takes, 1 to 1,000.
+    pub cue_frames: u32,
+    /// The frame rate of time codes.
+    pub rate: Rate,
+    /// When frames pass.
+    pub pace: Pace,
+    /// The silence that ends a burst, in milliseconds, 1 to 60,000.
+    pub silence: u32,
+    /// The most turns that are made, each a wait for bytes or for a silence, or for the next connection.
+    pub turns: u32,
+    /// Whether the port is kept for the next connection when one ends.
+    pub stay: bool,
+    /// For how many seconds nothing may come by a connection, 1 to 86,400; None: as long as nobody closes it.
+    pub idle: Option<u32>,
+}
+
+/// What is told while a channel is served, and where.
+#[derive(Drop)]
+pub enum Telling<L> {
+    /// Each message, item that goes to air and connection, and each fault of a line that a server outlives.
+    All(L),
+    /// Each fault of a line that a server outlives.
+    Faults(L),
+}
+
+impl<L: io::Write + Drop> Telling<L> {
+    fn log(self) -> Log<L> {
+        match self {
+            Telling::All(writer) => Log::new(writer),
+            Telling::Faults(writer) => Log::of_faults(writer),
+        }
+    }
+}
+
+/// How the turns of a server ended.
+#[derive(Clone, Copy, Debug, PartialEq, Eq)]
+enum ServeEnd {
+    /// The other end closed.
+    Closed,
+    /// Nothing came for too long.
+    Idle,
+    /// All turns were made.
+    Spent,
+}
+
+impl ServeEnd {
+    // By what the server's turns answered, and whether it gave the line up.
+    fn of_turns(ran: Ran, has_given_up: bool) -> ServeEnd
+        requires { ran ≢ Ran.Ended }
+        ensures { result ≡ end_of ran has_given_up }
+    {
+        match ran {
+            Ran::Closed if has_given_up => ServeEnd::Idle,
+            Ran::Closed => ServeEnd::Closed,
+            Ran::Spent => ServeEnd::Spent,
+            // A server has no controller that ends.
+            Ran::Ended => unreachable!(),
+        }
+    }
+}
+
+/// Serves a new port with the clips of a catalogue to the first automation that connects to `address`: an
+/// IPv4 address, a colon and a TCP port, 0 for one that the system chooses. `out` gets a line with the
+/// address that is listened at, which is flushed before the connection is taken, and then one that says
+/// whether the automation has `closed` the connection, it was `idle` for too long, or the turns are `spent`. The other
+/// connections are refused from then on.
+///
+/// A server that stays keeps its port when a connection ends, is idle for too long or fails, and takes the next one,
+/// which finds the port as it is; meanwhile frames pass. It ends where the turns are spent.
+///
+/// By the clock a frame passes when its time is over, whatever comes meanwhile, and a wait for bytes is five
+/// milliseconds at most.
+///
+/// Where all is told, the writer gets a line for each message that came (`<-`) and went out (`->`), with the words
+/// that it has, one for each burst that is at fault or cut, and one for each item that goes to air (`aired` and its
+/// number from 0); and from a server that stays one for each connection that is `taken`, and `closed` or `idle`. Its
+/// fault line goes there too where a line fails. Where this writer fails, the lines end there.
+///
+/// The status is 0 where the connection was served to its end, and where a server that stays has spent its turns. It
+/// is 2 where `address` isn't one, 1 where a row of the catalogue is refused, and 3 where the catalogue can't be read,
+/// memory was refused, the address can't be listened at, no connection is taken, or the only line failed; `err` gets a
+/// line of these. The address is tested first, and then the catalogue is read. The status is 3 where `out` failed, to
+/// which nothing more is written.
+pub fn do_serve<
+    R: Net + AllocGlobal + Clock,
+    C: io::Read + Drop,
+    L: io::Write + Drop,
+    W: io::Write,
+    E: io::Write,
+>(
+    rt: &R,
+    address: &str,
+    catalogue: NamedFile<'_, C>,
+    settings: ServeSettings,
+    telling: Telling<L>,
+    out: &mut W,
+    err: &mut E,
+) -> u8
+    requires unit { settings.unit ≤ 15 }
+    requires some_frames { 1 ≤ settings.cue_frames }
+    requires few_frames { settings.cue_frames ≤ 1000 }
+    ensures served { result ≡ 0 → IsServedThere settings (W.contents out.old) (W.contents out.new) }
+    ensures whole { result ≡ 0 → IsAddress address.now
+        × IsWholeCatalogue settings.rate (file catalogue.entry.name (C.remaining catalogue.entry.reader)) }
+    ensures untold { result ≡ 0 → Keeps (E.contents err.old) (E.contents err.new) }
+    // The status is 1 for a row that is refused.
+    ensures others { result ≡ 1 →
+        IsCatalogueRefused settings.rate (file catalogue.entry.name (C.remaining catalogue.entry.reader))
+        (W.contents out.old) (W.contents out.new) (E.contents err.old) (E.contents err.new) }
+    // The status is 2 for an address that is none, unless this can't be told.
+    ensures no_address { result ≡ 2 → ¬ IsAddress address.now
+        × Appends (E.contents err.old) (E.contents err.new) (failure_line Failure.Address) }
+    ensures address { ¬ IsAddress address.now → ((result ≡ 2) ⊎ (result ≡ 3))
+        × Keeps (W.contents out.old) (W.contents out.new) }
+    ensures silent { Keeps (W.contents out.old) (W.contents out.new)
+        ⊎ IsWholeCatalogue settings.rate (file catalogue.entry.name (C.remaining catalogue.entry.reader)) }
+    ensures statuses { result ≤ 3 }
+{
+    match serve(rt, address, catalogue, settings, telling, out) {
+        Ok(()) => 0,
+        Err(failure) => failure.report(err),
+    }
+}
+
+// Reads the catalogue, and serves it.
+fn serve<'a, R: Net + AllocGlobal + Clock, C: io::Read + Drop, L: io::Write + Drop, W: io::Write>(
+    rt: &R,
+    address: &str,
+    catalogue: NamedFile<'a, C>,
+    settings: ServeSettings,
+    telling: Telling<L>,
+    out: &mut W,
+) -> Result<(), Failure<'a>>
+    requires unit { settings.unit ≤ 15 }
+    requires some_frames { 1 ≤ settings.cue_frames }
+    requires few_frames { settings.cue_frames ≤ 1000 }
+    ensures served { OnOk result (IsServedThere settings (W.contents out.old) (W.contents out.new)) }
+    ensures address { OnOk result (IsAddress address.now) }
+    ensures whole { OnOk result (IsWholeCatalogue settings.rate
+        (file catalogue.entry.name (C.remaining catalogue.entry.reader))) }
+    ensures unserved { IfErr result (IsUnserved settings.rate address.now
+        (file catalogue.entry.name (C.remaining catalogue.entry.reader))
+        (W.contents out.old) (W.contents out.new)) }
+{
+    let Ok(address) = address_of(address) else {
+        return Err(Failure::Address);
+    };
+    let clips = catalogue.read_catalogue(rt.alloc(), settings.rate)?;
+    let port = new_port(clips, settings);
+    serve_port(rt, address, port, settings, &telling.log(), out)
+}
+
+// The new port of a catalogue.
+fn new_port<C: Catalogue>(catalogue: C, settings: ServeSettings) -> Port<C>
+    requires unit { settings.unit ≤ 15 }
+    requires some_frames { 1 ≤ settings.cue_frames }
+    requires few_frames { settings.cue_frames ≤ 1000 }
+    ensures { result ≡ new_port (C.clips catalogue) settings.unit settings.port settings.cue_frames }
+{
+    Port::with_clock(catalogue, settings.unit, settings.port, settings.cue_frames)
+}
+
+// How many silences one after another a connection may be idle. By the clock each is a frame.
+fn idle_silences(settings: ServeSettings) -> Option<u64>
+    ensures silences { settings.pace ≡ Pace.Silences → result ≡ idle_silences settings.idle settings.silence }
+    ensures frames { (rate : Rate) → settings.pace ≡ Pace.Clock rate → result ≡ idle_frames settings.idle rate }
+{
+    let seconds = u64::from(settings.idle?);
+    match settings.pace {
+        Pace::Silences => Some((seconds * 1000).div_ceil(u64::from(settings.silence.max(1)))),
+        Pace::Clock(rate) => Some(seconds * frames_in_second(rate)),
+    }
+}
+
+// Listens, and serves the port to one connection, or to one after another.
+fn serve_port<R: Net + AllocGlobal + Clock, C: Catalogue + Drop, L: io::Write + Drop, W: io::Write>(
+    rt: &R,
+    address: SocketAddrV4,
+    port: Port<C>,
+    settings: ServeSettings,
+    log: &Log<L>,
+    out: &mut W,
+) -> Result<(), Failure<'static>>
+    ensures served { OnOk result (IsServedThere settings (W.contents out.old) (W.contents out.new)) }
+    ensures unheard { IfErr result (IsUnheard (W.contents out.old) (W.contents out.new)) }
+{
+    if settings.stay {
+        serve_each(rt, address, port, settings, log, out)
+    } else {
+        serve_first(rt, address, port, settings, log, out)
+    }
+}
+
+// Takes a connection, and serves it.
+fn serve_first<
+    R: Net + AllocGlobal + Clock,
+    C: Catalogue + Drop,
+    L: io::Write + Drop,
+    W: io::Write,
+>(
+    rt: &R,
+    address: SocketAddrV4,
+    port: Port<C>,
+    settings: ServeSettings,
+    log: &Log<L>,
+    out: &mut W,
+) -> Result<(), Failure<'static>>
+    requires { settings.stay ≡ false }
+    ensures served { OnOk result (IsServedThere settings (W.contents out.old) (W.contents out.new)) }
+    ensures unheard { IfErr result (IsUnheard (W.contents out.old) (W.contents out.new)) }
+{
+    let stream = match accept_one(rt, address, out) {
+        Ok(stream) => stream,
+        Err(AcceptFault::Bind) => return Err(Failure::Bind),
+        Err(AcceptFault::Writer) => return Err(Failure::Writer),
+    };
+    let Ok(wire) = StreamWire::new(stream, settings.pace.wait(settings.silence)) else {
+        return Err(Failure::LineFailed);
+    };
+    let Ok(began) = Instant::now(rt) else {
+        return Err(Failure::LineFailed);
+    };
+    let wire = Paced::new(wire, settings.pace, rt, began, settings.silence);
+    serve_line(port, wire, settings, log, out)
+}
+
+// Takes one connection after another, and serves them.
+fn serve_each<R: Net + AllocGlobal + Clock, C: Catalogue + Drop, L: io::Write + Drop, W: io::Write>(
+    rt: &R,
+    address: SocketAddrV4,
+    port: Port<C>,
+    settings: ServeSettings,
+    log: &Log<L>,
+    out: &mut W,
+) -> Result<(), Failure<'static>>
+    ensures served { OnOk result (IsServedThere settings (W.contents out.old) (W.contents out.new)) }
+    ensures unheard { IfErr result (IsUnheard (W.contents out.old) (W.contents out.new)) }
+{
+    let listener = match listen_at(rt, address, out) {
+        Ok(listener) => listener,
+        Err(AcceptFault::Bind) => return Err(Failure::Bind),
+        Err(AcceptFault::Writer) => return Err(Failure::Writer),
+    };
+    let mut entrance: Entrance<R, L> = match Entrance::new(
+        rt,
+        listener,
+        settings.pace,
+        settings.silence,
+        log,
+    ) {
+        Ok(entrance) => entrance,
+        Err(error) if error.kind() == ErrorKind::OutOfMemory => return Err(Failure::Memory),
+        Err(_) => return Err(Failure::Bind),
+    };
+    let turns = u64::from(settings.turns);
+    let mut watcher = AirLog::new(log, settings.rate);
+    let kept = stay(
+        port,
+        &mut entrance,
+        turns,
+        idle_silences(settings),
+        log,
+        &mut watcher,
+    );
+    if kept.is_err() {
+        return Err(Failure::Bind);
+    }
+    match write_end(ServeEnd::Spent, out) {
+        Ok(()) => Ok(()),
+        Err(_) => Err(Failure::Writer),
+    }
+}
+
+// Serves a port over a line, and tells how that ended.
+fn serve_line<'f, C: Catalogue + Drop, S: Wire + Drop, L: io::Write + Drop, W: io::Write>(
+    port: Port<C>,
+    wire: S,
+    settings: ServeSettings,
+    log: &Log<L>,
+    out: &mut W,
+) -> Result<(), Failure<'f>>
+    requires { S.failures wire ≡ 0 }
+    ensures ended { OnOk result ((end : ServeEnd) × PrintsEnd end (W.contents out.old) (W.contents out.new)) }
+    ensures failed { IfErr result (λ e. (e ≡ Failure.Writer)
+        ⊎ ((e ≡ Failure.LineFailed) × Keeps (W.contents out.old) (W.contents out.new))) }
+{
+    let wire = Idling::new(Logged::new(wire, log), idle_silences(settings));
+    let mut watcher = AirLog::new(log, settings.rate);
+    serve_turns(
+        &mut Server::new(port, wire),
+        settings.turns,
+        &mut watcher,
+        out,
+    )
+}
+
+// Makes at most this many turns of a server, and prints how they ended.
+fn serve_turns<'f, C: Catalogue, S: Wire, V: WatchAir, W: io::Write>(
+    server: &mut Server<C, Idling<S>>,
+    turns: u32,
+    watcher: &mut V,
+    out: &mut W,
+) -> Result<(), Failure<'f>>
+    // What the server's turns left and answered, and what is printed of that.
+    ensures leaves { (ran : Result Ran DriveFault) ×
+        ServeLeaves (idling_told S.told) (idling_failures S.failures) turns server.old server.new ran
+        × EndsAs ran (has_given_up server.new.wire.patience) result (W.contents out.old) (W.contents out.new) }
+{
+    match server.serve_watched(u64::from(turns), watcher) {
+        Ok(ran) => {
+            let end = ServeEnd::of_turns(ran, server.wire().has_given_up());
+            write_end(end, out).map_err(|_| Failure::Writer)
+        }
+        Err(DriveFault::Device) => Err(Failure::LineFailed),
+    }
+}
+
+// Tells how the turns of a server ended.
+fn write_end<W: io::Write>(end: ServeEnd, out: &mut W) -> io::Result<()>
+    ensures { OnOk result (PrintsEnd end (W.contents out.old) (W.contents out.new)) }
+{
+    match end {
+        ServeEnd::Closed => writeln!(out, "closed")?,
+        ServeEnd::Idle => writeln!(out, "idle")?,
+        ServeEnd::Spent => writeln!(out, "spent")?,
+    }
+    out.flush()
+}
