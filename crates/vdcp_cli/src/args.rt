@@ -66,65 +66,51 @@ const CONFIRM: Argument = Argument::Flag("confirm", "The controller trusts no AC
 // Where `run` and `probe` find a server.
 const SERVER: Argument = Argument::Required("ADDR", "Where the server listens, as 127.0.0.1:7400");
 
-/// What the command line may be.
-pub fn command<'a>(alloc: Global) -> Result<Command<'a>, AllocError> {
-    Command::new(alloc, "vdcp")
-        .bin_name("vdcp")?
-        .about("One playout channel of the Video Disk Communications Protocol")
-        .version(VERSION)
-        .subcommand_required(true)
-        .arg_required_else_help(true)
-        .subcommand(show(alloc)?)?
-        .subcommand(make(alloc)?)?
-        .subcommand(check(alloc)?)?
-        .subcommand(sim(alloc)?)?
-        .subcommand(serve(alloc)?)?
-        .subcommand(run(alloc)?)?
-        .subcommand(asrun_list(alloc)?)?
-        .subcommand(judge(alloc)?)?
-        .subcommand(probe(alloc)?)?
-        .subcommand(lossy(alloc)?)?
-        .subcommand(vectors(alloc)?)
+// A subcommand, with its arguments in their order.
+#[derive(Clone, Copy)]
+struct Subcommand {
+    name: &'static str,
+    about: &'static str,
+    after_help: &'static str,
+    arguments: &'static [Argument],
 }
 
-fn show<'a>(alloc: Global) -> Result<Command<'a>, AllocError> {
-    let command = Command::new(alloc, "show")
-        .about("Shows a burst: its messages, and how it ends")
-        .after_help("Example: vdcp show 02021001ef --words");
-    let arguments = [
+const SHOW: Subcommand = Subcommand {
+    name: "show",
+    about: "Shows a burst: its messages, and how it ends",
+    after_help: "Example: vdcp show 02021001ef --words",
+    arguments: &[
         Argument::Required("HEX", "The burst's bytes in hexadecimal digits"),
         Argument::Flag(
             "words",
             "Shows the command or reply that each message carries",
         ),
-    ];
-    with_arguments(alloc, command, &arguments)
-}
+    ],
+};
 
-fn make<'a>(alloc: Global) -> Result<Command<'a>, AllocError> {
-    let command = Command::new(alloc, "make")
-        .about("Makes the bytes of a command")
-        .after_help("Example: vdcp make cue CLIP0001");
-    let arguments = [
+const MAKE: Subcommand = Subcommand {
+    name: "make",
+    about: "Makes the bytes of a command",
+    after_help: "Example: vdcp make cue CLIP0001",
+    arguments: &[
         Argument::Required("COMMAND", "The command's name, such as play or cue"),
         Argument::Words("ARG", "The command's arguments, such as an ID"),
         Argument::Number(&UNIT),
-    ];
-    with_arguments(alloc, command, &arguments)
-}
+    ],
+};
 
-fn check<'a>(alloc: Global) -> Result<Command<'a>, AllocError> {
-    let command = Command::new(alloc, "check")
-        .about("Checks a playlist against a catalogue")
-        .after_help("Example: vdcp check examples/playlist.csv examples/catalogue.csv");
-    with_arguments(alloc, command, &[LIST, CATALOGUE, Argument::Rate])
-}
+const CHECK: Subcommand = Subcommand {
+    name: "check",
+    about: "Checks a playlist against a catalogue",
+    after_help: "Example: vdcp check examples/playlist.csv examples/catalogue.csv",
+    arguments: &[LIST, CATALOGUE, Argument::Rate],
+};
 
-fn sim<'a>(alloc: Global) -> Result<Command<'a>, AllocError> {
-    let command = Command::new(alloc, "sim")
-        .about("Runs a script of events on the line between a controller and a port")
-        .after_help(SIM_EXAMPLE);
-    let arguments = [
+const SIM: Subcommand = Subcommand {
+    name: "sim",
+    about: "Runs a script of events on the line between a controller and a port",
+    after_help: SIM_EXAMPLE,
+    arguments: &[
         LIST,
         CATALOGUE,
         Argument::Required("SCRIPT", "The script's file"),
@@ -136,15 +122,14 @@ fn sim<'a>(alloc: Global) -> Result<Command<'a>, AllocError> {
         Argument::Number(&CUE_FRAMES),
         CONFIRM,
         Argument::Flag("late", "The line keeps order, and may be late"),
-    ];
-    with_arguments(alloc, command, &arguments)
-}
+    ],
+};
 
-fn serve<'a>(alloc: Global) -> Result<Command<'a>, AllocError> {
-    let command = Command::new(alloc, "serve")
-        .about("Serves a port with the clips of a catalogue to an automation, over TCP")
-        .after_help(SERVE_EXAMPLE);
-    let arguments = [
+const SERVE: Subcommand = Subcommand {
+    name: "serve",
+    about: "Serves a port with the clips of a catalogue to an automation, over TCP",
+    after_help: SERVE_EXAMPLE,
+    arguments: &[
         Argument::Required(
             "ADDR",
             "Where it listens, as 127.0.0.1:7400; for TCP port 0 the system chooses one",
@@ -169,15 +154,14 @@ fn serve<'a>(alloc: Global) -> Result<Command<'a>, AllocError> {
             "log",
             "Tells standard error of each message, and of each item that goes to air",
         ),
-    ];
-    with_arguments(alloc, command, &arguments)
-}
+    ],
+};
 
-fn run<'a>(alloc: Global) -> Result<Command<'a>, AllocError> {
-    let command = Command::new(alloc, "run")
-        .about("Plays a list through the port of a server, over TCP")
-        .after_help(RUN_EXAMPLE);
-    let arguments = [
+const RUN: Subcommand = Subcommand {
+    name: "run",
+    about: "Plays a list through the port of a server, over TCP",
+    after_help: RUN_EXAMPLE,
+    arguments: &[
         SERVER,
         LIST,
         Argument::Number(&UNIT),
@@ -207,15 +191,14 @@ fn run<'a>(alloc: Global) -> Result<Command<'a>, AllocError> {
         Argument::OpenAgain,
         Argument::From,
         Argument::Flag("log", "Tells standard error of each message"),
-    ];
-    with_arguments(alloc, command, &arguments)
-}
+    ],
+};
 
-fn asrun_list<'a>(alloc: Global) -> Result<Command<'a>, AllocError> {
-    let command = Command::new(alloc, "asrun")
-        .about("Prints the as-run list that a journal shows")
-        .after_help("Example: vdcp asrun run.journal examples/playlist.csv");
-    let arguments = [
+const ASRUN: Subcommand = Subcommand {
+    name: "asrun",
+    about: "Prints the as-run list that a journal shows",
+    after_help: "Example: vdcp asrun run.journal examples/playlist.csv",
+    arguments: &[
         Argument::Required("JOURNAL", "The journal's file"),
         LIST,
         Argument::Rate,
@@ -227,30 +210,28 @@ fn asrun_list<'a>(alloc: Global) -> Result<Command<'a>, AllocError> {
             "open",
             "Tells standard error of an event that may have aired too",
         ),
-    ];
-    with_arguments(alloc, command, &arguments)
-}
+    ],
+};
 
-fn judge<'a>(alloc: Global) -> Result<Command<'a>, AllocError> {
-    let command = Command::new(alloc, "judge")
-        .about("Holds an automation's commands on a captured line against the rule book")
-        .after_help("Example: vdcp judge examples/playlist.csv run.log");
-    let arguments = [
+const JUDGE: Subcommand = Subcommand {
+    name: "judge",
+    about: "Holds an automation's commands on a captured line against the rule book",
+    after_help: "Example: vdcp judge examples/playlist.csv run.log",
+    arguments: &[
         LIST,
         Argument::Required("CAPTURE", "The file of what was captured"),
         Argument::Number(&UNIT),
         Argument::Rate,
         Argument::Flag("confirm", "The automation trusts no ACK and no NAK"),
         Argument::Flag("server", "The log is of the server's end"),
-    ];
-    with_arguments(alloc, command, &arguments)
-}
+    ],
+};
 
-fn probe<'a>(alloc: Global) -> Result<Command<'a>, AllocError> {
-    let command = Command::new(alloc, "probe")
-        .about("Asks a server whether its port keeps the table that as-run lists rest on, over TCP")
-        .after_help(PROBE_EXAMPLE);
-    let arguments = [
+const PROBE: Subcommand = Subcommand {
+    name: "probe",
+    about: "Asks a server whether its port keeps the table that as-run lists rest on, over TCP",
+    after_help: PROBE_EXAMPLE,
+    arguments: &[
         SERVER,
         CATALOGUE,
         Argument::Flag(
@@ -262,17 +243,14 @@ fn probe<'a>(alloc: Global) -> Result<Command<'a>, AllocError> {
         Argument::Number(&PORT),
         Argument::Rate,
         Argument::Number(&RUN_SILENCE),
-    ];
-    with_arguments(alloc, command, &arguments)
-}
+    ],
+};
 
-fn lossy<'a>(alloc: Global) -> Result<Command<'a>, AllocError> {
-    let command = Command::new(alloc, "lossy")
-        .about(
-            "A line between a run and a server, over TCP, that loses, copies, cuts and damages bursts",
-        )
-        .after_help(LOSSY_EXAMPLE);
-    let arguments = [
+const LOSSY: Subcommand = Subcommand {
+    name: "lossy",
+    about: "A line between a run and a server, over TCP, that loses, copies, cuts and damages bursts",
+    after_help: LOSSY_EXAMPLE,
+    arguments: &[
         Argument::Required(
             "ADDR",
             "Where it listens for a run, as 127.0.0.1:7401; for TCP port 0 the system chooses one",
@@ -287,32 +265,58 @@ fn lossy<'a>(alloc: Global) -> Result<Command<'a>, AllocError> {
         Argument::Number(&LOSSY_SILENCE),
         Argument::Number(&WITHIN),
         Argument::Number(&TURNS),
-    ];
-    with_arguments(alloc, command, &arguments)
+    ],
+};
+
+const VECTORS: Subcommand = Subcommand {
+    name: "vectors",
+    about: "Tests each row of a file of bursts and their readings",
+    after_help: "Example: vdcp vectors examples/bursts.csv",
+    arguments: &[Argument::Required("FILE", "The file of bursts and their readings")],
+};
+
+/// What the command line may be.
+pub fn command<'a>(alloc: Global) -> Result<Command<'a>, AllocError> {
+    let command = Command::new(alloc, "vdcp")
+        .bin_name("vdcp")?
+        .about("One playout channel of the Video Disk Communications Protocol")
+        .version(VERSION)
+        .subcommand_required(true)
+        .arg_required_else_help(true);
+    let command = with_subcommand(alloc, command, &SHOW)?;
+    let command = with_subcommand(alloc, command, &MAKE)?;
+    let command = with_subcommand(alloc, command, &CHECK)?;
+    let command = with_subcommand(alloc, command, &SIM)?;
+    let command = with_subcommand(alloc, command, &SERVE)?;
+    let command = with_subcommand(alloc, command, &RUN)?;
+    let command = with_subcommand(alloc, command, &ASRUN)?;
+    let command = with_subcommand(alloc, command, &JUDGE)?;
+    let command = with_subcommand(alloc, command, &PROBE)?;
+    let command = with_subcommand(alloc, command, &LOSSY)?;
+    with_subcommand(alloc, command, &VECTORS)
 }
 
-fn vectors<'a>(alloc: Global) -> Result<Command<'a>, AllocError> {
-    let command = Command::new(alloc, "vectors")
-        .about("Tests each row of a file of bursts and their readings")
-        .after_help("Example: vdcp vectors examples/bursts.csv");
-    let arguments = [Argument::Required("FILE", "The file of bursts and their readings")];
-    with_arguments(alloc, command, &arguments)
-}
-
-// The subcommand with these arguments, in this order.
-fn with_arguments<'a>(
+// The command line with this subcommand, too.
+fn with_subcommand<'a>(
     alloc: Global,
     command: Command<'a>,
-    arguments: &[Argument],
+    subcommand: &Subcommand,
 ) -> Result<Command<'a>, AllocError> {
-    let mut command = command;
-    for argument in arguments {
+    command.subcommand(made(alloc, subcommand)?)
+}
+
+// A subcommand, as `clap` has it.
+fn made<'a>(alloc: Global, subcommand: &Subcommand) -> Result<Command<'a>, AllocError> {
+    let mut command = Command::new(alloc, subcommand.name)
+        .about(subcommand.about)
+        .after_help(subcommand.after_help);
+    for argument in subcommand.arguments {
         command = command.arg(argument_of(alloc, argument)?)?;
     }
     Ok(command)
 }
 
-// As `clap` has it.
+// An argument, likewise.
 fn argument_of<'a>(alloc: Global, argument: &Argument) -> Result<Arg<'a>, AllocError> {
     match *argument {
         Argument::Required(name, help) => Ok(Arg::new(alloc, name).required(true).help(help)),
