@@ -4,6 +4,7 @@ mod calling;
 mod calls;
 mod clips;
 mod ends;
+mod expecting;
 mod hostile;
 mod keeping;
 mod lawful;

@@ -5,11 +5,10 @@ ghost use Rattle.vdcp_auto.specs.Turn.{start};
 
 use std::alloc::Global;
 use std::process::Abort;
-use std::test::Fail;
 use vdcp_auto::{Controller, Heard, Outcome, Source};
 use vdcp_journal::{
     Airing, Heading, JournalReadFault, JournalRowFault, JournalWriteFault, Moment, Note,
-    ResumeFault, Row, has_stop, read_journal, resume, runs_in, write_heading, write_row,
+    ResumeFault, Resumed, Row, has_stop, read_journal, resume, runs_in, write_heading, write_row,
 };
 use vdcp_list::{List, read_list, write_timed_events, write_timed_heading};
 use vdcp_testing::{FailingWriter, Fails};
@@ -20,11 +19,54 @@ fn time(rt: &impl Abort) -> Moment {
     Moment::parse(b"2026-11-24T09:30:00.125Z").expect(rt, "a moment")
 }
 
+/// A note, as a static table holds it. A static can't hold a clip's ID, and a `Note` may have one.
+#[derive(Clone, Copy, Debug)]
+enum TableNote {
+    /// The command to open this port.
+    Open(u8),
+    Select,
+    /// The command to cue the clip `A,B`.
+    Cue,
+    Play,
+    /// The command to stop, and not the operator's wish.
+    SentStop,
+    Ack,
+    Nak(u8),
+    Granted,
+    Denied,
+    Other,
+    Silence,
+    Take,
+    Stop,
+    End(Outcome),
+    From(usize),
+}
+
+impl TableNote {
+    fn note(&self) -> Note {
+        match *self {
+            TableNote::Open(port) => Note::Sent(Command::Open(port, 1)),
+            TableNote::Select => Note::Sent(Command::Select(1)),
+            TableNote::Cue => Note::Sent(Command::PlayCue(ClipId::new(*b"A,B     "))),
+            TableNote::Play => Note::Sent(Command::Play),
+            TableNote::SentStop => Note::Sent(Command::Stop),
+            TableNote::Ack => Note::Heard(Heard::Reply(Reply::Ack)),
+            TableNote::Nak(byte) => Note::Heard(Heard::Reply(Reply::Nak(byte))),
+            TableNote::Granted => Note::Heard(Heard::Reply(Reply::Opened(true))),
+            TableNote::Denied => Note::Heard(Heard::Reply(Reply::Opened(false))),
+            TableNote::Other => Note::Heard(Heard::Other),
+            TableNote::Silence => Note::Silence,
+            TableNote::Take => Note::Take,
+            TableNote::Stop => Note::Stop,
+            TableNote::End(outcome) => Note::End(outcome),
+            TableNote::From(event) => Note::From(event),
+        }
+    }
+}
+
 #[test]
 fn only_a_moment_of_the_form_is_one(rt: HostRuntime) {
-    let moment = time(&rt);
-    assert_eq!(rt; moment.as_bytes(), b"2026-11-24T09:30:00.125Z".as_slice());
-    let others: [&[u8]; 7] = [
+    static OTHERS: [&[u8]; 7] = [
         b"",
         b"2026-11-24T09:30:00Z",
         b"2026-11-24T09:30:00.125",
@@ -33,56 +75,56 @@ fn only_a_moment_of_the_form_is_one(rt: HostRuntime) {
         b"2026-11-24T09:30:00,125Z",
         b"20a6-11-24T09:30:00.125Z",
     ];
-    for other in others.as_slice() {
-        assert_eq!(rt; Moment::parse(other), None);
+    let moment = time(&rt);
+    assert_eq!(rt; moment.as_bytes(), b"2026-11-24T09:30:00.125Z".as_slice());
+    for other in OTHERS.iter() {
+        assert_eq!(rt; Moment::parse(other), None, "{other:?}");
     }
 }
 
+// A note is written as the row of this text after its time.
+fn expect_written(rt: &impl Abort, alloc: Global, note: &TableNote, text: &str) {
+    let row = Row {
+        time: time(rt),
+        note: note.note(),
+    };
+    let mut written = Vec::new(alloc);
+    let wrote = write_row(alloc, 0, &row, &mut written);
+    let wanted = format!(in alloc; "2026-11-24T09:30:00.125Z,{text}\n").expect(rt, "memory");
+    assert_eq!(rt;
+        (wrote, written.as_slice()),
+        (Ok(()), wanted.as_bytes()),
+        "{text}"
+    );
+}
+
 #[test]
-fn rows_are_written(rt: HostRuntime) -> Result<(), Fail> {
-    let alloc = rt.alloc();
-    let cases: [(Note, &str); 13] = [
+fn rows_are_written(rt: HostRuntime) {
+    static CASES: [(TableNote, &str); 13] = [
+        (TableNote::Open(1), "sent,open 01 01,020430010101cd"),
+        (TableNote::Play, "sent,play,02021001ef"),
         (
-            Note::Sent(Command::Open(1, 1)),
-            "sent,open 01 01,020430010101cd",
-        ),
-        (Note::Sent(Command::Play), "sent,play,02021001ef"),
-        (
-            Note::Sent(Command::PlayCue(ClipId::new(*b"A,B     "))),
+            TableNote::Cue,
             "sent,\"cue A,B\",020a2024412c4220202020206d",
         ),
-        (Note::Heard(Heard::Reply(Reply::Ack)), "heard,ack,04"),
-        (
-            Note::Heard(Heard::Reply(Reply::Nak(1))),
-            "heard,nak 01,0501",
-        ),
-        (
-            Note::Heard(Heard::Reply(Reply::Opened(true))),
-            "heard,granted,02033081014e",
-        ),
-        (Note::Heard(Heard::Other), "heard,other,"),
-        (Note::Silence, "silence,,"),
-        (Note::Take, "take,,"),
-        (Note::Stop, "stop,,"),
-        (Note::End(Outcome::Done), "end,done,"),
-        (Note::End(Outcome::Missing(3)), "end,missing,3"),
-        (Note::From(12), "from,12,"),
+        (TableNote::Ack, "heard,ack,04"),
+        (TableNote::Nak(1), "heard,nak 01,0501"),
+        (TableNote::Granted, "heard,granted,02033081014e"),
+        (TableNote::Other, "heard,other,"),
+        (TableNote::Silence, "silence,,"),
+        (TableNote::Take, "take,,"),
+        (TableNote::Stop, "stop,,"),
+        (TableNote::End(Outcome::Done), "end,done,"),
+        (TableNote::End(Outcome::Missing(3)), "end,missing,3"),
+        (TableNote::From(12), "from,12,"),
     ];
-    for (note, text) in cases.as_slice() {
-        let row = Row {
-            time: time(&rt),
-            note: *note,
-        };
-        let mut written = Vec::new(alloc);
-        write_row(alloc, 0, &row, &mut written)?;
-        let wanted = format!(in alloc; "2026-11-24T09:30:00.125Z,{text}\n")?;
-        assert_eq!(rt; written.as_slice(), wanted.as_bytes());
+    for (note, text) in CASES.iter() {
+        expect_written(&rt, rt.alloc(), note, text);
     }
-    Ok(())
 }
 
 #[test]
-fn a_heading_names_what_is_played(rt: HostRuntime) -> Result<(), Fail> {
+fn a_heading_names_what_is_played(rt: HostRuntime) {
     let alloc = rt.alloc();
     let plain = Heading {
         digest: [0x0f; 32],
@@ -92,7 +134,7 @@ fn a_heading_names_what_is_played(rt: HostRuntime) -> Result<(), Fail> {
         limit: 3,
     };
     let mut written = Vec::new(alloc);
-    write_heading(alloc, &time(&rt), &plain, &mut written)?;
+    let wrote_plain = write_heading(alloc, &time(&rt), &plain, &mut written);
     let confirming = Heading {
         confirming: true,
         unit: 15,
@@ -100,35 +142,50 @@ fn a_heading_names_what_is_played(rt: HostRuntime) -> Result<(), Fail> {
         limit: 1000,
         ..plain
     };
-    write_heading(alloc, &time(&rt), &confirming, &mut written)?;
+    let wrote_confirming = write_heading(alloc, &time(&rt), &confirming, &mut written);
     let digest = "0f0f0f0f0f0f0f0f0f0f0f0f0f0f0f0f0f0f0f0f0f0f0f0f0f0f0f0f0f0f0f0f";
     let time = "2026-11-24T09:30:00.125Z";
     let wanted = format!(in alloc;
         "{time},list,{digest},plain,0,1,3\n{time},list,{digest},confirm,15,255,1000\n"
-    )?;
-    assert_eq!(rt; written.as_slice(), wanted.as_bytes());
-    Ok(())
+    ).expect(&rt, "memory");
+    assert_eq!(rt;
+        (wrote_plain, wrote_confirming, written.as_slice()),
+        (Ok(()), Ok(()), wanted.as_bytes())
+    );
+}
+
+// Writes a row in pieces of five bytes, where the calls of the writer fail from this one on.
+fn write_until(
+    rt: &(impl Abort + AllocGlobal),
+    call: usize,
+) -> (FailingWriter, Result<(), JournalWriteFault>) {
+    let row = Row {
+        time: time(rt),
+        note: Note::Silence,
+    };
+    let mut writer = FailingWriter::new(rt.alloc(), Fails::From(call));
+    writer.piece = 5;
+    let wrote = write_row(rt.alloc(), 0, &row, &mut writer);
+    (writer, wrote)
 }
 
 #[test]
 fn a_failing_writer_gets_a_beginning_of_the_row(rt: HostRuntime) {
-    let row = Row {
-        time: time(&rt),
-        note: Note::Silence,
-    };
-    let text = b"2026-11-24T09:30:00.125Z,silence,,\n";
+    let text = b"2026-11-24T09:30:00.125Z,silence,,\n".as_slice();
     for call in 0..8 {
-        let mut writer = FailingWriter::new(rt.alloc(), Fails::From(call));
-        writer.piece = 5;
-        let wrote = write_row(rt.alloc(), 0, &row, &mut writer);
-        assert_eq!(rt; wrote, Err(JournalWriteFault::Device));
-        assert!(rt; text.starts_with(writer.bytes.as_slice()));
+        let (writer, wrote) = write_until(&rt, call);
+        let begins = text.starts_with(writer.bytes.as_slice());
+        assert_eq!(rt;
+            (wrote, begins),
+            (Err(JournalWriteFault::Device), true),
+            "call {call}"
+        );
     }
-    let mut writer = FailingWriter::new(rt.alloc(), Fails::From(8));
-    writer.piece = 5;
-    assert_eq!(rt; write_row(rt.alloc(), 0, &row, &mut writer), Ok(()));
-    assert_eq!(rt; writer.bytes.as_slice(), text.as_slice());
-    assert_eq!(rt; writer.flushes, 1);
+    let (writer, wrote) = write_until(&rt, 8);
+    assert_eq!(rt;
+        (wrote, writer.bytes.as_slice(), writer.flushes),
+        (Ok(()), text, 1)
+    );
 }
 
 fn controller(rt: &impl Abort, alloc: Global) -> Controller<List>
@@ -141,153 +198,195 @@ fn controller(rt: &impl Abort, alloc: Global) -> Controller<List>
     Controller::new(list, 1, 3)
 }
 
-fn told(rt: &impl Abort, notes: &[Note], alloc: Global) -> Vec<Row> {
+fn rows_of(rt: &impl Abort, notes: &[TableNote], alloc: Global) -> Vec<Row> {
     let mut rows = Vec::new(alloc);
     for note in notes {
         let row = Row {
             time: time(rt),
-            note: *note,
+            note: note.note(),
         };
         rows.push(row).expect(rt, "memory");
     }
     rows
 }
 
+// The controller of the list after rows of these notes.
+fn resumed(
+    rt: &(impl Abort + AllocGlobal),
+    notes: &[TableNote],
+) -> Result<Resumed<List>, ResumeFault> {
+    let rows = rows_of(rt, notes, rt.alloc());
+    resume(controller(rt, rt.alloc()), rows.as_slice())
+}
+
+// After rows of these notes this command is open, and this one is next.
+fn expect_on(
+    rt: &(impl Abort + AllocGlobal),
+    notes: &[TableNote],
+    open: Option<Command>,
+    next: Command,
+) {
+    let Ok(mut resumed) = resumed(rt, notes) else {
+        panic!(rt; "the rows are told: {notes:?}");
+    };
+    let ticked = resumed.controller.tick();
+    assert_eq!(rt; (resumed.open, ticked), (open, Some(next)), "{notes:?}");
+}
+
 #[test]
 fn a_controller_goes_on(rt: HostRuntime) {
-    let alloc = rt.alloc();
-    let granted = Note::Heard(Heard::Reply(Reply::Opened(true)));
-    let notes = [
-        Note::Sent(Command::Open(1, 1)),
-        granted,
-        Note::Sent(Command::Select(1)),
-        Note::Take,
+    static NOTES: [TableNote; 4] = [
+        TableNote::Open(1),
+        TableNote::Granted,
+        TableNote::Select,
+        TableNote::Take,
     ];
-    let cases: [(usize, Option<Command>, Command); 5] = [
-        (0, None, Command::Open(1, 1)),
-        (1, Some(Command::Open(1, 1)), Command::Open(1, 1)),
-        (2, None, Command::Select(1)),
-        (3, Some(Command::Select(1)), Command::Select(1)),
-        (4, Some(Command::Select(1)), Command::Select(1)),
-    ];
-    for (count, open, next) in cases.as_slice() {
-        let rows = told(&rt, &notes[..*count], alloc);
-        let Ok(mut resumed) = resume(controller(&rt, alloc), rows.as_slice()) else {
-            panic!(rt; "the rows are told");
-        };
-        assert_eq!(rt; resumed.open, *open);
-        assert_eq!(rt; resumed.controller.tick(), Some(*next));
-    }
+    let open = Command::Open(1, 1);
+    let select = Command::Select(1);
+    expect_on(&rt, &[], None, open);
+    expect_on(&rt, &NOTES[..1], Some(open), open);
+    expect_on(&rt, &NOTES[..2], None, select);
+    expect_on(&rt, &NOTES[..3], Some(select), select);
+    expect_on(&rt, &NOTES, Some(select), select);
 }
 
 #[test]
 fn an_end_is_told(rt: HostRuntime) {
-    let alloc = rt.alloc();
-    let denied = Note::Heard(Heard::Reply(Reply::Opened(false)));
-    let end = Note::End(Outcome::Denied);
-    let rows = told(&rt, &[Note::Sent(Command::Open(1, 1)), denied, end], alloc);
-    let Ok(resumed) = resume(controller(&rt, alloc), rows.as_slice()) else {
+    static NOTES: [TableNote; 3] = [
+        TableNote::Open(1),
+        TableNote::Denied,
+        TableNote::End(Outcome::Denied),
+    ];
+    let Ok(resumed) = resumed(&rt, &NOTES) else {
         panic!(rt; "the rows are told");
     };
-    assert_eq!(rt; resumed.controller.outcome(), Some(Outcome::Denied));
-    assert_eq!(rt; resumed.controller.settled(), 0);
-    assert_eq!(rt; resumed.open, None);
+    let controller = &resumed.controller;
+    assert_eq!(rt;
+        (controller.outcome(), controller.settled(), resumed.open),
+        (Some(Outcome::Denied), 0, None)
+    );
 }
 
 #[test]
 fn what_the_controller_does_not_do_is_refused(rt: HostRuntime) {
-    let alloc = rt.alloc();
-    let open = Note::Sent(Command::Open(1, 1));
-    let granted = Note::Heard(Heard::Reply(Reply::Opened(true)));
-    let denied = Note::Heard(Heard::Reply(Reply::Opened(false)));
-    let cases: [(&[Note], ResumeFault); 10] = [
-        (&[Note::Sent(Command::Play)], ResumeFault::Command(0)),
-        (&[Note::Sent(Command::Open(2, 1))], ResumeFault::Command(0)),
-        (&[open, open], ResumeFault::Command(1)),
-        (&[granted], ResumeFault::Unawaited(0)),
-        (&[Note::Silence], ResumeFault::Unawaited(0)),
-        (&[open, granted, granted], ResumeFault::Unawaited(2)),
-        (&[open, denied, Note::Take], ResumeFault::Unawaited(2)),
+    static CASES: [(&[TableNote], ResumeFault); 10] = [
+        (&[TableNote::Play], ResumeFault::Command(0)),
+        (&[TableNote::Open(2)], ResumeFault::Command(0)),
         (
-            &[open, denied, Note::End(Outcome::Done)],
+            &[TableNote::Open(1), TableNote::Open(1)],
+            ResumeFault::Command(1),
+        ),
+        (&[TableNote::Granted], ResumeFault::Unawaited(0)),
+        (&[TableNote::Silence], ResumeFault::Unawaited(0)),
+        (
+            &[TableNote::Open(1), TableNote::Granted, TableNote::Granted],
+            ResumeFault::Unawaited(2),
+        ),
+        (
+            &[TableNote::Open(1), TableNote::Denied, TableNote::Take],
+            ResumeFault::Unawaited(2),
+        ),
+        (
+            &[
+                TableNote::Open(1),
+                TableNote::Denied,
+                TableNote::End(Outcome::Done),
+            ],
             ResumeFault::Outcome(2),
         ),
-        (&[Note::End(Outcome::Done)], ResumeFault::Outcome(0)),
-        (&[open, Note::From(0)], ResumeFault::Unawaited(1)),
+        (&[TableNote::End(Outcome::Done)], ResumeFault::Outcome(0)),
+        (
+            &[TableNote::Open(1), TableNote::From(0)],
+            ResumeFault::Unawaited(1),
+        ),
     ];
-    for (notes, fault) in cases.as_slice() {
-        let rows = told(&rt, notes, alloc);
-        match resume(controller(&rt, alloc), rows.as_slice()) {
-            Ok(_) => panic!(rt; "the rows are refused"),
-            Err(found) => assert_eq!(rt; found, *fault),
-        }
+    for (notes, fault) in CASES.iter() {
+        assert_eq!(rt; resumed(&rt, notes).err(), Some(*fault), "{notes:?}");
     }
 }
 
+// Of each run in rows of these notes the event that it is from, where it begins and where it ends.
+fn run_places(rt: &(impl Abort + AllocGlobal), notes: &[TableNote]) -> Vec<(usize, usize, usize)> {
+    let rows = rows_of(rt, notes, rt.alloc());
+    let mut places = Vec::new(rt.alloc());
+    for run in runs_in(rt.alloc(), rows.as_slice()).expect(rt, "memory") {
+        let place = (run.from, run.begin, run.end);
+        places.push(place).expect(rt, "memory");
+    }
+    places
+}
+
 #[test]
-fn each_run_has_its_rows(rt: HostRuntime) -> Result<(), Fail> {
-    let alloc = rt.alloc();
-    let cases: [(&[Note], &[(usize, usize, usize)]); 5] = [
+fn each_run_has_its_rows(rt: HostRuntime) {
+    static CASES: [(&[TableNote], &[(usize, usize, usize)]); 5] = [
         (&[], &[(0, 0, 0)]),
-        (&[Note::Silence, Note::Take], &[(0, 0, 2)]),
-        (&[Note::From(3)], &[(0, 0, 0), (3, 1, 1)]),
+        (&[TableNote::Silence, TableNote::Take], &[(0, 0, 2)]),
+        (&[TableNote::From(3)], &[(0, 0, 0), (3, 1, 1)]),
         (
-            &[Note::Silence, Note::From(2), Note::Take, Note::Take],
+            &[
+                TableNote::Silence,
+                TableNote::From(2),
+                TableNote::Take,
+                TableNote::Take,
+            ],
             &[(0, 0, 1), (2, 2, 4)],
         ),
         (
-            &[Note::From(1), Note::Take, Note::From(5), Note::From(0)],
+            &[
+                TableNote::From(1),
+                TableNote::Take,
+                TableNote::From(5),
+                TableNote::From(0),
+            ],
             &[(0, 0, 0), (1, 1, 2), (5, 3, 3), (0, 4, 4)],
         ),
     ];
-    for (notes, wanted) in cases.as_slice() {
-        let rows = told(&rt, notes, alloc);
-        let runs = runs_in(alloc, rows.as_slice())?;
-        assert_eq!(rt; runs.len(), wanted.len());
-        for k in 0..runs.len().min(wanted.len()) {
-            let run = runs[k];
-            assert_eq!(rt; (run.from, run.begin, run.end), wanted[k]);
-        }
+    for (notes, wanted) in CASES.iter() {
+        let places = run_places(&rt, notes);
+        assert_eq!(rt; places.as_slice(), *wanted, "{notes:?}");
     }
-    Ok(())
 }
 
 #[test]
 fn a_stop_is_found(rt: HostRuntime) {
-    let alloc = rt.alloc();
-    let stop = Note::Sent(Command::Stop);
-    let cases: [(&[Note], bool); 4] = [
+    static CASES: [(&[TableNote], bool); 4] = [
         (&[], false),
-        (&[Note::Sent(Command::Play), Note::Stop], false),
-        (&[stop], true),
-        (&[Note::Stop, stop, Note::Silence], true),
+        (&[TableNote::Play, TableNote::Stop], false),
+        (&[TableNote::SentStop], true),
+        (
+            &[TableNote::Stop, TableNote::SentStop, TableNote::Silence],
+            true,
+        ),
     ];
-    for (notes, wanted) in cases.as_slice() {
-        let rows = told(&rt, notes, alloc);
-        assert_eq!(rt; has_stop(rows.as_slice()), *wanted);
+    for (notes, wanted) in CASES.iter() {
+        let rows = rows_of(&rt, notes, rt.alloc());
+        assert_eq!(rt; has_stop(rows.as_slice()), *wanted, "{notes:?}");
     }
 }
 
 #[test]
-fn airings_from_the_middle_are_written(rt: HostRuntime) -> Result<(), Fail> {
+fn airings_from_the_middle_are_written(rt: HostRuntime) {
     let alloc = rt.alloc();
     let text = b"A,,\nB,00:00:02:00,00:00:03:00\nC,,\n";
-    let list = read_list(alloc, text.as_slice(), Rate::F25)?;
+    let list = read_list(alloc, text.as_slice(), Rate::F25).expect(&rt, "a list");
     let known = Moment::parse(b"2026-11-24T09:30:01.000Z").expect(&rt, "a moment");
     let airing = Airing {
         played: time(&rt),
         known,
     };
     let mut written = Vec::new(alloc);
-    write_timed_heading(alloc, &list, &mut written)?;
+    let heading = write_timed_heading(alloc, &list, &mut written);
     assert!(rt; 3 <= list.len());
-    write_timed_events(alloc, &list, Rate::F25, 1, &[airing, airing], &mut written)?;
+    let times = [airing, airing];
+    let events = write_timed_events(alloc, &list, Rate::F25, 1, &times, &mut written);
     let times = "2026-11-24T09:30:00.125Z,2026-11-24T09:30:01.000Z";
     let wanted = format!(in alloc;
         "number,id,start,duration,played,known\n1,B,00:00:02:00,00:00:03:00,{times}\n2,C,,,{times}\n"
-    )?;
-    assert_eq!(rt; written.as_slice(), wanted.as_bytes());
-    Ok(())
+    ).expect(&rt, "memory");
+    assert_eq!(rt;
+        (heading, events, written.as_slice()),
+        (Ok(()), Ok(()), wanted.as_bytes())
+    );
 }
 
 // The heading of a journal of the server at this unit, and the row that begins it.
@@ -295,83 +394,98 @@ const HEADING: &str =
     "2026-11-24T09:30:00.125Z,list,0f0f0f0f0f0f0f0f0f0f0f0f0f0f0f0f0f0f0f0f0f0f0f0f0f0f0f0f0f0f0f0f,plain,0,1,3\n";
 
 #[test]
-fn a_journal_is_read_without_its_torn_row(rt: HostRuntime) -> Result<(), Fail> {
+fn a_journal_is_read_without_its_torn_row(rt: HostRuntime) {
+    static NOTES: [TableNote; 5] = [
+        TableNote::Cue,
+        TableNote::Nak(1),
+        TableNote::Silence,
+        TableNote::End(Outcome::Missing(3)),
+        TableNote::From(4),
+    ];
     let alloc = rt.alloc();
     let rows = "2026-11-24T09:30:00.125Z,sent,\"cue A,B\",020a2024412c4220202020206d\n\
         2026-11-24T09:30:00.125Z,heard,nak 01,0501\n\
         2026-11-24T09:30:00.125Z,silence,,\n\
         2026-11-24T09:30:00.125Z,end,missing,3\n\
         2026-11-24T09:30:00.125Z,from,4,\n";
-    let text = format!(in alloc; "{HEADING}{rows}2026-11-24T09:3")?;
+    let text = format!(in alloc; "{HEADING}{rows}2026-11-24T09:3").expect(&rt, "memory");
     let Ok(journal) = read_journal(alloc, text.as_bytes()) else {
         panic!(rt; "the journal is read");
     };
-    let notes = [
-        Note::Sent(Command::PlayCue(ClipId::new(*b"A,B     "))),
-        Note::Heard(Heard::Reply(Reply::Nak(1))),
-        Note::Silence,
-        Note::End(Outcome::Missing(3)),
-        Note::From(4),
-    ];
-    assert_eq!(rt; journal.time, time(&rt));
-    assert_eq!(rt; journal.heading.digest, [0x0f; 32]);
-    assert_eq!(rt; journal.heading.limit, 3);
+    let wanted_rows = rows_of(&rt, &NOTES, alloc);
+    let digest = journal.heading.digest;
+    let limit = journal.heading.limit;
     assert_eq!(rt;
-        journal.rows.as_slice(),
-        told(&rt, notes.as_slice(), alloc).as_slice()
+        (
+            journal.time,
+            digest,
+            limit,
+            journal.rows.as_slice(),
+            journal.whole
+        ),
+        (
+            time(&rt),
+            [0x0f; 32],
+            3,
+            wanted_rows.as_slice(),
+            HEADING.len() + rows.len()
+        )
     );
-    assert_eq!(rt; journal.whole, HEADING.len() + rows.len());
-    Ok(())
 }
 
+// Why these bytes are no journal.
+fn read_fault(alloc: Global, bytes: &[u8]) -> Option<JournalReadFault> {
+    read_journal(alloc, bytes).err()
+}
+
+// Lines that are no row, with why each isn't one.
+static NO_ROWS: [(&str, JournalRowFault); 12] = [
+    ("2026-11-24T09:30:00.125Z,silence,", JournalRowFault::Fields),
+    ("2026-11-24 09:30,silence,,", JournalRowFault::Time),
+    ("2026-11-24T09:30:00.125Z,quiet,,", JournalRowFault::Word),
+    (
+        "2026-11-24T09:30:00.125Z,sent,play,02021001ee",
+        JournalRowFault::Command,
+    ),
+    (
+        "2026-11-24T09:30:00.125Z,sent,stop,02021001ef",
+        JournalRowFault::Command,
+    ),
+    (
+        "2026-11-24T09:30:00.125Z,heard,ack,05",
+        JournalRowFault::Reply,
+    ),
+    (
+        "2026-11-24T09:30:00.125Z,end,missing,03",
+        JournalRowFault::Outcome,
+    ),
+    (
+        "2026-11-24T09:30:00.125Z,silence,,04",
+        JournalRowFault::Detail,
+    ),
+    (
+        "2026-11-24T09:30:00.125Z,take,now,",
+        JournalRowFault::Detail,
+    ),
+    ("2026-11-24T09:30:00.125Z,from,,", JournalRowFault::Event),
+    ("2026-11-24T09:30:00.125Z,from,04,", JournalRowFault::Event),
+    ("2026-11-24T09:30:00.125Z,from,4,4", JournalRowFault::Event),
+];
+
 #[test]
-fn a_line_that_is_no_row_is_refused(rt: HostRuntime) -> Result<(), Fail> {
+fn a_line_that_is_no_row_is_refused(rt: HostRuntime) {
     let alloc = rt.alloc();
-    let cases: [(&str, JournalRowFault); 12] = [
-        ("2026-11-24T09:30:00.125Z,silence,", JournalRowFault::Fields),
-        ("2026-11-24 09:30,silence,,", JournalRowFault::Time),
-        ("2026-11-24T09:30:00.125Z,quiet,,", JournalRowFault::Word),
-        (
-            "2026-11-24T09:30:00.125Z,sent,play,02021001ee",
-            JournalRowFault::Command,
-        ),
-        (
-            "2026-11-24T09:30:00.125Z,sent,stop,02021001ef",
-            JournalRowFault::Command,
-        ),
-        (
-            "2026-11-24T09:30:00.125Z,heard,ack,05",
-            JournalRowFault::Reply,
-        ),
-        (
-            "2026-11-24T09:30:00.125Z,end,missing,03",
-            JournalRowFault::Outcome,
-        ),
-        (
-            "2026-11-24T09:30:00.125Z,silence,,04",
-            JournalRowFault::Detail,
-        ),
-        (
-            "2026-11-24T09:30:00.125Z,take,now,",
-            JournalRowFault::Detail,
-        ),
-        ("2026-11-24T09:30:00.125Z,from,,", JournalRowFault::Event),
-        ("2026-11-24T09:30:00.125Z,from,04,", JournalRowFault::Event),
-        ("2026-11-24T09:30:00.125Z,from,4,4", JournalRowFault::Event),
-    ];
-    for (line, fault) in cases.as_slice() {
-        let text = format!(in alloc; "{HEADING}2026-11-24T09:30:00.125Z,silence,,\n{line}\n")?;
-        match read_journal(alloc, text.as_bytes()) {
-            Ok(_) => panic!(rt; "the line is refused"),
-            Err(found) => assert_eq!(rt; found, JournalReadFault::Row(3, *fault)),
-        }
+    for (line, fault) in NO_ROWS.iter() {
+        let row = "2026-11-24T09:30:00.125Z,silence,,";
+        let text = format!(in alloc; "{HEADING}{row}\n{line}\n").expect(&rt, "memory");
+        let refused = Some(JournalReadFault::Row(3, *fault));
+        assert_eq!(rt; read_fault(alloc, text.as_bytes()), refused, "{line}");
     }
-    Ok(())
 }
 
 #[test]
 fn a_line_that_is_no_heading_is_refused(rt: HostRuntime) {
-    let cases: [(&str, JournalReadFault); 6] = [
+    static CASES: [(&str, JournalReadFault); 6] = [
         ("", JournalReadFault::Empty),
         ("2026-11-24T09:30:00.125Z,list", JournalReadFault::Empty),
         (
@@ -391,10 +505,11 @@ fn a_line_that_is_no_heading_is_refused(rt: HostRuntime) {
             JournalReadFault::Heading(JournalRowFault::Number),
         ),
     ];
-    for (text, fault) in cases.as_slice() {
-        match read_journal(rt.alloc(), text.as_bytes()) {
-            Ok(_) => panic!(rt; "the line is refused"),
-            Err(found) => assert_eq!(rt; found, *fault),
-        }
+    for (text, fault) in CASES.iter() {
+        assert_eq!(rt;
+            read_fault(rt.alloc(), text.as_bytes()),
+            Some(*fault),
+            "{text}"
+        );
     }
 }

@@ -73,16 +73,6 @@ impl Source for Clips {
     }
 }
 
-/// A log, the command that comes next, and for plain and for confirm mode whether that is allowed and how many
-/// events are settled.
-#[derive(Clone, Copy)]
-struct Case<'a> {
-    log: &'a [Exchange],
-    next: Command,
-    plain: (bool, usize),
-    confirming: (bool, usize),
-}
-
 fn heard(command: Command, reply: Reply) -> Exchange {
     Exchange {
         command,
@@ -101,32 +91,99 @@ fn status(byte: u8) -> Exchange {
     heard(Command::Status(1), Reply::State(1, Some(byte)))
 }
 
-fn check_in(rt: &impl Abort, mut judge: Judge<Clips>, case: &Case, wanted: (bool, usize)) {
-    for exchange in case.log {
-        judge.add(exchange);
+/// A command, as a static table holds it. A static can't hold a clip's ID, and a `Command` may have one.
+#[derive(Clone, Copy, Debug)]
+enum Asked {
+    Open,
+    Close,
+    Select,
+    CueFirst,
+    CueSecond,
+    CueSecondWhole,
+    Play,
+    Stop,
+    Status,
+    HasSecond,
+}
+
+impl Asked {
+    fn command(&self, clips: &Clips) -> Command {
+        match self {
+            Asked::Open => Command::Open(1, 1),
+            Asked::Close => Command::Close(1),
+            Asked::Select => Command::Select(1),
+            Asked::CueFirst => clips.cue_first(),
+            Asked::CueSecond => clips.cue_second(),
+            Asked::CueSecondWhole => Command::PlayCue(clips.second),
+            Asked::Play => Command::Play,
+            Asked::Stop => Command::Stop,
+            Asked::Status => Command::Status(1),
+            Asked::HasSecond => Command::IdRequest(clips.second),
+        }
     }
-    assert_eq!(rt; judge.allows(&case.next), wanted.0);
-    assert_eq!(rt; judge.settled(), wanted.1);
+}
+
+/// An exchange of a table.
+#[derive(Clone, Copy, Debug)]
+enum Step {
+    Acked(Asked),
+    Silent(Asked),
+    Granted,
+    Denied,
+    /// A PLAY with this NAK.
+    PlayNak(u8),
+    /// The status of the port.
+    State(u8),
+}
+
+impl Step {
+    fn exchange(&self, clips: &Clips) -> Exchange {
+        match self {
+            Step::Acked(asked) => heard(asked.command(clips), Reply::Ack),
+            Step::Silent(asked) => silent(asked.command(clips)),
+            Step::Granted => heard(Command::Open(1, 1), Reply::Opened(true)),
+            Step::Denied => heard(Command::Open(1, 1), Reply::Opened(false)),
+            Step::PlayNak(byte) => heard(Command::Play, Reply::Nak(*byte)),
+            Step::State(byte) => status(*byte),
+        }
+    }
+}
+
+/// A log, the command that comes next, and for plain and for confirm mode whether that is allowed and how many
+/// events are settled.
+type Case = (&'static [Step], Asked, (bool, usize), (bool, usize));
+
+fn check_in(
+    rt: &impl Abort,
+    mode: &str,
+    mut judge: Judge<Clips>,
+    log: &[Step],
+    next: Asked,
+    wanted: (bool, usize),
+) {
+    let clips = Clips::new();
+    for step in log {
+        judge.add(&step.exchange(&clips));
+    }
+    let command = next.command(&clips);
+    assert_eq!(rt;
+        (judge.allows(&command), judge.settled()),
+        wanted,
+        "{mode}: {next:?} after {log:?}"
+    );
 }
 
 fn check(rt: &impl Abort, cases: &[Case]) {
-    for case in cases {
-        check_in(rt, Judge::new(Clips::new()), case, case.plain);
-        check_in(rt, Judge::confirming(Clips::new()), case, case.confirming);
-    }
-}
-
-fn row<'a>(
-    log: &'a [Exchange],
-    next: Command,
-    plain: (bool, usize),
-    confirming: (bool, usize),
-) -> Case<'a> {
-    Case {
-        log,
-        next,
-        plain,
-        confirming,
+    for (log, next, plain, confirming) in cases {
+        check_in(rt, "plain", Judge::new(Clips::new()), log, *next, *plain);
+        check_in(
+            rt,
+            "confirm",
+            Judge::confirming(Clips::new()),
+            log,
+            *next,
+            *confirming,
+        );
     }
 }
 
@@ -134,137 +191,132 @@ const YES: (bool, usize) = (true, 0);
 
 const NO: (bool, usize) = (false, 0);
 
+const CUED: Step = Step::Acked(Asked::CueFirst);
+
+const CUED_SECOND: Step = Step::Acked(Asked::CueSecond);
+
+const DONE: Step = Step::State(0x80);
+
+const EMPTY: Step = Step::State(0x04);
+
+const PLAYED: Step = Step::Acked(Asked::Play);
+
+const LOST: Step = Step::Silent(Asked::Play);
+
+const STOPPED: Step = Step::Acked(Asked::Stop);
+
+const CLOSED: Step = Step::Acked(Asked::Close);
+
 #[test]
 fn what_may_begin(rt: HostRuntime) {
-    let clips = Clips::new();
-    let open = Command::Open(1, 1);
-    let granted = heard(open, Reply::Opened(true));
-    let denied = heard(open, Reply::Opened(false));
-    check(
-        &rt,
-        &[
-            row(&[], open, YES, YES),
-            row(&[], Command::Select(1), NO, NO),
-            row(&[denied], Command::Select(1), NO, NO),
-            row(&[silent(open)], Command::Select(1), NO, NO),
-            row(&[granted], Command::Select(1), YES, YES),
-            row(&[granted], clips.cue_first(), YES, YES),
-            row(&[granted], clips.cue_second(), NO, NO),
-            row(&[granted], Command::PlayCue(clips.second), NO, NO),
-            row(&[granted], Command::Play, NO, NO),
-            row(&[granted], Command::Close(1), NO, NO),
-            row(&[granted], Command::IdRequest(clips.second), YES, YES),
-        ],
-    );
+    static CASES: [Case; 11] = [
+        (&[], Asked::Open, YES, YES),
+        (&[], Asked::Select, NO, NO),
+        (&[Step::Denied], Asked::Select, NO, NO),
+        (&[Step::Silent(Asked::Open)], Asked::Select, NO, NO),
+        (&[Step::Granted], Asked::Select, YES, YES),
+        (&[Step::Granted], Asked::CueFirst, YES, YES),
+        (&[Step::Granted], Asked::CueSecond, NO, NO),
+        (&[Step::Granted], Asked::CueSecondWhole, NO, NO),
+        (&[Step::Granted], Asked::Play, NO, NO),
+        (&[Step::Granted], Asked::Close, NO, NO),
+        (&[Step::Granted], Asked::HasSecond, YES, YES),
+    ];
+    check(&rt, &CASES);
 }
 
 #[test]
 fn what_a_play_needs(rt: HostRuntime) {
-    let clips = Clips::new();
-    let cued = heard(clips.cue_first(), Reply::Ack);
-    let uncertain = silent(clips.cue_first());
-    let other = heard(clips.cue_second(), Reply::Ack);
-    let done = status(0x80);
-    let unread = heard(Command::Play, Reply::Nak(0x04));
-    check(
-        &rt,
-        &[
-            row(&[cued], Command::Play, NO, NO),
-            row(&[done], Command::Play, NO, NO),
-            row(&[cued, status(0x02)], Command::Play, NO, NO),
-            row(&[cued, done], Command::Play, YES, YES),
-            row(&[cued, status(0x84)], Command::Play, YES, YES),
-            row(&[cued, done, status(0x01)], Command::Play, YES, YES),
-            row(&[uncertain, done], Command::Play, NO, YES),
-            row(&[cued, done, cued], Command::Play, NO, NO),
-            row(&[cued, done, other, done], Command::Play, NO, NO),
-            row(&[cued, done, unread], Command::Play, NO, NO),
-            row(&[cued, done, unread, done], Command::Play, YES, YES),
-        ],
-    );
+    static CASES: [Case; 11] = [
+        (&[CUED], Asked::Play, NO, NO),
+        (&[DONE], Asked::Play, NO, NO),
+        (&[CUED, Step::State(0x02)], Asked::Play, NO, NO),
+        (&[CUED, DONE], Asked::Play, YES, YES),
+        (&[CUED, Step::State(0x84)], Asked::Play, YES, YES),
+        (&[CUED, DONE, Step::State(0x01)], Asked::Play, YES, YES),
+        (&[Step::Silent(Asked::CueFirst), DONE], Asked::Play, NO, YES),
+        (&[CUED, DONE, CUED], Asked::Play, NO, NO),
+        (&[CUED, DONE, CUED_SECOND, DONE], Asked::Play, NO, NO),
+        (&[CUED, DONE, Step::PlayNak(0x04)], Asked::Play, NO, NO),
+        (
+            &[CUED, DONE, Step::PlayNak(0x04), DONE],
+            Asked::Play,
+            YES,
+            YES,
+        ),
+    ];
+    check(&rt, &CASES);
 }
+
+// Cases in which events are settled or stay open.
+static SETTLED: [Case; 11] = [
+    (&[CUED, DONE, PLAYED], Asked::CueSecond, (true, 1), NO),
+    (&[CUED, DONE, PLAYED], Asked::CueFirst, (false, 1), YES),
+    (&[CUED, DONE, PLAYED, DONE], Asked::Play, (false, 1), YES),
+    (&[CUED, DONE, LOST], Asked::CueFirst, NO, NO),
+    (&[CUED, DONE, LOST], Asked::Status, YES, YES),
+    (
+        &[CUED, DONE, LOST, EMPTY],
+        Asked::CueSecond,
+        (true, 1),
+        (true, 1),
+    ),
+    (
+        &[CUED, DONE, LOST, EMPTY, EMPTY],
+        Asked::Play,
+        (false, 1),
+        (false, 1),
+    ),
+    (&[CUED, DONE, LOST, STOPPED, EMPTY], Asked::Close, YES, YES),
+    (
+        &[CUED, DONE, Step::PlayNak(0x01), EMPTY],
+        Asked::CueFirst,
+        YES,
+        YES,
+    ),
+    (
+        &[CUED, DONE, LOST, EMPTY, CUED_SECOND, DONE, LOST],
+        Asked::Close,
+        (false, 1),
+        (false, 1),
+    ),
+    (
+        &[CUED, DONE, LOST, EMPTY, CUED_SECOND, DONE, LOST, EMPTY],
+        Asked::Close,
+        (true, 2),
+        (true, 2),
+    ),
+];
 
 #[test]
 fn what_settles(rt: HostRuntime) {
-    let clips = Clips::new();
-    let cued = heard(clips.cue_first(), Reply::Ack);
-    let done = status(0x80);
-    let played = heard(Command::Play, Reply::Ack);
-    let lost = silent(Command::Play);
-    let stop = heard(Command::Stop, Reply::Ack);
-    let last = heard(clips.cue_second(), Reply::Ack);
-    let refused = heard(Command::Play, Reply::Nak(0x01));
-    let empty = status(0x04);
-    check(
-        &rt,
-        &[
-            row(&[cued, done, played], clips.cue_second(), (true, 1), NO),
-            row(&[cued, done, played], clips.cue_first(), (false, 1), YES),
-            row(&[cued, done, played, done], Command::Play, (false, 1), YES),
-            row(&[cued, done, lost], clips.cue_first(), NO, NO),
-            row(&[cued, done, lost], Command::Status(1), YES, YES),
-            row(
-                &[cued, done, lost, empty],
-                clips.cue_second(),
-                (true, 1),
-                (true, 1),
-            ),
-            row(
-                &[cued, done, lost, empty, empty],
-                Command::Play,
-                (false, 1),
-                (false, 1),
-            ),
-            row(
-                &[cued, done, lost, stop, empty],
-                Command::Close(1),
-                YES,
-                YES,
-            ),
-            row(&[cued, done, refused, empty], clips.cue_first(), YES, YES),
-            row(
-                &[cued, done, lost, empty, last, done, lost],
-                Command::Close(1),
-                (false, 1),
-                (false, 1),
-            ),
-            row(
-                &[cued, done, lost, empty, last, done, lost, empty],
-                Command::Close(1),
-                (true, 2),
-                (true, 2),
-            ),
-        ],
-    );
+    check(&rt, &SETTLED);
 }
 
 #[test]
 fn what_ends(rt: HostRuntime) {
-    let stop = heard(Command::Stop, Reply::Ack);
-    let closed = heard(Command::Close(1), Reply::Ack);
-    check(
-        &rt,
-        &[
-            row(&[stop], Command::Status(1), NO, NO),
-            row(&[stop], Command::Open(1, 1), NO, NO),
-            row(&[stop], Command::Stop, YES, YES),
-            row(&[silent(Command::Stop)], Command::Close(1), YES, YES),
-            row(&[closed], Command::Stop, NO, NO),
-            row(&[closed], Command::Close(1), NO, NO),
-            row(&[stop, closed], Command::Close(1), YES, YES),
-            row(&[stop, closed], Command::Stop, NO, NO),
-        ],
-    );
+    static CASES: [Case; 8] = [
+        (&[STOPPED], Asked::Status, NO, NO),
+        (&[STOPPED], Asked::Open, NO, NO),
+        (&[STOPPED], Asked::Stop, YES, YES),
+        (&[Step::Silent(Asked::Stop)], Asked::Close, YES, YES),
+        (&[CLOSED], Asked::Stop, NO, NO),
+        (&[CLOSED], Asked::Close, NO, NO),
+        (&[STOPPED, CLOSED], Asked::Close, YES, YES),
+        (&[STOPPED, CLOSED], Asked::Stop, NO, NO),
+    ];
+    check(&rt, &CASES);
 }
 
 #[test]
 fn an_open_play_is_seen(rt: HostRuntime) {
     let mut judge = Judge::new(Clips::new());
-    assert!(rt; !judge.has_open_play());
+    let before = judge.has_open_play();
     judge.add(&silent(Command::Play));
-    assert!(rt; judge.has_open_play());
+    let open = judge.has_open_play();
     judge.add(&status(0x01));
-    assert!(rt; !judge.has_open_play());
+    let after = judge.has_open_play();
+    assert_eq!(rt; (before, open, after), (false, true, false));
 }
 
 #[test]
@@ -277,9 +329,25 @@ fn the_first_forbidden_command_is_found(rt: HostRuntime) {
         silent(Command::Play),
         silent(Command::Select(1)),
     ];
-    assert_eq!(rt; first_forbidden(Judge::new(clips), &log), Some(3));
-    assert_eq!(rt; first_forbidden(Judge::confirming(clips), &log[..3]), None);
+    let plain = first_forbidden(Judge::new(clips), &log);
+    let confirming = first_forbidden(Judge::confirming(clips), &log[..3]);
+    assert_eq!(rt; (plain, confirming), (Some(3), None));
 }
+
+const ALLOWED: Ruling = Ruling {
+    is_allowed: true,
+    settles: false,
+};
+
+const SETTLING: Ruling = Ruling {
+    is_allowed: true,
+    settles: true,
+};
+
+const FORBIDDEN: Ruling = Ruling {
+    is_allowed: false,
+    settles: false,
+};
 
 #[test]
 fn each_exchange_is_ruled_on(rt: HostRuntime) -> Result<(), Fail> {
@@ -293,58 +361,46 @@ fn each_exchange_is_ruled_on(rt: HostRuntime) -> Result<(), Fail> {
         cued,
     ];
     let ruled = rulings(rt.alloc(), Judge::new(clips), &log)?;
-    let allowed = Ruling {
-        is_allowed: true,
-        settles: false,
-    };
-    let settling = Ruling {
-        is_allowed: true,
-        settles: true,
-    };
-    let forbidden = Ruling {
-        is_allowed: false,
-        settles: false,
-    };
     assert_eq!(rt;
         ruled.as_slice(),
-        [allowed, allowed, allowed, settling, forbidden].as_slice()
+        [ALLOWED, ALLOWED, ALLOWED, SETTLING, FORBIDDEN].as_slice()
     );
     Ok(())
 }
 
+const CAME_ACK: Captured = Captured::Came(Heard::Reply(Reply::Ack));
+
+const CAME_STATE: Captured = Captured::Came(Heard::Reply(Reply::State(1, Some(0x80))));
+
+const SENT_STATUS: Captured = Captured::Sent(Command::Status(1));
+
 #[test]
 fn a_capture_shows_its_exchanges(rt: HostRuntime) -> Result<(), Fail> {
-    let alloc = rt.alloc();
-    let ack = Captured::Came(Heard::Reply(Reply::Ack));
-    let state = Reply::State(1, Some(0x80));
-    let asked = Captured::Sent(Command::Status(1));
-    let came = Captured::Came(Heard::Reply(state));
     let capture = [
-        ack,
+        CAME_ACK,
         Captured::Sent(Command::Play),
-        ack,
-        ack,
-        asked,
-        ack,
-        came,
-        asked,
-        asked,
+        CAME_ACK,
+        CAME_ACK,
+        SENT_STATUS,
+        CAME_ACK,
+        CAME_STATE,
+        SENT_STATUS,
+        SENT_STATUS,
         Captured::Silence,
-        came,
+        CAME_STATE,
     ];
-    let shown = exchanges_in(alloc, false, &capture)?;
+    let shown = exchanges_in(rt.alloc(), false, &capture)?;
+    let confirmed = exchanges_in(rt.alloc(), true, &capture)?;
     let acked = heard(Command::Status(1), Reply::Ack);
     let unheard = silent(Command::Status(1));
     let played = heard(Command::Play, Reply::Ack);
-    assert_eq!(rt;
-        shown.as_slice(),
-        [played, acked, unheard, unheard].as_slice()
-    );
-    let confirmed = exchanges_in(alloc, true, &capture)?;
     let lost = silent(Command::Play);
     assert_eq!(rt;
-        confirmed.as_slice(),
-        [lost, status(0x80), unheard, unheard].as_slice()
+        (shown.as_slice(), confirmed.as_slice()),
+        (
+            [played, acked, unheard, unheard].as_slice(),
+            [lost, status(0x80), unheard, unheard].as_slice()
+        )
     );
     Ok(())
 }
@@ -353,27 +409,16 @@ fn a_capture_shows_its_exchanges(rt: HostRuntime) -> Result<(), Fail> {
 fn a_burst_says_its_messages(rt: HostRuntime) -> Result<(), Fail> {
     let alloc = rt.alloc();
     // STATUS 01h to unit 0, PLAY to unit 0, PLAY to unit 1
-    let sent = [
-        0x02, 0x03, 0x30, 0x05, 0x01, 0xCA, 0x02, 0x02, 0x10, 0x01, 0xEF, 0x02, 0x02, 0x11, 0x01,
-        0xEE,
-    ];
-    let down = captured_in(alloc, 0, Way::Down, &sent)?;
-    let status = Captured::Sent(Command::Status(1));
-    assert_eq!(rt;
-        down.as_slice(),
-        [status, Captured::Sent(Command::Play)].as_slice()
-    );
+    let sent = b"\x02\x03\x30\x05\x01\xCA\x02\x02\x10\x01\xEF\x02\x02\x11\x01\xEE";
+    let down = captured_in(alloc, 0, Way::Down, sent)?;
     // ACK, and a message that is none
-    let up = captured_in(
-        alloc,
-        0,
-        Way::Up,
-        &[0x04, 0x02, 0x02, 0x10, 0x01, 0xEF, 0x02],
-    )?;
-    let ack = Captured::Came(Heard::Reply(Reply::Ack));
+    let up = captured_in(alloc, 0, Way::Up, b"\x04\x02\x02\x10\x01\xEF\x02")?;
     assert_eq!(rt;
-        up.as_slice(),
-        [ack, Captured::Came(Heard::Other)].as_slice()
+        (down.as_slice(), up.as_slice()),
+        (
+            [SENT_STATUS, Captured::Sent(Command::Play)].as_slice(),
+            [CAME_ACK, Captured::Came(Heard::Other)].as_slice()
+        )
     );
     Ok(())
 }

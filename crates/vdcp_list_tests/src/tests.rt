@@ -1,13 +1,14 @@
 //! Worked rows, failing readers and writers, and each public call once.
 
-ghost use Rattle.std.specs.Prelude.{◌≡◌, IfOk, length};
+ghost use Rattle.std.specs.Prelude.{◌≡◌, ◌<◌, IfOk, length};
 ghost use Rattle.vdcp_list.specs.Rows.{HasRows};
 
 use csv::ByteRecord;
 use linked_list_allocator::LocalHeap;
-use std::alloc::{AllocError, Global};
+use std::alloc::{AllocError, Allocator, Global};
 use std::io;
 use std::io::{Read, Write};
+use std::process::Abort;
 use std::test::Fail;
 use vdcp_auto::Source;
 use vdcp_list::laws::rows_are_read_in_order;
@@ -22,25 +23,30 @@ fn clip(name: &[u8; 8]) -> ClipId {
     ClipId::new(*name)
 }
 
-/// A whole clip.
-fn whole(name: &[u8; 8]) -> Item {
+/// The bytes of an item's id, and its part.
+type Named = (&'static [u8; 8], Option<Part>);
+
+fn item_of(name: &[u8; 8], part: Option<Part>) -> Item {
     Item {
         id: clip(name),
-        part: None,
+        part,
     }
 }
 
-fn part(name: &[u8; 8], start: [u8; 4], duration: [u8; 4]) -> Item {
-    Item {
-        id: clip(name),
-        part: Some(Part { start, duration }),
-    }
-}
+/// Three seconds, from two seconds on.
+const SECONDS: Option<Part> = Some(Part {
+    start: [0, 2, 0, 0],
+    duration: [0, 3, 0, 0],
+});
 
 // These promise nothing, so the proof of a test needn't go through the clauses of each call.
 
+fn list_at(alloc: Global, text: &[u8], rate: Rate) -> Result<List, ListFault> {
+    read_list(alloc, text, rate)
+}
+
 fn list_of(alloc: Global, text: &[u8]) -> Result<List, ListFault> {
-    read_list(alloc, text, Rate::F25)
+    list_at(alloc, text, Rate::F25)
 }
 
 fn table_of(alloc: Global, text: &[u8]) -> Result<Table, ListFault> {
@@ -48,8 +54,8 @@ fn table_of(alloc: Global, text: &[u8]) -> Result<Table, ListFault> {
 }
 
 /// Writes this many events, or all.
-fn write_first<W: Write>(
-    alloc: Global,
+fn write_first<W: Write, A: Allocator>(
+    alloc: A,
     list: &List,
     rate: Rate,
     count: usize,
@@ -71,79 +77,98 @@ fn write_from(
     write_events(alloc, list, rate, from, count.min(list.len() - from), out)
 }
 
-/// Whether a playlist has these items.
-fn has_items(list: &List, items: &[Item]) -> bool {
+/// Whether a playlist, or the rest of one, has these items.
+fn has_items<S: Source>(list: &S, items: &[Named]) -> bool {
     if list.len() != items.len() {
         return false;
     }
     for k in 0..list.len() {
-        if Some(&list.at(k)) != items.get(k) {
+        let item = items.get(k).map(|(name, part)| item_of(name, *part));
+        if Some(list.at(k)) != item {
             return false;
         }
     }
     true
 }
 
+static PLAYLISTS: [(&str, &[Named]); 11] = [
+    ("", &[]),
+    (
+        "CLIP0001\nCLIP0002\n",
+        &[(b"CLIP0001", None), (b"CLIP0002", None)],
+    ),
+    (
+        "CLIP0001\nCLIP0001",
+        &[(b"CLIP0001", None), (b"CLIP0001", None)],
+    ),
+    (
+        "\"CLIP0001\"\r\n\r\n\n\"A,B\"\r\n",
+        &[(b"CLIP0001", None), (b"A,B     ", None)],
+    ),
+    ("\"a\"\"b\"\n", &[(b"a\"b     ", None)]),
+    ("0x80004c4950303031\n", &[(b"\x80\x00LIP001", None)]),
+    ("\u{FEFF}CLIP0001\n", &[(b"CLIP0001", None)]),
+    (
+        "CLIP0001,00:00:02:00,00:00:03:00\nCLIP0002,,\n",
+        &[(b"CLIP0001", SECONDS), (b"CLIP0002", None)],
+    ),
+    (
+        "CLIP0001,00:00:00:00,00:00:00:01\n",
+        &[(
+            b"CLIP0001",
+            Some(Part {
+                start: [0, 0, 0, 0],
+                duration: [1, 0, 0, 0],
+            }),
+        )],
+    ),
+    ("A,,\nB,,\n", &[(b"A       ", None), (b"B       ", None)]),
+    (
+        "A,00:00:02:24,00:00:03:00\nB,,\n",
+        &[
+            (
+                b"A       ",
+                Some(Part {
+                    start: [0x24, 2, 0, 0],
+                    duration: [0, 3, 0, 0],
+                }),
+            ),
+            (b"B       ", None),
+        ],
+    ),
+];
+
 #[test]
 fn playlists_are_read(rt: HostRuntime) -> Result<(), Fail> {
-    let cases: [(&str, &[Item]); 10] = [
-        ("", &[]),
-        (
-            "CLIP0001\nCLIP0002\n",
-            &[whole(b"CLIP0001"), whole(b"CLIP0002")],
-        ),
-        (
-            "CLIP0001\nCLIP0001",
-            &[whole(b"CLIP0001"), whole(b"CLIP0001")],
-        ),
-        (
-            "\"CLIP0001\"\r\n\r\n\n\"A,B\"\r\n",
-            &[whole(b"CLIP0001"), whole(b"A,B     ")],
-        ),
-        ("\"a\"\"b\"\n", &[whole(b"a\"b     ")]),
-        ("0x80004c4950303031\n", &[whole(b"\x80\x00LIP001")]),
-        ("\u{FEFF}CLIP0001\n", &[whole(b"CLIP0001")]),
-        (
-            "CLIP0001,00:00:02:00,00:00:03:00\nCLIP0002,,\n",
-            &[
-                part(b"CLIP0001", [0, 2, 0, 0], [0, 3, 0, 0]),
-                whole(b"CLIP0002"),
-            ],
-        ),
-        (
-            "CLIP0001,00:00:00:00,00:00:00:01\n",
-            &[part(b"CLIP0001", [0, 0, 0, 0], [1, 0, 0, 0])],
-        ),
-        ("A,,\nB,,\n", &[whole(b"A       "), whole(b"B       ")]),
-    ];
-    for (text, items) in cases {
+    for &(text, items) in &PLAYLISTS {
         let list = list_of(rt.alloc(), text.as_bytes())?;
         assert!(rt; has_items(&list, items), "{text:?}");
     }
     Ok(())
 }
 
+static REFUSED_PLAYLISTS: [(&[u8], ListFault); 15] = [
+    (b"CLIP0001\nCLIP0002,,\n", ListFault::Columns(2)),
+    (b"CLIP0002,,\nCLIP0001\n", ListFault::Columns(2)),
+    (b"CLIP0001,\n", ListFault::Columns(1)),
+    (b"CLIP0001,,,\n", ListFault::Columns(1)),
+    (b"CLIP0001\n0x434c495030303031\n", ListFault::Id(2)),
+    (b"CLIP0001\n\nCLIP00001\n", ListFault::Id(2)),
+    (b"\"\"\n", ListFault::Id(1)),
+    (b" A\n", ListFault::Id(1)),
+    (b"A\xFF\n", ListFault::Id(1)),
+    (b" A,x,\n", ListFault::Id(1)),
+    (b"A,00:00:01:00,\n", ListFault::Time(1)),
+    (b"A,,\nA,,00:00:01:00\n", ListFault::Time(2)),
+    (b"A,00:00:01:00,00:00:00:00\n", ListFault::Time(1)),
+    (b"A,00:00:01:25,00:00:01:00\n", ListFault::Time(1)),
+    (b"A,00:00:01:00,\xFF0:00:01:00\n", ListFault::Time(1)),
+];
+
 #[test]
 fn playlists_are_refused(rt: HostRuntime) -> Result<(), Fail> {
-    let cases: [(&[u8], ListFault); 15] = [
-        (b"CLIP0001\nCLIP0002,,\n", ListFault::Columns(2)),
-        (b"CLIP0002,,\nCLIP0001\n", ListFault::Columns(2)),
-        (b"CLIP0001,\n", ListFault::Columns(1)),
-        (b"CLIP0001,,,\n", ListFault::Columns(1)),
-        (b"CLIP0001\n0x434c495030303031\n", ListFault::Id(2)),
-        (b"CLIP0001\n\nCLIP00001\n", ListFault::Id(2)),
-        (b"\"\"\n", ListFault::Id(1)),
-        (b" A\n", ListFault::Id(1)),
-        (b"A\xFF\n", ListFault::Id(1)),
-        (b" A,x,\n", ListFault::Id(1)),
-        (b"A,00:00:01:00,\n", ListFault::Time(1)),
-        (b"A,,\nA,,00:00:01:00\n", ListFault::Time(2)),
-        (b"A,00:00:01:00,00:00:00:00\n", ListFault::Time(1)),
-        (b"A,00:00:01:25,00:00:01:00\n", ListFault::Time(1)),
-        (b"A,00:00:01:00,\xFF0:00:01:00\n", ListFault::Time(1)),
-    ];
-    for (text, fault) in cases {
-        assert!(rt; refused_list(rt.alloc(), text) == Some(fault), "{fault:?}");
+    for &(text, fault) in &REFUSED_PLAYLISTS {
+        assert!(rt; refused_list(rt.alloc(), text) == Some(fault), "{text:?}");
     }
     Ok(())
 }
@@ -152,17 +177,28 @@ fn refused_list(alloc: Global, text: &[u8]) -> Option<ListFault> {
     list_of(alloc, text).err()
 }
 
+static DROP_FRAME_ITEM: [Named; 1] = [(
+    b"CLIP0001",
+    Some(Part {
+        start: [0x29, 0x59, 0, 0],
+        duration: [0x02, 0, 0x01, 0],
+    }),
+)];
+
 #[test]
 fn drop_frame_parts_are_read_at_their_rate(rt: HostRuntime) -> Result<(), Fail> {
     let text = b"CLIP0001,00:00:59;29,00:01:00;02\n";
-    let list = read_list(rt.alloc(), text.as_slice(), Rate::D30)?;
-    let item = part(b"CLIP0001", [0x29, 0x59, 0, 0], [0x02, 0, 0x01, 0]);
-    assert!(rt; has_items(&list, &[item]));
+    let list = list_at(rt.alloc(), text, Rate::D30)?;
+    assert!(rt; has_items(&list, &DROP_FRAME_ITEM));
     let dropped = b"CLIP0001,00:00:00;00,00:01:00;00\n";
-    assert!(rt;
-        read_list(rt.alloc(), dropped.as_slice(), Rate::D30).err() == Some(ListFault::Time(1))
+    let faults = (
+        list_at(rt.alloc(), dropped, Rate::D30).err(),
+        refused_list(rt.alloc(), text),
     );
-    assert!(rt; refused_list(rt.alloc(), text) == Some(ListFault::Time(1)));
+    assert_eq!(rt;
+        faults,
+        (Some(ListFault::Time(1)), Some(ListFault::Time(1)))
+    );
     Ok(())
 }
 
@@ -179,8 +215,10 @@ fn rows_in_turn(alloc: Global, count: usize) -> Result<String, Fail> {
     Ok(text)
 }
 
-/// Whether a playlist has these two items in turn.
-fn has_in_turn(list: &List, first: Item, second: Item) -> bool {
+/// Whether a playlist has `CLIP0001` with this part, and the whole `"A,B"`, in turn.
+fn has_in_turn(list: &List, part: Option<Part>) -> bool {
+    let first = item_of(b"CLIP0001", part);
+    let second = item_of(b"A,B     ", None);
     for k in 0..list.len() {
         if list.at(k) != if k % 2 == 0 { first } else { second } {
             return false;
@@ -193,11 +231,16 @@ fn has_in_turn(list: &List, first: Item, second: Item) -> bool {
 fn ten_thousand_rows_are_a_playlist(rt: HostRuntime) -> Result<(), Fail> {
     let text = rows_in_turn(rt.alloc(), 10_000)?;
     let list = list_of(rt.alloc(), text.as_bytes())?;
-    assert_eq!(rt; list.len(), 10_000);
-    assert_eq!(rt; list.text().len(), 55_000);
-    assert_eq!(rt; list.ends().len(), 10_000);
-    assert_eq!(rt; list.ends().get(1).copied(), Some(11));
-    assert!(rt; has_in_turn(&list, whole(b"CLIP0001"), whole(b"A,B     ")));
+    let ends = (list.ends().len(), list.ends().get(1).copied());
+    assert_eq!(rt;
+        (
+            list.len(),
+            list.text().len(),
+            ends,
+            has_in_turn(&list, None)
+        ),
+        (10_000, 55_000, (10_000, Some(11)), true)
+    );
     let text = rows_in_turn(rt.alloc(), 10_001)?;
     assert!(rt; refused_list(rt.alloc(), text.as_bytes()) == Some(ListFault::TooMany(10_001)));
     Ok(())
@@ -221,12 +264,20 @@ fn count_rows<R: Read + Drop>(alloc: Global, source: R) -> Result<usize, ListFau
     Ok(MAX_ROWS)
 }
 
+/// This promises nothing, so the proof of a test needn't go through the clauses of the call.
+fn rows_counted(alloc: Global, text: &[u8]) -> Result<usize, ListFault> {
+    count_rows(alloc, text)
+}
+
 #[test]
 fn rows_are_counted(rt: HostRuntime) -> Result<(), Fail> {
     let text = b"a\n\r\n\"b\n\",c,\n,\xFF";
-    assert_eq!(rt; count_rows(rt.alloc(), text.as_slice())?, 3);
     let most = rows_in_turn(rt.alloc(), MAX_ROWS)?;
-    assert_eq!(rt; count_rows(rt.alloc(), most.as_bytes())?, MAX_ROWS);
+    let counts = (
+        rows_counted(rt.alloc(), text)?,
+        rows_counted(rt.alloc(), most.as_bytes())?,
+    );
+    assert_eq!(rt; counts, (3, MAX_ROWS));
     Ok(())
 }
 
@@ -252,11 +303,16 @@ fn frames_in<C: Catalogue>(catalogue: &C, name: &[u8; 8]) -> Option<u32> {
 fn catalogues_are_read(rt: HostRuntime) -> Result<(), Fail> {
     let text = b"CLIP0002,00:00:00:01\r\n\r\n\"A,B\",00:00:10:00\n";
     let table = table_of(rt.alloc(), text)?;
-    assert_eq!(rt; table.len(), 2);
-    assert_eq!(rt; frames_in(&table, b"A,B     "), Some(250));
-    assert_eq!(rt; frames_in(&table, b"CLIP0002"), Some(1));
-    assert_eq!(rt; frames_in(&table, b"CLIP0001"), None);
-    assert_eq!(rt; table_of(rt.alloc(), b"")?.len(), 0);
+    let frames = (
+        frames_in(&table, b"A,B     "),
+        frames_in(&table, b"CLIP0002"),
+        frames_in(&table, b"CLIP0001"),
+    );
+    let empty = table_of(rt.alloc(), b"")?;
+    assert_eq!(rt;
+        (table.len(), frames, empty.len()),
+        (2, (Some(250), Some(1), None), 0)
+    );
     Ok(())
 }
 
@@ -264,39 +320,45 @@ fn catalogues_are_read(rt: HostRuntime) -> Result<(), Fail> {
 fn ten_thousand_rows_are_a_catalogue(rt: HostRuntime) -> Result<(), Fail> {
     let text = clips_in_rows(rt.alloc(), 10_000)?;
     let table = table_of(rt.alloc(), text.as_bytes())?;
-    assert_eq!(rt; table.len(), 10_000);
-    for name in [b"C1      ", b"C5000   ", b"C10000  "] {
-        assert_eq!(rt; frames_in(&table, name), Some(250));
-    }
-    assert_eq!(rt; frames_in(&table, b"C0      "), None);
+    let frames = (
+        frames_in(&table, b"C1      "),
+        frames_in(&table, b"C5000   "),
+        frames_in(&table, b"C10000  "),
+        frames_in(&table, b"C0      "),
+    );
+    assert_eq!(rt;
+        (table.len(), frames),
+        (10_000, (Some(250), Some(250), Some(250), None))
+    );
     let text = clips_in_rows(rt.alloc(), 10_001)?;
     assert!(rt; refused_table(rt.alloc(), text.as_bytes()) == Some(ListFault::TooMany(10_001)));
     Ok(())
 }
 
+static REFUSED_CATALOGUES: [(&[u8], ListFault); 11] = [
+    (b"CLIP0001,00:00:00:00\n", ListFault::Time(1)),
+    (
+        b"CLIP0001,00:00:10:00\nCLIP0001,00:00:10:00\n",
+        ListFault::Twice(2),
+    ),
+    (
+        b"B,00:00:10:00\nA,00:00:10:00\n\nB,00:00:00:01\n",
+        ListFault::Twice(3),
+    ),
+    (b"B,00:00:10:00\nB,00:00:00:00\n", ListFault::Time(2)),
+    (b"CLIP0001,00:00:10:00\nCLIP0002\n", ListFault::Columns(2)),
+    (b"CLIP0001,00:00:10:00,\n", ListFault::Columns(1)),
+    (b"0x434c495030303031,00:00:10:00\n", ListFault::Id(1)),
+    (b"CLIP000\xC3,00:00:10:00\n", ListFault::Id(1)),
+    (b"CLIP0001,00:00:10;00\n", ListFault::Time(1)),
+    (b"CLIP0001,\n", ListFault::Time(1)),
+    (b"CLIP0001,00:00:10:0\xC3\n", ListFault::Time(1)),
+];
+
 #[test]
 fn catalogues_are_refused(rt: HostRuntime) -> Result<(), Fail> {
-    let cases: [(&[u8], ListFault); 11] = [
-        (b"CLIP0001,00:00:00:00\n", ListFault::Time(1)),
-        (
-            b"CLIP0001,00:00:10:00\nCLIP0001,00:00:10:00\n",
-            ListFault::Twice(2),
-        ),
-        (
-            b"B,00:00:10:00\nA,00:00:10:00\n\nB,00:00:00:01\n",
-            ListFault::Twice(3),
-        ),
-        (b"B,00:00:10:00\nB,00:00:00:00\n", ListFault::Time(2)),
-        (b"CLIP0001,00:00:10:00\nCLIP0002\n", ListFault::Columns(2)),
-        (b"CLIP0001,00:00:10:00,\n", ListFault::Columns(1)),
-        (b"0x434c495030303031,00:00:10:00\n", ListFault::Id(1)),
-        (b"CLIP000\xC3,00:00:10:00\n", ListFault::Id(1)),
-        (b"CLIP0001,00:00:10;00\n", ListFault::Time(1)),
-        (b"CLIP0001,\n", ListFault::Time(1)),
-        (b"CLIP0001,00:00:10:0\xC3\n", ListFault::Time(1)),
-    ];
-    for (text, fault) in cases {
-        assert!(rt; refused_table(rt.alloc(), text) == Some(fault), "{fault:?}");
+    for &(text, fault) in &REFUSED_CATALOGUES {
+        assert!(rt; refused_table(rt.alloc(), text) == Some(fault), "{text:?}");
     }
     Ok(())
 }
@@ -311,119 +373,164 @@ fn add(slots: &mut Slots<2>, name: &[u8; 8], frames: u32) -> Option<Result<(), S
     Some(slots.add(clip(name), length))
 }
 
+static ADDED: [(&[u8; 8], u32, Result<(), SlotFault>); 5] = [
+    (b"CLIP0001", 25, Ok(())),
+    (b"CLIP0001", 1, Err(SlotFault::Twice)),
+    (b"CLIP0002", 1, Ok(())),
+    (b"CLIP0003", 1, Err(SlotFault::Full)),
+    (b"CLIP0002", 25, Err(SlotFault::Twice)),
+];
+
 #[test]
 fn slots_take_what_fits(rt: HostRuntime) {
     let mut slots: Slots<2> = Slots::new();
-    assert_eq!(rt; frames_in(&slots, b"CLIP0001"), None);
-    let rows = [
-        (b"CLIP0001", 25, Ok(())),
-        (b"CLIP0001", 1, Err(SlotFault::Twice)),
-        (b"CLIP0002", 1, Ok(())),
-        (b"CLIP0003", 1, Err(SlotFault::Full)),
-        (b"CLIP0002", 25, Err(SlotFault::Twice)),
-    ];
-    for (name, frames, added) in rows {
-        assert!(rt; add(&mut slots, name, frames) == Some(added), "{name:?}");
+    let before = frames_in(&slots, b"CLIP0001");
+    for &(name, frames, added) in &ADDED {
+        assert!(rt;
+            add(&mut slots, name, frames) == Some(added),
+            "{name:?}, {frames}"
+        );
     }
-    assert_eq!(rt; frames_in(&slots, b"CLIP0001"), Some(25));
-    assert_eq!(rt; frames_in(&slots, b"CLIP0002"), Some(1));
-    assert_eq!(rt; frames_in(&slots, b"CLIP0003"), None);
+    let after = (
+        frames_in(&slots, b"CLIP0001"),
+        frames_in(&slots, b"CLIP0002"),
+        frames_in(&slots, b"CLIP0003"),
+    );
+    assert_eq!(rt; (before, after), (None, (Some(25), Some(1), None)));
+}
+
+static ASRUN_LISTS: [(&str, usize, &str); 6] = [
+    ("CLIP0001\n\"A,B\"\nC\n", 2, "0,CLIP0001\n1,\"A,B\"\n"),
+    ("CLIP0001\n", 0, ""),
+    (
+        "\"a\"\"b\"\n0x80004c4950303031\n",
+        2,
+        "0,\"a\"\"b\"\n1,0x80004c4950303031\n",
+    ),
+    (
+        "CLIP0001,00:00:02:00,00:00:03:00\nCLIP0002,,\n",
+        2,
+        "0,CLIP0001,00:00:02:00,00:00:03:00\n1,CLIP0002,,\n",
+    ),
+    ("A,,\nB,00:00:02:00,00:00:03:00\n", 1, "0,A,,\n"),
+    ("A,,\nB,,\n", 2, "0,A\n1,B\n"),
+];
+
+/// What writing gave, and what was written.
+type Written = (Result<(), WriteFault>, Vec<u8>);
+
+/// For each of these counts in turn, writes this many events of the playlist of this text. Gives what the last
+/// writing gave.
+fn asrun_of(alloc: Global, text: &str, rate: Rate, counts: &[usize]) -> Result<Written, ListFault> {
+    let list = list_of(alloc, text.as_bytes())?;
+    let mut out = Vec::new(alloc);
+    let mut gave = Ok(());
+    for &count in counts {
+        gave = write_first(alloc, &list, rate, count, &mut out);
+    }
+    Ok((gave, out))
+}
+
+/// Writing from this text gave this, and wrote these rows.
+fn is_written(
+    rt: &impl Abort,
+    text: &str,
+    (gave, out): Written,
+    given: Result<(), WriteFault>,
+    rows: &str,
+) {
+    assert_eq!(rt;
+        (gave, out.as_slice()),
+        (given, rows.as_bytes()),
+        "{rows:?} of {text:?}"
+    );
 }
 
 #[test]
 fn asrun_lists_are_written(rt: HostRuntime) -> Result<(), Fail> {
-    let cases = [
-        ("CLIP0001\n\"A,B\"\nC\n", 2, "0,CLIP0001\n1,\"A,B\"\n"),
-        ("CLIP0001\n", 0, ""),
-        (
-            "\"a\"\"b\"\n0x80004c4950303031\n",
-            2,
-            "0,\"a\"\"b\"\n1,0x80004c4950303031\n",
-        ),
-        (
-            "CLIP0001,00:00:02:00,00:00:03:00\nCLIP0002,,\n",
-            2,
-            "0,CLIP0001,00:00:02:00,00:00:03:00\n1,CLIP0002,,\n",
-        ),
-        ("A,,\nB,00:00:02:00,00:00:03:00\n", 1, "0,A,,\n"),
-        ("A,,\nB,,\n", 2, "0,A\n1,B\n"),
-    ];
-    for (text, reported, written) in cases {
-        let list = list_of(rt.alloc(), text.as_bytes())?;
-        let mut out = Vec::new(rt.alloc());
-        write_first(rt.alloc(), &list, Rate::F25, reported, &mut out)?;
-        assert_eq!(rt; out.as_slice(), written.as_bytes(), "{text:?}");
+    for &(text, reported, rows) in &ASRUN_LISTS {
+        let written = asrun_of(rt.alloc(), text, Rate::F25, &[reported])?;
+        is_written(&rt, text, written, Ok(()), rows);
     }
     Ok(())
+}
+
+static EVENTS: [(&str, usize, usize, &str); 6] = [
+    ("CLIP0001\n\"A,B\"\nC\n", 1, 2, "1,\"A,B\"\n2,C\n"),
+    ("CLIP0001\n\"A,B\"\nC\n", 1, 1, "1,\"A,B\"\n"),
+    ("CLIP0001\n\"A,B\"\nC\n", 3, 0, ""),
+    (
+        "A,00:00:02:00,00:00:03:00\nB,,\nC,00:00:04:00,00:00:05:00\n",
+        1,
+        2,
+        "1,B,,\n2,C,00:00:04:00,00:00:05:00\n",
+    ),
+    // (the part that isn't written gives the others its columns, before them and after)
+    ("A,00:00:02:00,00:00:03:00\nB,,\n", 1, 1, "1,B,,\n"),
+    ("A,,\nB,,\nC,00:00:02:00,00:00:03:00\n", 1, 1, "1,B,,\n"),
+];
+
+/// Writes this many events from this one on of the playlist of this text, which has them.
+fn events_of(
+    rt: &(impl Abort + AllocGlobal),
+    text: &str,
+    rate: Rate,
+    from: usize,
+    count: usize,
+) -> Result<Written, ListFault> {
+    let list = list_of(rt.alloc(), text.as_bytes())?;
+    assert!(rt;
+        from <= list.len() && count <= list.len() - from,
+        "{text:?}"
+    );
+    let mut out = Vec::new(rt.alloc());
+    let written = write_from(rt.alloc(), &list, rate, from, count, &mut out);
+    Ok((written, out))
 }
 
 #[test]
 fn events_from_the_middle_are_written(rt: HostRuntime) -> Result<(), Fail> {
-    let cases = [
-        ("CLIP0001\n\"A,B\"\nC\n", 1, 2, "1,\"A,B\"\n2,C\n"),
-        ("CLIP0001\n\"A,B\"\nC\n", 1, 1, "1,\"A,B\"\n"),
-        ("CLIP0001\n\"A,B\"\nC\n", 3, 0, ""),
-        (
-            "A,00:00:02:00,00:00:03:00\nB,,\nC,00:00:04:00,00:00:05:00\n",
-            1,
-            2,
-            "1,B,,\n2,C,00:00:04:00,00:00:05:00\n",
-        ),
-        // (the part that isn't written gives the others its columns, before them and after)
-        ("A,00:00:02:00,00:00:03:00\nB,,\n", 1, 1, "1,B,,\n"),
-        ("A,,\nB,,\nC,00:00:02:00,00:00:03:00\n", 1, 1, "1,B,,\n"),
-    ];
-    for (text, from, count, written) in cases {
-        let list = list_of(rt.alloc(), text.as_bytes())?;
-        let mut out = Vec::new(rt.alloc());
-        assert!(rt; from <= list.len(), "{text:?}");
-        write_from(rt.alloc(), &list, Rate::F25, from, count, &mut out)?;
-        assert_eq!(rt; out.as_slice(), written.as_bytes(), "{text:?}");
+    for &(text, from, count, rows) in &EVENTS {
+        let written = events_of(&rt, text, Rate::F25, from, count)?;
+        is_written(&rt, text, written, Ok(()), rows);
     }
     Ok(())
 }
 
+static CLIPS: [Named; 3] = [
+    (b"CLIP0001", None),
+    (b"CLIP0002", None),
+    (b"CLIP0003", None),
+];
+
 #[test]
 fn a_list_can_begin_with_a_later_event(rt: HostRuntime) -> Result<(), Fail> {
-    let text = b"CLIP0001\nCLIP0002\nCLIP0003\n";
-    let ids = [b"CLIP0001", b"CLIP0002", b"CLIP0003"];
     for from in 0..4 {
-        let list = read_list(rt.alloc(), text.as_slice(), Rate::F25)?;
-        assert!(rt; from <= list.len());
-        let rest = Rest::new(list, from);
-        assert_eq!(rt; rest.from(), from);
-        assert_eq!(rt; rest.whole().len(), 3);
-        assert_eq!(rt; rest.len(), 3 - from);
-        for k in 0..rest.len() {
-            assert_eq!(rt;
-                Some(&rest.at(k)),
-                ids.get(from + k).map(|id| whole(id)).as_ref()
-            );
-        }
+        let list = list_of(rt.alloc(), b"CLIP0001\nCLIP0002\nCLIP0003\n")?;
+        let first = from.min(list.len());
+        let rest = Rest::new(list, first);
+        let begins = has_items(&rest, &CLIPS[from..]);
+        assert_eq!(rt;
+            (rest.from(), rest.whole().len(), rest.len(), begins),
+            (from, 3, 3 - from, true)
+        );
     }
     Ok(())
 }
 
 #[test]
 fn unlawful_parts_are_told_and_nothing_is_written(rt: HostRuntime) -> Result<(), Fail> {
-    let text = b"A,,\nB,00:00:02:00,00:00:03:00\nC,00:00:02:24,00:00:03:00\n";
-    let list = list_of(rt.alloc(), text)?;
-    let mut out = Vec::new(rt.alloc());
-    let written = write_first(rt.alloc(), &list, Rate::F24, 3, &mut out);
-    assert!(rt; written == Err(WriteFault::Time(2)));
-    assert!(rt; out.is_empty());
+    let text = "A,,\nB,00:00:02:00,00:00:03:00\nC,00:00:02:24,00:00:03:00\n";
+    let three = asrun_of(rt.alloc(), text, Rate::F24, &[3])?;
+    is_written(&rt, text, three, Err(WriteFault::Time(2)), "");
+    // (after two refusals the same list can be written to the same bytes)
+    let two = asrun_of(rt.alloc(), text, Rate::F24, &[3, 3, 2])?;
+    let rows = "0,A,,\n1,B,00:00:02:00,00:00:03:00\n";
+    is_written(&rt, text, two, Ok(()), rows);
     // (the row of an event before those that are written is tested, too)
-    let text = b"A,00:00:02:24,00:00:03:00\nB,,\n";
-    let first = list_of(rt.alloc(), text)?;
-    assert_eq!(rt; first.len(), 2);
-    let written = write_from(rt.alloc(), &first, Rate::F24, 1, 1, &mut out);
-    assert!(rt; written == Err(WriteFault::Time(0)));
-    assert!(rt; out.is_empty());
-    write_first(rt.alloc(), &list, Rate::F24, 2, &mut out)?;
-    assert_eq!(rt;
-        out.as_slice(),
-        b"0,A,,\n1,B,00:00:02:00,00:00:03:00\n".as_slice()
-    );
+    let text = "A,00:00:02:24,00:00:03:00\nB,,\n";
+    let second = events_of(&rt, text, Rate::F24, 1, 1)?;
+    is_written(&rt, text, second, Err(WriteFault::Time(0)), "");
     Ok(())
 }
 
@@ -465,84 +572,90 @@ fn rows_of_parts(alloc: Global, count: usize) -> Result<String, Fail> {
     Ok(text)
 }
 
-#[test]
-fn a_read_that_fails_is_told_of_a_list(rt: HostRuntime) -> Result<(), Fail> {
-    let text = rows_of_parts(rt.alloc(), 700)?;
-    let text = text.as_bytes();
+/// What a text is read as.
+#[derive(Clone, Copy)]
+enum Kind {
+    Playlist,
+    Catalogue,
+}
+
+/// How many rows a text has, by a reader that fails at one of its reads.
+fn rows_read(alloc: Global, text: &[u8], failed: usize, kind: Kind) -> Result<usize, ListFault> {
+    let reader = FailingReader {
+        text,
+        size: 100,
+        reads: Some(failed),
+    };
+    Ok(match kind {
+        Kind::Playlist => read_list(alloc, reader, Rate::F25)?.len(),
+        Kind::Catalogue => read_catalogue(alloc, reader, Rate::F25)?.len(),
+    })
+}
+
+/// Each read that the 700 rows of a text take fails in turn, and is told; then none does.
+fn each_read_that_fails_is_told(
+    rt: &(impl Abort + AllocGlobal),
+    text: &[u8],
+    kind: Kind,
+) -> Result<(), Fail> {
     let reads = text.len().div_ceil(100);
     for failed in 0..2 * reads {
-        let reader = FailingReader {
-            text,
-            size: 100,
-            reads: Some(failed),
-        };
-        match read_list(rt.alloc(), reader, Rate::F25) {
-            Ok(list) => {
-                assert_eq!(rt; list.len(), 700);
-                assert!(rt; reads < failed, "read {failed} failed");
+        match rows_read(rt.alloc(), text, failed, kind) {
+            Err(ListFault::Read) => {}
+            rows => {
+                assert_eq!(rt;
+                    (rows, reads < failed),
+                    (Ok(700), true),
+                    "read {failed} failed"
+                );
                 return Ok(());
-            }
-            Err(fault) => {
-                assert!(rt; fault == ListFault::Read, "read {failed} failed: {fault:?}");
             }
         }
     }
     Err(Fail::new("each read was one that failed"))
+}
+
+#[test]
+fn a_read_that_fails_is_told_of_a_list(rt: HostRuntime) -> Result<(), Fail> {
+    let text = rows_of_parts(rt.alloc(), 700)?;
+    each_read_that_fails_is_told(&rt, text.as_bytes(), Kind::Playlist)
 }
 
 #[test]
 fn a_read_that_fails_is_told_of_a_catalogue(rt: HostRuntime) -> Result<(), Fail> {
     let text = clips_in_rows(rt.alloc(), 700)?;
-    let text = text.as_bytes();
-    let reads = text.len().div_ceil(100);
-    for failed in 0..2 * reads {
-        let reader = FailingReader {
-            text,
-            size: 100,
-            reads: Some(failed),
-        };
-        match read_catalogue(rt.alloc(), reader, Rate::F25) {
-            Ok(table) => {
-                assert_eq!(rt; table.len(), 700);
-                assert!(rt; reads < failed, "read {failed} failed");
-                return Ok(());
-            }
-            Err(fault) => {
-                assert!(rt; fault == ListFault::Read, "read {failed} failed: {fault:?}");
-            }
-        }
-    }
-    Err(Fail::new("each read was one that failed"))
+    each_read_that_fails_is_told(&rt, text.as_bytes(), Kind::Catalogue)
+}
+
+/// The fault is `Memory`, as nothing but a refused growth keeps these rows from being read. Gives the test's failure.
+fn refused_growth(rt: &impl Abort, fault: ListFault) -> Fail {
+    assert!(rt; fault == ListFault::Memory, "{fault:?}");
+    Fail::from(AllocError)
 }
 
 #[test]
 fn many_rows_of_parts_are_read(rt: HostRuntime) -> Result<(), Fail> {
     let text = rows_of_parts(rt.alloc(), 700)?;
-    let list = match list_of(rt.alloc(), text.as_bytes()) {
-        Ok(list) => list,
-        Err(fault) => {
-            // Nothing but a refused growth keeps these rows from being read.
-            assert!(rt; fault == ListFault::Memory, "{fault:?}");
-            return Err(Fail::from(AllocError));
+    match list_of(rt.alloc(), text.as_bytes()) {
+        Ok(list) => {
+            let in_turn = has_in_turn(&list, SECONDS);
+            assert_eq!(rt; (list.len(), in_turn), (700, true));
+            Ok(())
         }
-    };
-    assert_eq!(rt; list.len(), 700);
-    let first = part(b"CLIP0001", [0, 2, 0, 0], [0, 3, 0, 0]);
-    assert!(rt; has_in_turn(&list, first, whole(b"A,B     ")));
-    Ok(())
+        Err(fault) => Err(refused_growth(&rt, fault)),
+    }
 }
 
 #[test]
 fn many_clips_are_read(rt: HostRuntime) -> Result<(), Fail> {
     let text = clips_in_rows(rt.alloc(), 700)?;
     match table_of(rt.alloc(), text.as_bytes()) {
-        Ok(table) => assert_eq!(rt; table.len(), 700),
-        Err(fault) => {
-            assert!(rt; fault == ListFault::Memory, "{fault:?}");
-            return Err(Fail::from(AllocError));
+        Ok(table) => {
+            assert_eq!(rt; table.len(), 700);
+            Ok(())
         }
+        Err(fault) => Err(refused_growth(&rt, fault)),
     }
-    Ok(())
 }
 
 /// A writer that takes a few bytes a write, fails so at one of its writes or flushes, and works at each other.
@@ -591,19 +704,35 @@ impl Write for FailingWriter {
 /// Nineteen bytes: four writes, and then the flush.
 const ASRUN: &[u8] = b"0,CLIP0001\n1,\"A,B\"\n";
 
+/// The writer fails so at this call, if it comes to it: writing gives this, and these bytes were taken.
+fn is_taken(
+    rt: &(impl Abort + AllocGlobal),
+    list: &List,
+    call: usize,
+    kind: io::ErrorKind,
+    given: Result<(), WriteFault>,
+    taken: &[u8],
+) {
+    let mut out = FailingWriter::new(rt.alloc(), call, kind);
+    let written = write_first(rt.alloc(), list, Rate::F25, 2, &mut out);
+    assert_eq!(rt;
+        (written, out.taken.as_slice()),
+        (given, taken),
+        "where call {call} fails"
+    );
+}
+
 #[test]
 fn a_write_that_fails_leaves_a_beginning(rt: HostRuntime) -> Result<(), Fail> {
     let list = list_of(rt.alloc(), b"CLIP0001\n\"A,B\"\n")?;
-    for calls in 0..8 {
-        let mut out = FailingWriter::new(rt.alloc(), calls, io::ErrorKind::Other);
-        let written = write_first(rt.alloc(), &list, Rate::F25, 2, &mut out);
-        let taken = ASRUN.len().min(5 * calls);
-        assert_eq!(rt; out.taken.as_slice(), &ASRUN[..taken]);
-        if calls < 5 {
-            assert!(rt; written == Err(WriteFault::Device), "call {calls} failed");
+    for call in 0..8 {
+        let given = if call < 5 {
+            Err(WriteFault::Device)
         } else {
-            assert!(rt; written == Ok(()), "no call failed");
-        }
+            Ok(())
+        };
+        let taken = &ASRUN[..ASRUN.len().min(5 * call)];
+        is_taken(&rt, &list, call, io::ErrorKind::Other, given, taken);
     }
     Ok(())
 }
@@ -611,10 +740,9 @@ fn a_write_that_fails_leaves_a_beginning(rt: HostRuntime) -> Result<(), Fail> {
 #[test]
 fn an_interrupted_write_is_made_again(rt: HostRuntime) -> Result<(), Fail> {
     let list = list_of(rt.alloc(), b"CLIP0001\n\"A,B\"\n")?;
-    for calls in 0..4 {
-        let mut out = FailingWriter::new(rt.alloc(), calls, io::ErrorKind::Interrupted);
-        write_first(rt.alloc(), &list, Rate::F25, 2, &mut out)?;
-        assert_eq!(rt; out.taken.as_slice(), ASRUN);
+    for call in 0..4 {
+        let kind = io::ErrorKind::Interrupted;
+        is_taken(&rt, &list, call, kind, Ok(()), ASRUN);
     }
     Ok(())
 }
@@ -625,36 +753,51 @@ fn a_writer_that_takes_no_more_has_failed(rt: HostRuntime) -> Result<(), Fail> {
     let mut room = [0; 7];
     let mut out = room.as_mut_slice();
     let written = write_first(rt.alloc(), &list, Rate::F25, 2, &mut out);
-    assert!(rt; written == Err(WriteFault::Device));
-    assert_eq!(rt; room.as_slice(), &ASRUN[..7]);
+    assert_eq!(rt;
+        (written, room.as_slice()),
+        (Err(WriteFault::Device), &ASRUN[..7])
+    );
     Ok(())
+}
+
+/// The as-run list of this many rows of `CLIP0001` and `"A,B"` in turn.
+fn asrun_in_turn(alloc: Global, count: usize) -> Result<String, Fail> {
+    let mut text = String::new(alloc);
+    for k in 0..count {
+        let id = if k % 2 == 0 { "CLIP0001" } else { "\"A,B\"" };
+        writeln!(text, "{k},{id}")?;
+    }
+    Ok(text)
+}
+
+/// Writes a whole list, with a heap of this many blocks of 32 bytes for the text.
+fn written_in(alloc: Global, list: &List, blocks: usize) -> Result<Written, AllocError>
+    requires { blocks < 4096 }
+{
+    let heap = LocalHeap::new(alloc, 32 * blocks)?;
+    let mut out = Vec::new(alloc);
+    let written = write_first(&heap, list, Rate::F25, list.len(), &mut out);
+    Ok((written, out))
 }
 
 #[test]
 fn each_refused_growth_of_an_asrun_list_is_told(rt: HostRuntime) -> Result<(), Fail> {
     let rows = rows_in_turn(rt.alloc(), 200)?;
-    let list = read_list(rt.alloc(), rows.as_bytes(), Rate::F25)?;
-    let mut text = String::new(rt.alloc());
-    for k in 0..200 {
-        let id = if k % 2 == 0 { "CLIP0001" } else { "\"A,B\"" };
-        writeln!(text, "{k},{id}")?;
-    }
+    let list = list_of(rt.alloc(), rows.as_bytes())?;
+    let text = asrun_in_turn(rt.alloc(), 200)?;
     let mut refused = 0;
     for blocks in 1..4_096 {
-        let heap = LocalHeap::new(rt.alloc(), 32 * blocks)?;
-        let mut out = Vec::new(rt.alloc());
-        match write_asrun(&heap, &list, Rate::F25, list.len(), &mut out) {
-            Ok(()) => {
-                assert_eq!(rt; out.as_slice(), text.as_bytes());
-                assert!(rt; 8 < refused);
-                return Ok(());
-            }
-            Err(fault) => {
-                assert!(rt; fault == WriteFault::Memory);
-                assert!(rt; out.is_empty());
-                refused = blocks;
-            }
+        let (written, out) = written_in(rt.alloc(), &list, blocks)?;
+        if written == Err(WriteFault::Memory) && out.is_empty() {
+            refused = blocks;
+            continue;
         }
+        assert_eq!(rt;
+            (written, out.as_slice(), 8 < refused),
+            (Ok(()), text.as_bytes(), true),
+            "in {blocks} blocks"
+        );
+        return Ok(());
     }
     Err(Fail::new("no heap was large enough"))
 }

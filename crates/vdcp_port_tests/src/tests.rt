@@ -1,3 +1,5 @@
+ghost use Rattle.std.specs.Prelude.{◌<◌};
+
 use arrayvec::ArrayVec;
 use linked_list_allocator::LocalHeap;
 use std::alloc::{AllocError, Allocator, Global};
@@ -9,8 +11,11 @@ use vdcp_testing::two_clips;
 use vdcp_value::{ClipId, Item, Part, Timecode};
 use vdcp_words::{Command, Reply};
 
+/// A catalogue of two clips.
+type TwoClips = [(ClipId, Timecode); 2];
+
 /// CLIP0001 and CLIP0002, ten seconds each at 25 frames a second.
-fn ten_seconds_each() -> Result<[(ClipId, Timecode); 2], &'static str> {
+fn ten_seconds_each() -> Result<TwoClips, &'static str> {
     two_clips(250).ok_or("250 frames")
 }
 
@@ -34,6 +39,26 @@ const CUE_2: &'static [u8] = b"\x02\x0A\x20\x24CLIP0002\xD2";
 
 const CUE_9: &'static [u8] = b"\x02\x0A\x20\x24CLIP0009\xCB";
 
+/// A port of unit 0 and number 1, with its two clips.
+fn new_port() -> Result<Port<TwoClips>, Fail> {
+    Ok(Port::new(ten_seconds_each()?, 0, 1))
+}
+
+/// The same, open and selected.
+fn selected_port(alloc: Global) -> Result<Port<TwoClips>, Fail> {
+    Ok(selected(alloc, ten_seconds_each()?)?)
+}
+
+// This promises nothing, so the proof of a test needn't go through the clauses of each call.
+fn answer<C: Catalogue, A: Allocator, B: Allocator>(
+    port: &mut Port<C>,
+    burst: &[u8],
+    out: &mut Vec<u8, A>,
+    aired: &mut Vec<Item, B>,
+) -> Result<(), AllocError> {
+    port.burst_answer(burst, out, aired)
+}
+
 /// What goes out for a burst, and what airs.
 fn sent<C: Catalogue>(
     alloc: Global,
@@ -42,16 +67,28 @@ fn sent<C: Catalogue>(
 ) -> Result<(Vec<u8>, Vec<Item>), AllocError> {
     let mut out = Vec::new(alloc);
     let mut aired = Vec::new(alloc);
-    port.burst_answer(burst, &mut out, &mut aired)?;
+    answer(port, burst, &mut out, &mut aired)?;
     Ok((out, aired))
+}
+
+/// What airs of these bursts.
+fn aired_by<C: Catalogue>(
+    alloc: Global,
+    port: &mut Port<C>,
+    bursts: &[&[u8]],
+) -> Result<Vec<Item>, AllocError> {
+    let mut out = Vec::new(alloc);
+    let mut aired = Vec::new(alloc);
+    for burst in bursts {
+        answer(port, burst, &mut out, &mut aired)?;
+    }
+    Ok(aired)
 }
 
 /// A port of unit 0 and number 1 that is open and selected.
 fn selected<C: Catalogue + Drop>(alloc: Global, catalogue: C) -> Result<Port<C>, AllocError> {
     let mut port = Port::new(catalogue, 0, 1);
-    for burst in [OPEN, SELECT] {
-        let (_, _) = sent(alloc, &mut port, burst)?;
-    }
+    aired_by(alloc, &mut port, &[OPEN, SELECT])?;
     Ok(port)
 }
 
@@ -64,9 +101,11 @@ fn expect<C: Catalogue>(
     state: u8,
 ) -> Result<(), AllocError> {
     let (out, aired) = sent(rt.alloc(), port, burst)?;
-    assert_eq!(rt; out.as_slice(), answer, "to {burst:?}");
-    assert!(rt; aired.is_empty(), "at {burst:?}");
-    assert_eq!(rt; port.status_byte(), state, "after {burst:?}");
+    assert_eq!(rt;
+        (out.as_slice(), aired.len(), port.status_byte()),
+        (answer, 0, state),
+        "at {burst:?}"
+    );
     Ok(())
 }
 
@@ -78,100 +117,109 @@ fn expect_frames<C: Catalogue>(
     done_and_ended: (bool, bool),
     state: u8,
 ) {
-    for _ in 0..count {
-        assert_eq!(rt; port.frame(), done_and_ended);
+    let mut other = None;
+    for frame in 0..count {
+        let answer = port.frame();
+        if other.is_none() && answer != done_and_ended {
+            other = Some((frame, answer));
+        }
     }
-    assert_eq!(rt; port.status_byte(), state);
+    assert_eq!(rt;
+        (other, port.status_byte()),
+        (None, state),
+        "in {count} frames that answer {done_and_ended:?}"
+    );
 }
+
+static NEW_PORT: [(&[u8], &[u8]); 15] = [
+    (&[], &[]),
+    (PLAY, &[0x05, 0x01]),
+    (STOP, &[0x05, 0x01]),
+    (STATUS, &[0x05, 0x01]),
+    (ACTIVE, &[0x05, 0x01]),
+    (CUE_1, &[0x05, 0x01]),
+    (SELECT, &[0x05, 0x01]),
+    (CLOSE, &[0x04]),
+    (&[0x02, 0x03, 0x20, 0x21, 0x02, 0xBD], &[0x05, 0x01]),
+    (
+        &[0x02, 0x04, 0x30, 0x01, 0x02, 0x01, 0xCC],
+        &[0x02, 0x03, 0x30, 0x81, 0x00, 0x4F],
+    ),
+    (&[0x02, 0x02, 0x11, 0x01, 0xEE], &[]),
+    (
+        b"\x02\x0A\x30\x16CLIP0001\xD1",
+        &[0x02, 0x03, 0x30, 0x96, 0x01, 0x39],
+    ),
+    (
+        b"\x02\x0A\x30\x16CLIP0009\xC9",
+        &[0x02, 0x03, 0x30, 0x96, 0x00, 0x3A],
+    ),
+    (
+        b"\x02\x0A\x30\x14CLIP0001\xD3",
+        &[0x02, 0x06, 0x30, 0x94, 0x00, 0x10, 0x00, 0x00, 0x2C],
+    ),
+    (b"\x02\x0A\x30\x14CLIP0009\xCB", &[0x05, 0x01]),
+];
 
 #[test]
 fn a_new_port_answers_by_its_table(rt: HostRuntime) -> Result<(), Fail> {
-    let rows: [(&'static [u8], &'static [u8]); 15] = [
-        (&[], &[]),
-        (PLAY, &[0x05, 0x01]),
-        (STOP, &[0x05, 0x01]),
-        (STATUS, &[0x05, 0x01]),
-        (ACTIVE, &[0x05, 0x01]),
-        (CUE_1, &[0x05, 0x01]),
-        (SELECT, &[0x05, 0x01]),
-        (CLOSE, &[0x04]),
-        (&[0x02, 0x03, 0x20, 0x21, 0x02, 0xBD], &[0x05, 0x01]),
-        (
-            &[0x02, 0x04, 0x30, 0x01, 0x02, 0x01, 0xCC],
-            &[0x02, 0x03, 0x30, 0x81, 0x00, 0x4F],
-        ),
-        (&[0x02, 0x02, 0x11, 0x01, 0xEE], &[]),
-        (
-            b"\x02\x0A\x30\x16CLIP0001\xD1",
-            &[0x02, 0x03, 0x30, 0x96, 0x01, 0x39],
-        ),
-        (
-            b"\x02\x0A\x30\x16CLIP0009\xC9",
-            &[0x02, 0x03, 0x30, 0x96, 0x00, 0x3A],
-        ),
-        (
-            b"\x02\x0A\x30\x14CLIP0001\xD3",
-            &[0x02, 0x06, 0x30, 0x94, 0x00, 0x10, 0x00, 0x00, 0x2C],
-        ),
-        (b"\x02\x0A\x30\x14CLIP0009\xCB", &[0x05, 0x01]),
-    ];
-    for (burst, answer) in rows {
-        let mut port = Port::new(ten_seconds_each()?, 0, 1);
+    for &(burst, answer) in &NEW_PORT {
+        let mut port = new_port()?;
         expect(&rt, &mut port, burst, answer, 0x01)?;
     }
     Ok(())
 }
 
+static SELECTED_PORT: [(&[u8], &[u8], u8); 18] = [
+    (CUE_1, &[0x04], 0x02),
+    (b"\x02\x0A\x20\x24CLIP0009\xCB", &[0x05, 0x01], 0x01),
+    (&[0x02, 0x02, 0x10, 0x01, 0xEE], &[0x05, 0x04], 0x01),
+    (&[0x03, 0x04], &[0x05, 0x04], 0x01),
+    (&[0x02, 0x01, 0x10, 0xF0], &[0x05, 0x04], 0x01),
+    (&[0x02, 0x0A, 0x20, 0x24, 0x43], &[0x05, 0x80], 0x01),
+    (STATUS, &[0x02, 0x04, 0x30, 0x85, 0x01, 0x01, 0x49], 0x01),
+    (PLAY, &[0x04], 0x01),
+    (
+        &[0x02, 0x02, 0x10, 0x01, 0xEF, 0x02, 0x02, 0x10, 0x00, 0xF0],
+        &[0x04, 0x04],
+        0x01,
+    ),
+    (&[0x02, 0x02, 0x11, 0x01, 0xEE], &[], 0x01),
+    (&[0x02, 0x03, 0x10, 0x01, 0x00, 0xEF], &[0x05, 0x01], 0x01),
+    (
+        &[0x02, 0x03, 0x30, 0x05, 0x02, 0xC9],
+        &[0x02, 0x03, 0x30, 0x85, 0x00, 0x4B],
+        0x01,
+    ),
+    (
+        &[0x02, 0x02, 0x10, 0x01, 0xEF, 0xFF, 0x04],
+        &[0x04, 0x05, 0x04],
+        0x01,
+    ),
+    (&[0x04, 0x05, 0x01], &[], 0x01),
+    (ACTIVE, &[0x02, 0x03, 0x30, 0x87, 0x00, 0x49], 0x01),
+    // A part of three seconds from 2, 7 and 8 seconds on.
+    (
+        b"\x02\x12\x20\x25CLIP0001\x00\x02\x00\x00\x00\x03\x00\x00\xCD",
+        &[0x04],
+        0x02,
+    ),
+    (
+        b"\x02\x12\x20\x25CLIP0001\x00\x07\x00\x00\x00\x03\x00\x00\xC8",
+        &[0x04],
+        0x02,
+    ),
+    (
+        b"\x02\x12\x20\x25CLIP0001\x00\x08\x00\x00\x00\x03\x00\x00\xC7",
+        &[0x05, 0x01],
+        0x01,
+    ),
+];
+
 #[test]
 fn a_selected_port_answers_by_its_table(rt: HostRuntime) -> Result<(), Fail> {
-    let idle: &'static [u8] = &[0x02, 0x04, 0x30, 0x85, 0x01, 0x01, 0x49];
-    let rows: [(&'static [u8], &'static [u8], u8); 18] = [
-        (CUE_1, &[0x04], 0x02),
-        (b"\x02\x0A\x20\x24CLIP0009\xCB", &[0x05, 0x01], 0x01),
-        (&[0x02, 0x02, 0x10, 0x01, 0xEE], &[0x05, 0x04], 0x01),
-        (&[0x03, 0x04], &[0x05, 0x04], 0x01),
-        (&[0x02, 0x01, 0x10, 0xF0], &[0x05, 0x04], 0x01),
-        (&[0x02, 0x0A, 0x20, 0x24, 0x43], &[0x05, 0x80], 0x01),
-        (STATUS, idle, 0x01),
-        (PLAY, &[0x04], 0x01),
-        (
-            &[0x02, 0x02, 0x10, 0x01, 0xEF, 0x02, 0x02, 0x10, 0x00, 0xF0],
-            &[0x04, 0x04],
-            0x01,
-        ),
-        (&[0x02, 0x02, 0x11, 0x01, 0xEE], &[], 0x01),
-        (&[0x02, 0x03, 0x10, 0x01, 0x00, 0xEF], &[0x05, 0x01], 0x01),
-        (
-            &[0x02, 0x03, 0x30, 0x05, 0x02, 0xC9],
-            &[0x02, 0x03, 0x30, 0x85, 0x00, 0x4B],
-            0x01,
-        ),
-        (
-            &[0x02, 0x02, 0x10, 0x01, 0xEF, 0xFF, 0x04],
-            &[0x04, 0x05, 0x04],
-            0x01,
-        ),
-        (&[0x04, 0x05, 0x01], &[], 0x01),
-        (ACTIVE, &[0x02, 0x03, 0x30, 0x87, 0x00, 0x49], 0x01),
-        // A part of three seconds from 2, 7 and 8 seconds on.
-        (
-            b"\x02\x12\x20\x25CLIP0001\x00\x02\x00\x00\x00\x03\x00\x00\xCD",
-            &[0x04],
-            0x02,
-        ),
-        (
-            b"\x02\x12\x20\x25CLIP0001\x00\x07\x00\x00\x00\x03\x00\x00\xC8",
-            &[0x04],
-            0x02,
-        ),
-        (
-            b"\x02\x12\x20\x25CLIP0001\x00\x08\x00\x00\x00\x03\x00\x00\xC7",
-            &[0x05, 0x01],
-            0x01,
-        ),
-    ];
-    for (burst, answer, state) in rows {
-        let mut port = selected(rt.alloc(), ten_seconds_each()?)?;
+    for &(burst, answer, state) in &SELECTED_PORT {
+        let mut port = selected_port(rt.alloc())?;
         expect(&rt, &mut port, burst, answer, state)?;
     }
     Ok(())
@@ -184,29 +232,30 @@ fn a_clip_is_refused_by_an_empty_catalogue(rt: HostRuntime) -> Result<(), Fail> 
     Ok(())
 }
 
+static IN_TURN: [(&[u8], &[u8]); 3] = [
+    (
+        &[
+            0x02, 0x04, 0x30, 0x01, 0x01, 0x01, 0xCD, 0x02, 0x03, 0x20, 0x22, 0x01, 0xBD, 0x02,
+            0x03, 0x30, 0x05, 0x01, 0xCA,
+        ],
+        &[
+            0x02, 0x03, 0x30, 0x81, 0x01, 0x4E, 0x04, 0x02, 0x04, 0x30, 0x85, 0x01, 0x01, 0x49,
+        ],
+    ),
+    (
+        &[0x02, 0x03, 0x30, 0x05, 0x02, 0xC9],
+        &[0x02, 0x03, 0x30, 0x85, 0x00, 0x4B],
+    ),
+    (
+        &[0x02, 0x02, 0x10, 0x01, 0xEF, 0xFF, 0x04],
+        &[0x04, 0x05, 0x04],
+    ),
+];
+
 #[test]
 fn bursts_after_one_another_are_answered(rt: HostRuntime) -> Result<(), Fail> {
-    let rows: [(&'static [u8], &'static [u8]); 3] = [
-        (
-            &[
-                0x02, 0x04, 0x30, 0x01, 0x01, 0x01, 0xCD, 0x02, 0x03, 0x20, 0x22, 0x01, 0xBD, 0x02,
-                0x03, 0x30, 0x05, 0x01, 0xCA,
-            ],
-            &[
-                0x02, 0x03, 0x30, 0x81, 0x01, 0x4E, 0x04, 0x02, 0x04, 0x30, 0x85, 0x01, 0x01, 0x49,
-            ],
-        ),
-        (
-            &[0x02, 0x03, 0x30, 0x05, 0x02, 0xC9],
-            &[0x02, 0x03, 0x30, 0x85, 0x00, 0x4B],
-        ),
-        (
-            &[0x02, 0x02, 0x10, 0x01, 0xEF, 0xFF, 0x04],
-            &[0x04, 0x05, 0x04],
-        ),
-    ];
-    let mut port = Port::new(ten_seconds_each()?, 0, 1);
-    for (burst, answer) in rows {
+    let mut port = new_port()?;
+    for &(burst, answer) in &IN_TURN {
         expect(&rt, &mut port, burst, answer, 0x01)?;
     }
     Ok(())
@@ -228,61 +277,70 @@ enum Happening {
     Ended,
 }
 
+const ONE: &'static [u8; 8] = b"CLIP0001";
+
+const TWO: &'static [u8; 8] = b"CLIP0002";
+
+const ACK: &'static [u8] = &[0x04];
+
+const REFUSED: &'static [u8] = &[0x05, 0x01];
+
+const NOTHING: &'static [u8] = &[];
+
+/// What happens, what goes out for it, the port's state then, and the clip that airs.
+static HAPPENINGS: [(Happening, &[u8], u8, Option<&[u8; 8]>); 14] = [
+    (Happening::Comes(CUE_1), ACK, 0x02, None),
+    (Happening::Comes(PLAY), ACK, 0x02, None),
+    (Happening::Ready, NOTHING, 0x80, None),
+    (Happening::Comes(PLAY), ACK, 0x04, Some(ONE)),
+    (Happening::Comes(PLAY), ACK, 0x04, None),
+    (Happening::Comes(CUE_2), ACK, 0x06, None),
+    (Happening::Comes(CUE_9), REFUSED, 0x06, None),
+    (Happening::Ready, NOTHING, 0x84, None),
+    (Happening::Comes(PLAY), ACK, 0x04, Some(TWO)),
+    (
+        Happening::Comes(ACTIVE),
+        b"\x02\x0B\x30\x87\x01CLIP0002\x5E",
+        0x04,
+        None,
+    ),
+    (Happening::Ended, NOTHING, 0x01, None),
+    (Happening::Comes(CUE_1), ACK, 0x02, None),
+    (Happening::Comes(STOP), ACK, 0x01, None),
+    (Happening::Comes(CLOSE), ACK, 0x01, None),
+];
+
 #[test]
 fn clips_are_cued_and_aired(rt: HostRuntime) -> Result<(), Fail> {
-    let ack: &'static [u8] = &[0x04];
-    let refused: &'static [u8] = &[0x05, 0x01];
-    let none: &'static [u8] = &[];
-    let first = Some(whole(b"CLIP0001"));
-    let second = Some(whole(b"CLIP0002"));
-    let rows: [(Happening, &'static [u8], u8, Option<Item>); 14] = [
-        (Happening::Comes(CUE_1), ack, 0x02, None),
-        (Happening::Comes(PLAY), ack, 0x02, None),
-        (Happening::Ready, none, 0x80, None),
-        (Happening::Comes(PLAY), ack, 0x04, first),
-        (Happening::Comes(PLAY), ack, 0x04, None),
-        (Happening::Comes(CUE_2), ack, 0x06, None),
-        (Happening::Comes(CUE_9), refused, 0x06, None),
-        (Happening::Ready, none, 0x84, None),
-        (Happening::Comes(PLAY), ack, 0x04, second),
-        (
-            Happening::Comes(ACTIVE),
-            b"\x02\x0B\x30\x87\x01CLIP0002\x5E",
-            0x04,
-            None,
-        ),
-        (Happening::Ended, none, 0x01, None),
-        (Happening::Comes(CUE_1), ack, 0x02, None),
-        (Happening::Comes(STOP), ack, 0x01, None),
-        (Happening::Comes(CLOSE), ack, 0x01, None),
-    ];
-    let mut port = selected(rt.alloc(), ten_seconds_each()?)?;
-    for (happening, answer, state, airs) in rows {
-        happens(&rt, &mut port, happening, answer, airs)?;
-        assert_eq!(rt; port.status_byte(), state, "after {happening:?}");
+    let mut port = selected_port(rt.alloc())?;
+    for &(happening, answer, state, airs) in &HAPPENINGS {
+        let (out, aired) = happens(rt.alloc(), &mut port, happening)?;
+        assert_eq!(rt;
+            (
+                out.as_slice(),
+                port.status_byte(),
+                aired.first().copied(),
+                aired.len() <= 1
+            ),
+            (answer, state, airs.map(|name| whole(name)), true),
+            "after {happening:?}"
+        );
     }
     Ok(())
 }
 
-/// What happens is answered so, and airs this.
-fn happens<C: Catalogue>(
-    rt: &(impl Abort + AllocGlobal),
-    port: &mut Port<C>,
+/// What goes out where this happens (nothing, where no burst comes), and what airs.
+fn happens(
+    alloc: Global,
+    port: &mut Port<TwoClips>,
     happening: Happening,
-    answer: &[u8],
-    airs: Option<Item>,
-) -> Result<(), AllocError> {
+) -> Result<(Vec<u8>, Vec<Item>), AllocError> {
     match happening {
-        Happening::Comes(burst) => {
-            let (out, aired) = sent(rt.alloc(), port, burst)?;
-            assert_eq!(rt; out.as_slice(), answer, "to {burst:?}");
-            assert_eq!(rt; aired.first().copied(), airs, "at {burst:?}");
-            assert!(rt; aired.len() <= 1, "at {burst:?}");
-        }
+        Happening::Comes(burst) => return sent(alloc, port, burst),
         Happening::Ready => port.ready(),
         Happening::Ended => port.ended(),
     }
-    Ok(())
+    Ok((Vec::new(alloc), Vec::new(alloc)))
 }
 
 #[test]
@@ -292,7 +350,7 @@ fn a_part_airs_as_a_part(rt: HostRuntime) -> Result<(), Fail> {
         start: [0x00, 0x02, 0x00, 0x00],
         duration: [0x00, 0x03, 0x00, 0x00],
     };
-    let mut port = selected(rt.alloc(), ten_seconds_each()?)?;
+    let mut port = selected_port(rt.alloc())?;
     let cue = b"\x02\x12\x20\x25CLIP0001\x00\x02\x00\x00\x00\x03\x00\x00\xCD";
     expect(&rt, &mut port, cue, &[0x04], 0x02)?;
     port.ready();
@@ -310,35 +368,42 @@ fn a_part_airs_as_a_part(rt: HostRuntime) -> Result<(), Fail> {
 #[test]
 fn the_frame_clock_completes_cues_and_ends_clips(rt: HostRuntime) -> Result<(), Fail> {
     let mut port = Port::with_clock(ten_seconds_each()?, 0, 1, 3);
-    for burst in [OPEN, SELECT, CUE_1] {
-        let (_, aired) = sent(rt.alloc(), &mut port, burst)?;
-        assert!(rt; aired.is_empty());
-    }
+    let before = aired_by(rt.alloc(), &mut port, &[OPEN, SELECT, CUE_1])?;
     expect_frames(&rt, &mut port, 2, (false, false), 0x02);
     expect_frames(&rt, &mut port, 1, (true, false), 0x80);
     let (_, aired) = sent(rt.alloc(), &mut port, PLAY)?;
-    assert_eq!(rt; aired.len(), 1);
+    assert_eq!(rt; (before.len(), aired.len()), (0, 1));
     expect_frames(&rt, &mut port, 249, (false, false), 0x04);
     expect_frames(&rt, &mut port, 1, (false, true), 0x01);
     expect_frames(&rt, &mut port, 1, (false, false), 0x01);
     Ok(())
 }
 
-#[test]
-fn a_burst_is_answered_up_to_its_limit(rt: HostRuntime) -> Result<(), Fail> {
-    let mut burst = Vec::new(rt.alloc());
-    for _ in 0..820 {
+/// This many PLAYs.
+fn plays(alloc: Global, count: usize) -> Result<Vec<u8>, AllocError> {
+    let mut burst = Vec::new(alloc);
+    for _ in 0..count {
         burst.extend_from_slice(PLAY)?;
     }
-    let mut answer = Vec::new(rt.alloc());
-    for _ in 0..819 {
+    Ok(burst)
+}
+
+/// This many ACKs, and then NAK 0x04.
+fn acks_and_a_nak(alloc: Global, count: usize) -> Result<Vec<u8>, AllocError> {
+    let mut answer = Vec::new(alloc);
+    for _ in 0..count {
         answer.push(0x04)?;
     }
     answer.extend_from_slice(&[0x05, 0x04])?;
-    let mut port = selected(rt.alloc(), ten_seconds_each()?)?;
-    let (out, aired) = sent(rt.alloc(), &mut port, burst.as_slice())?;
-    assert_eq!(rt; out.as_slice(), answer.as_slice());
-    assert!(rt; aired.is_empty());
+    Ok(answer)
+}
+
+#[test]
+fn a_burst_is_answered_up_to_its_limit(rt: HostRuntime) -> Result<(), Fail> {
+    let burst = plays(rt.alloc(), 820)?;
+    let answer = acks_and_a_nak(rt.alloc(), 819)?;
+    let mut port = selected_port(rt.alloc())?;
+    expect(&rt, &mut port, burst.as_slice(), answer.as_slice(), 0x01)?;
     Ok(())
 }
 
@@ -347,57 +412,53 @@ fn the_largest_message_is_refused(rt: HostRuntime) -> Result<(), Fail> {
     let mut burst = Vec::from_slice(rt.alloc(), &[0x02, 0xFF, 0x70, 0x00])?;
     burst.extend_from_slice(&[0x00; 253])?;
     burst.push(0x90)?;
-    let mut port = selected(rt.alloc(), ten_seconds_each()?)?;
+    let mut port = selected_port(rt.alloc())?;
     expect(&rt, &mut port, burst.as_slice(), &[0x05, 0x01], 0x01)?;
     Ok(())
 }
 
 /// The burst is answered by one NAK, and leaves the second clip cueing while the first one plays.
-fn is_refused<C: Catalogue>(
+fn is_refused(
     rt: &(impl Abort + AllocGlobal),
-    port: &mut Port<C>,
+    port: &mut Port<TwoClips>,
     burst: &[u8],
     byte: u8,
 ) -> Result<(), AllocError> {
     expect(rt, port, burst, &[0x05, byte], 0x06)
 }
 
+static CUE: [u8; 13] = *b"\x02\x0A\x20\x24CLIP0001\xD3";
+
+/// A cue with another byte in this place is refused.
+fn change_is_refused(
+    rt: &(impl Abort + AllocGlobal),
+    port: &mut Port<TwoClips>,
+    place: usize,
+    byte: u8,
+) -> Result<(), AllocError>
+    requires { place < 13 }
+{
+    let mut burst = CUE;
+    burst[place] = byte;
+    // (a higher count asks for bytes that don't come)
+    let is_cut = place == 1 && byte > 10;
+    is_refused(rt, port, &burst, if is_cut { 0x80 } else { 0x04 })
+}
+
 #[test]
 fn hostile_bursts_change_nothing(rt: HostRuntime) -> Result<(), Fail> {
-    let base = *b"\x02\x0A\x20\x24CLIP0001\xD3";
-    let mut port = selected(rt.alloc(), ten_seconds_each()?)?;
-    let (_, _) = sent(rt.alloc(), &mut port, CUE_1)?;
+    let mut port = selected_port(rt.alloc())?;
+    aired_by(rt.alloc(), &mut port, &[CUE_1])?;
     port.ready();
-    for burst in [PLAY, CUE_2] {
-        let (_, _) = sent(rt.alloc(), &mut port, burst)?;
-    }
+    aired_by(rt.alloc(), &mut port, &[PLAY, CUE_2])?;
     for len in 1..13 {
-        is_refused(&rt, &mut port, &base[..len], 0x80)?;
+        is_refused(&rt, &mut port, &CUE[..len], 0x80)?;
     }
-    for place in 2..13 {
+    for place in 0..13 {
         for byte in 0..=255 {
-            let mut burst = base;
-            if burst[place] == byte {
-                continue;
+            if byte != CUE[place] {
+                change_is_refused(&rt, &mut port, place, byte)?;
             }
-            burst[place] = byte;
-            is_refused(&rt, &mut port, &burst, 0x04)?;
-        }
-    }
-    for count in 0..=255 {
-        let mut burst = base;
-        burst[1] = count;
-        match count {
-            0..=9 => is_refused(&rt, &mut port, &burst, 0x04)?,
-            10 => {}
-            11..=255 => is_refused(&rt, &mut port, &burst, 0x80)?,
-        }
-    }
-    for start in 0..=255 {
-        let mut burst = base;
-        burst[0] = start;
-        if start != 0x02 {
-            is_refused(&rt, &mut port, &burst, 0x04)?;
         }
     }
     Ok(())
@@ -419,9 +480,8 @@ fn expect_reply<C: Catalogue>(
 #[test]
 fn single_messages_are_answered(rt: HostRuntime) -> Result<(), Fail> {
     let mut port = Port::new(ten_seconds_each()?, 3, 7);
-    assert_eq!(rt; port.unit(), 3);
-    assert_eq!(rt; port.answer(&Message::Ack), (None, None));
-    assert_eq!(rt; port.answer(&Message::Nak(0x01)), (None, None));
+    let answers = (port.answer(&Message::Ack), port.answer(&Message::Nak(0x01)));
+    assert_eq!(rt; (port.unit(), answers), (3, ((None, None), (None, None))));
     let open = Command::Open(7, 0x01);
     expect_reply(&rt, &mut port, 3, open, Some(Reply::Opened(true)));
     expect_reply(&rt, &mut port, 4, open, None);
@@ -432,25 +492,11 @@ fn single_messages_are_answered(rt: HostRuntime) -> Result<(), Fail> {
 }
 
 /// Forty PLAYs, with a cue done.
-fn forty_plays(alloc: Global) -> Result<(Port<[(ClipId, Timecode); 2]>, Vec<u8>), Fail> {
-    let mut port = selected(alloc, ten_seconds_each()?)?;
-    let (_, _) = sent(alloc, &mut port, CUE_1)?;
+fn forty_plays(alloc: Global) -> Result<(Port<TwoClips>, Vec<u8>), Fail> {
+    let mut port = selected_port(alloc)?;
+    aired_by(alloc, &mut port, &[CUE_1])?;
     port.ready();
-    let mut burst = Vec::new(alloc);
-    for _ in 0..40 {
-        burst.extend_from_slice(PLAY)?;
-    }
-    Ok((port, burst))
-}
-
-// This promises nothing, so the proof of a test needn't go through the clauses of each call.
-fn answer<A: Allocator, B: Allocator>(
-    port: &mut Port<[(ClipId, Timecode); 2]>,
-    burst: &[u8],
-    out: &mut Vec<u8, A>,
-    aired: &mut Vec<Item, B>,
-) -> Result<(), AllocError> {
-    port.burst_answer(burst, out, aired)
+    Ok((port, plays(alloc, 40)?))
 }
 
 #[test]
@@ -460,17 +506,17 @@ fn refused_room_for_answers_changes_nothing(rt: HostRuntime) -> Result<(), Fail>
     let mut out = Vec::from_slice(&heap, &[0xAA])?;
     let mut aired = Vec::from_slice(rt.alloc(), &[whole(b"CLIP0001")])?;
     let refused = answer(&mut port, burst.as_slice(), &mut out, &mut aired);
-    assert!(rt; refused.is_err());
-    assert_eq!(rt; out.as_slice(), [0xAA].as_slice());
-    assert_eq!(rt; aired.len(), 1);
-    assert_eq!(rt; port.status_byte(), 0x80);
+    assert_eq!(rt; out.as_slice(), b"\xAA".as_slice());
+    assert_eq!(rt;
+        (refused.is_err(), aired.len(), port.status_byte()),
+        (true, 1, 0x80)
+    );
 
     // (with room the same burst is answered, and airs the item)
     let mut out = Vec::from_slice(rt.alloc(), &[0xAA])?;
     answer(&mut port, burst.as_slice(), &mut out, &mut aired)?;
-    assert_eq!(rt; out.len(), 41);
     assert_eq!(rt; aired.as_slice(), [whole(b"CLIP0001"); 2].as_slice());
-    assert_eq!(rt; port.status_byte(), 0x04);
+    assert_eq!(rt; (out.len(), port.status_byte()), (41, 0x04));
     Ok(())
 }
 
@@ -487,52 +533,61 @@ fn refused_room_for_an_item_changes_nothing(rt: HostRuntime) -> Result<(), Fail>
     }
     let items = full.len();
     let refused = answer(&mut port, burst.as_slice(), &mut out, &mut full);
-    assert!(rt; refused.is_err());
-    assert_eq!(rt; out.as_slice(), [0xAA].as_slice());
-    assert_eq!(rt; full.len(), items);
-    assert_eq!(rt; port.status_byte(), 0x80);
+    assert_eq!(rt;
+        (
+            refused.is_err(),
+            out.as_slice(),
+            full.len(),
+            port.status_byte()
+        ),
+        (true, [0xAA].as_slice(), items, 0x80)
+    );
 
     // A burst that is too short for a PLAY needs no room for an item.
     answer(&mut port, &[0x04], &mut out, &mut full)?;
-    assert_eq!(rt; full.len(), items);
+    let after_short = full.len();
 
     let mut aired = Vec::from_slice(rt.alloc(), &[item])?;
     answer(&mut port, burst.as_slice(), &mut out, &mut aired)?;
-    assert_eq!(rt; out.len(), 41);
-    assert_eq!(rt; aired.as_slice(), [item, item].as_slice());
-    assert_eq!(rt; port.status_byte(), 0x04);
+    assert_eq!(rt;
+        (after_short, out.len(), aired.as_slice(), port.status_byte()),
+        (items, 41, [item, item].as_slice(), 0x04)
+    );
     Ok(())
 }
 
 #[test]
 fn a_burst_is_answered_into_fixed_room(rt: HostRuntime) -> Result<(), Fail> {
-    let item = whole(b"CLIP0001");
-    let mut port = selected(rt.alloc(), ten_seconds_each()?)?;
-    let (_, _) = sent(rt.alloc(), &mut port, CUE_1)?;
+    let mut port = selected_port(rt.alloc())?;
+    aired_by(rt.alloc(), &mut port, &[CUE_1])?;
     port.ready();
     let mut out = ArrayVec::<u8, 36>::new();
     out.push(0xAA);
-    let twice = [
-        0x02, 0x02, 0x10, 0x01, 0xEF, 0x02, 0x02, 0x10, 0x01, 0xEF, 0xFF,
-    ];
-    assert_eq!(rt; port.answer_into(&twice, &mut out), Some(item));
-    assert_eq!(rt; out.as_slice(), [0xAA, 0x04, 0x04, 0x05, 0x04].as_slice());
-    assert_eq!(rt; port.status_byte(), 0x04);
+    let twice = b"\x02\x02\x10\x01\xEF\x02\x02\x10\x01\xEF\xFF";
+    let airs = port.answer_into(twice, &mut out);
+    assert_eq!(rt; out.as_slice(), b"\xAA\x04\x04\x05\x04".as_slice());
+    assert_eq!(rt;
+        (airs, port.status_byte()),
+        (Some(whole(b"CLIP0001")), 0x04)
+    );
     let mut out = ArrayVec::<u8, 8>::new();
-    assert_eq!(rt; port.answer_into(&[0x02, 0x02], &mut out), None);
-    assert_eq!(rt; out.as_slice(), [0x05, 0x80].as_slice());
-    assert_eq!(rt; port.status_byte(), 0x04);
+    let airs = port.answer_into(&[0x02, 0x02], &mut out);
+    assert_eq!(rt; out.as_slice(), b"\x05\x80".as_slice());
+    assert_eq!(rt; (airs, port.status_byte()), (None, 0x04));
     Ok(())
 }
 
+/// How a burst ends, and the byte of the NAK to it.
+static ENDS: [(Ended, Option<u8>); 3] = [
+    (Ended::Clean, None),
+    (Ended::Cut(1), Some(0x80)),
+    (Ended::AfterFault, Some(0x04)),
+];
+
 #[test]
 fn the_end_of_a_burst_is_answered(rt: HostRuntime) {
-    let rows = [
-        (Ended::Clean, None),
-        (Ended::Cut(1), Some(Reply::Nak(0x80))),
-        (Ended::AfterFault, Some(Reply::Nak(0x04))),
-    ];
-    for (ended, reply) in rows {
+    for &(ended, byte) in &ENDS {
+        let reply = byte.map(Reply::Nak);
         assert_eq!(rt; reply_at_end(ended), reply, "to {ended:?}");
     }
 }

@@ -21,7 +21,7 @@ const EVENTS: &[u8] = b"CLIP0001\n\"A,B\"\n";
 const PLAYED: &[u8] = b"0,CLIP0001\n1,\"A,B\"\n";
 
 /// The answers of a server that plays them.
-const ANSWERS: [&[u8]; 14] = [
+static ANSWERS: [&[u8]; 14] = [
     b"\x02\x03\x30\x81\x01\x4E",
     b"\x04",
     b"\x02\x03\x30\x96\x01\x39",
@@ -42,7 +42,7 @@ const ANSWERS: [&[u8]; 14] = [
 fn driver(rt: &HostRuntime) -> Result<AutoDriver<List, ScriptWire<Global>>, Fail> {
     let list = read_list(rt.alloc(), EVENTS, Rate::F25)?;
     let mut entries = Vec::new(rt.alloc());
-    for answer in ANSWERS {
+    for answer in ANSWERS.iter() {
         entries.push(Entry::Came(Vec::from_slice(rt.alloc(), answer)?))?;
         entries.push(Entry::Silence)?;
     }
@@ -175,33 +175,35 @@ fn open_again<'a>(
 /// The journal shows that the whole list was played, in 14 exchanges.
 fn shows_all(rt: &impl Abort, alloc: Global, journal: &[u8]) {
     let (status, out, err) = shown(alloc, journal, false);
-    assert_eq!(rt;
-        (status, out.as_slice(), err.as_slice()),
-        (0, PLAYED, b"".as_slice())
-    );
-    let (status, out, err) = shown(alloc, journal, true);
-    assert_eq!(rt; (status, err.len()), (0, 0));
-    let first = b"number,id,played,known\n0,CLIP0001,20";
-    assert!(rt; out.as_slice().starts_with(first));
     // (the heading, two rows for each exchange, and the end)
     let rows = journal.iter().filter(|byte| **byte == b'\n').count();
-    assert_eq!(rt; rows, 30);
+    assert_eq!(rt;
+        (status, out.as_slice(), err.len(), rows),
+        (0, PLAYED, 0, 30)
+    );
+    let (status, out, err) = shown(alloc, journal, true);
+    let begins = out
+        .as_slice()
+        .starts_with(b"number,id,played,known\n0,CLIP0001,20");
+    assert_eq!(rt; (status, begins, err.len()), (0, true, 0));
 }
 
 /// Of a beginning of the journal, a beginning of the list is shown, or nothing where the heading isn't whole.
 fn shows_some(rt: &impl Abort, alloc: Global, journal: &[u8]) {
     let (status, out, _) = shown(alloc, journal, false);
     let size = journal.len();
-    assert_eq!(rt; status, if size < 107 { 1 } else { 0 }, "{size}");
-    assert!(rt; PLAYED.starts_with(out.as_slice()), "{size}");
+    let wanted = if size < 107 { 1 } else { 0 };
+    let begins = PLAYED.starts_with(out.as_slice());
+    assert_eq!(rt; (status, begins), (wanted, true), "{size}");
 }
 
 #[test]
 fn a_list_is_played_with_a_journal(rt: HostRuntime) -> Result<(), Fail> {
     let name = temporary(&rt, "played")?;
     let name = name.as_str();
-    assert_eq!(rt; play(&rt, name, 100)?, 2);
-    assert_eq!(rt; unbegun(&rt, name)?, Some(Failure::Exists(name)));
+    let settled = play(&rt, name, 100)?;
+    let failure = unbegun(&rt, name)?;
+    assert_eq!(rt; (settled, failure), (2, Some(Failure::Exists(name))));
     let bytes = taken(&rt, name)?;
     shows_all(&rt, rt.alloc(), bytes.as_slice());
     for size in 0..bytes.len() {
@@ -214,11 +216,12 @@ fn a_list_is_played_with_a_journal(rt: HostRuntime) -> Result<(), Fail> {
 fn a_killed_run_goes_on(rt: HostRuntime) -> Result<(), Fail> {
     let name = temporary(&rt, "killed")?;
     let name = name.as_str();
-    assert_eq!(rt; play(&rt, name, 12)?, 1);
-    let mode = Failure::JournalRow(name, 1, JournalFault::Mode);
-    assert_eq!(rt; unresumed(&rt, name, true)?, Some(mode));
+    let played = play(&rt, name, 12)?;
+    let other_mode = unresumed(&rt, name, true)?;
     // (PLAY was answered, and that isn't written yet: it counts as unanswered)
-    assert_eq!(rt; end(&rt, name, Outcome::Lost)?, 0);
+    let resumed = end(&rt, name, Outcome::Lost)?;
+    let mode = Failure::JournalRow(name, 1, JournalFault::Mode);
+    assert_eq!(rt; (played, other_mode, resumed), (1, Some(mode), 0));
     // (the controller hasn't come to that)
     let outcome = unresumed(&rt, name, false)?;
     assert!(rt;
@@ -247,9 +250,13 @@ fn a_journal_is_opened_again(rt: HostRuntime) -> Result<(), Fail> {
     let name = temporary(&rt, "again")?;
     let name = name.as_str();
     drop(begun(&rt, name)?);
-    assert_eq!(rt; open_again(&rt, name, 3)?, Err(Failure::NoEvent(3)));
-    assert_eq!(rt; open_again(&rt, name, 1)?, Ok(1));
+    let beyond = open_again(&rt, name, 3)?;
+    let second = open_again(&rt, name, 1)?;
     let bytes = taken(&rt, name)?;
-    assert!(rt; bytes.as_slice().ends_with(b",from,1,\n"));
+    let ends = bytes.as_slice().ends_with(b",from,1,\n");
+    assert_eq!(rt;
+        (beyond, second, ends),
+        (Err(Failure::NoEvent(3)), Ok(1), true)
+    );
     Ok(())
 }

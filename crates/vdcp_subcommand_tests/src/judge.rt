@@ -1,5 +1,7 @@
 use crate::files::file;
-use std::process::Abort;
+use crate::run::{Run, expect_run};
+use std::alloc::Global;
+use std::io;
 use vdcp_capture::{JudgeSettings, do_judge};
 use vdcp_testing::{FailingReader, FailingWriter, Fails};
 use vdcp_value::Rate;
@@ -11,33 +13,34 @@ const SETTINGS: JudgeSettings = JudgeSettings {
     of_server: false,
 };
 
-const LIST: &[u8] = b"CLIP0001\n";
+const SERVER: JudgeSettings = JudgeSettings {
+    of_server: true,
+    ..SETTINGS
+};
 
-/// What is printed of this capture of the list of CLIP0001, what is told, and the status.
-fn expect(
-    rt: &(impl Abort + AllocGlobal),
-    capture: &[u8],
+/// Judges this capture of the list of CLIP0001.
+fn judge<C: io::Read + Drop, W: io::Write, E: io::Write>(
+    alloc: Global,
+    capture: C,
     settings: JudgeSettings,
-    wanted: (&str, &str, u8),
-) {
-    let mut out = Vec::new(rt.alloc());
-    let mut err = Vec::new(rt.alloc());
-    let list = file("list.csv", LIST);
-    let capture = file("line", capture);
-    let status = do_judge(rt.alloc(), list, capture, settings, &mut out, &mut err);
-    let (text, told, code) = wanted;
-    assert_eq!(rt; out.as_slice(), text.as_bytes());
-    assert_eq!(rt; err.as_slice(), told.as_bytes());
-    assert_eq!(rt; status, code);
+    out: &mut W,
+    err: &mut E,
+) -> u8 {
+    let list = file("list.csv", b"CLIP0001\n".as_slice());
+    do_judge(alloc, list, file("line", capture), settings, out, err)
+}
+
+/// What comes of a judgement of this capture.
+fn judged<C: io::Read + Drop>(alloc: Global, capture: C, settings: JudgeSettings) -> Run {
+    let mut out = Vec::new(alloc);
+    let mut err = Vec::new(alloc);
+    let status = judge(alloc, capture, settings, &mut out, &mut err);
+    (out, err, status)
 }
 
 #[test]
 fn captures_are_judged(rt: HostRuntime) {
-    let server = JudgeSettings {
-        of_server: true,
-        ..SETTINGS
-    };
-    let rows: [(&[u8], JudgeSettings, (&str, &str, u8)); 6] = [
+    static ROWS: [(&[u8], JudgeSettings, (&str, &str, u8)); 6] = [
         (
             b"9:30,down,02021001ef\r\n\n9:30,up,04",
             SETTINGS,
@@ -54,7 +57,7 @@ fn captures_are_judged(rt: HostRuntime) {
         ),
         (
             b"<- unit 0 type 1 code 00 data - = stop\naired 0 CLIP0001\n-> ack\n-> cut 1\n",
-            server,
+            SERVER,
             ("exchanges 1\nforbidden 0\nreported 0\n", "", 0),
         ),
         (b"4,up\n", SETTINGS, ("", "vdcp: line: line 1: word\n", 1)),
@@ -65,26 +68,21 @@ fn captures_are_judged(rt: HostRuntime) {
             ("", "vdcp: line: line 2: word\n", 1),
         ),
     ];
-    for (capture, settings, wanted) in rows {
-        expect(&rt, capture, settings, wanted);
+    for (capture, settings, wanted) in ROWS.iter() {
+        let run = judged(rt.alloc(), *capture, *settings);
+        expect_run(&rt, capture, &run, *wanted);
     }
 }
 
 #[test]
 fn failures_have_status_3(rt: HostRuntime) {
-    let mut out = Vec::new(rt.alloc());
-    let mut err = Vec::new(rt.alloc());
-    let list = file("list.csv", LIST);
-    let capture = file("line", FailingReader::new(b",up,04\n", Fails::From(1)));
-    let status = do_judge(rt.alloc(), list, capture, SETTINGS, &mut out, &mut err);
-    assert_eq!(rt; status, 3);
-    assert!(rt; out.is_empty());
-    assert_eq!(rt; err.as_slice(), b"vdcp: line: read\n".as_slice());
-    let list = file("list.csv", LIST);
-    let capture = file("line", b"".as_slice());
-    let mut full = FailingWriter::new(rt.alloc(), Fails::From(0));
-    let mut told = Vec::new(rt.alloc());
-    let status = do_judge(rt.alloc(), list, capture, SETTINGS, &mut full, &mut told);
-    assert_eq!(rt; status, 3);
-    assert!(rt; told.is_empty());
+    let alloc = rt.alloc();
+    let capture = b",up,04\n".as_slice();
+    let reader = FailingReader::new(capture, Fails::From(1));
+    let run = judged(alloc, reader, SETTINGS);
+    expect_run(&rt, capture, &run, ("", "vdcp: line: read\n", 3));
+    let mut full = FailingWriter::new(alloc, Fails::From(0));
+    let mut told = Vec::new(alloc);
+    let status = judge(alloc, b"".as_slice(), SETTINGS, &mut full, &mut told);
+    assert_eq!(rt; (status, told.len()), (3, 0));
 }

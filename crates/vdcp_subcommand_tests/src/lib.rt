@@ -9,6 +9,8 @@ mod files;
 #[cfg(test)]
 mod judge;
 #[cfg(test)]
+mod run;
+#[cfg(test)]
 mod sim;
 #[cfg(test)]
 mod vectors;

@@ -1,8 +1,10 @@
+ghost use Rattle.std.specs.Prelude.{◌<◌, length};
+
 use crate::files::file;
+use crate::run::{Run, expect_run};
 use std::alloc::Global;
 use std::io;
 use std::process::Abort;
-use std::test::Fail;
 use vdcp_sim::{SimSettings, do_sim};
 use vdcp_testing::{FailingReader, FailingWriter, Fails};
 use vdcp_value::Rate;
@@ -35,14 +37,24 @@ const LATE: SimSettings = SimSettings {
     ..PLAIN
 };
 
+const LATE_TRACED: SimSettings = SimSettings {
+    late: true,
+    ..TRACED
+};
+
 const LATE_CONFIRMING: SimSettings = SimSettings {
     late: true,
     ..CONFIRMING
 };
 
-// What a run of this script at unit 0 and port 1, with limit 3, gives: the text on `out`, the text on
-// `err`, and the status.
-fn ran(alloc: Global, list: &[u8], script: &[u8], settings: SimSettings) -> (Vec<u8>, Vec<u8>, u8) {
+// Runs this script at unit 0 and port 1, with limit 3.
+fn simulate<R: io::Read + Drop, W: io::Write, E: io::Write>(
+    alloc: Global,
+    files: (&[u8], &[u8], R),
+    settings: SimSettings,
+    out: &mut W,
+    err: &mut E,
+) -> u8 {
     let settings = SimSettings {
         unit: 0,
         port: 1,
@@ -50,12 +62,17 @@ fn ran(alloc: Global, list: &[u8], script: &[u8], settings: SimSettings) -> (Vec
         cue_frames: settings.cue_frames.clamp(1, 1000),
         ..settings
     };
+    let list = file("list.csv", files.0);
+    let clips = file("clips.csv", files.1);
+    let script = file("script.txt", files.2);
+    do_sim(alloc, list, clips, script, settings, out, err)
+}
+
+// What a run of this list, this catalogue and this script gives.
+fn ran<R: io::Read + Drop>(alloc: Global, files: (&[u8], &[u8], R), settings: SimSettings) -> Run {
     let mut out = Vec::new(alloc);
     let mut err = Vec::new(alloc);
-    let list = file("list.csv", list);
-    let clips = file("clips.csv", CLIPS);
-    let script = file("script.txt", script);
-    let status = do_sim(alloc, list, clips, script, settings, &mut out, &mut err);
+    let status = simulate(alloc, files, settings, &mut out, &mut err);
     (out, err, status)
 }
 
@@ -66,52 +83,59 @@ fn expect_text(
     settings: SimSettings,
     text: &str,
 ) {
-    let (out, err, status) = ran(rt.alloc(), list, script, settings);
-    assert_eq!(rt; out.as_slice(), text.as_bytes());
-    assert_eq!(rt; status, 0, "{text}");
-    assert!(rt; err.is_empty(), "{text}");
+    let run = ran(rt.alloc(), (list, CLIPS, script), settings);
+    expect_run(rt, script, &run, (text, "", 0));
 }
+
+// Whether a text has this part.
+fn has(text: &[u8], part: &[u8]) -> bool
+    requires { 0 < length part.now }
+{
+    text.windows(part.len()).any(|window| window == part)
+}
+
+// A list, a script, and the text that their run gives.
+static PRINTED: [(&[u8], &[u8], &str); 7] = [
+    (
+        b"CLIP0001\nCLIP0002\n",
+        b"good 14\n",
+        "aired 0 CLIP0001\naired 1 CLIP0002\nreported 2\nexchanges 14\noutcome done\n",
+    ),
+    (
+        b"CLIP0001,00:00:02:00,00:00:03:00\nCLIP0002,,\n",
+        b"good 14\n",
+        "aired 0 CLIP0001 00:00:02:00 00:00:03:00\naired 1 CLIP0002\nreported 2\nexchanges 14\noutcome done\n",
+    ),
+    (
+        b"CLIP0001,00:00:08:00,00:00:03:00\n",
+        b"good 20",
+        "reported 0\nexchanges 4\noutcome refused 0\n",
+    ),
+    (
+        b"CLIP0001\nCLIP0009\n",
+        b"good 20\r\n",
+        "aired 0 CLIP0001\nreported 1\nexchanges 8\noutcome missing 1\n",
+    ),
+    (
+        b"CLIP0001\n",
+        b"tick\nlose-down\ntimeout\ntick\nlose-down\ntimeout\ntick\nlose-down\ntimeout\n",
+        "reported 0\nexchanges 3\noutcome lost\n",
+    ),
+    (
+        b"CLIP0001\n",
+        b"good 5\ntick\ndown\nlose-up\nstop\ntimeout\ngood 2\n",
+        "aired 0 CLIP0001\nreported 0\nexchanges 8\noutcome stopped\n",
+    ),
+    (
+        b"CLIP0001\n",
+        b"",
+        "reported 0\nexchanges 0\noutcome open\n",
+    ),
+];
 
 #[test]
 fn what_came_of_a_script_is_printed(rt: HostRuntime) {
-    let rows: [(&[u8], &[u8], &str); 7] = [
-        (
-            b"CLIP0001\nCLIP0002\n",
-            b"good 14\n",
-            "aired 0 CLIP0001\naired 1 CLIP0002\nreported 2\nexchanges 14\noutcome done\n",
-        ),
-        (
-            b"CLIP0001,00:00:02:00,00:00:03:00\nCLIP0002,,\n",
-            b"good 14\n",
-            "aired 0 CLIP0001 00:00:02:00 00:00:03:00\naired 1 CLIP0002\nreported 2\nexchanges 14\noutcome done\n",
-        ),
-        (
-            b"CLIP0001,00:00:08:00,00:00:03:00\n",
-            b"good 20",
-            "reported 0\nexchanges 4\noutcome refused 0\n",
-        ),
-        (
-            b"CLIP0001\nCLIP0009\n",
-            b"good 20\r\n",
-            "aired 0 CLIP0001\nreported 1\nexchanges 8\noutcome missing 1\n",
-        ),
-        (
-            b"CLIP0001\n",
-            b"tick\nlose-down\ntimeout\ntick\nlose-down\ntimeout\ntick\nlose-down\ntimeout\n",
-            "reported 0\nexchanges 3\noutcome lost\n",
-        ),
-        (
-            b"CLIP0001\n",
-            b"good 5\ntick\ndown\nlose-up\nstop\ntimeout\ngood 2\n",
-            "aired 0 CLIP0001\nreported 0\nexchanges 8\noutcome stopped\n",
-        ),
-        (
-            b"CLIP0001\n",
-            b"",
-            "reported 0\nexchanges 0\noutcome open\n",
-        ),
-    ];
-    for (list, script, text) in rows {
+    for (list, script, text) in PRINTED.iter() {
         expect_text(&rt, list, script, PLAIN, text);
     }
 }
@@ -126,18 +150,14 @@ fn exchanges_are_traced(rt: HostRuntime) {
         "1 open 01 01 -> granted\n2 select 01 -> ack\n3 status 01 -> state 01\n4 close 01 -> ack\n\
          reported 0\nexchanges 4\noutcome done\n",
     );
+    let script = b"good 5\ntick\ndown-copy\nalter-down ff\ndown\nup\ngood 4\n";
+    let six_and_seven = b"\n6 play -> nak 04\n7 status 01 -> state 01\n8 ";
     let (out, _, _) = ran(
         rt.alloc(),
-        b"CLIP0001\n",
-        b"good 5\ntick\ndown-copy\nalter-down ff\ndown\nup\ngood 4\n",
+        (b"CLIP0001\n", CLIPS, script.as_slice()),
         TRACED,
     );
-    let six_and_seven = b"\n6 play -> nak 04\n7 status 01 -> state 01\n8 ".as_slice();
-    assert!(rt;
-        out.as_slice()
-            .windows(six_and_seven.len())
-            .any(|text| text == six_and_seven)
-    );
+    assert!(rt; has(out.as_slice(), six_and_seven));
 }
 
 #[test]
@@ -147,17 +167,16 @@ fn a_cue_takes_its_frames(rt: HostRuntime) {
         ..TRACED
     };
     let script = b"round 4\nframe 2\nround\nframe\nround 3\nframe 249\nround\nframe\nround 2\n";
-    let (out, _, _) = ran(rt.alloc(), b"CLIP0001\n", script, settings);
     let text = "1 open 01 01 -> granted\n2 select 01 -> ack\n3 exists CLIP0001 -> present\n\
         4 cue CLIP0001 -> ack\n5 status 01 -> state 02\n6 status 01 -> state 80\n7 play -> ack\n\
         8 active -> active CLIP0001\n9 status 01 -> state 04\n10 status 01 -> state 01\n\
         11 close 01 -> ack\naired 0 CLIP0001\nreported 1\nexchanges 11\noutcome done\n";
-    assert_eq!(rt; out.as_slice(), text.as_bytes());
+    expect_text(&rt, b"CLIP0001\n", script, settings, text);
 }
 
 #[test]
 fn a_controller_confirms(rt: HostRuntime) {
-    let rows: [(&[u8], &[u8], &str); 5] = [
+    static ROWS: [(&[u8], &[u8], &str); 5] = [
         (
             b"CLIP0001\n",
             b"good 12\n",
@@ -184,7 +203,7 @@ fn a_controller_confirms(rt: HostRuntime) {
             "reported 0\nexchanges 10\noutcome refused 0\n",
         ),
     ];
-    for (list, script, text) in rows {
+    for (list, script, text) in ROWS.iter() {
         expect_text(&rt, list, script, CONFIRMING, text);
     }
 }
@@ -196,16 +215,18 @@ fn a_lost_play_is_asked_after(rt: HostRuntime) {
         ..CONFIRMING
     };
     let script = b"good 6\ntick\nstray-ack\nlose-down\ntimeout\ngood 7\n";
-    let (out, _, _) = ran(rt.alloc(), b"CLIP0001\n", script, settings);
-    let seven_and_eight = b"\n7 play -> silence\n8 status 01 -> state 80\n9 ".as_slice();
-    assert!(rt;
-        out.as_slice()
-            .windows(seven_and_eight.len())
-            .any(|text| text == seven_and_eight)
+    let (out, _, _) = ran(
+        rt.alloc(),
+        (b"CLIP0001\n", CLIPS, script.as_slice()),
+        settings,
     );
-    assert!(rt;
-        out.as_slice().ends_with(b"aired 0 CLIP0001\nreported 1\nexchanges 13\noutcome done\n")
+    let seven_and_eight = b"\n7 play -> silence\n8 status 01 -> state 80\n9 ";
+    let end = b"aired 0 CLIP0001\nreported 1\nexchanges 13\noutcome done\n";
+    let seen = (
+        has(out.as_slice(), seven_and_eight),
+        out.as_slice().ends_with(end),
     );
+    assert_eq!(rt; seen, (true, true));
 }
 
 #[test]
@@ -217,12 +238,12 @@ fn a_late_line_keeps_its_bursts(rt: HostRuntime) {
         4 cue CLIP0001 -> ack\n5 status 01 -> state 80\n6 play -> silence\n7 status 01 -> ack\n\
         8 status 01 -> state 04\n9 active -> active CLIP0001\n10 status 01 -> state 01\n\
         11 close 01 -> ack\naired 0 CLIP0001\nreported 1\nexchanges 11\noutcome done\n";
-    let settings = SimSettings {
-        late: true,
-        ..TRACED
-    };
-    expect_text(&rt, b"CLIP0001\n", script, settings, text);
-    let rows: [(&[u8], &str); 7] = [
+    expect_text(&rt, b"CLIP0001\n", script, LATE_TRACED, text);
+}
+
+#[test]
+fn bursts_of_a_late_line_are_copied_lost_altered_and_made_up(rt: HostRuntime) {
+    static ROWS: [(&[u8], &str); 7] = [
         (
             b"tick\ntimeout\ntick\nlose-down 2\nlose-down 2\ndown\nup\nround\n",
             "1 open 01 01 -> silence\n2 open 01 01 -> granted\n3 select 01 -> ack\n\
@@ -253,57 +274,59 @@ fn a_late_line_keeps_its_bursts(rt: HostRuntime) {
             "reported 0\nexchanges 0\noutcome open\n",
         ),
     ];
-    for (script, text) in rows {
-        expect_text(&rt, b"CLIP0001\n", script, settings, text);
+    for (script, text) in ROWS.iter() {
+        expect_text(&rt, b"CLIP0001\n", script, LATE_TRACED, text);
     }
 }
 
+// A script, its settings, and the text that its run gives.
+static STARTED_ANEW: [(&[u8], SimSettings, &str); 8] = [
+    (
+        b"good 9\n",
+        LATE,
+        "aired 0 CLIP0001\nreported 1\nexchanges 9\noutcome done\n",
+    ),
+    (
+        b"good 6\nserver-anew\ngood\n",
+        LATE,
+        "aired 0 CLIP0001\nreported 1\nexchanges 7\noutcome refused 0\n",
+    ),
+    (
+        b"good 5\ntick\ndown\nautomation-anew\nlose-up\ngood 4\n",
+        LATE,
+        "aired 0 CLIP0001\nreported 1\nexchanges 10\noutcome done\n",
+    ),
+    (
+        b"stop\nautomation-anew\ngood 9\n",
+        LATE,
+        "aired 0 CLIP0001\nreported 1\nexchanges 9\noutcome done\n",
+    ),
+    (
+        b"good 12\n",
+        LATE_CONFIRMING,
+        "aired 0 CLIP0001\nreported 1\nexchanges 11\noutcome done\n",
+    ),
+    (
+        b"tick\ntimeout\ntick\ndown\nup\nlose-down\ngood 11\n",
+        LATE_CONFIRMING,
+        "aired 0 CLIP0001\nreported 1\nexchanges 12\noutcome done\n",
+    ),
+    (
+        b"good 7\nserver-anew\ngood 4\n",
+        LATE_CONFIRMING,
+        "aired 0 CLIP0001\nreported 0\nexchanges 10\noutcome lost\n",
+    ),
+    (
+        b"tick\njunk-up 04\nup\nstray-ack\ndown\nup\ngood 6\nautomation-anew\ngood 5\n",
+        LATE_CONFIRMING,
+        "aired 0 CLIP0001\nreported 1\nexchanges 11\noutcome done\n",
+    ),
+];
+
 #[test]
 fn an_end_is_started_anew(rt: HostRuntime) {
-    let rows: [(&[u8], SimSettings, &str); 8] = [
-        (
-            b"good 9\n",
-            LATE,
-            "aired 0 CLIP0001\nreported 1\nexchanges 9\noutcome done\n",
-        ),
-        (
-            b"good 6\nserver-anew\ngood\n",
-            LATE,
-            "aired 0 CLIP0001\nreported 1\nexchanges 7\noutcome refused 0\n",
-        ),
-        (
-            b"good 5\ntick\ndown\nautomation-anew\nlose-up\ngood 4\n",
-            LATE,
-            "aired 0 CLIP0001\nreported 1\nexchanges 10\noutcome done\n",
-        ),
-        (
-            b"stop\nautomation-anew\ngood 9\n",
-            LATE,
-            "aired 0 CLIP0001\nreported 1\nexchanges 9\noutcome done\n",
-        ),
-        (
-            b"good 12\n",
-            LATE_CONFIRMING,
-            "aired 0 CLIP0001\nreported 1\nexchanges 11\noutcome done\n",
-        ),
-        (
-            b"tick\ntimeout\ntick\ndown\nup\nlose-down\ngood 11\n",
-            LATE_CONFIRMING,
-            "aired 0 CLIP0001\nreported 1\nexchanges 12\noutcome done\n",
-        ),
-        (
-            b"good 7\nserver-anew\ngood 4\n",
-            LATE_CONFIRMING,
-            "aired 0 CLIP0001\nreported 0\nexchanges 10\noutcome lost\n",
-        ),
-        (
-            b"tick\njunk-up 04\nup\nstray-ack\ndown\nup\ngood 6\nautomation-anew\ngood 5\n",
-            LATE_CONFIRMING,
-            "aired 0 CLIP0001\nreported 1\nexchanges 11\noutcome done\n",
-        ),
-    ];
-    for (script, settings, text) in rows {
-        expect_text(&rt, b"CLIP0001\n", script, settings, text);
+    for (script, settings, text) in STARTED_ANEW.iter() {
+        expect_text(&rt, b"CLIP0001\n", script, *settings, text);
     }
 }
 
@@ -320,7 +343,7 @@ fn a_late_cue_takes_its_frames(rt: HostRuntime) {
 
 #[test]
 fn a_script_of_a_late_line_is_refused(rt: HostRuntime) {
-    let rows: [(&[u8], SimSettings, &str); 9] = [
+    static ROWS: [(&[u8], SimSettings, &str); 9] = [
         (b"server-anew\n", PLAIN, "vdcp: script.txt: line 1: word\n"),
         (
             b"automation-anew\n",
@@ -347,8 +370,8 @@ fn a_script_of_a_late_line_is_refused(rt: HostRuntime) {
             "vdcp: script.txt: line 1: hex\n",
         ),
     ];
-    for (script, settings, line) in rows {
-        expect_refused(&rt, b"CLIP0001\n", script, settings, line);
+    for (script, settings, line) in ROWS.iter() {
+        expect_refused(&rt, b"CLIP0001\n", script, *settings, line);
     }
 }
 
@@ -359,15 +382,13 @@ fn expect_refused(
     settings: SimSettings,
     line: &str,
 ) {
-    let (out, err, status) = ran(rt.alloc(), list, script, settings);
-    assert_eq!(rt; err.as_slice(), line.as_bytes());
-    assert_eq!(rt; status, 1, "{line}");
-    assert!(rt; out.is_empty(), "{line}");
+    let run = ran(rt.alloc(), (list, CLIPS, script), settings);
+    expect_run(rt, script, &run, ("", line, 1));
 }
 
 #[test]
 fn refusals_are_told(rt: HostRuntime) {
-    let rows: [(&[u8], &[u8], &str); 7] = [
+    static ROWS: [(&[u8], &[u8], &str); 7] = [
         (b"", b"tick\n\njump\n", "vdcp: script.txt: line 3: word\n"),
         (b"", b"round 0\n", "vdcp: script.txt: line 1: number\n"),
         (
@@ -393,38 +414,26 @@ fn refusals_are_told(rt: HostRuntime) {
             "vdcp: list.csv: row 2: columns\n",
         ),
     ];
-    for (list, script, line) in rows {
+    for (list, script, line) in ROWS.iter() {
         expect_refused(&rt, list, script, PLAIN, line);
     }
 }
 
 #[test]
 fn the_catalogue_is_read_before_the_script(rt: HostRuntime) {
-    let mut out = Vec::new(rt.alloc());
-    let mut err = Vec::new(rt.alloc());
-    let list = file("list.csv", b"CLIP0001\n".as_slice());
-    let clips = file("clips.csv", b"CLIP0001,00:00:00:00\n".as_slice());
-    let script = file("script.txt", b"jump\n".as_slice());
-    let status = do_sim(rt.alloc(), list, clips, script, PLAIN, &mut out, &mut err);
-    assert_eq!(rt;
-        err.as_slice(),
-        b"vdcp: clips.csv: row 1: time\n".as_slice()
-    );
-    assert_eq!(rt; status, 1);
-    assert!(rt; out.is_empty());
+    let clips = b"CLIP0001,00:00:00:00\n";
+    let script = b"jump\n".as_slice();
+    let run = ran(rt.alloc(), (b"CLIP0001\n", clips, script), PLAIN);
+    let line = "vdcp: clips.csv: row 1: time\n";
+    expect_run(&rt, script, &run, ("", line, 1));
 }
 
 /// What comes of a script by this reader: this text, or this line on standard error.
 fn expect_read(rt: &(impl Abort + AllocGlobal), reader: FailingReader, text: &str, line: &str) {
-    let mut out = Vec::new(rt.alloc());
-    let mut err = Vec::new(rt.alloc());
-    let list = file("list.csv", b"CLIP0001\n".as_slice());
-    let clips = file("clips.csv", CLIPS);
-    let script = file("script.txt", reader);
-    let status = do_sim(rt.alloc(), list, clips, script, PLAIN, &mut out, &mut err);
-    assert_eq!(rt; out.as_slice(), text.as_bytes());
-    assert_eq!(rt; err.as_slice(), line.as_bytes());
-    assert_eq!(rt; status, if line.is_empty() { 0 } else { 3 });
+    let script = reader.bytes;
+    let run = ran(rt.alloc(), (b"CLIP0001\n", CLIPS, reader), PLAIN);
+    let status = if line.is_empty() { 0 } else { 3 };
+    expect_run(rt, script, &run, (text, line, status));
 }
 
 const NOT_READ: &str = "vdcp: script.txt: read\n";
@@ -451,39 +460,38 @@ fn a_script_is_read_by_a_million_reads_at_most(rt: HostRuntime) {
 }
 
 #[test]
-fn a_writer_may_fail_at_each_call(rt: HostRuntime) -> Result<(), Fail> {
-    fails_at_each_call(&rt, false)?;
-    fails_at_each_call(&rt, true)
+fn a_writer_may_fail_at_each_call(rt: HostRuntime) {
+    fails_at_each_call(&rt, TRACED);
+    fails_at_each_call(&rt, LATE_TRACED);
 }
 
-fn fails_at_each_call(rt: &(impl Abort + AllocGlobal), late: bool) -> Result<(), Fail> {
-    let settings = SimSettings { late, ..TRACED };
+fn fails_at_each_call(rt: &(impl Abort + AllocGlobal), settings: SimSettings) {
     let mut failed = 0;
     for left in 0..100 {
-        let mut out = FailingWriter::new(rt.alloc(), Fails::From(left));
-        let mut err = Vec::new(rt.alloc());
-        let list = file("list.csv", b"CLIP0001\n".as_slice());
-        let clips = file("clips.csv", CLIPS);
-        let script = file("script.txt", b"good 9\n".as_slice());
-        let status = do_sim(
-            rt.alloc(),
-            list,
-            clips,
-            script,
-            settings,
-            &mut out,
-            &mut err,
-        );
-        assert!(rt; err.is_empty());
-        if status == 0 {
+        if !fails_at(rt, settings, left) {
             break;
         }
-        assert_eq!(rt; status, 3);
-        assert_eq!(rt; out.calls, left + 1);
-        assert_eq!(rt; out.flushes, 0);
         failed = left + 1;
     }
     // (thirteen lines and the flush, at least a call each)
     assert!(rt; (14..100).contains(&failed));
-    Ok(())
+}
+
+// Whether a run fails where the writer's calls fail from this one on. If so, that call is the last and nothing is
+// flushed.
+fn fails_at(rt: &(impl Abort + AllocGlobal), settings: SimSettings, left: usize) -> bool
+    requires { left < 100 }
+{
+    let mut out = FailingWriter::new(rt.alloc(), Fails::From(left));
+    let mut err = Vec::new(rt.alloc());
+    let files = (b"CLIP0001\n".as_slice(), CLIPS, b"good 9\n".as_slice());
+    let status = simulate(rt.alloc(), files, settings, &mut out, &mut err);
+    if status == 0 && err.is_empty() {
+        return false;
+    }
+    assert_eq!(rt;
+        (status, out.calls, out.flushes, err.len()),
+        (3, left + 1, 0, 0)
+    );
+    true
 }

@@ -1,27 +1,25 @@
 use arrayvec::ArrayString;
 use std::fmt::Write;
-use std::test::Fail;
+use std::process::Abort;
 use vdcp_auto::{Exchange, Heard};
 use vdcp_text::ExchangeText;
 use vdcp_words::{Command, Reply};
 
-const HEARD: [(Option<Heard>, &str); 4] = [
-    (None, "play -> silence"),
-    (Some(Heard::Other), "play -> other"),
-    (Some(Heard::Reply(Reply::Ack)), "play -> ack"),
-    (Some(Heard::Reply(Reply::Nak(0x04))), "play -> nak 04"),
-];
+// A PLAY for which this was heard is shown by this text.
+fn expect_shown(rt: &impl Abort, heard: Option<Heard>, text: &str) {
+    let exchange = Exchange {
+        command: Command::Play,
+        heard,
+    };
+    let mut shown = ArrayString::<64>::new();
+    let written = write!(shown, "{}", ExchangeText(exchange));
+    assert_eq!(rt; (written.is_ok(), shown.as_str()), (true, text));
+}
 
 #[test]
-fn an_exchange_is_its_command_and_what_was_heard(rt: HostRuntime) -> Result<(), Fail> {
-    for (heard, text) in HEARD {
-        let exchange = Exchange {
-            command: Command::Play,
-            heard,
-        };
-        let mut shown = ArrayString::<64>::new();
-        write!(shown, "{}", ExchangeText(exchange))?;
-        assert_eq!(rt; shown.as_str(), text);
-    }
-    Ok(())
+fn an_exchange_is_its_command_and_what_was_heard(rt: HostRuntime) {
+    expect_shown(&rt, None, "play -> silence");
+    expect_shown(&rt, Some(Heard::Other), "play -> other");
+    expect_shown(&rt, Some(Heard::Reply(Reply::Ack)), "play -> ack");
+    expect_shown(&rt, Some(Heard::Reply(Reply::Nak(0x04))), "play -> nak 04");
 }

@@ -8,4 +8,6 @@ mod failure;
 #[cfg(test)]
 mod make;
 #[cfg(test)]
+mod run;
+#[cfg(test)]
 mod show;

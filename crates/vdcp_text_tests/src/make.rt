@@ -1,3 +1,4 @@
+use crate::run::{expect_last, expect_run, expect_whole};
 use std::alloc::{AllocError, Global};
 use std::io;
 use std::process::Abort;
@@ -30,15 +31,13 @@ fn expect(
     let mut out = Vec::new(rt.alloc());
     let mut err = Vec::new(rt.alloc());
     let got = make(rt.alloc(), words, &mut out, &mut err)?;
-    assert_eq!(rt; out.as_slice(), text.as_bytes(), "{words}");
-    assert_eq!(rt; err.as_slice(), line.as_bytes(), "{words}");
-    assert_eq!(rt; got, status, "{words}");
+    expect_run(rt, words, &(out, err, got), (text, line, status));
     Ok(())
 }
 
 #[test]
 fn commands_are_made(rt: HostRuntime) -> Result<(), Fail> {
-    let rows = [
+    static ROWS: [(&str, &str); 14] = [
         ("stop", "02021000f0\n"),
         ("play", "02021001ef\n"),
         ("close 01", "0203202101be\n"),
@@ -57,7 +56,7 @@ fn commands_are_made(rt: HostRuntime) -> Result<(), Fail> {
         ("exists CLIP0001", "020a3016434c495030303031d1\n"),
         ("size CLIP0001", "020a3014434c495030303031d3\n"),
     ];
-    for (words, text) in rows {
+    for (words, text) in ROWS.iter() {
         expect(&rt, words, text, "", 0)?;
     }
     Ok(())
@@ -67,13 +66,13 @@ fn commands_are_made(rt: HostRuntime) -> Result<(), Fail> {
 fn a_command_is_made_for_its_unit(rt: HostRuntime) {
     let mut out = Vec::new(rt.alloc());
     let mut err = Vec::new(rt.alloc());
-    assert_eq!(rt; do_make("play", &[], 1, &mut out, &mut err), 0);
-    assert_eq!(rt; out.as_slice(), b"02021101ee\n".as_slice());
+    let status = do_make("play", &[], 1, &mut out, &mut err);
+    assert_eq!(rt; (out.as_slice(), status), (b"02021101ee\n".as_slice(), 0));
 }
 
 #[test]
 fn other_words_are_refused(rt: HostRuntime) -> Result<(), Fail> {
-    let rows = [
+    static ROWS: [(&str, &str); 15] = [
         ("jog", "vdcp: word\n"),
         ("", "vdcp: word\n"),
         ("PLAY", "vdcp: word\n"),
@@ -90,26 +89,35 @@ fn other_words_are_refused(rt: HostRuntime) -> Result<(), Fail> {
         ("exists 0x434c495030303031", "vdcp: arguments\n"),
         ("cue-data CLIP0001 0002000 00030000", "vdcp: arguments\n"),
     ];
-    for (words, line) in rows {
+    for (words, line) in ROWS.iter() {
         expect(&rt, words, "", line, 1)?;
     }
     Ok(())
 }
 
+// Makes a PLAY for a writer that may fail.
+fn make_to(out: &mut FailingWriter, err: &mut Vec<u8>) -> u8 {
+    do_make("play", &[], 0, out, err)
+}
+
 #[test]
-fn a_failing_call_of_the_writer_is_the_last(rt: HostRuntime) -> Result<(), Fail> {
-    let alloc = rt.alloc();
-    let mut whole = FailingWriter::new(alloc, Fails::Before(0));
-    let mut err = Vec::new(alloc);
-    assert_eq!(rt; make(alloc, "play", &mut whole, &mut err)?, 0);
-    assert_eq!(rt; whole.flushes, 1);
+fn a_failing_call_of_the_writer_is_the_last(rt: HostRuntime) {
+    let text = b"02021001ef\n".as_slice();
+    let mut whole = FailingWriter::new(rt.alloc(), Fails::Before(0));
+    let mut err = Vec::new(rt.alloc());
+    let status = make_to(&mut whole, &mut err);
+    expect_whole(&rt, &whole, text, status);
     for left in 0..whole.calls {
-        let mut out = FailingWriter::new(alloc, Fails::From(left));
-        assert_eq!(rt; make(alloc, "play", &mut out, &mut err)?, 3, "after {left}");
-        assert_eq!(rt; out.calls, left + 1);
+        let mut out = FailingWriter::new(rt.alloc(), Fails::From(left));
+        let status = make_to(&mut out, &mut err);
+        expect_last(&rt, &out, text, status, left + 1);
     }
     assert!(rt; err.is_empty());
-    let mut err = FailingWriter::new(alloc, Fails::From(0));
-    assert_eq!(rt; make(alloc, "jog", &mut whole, &mut err)?, 3);
-    Ok(())
+}
+
+#[test]
+fn a_fault_line_that_fails_has_status_3(rt: HostRuntime) {
+    let mut out = Vec::new(rt.alloc());
+    let mut err = FailingWriter::new(rt.alloc(), Fails::From(0));
+    assert_eq!(rt; do_make("jog", &[], 0, &mut out, &mut err), 3);
 }

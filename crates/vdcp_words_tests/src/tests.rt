@@ -1,12 +1,12 @@
 ghost use Rattle.std.specs.Prelude.{◌≡◌, ◌≤◌, Ok};
 ghost use Rattle.vdcp_words.specs.Replies.{MatchesBitmap};
 
-use arrayvec::ArrayString;
+use arrayvec::{ArrayString, ArrayVec};
+use std::alloc::Global;
 use std::process::Abort;
-use std::test::Fail;
 use vdcp_frame::{Message, Step, read_at};
 use vdcp_value::ClipId;
-use vdcp_words::{Command, Reply, WordFault, laws};
+use vdcp_words::{Command, LONGEST, Reply, WordFault, laws};
 
 fn clip(bytes: &[u8; 8]) -> ClipId {
     ClipId::new(*bytes)
@@ -15,12 +15,35 @@ fn clip(bytes: &[u8; 8]) -> ClipId {
 // The one message that the bytes are.
 fn message_of<'a>(rt: &impl Abort, bytes: &'a [u8]) -> Message<'a> {
     match read_at(bytes, 0) {
-        Step::Message(message, next) => {
-            assert_eq!(rt; next, bytes.len());
-            message
-        }
-        _ => panic!(rt; "no message in {bytes:?}"),
+        Step::Message(message, next) if next == bytes.len() => message,
+        _ => panic!(rt; "not exactly one message in {bytes:?}"),
     }
+}
+
+fn encoded_command(command: Command) -> ArrayVec<u8, LONGEST> {
+    command.encode(0)
+}
+
+fn read_command(message: &Message) -> Result<Command, WordFault> {
+    Command::read(message)
+}
+
+fn read_reply(message: &Message) -> Result<Reply, WordFault> {
+    Reply::read(message)
+}
+
+// A command is written to unit 0 as these bytes, is read from them, is shown by this text, and is read back at
+// unit 15.
+fn check_command(rt: &impl Abort, command: Command, bytes: &[u8], text: &str) {
+    let encoded = encoded_command(command);
+    let read = read_command(&message_of(rt, bytes));
+    let read_back = command_read_back(command, 15);
+    let mut shown = ArrayString::new();
+    command.show(&mut shown);
+    assert_eq!(rt;
+        (encoded.as_slice(), read, read_back, shown.as_str()),
+        (bytes, Ok(command), Ok(command), text)
+    );
 }
 
 #[test]
@@ -77,14 +100,25 @@ fn example_commands_are_written_read_and_shown(rt: HostRuntime) {
             "size CLIP0001",
         ),
     ];
-    for (command, bytes, text) in rows {
-        assert_eq!(rt; command.encode(0).as_slice(), bytes);
-        assert_eq!(rt; Command::read(&message_of(&rt, bytes)), Ok(command));
-        assert_eq!(rt; command_read_back(command, 15), Ok(command));
-        let mut shown = ArrayString::new();
-        command.show(&mut shown);
-        assert_eq!(rt; shown.as_str(), text);
+    for (command, bytes, text) in rows.iter() {
+        check_command(&rt, *command, bytes, text);
     }
+}
+
+fn encoded_reply(reply: Reply) -> ArrayVec<u8, LONGEST> {
+    reply.encode(0)
+}
+
+// A reply is written by unit 0 as these bytes, is read from them, and is shown by this text.
+fn check_reply(rt: &impl Abort, reply: Reply, bytes: &[u8], text: &str) {
+    let encoded = encoded_reply(reply);
+    let read = read_reply(&message_of(rt, bytes));
+    let mut shown = ArrayString::new();
+    reply.show(&mut shown);
+    assert_eq!(rt;
+        (encoded.as_slice(), read, shown.as_str()),
+        (bytes, Ok(reply), text)
+    );
 }
 
 #[test]
@@ -163,12 +197,8 @@ fn example_replies_are_written_read_and_shown(rt: HostRuntime) {
             "size 00100000",
         ),
     ];
-    for (reply, bytes, text) in rows {
-        assert_eq!(rt; reply.encode(0).as_slice(), bytes);
-        assert_eq!(rt; Reply::read(&message_of(&rt, bytes)), Ok(reply));
-        let mut shown = ArrayString::new();
-        reply.show(&mut shown);
-        assert_eq!(rt; shown.as_str(), text);
+    for (reply, bytes, text) in rows.iter() {
+        check_reply(&rt, *reply, bytes, text);
     }
 }
 
@@ -181,8 +211,43 @@ fn texts_replace_what_the_buffer_holds(rt: HostRuntime) {
     assert_eq!(rt; text.as_str(), "state none");
 }
 
+fn message_for<'a>(command: Command, unit: u8, room: &'a mut [u8; 16]) -> Message<'a>
+    requires { unit ≤ 15 }
+{
+    command.to_message(unit, room)
+}
+
+// The type, the code and the data of a message that is framed.
+fn parts_of<'a>(rt: &impl Abort, message: Message<'a>) -> (u8, u8, &'a [u8]) {
+    match message {
+        Message::Framed {
+            kind,
+            code,
+            rest,
+            ..
+        } => (kind, code, rest),
+        _ => panic!(rt; "a command is framed"),
+    }
+}
+
+fn expect_refused(rt: &impl Abort, kind: u8, code: u8, rest: &[u8], fault: WordFault) {
+    assert_eq!(rt; read_data(kind, code, rest), Err(fault), "{kind} {code}");
+}
+
+// The data of a command is refused with one byte more, and with one less where it has any.
+fn check_length(rt: &impl Abort, alloc: Global, command: Command) {
+    let mut room = [0; 16];
+    let (kind, code, rest) = parts_of(rt, message_for(command, 0, &mut room));
+    let mut longer = rest.to_vec(alloc).expect(rt, "memory");
+    longer.push(0x00).expect(rt, "memory");
+    expect_refused(rt, kind, code, longer.as_slice(), WordFault::Length);
+    if let [shorter @ .., _] = rest {
+        expect_refused(rt, kind, code, shorter, WordFault::Length);
+    }
+}
+
 #[test]
-fn commands_with_a_byte_too_many_or_too_few_are_refused(rt: HostRuntime) -> Result<(), Fail> {
+fn commands_with_a_byte_too_many_or_too_few_are_refused(rt: HostRuntime) {
     let id = clip(b"CLIP0001");
     let commands = [
         Command::Stop,
@@ -198,27 +263,8 @@ fn commands_with_a_byte_too_many_or_too_few_are_refused(rt: HostRuntime) -> Resu
         Command::IdSize(id),
     ];
     for command in commands {
-        let mut room = [0; 16];
-        let Message::Framed {
-            kind,
-            code,
-            rest,
-            ..
-        } = command.to_message(0, &mut room)
-        else {
-            return Err(Fail::from("a command is framed"));
-        };
-        let mut longer = rest.to_vec(rt.alloc())?;
-        longer.push(0x00)?;
-        assert_eq!(rt;
-            read_data(kind, code, longer.as_slice()),
-            Err(WordFault::Length)
-        );
-        if let [shorter @ .., _] = rest {
-            assert_eq!(rt; read_data(kind, code, shorter), Err(WordFault::Length));
-        }
+        check_length(&rt, rt.alloc(), command);
     }
-    Ok(())
 }
 
 fn read_data(kind: u8, code: u8, rest: &[u8]) -> Result<Command, WordFault> {
@@ -230,60 +276,68 @@ fn read_data(kind: u8, code: u8, rest: &[u8]) -> Result<Command, WordFault> {
     })
 }
 
+// The data of an answer of type 3 with this code give this reply or this fault.
+fn check_data(rt: &impl Abort, code: u8, rest: &[u8], outcome: Result<Reply, WordFault>) {
+    let message = Message::Framed {
+        kind: 3,
+        unit: 0,
+        code,
+        rest,
+    };
+    assert_eq!(rt; read_reply(&message), outcome, "{code} {rest:?}");
+}
+
 #[test]
 fn replies_are_read_by_their_named_bytes(rt: HostRuntime) {
-    let id = clip(b"CLIP0001");
-    let rows: [(u8, &[u8], Result<Reply, WordFault>); 22] = [
-        (0x81, &[0x00, 0x01], Ok(Reply::Opened(false))),
-        (0x81, &[0xFF, 0x00], Ok(Reply::Opened(true))),
-        (0x81, &[], Err(WordFault::Length)),
+    let rows: [(u8, &[u8], Reply); 11] = [
+        (0x81, &[0x00, 0x01], Reply::Opened(false)),
+        (0x81, &[0xFF, 0x00], Reply::Opened(true)),
+        (0x85, &[0x01, 0x84, 0x02], Reply::State(0x01, Some(0x84))),
+        (0x85, &[0xFF, 0x04], Reply::State(0xFF, Some(0x04))),
+        (0x85, &[0x02, 0x84], Reply::State(0x02, None)),
+        (0x85, &[0x00], Reply::State(0x00, None)),
+        (0x87, b"\x00CLIP0001", Reply::Active(None)),
         (
-            0x85,
-            &[0x01, 0x84, 0x02],
-            Ok(Reply::State(0x01, Some(0x84))),
+            0x87,
+            b"\x02CLIP0001\x00",
+            Reply::Active(Some(clip(b"CLIP0001"))),
         ),
-        (0x85, &[0xFF, 0x04], Ok(Reply::State(0xFF, Some(0x04)))),
-        (0x85, &[0x02, 0x84], Ok(Reply::State(0x02, None))),
-        (0x85, &[0x00], Ok(Reply::State(0x00, None))),
-        (0x85, &[0x01], Err(WordFault::Length)),
-        (0x85, &[], Err(WordFault::Length)),
-        (0x87, b"\x00CLIP0001", Ok(Reply::Active(None))),
-        (0x87, b"\x02CLIP0001\x00", Ok(Reply::Active(Some(id)))),
-        (0x87, b"\x01CLIP000", Err(WordFault::Length)),
-        (0x87, &[], Err(WordFault::Length)),
         (
             0x94,
             &[0x00, 0x10, 0x00, 0x00, 0x01],
-            Ok(Reply::Size([0x00, 0x10, 0x00, 0x00])),
+            Reply::Size([0x00, 0x10, 0x00, 0x00]),
         ),
-        (0x94, &[0x00, 0x10, 0x00], Err(WordFault::Length)),
-        (0x96, &[0x03, 0x00], Ok(Reply::Present(true))),
-        (0x96, &[0xFE], Ok(Reply::Present(false))),
-        (0x96, &[], Err(WordFault::Length)),
-        (0x05, &[0x01], Err(WordFault::Unknown)),
-        (0x01, &[0x01, 0x01], Err(WordFault::Unknown)),
-        (0x00, &[], Err(WordFault::Unknown)),
-        (0xFF, &[], Err(WordFault::Unknown)),
+        (0x96, &[0x03, 0x00], Reply::Present(true)),
+        (0x96, &[0xFE], Reply::Present(false)),
     ];
-    for (code, rest, outcome) in rows {
-        let message = Message::Framed {
-            kind: 3,
-            unit: 0,
-            code,
-            rest,
-        };
-        assert_eq!(rt; Reply::read(&message), outcome, "{code} {rest:?}");
+    for (code, rest, reply) in rows.iter() {
+        check_data(&rt, *code, rest, Ok(*reply));
+    }
+}
+
+#[test]
+fn other_data_are_no_reply(rt: HostRuntime) {
+    static ROWS: [(u8, &[u8], WordFault); 11] = [
+        (0x81, &[], WordFault::Length),
+        (0x85, &[0x01], WordFault::Length),
+        (0x85, &[], WordFault::Length),
+        (0x87, b"\x01CLIP000", WordFault::Length),
+        (0x87, &[], WordFault::Length),
+        (0x94, &[0x00, 0x10, 0x00], WordFault::Length),
+        (0x96, &[], WordFault::Length),
+        (0x05, &[0x01], WordFault::Unknown),
+        (0x01, &[0x01, 0x01], WordFault::Unknown),
+        (0x00, &[], WordFault::Unknown),
+        (0xFF, &[], WordFault::Unknown),
+    ];
+    for (code, rest, fault) in ROWS.iter() {
+        check_data(&rt, *code, rest, Err(*fault));
     }
 }
 
 #[test]
 fn other_messages_are_no_words(rt: HostRuntime) {
-    assert_eq!(rt; Command::read(&Message::Ack), Err(WordFault::NotCommand));
-    assert_eq!(rt;
-        Command::read(&Message::Nak(0x01)),
-        Err(WordFault::NotCommand)
-    );
-    let unknown: [(u8, u8); 7] = [
+    static UNKNOWN: [(u8, u8); 7] = [
         (0, 0x00),
         (1, 0x02),
         (2, 0x01),
@@ -292,12 +346,8 @@ fn other_messages_are_no_words(rt: HostRuntime) {
         (4, 0x01),
         (7, 0x00),
     ];
-    for (kind, code) in unknown {
-        assert_eq!(rt;
-            read_data(kind, code, &[]),
-            Err(WordFault::Unknown),
-            "{kind} {code}"
-        );
+    for (kind, code) in UNKNOWN.iter() {
+        expect_refused(&rt, *kind, *code, &[], WordFault::Unknown);
     }
     let another_type = Message::Framed {
         kind: 2,
@@ -305,35 +355,46 @@ fn other_messages_are_no_words(rt: HostRuntime) {
         code: 0x81,
         rest: &[0x01],
     };
-    assert_eq!(rt; Reply::read(&another_type), Err(WordFault::Unknown));
+    assert_eq!(rt;
+        (
+            read_command(&Message::Ack),
+            read_command(&Message::Nak(0x01)),
+            read_reply(&another_type)
+        ),
+        (
+            Err(WordFault::NotCommand),
+            Err(WordFault::NotCommand),
+            Err(WordFault::Unknown)
+        )
+    );
 }
 
 #[test]
 fn words_keep_their_unit(rt: HostRuntime) {
     let mut room = [0; 16];
-    let message = Command::Play.to_message(15, &mut room);
+    let message = message_for(Command::Play, 15, &mut room);
+    let framed = Message::Framed {
+        kind: 1,
+        unit: 15,
+        code: 0x01,
+        rest: &[],
+    };
     assert_eq!(rt;
-        message,
-        Message::Framed {
-            kind: 1,
-            unit: 15,
-            code: 0x01,
-            rest: &[]
-        }
+        (message, read_command(&message)),
+        (framed, Ok(Command::Play))
     );
-    assert_eq!(rt; Command::read(&message), Ok(Command::Play));
     let mut room = [0; 16];
     let message = Reply::Present(true).to_message(15, &mut room);
+    let framed = Message::Framed {
+        kind: 3,
+        unit: 15,
+        code: 0x96,
+        rest: &[0x01],
+    };
     assert_eq!(rt;
-        message,
-        Message::Framed {
-            kind: 3,
-            unit: 15,
-            code: 0x96,
-            rest: &[0x01]
-        }
+        (message, read_reply(&message)),
+        (framed, Ok(Reply::Present(true)))
     );
-    assert_eq!(rt; Reply::read(&message), Ok(Reply::Present(true)));
     let state = Reply::State(0x01, Some(0x84));
     assert_eq!(rt; reply_read_back(state, 15), Ok(state));
 }
@@ -424,15 +485,16 @@ fn words_differ_by_each_field(rt: HostRuntime) {
 }
 
 #[test]
-fn faults_are_told_apart_and_worded(rt: HostRuntime) -> Result<(), Fail> {
-    let faults = [WordFault::NotCommand, WordFault::Unknown, WordFault::Length];
-    are_all_different(&rt, &faults);
-    for (fault, text) in [
+fn faults_are_told_apart_and_worded(rt: HostRuntime) {
+    static FAULTS: [WordFault; 3] = [WordFault::NotCommand, WordFault::Unknown, WordFault::Length];
+    static ROWS: [(WordFault, &str); 3] = [
         (WordFault::NotCommand, "an answer and no command"),
         (WordFault::Unknown, "an unknown type and code"),
         (WordFault::Length, "a wrong number of data bytes"),
-    ] {
-        assert_eq!(rt; format!(in rt.alloc(); "{fault}")?.as_str(), text);
+    ];
+    are_all_different(&rt, &FAULTS);
+    for (fault, text) in ROWS.iter() {
+        let told = format!(in rt.alloc(); "{fault}").expect(&rt, "memory");
+        assert_eq!(rt; told.as_str(), *text);
     }
-    Ok(())
 }

@@ -134,7 +134,8 @@ pub const CUED: Input = Input::Heard(Heard::Reply(Reply::State(0x01, Some(0x80))
 
 pub const CUED_AND_PLAYING: Input = Input::Heard(Heard::Reply(Reply::State(0x01, Some(0x84))));
 
-pub const NOTHING_PLAYS: Input = Input::Heard(Heard::Reply(Reply::Active(None)));
+/// What comes until the first clip is cued.
+pub const CUE: [Input; 5] = [GRANTED, ACK, PRESENT, ACK, CUED];
 
 pub fn plays(id: [u8; 8]) -> Input {
     Input::Heard(Heard::Reply(Reply::Active(Some(ClipId::new(id)))))

@@ -29,7 +29,7 @@ impl Course {
     }
 }
 
-fn input_of(word: &str) -> Option<Input> {
+pub fn input_of(word: &str) -> Option<Input> {
     let reply = match word {
         "silence" => return Some(Input::Silence),
         "take" => return Some(Input::Take),
@@ -70,7 +70,7 @@ pub fn inputs_of(rt: &(impl Abort + AllocGlobal), words: &str) -> Result<Vec<Inp
     Ok(inputs)
 }
 
-fn command_of(word: &str) -> Option<Command> {
+pub fn command_of(word: &str) -> Option<Command> {
     let part = ([0x00, 0x08, 0x00, 0x00], [0x00, 0x03, 0x00, 0x00]);
     Some(match word {
         "open" => Command::Open(0x01, 0x01),
@@ -93,9 +93,12 @@ fn command_of(word: &str) -> Option<Command> {
 /// The exchanges of the course of this name have just the commands of these words.
 pub fn check_commands(rt: &impl Abort, name: &str, log: &[Exchange], words: &str) {
     let mut words = words.split_whitespace();
+    let mut other = None;
     for exchange in log {
         let word = words.next().unwrap_or("");
-        assert_eq!(rt; Some(exchange.command), command_of(word), "{name}: {word}");
+        if other.is_none() && Some(exchange.command) != command_of(word) {
+            other = Some((word, exchange.command));
+        }
     }
-    assert_eq!(rt; words.next(), None, "{name}");
+    assert_eq!(rt; (other, words.next()), (None, None), "{name}");
 }

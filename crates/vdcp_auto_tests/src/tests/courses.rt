@@ -1,14 +1,17 @@
 //! Courses in both modes.
 use super::clips::{ACK, Clips, GRANTED, IDLE, NINE, ONE, Segment, TWO, drive};
 use super::course::{Course, check_commands, inputs_of};
+use std::alloc::{AllocError, Global};
 use std::process::Abort;
 use std::test::Fail;
-use vdcp_auto::{Controller, Exchange, Heard, Input, Outcome, rehearse, rehearse_confirming};
+use vdcp_auto::{
+    Controller, Exchange, Heard, Input, Outcome, Source, rehearse, rehearse_confirming,
+};
 use vdcp_value::ClipId;
 use vdcp_words::{Command, Reply};
 
 /// In plain mode.
-const PLAIN: &[Course] = &[
+static PLAIN: [Course; 19] = [
     Course {
         name: "an empty list closes at once",
         clips: &[],
@@ -172,7 +175,7 @@ const PLAIN: &[Course] = &[
 ];
 
 /// In confirm mode.
-const CONFIRMING: &[Course] = &[
+static CONFIRMING: [Course; 16] = [
     Course {
         name: "an empty list is seen to close",
         clips: &[],
@@ -310,97 +313,110 @@ const CONFIRMING: &[Course] = &[
 
 #[test]
 fn plain_courses(rt: HostRuntime) -> Result<(), Fail> {
-    for course in PLAIN {
-        let inputs = inputs_of(&rt, course.inputs)?;
-        let log = rehearse(rt.alloc(), course.clips(), 0x01, 3, inputs.as_slice())?;
-        let controller = Controller::new(course.clips(), 0x01, 3);
-        assert!(rt; !controller.is_confirming());
-        check(&rt, course, log.as_slice(), controller, inputs.as_slice());
+    for course in &PLAIN {
+        check(&rt, course, false)?;
     }
     Ok(())
 }
 
 #[test]
 fn confirming_courses(rt: HostRuntime) -> Result<(), Fail> {
-    for course in CONFIRMING {
-        let inputs = inputs_of(&rt, course.inputs)?;
-        let log = rehearse_confirming(rt.alloc(), course.clips(), 0x01, 3, inputs.as_slice())?;
-        let controller = Controller::confirming(course.clips(), 0x01, 3);
-        assert!(rt; controller.is_confirming());
-        check(&rt, course, log.as_slice(), controller, inputs.as_slice());
+    for course in &CONFIRMING {
+        check(&rt, course, true)?;
     }
     Ok(())
 }
 
 /// The inputs of the course give what it says, in a rehearsal and with a new controller.
-fn check(
-    rt: &impl Abort,
-    course: &Course,
-    log: &[Exchange],
-    mut controller: Controller<Clips>,
-    inputs: &[Input],
-) {
-    check_commands(rt, course.name, log, course.commands);
+fn check(rt: &(impl Abort + AllocGlobal), course: &Course, confirms: bool) -> Result<(), Fail> {
+    let inputs = inputs_of(rt, course.inputs)?;
+    let inputs = inputs.as_slice();
+    let log = rehearsed(rt.alloc(), course.clips(), confirms, inputs)?;
+    check_commands(rt, course.name, log.as_slice(), course.commands);
+    let mut controller = new_controller(course.clips(), confirms);
+    let confirming = controller.is_confirming();
     drive(&mut controller, inputs);
-    assert_eq!(rt; controller.outcome(), course.outcome, "{}", course.name);
-    assert_eq!(rt; controller.settled(), course.settled, "{}", course.name);
-}
-
-#[test]
-fn a_refused_part(rt: HostRuntime) -> Result<(), Fail> {
-    let part = Segment::new(ClipId::new(ONE));
-    let inputs = inputs_of(&rt, "granted ack present refusal idle")?;
-    let log = rehearse(rt.alloc(), part, 0x01, 3, inputs.as_slice())?;
-    check_commands(
-        &rt,
-        "plain",
-        log.as_slice(),
-        "open select request-1 cue-part",
+    assert_eq!(rt;
+        (confirming, controller.outcome(), controller.settled()),
+        (confirms, course.outcome, course.settled),
+        "{}",
+        course.name
     );
     Ok(())
 }
 
-#[test]
-fn a_refused_part_in_confirm_mode(rt: HostRuntime) -> Result<(), Fail> {
+// These promise nothing, so the proof of a test needn't go through the clauses of each call.
+
+fn new_controller(clips: Clips, confirms: bool) -> Controller<Clips> {
+    if confirms {
+        return Controller::confirming(clips, 0x01, 3);
+    }
+    Controller::new(clips, 0x01, 3)
+}
+
+fn rehearsed<S: Source + Drop>(
+    alloc: Global,
+    source: S,
+    confirms: bool,
+    inputs: &[Input],
+) -> Result<Vec<Exchange>, AllocError> {
+    if confirms {
+        return rehearse_confirming(alloc, source, 0x01, 3, inputs);
+    }
+    rehearse(alloc, source, 0x01, 3, inputs)
+}
+
+/// A part of a clip and these inputs give these commands.
+fn check_part(
+    rt: &(impl Abort + AllocGlobal),
+    confirms: bool,
+    inputs: &str,
+    commands: &str,
+) -> Result<(), Fail> {
     let part = Segment::new(ClipId::new(ONE));
-    let inputs = inputs_of(
-        &rt,
-        "granted silence idle present refusal silence idle refusal silence idle refusal silence \
-            idle idle",
-    )?;
-    let log = rehearse_confirming(rt.alloc(), part, 0x01, 3, inputs.as_slice())?;
-    let commands = "open select status request-1 cue-part status cue-part status cue-part status";
-    check_commands(&rt, "confirming", log.as_slice(), commands);
+    let inputs = inputs_of(rt, inputs)?;
+    let log = rehearsed(rt.alloc(), part, confirms, inputs.as_slice())?;
+    check_commands(rt, "a part", log.as_slice(), commands);
     Ok(())
 }
 
 #[test]
+fn a_refused_part(rt: HostRuntime) -> Result<(), Fail> {
+    check_part(
+        &rt,
+        false,
+        "granted ack present refusal idle",
+        "open select request-1 cue-part",
+    )
+}
+
+#[test]
+fn a_refused_part_in_confirm_mode(rt: HostRuntime) -> Result<(), Fail> {
+    check_part(
+        &rt,
+        true,
+        "granted silence idle present refusal silence idle refusal silence idle refusal silence \
+            idle idle",
+        "open select status request-1 cue-part status cue-part status cue-part status",
+    )
+}
+
+fn exchange(command: Command, reply: Reply) -> Exchange {
+    Exchange {
+        command,
+        heard: Some(Heard::Reply(reply)),
+    }
+}
+
+#[test]
 fn exchanges_of_an_empty_list(rt: HostRuntime) -> Result<(), Fail> {
-    let log = rehearse(
-        rt.alloc(),
-        Clips::none(),
-        0x01,
-        3,
-        &[GRANTED, ACK, IDLE, ACK],
-    )?;
-    let reply = |reply| Some(Heard::Reply(reply));
+    let inputs = [GRANTED, ACK, IDLE, ACK];
+    let log = rehearsed(rt.alloc(), Clips::none(), false, &inputs)?;
     let exchanges = [
-        Exchange {
-            command: Command::Open(0x01, 0x01),
-            heard: reply(Reply::Opened(true)),
-        },
-        Exchange {
-            command: Command::Select(0x01),
-            heard: reply(Reply::Ack),
-        },
-        Exchange {
-            command: Command::Status(0x01),
-            heard: reply(Reply::State(0x01, Some(0x01))),
-        },
-        Exchange {
-            command: Command::Close(0x01),
-            heard: reply(Reply::Ack),
-        },
+        exchange(Command::Open(0x01, 0x01), Reply::Opened(true)),
+        exchange(Command::Select(0x01), Reply::Ack),
+        exchange(Command::Status(0x01), Reply::State(0x01, Some(0x01))),
+        exchange(Command::Close(0x01), Reply::Ack),
     ];
     assert_eq!(rt; log.as_slice(), exchanges.as_slice());
     Ok(())

@@ -3,12 +3,12 @@ ghost use Rattle.std.specs.Prelude.{◌≡◌, ◌<◌, ◌++◌, ◌∷◌, [],
 ghost use Rattle.vdcp_auto.specs.Settled.{settled};
 ghost use Rattle.vdcp_auto.specs.RuleBook.{May};
 
-use super::clips::{ACK, Clips, GRANTED, IDLE};
+use super::clips::Clips;
 use std::alloc::{AllocError, Global};
 use std::marker::Model;
 use std::test::Fail;
-use vdcp_auto::{Controller, Exchange, Heard, Input, Source, laws};
-use vdcp_words::Command;
+use vdcp_auto::{Controller, Exchange, Heard, Source, laws};
+use vdcp_words::{Command, Reply};
 
 /// A controller and the exchanges that it has ended.
 #[derive(Drop)]
@@ -85,34 +85,31 @@ fn keep(log: &mut Vec<Exchange>, exchange: Exchange)
     log.push(exchange).unwrap();
 }
 
+/// The desk gives its next command, and this comes.
+fn turn(desk: &mut Desk<Clips>, came: Option<Heard>) -> Result<(), AllocError> {
+    desk.tick();
+    desk.receive(came)
+}
+
 #[test]
 fn a_desk_confirms_and_stops(rt: HostRuntime) -> Result<(), Fail> {
     let mut desk = Desk::confirming(rt.alloc(), Clips::none());
     desk.take();
-    for input in [Some(GRANTED), None] {
-        desk.tick();
-        match input {
-            Some(Input::Heard(heard)) => desk.receive(Some(heard))?,
-            _ => desk.receive(None)?,
-        }
-    }
+    turn(&mut desk, Some(Heard::Reply(Reply::Opened(true))))?;
+    turn(&mut desk, None)?;
     desk.stop();
-    assert_eq!(rt; desk.tick(), Some(Command::Stop));
-    assert_eq!(rt; desk.log.len(), 2);
+    assert_eq!(rt; (desk.tick(), desk.log.len()), (Some(Command::Stop), 2));
     Ok(())
 }
 
 #[test]
 fn a_desk_keeps_the_log(rt: HostRuntime) -> Result<(), Fail> {
     let mut desk = Desk::new(rt.alloc(), Clips::none());
-    for input in [GRANTED, ACK, IDLE, ACK] {
-        desk.tick();
-        if let Input::Heard(heard) = input {
-            desk.receive(Some(heard))?;
-        }
+    let idle = Reply::State(0x01, Some(0x01));
+    for reply in [Reply::Opened(true), Reply::Ack, idle, Reply::Ack] {
+        turn(&mut desk, Some(Heard::Reply(reply)))?;
     }
-    assert_eq!(rt; desk.settled(), 0);
-    assert_eq!(rt; desk.log.len(), 4);
-    assert_eq!(rt; desk.tick(), None);
+    let settled = desk.settled();
+    assert_eq!(rt; (settled, desk.log.len(), desk.tick()), (0, 4, None));
     Ok(())
 }

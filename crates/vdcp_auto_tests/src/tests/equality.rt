@@ -3,16 +3,29 @@ use std::process::Abort;
 use vdcp_auto::{Exchange, Heard, Input, Outcome};
 use vdcp_words::{Command, Reply};
 
-/// Each of these values equals itself, and none of the others.
-fn are_all_different<T: PartialEq>(rt: &impl Abort, values: &[T]) {
-    for (i, a) in values.iter().enumerate() {
-        for (j, b) in values.iter().enumerate() {
-            assert_eq!(rt; a == b, i == j, "values {i} and {j}");
+/// The places of two values that are equal where they shouldn't be, or unequal where they should.
+fn wrong_pair<T: PartialEq>(values: &[T]) -> Option<(usize, usize)> {
+    for i in 0..values.len() {
+        for j in 0..values.len() {
+            if (values[i] == values[j]) != (i == j) {
+                return Some((i, j));
+            }
         }
     }
+    None
+}
+
+/// Each of these values equals itself, and none of the others.
+fn are_all_different<T: PartialEq>(rt: &impl Abort, values: &[T]) {
+    assert_eq!(rt; wrong_pair(values), None);
 }
 
 const ACK: Heard = Heard::Reply(Reply::Ack);
+
+const SILENT: Exchange = Exchange {
+    command: Command::Play,
+    heard: None,
+};
 
 #[test]
 fn exchanges_differ_by_each_part(rt: HostRuntime) {
@@ -28,47 +41,42 @@ fn exchanges_differ_by_each_part(rt: HostRuntime) {
             Input::Stop,
         ],
     );
-    let silent = Exchange {
-        command: Command::Play,
-        heard: None,
-    };
     are_all_different(
         &rt,
         &[
-            silent,
+            SILENT,
             Exchange {
                 command: Command::Stop,
-                ..silent
+                ..SILENT
             },
             Exchange {
                 heard: Some(ACK),
-                ..silent
+                ..SILENT
             },
             Exchange {
                 heard: Some(Heard::Other),
-                ..silent
+                ..SILENT
             },
         ],
     );
 }
 
+static OUTCOMES: [Outcome; 12] = [
+    Outcome::Done,
+    Outcome::Stopped,
+    Outcome::Lost,
+    Outcome::Denied,
+    Outcome::Missing(0),
+    Outcome::Missing(1),
+    Outcome::Refused(0),
+    Outcome::Refused(1),
+    Outcome::Foreign(0),
+    Outcome::Foreign(1),
+    Outcome::Strange(0),
+    Outcome::Strange(1),
+];
+
 #[test]
 fn outcomes_differ_by_kind_and_event(rt: HostRuntime) {
-    are_all_different(
-        &rt,
-        &[
-            Outcome::Done,
-            Outcome::Stopped,
-            Outcome::Lost,
-            Outcome::Denied,
-            Outcome::Missing(0),
-            Outcome::Missing(1),
-            Outcome::Refused(0),
-            Outcome::Refused(1),
-            Outcome::Foreign(0),
-            Outcome::Foreign(1),
-            Outcome::Strange(0),
-            Outcome::Strange(1),
-        ],
-    );
+    are_all_different(&rt, &OUTCOMES);
 }

@@ -1,49 +1,53 @@
-use vdcp_auto::Heard;
+use super::course::input_of;
+use vdcp_auto::{Heard, Input};
 use vdcp_frame::Message;
-use vdcp_words::Reply;
 
-/// A message, and what who asked unit 1 hears of it.
-#[derive(Drop)]
-struct Case<'a> {
-    message: Message<'a>,
-    heard: Heard,
-}
+/// Messages, and what the asker of unit 1 hears of each, in words.
+static CASES: [(Message<'static>, &str); 6] = [
+    (Message::Ack, "ack"),
+    (Message::Nak(0x80), "cut"),
+    (
+        Message::Framed {
+            kind: 3,
+            unit: 1,
+            code: 0x81,
+            rest: &[0x01],
+        },
+        "granted",
+    ),
+    (
+        Message::Framed {
+            kind: 3,
+            unit: 0,
+            code: 0x81,
+            rest: &[0x01],
+        },
+        "other",
+    ),
+    (
+        Message::Framed {
+            kind: 3,
+            unit: 1,
+            code: 0x81,
+            rest: &[],
+        },
+        "other",
+    ),
+    (
+        Message::Framed {
+            kind: 1,
+            unit: 1,
+            code: 0x01,
+            rest: &[],
+        },
+        "other",
+    ),
+];
 
 #[test]
 fn what_is_heard_of_a_message(rt: HostRuntime) {
-    let framed = |kind, unit, code, rest| Message::Framed {
-        kind,
-        unit,
-        code,
-        rest,
-    };
-    let cases = [
-        Case {
-            message: Message::Ack,
-            heard: Heard::Reply(Reply::Ack),
-        },
-        Case {
-            message: Message::Nak(0x80),
-            heard: Heard::Reply(Reply::Nak(0x80)),
-        },
-        Case {
-            message: framed(3, 1, 0x81, &[0x01]),
-            heard: Heard::Reply(Reply::Opened(true)),
-        },
-        Case {
-            message: framed(3, 0, 0x81, &[0x01]),
-            heard: Heard::Other,
-        },
-        Case {
-            message: framed(3, 1, 0x81, &[]),
-            heard: Heard::Other,
-        },
-        Case {
-            message: framed(1, 1, 0x01, &[]),
-            heard: Heard::Other,
-        },
-    ];
-    for case in &cases {
-        assert_eq!(rt; Heard::of_message(&case.message, 1), case.heard);
+    for (message, word) in &CASES {
+        let heard = Input::Heard(Heard::of_message(message, 1));
+        assert_eq!(rt; Some(heard), input_of(word), "of {message:?}");
     }
 }

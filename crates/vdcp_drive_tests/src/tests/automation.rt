@@ -1,8 +1,9 @@
 //! An automation over a wire in memory.
 use super::calls::run;
 use super::ends::{Auto, automation, controller, failing_automation};
+use super::expecting::{expect, expect_row};
 use super::messages::{ACK, CLOSE, GRANTED, IDLE, OPEN, SELECT, STATUS, STOP};
-use super::scripts::{SILENCE, spells};
+use super::scripts::{SILENCE, entry, spells};
 use std::alloc::{AllocError, Global};
 use std::test::Fail;
 use vdcp_auto::Outcome;
@@ -10,7 +11,6 @@ use vdcp_drive::{AutoDriver, Ran};
 use vdcp_wire::{Entry, ScriptWire};
 
 /// What comes to a new automation in a run of this many listens, what it sends, and how that ends.
-#[derive(Clone, Copy)]
 struct Row {
     confirms: bool,
     came: &'static [&'static [u8]],
@@ -26,7 +26,7 @@ const ALL_ANSWERED: &'static [&'static [u8]] = &[
 
 // The other end closes after the last piece. In confirm mode SELECT ends by its time-out alone: the three answers
 // after it are heard and change nothing, and the close is the time-out.
-const ROWS: [Row; 8] = [
+static ROWS: [Row; 8] = [
     Row {
         confirms: false,
         came: ALL_ANSWERED,
@@ -106,43 +106,63 @@ fn ran(alloc: Global, row: &Row) -> Result<(Ran, Option<Outcome>, bool), Fail> {
 #[test]
 fn what_comes_is_answered(rt: HostRuntime) -> Result<(), Fail> {
     for (k, row) in ROWS.iter().enumerate() {
-        assert_eq!(rt;
-            ran(rt.alloc(), row)?,
-            (row.ran, row.outcome, true),
-            "row {k}"
+        expect_row(
+            &rt,
+            k,
+            &ran(rt.alloc(), row)?,
+            &(row.ran, row.outcome, true),
         );
     }
     Ok(())
 }
 
-/// An answer to OPEN, a NAK that waits before SELECT, and the answer to this.
+// Whether a piece waits before the next command, and its bytes: an answer to OPEN, a NAK that waits before SELECT, and
+// the answer to this.
+static STALE: [(bool, &[u8]); 5] = [
+    (false, GRANTED),
+    (false, SILENCE),
+    (true, b"\x05\x01"),
+    (false, ACK),
+    (false, SILENCE),
+];
+
+/// An automation to which STALE comes.
 fn stale(alloc: Global) -> Result<Auto, AllocError> {
     let mut entries = Vec::new(alloc);
-    entries.push(Entry::Came(Vec::from_slice(alloc, GRANTED)?))?;
-    entries.push(Entry::Silence)?;
-    entries.push(Entry::Stale(Vec::from_slice(alloc, &[0x05, 0x01])?))?;
-    entries.push(Entry::Came(Vec::from_slice(alloc, ACK)?))?;
-    entries.push(Entry::Silence)?;
+    for (waits, piece) in STALE.iter() {
+        let entry = if *waits {
+            Entry::Stale(Vec::from_slice(alloc, piece)?)
+        } else {
+            entry(alloc, piece)?
+        };
+        entries.push(entry)?;
+    }
     Ok(AutoDriver::new(controller(false), 0, ScriptWire::new(alloc, entries)))
 }
+
+// How much had been sent at each drop.
+static DROPS: [usize; 3] = [0, 7, 13];
 
 #[test]
 fn stale_bytes_are_dropped_before_a_command(rt: HostRuntime) -> Result<(), Fail> {
     let mut auto = stale(rt.alloc())?;
-    assert_eq!(rt; run(&mut auto, 100), Ok(Ran::Closed));
-    assert!(rt; spells(auto.wire().sent(), &[OPEN, SELECT, STATUS]));
-    assert_eq!(rt; auto.wire().drops(), [0, 7, 13].as_slice());
+    let ran = run(&mut auto, 100);
+    let is_sent = spells(auto.wire().sent(), &[OPEN, SELECT, STATUS]);
+    expect(
+        &rt,
+        &(ran, is_sent, auto.wire().drops()),
+        &(Ok(Ran::Closed), true, DROPS.as_slice()),
+    );
     Ok(())
 }
+
+// What comes to an automation that is stopped.
+static STOPPED: [&[u8]; 6] = [GRANTED, SILENCE, ACK, SILENCE, ACK, SILENCE];
 
 /// A take, a run of two listens, a stop, and a run to the end: what the runs answer, how the controller has ended, and
 /// whether STOP went out then.
 fn stopped(alloc: Global) -> Result<(Ran, Ran, Option<Outcome>, bool), Fail> {
-    let mut auto = automation(
-        alloc,
-        false,
-        &[GRANTED, SILENCE, ACK, SILENCE, ACK, SILENCE],
-    )?;
+    let mut auto = automation(alloc, false, &STOPPED)?;
     auto.take();
     let first = run(&mut auto, 2)?;
     auto.stop();
@@ -153,10 +173,8 @@ fn stopped(alloc: Global) -> Result<(Ran, Ran, Option<Outcome>, bool), Fail> {
 
 #[test]
 fn operator_stops(rt: HostRuntime) -> Result<(), Fail> {
-    assert_eq!(rt;
-        stopped(rt.alloc())?,
-        (Ran::Spent, Ran::Ended, Some(Outcome::Stopped), true)
-    );
+    let expected = (Ran::Spent, Ran::Ended, Some(Outcome::Stopped), true);
+    expect(&rt, &stopped(rt.alloc())?, &expected);
     Ok(())
 }
 
@@ -173,16 +191,14 @@ fn failed_at(alloc: Global, call: u64) -> Result<(bool, usize, bool), Fail> {
 }
 
 // Each command is four calls: a drop, a send, and two listens, of the answer and of the silence.
-const SENT: [usize; 16] = [0, 1, 7, 7, 7, 8, 13, 13, 13, 14, 19, 19, 19, 20, 25, 25];
+static SENT: [usize; 16] = [0, 1, 7, 7, 7, 8, 13, 13, 13, 14, 19, 19, 19, 20, 25, 25];
 
 #[test]
 fn each_call_fails_in_turn(rt: HostRuntime) -> Result<(), Fail> {
     for (k, sent) in SENT.iter().enumerate() {
-        assert_eq!(rt;
-            failed_at(rt.alloc(), k as u64 + 1)?,
-            (true, *sent, k % 4 != 0),
-            "call {k}"
-        );
+        let call = k + 1;
+        let failed = failed_at(rt.alloc(), call as u64)?;
+        expect_row(&rt, call, &failed, &(true, *sent, k % 4 != 0));
     }
     Ok(())
 }

@@ -24,6 +24,10 @@ pub fn turn<C: Catalogue, W: Wire>(server: &mut Server<C, W>) -> Result<Line, Dr
     server.turn()
 }
 
+pub fn send<S: Source, W: Wire>(driver: &mut AutoDriver<S, W>) -> Result<bool, DriveFault> {
+    driver.send()
+}
+
 pub fn run<S: Source, W: Wire>(
     driver: &mut AutoDriver<S, W>,
     listens: u64,

@@ -14,18 +14,22 @@ pub type Serving = Server<Clips, ScriptWire<Global>>;
 
 pub type Auto = AutoDriver<Playlist, ScriptWire<Global>>;
 
+/// A new port of unit 0 and number 1, with two clips of this many frames.
+pub fn port(frames: u32) -> Result<Port<Clips>, Fail> {
+    let clips = two_clips(frames).ok_or("the frames of a day")?;
+    Ok(Port::new(clips, 0, 1))
+}
+
 /// A server with a new port of unit 0 and number 1, and clips of this many frames, to which these pieces come.
 pub fn server(alloc: Global, frames: u32, pieces: &[&[u8]]) -> Result<Serving, Fail> {
-    let clips = two_clips(frames).ok_or("the frames of a day")?;
-    Ok(Server::new(Port::new(clips, 0, 1), wire_of(alloc, pieces)?))
+    Ok(Server::new(port(frames)?, wire_of(alloc, pieces)?))
 }
 
 /// The same over a wire whose call of this number fails after one byte of a send.
 pub fn failing_server(alloc: Global, pieces: &[&[u8]], call: u64) -> Result<Serving, Fail> {
-    let clips = two_clips(250).ok_or("250 frames")?;
     let mut wire = wire_of(alloc, pieces)?;
     wire.fail_at(call, 1);
-    Ok(Server::new(Port::new(clips, 0, 1), wire))
+    Ok(Server::new(port(250)?, wire))
 }
 
 /// An automation of no clips, to which these pieces come.

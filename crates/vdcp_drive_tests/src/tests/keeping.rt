@@ -1,5 +1,6 @@
 //! What is kept of an automation's exchanges.
 use super::ends::{Auto, automation};
+use super::expecting::expect;
 use super::messages::GRANTED;
 use super::scripts::SILENCE;
 use std::alloc::Global;
@@ -57,10 +58,11 @@ const OPENED: Kept = Kept::Heard(Heard::Reply(Reply::Opened(true)));
 #[test]
 fn exchanges_are_kept_in_order(rt: HostRuntime) -> Result<(), Fail> {
     let (ran, sent, kept) = kept(rt.alloc(), 2)?;
-    assert_eq!(rt; (ran, sent), (Ok(Ran::Spent), 14));
-    assert_eq!(rt;
-        kept.as_slice(),
-        [OPEN, Kept::Silence, OPEN, OPENED].as_slice()
+    let all = [OPEN, Kept::Silence, OPEN, OPENED];
+    expect(
+        &rt,
+        &(ran, sent, kept.as_slice()),
+        &(Ok(Ran::Spent), 14, all.as_slice()),
     );
     Ok(())
 }
@@ -68,7 +70,11 @@ fn exchanges_are_kept_in_order(rt: HostRuntime) -> Result<(), Fail> {
 #[test]
 fn command_that_is_not_kept_is_not_sent(rt: HostRuntime) -> Result<(), Fail> {
     let (ran, sent, kept) = kept(rt.alloc(), 1)?;
-    assert_eq!(rt; (ran, sent), (Err(KeptFault::Unkept), 7));
-    assert_eq!(rt; kept.as_slice(), [OPEN, Kept::Silence].as_slice());
+    let all = [OPEN, Kept::Silence];
+    expect(
+        &rt,
+        &(ran, sent, kept.as_slice()),
+        &(Err(KeptFault::Unkept), 7, all.as_slice()),
+    );
     Ok(())
 }

@@ -8,6 +8,7 @@ ghost use Rattle.vdcp_drive.specs.Driven.{IsNew, inputs_of};
 ghost use Rattle.vdcp_wire.specs.Wires.{IfTold};
 
 use super::clips::Playlist;
+use super::expecting::expect_row;
 use super::messages::{ACK, CUED, GRANTED, PRESENT};
 use super::scripts::{SILENCE, wire_of};
 use std::test::Fail;
@@ -32,15 +33,29 @@ fn reported<S: Source, W: Wire>(auto: &mut AutoDriver<S, W>, listens: u64) -> Op
     }
 }
 
+// What comes, and how many events are reported then.
+static ROWS: [(&[&[u8]], usize); 2] = [
+    (
+        &[
+            GRANTED, SILENCE, ACK, SILENCE, PRESENT, SILENCE, ACK, SILENCE, CUED, SILENCE,
+        ],
+        0,
+    ),
+    (
+        &[
+            GRANTED, SILENCE, ACK, SILENCE, PRESENT, SILENCE, ACK, SILENCE, CUED, SILENCE, ACK,
+            SILENCE,
+        ],
+        1,
+    ),
+];
+
 #[test]
 fn an_event_is_reported_once_its_play_is_answered(rt: HostRuntime) -> Result<(), Fail> {
-    let answers: [&[u8]; 12] = [
-        GRANTED, SILENCE, ACK, SILENCE, PRESENT, SILENCE, ACK, SILENCE, CUED, SILENCE, ACK, SILENCE,
-    ];
-    for (count, settled) in [(10, 0), (12, 1)] {
-        let wire = wire_of(rt.alloc(), &answers[..count])?;
+    for (k, (came, settled)) in ROWS.iter().enumerate() {
+        let wire = wire_of(rt.alloc(), came)?;
         let mut auto = AutoDriver::new(Controller::new(Playlist::of(1), 1, 3), 0, wire);
-        assert_eq!(rt; reported(&mut auto, 100), Some(settled));
+        expect_row(&rt, k, &reported(&mut auto, 100), &Some(*settled));
     }
     Ok(())
 }

@@ -1,7 +1,11 @@
 //! An automation that hears each answer at once, over a wire in memory.
+ghost use Rattle.std.specs.Prelude.{◌<◌};
+
 use super::clips::Playlist;
-use super::messages::{ACK, CLOSE, CUED, GRANTED, IDLE, OPEN, PRESENT, SELECT, STATUS};
-use super::scripts::{SILENCE, spells};
+use super::ends::controller;
+use super::expecting::{expect, expect_row};
+use super::messages::{ACK, CLOSE, CUED, GRANTED, IDLE, OPEN, PRESENT, SELECT, STATUS, STOP};
+use super::scripts::{SILENCE, spells, wire_of};
 use std::alloc::{AllocError, Global};
 use std::process::Abort;
 use std::test::Fail;
@@ -12,30 +16,14 @@ use vdcp_words::Command;
 
 type Driver = PromptDriver<Playlist, ScriptWire<Global>>;
 
-/// These pieces, one after another, each for a listen; an empty one is a silence.
-fn pieces(alloc: Global, pieces: &[&[u8]]) -> Result<Vec<Entry<Global>>, AllocError> {
-    let mut entries = Vec::new(alloc);
-    for piece in pieces {
-        if piece.is_empty() {
-            entries.push(Entry::Silence)?;
-        } else {
-            entries.push(Entry::Came(Vec::from_slice(alloc, piece)?))?;
-        }
-    }
-    Ok(entries)
+/// A new automation of no clips, to which these pieces come, each for a listen; an empty one is a silence.
+fn driver(alloc: Global, confirms: bool, pieces: &[&[u8]]) -> Result<Driver, AllocError> {
+    Ok(PromptDriver::new(controller(confirms), 0, wire_of(alloc, pieces)?))
 }
 
-fn plain(alloc: Global, entries: Vec<Entry<Global>>) -> Driver {
-    PromptDriver::new(
-        Controller::new(Playlist::of(0), 1, 3),
-        0,
-        ScriptWire::new(alloc, entries),
-    )
-}
-
-fn confirming(alloc: Global, entries: Vec<Entry<Global>>) -> Driver {
-    let controller = Controller::confirming(Playlist::of(0), 1, 3);
-    PromptDriver::new(controller, 0, ScriptWire::new(alloc, entries))
+/// The same in plain mode, over these entries.
+fn driver_over(alloc: Global, entries: Vec<Entry<Global>>) -> Driver {
+    PromptDriver::new(controller(false), 0, ScriptWire::new(alloc, entries))
 }
 
 // These promise nothing, so the proof of a test needn't go through the clauses of each call.
@@ -52,19 +40,35 @@ fn listen(driver: &mut Driver) -> Result<Line, DriveFault> {
     driver.listen()
 }
 
+/// How a run of this many listens ends, whether these are all the messages sent so far, and how the controller has ended.
+fn ran(
+    driver: &mut Driver,
+    listens: u64,
+    sent: &[&[u8]],
+) -> (Result<Ran, DriveFault>, bool, Option<Outcome>) {
+    let ran = run(driver, listens);
+    let is_sent = spells(driver.wire().sent(), sent);
+    (ran, is_sent, driver.controller().outcome())
+}
+
 /// What comes to a new automation in plain mode, in as many listens as there are pieces, what it sends then, and how many
 /// messages it passes over. It drops nothing, and is Done.
-#[derive(Clone, Copy)]
 struct Row {
     came: &'static [&'static [u8]],
     sent: &'static [&'static [u8]],
     passed: u64,
 }
 
-const ROWS: [Row; 8] = [
+/// The answers that an empty list awaits, one after another.
+const ANSWERS: &'static [&'static [u8]] = &[GRANTED, ACK, IDLE, ACK];
+
+/// Its commands.
+const COMMANDS: &'static [&'static [u8]] = &[OPEN, SELECT, STATUS, CLOSE];
+
+static ROWS: [Row; 8] = [
     Row {
-        came: &[GRANTED, ACK, IDLE, ACK],
-        sent: &[OPEN, SELECT, STATUS, CLOSE],
+        came: ANSWERS,
+        sent: COMMANDS,
         passed: 0,
     },
     // A state's second byte is an ACK by itself. Torn before it, the state is read on, and its bytes answer nothing else.
@@ -83,7 +87,7 @@ const ROWS: [Row; 8] = [
     // An answer ahead of its time, in the same piece, is passed over.
     Row {
         came: &[b"\x02\x03\x30\x81\x01\x4E\x04", ACK, IDLE, ACK],
-        sent: &[OPEN, SELECT, STATUS, CLOSE],
+        sent: COMMANDS,
         passed: 1,
     },
     // So is a copy. One that comes later is heard for the next command, which is sent again.
@@ -94,7 +98,7 @@ const ROWS: [Row; 8] = [
             IDLE,
             ACK,
         ],
-        sent: &[OPEN, SELECT, STATUS, CLOSE],
+        sent: COMMANDS,
         passed: 1,
     },
     Row {
@@ -134,6 +138,13 @@ const ROWS: [Row; 8] = [
     },
 ];
 
+/// A run to its end, which sent what it was to send, and is Done.
+const DONE: (Result<Ran, DriveFault>, bool, Option<Outcome>) = (
+    Ok(Ran::Ended),
+    true,
+    Some(Outcome::Done),
+);
+
 /// These pieces give what such a row says.
 fn expect_done(
     rt: &(impl Abort + AllocGlobal),
@@ -142,20 +153,10 @@ fn expect_done(
     passed: u64,
     row: usize,
 ) -> Result<(), Fail> {
-    let mut driver = plain(rt.alloc(), pieces(rt.alloc(), came)?);
-    assert_eq!(rt;
-        run(&mut driver, came.len() as u64),
-        Ok(Ran::Ended),
-        "row {row}"
-    );
-    assert!(rt; spells(driver.wire().sent(), sent), "row {row}");
-    assert!(rt; driver.wire().drops().is_empty(), "row {row}");
-    assert_eq!(rt; driver.passed(), passed, "row {row}");
-    assert_eq!(rt;
-        driver.controller().outcome(),
-        Some(Outcome::Done),
-        "row {row}"
-    );
+    let mut driver = driver(rt.alloc(), false, came)?;
+    let ran = ran(&mut driver, came.len() as u64, sent);
+    let seen = (ran, driver.wire().drops().is_empty(), driver.passed());
+    expect_row(rt, row, &seen, &(DONE, true, passed));
     Ok(())
 }
 
@@ -174,28 +175,32 @@ fn answer_split_at_each_place_by_a_silence_is_heard(rt: HostRuntime) -> Result<(
         let front = GRANTED.get(..cut).ok_or("six bytes")?;
         let rest = GRANTED.get(cut..).ok_or("six bytes")?;
         let came: [&[u8]; 6] = [front, SILENCE, rest, ACK, IDLE, ACK];
-        expect_done(&rt, &came, &[OPEN, OPEN, SELECT, STATUS, CLOSE], 0, cut)?;
+        expect_done(&rt, &came, &[OPEN, OPEN, SELECT, STATUS, CLOSE], 0, 2 * cut)?;
         let came: [&[u8]; 5] = [front, rest, ACK, IDLE, ACK];
-        expect_done(&rt, &came, &[OPEN, SELECT, STATUS, CLOSE], 0, cut)?;
+        expect_done(&rt, &came, &[OPEN, SELECT, STATUS, CLOSE], 0, 2 * cut + 1)?;
     }
     Ok(())
+}
+
+/// Answers that all wait before the first command.
+fn waiting(alloc: Global, answers: &[&[u8]]) -> Result<Driver, AllocError> {
+    let mut entries = Vec::new(alloc);
+    for answer in answers {
+        entries.push(Entry::Stale(Vec::from_slice(alloc, answer)?))?;
+    }
+    Ok(driver_over(alloc, entries))
 }
 
 // Nothing is dropped before a send, so what waited is heard.
 #[test]
 fn what_waits_is_heard(rt: HostRuntime) -> Result<(), Fail> {
-    let mut entries = Vec::new(rt.alloc());
-    for answer in [GRANTED, ACK, IDLE, ACK] {
-        entries.push(Entry::Stale(Vec::from_slice(rt.alloc(), answer)?))?;
-    }
-    let mut driver = plain(rt.alloc(), entries);
-    assert_eq!(rt; run(&mut driver, 100), Ok(Ran::Ended));
-    assert_eq!(rt; driver.controller().outcome(), Some(Outcome::Done));
+    let mut driver = waiting(rt.alloc(), ANSWERS)?;
+    expect(&rt, &ran(&mut driver, 100, COMMANDS), &DONE);
     Ok(())
 }
 
 /// Junk without a silence, and then silences.
-fn junk(alloc: Global, silences: usize) -> Result<Vec<Entry<Global>>, AllocError> {
+fn junk(alloc: Global, silences: usize) -> Result<Driver, AllocError> {
     let mut entries = Vec::new(alloc);
     for _ in 0..300 {
         entries.push(Entry::Came(Vec::from_slice(alloc, &[0x03; 512])?))?;
@@ -203,18 +208,35 @@ fn junk(alloc: Global, silences: usize) -> Result<Vec<Entry<Global>>, AllocError
     for _ in 0..silences {
         entries.push(Entry::Silence)?;
     }
-    Ok(entries)
+    Ok(driver_over(alloc, entries))
 }
 
 #[test]
 fn junk_without_end_answers_nothing(rt: HostRuntime) -> Result<(), Fail> {
-    let mut driver = plain(rt.alloc(), junk(rt.alloc(), 3)?);
-    assert_eq!(rt; run(&mut driver, 300), Ok(Ran::Spent));
-    assert_eq!(rt; driver.wire().sent(), OPEN);
-    assert_eq!(rt; run(&mut driver, 100), Ok(Ran::Ended));
-    assert_eq!(rt; driver.controller().outcome(), Some(Outcome::Lost));
-    assert_eq!(rt; driver.passed(), 0);
+    let mut driver = junk(rt.alloc(), 3)?;
+    let first = ran(&mut driver, 300, &[OPEN]);
+    let second = ran(&mut driver, 100, &[OPEN, OPEN, OPEN]);
+    let spent = (Ok(Ran::Spent), true, None);
+    let ended = (Ok(Ran::Ended), true, Some(Outcome::Lost));
+    expect(&rt, &(first, second, driver.passed()), &(spent, ended, 0));
     Ok(())
+}
+
+/// How many messages are passed over where these bytes come in pieces of this many.
+fn passed(alloc: Global, all: &[u8], step: usize) -> Result<u64, Fail>
+    requires { 0 < step }
+{
+    let mut entries = Vec::new(alloc);
+    for piece in all.chunks(step) {
+        entries.push(Entry::Came(Vec::from_slice(alloc, piece)?))?;
+    }
+    let mut driver = driver_over(alloc, entries);
+    for _ in 0..20_000 {
+        if let Ok(Line::Closed) = listen(&mut driver) {
+            break;
+        }
+    }
+    Ok(driver.passed())
 }
 
 // Far more than a burst may have, and no silence: each message is read, wherever it is torn.
@@ -225,76 +247,80 @@ fn messages_without_end_are_read(rt: HostRuntime) -> Result<(), Fail> {
         all.extend_from_slice(GRANTED)?;
     }
     for step in [1, 5, 7, 512] {
-        let mut entries = Vec::new(rt.alloc());
-        for piece in all.chunks(step) {
-            entries.push(Entry::Came(Vec::from_slice(rt.alloc(), piece)?))?;
-        }
-        let mut driver = plain(rt.alloc(), entries);
-        for _ in 0..20_000 {
-            if let Ok(Line::Closed) = listen(&mut driver) {
-                break;
-            }
-        }
-        assert_eq!(rt; driver.passed(), 3000, "in pieces of {step}");
+        expect_row(&rt, step, &passed(rt.alloc(), all.as_slice(), step)?, &3000);
     }
     Ok(())
 }
 
 #[test]
 fn close_inside_a_message_is_a_time_out(rt: HostRuntime) -> Result<(), Fail> {
-    let mut driver = plain(rt.alloc(), pieces(rt.alloc(), &[&[0x02, 0x03, 0x30]])?);
-    assert_eq!(rt; run(&mut driver, 100), Ok(Ran::Closed));
-    assert_eq!(rt; driver.wire().sent(), OPEN);
-    assert!(rt; !driver.controller().awaiting());
+    let mut driver = driver(rt.alloc(), false, &[b"\x02\x03\x30"])?;
+    let ran = ran(&mut driver, 100, &[OPEN]);
+    let awaits = driver.controller().awaiting();
+    expect(&rt, &(ran, awaits), &((Ok(Ran::Closed), true, None), false));
     Ok(())
 }
 
 // A receipt confirms nothing: the answer after it, in the same piece, is heard.
+static CONFIRMED: [&[u8]; 6] = [
+    GRANTED,
+    ACK,
+    SILENCE,
+    b"\x04\x02\x04\x30\x85\x01\x01\x49",
+    IDLE,
+    SILENCE,
+];
+
 #[test]
 fn empty_playlist_is_played_in_confirm_mode(rt: HostRuntime) -> Result<(), Fail> {
-    let mut answer = Vec::from_slice(rt.alloc(), ACK)?;
-    answer.extend_from_slice(IDLE)?;
-    let came: [&[u8]; 6] = [GRANTED, ACK, &[], answer.as_slice(), IDLE, &[]];
-    let mut driver = confirming(rt.alloc(), pieces(rt.alloc(), &came)?);
-    assert_eq!(rt; run(&mut driver, 100), Ok(Ran::Ended));
-    assert!(rt; spells(driver.wire().sent(), &[OPEN, SELECT, STATUS, STATUS, CLOSE]));
-    assert_eq!(rt; driver.controller().outcome(), Some(Outcome::Done));
+    let mut driver = driver(rt.alloc(), true, &CONFIRMED)?;
+    let sent = [OPEN, SELECT, STATUS, STATUS, CLOSE];
+    expect(&rt, &ran(&mut driver, 100, &sent), &DONE);
     Ok(())
 }
 
+// What comes, a piece for each listen, and how many events are reported then.
+static REPORTED: [(&[&[u8]], usize); 2] = [
+    (&[GRANTED, ACK, PRESENT, ACK, CUED], 0),
+    (&[GRANTED, ACK, PRESENT, ACK, CUED, ACK], 1),
+];
+
 #[test]
 fn an_event_is_reported_once_its_play_is_answered(rt: HostRuntime) -> Result<(), Fail> {
-    let words = [GRANTED, ACK, PRESENT, ACK, CUED, ACK];
-    for (count, settled) in [(5, 0), (6, 1)] {
+    for (k, (came, settled)) in REPORTED.iter().enumerate() {
         let controller = Controller::new(Playlist::of(1), 1, 3);
-        let wire = ScriptWire::new(rt.alloc(), pieces(rt.alloc(), &words[..count])?);
-        let mut driver = PromptDriver::new(controller, 0, wire);
-        assert_eq!(rt; run(&mut driver, count as u64), Ok(Ran::Spent));
-        assert_eq!(rt; driver.controller().settled(), settled);
+        let mut driver = PromptDriver::new(controller, 0, wire_of(rt.alloc(), came)?);
+        let ran = run(&mut driver, came.len() as u64);
+        let seen = (ran, driver.controller().settled());
+        expect_row(&rt, k, &seen, &(Ok(Ran::Spent), *settled));
     }
     Ok(())
 }
 
 #[test]
 fn commands_are_sent_only_while_a_listen_is_left(rt: HostRuntime) -> Result<(), Fail> {
-    let mut driver = plain(rt.alloc(), pieces(rt.alloc(), &[GRANTED, ACK])?);
-    assert_eq!(rt; run(&mut driver, 0), Ok(Ran::Spent));
-    assert!(rt; driver.wire().sent().is_empty());
-    assert_eq!(rt; run(&mut driver, 1), Ok(Ran::Spent));
-    assert_eq!(rt; driver.wire().sent(), OPEN);
-    assert_eq!(rt; send(&mut driver), Ok(true));
-    assert_eq!(rt; send(&mut driver), Ok(false));
+    let mut driver = driver(rt.alloc(), false, &[GRANTED, ACK])?;
+    let none = ran(&mut driver, 0, &[]);
+    let one = ran(&mut driver, 1, &[OPEN]);
+    let sends = (send(&mut driver), send(&mut driver));
+    let spent = (Ok(Ran::Spent), true, None);
+    expect(
+        &rt,
+        &(none, one, sends),
+        &(spent, spent, (Ok(true), Ok(false))),
+    );
     Ok(())
 }
 
 #[test]
 fn operator_stops(rt: HostRuntime) -> Result<(), Fail> {
-    let mut driver = plain(rt.alloc(), pieces(rt.alloc(), &[GRANTED, ACK, ACK])?);
+    let mut driver = driver(rt.alloc(), false, &[GRANTED, ACK, ACK])?;
     driver.take();
-    assert_eq!(rt; run(&mut driver, 1), Ok(Ran::Spent));
+    let first = run(&mut driver, 1);
     driver.stop();
-    assert_eq!(rt; run(&mut driver, 100), Ok(Ran::Ended));
-    assert_eq!(rt; driver.controller().outcome(), Some(Outcome::Stopped));
+    let second = ran(&mut driver, 100, &[OPEN, STOP, CLOSE]);
+    let ended = (Ok(Ran::Ended), true, Some(Outcome::Stopped));
+    expect(&rt, &(first, second), &(Ok(Ran::Spent), ended));
     Ok(())
 }
 
@@ -302,40 +328,84 @@ fn operator_stops(rt: HostRuntime) -> Result<(), Fail> {
 const ALL_SENT: &'static [u8] =
     b"\x02\x04\x30\x01\x01\x01\xCD\x02\x03\x20\x22\x01\xBD\x02\x03\x30\x05\x01\xCA\x02\x03\x20\x21\x01\xBE";
 
-// Each command is two calls, a send and a listen; the wire fails in each of them in turn.
+/// What a run answers, whether an answer is awaited then, and whether just the expected bytes went out.
+type FirstRun = (Result<Ran, DriveFault>, bool, bool);
+
+/// What a run, a send and a listen after it answer, and whether no more went out by them.
+type Afterwards = (
+    Result<Ran, DriveFault>,
+    Result<bool, DriveFault>,
+    Result<Line, DriveFault>,
+    bool,
+);
+
+/// What is seen of a driver whose wire fails at this call, after `part` bytes of a send, where the first `sent` bytes of
+/// ALL_SENT should have gone out, and how many bytes did.
+fn failed_at(
+    alloc: Global,
+    call: u64,
+    part: usize,
+    sent: usize,
+) -> Result<((FirstRun, Afterwards), usize), Fail> {
+    let mut wire = wire_of(alloc, ANSWERS)?;
+    wire.fail_at(call, part);
+    let mut driver = PromptDriver::new(controller(false), 0, wire);
+    let expected = ALL_SENT.get(..sent);
+    let ran = run(&mut driver, 100);
+    let awaits = driver.controller().awaiting();
+    let is_sent = expected == Some(driver.wire().sent());
+    let again = run(&mut driver, 100);
+    let sends = send(&mut driver);
+    let listens = listen(&mut driver);
+    let all = driver.wire().sent();
+    let afterwards = (again, sends, listens, expected == Some(all));
+    Ok((((ran, awaits, is_sent), afterwards), all.len()))
+}
+
+const FAILED: (FirstRun, Afterwards) = (
+    (Err(DriveFault::Device), true, true),
+    (
+        Err(DriveFault::Device),
+        Err(DriveFault::Device),
+        Err(DriveFault::Device),
+        true,
+    ),
+);
+
+// The call that fails, the bytes of a send after which it does, and how many bytes were sent. Each command is two calls, a
+// send and a listen.
+static FAILING: [(u64, usize, usize); 24] = [
+    (1, 0, 0),
+    (2, 0, 7),
+    (3, 0, 7),
+    (4, 0, 13),
+    (5, 0, 13),
+    (6, 0, 19),
+    (7, 0, 19),
+    (8, 0, 25),
+    (1, 1, 1),
+    (2, 1, 7),
+    (3, 1, 8),
+    (4, 1, 13),
+    (5, 1, 14),
+    (6, 1, 19),
+    (7, 1, 20),
+    (8, 1, 25),
+    (1, 100, 7),
+    (2, 100, 7),
+    (3, 100, 13),
+    (4, 100, 13),
+    (5, 100, 19),
+    (6, 100, 19),
+    (7, 100, 25),
+    (8, 100, 25),
+];
+
 #[test]
 fn each_call_fails_in_turn(rt: HostRuntime) -> Result<(), Fail> {
-    let commands = [OPEN, SELECT, STATUS, CLOSE];
-    for part in [0, 1, 100] {
-        let mut before: usize = 0;
-        for (k, command) in commands.iter().enumerate() {
-            let begun = before.saturating_add(part.min(command.len()));
-            before = before.saturating_add(command.len());
-            for (call, sent) in [(2 * k as u64 + 1, begun), (2 * k as u64 + 2, before)] {
-                let mut wire = ScriptWire::new(
-                    rt.alloc(),
-                    pieces(rt.alloc(), &[GRANTED, ACK, IDLE, ACK])?,
-                );
-                wire.fail_at(call, part);
-                let controller = Controller::new(Playlist::of(0), 1, 3);
-                let mut driver = PromptDriver::new(controller, 0, wire);
-                assert_eq!(rt; run(&mut driver, 100), Err(DriveFault::Device));
-                assert!(rt; driver.controller().awaiting());
-                assert_eq!(rt;
-                    ALL_SENT.get(..sent),
-                    Some(driver.wire().sent()),
-                    "call {call}"
-                );
-                assert_eq!(rt; run(&mut driver, 100), Err(DriveFault::Device));
-                assert_eq!(rt; send(&mut driver), Err(DriveFault::Device));
-                assert_eq!(rt; listen(&mut driver), Err(DriveFault::Device));
-                assert_eq!(rt;
-                    ALL_SENT.get(..sent),
-                    Some(driver.wire().sent()),
-                    "call {call}"
-                );
-            }
-        }
+    for (k, (call, part, sent)) in FAILING.iter().enumerate() {
+        let failed = failed_at(rt.alloc(), *call, *part, *sent)?;
+        expect_row(&rt, k, &failed, &(FAILED, *sent));
     }
     Ok(())
 }
@@ -364,13 +434,13 @@ fn run_kept(driver: &mut Driver, listens: u64, tally: &mut Tally) -> Result<Ran,
 
 #[test]
 fn exchanges_are_kept(rt: HostRuntime) -> Result<(), Fail> {
-    let came = pieces(rt.alloc(), &[GRANTED, ACK, &[], IDLE])?;
-    let mut driver = plain(rt.alloc(), came);
+    let mut driver = driver(rt.alloc(), false, &[GRANTED, ACK, SILENCE, IDLE])?;
     let mut tally = Tally {
         commands: 0,
         ends: 0,
     };
-    assert_eq!(rt; run_kept(&mut driver, 3, &mut tally), Ok(Ran::Spent));
-    assert_eq!(rt; (tally.commands, tally.ends), (3, 3));
+    let ran = run_kept(&mut driver, 3, &mut tally);
+    let seen = (ran, tally.commands, tally.ends);
+    expect(&rt, &seen, &(Ok(Ran::Spent), 3, 3));
     Ok(())
 }

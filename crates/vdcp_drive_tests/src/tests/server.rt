@@ -1,6 +1,7 @@
 //! A server over a wire in memory.
 use super::calls::serve;
 use super::ends::{failing_server, server};
+use super::expecting::expect_row;
 use super::messages::{ACK, CUE_1, GRANTED, IDLE, OPEN, PLAY, SELECT, STATUS, STOP};
 use super::scripts::{SILENCE, spells};
 use std::alloc::Global;
@@ -8,7 +9,6 @@ use std::test::Fail;
 use vdcp_drive::Ran;
 
 /// What comes to a new server in this many turns, what it sends, and how that ends.
-#[derive(Clone, Copy)]
 struct Row {
     came: &'static [&'static [u8]],
     turns: u64,
@@ -27,7 +27,7 @@ const OPENING: &'static [&'static [u8]] = &[
 ];
 
 // The other end closes after the last piece.
-const ROWS: [Row; 9] = [
+static ROWS: [Row; 9] = [
     Row {
         came: OPENING,
         turns: 100,
@@ -116,7 +116,7 @@ fn served(alloc: Global, row: &Row) -> Result<(Ran, bool), Fail> {
 #[test]
 fn what_comes_is_answered(rt: HostRuntime) -> Result<(), Fail> {
     for (k, row) in ROWS.iter().enumerate() {
-        assert_eq!(rt; served(rt.alloc(), row)?, (row.ran, true), "row {k}");
+        expect_row(&rt, k, &served(rt.alloc(), row)?, &(row.ran, true));
     }
     Ok(())
 }
@@ -130,16 +130,14 @@ fn failed_at(alloc: Global, call: u64) -> Result<(bool, usize), Fail> {
 }
 
 // Eight listens, and a send after the first, the fourth and the sixth of them.
-const SENT: [usize; 11] = [0, 1, 6, 6, 6, 7, 7, 7, 8, 14, 14];
+static SENT: [usize; 11] = [0, 1, 6, 6, 6, 7, 7, 7, 8, 14, 14];
 
 #[test]
 fn each_call_fails_in_turn(rt: HostRuntime) -> Result<(), Fail> {
     for (k, sent) in SENT.iter().enumerate() {
-        assert_eq!(rt;
-            failed_at(rt.alloc(), k as u64 + 1)?,
-            (true, *sent),
-            "call {k}"
-        );
+        let call = k + 1;
+        let failed = failed_at(rt.alloc(), call as u64)?;
+        expect_row(&rt, call, &failed, &(true, *sent));
     }
     Ok(())
 }

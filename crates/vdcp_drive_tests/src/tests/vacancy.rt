@@ -1,6 +1,7 @@
 //! A port that is asked whether it is empty, over a wire in memory.
 ghost use Rattle.std.specs.Prelude.{◌≡◌};
 
+use super::expecting::expect_row;
 use super::messages::{ACK, CUED, GRANTED, IDLE, OPEN, PRESENT, SELECT, STATUS};
 use super::scripts::{SILENCE, spells, wire_of};
 use std::alloc::Global;
@@ -8,9 +9,9 @@ use std::test::Fail;
 use vdcp_drive::{Vacancy, ask_port};
 use vdcp_wire::{Wire, WireFault};
 
-const DENIED: &'static [u8] = &[0x02, 0x03, 0x30, 0x81, 0x00, 0x4F];
+const DENIED: &'static [u8] = b"\x02\x03\x30\x81\x00\x4F";
 
-const REFUSED: &'static [u8] = &[0x05, 0x01];
+const REFUSED: &'static [u8] = b"\x05\x01";
 
 /// Asks port 1 of unit 0, with limit 3. It promises nothing, so the proof of a test needn't go through its clauses.
 fn ask<W: Wire>(left: &mut u32, wire: &mut W) -> Result<Vacancy, WireFault>
@@ -20,7 +21,6 @@ fn ask<W: Wire>(left: &mut u32, wire: &mut W) -> Result<Vacancy, WireFault>
 }
 
 /// What comes, how many listens may be made, what is sent, what the port is found to be, and how many are left.
-#[derive(Clone, Copy)]
 struct Row {
     came: &'static [&'static [u8]],
     listens: u32,
@@ -32,7 +32,7 @@ struct Row {
 const EMPTY: &'static [&'static [u8]] = &[GRANTED, SILENCE, ACK, SILENCE, IDLE, SILENCE];
 
 // After the last piece the other end closes.
-const ROWS: [Row; 11] = [
+static ROWS: [Row; 11] = [
     Row {
         came: EMPTY,
         listens: 7,
@@ -132,11 +132,8 @@ fn asked(alloc: Global, row: &Row) -> Result<(Vacancy, u32, bool), Fail> {
 #[test]
 fn port_is_asked(rt: HostRuntime) -> Result<(), Fail> {
     for (k, row) in ROWS.iter().enumerate() {
-        assert_eq!(rt;
-            asked(rt.alloc(), row)?,
-            (row.vacancy, row.left, true),
-            "row {k}"
-        );
+        let asked = asked(rt.alloc(), row)?;
+        expect_row(&rt, k, &asked, &(row.vacancy, row.left, true));
     }
     Ok(())
 }
@@ -151,7 +148,7 @@ fn fails_at(alloc: Global, call: u64) -> Result<bool, Fail> {
 #[test]
 fn failing_call_of_the_questions_is_the_last(rt: HostRuntime) -> Result<(), Fail> {
     for call in 1..=12 {
-        assert!(rt; fails_at(rt.alloc(), call)?, "at {call}");
+        expect_row(&rt, call, &fails_at(rt.alloc(), call as u64)?, &true);
     }
     Ok(())
 }

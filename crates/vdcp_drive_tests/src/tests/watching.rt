@@ -1,6 +1,7 @@
 //! Who watches a driver: the controller in each listen, and each item that goes to air.
 use super::calls::{run_watched, serve_watched};
 use super::ends::{automation, server};
+use super::expecting::expect;
 use super::messages::{ACK, CUE_1, CUE_2, GRANTED, IDLE, OPEN, PLAY, SELECT};
 use super::scripts::SILENCE;
 use std::test::Fail;
@@ -42,22 +43,22 @@ fn item(id: &[u8; 8]) -> Item {
     }
 }
 
+static COMMANDS: [&[u8]; 10] = [
+    OPEN, SELECT, CUE_1, SILENCE, PLAY, CUE_2, SILENCE, PLAY, PLAY, SILENCE,
+];
+
 #[test]
 fn items_are_lent_in_order(rt: HostRuntime) -> Result<(), Fail> {
-    let came: [&[u8]; 10] = [
-        OPEN, SELECT, CUE_1, SILENCE, PLAY, CUE_2, SILENCE, PLAY, PLAY, SILENCE,
-    ];
-    let mut server = server(rt.alloc(), 1, &came)?;
+    let mut server = server(rt.alloc(), 1, &COMMANDS)?;
     let mut as_run = AsRun {
         items: Vec::new(rt.alloc()),
     };
-    assert_eq!(rt;
-        serve_watched(&mut server, 100, &mut as_run),
-        Ok(Ran::Closed)
-    );
-    assert_eq!(rt;
-        as_run.items.as_slice(),
-        [item(b"CLIP0001"), item(b"CLIP0002")].as_slice()
+    let ran = serve_watched(&mut server, 100, &mut as_run);
+    let items = [item(b"CLIP0001"), item(b"CLIP0002")];
+    expect(
+        &rt,
+        &(ran, as_run.items.as_slice()),
+        &(Ok(Ran::Closed), items.as_slice()),
     );
     Ok(())
 }
@@ -70,18 +71,23 @@ const ASKED: Command = Command::Status(1);
 
 const CLOSED: Command = Command::Close(1);
 
+static ANSWERS: [&[u8]; 8] = [GRANTED, SILENCE, ACK, SILENCE, IDLE, SILENCE, ACK, SILENCE];
+
 // Each command has two listens: of its answer, and of the silence.
 #[test]
 fn controller_is_lent_in_each_listen(rt: HostRuntime) -> Result<(), Fail> {
-    let came: [&[u8]; 8] = [GRANTED, SILENCE, ACK, SILENCE, IDLE, SILENCE, ACK, SILENCE];
-    let mut driver = automation(rt.alloc(), false, &came)?;
+    let mut driver = automation(rt.alloc(), false, &ANSWERS)?;
     let mut awaited = Awaited {
         commands: Vec::new(rt.alloc()),
     };
-    assert_eq!(rt; run_watched(&mut driver, 100, &mut awaited), Ok(Ran::Ended));
+    let ran = run_watched(&mut driver, 100, &mut awaited);
     let commands = [
         OPENED, OPENED, SELECTED, SELECTED, ASKED, ASKED, CLOSED, CLOSED,
     ];
-    assert_eq!(rt; awaited.commands.as_slice(), commands.as_slice());
+    expect(
+        &rt,
+        &(ran, awaited.commands.as_slice()),
+        &(Ok(Ran::Ended), commands.as_slice()),
+    );
     Ok(())
 }

@@ -2,13 +2,15 @@
 //! anything: a test looks at what it gets.
 use super::clips::TwoClips;
 use std::alloc::{AllocError, Allocator, Global};
+use std::fmt::Debug;
+use std::process::Abort;
 use std::test::Fail;
-use vdcp_auto::Outcome;
+use vdcp_auto::{Exchange, Outcome};
 use vdcp_late::{LateEvent, LateWorld};
 use vdcp_port::Port;
 use vdcp_testing::two_clips;
-use vdcp_value::{ClipId, Timecode};
-use vdcp_world::{Burst, read_script};
+use vdcp_value::{ClipId, Item, Timecode};
+use vdcp_world::{Burst, ScriptFault, read_script};
 
 /// A catalogue of two clips.
 pub type Shelf = [(ClipId, Timecode); 2];
@@ -21,21 +23,56 @@ pub fn shelf() -> Result<Shelf, Fail> {
     Ok(two_clips(250).ok_or("250 frames")?)
 }
 
+/// A new port.
+pub fn new_port() -> Result<Port<Shelf>, Fail> {
+    Ok(Port::new(shelf()?, 0, 0x01))
+}
+
+/// A new world in plain mode, over this port.
+pub fn plain_over<A: Allocator + Copy + Drop>(alloc: A, port: Port<Shelf>) -> Late<A> {
+    LateWorld::new(alloc, TwoClips::new(), port, 3)
+}
+
 /// A new world in plain mode, over a new port.
 pub fn plain<A: Allocator + Copy + Drop>(alloc: A) -> Result<Late<A>, Fail> {
-    let port = Port::new(shelf()?, 0, 0x01);
-    Ok(LateWorld::new(alloc, TwoClips::new(), port, 3))
+    Ok(plain_over(alloc, new_port()?))
+}
+
+/// A new world in confirm mode, over this port; it fails if the port has a clip cued.
+pub fn confirming_over(alloc: Global, port: Port<Shelf>) -> Result<Late<Global>, Fail> {
+    if port.status_byte() & 0x82 != 0 {
+        return Err(Fail::from("something is cued"));
+    }
+    Ok(LateWorld::confirming(alloc, TwoClips::new(), port, 3))
 }
 
 /// A new world in confirm mode, over a new port.
 pub fn confirming(alloc: Global) -> Result<Late<Global>, Fail> {
-    let port = Port::new(shelf()?, 0, 0x01);
-    Ok(LateWorld::confirming(alloc, TwoClips::new(), port, 3))
+    confirming_over(alloc, new_port()?)
+}
+
+/// The events of a script.
+pub fn read(alloc: Global, script: &str) -> Result<Vec<LateEvent>, ScriptFault> {
+    read_script(alloc, script)
+}
+
+/// What is seen is what is wanted; `name` says which row or check this is. Most tests share this assertion, since an
+/// assertion costs much to prove.
+pub fn expect_seen<T: Debug + PartialEq>(rt: &impl Abort, name: &str, seen: &T, wanted: &T) {
+    assert_eq!(rt; seen, wanted, "{name:?}");
 }
 
 /// An event happens.
 pub fn step<A: Allocator + Copy>(world: &mut Late<A>, event: &LateEvent) -> Result<(), AllocError> {
     world.step(event)
+}
+
+/// Events happen.
+pub fn run_events<A: Allocator + Copy>(
+    world: &mut Late<A>,
+    events: &[LateEvent],
+) -> Result<(), AllocError> {
+    world.run(events)
 }
 
 /// A script's events happen.
@@ -44,9 +81,18 @@ pub fn run<A: Allocator + Copy>(
     world: &mut Late<A>,
     script: &str,
 ) -> Result<(), Fail> {
-    let events: Vec<LateEvent> = read_script(alloc, script)?;
-    world.run(events.as_slice())?;
-    Ok(())
+    let events = read(alloc, script)?;
+    Ok(run_events(world, events.as_slice())?)
+}
+
+/// What went to air.
+pub fn aired<A: Allocator + Copy>(world: &Late<A>) -> &[Item] {
+    world.aired()
+}
+
+/// The exchanges so far.
+pub fn log<A: Allocator + Copy>(world: &Late<A>) -> &[Exchange] {
+    world.log()
 }
 
 /// A burst of these bytes.

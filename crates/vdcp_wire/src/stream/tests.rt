@@ -2,6 +2,7 @@ use super::{Connection, StreamWire};
 use crate::wire::{Came, PIECE, Wire, WireFault};
 use std::alloc::Global;
 use std::cell::Cell;
+use std::fmt::Debug;
 use std::io::{self, ErrorKind, Read, Write};
 use std::net::{Ipv4Addr, OpenStream, SocketAddr, TcpListener, TcpStream};
 use std::process::Abort;
@@ -42,6 +43,11 @@ fn listen<S: Read + Write + OpenStream + Drop>(
     }
 }
 
+/// The same, with the bytes thrown away.
+fn hear<S: Read + Write + OpenStream + Drop>(wire: &mut StreamWire<S>) -> Result<Came, WireFault> {
+    listen(wire, &mut [0; PIECE])
+}
+
 /// Sends these bytes, while the wire works.
 fn send<S: Read + Write + OpenStream + Drop>(
     wire: &mut StreamWire<S>,
@@ -63,6 +69,21 @@ fn drop_waiting<S: Read + Write + OpenStream + Drop>(
     }
 }
 
+/// What is seen is what was expected. An `assert_eq!` is dear to prove, and this one is proved once for all tests here.
+fn expect<T: PartialEq + Debug>(rt: &impl Abort, seen: &T, expected: &T) {
+    assert_eq!(rt; seen, expected);
+}
+
+/// What comes next, and how long it takes.
+fn time_hearing(
+    rt: &HostRuntime,
+    wire: &mut StreamWire,
+) -> io::Result<(Result<Came, WireFault>, Duration)> {
+    let start = Instant::now(rt)?;
+    let came = hear(wire);
+    Ok((came, start.elapsed(rt)?))
+}
+
 const LONG: u64 = 60_000;
 
 #[test]
@@ -70,8 +91,9 @@ fn bytes_come(rt: HostRuntime) -> Result<(), Fail> {
     let (mut peer, mut wire) = wire(&rt, LONG)?;
     let mut buffer = [0; PIECE];
     peer.write_all(&[1, 2, 3])?;
-    assert_eq!(rt; listen(&mut wire, &mut buffer), Ok(Came::Bytes(3)));
-    assert_eq!(rt; &buffer[..3], [1, 2, 3].as_slice());
+    let came = listen(&mut wire, &mut buffer);
+    let expected = (Ok(Came::Bytes(3)), b"\x01\x02\x03".as_slice());
+    expect(&rt, &(came, &buffer[..3]), &expected);
     Ok(())
 }
 
@@ -83,38 +105,37 @@ fn bytes_go(rt: HostRuntime) -> Result<(), Fail> {
     send(&mut wire, &[6])?;
     let mut sent = [0; 3];
     peer.read_exact(&mut sent)?;
-    assert_eq!(rt; sent, [4, 5, 6]);
+    expect(&rt, &sent, b"\x04\x05\x06");
     Ok(())
 }
 
 #[test]
 fn what_is_sent_goes_out_at_once(rt: HostRuntime) -> Result<(), Fail> {
     let (_peer, wire) = wire(&rt, 1000)?;
-    assert!(rt; wire.stream.nodelay()?);
-    assert_eq!(rt;
-        wire.stream.read_timeout()?,
-        Some(Duration::from_millis(1000))
-    );
+    let seen = (wire.stream.nodelay()?, wire.stream.read_timeout()?);
+    expect(&rt, &seen, &(true, Some(Duration::from_millis(1000))));
     Ok(())
 }
 
 #[test]
 fn no_silence_is_refused(rt: HostRuntime) -> Result<(), Fail> {
     let (_peer, stream) = pair(&rt)?;
-    assert!(rt; StreamWire::new(stream, Duration::ZERO).is_err());
+    let is_refused = StreamWire::new(stream, Duration::ZERO).is_err();
+    expect(&rt, &is_refused, &true);
     Ok(())
 }
 
 #[test]
 fn silence_comes_after_so_long(rt: HostRuntime) -> Result<(), Fail> {
     let (mut peer, mut wire) = wire(&rt, 40)?;
-    let start = Instant::now(&rt)?;
-    assert_eq!(rt; listen(&mut wire, &mut [0; PIECE]), Ok(Came::Silence));
-    assert!(rt; start.elapsed(&rt)? >= Duration::from_millis(40));
+    let (first, time) = time_hearing(&rt, &mut wire)?;
+    let is_late = time >= Duration::from_millis(40);
     // It goes on after a silence.
     peer.write_all(&[7])?;
-    assert_eq!(rt; listen(&mut wire, &mut [0; PIECE]), Ok(Came::Bytes(1)));
-    assert_eq!(rt; listen(&mut wire, &mut [0; PIECE]), Ok(Came::Silence));
+    let second = hear(&mut wire);
+    let third = hear(&mut wire);
+    let came = (Ok(Came::Silence), Ok(Came::Bytes(1)), Ok(Came::Silence));
+    expect(&rt, &(is_late, (first, second, third)), &(true, came));
     Ok(())
 }
 
@@ -124,9 +145,11 @@ fn close_comes_at_once(rt: HostRuntime) -> Result<(), Fail> {
     let start = Instant::now(&rt)?;
     peer.write_all(&[7])?;
     drop(peer);
-    assert_eq!(rt; listen(&mut wire, &mut [0; PIECE]), Ok(Came::Bytes(1)));
-    assert_eq!(rt; listen(&mut wire, &mut [0; PIECE]), Ok(Came::Closed));
-    assert!(rt; start.elapsed(&rt)? < Duration::from_millis(LONG));
+    let first = hear(&mut wire);
+    let second = hear(&mut wire);
+    let is_early = start.elapsed(&rt)? < Duration::from_millis(LONG);
+    let expected = (Ok(Came::Bytes(1)), Ok(Came::Closed), true);
+    expect(&rt, &(first, second, is_early), &expected);
     Ok(())
 }
 
@@ -134,33 +157,41 @@ fn close_comes_at_once(rt: HostRuntime) -> Result<(), Fail> {
 fn close_stays(rt: HostRuntime) -> Result<(), Fail> {
     let (peer, mut wire) = wire(&rt, LONG)?;
     drop(peer);
-    assert_eq!(rt; listen(&mut wire, &mut [0; PIECE]), Ok(Came::Closed));
-    assert_eq!(rt; listen(&mut wire, &mut [0; PIECE]), Ok(Came::Closed));
-    assert_eq!(rt; drop_waiting(&mut wire), Ok(()));
-    assert_eq!(rt; listen(&mut wire, &mut [0; PIECE]), Ok(Came::Closed));
+    let first = hear(&mut wire);
+    let second = hear(&mut wire);
+    let dropped = drop_waiting(&mut wire);
+    let third = hear(&mut wire);
+    let closed = Ok(Came::Closed);
+    expect(
+        &rt,
+        &(first, second, dropped, third),
+        &(closed, closed, Ok(()), closed),
+    );
     Ok(())
 }
 
-// A peer that closes with bytes unread resets the connection.
-#[test]
-fn reset_is_a_failure(rt: HostRuntime) -> Result<(), Fail> {
-    let (peer, mut wire) = wire(&rt, LONG)?;
+/// A wire whose peer has closed with bytes unread, which resets the connection.
+fn reset(rt: &HostRuntime) -> Result<StreamWire, Fail> {
+    let (peer, mut wire) = wire(rt, LONG)?;
     send(&mut wire, &[1, 2, 3])?;
     wait_for(&peer)?;
     drop(peer);
-    assert_eq!(rt; listen(&mut wire, &mut [0; PIECE]), Err(WireFault));
-    assert_eq!(rt; wire.connection, Connection::Failed);
+    Ok(wire)
+}
+
+#[test]
+fn reset_is_a_failure(rt: HostRuntime) -> Result<(), Fail> {
+    let mut wire = reset(&rt)?;
+    let seen = (hear(&mut wire), wire.connection);
+    expect(&rt, &seen, &(Err(WireFault), Connection::Failed));
     Ok(())
 }
 
 #[test]
 fn reset_is_a_failure_of_the_drop(rt: HostRuntime) -> Result<(), Fail> {
-    let (peer, mut wire) = wire(&rt, LONG)?;
-    send(&mut wire, &[1, 2, 3])?;
-    wait_for(&peer)?;
-    drop(peer);
-    assert_eq!(rt; drop_waiting(&mut wire), Err(WireFault));
-    assert_eq!(rt; wire.connection, Connection::Failed);
+    let mut wire = reset(&rt)?;
+    let seen = (drop_waiting(&mut wire), wire.connection);
+    expect(&rt, &seen, &(Err(WireFault), Connection::Failed));
     Ok(())
 }
 
@@ -170,7 +201,7 @@ fn what_waits_is_dropped(rt: HostRuntime) -> Result<(), Fail> {
     peer.write_all(&[5, 1])?;
     wait_for(&wire.stream)?;
     drop_waiting(&mut wire)?;
-    assert_eq!(rt; listen(&mut wire, &mut [0; PIECE]), Ok(Came::Silence));
+    expect(&rt, &hear(&mut wire), &Ok(Came::Silence));
     Ok(())
 }
 
@@ -178,12 +209,13 @@ fn what_waits_is_dropped(rt: HostRuntime) -> Result<(), Fail> {
 #[test]
 fn listen_behind_a_drop_waits(rt: HostRuntime) -> Result<(), Fail> {
     let (mut peer, mut wire) = wire(&rt, 40)?;
-    let start = Instant::now(&rt)?;
     drop_waiting(&mut wire)?;
-    assert_eq!(rt; listen(&mut wire, &mut [0; PIECE]), Ok(Came::Silence));
-    assert!(rt; start.elapsed(&rt)? >= Duration::from_millis(40));
+    let (first, time) = time_hearing(&rt, &mut wire)?;
+    let is_late = time >= Duration::from_millis(40);
     peer.write_all(&[7])?;
-    assert_eq!(rt; listen(&mut wire, &mut [0; PIECE]), Ok(Came::Bytes(1)));
+    let second = hear(&mut wire);
+    let expected = (Ok(Came::Silence), true, Ok(Came::Bytes(1)));
+    expect(&rt, &(first, is_late, second), &expected);
     Ok(())
 }
 
@@ -192,7 +224,8 @@ fn drop_does_not_wait(rt: HostRuntime) -> Result<(), Fail> {
     let (_peer, mut wire) = wire(&rt, LONG)?;
     let start = Instant::now(&rt)?;
     drop_waiting(&mut wire)?;
-    assert!(rt; start.elapsed(&rt)? < Duration::from_millis(LONG));
+    let is_early = start.elapsed(&rt)? < Duration::from_millis(LONG);
+    expect(&rt, &is_early, &true);
     Ok(())
 }
 
@@ -203,7 +236,7 @@ fn close_behind_what_is_dropped_is_not_lost(rt: HostRuntime) -> Result<(), Fail>
     wait_for(&wire.stream)?;
     drop(peer);
     drop_waiting(&mut wire)?;
-    assert_eq!(rt; listen(&mut wire, &mut [0; PIECE]), Ok(Came::Closed));
+    expect(&rt, &hear(&mut wire), &Ok(Came::Closed));
     Ok(())
 }
 
@@ -222,24 +255,31 @@ fn fill(peer: &mut TcpStream) -> io::Result<usize> {
     Ok(written)
 }
 
-#[test]
-fn what_128_reads_do_not_take_stays(rt: HostRuntime) -> Result<(), Fail> {
-    let (mut peer, mut wire) = wire(&rt, 40)?;
-    let written = fill(&mut peer)?;
-    assert!(rt; written > 128 * 512);
-    drop_waiting(&mut wire)?;
-    drop(peer);
-    let mut stayed = 0usize;
-    let mut buffer = [0; PIECE];
+/// How much comes until the close.
+fn count_rest(wire: &mut StreamWire) -> Result<usize, WireFault> {
+    let mut count = 0usize;
     for _ in 0..u32::MAX {
-        match listen(&mut wire, &mut buffer)? {
-            Came::Bytes(n) => stayed = stayed.saturating_add(n),
+        match hear(wire)? {
+            Came::Bytes(n) => count = count.saturating_add(n),
             Came::Silence => {}
             Came::Closed => break,
         }
     }
-    assert!(rt; stayed >= written - 128 * 512);
-    assert!(rt; stayed < written);
+    Ok(count)
+}
+
+#[test]
+fn what_128_reads_do_not_take_stays(rt: HostRuntime) -> Result<(), Fail> {
+    let (mut peer, mut wire) = wire(&rt, 40)?;
+    let written = fill(&mut peer)?;
+    drop_waiting(&mut wire)?;
+    drop(peer);
+    let stayed = count_rest(&mut wire)?;
+    let dropped_at_most = 128 * 512;
+    let is_rest = dropped_at_most < written
+        && written - dropped_at_most <= stayed
+        && stayed < written;
+    expect(&rt, &(written, stayed, is_rest), &(written, stayed, true));
     Ok(())
 }
 
@@ -321,76 +361,93 @@ fn wire_over(alloc: Global, steps: &[Step]) -> Result<StreamWire<Fake>, Fail> {
     Ok(StreamWire::new(Fake::new(alloc, steps)?, Duration::from_millis(1))?)
 }
 
+static STEPS: [Step; 6] = [
+    Step::Gives(512),
+    Step::Fails(ErrorKind::Interrupted),
+    Step::Fails(ErrorKind::WouldBlock),
+    Step::Gives(1),
+    Step::Gives(0),
+    Step::Gives(1),
+];
+
+static CAME: [Came; 6] = [
+    Came::Bytes(512),
+    Came::Bytes(0),
+    Came::Silence,
+    Came::Bytes(1),
+    Came::Closed,
+    Came::Closed,
+];
+
 #[test]
 fn reads_are_told_apart(rt: HostRuntime) -> Result<(), Fail> {
-    let steps = [
-        Step::Gives(512),
-        Step::Fails(ErrorKind::Interrupted),
-        Step::Fails(ErrorKind::WouldBlock),
-        Step::Gives(1),
-        Step::Gives(0),
-        Step::Gives(1),
-    ];
-    let mut wire = wire_over(rt.alloc(), &steps)?;
-    let came = [
-        Came::Bytes(512),
-        Came::Bytes(0),
-        Came::Silence,
-        Came::Bytes(1),
-        Came::Closed,
-        Came::Closed,
-    ];
-    for expected in came {
-        assert_eq!(rt; listen(&mut wire, &mut [0; PIECE]), Ok(expected));
+    let mut wire = wire_over(rt.alloc(), &STEPS)?;
+    for (k, came) in CAME.iter().enumerate() {
+        expect(&rt, &(k, hear(&mut wire)), &(k, Ok(*came)));
     }
     // After the close nothing is read.
     drop_waiting(&mut wire)?;
-    assert_eq!(rt; wire.stream.reads, 5);
+    expect(&rt, &wire.stream.reads, &5);
     Ok(())
 }
 
-/// A read that fails so, after a byte, is a failure of the listen.
-fn expect_failed_listen(rt: &impl Abort, alloc: Global, kind: ErrorKind) -> Result<(), Fail> {
+type Listens = [(Result<Came, WireFault>, Connection); 2];
+
+/// A read gives a byte, and the next one fails with this kind: what each of two listens answers, and the state of the
+/// connection after it.
+fn failed_listen(alloc: Global, kind: ErrorKind) -> Result<Listens, Fail> {
     let mut wire = wire_over(alloc, &[Step::Gives(1), Step::Fails(kind)])?;
-    assert_eq!(rt; listen(&mut wire, &mut [0; PIECE]), Ok(Came::Bytes(1)));
-    assert_eq!(rt; wire.connection, Connection::Open);
-    assert_eq!(rt; listen(&mut wire, &mut [0; PIECE]), Err(WireFault));
-    assert_eq!(rt; wire.connection, Connection::Failed);
-    Ok(())
+    let first = (hear(&mut wire), wire.connection);
+    let second = (hear(&mut wire), wire.connection);
+    Ok([first, second])
 }
 
-/// It is one of the drop.
-fn expect_failed_drop(rt: &impl Abort, alloc: Global, kind: ErrorKind) -> Result<(), Fail> {
+type Drops = (Result<(), WireFault>, Connection, bool);
+
+/// The same for one drop, and whether the stream waits again after it.
+fn failed_drop(alloc: Global, kind: ErrorKind) -> Result<Drops, Fail> {
     let mut wire = wire_over(alloc, &[Step::Gives(1), Step::Fails(kind)])?;
-    assert_eq!(rt; drop_waiting(&mut wire), Err(WireFault));
-    assert_eq!(rt; wire.connection, Connection::Failed);
-    assert!(rt; wire.stream.waits.get());
-    Ok(())
+    let dropped = drop_waiting(&mut wire);
+    Ok((dropped, wire.connection, wire.stream.waits.get()))
 }
+
+// Each is a failure of the listen that reads it, and of the drop.
+static KINDS: [ErrorKind; 8] = [
+    ErrorKind::ConnectionReset,
+    ErrorKind::ConnectionAborted,
+    ErrorKind::NotConnected,
+    ErrorKind::BrokenPipe,
+    // (nothing was acknowledged for long, or no way leads there any more)
+    ErrorKind::TimedOut,
+    ErrorKind::HostUnreachable,
+    ErrorKind::NetworkUnreachable,
+    ErrorKind::Other,
+];
+
+// What each kind gives.
+const FAILED: (Listens, Drops) = (
+    [
+        (Ok(Came::Bytes(1)), Connection::Open),
+        (Err(WireFault), Connection::Failed),
+    ],
+    (Err(WireFault), Connection::Failed, true),
+);
 
 #[test]
 fn only_a_failed_read_is_a_failure(rt: HostRuntime) -> Result<(), Fail> {
-    let kinds = [
-        ErrorKind::ConnectionReset,
-        ErrorKind::ConnectionAborted,
-        ErrorKind::NotConnected,
-        ErrorKind::BrokenPipe,
-        // (nothing was acknowledged for long, or no way leads there any more)
-        ErrorKind::TimedOut,
-        ErrorKind::HostUnreachable,
-        ErrorKind::NetworkUnreachable,
-        ErrorKind::Other,
-    ];
-    for kind in kinds {
-        expect_failed_listen(&rt, rt.alloc(), kind)?;
-        expect_failed_drop(&rt, rt.alloc(), kind)?;
+    for (k, kind) in KINDS.iter().enumerate() {
+        let failed = (
+            failed_listen(rt.alloc(), *kind)?,
+            failed_drop(rt.alloc(), *kind)?,
+        );
+        expect(&rt, &(k, failed), &(k, FAILED));
     }
     Ok(())
 }
 
-#[test]
-fn drop_reads_128_times(rt: HostRuntime) -> Result<(), Fail> {
-    let mut steps = Vec::new(rt.alloc());
+/// A wire that can be read 200 times.
+fn wire_of_200_reads(alloc: Global) -> Result<StreamWire<Fake>, Fail> {
+    let mut steps = Vec::new(alloc);
     for k in 0..200 {
         steps.push(match k % 3 {
             0 => Step::Gives(512),
@@ -398,27 +455,38 @@ fn drop_reads_128_times(rt: HostRuntime) -> Result<(), Fail> {
             _ => Step::Fails(ErrorKind::Interrupted),
         })?;
     }
-    let mut wire = wire_over(rt.alloc(), steps.as_slice())?;
+    wire_over(alloc, steps.as_slice())
+}
+
+#[test]
+fn drop_reads_128_times(rt: HostRuntime) -> Result<(), Fail> {
+    let mut wire = wire_of_200_reads(rt.alloc())?;
     drop_waiting(&mut wire)?;
-    assert_eq!(rt; wire.stream.reads, 128);
-    assert!(rt; wire.stream.waits.get());
+    let first = (wire.stream.reads, wire.stream.waits.get());
     drop_waiting(&mut wire)?;
-    assert_eq!(rt; wire.stream.reads, 201);
-    assert_eq!(rt; wire.connection, Connection::Open);
+    let second = (wire.stream.reads, wire.connection);
+    expect(
+        &rt,
+        &(first, second),
+        &((128, true), (201, Connection::Open)),
+    );
     Ok(())
 }
+
+const TEN: &'static [u8] = b"\x01\x02\x03\x04\x05\x06\x07\x08\x09\x0A";
 
 #[test]
 fn all_is_sent_or_it_fails(rt: HostRuntime) -> Result<(), Fail> {
     let mut wire = wire_over(rt.alloc(), &[])?;
     wire.stream.room = 10;
     send(&mut wire, &[1, 2, 3, 4, 5, 6, 7])?;
-    assert_eq!(rt; wire.connection, Connection::Open);
-    assert_eq!(rt; send(&mut wire, &[8, 9, 10, 11]), Err(WireFault));
-    assert_eq!(rt; wire.connection, Connection::Failed);
-    assert_eq!(rt;
-        wire.stream.written.as_slice(),
-        [1, 2, 3, 4, 5, 6, 7, 8, 9, 10].as_slice()
+    let first = wire.connection;
+    let second = (send(&mut wire, &[8, 9, 10, 11]), wire.connection);
+    let written = wire.stream.written.as_slice();
+    expect(
+        &rt,
+        &(first, second, written),
+        &(Connection::Open, (Err(WireFault), Connection::Failed), TEN),
     );
     Ok(())
 }

@@ -65,6 +65,14 @@ impl Source for Clips {
     }
 }
 
+/// The whole of a clip.
+pub fn whole(id: [u8; 8]) -> Item {
+    Item {
+        id: ClipId::new(id),
+        part: None,
+    }
+}
+
 /// Three seconds of CLIP0001, from two seconds on.
 pub fn early_part() -> Item {
     Item {

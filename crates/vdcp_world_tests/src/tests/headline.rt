@@ -2,13 +2,14 @@
 ghost use Rattle.std.specs.Prelude.{◌≡◌, ◌+◌, ◌≤◌, ◌++◌, List, length, IfOk};
 ghost use Rattle.vdcp_value.specs.declared.part.Item.{Item};
 
-use super::clips::{Clips, ONE, Shelf, TWO};
+use super::clips::{Clips, ONE, TWO, whole};
+use super::seen::{expect_seen, plain, read};
 use std::alloc::{AllocError, Allocator, Global};
 use std::test::Fail;
 use vdcp_auto::Source;
 use vdcp_port::Catalogue;
-use vdcp_value::{ClipId, Item};
-use vdcp_world::{Event, World, read_script};
+use vdcp_value::Item;
+use vdcp_world::{Event, World};
 
 /// Lets events happen, as many as there is memory for: what went to air then, and how many events are
 /// reported.
@@ -26,17 +27,18 @@ fn billed<S: Source, C: Catalogue, A: Allocator + Copy>(
     Ok((aired, world.reported()))
 }
 
+/// As `billed`, of a script in a new world of two clips.
+fn billed_by(alloc: Global, script: &str) -> Result<(Vec<Item>, usize), Fail> {
+    let mut world = plain(alloc, Clips::two(ONE, TWO))?;
+    let events = read(alloc, script)?;
+    Ok(billed(alloc, &mut world, events.as_slice())?)
+}
+
 #[test]
 fn an_answer_that_is_lost_leaves_the_last_event_out(rt: HostRuntime) -> Result<(), Fail> {
-    let list = Clips::two(ONE, TWO);
-    let mut world = World::new(rt.alloc(), list, Shelf::two_clips()?, 0, 0x01, 3);
-    let first = Item {
-        id: ClipId::new(ONE),
-        part: None,
-    };
-    let events = read_script(rt.alloc(), "good 5\ntick\ndown\nlose-up\n")?;
-    let (aired, reported) = billed(rt.alloc(), &mut world, events.as_slice())?;
-    assert_eq!(rt; aired.as_slice(), [first].as_slice());
-    assert_eq!(rt; reported, 0);
+    let (aired, reported) = billed_by(rt.alloc(), "good 5\ntick\ndown\nlose-up\n")?;
+    let seen = (aired.as_slice(), reported);
+    let first = [whole(ONE)];
+    expect_seen(&rt, "the lost answer", &seen, &(first.as_slice(), 0));
     Ok(())
 }

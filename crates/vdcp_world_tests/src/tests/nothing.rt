@@ -1,12 +1,12 @@
 //! Events where they can't happen: the world goes on as if nothing had been.
 use super::clips::{Clips, ONE, Shelf, TWO};
-use super::seen::{confirming, plain, run};
+use super::seen::{Counts, aired, counts_of, expect_seen, log, new_world, plain, run, run_script};
 use std::alloc::Global;
 use std::process::Abort;
 use std::test::Fail;
-use vdcp_auto::{Exchange, Outcome};
+use vdcp_auto::Exchange;
 use vdcp_value::Item;
-use vdcp_world::{Burst, Event, World, read_script};
+use vdcp_world::{Burst, Event, World};
 
 /// The modes in which an event can't happen.
 #[derive(Clone, Copy, PartialEq, Eq)]
@@ -92,48 +92,35 @@ const ENDED: Place = Place {
     after: "good\n",
 };
 
-/// A new world of two clips, in confirm mode or in plain mode.
-fn new_world(alloc: Global, confirms: bool) -> Result<World<Clips, Shelf, Global>, Fail> {
-    let clips = Clips::two(ONE, TWO);
-    if confirms {
-        confirming(alloc, clips)
-    } else {
-        plain(alloc, clips)
-    }
-}
+static PLACES: [Place; 4] = [NEW, ASKED, ANSWERED, ENDED];
 
-/// A script happens.
-fn run_script(
-    alloc: Global,
-    world: &mut World<Clips, Shelf, Global>,
-    script: &str,
-) -> Result<(), Fail> {
-    let events = read_script(alloc, script)?;
-    Ok(run(world, events.as_slice())?)
-}
-
-/// The scripts of a place happen, and the event between them where there is one.
+/// The scripts of a place happen, and an event between them.
 fn run_place(
     alloc: Global,
     world: &mut World<Clips, Shelf, Global>,
     place: &Place,
-    event: Option<&str>,
+    event: &str,
 ) -> Result<(), Fail> {
     run_script(alloc, world, place.before)?;
-    if let Some(event) = event {
-        run_script(alloc, world, event)?;
-    }
+    run_script(alloc, world, event)?;
     run_script(alloc, world, place.after)
 }
 
+/// A new world of two clips, after the scripts of a place and an event between them.
+fn world_after(
+    alloc: Global,
+    confirms: bool,
+    place: &Place,
+    event: &str,
+) -> Result<World<Clips, Shelf, Global>, Fail> {
+    let mut world = new_world(alloc, confirms, Clips::two(ONE, TWO))?;
+    run_place(alloc, &mut world, place, event)?;
+    Ok(world)
+}
+
 /// All that is seen of a world.
-fn seen(world: &World<Clips, Shelf, Global>) -> (&[Item], usize, &[Exchange], Option<Outcome>) {
-    (
-        world.aired(),
-        world.reported(),
-        world.log(),
-        world.outcome(),
-    )
+fn seen(world: &World<Clips, Shelf, Global>) -> (&[Item], &[Exchange], Counts) {
+    (aired(world), log(world), counts_of(world))
 }
 
 /// With the event and without it, the same comes of a world.
@@ -144,43 +131,46 @@ fn expect_same(
     place: &Place,
     event: &str,
 ) -> Result<(), Fail> {
-    let mut without = new_world(alloc, confirms)?;
-    let mut with = new_world(alloc, confirms)?;
-    run_place(alloc, &mut without, place, None)?;
-    run_place(alloc, &mut with, place, Some(event))?;
-    assert_eq!(rt; seen(&with), seen(&without), "{event}");
+    let without = world_after(alloc, confirms, place, "")?;
+    let with = world_after(alloc, confirms, place, event)?;
+    expect_seen(rt, event, &seen(&with), &seen(&without));
     Ok(())
 }
 
 #[test]
 fn what_cannot_happen_changes_nothing(rt: HostRuntime) -> Result<(), Fail> {
-    for place in [NEW, ASKED, ANSWERED, ENDED] {
+    for place in PLACES.iter() {
         for (event, modes) in place.events {
-            expect_same(&rt, rt.alloc(), false, &place, event)?;
+            expect_same(&rt, rt.alloc(), false, place, event)?;
             if *modes == Modes::Both {
-                expect_same(&rt, rt.alloc(), true, &place, event)?;
+                expect_same(&rt, rt.alloc(), true, place, event)?;
             }
         }
     }
     Ok(())
 }
 
+/// How many exchanges there are after this much junk goes up, the command is lost and time runs out.
+fn exchanges_after_junk(alloc: Global, count: usize) -> Result<usize, Fail> {
+    let mut junk = Vec::new(alloc);
+    for _ in 0..count {
+        junk.push(0xFF)?;
+    }
+    let mut world = plain(alloc, Clips::two(ONE, TWO))?;
+    let events = [
+        Event::Tick,
+        Event::AlterUp(Burst::new(junk)),
+        Event::LoseDown,
+        Event::Timeout,
+    ];
+    run(&mut world, &events)?;
+    Ok(counts_of(&world).exchanges)
+}
+
 #[test]
 fn damage_has_a_limit(rt: HostRuntime) -> Result<(), Fail> {
-    for (count, exchanges) in [(1024, 0), (1025, 1)] {
-        let mut junk = Vec::new(rt.alloc());
-        for _ in 0..count {
-            junk.push(0xFF)?;
-        }
-        let mut world = plain(rt.alloc(), Clips::two(ONE, TWO))?;
-        let events = [
-            Event::Tick,
-            Event::AlterUp(Burst::new(junk)),
-            Event::LoseDown,
-            Event::Timeout,
-        ];
-        run(&mut world, &events)?;
-        assert_eq!(rt; world.log().len(), exchanges);
-    }
+    let within = exchanges_after_junk(rt.alloc(), 1024)?;
+    let beyond = exchanges_after_junk(rt.alloc(), 1025)?;
+    expect_seen(&rt, "1024 bytes and 1025", &(within, beyond), &(0, 1));
     Ok(())
 }

@@ -1,13 +1,15 @@
 //! What comes of a world, for some scripts.
-use super::clips::{Clips, EarlyPart, LatePart, NINE, ONE, Shelf, TWO, early_part};
-use super::seen::{Counts, confirming, counts_of, plain, run};
+use super::clips::{Clips, EarlyPart, LatePart, NINE, ONE, Shelf, TWO, early_part, whole};
+use super::seen::{
+    Counts, aired, by_the_frame, confirming, counts_of, expect_seen, log, plain, run_script,
+};
 use std::alloc::Global;
 use std::process::Abort;
 use std::test::Fail;
 use vdcp_auto::{Exchange, Heard, Outcome};
 use vdcp_value::{ClipId, Item};
 use vdcp_words::{Command, Reply};
-use vdcp_world::{World, read_script};
+use vdcp_world::World;
 
 /// An exchange.
 #[derive(Clone, Copy)]
@@ -19,6 +21,8 @@ enum Known {
     UnreadPlay,
     Played,
     State(u8),
+    /// CLIP0001 is the active clip.
+    FirstIsActive,
     Closed,
 }
 
@@ -32,6 +36,10 @@ impl Known {
             Known::UnreadPlay => (Command::Play, Some(Reply::Nak(0x04))),
             Known::Played => (Command::Play, Some(Reply::Ack)),
             Known::State(byte) => (Command::Status(0x01), Some(Reply::State(0x01, Some(byte)))),
+            Known::FirstIsActive => (
+                Command::ActiveId,
+                Some(Reply::Active(Some(ClipId::new(ONE)))),
+            ),
             Known::Closed => (Command::Close(0x01), Some(Reply::Ack)),
         };
         let heard = reply.map(|reply| Heard::Reply(reply));
@@ -53,14 +61,7 @@ struct Row {
     at: &'static [(usize, Known)],
 }
 
-fn whole(id: [u8; 8]) -> Item {
-    Item {
-        id: ClipId::new(id),
-        part: None,
-    }
-}
-
-const PLAIN: &'static [Row] = &[
+static PLAIN: [Row; 13] = [
     Row {
         name: "two clips in fourteen good rounds",
         clips: &[ONE, TWO],
@@ -189,6 +190,7 @@ const PLAIN: &'static [Row] = &[
         exchanges: 12,
         outcome: None,
         at: &[
+            (7, Known::FirstIsActive),
             (10, Known::State(0x84)),
             (11, Known::State(0x84)),
             (12, Known::Played),
@@ -206,7 +208,7 @@ const PLAIN: &'static [Row] = &[
     },
 ];
 
-const BY_THE_FRAME: Row = Row {
+static BY_THE_FRAME: Row = Row {
     name: "a cue takes three frames and a clip 250",
     clips: &[ONE],
     script: "round 4\nframe 2\nround\nframe\nround 3\nframe 249\nround\nframe\nround 2\n",
@@ -222,7 +224,7 @@ const BY_THE_FRAME: Row = Row {
     ],
 };
 
-const CONFIRMING: &'static [Row] = &[
+static CONFIRMING: [Row; 5] = [
     Row {
         name: "one clip in twelve good rounds",
         clips: &[ONE],
@@ -284,32 +286,33 @@ fn clips_of(row: &Row) -> Clips {
     }
 }
 
-/// What went to air begins with these clips, as whole items.
-fn airs_clips(rt: &impl Abort, aired: &[Item], clips: &[[u8; 8]], name: &str) {
+/// The first aired item that isn't the whole of the clip at its place: its place from 1, the item, and what was wanted.
+fn first_wrong_item(aired: &[Item], clips: &[[u8; 8]]) -> Option<(usize, Item, Item)> {
+    let mut place: usize = 0;
     for (item, id) in aired.iter().zip(clips) {
-        assert_eq!(rt; *item, whole(*id), "{name}");
+        place = place.saturating_add(1);
+        let wanted = whole(*id);
+        if *item != wanted {
+            return Some((place, *item, wanted));
+        }
     }
+    None
 }
 
-/// These exchanges stand in the log at their places.
-fn has_exchanges(rt: &impl Abort, log: &[Exchange], at: &[(usize, Known)], name: &str) {
+/// The first of these exchanges that doesn't stand in the log at its place: its place, what stands there, and what was
+/// wanted.
+fn first_wrong_exchange(
+    log: &[Exchange],
+    at: &[(usize, Known)],
+) -> Option<(usize, Option<Exchange>, Exchange)> {
     for (number, known) in at {
         let there = log.get(number.saturating_sub(1)).copied();
-        assert_eq!(rt; there, Some(known.exchange()), "{name}");
+        let wanted = known.exchange();
+        if there != Some(wanted) {
+            return Some((*number, there, wanted));
+        }
     }
-}
-
-/// The world is as the row says.
-fn is_as_in(rt: &impl Abort, world: &World<Clips, Shelf, Global>, row: &Row) {
-    let wanted = Counts {
-        aired: row.aired.len(),
-        reported: row.reported,
-        exchanges: row.exchanges,
-        outcome: row.outcome,
-    };
-    assert_eq!(rt; counts_of(world), wanted, "{}", row.name);
-    airs_clips(rt, world.aired(), row.aired, row.name);
-    has_exchanges(rt, world.log(), row.at, row.name);
+    None
 }
 
 /// The script's events happen, and the world is then as the row says.
@@ -319,15 +322,23 @@ fn check(
     mut world: World<Clips, Shelf, Global>,
     row: &Row,
 ) -> Result<(), Fail> {
-    let events = read_script(alloc, row.script)?;
-    run(&mut world, events.as_slice())?;
-    is_as_in(rt, &world, row);
+    run_script(alloc, &mut world, row.script)?;
+    let wanted = Counts {
+        aired: row.aired.len(),
+        reported: row.reported,
+        exchanges: row.exchanges,
+        outcome: row.outcome,
+    };
+    let wrong_item = first_wrong_item(aired(&world), row.aired);
+    let wrong_exchange = first_wrong_exchange(log(&world), row.at);
+    let seen = (counts_of(&world), wrong_item, wrong_exchange);
+    expect_seen(rt, row.name, &seen, &(wanted, None, None));
     Ok(())
 }
 
 #[test]
 fn scripts_come_to_their_rows_in_plain_mode(rt: HostRuntime) -> Result<(), Fail> {
-    for row in PLAIN {
+    for row in PLAIN.iter() {
         let world = plain(rt.alloc(), clips_of(row))?;
         check(&rt, rt.alloc(), world, row)?;
     }
@@ -335,43 +346,15 @@ fn scripts_come_to_their_rows_in_plain_mode(rt: HostRuntime) -> Result<(), Fail>
 }
 
 #[test]
-fn the_active_clip_is_asked_for(rt: HostRuntime) -> Result<(), Fail> {
-    let events = read_script(rt.alloc(), "good 6\nround 3\nready\nround\ntake\nround 2\n")?;
-    let mut world = World::new(
-        rt.alloc(),
-        Clips::two(ONE, TWO),
-        Shelf::two_clips()?,
-        0,
-        0x01,
-        3,
-    );
-    world.run(events.as_slice())?;
-    let wanted = Exchange {
-        command: Command::ActiveId,
-        heard: Some(Heard::Reply(Reply::Active(Some(ClipId::new(ONE))))),
-    };
-    assert_eq!(rt; world.log().get(6).copied(), Some(wanted));
-    Ok(())
-}
-
-#[test]
 fn scripts_come_to_their_rows_by_the_frame(rt: HostRuntime) -> Result<(), Fail> {
-    let row = BY_THE_FRAME;
-    let world = World::with_clock(
-        rt.alloc(),
-        clips_of(&row),
-        Shelf::two_clips()?,
-        0,
-        0x01,
-        3,
-        3,
-    );
-    check(&rt, rt.alloc(), world, &row)
+    let row = &BY_THE_FRAME;
+    let world = by_the_frame(rt.alloc(), clips_of(row))?;
+    check(&rt, rt.alloc(), world, row)
 }
 
 #[test]
 fn scripts_come_to_their_rows_in_confirm_mode(rt: HostRuntime) -> Result<(), Fail> {
-    for row in CONFIRMING {
+    for row in CONFIRMING.iter() {
         let world = confirming(rt.alloc(), clips_of(row))?;
         check(&rt, rt.alloc(), world, row)?;
     }
@@ -380,44 +363,46 @@ fn scripts_come_to_their_rows_in_confirm_mode(rt: HostRuntime) -> Result<(), Fai
 
 #[test]
 fn a_part_airs_as_a_part(rt: HostRuntime) -> Result<(), Fail> {
-    let events = read_script(rt.alloc(), "good 14\n")?;
     let mut world = plain(rt.alloc(), EarlyPart::new())?;
-    run(&mut world, events.as_slice())?;
-    assert_eq!(rt; world.aired(), [early_part(), whole(TWO)].as_slice());
+    run_script(rt.alloc(), &mut world, "good 14\n")?;
     let wanted = Counts {
         aired: 2,
         reported: 2,
         exchanges: 14,
         outcome: Some(Outcome::Done),
     };
-    assert_eq!(rt; counts_of(&world), wanted);
+    let both = [early_part(), whole(TWO)];
+    let seen = (aired(&world), counts_of(&world));
+    expect_seen(&rt, "an early part", &seen, &(both.as_slice(), wanted));
     Ok(())
 }
 
 /// The late part is refused after this many exchanges.
-fn refused_after(exchanges: usize) -> Counts {
-    Counts {
+fn expect_refused_after(
+    rt: &impl Abort,
+    alloc: Global,
+    mut world: World<LatePart, Shelf, Global>,
+    exchanges: usize,
+) -> Result<(), Fail> {
+    run_script(alloc, &mut world, "good 20\n")?;
+    let wanted = Counts {
         aired: 0,
         reported: 0,
         exchanges,
         outcome: Some(Outcome::Refused(0)),
-    }
+    };
+    expect_seen(rt, "a late part", &counts_of(&world), &wanted);
+    Ok(())
 }
 
 #[test]
 fn a_part_past_the_clips_end_is_refused_in_plain_mode(rt: HostRuntime) -> Result<(), Fail> {
-    let events = read_script(rt.alloc(), "good 20\n")?;
-    let mut world = plain(rt.alloc(), LatePart::new())?;
-    run(&mut world, events.as_slice())?;
-    assert_eq!(rt; counts_of(&world), refused_after(4));
-    Ok(())
+    let world = plain(rt.alloc(), LatePart::new())?;
+    expect_refused_after(&rt, rt.alloc(), world, 4)
 }
 
 #[test]
 fn a_part_past_the_clips_end_is_refused_in_confirm_mode(rt: HostRuntime) -> Result<(), Fail> {
-    let events = read_script(rt.alloc(), "good 20\n")?;
-    let mut world = confirming(rt.alloc(), LatePart::new())?;
-    run(&mut world, events.as_slice())?;
-    assert_eq!(rt; counts_of(&world), refused_after(10));
-    Ok(())
+    let world = confirming(rt.alloc(), LatePart::new())?;
+    expect_refused_after(&rt, rt.alloc(), world, 10)
 }
