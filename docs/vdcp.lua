@@ -1,5 +1,5 @@
--- VDCP in Wireshark; tools/dissector makes this file from the tables of docs/PROTOCOL.md. It goes into the folder of personal
--- Lua plugins (Help, About, Folders), or tshark is given it: tshark -X lua_script:docs/vdcp.lua. What comes by TCP port 7400 is
+-- VDCP in Wireshark: the words and the state byte of docs/PROTOCOL.md. It goes into the folder of personal Lua plugins
+-- (Help, About, Folders), or tshark is given it: tshark -X lua_script:docs/vdcp.lua. What comes by TCP port 7400 is
 -- read by it, and what comes by another one by Decode As, or tshark -d tcp.port==N,vdcp.
 --
 -- A segment of TCP is taken for a burst. So a message that two of them carry is shown as cut.
