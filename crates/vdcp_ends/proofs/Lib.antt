@@ -1,0 +1,12 @@
+mod Bytes
+mod Commands
+mod Serving
+mod Queues
+mod Joining
+mod Noting
+mod OneRun
+mod Logging
+mod Headline
+mod SeveralRuns
+mod Exchanging
+mod Examples
