@@ -1,8 +1,10 @@
 -- Worked rows of the subcommands that read files, computed from the definitions.
 use Rattle.hex.specs.Hex.{decode_pairs, encode_with}
 use Rattle.std.proofs.Common.{◌≡◌, ℕ, List, [], ◌∷◌, refl, Bor}
+use Rattle.std.specs.Char.{encode_utf8}
 use Rattle.std.specs.Fmt.{digits}
 use Rattle.std.specs.Prelude.{codes}
+use Rattle.std.specs.Str.{chars}
 use Rattle.vdcp_files.specs.Vectors.{columns, finding_of_row, findings_of, got, hex, right, too_many, vectors_text}
 use Rattle.vdcp_text.specs.Failure.{failure_line}
 
@@ -10,7 +12,7 @@ abbrev file_name : Bor (List ℕ)
 file_name = record { ref_ptr = (0, 0); now = codes "FILE" }
 
 too_many_line : failure_line (too_many file_name) ≡ codes "vdcp: FILE: row 10001: too many\n"
-unfolding digits
+unfolding chars encode_utf8 digits
 too_many_line = refl
 
 no_burst_is_clean : finding_of_row ([] ∷ codes "clean" ∷ []) ≡ right

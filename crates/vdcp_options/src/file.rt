@@ -1,6 +1,7 @@
 ghost use Rattle.clap.specs.Matches.{first_value, found_of};
 ghost use Rattle.std.specs.Prelude.{◌≡◌, ◌⊎◌, ◌++◌, ℕ, List, Some, IfOk, IfErr, codes};
 ghost use Rattle.vdcp_text.specs.Failure.{failure_text};
+ghost use Rattle.vdcp_text.specs.Text.{shown_name};
 ghost use Rattle.vdcp_text.specs.declared.failure.Failure.TheVariants as failures;
 
 use clap::ArgMatches;
@@ -20,7 +21,7 @@ pub fn open_file<'a>(
         → IfOk result (λ input. input.name.now ≡ name) }
     ensures faults { (name : List ℕ) → first_value (found_of matches.now) argument.now ≡ Some name
         → IfErr result (λ failure. (failure ≡ Failure.Memory)
-        ⊎ (failure_text failure ≡ name ++ codes ": cannot open")) }
+        ⊎ (failure_text failure ≡ shown_name name ++ codes ": cannot open")) }
 {
     let name = matches.get_str(argument).unwrap_or("");
     match File::open(rt, name) {

@@ -1,8 +1,10 @@
 -- Worked rows of the program, computed from the definitions.
 use Rattle.hex.specs.Hex.{decode_pairs, encode_lower, encode_with}
 use Rattle.std.proofs.Common.{◌≡◌, ℕ, List, [], ◌∷◌, refl, ap, Bor, arith}
+use Rattle.std.specs.Char.{encode_utf8}
 use Rattle.std.specs.Fmt.{digits}
 use Rattle.std.specs.Prelude.{codes}
+use Rattle.std.specs.Str.{chars}
 use Rattle.vdcp_text.specs.Failure.{failure_line}
 use Rattle.vdcp_text.specs.Make.{Names, NamesNone}
 use Rattle.vdcp_text.specs.Text.{line}
@@ -21,13 +23,22 @@ no_command_line : failure_line failures.Word ≡ codes "vdcp: word\n"
 no_command_line = refl
 
 not_opened_line : failure_line (failures.Open file_name) ≡ codes "vdcp: FILE: cannot open\n"
+unfolding chars encode_utf8
 not_opened_line = refl
 
+abbrev escape_name : Bor (List ℕ)
+escape_name = record { ref_ptr = (0, 0); now = 0x61 ∷ 0x1B ∷ codes "[2J.csv" }
+
+escape_line : failure_line (failures.Open escape_name) ≡ codes "vdcp: a\\x1b[2J.csv: cannot open\n"
+unfolding chars encode_utf8 encode_with
+escape_line = refl
+
 refused_row_line : failure_line (failures.Row file_name 2 rows.Twice) ≡ codes "vdcp: FILE: row 2: twice\n"
-unfolding digits
+unfolding chars encode_utf8 digits
 refused_row_line = refl
 
 not_written_line : failure_line (failures.Write file_name) ≡ codes "vdcp: FILE: write\n"
+unfolding chars encode_utf8
 not_written_line = refl
 
 no_address_line : failure_line failures.Address ≡ codes "vdcp: address\n"

@@ -1,9 +1,9 @@
 -- The line that reports a failure, and its exit status.
 use Rattle.std.specs.Prelude.{ℕ, List, ◌++◌, codes, decimal}
-use Rattle.vdcp_text.specs.Text.{line}
+use Rattle.vdcp_text.specs.Text.{line, shown_name}
 use Rattle.vdcp_text.specs.declared.failure.Failure.{Failure}
-use Rattle.vdcp_text.specs.declared.failure.Failure.TheVariants.{Hex, Word, Arguments, Text, Open, Read, Row, ScriptLine, TooManyEvents, NotText, Write, IsList, Exists, InUse, JournalRow, MayHaveAired, NoEvent, Memory, Writer}
-use Rattle.vdcp_text.specs.declared.failure.Failure.TheVariants.{Address, Connect, NotEmpty, Bind, LineFailed, LineClosed, Spent}
+use Rattle.vdcp_text.specs.declared.failure.Failure.TheVariants.{Hex, Word, Arguments, Text, Open, Read, Row, ScriptLine, TooManyEvents, NotText, Empty, Write, IsList, Exists, InUse, JournalRow, NotTheList, MayHaveAired, NoEvent, Memory, Writer}
+use Rattle.vdcp_text.specs.declared.failure.Failure.TheVariants.{Address, Connect, NotEmpty, Bind, LineFailed, LineClosed, Unanswered, Spent}
 use Rattle.vdcp_text.specs.declared.failure.JournalFault.{JournalFault}
 use Rattle.vdcp_text.specs.declared.failure.JournalFault.TheVariants as journal
 use Rattle.vdcp_text.specs.declared.failure.ScriptLineFault.{ScriptLineFault}
@@ -23,11 +23,13 @@ status_of (Row name row fault) = 1
 status_of (ScriptLine name number fault) = 1
 status_of (TooManyEvents name) = 1
 status_of (NotText name) = 1
+status_of (Empty name) = 1
 status_of (Write name) = 3
 status_of (IsList name) = 3
 status_of (Exists name) = 3
 status_of (InUse name) = 3
 status_of (JournalRow name row fault) = 1
+status_of (NotTheList name) = 1
 status_of (MayHaveAired event) = 1
 status_of (NoEvent event) = 1
 status_of Address = 2
@@ -36,6 +38,7 @@ status_of NotEmpty = 1
 status_of Bind = 3
 status_of LineFailed = 3
 status_of LineClosed = 3
+status_of Unanswered = 3
 status_of Spent = 3
 status_of Memory = 3
 status_of Writer = 3
@@ -46,11 +49,13 @@ row_fault_text rows.Id = codes "id"
 row_fault_text rows.Time = codes "time"
 row_fault_text rows.Twice = codes "twice"
 row_fault_text rows.TooMany = codes "too many"
+row_fault_text rows.Long = codes "long"
 
 abbrev pub script_line_fault_text : ScriptLineFault → List ℕ
 script_line_fault_text lines.Word = codes "word"
 script_line_fault_text lines.Number = codes "number"
 script_line_fault_text lines.Hex = codes "hex"
+script_line_fault_text lines.Long = codes "long"
 
 abbrev pub journal_fault_text : JournalFault → List ℕ
 journal_fault_text journal.Empty = codes "empty"
@@ -70,6 +75,7 @@ journal_fault_text journal.Detail = codes "detail"
 journal_fault_text journal.Unawaited = codes "unawaited"
 journal_fault_text journal.Event = codes "event"
 journal_fault_text journal.Outcome = codes "outcome"
+journal_fault_text journal.Long = codes "long"
 
 -- the words of a failure; those of a failed writer are never printed
 abbrev pub failure_text : Failure → List ℕ
@@ -77,19 +83,21 @@ failure_text Hex = codes "hex"
 failure_text Word = codes "word"
 failure_text Arguments = codes "arguments"
 failure_text Text = codes "text"
-failure_text (Open name) = name.now ++ codes ": cannot open"
-failure_text (Read name) = name.now ++ codes ": read"
-failure_text (Row name row fault) = name.now ++ codes ": row " ++ decimal row ++ codes ": " ++ row_fault_text fault
+failure_text (Open name) = shown_name name.now ++ codes ": cannot open"
+failure_text (Read name) = shown_name name.now ++ codes ": read"
+failure_text (Row name row fault) = shown_name name.now ++ codes ": row " ++ decimal row ++ codes ": " ++ row_fault_text fault
 failure_text (ScriptLine name number fault) =
-    name.now ++ codes ": line " ++ decimal number ++ codes ": " ++ script_line_fault_text fault
-failure_text (TooManyEvents name) = name.now ++ codes ": too many"
-failure_text (NotText name) = name.now ++ codes ": text"
-failure_text (Write name) = name.now ++ codes ": write"
-failure_text (IsList name) = name.now ++ codes ": exists as the list"
-failure_text (Exists name) = name.now ++ codes ": exists"
-failure_text (InUse name) = name.now ++ codes ": in use"
+    shown_name name.now ++ codes ": line " ++ decimal number ++ codes ": " ++ script_line_fault_text fault
+failure_text (TooManyEvents name) = shown_name name.now ++ codes ": too many"
+failure_text (NotText name) = shown_name name.now ++ codes ": text"
+failure_text (Empty name) = shown_name name.now ++ codes ": empty"
+failure_text (Write name) = shown_name name.now ++ codes ": write"
+failure_text (IsList name) = shown_name name.now ++ codes ": exists as the list"
+failure_text (Exists name) = shown_name name.now ++ codes ": exists"
+failure_text (InUse name) = shown_name name.now ++ codes ": in use"
 failure_text (JournalRow name row fault) =
-    name.now ++ codes ": row " ++ decimal row ++ codes ": " ++ journal_fault_text fault
+    shown_name name.now ++ codes ": row " ++ decimal row ++ codes ": " ++ journal_fault_text fault
+failure_text (NotTheList name) = shown_name name.now ++ codes ": not the journal's list"
 failure_text (MayHaveAired event) = codes "event " ++ decimal event ++ codes " may have aired"
 failure_text (NoEvent event) = codes "no event " ++ decimal event
 failure_text Address = codes "address"
@@ -98,6 +106,7 @@ failure_text NotEmpty = codes "port not empty"
 failure_text Bind = codes "cannot bind"
 failure_text LineFailed = codes "line failed"
 failure_text LineClosed = codes "line closed"
+failure_text Unanswered = codes "never answered"
 failure_text Spent = codes "spent"
 failure_text Memory = codes "memory"
 failure_text Writer = codes "write"

@@ -1,6 +1,8 @@
 -- Messages, ends and whole readings as text.
-use Rattle.std.specs.Prelude.{ℕ, Bool, true, false, List, [], ◌∷◌, ◌++◌, codes, decimal}
+use Rattle.std.specs.Char.{encode_utf8, is_control}
+use Rattle.std.specs.Prelude.{ℕ, Bool, true, false, cond, List, [], ◌∷◌, ◌++◌, codes, decimal}
 use Rattle.std.specs.List.{flat_map}
+use Rattle.std.specs.Str.{chars}
 use Rattle.hex.specs.Hex.{encode_lower}
 use Rattle.vdcp_frame.specs.declared.message.Fault.TheVariants.{BadStart, BadCount, BadSum, Long}
 use Rattle.vdcp_frame.specs.Message.{Content, ack, nak, framed}
@@ -10,6 +12,14 @@ use Rattle.vdcp_text.specs.Meaning.{meaning_text}
 -- a byte as two lower-case hexadecimal digits
 abbrev pub byte_text : ℕ → List ℕ
 byte_text byte = encode_lower (byte ∷ [])
+
+-- a character of a name as it is shown: a control character by its number, so that none reaches a terminal
+abbrev pub shown_char : ℕ → List ℕ
+shown_char c = cond (is_control c) (codes "\\x" ++ byte_text c) (encode_utf8 c)
+
+-- a file's name as it is shown: as it was given, but for its control characters
+abbrev pub shown_name : List ℕ → List ℕ
+shown_name name = flat_map shown_char (chars name)
 
 -- data as lower-case hexadecimal digits, or a dash where there is none
 abbrev pub data_text : List ℕ → List ℕ

@@ -1,6 +1,7 @@
 ghost use Rattle.std.specs.Io.KnownBytes.{Appends, Keeps};
 ghost use Rattle.std.specs.Prelude.{◌≡◌, ◌⊎◌, ◌<◌};
 
+use crate::name::NameText;
 use std::alloc::AllocError;
 use std::{fmt, io};
 
@@ -27,6 +28,8 @@ pub enum Failure<'a> {
     TooManyEvents(&'a str),
     /// The script or capture of this name isn't UTF-8.
     NotText(&'a str),
+    /// The capture of this name has no message.
+    Empty(&'a str),
     /// The file of this name can't be written.
     Write(&'a str),
     /// The file of this name, which was to be made, is the list.
@@ -37,6 +40,8 @@ pub enum Failure<'a> {
     InUse(&'a str),
     /// A row of the journal of this name, counted from 1, is refused.
     JournalRow(&'a str, usize, JournalFault),
+    /// The list of this name isn't the journal's.
+    NotTheList(&'a str),
     /// The event of this number, counted from 0, may have aired.
     MayHaveAired(usize),
     /// The list has no event of this number, counted from 0.
@@ -53,6 +58,8 @@ pub enum Failure<'a> {
     LineFailed,
     /// The other end has closed the line.
     LineClosed,
+    /// The other end has answered nothing.
+    Unanswered,
     /// The listens are used up.
     Spent,
     /// Memory was refused.
@@ -88,13 +95,14 @@ impl Failure<'_> {
         match self {
             Failure::Hex | Failure::Word | Failure::Arguments | Failure::NotEmpty => 1,
             Failure::Row(..) | Failure::ScriptLine(..) | Failure::JournalRow(..) => 1,
-            Failure::TooManyEvents(_) | Failure::NotText(_) => 1,
+            Failure::TooManyEvents(_) | Failure::NotText(_) | Failure::Empty(_) => 1,
+            Failure::NotTheList(_) => 1,
             Failure::MayHaveAired(_) | Failure::NoEvent(_) => 1,
             Failure::Text | Failure::Address => 2,
             Failure::Open(_) | Failure::Read(_) | Failure::Write(_) | Failure::IsList(_) => 3,
             Failure::Exists(_) | Failure::InUse(_) => 3,
             Failure::Connect | Failure::Bind => 3,
-            Failure::LineFailed | Failure::LineClosed | Failure::Spent => 3,
+            Failure::LineFailed | Failure::LineClosed | Failure::Unanswered | Failure::Spent => 3,
             Failure::Memory | Failure::Writer => 3,
         }
     }
@@ -108,32 +116,43 @@ impl fmt::Display for Failure<'_> {
 
     fn fmt<W: fmt::Write>(&self, f: &mut fmt::Formatter<W>) -> fmt::Result {
         match *self {
-            Failure::Hex => write!(f, "hex"),
-            Failure::Word => write!(f, "word"),
-            Failure::Arguments => write!(f, "arguments"),
-            Failure::Text => write!(f, "text"),
-            Failure::Open(name) => write!(f, "{name}: cannot open"),
-            Failure::Read(name) => write!(f, "{name}: read"),
-            Failure::Row(name, row, fault) => write!(f, "{name}: row {row}: {fault}"),
-            Failure::ScriptLine(name, line, fault) => write!(f, "{name}: line {line}: {fault}"),
-            Failure::TooManyEvents(name) => write!(f, "{name}: too many"),
-            Failure::NotText(name) => write!(f, "{name}: text"),
-            Failure::Write(name) => write!(f, "{name}: write"),
-            Failure::IsList(name) => write!(f, "{name}: exists as the list"),
-            Failure::Exists(name) => write!(f, "{name}: exists"),
-            Failure::InUse(name) => write!(f, "{name}: in use"),
-            Failure::JournalRow(name, row, fault) => write!(f, "{name}: row {row}: {fault}"),
+            Failure::Hex => f.write_str("hex"),
+            Failure::Word => f.write_str("word"),
+            Failure::Arguments => f.write_str("arguments"),
+            Failure::Text => f.write_str("text"),
+            Failure::Open(name) => write!(f, "{}: cannot open", NameText(name)),
+            Failure::Read(name) => write!(f, "{}: read", NameText(name)),
+            Failure::Row(name, row, fault) => write!(f, "{}: row {row}: {fault}", NameText(name)),
+            Failure::ScriptLine(name, line, fault) => write!(
+                f,
+                "{}: line {line}: {fault}",
+                NameText(name)
+            ),
+            Failure::TooManyEvents(name) => write!(f, "{}: too many", NameText(name)),
+            Failure::NotText(name) => write!(f, "{}: text", NameText(name)),
+            Failure::Empty(name) => write!(f, "{}: empty", NameText(name)),
+            Failure::Write(name) => write!(f, "{}: write", NameText(name)),
+            Failure::IsList(name) => write!(f, "{}: exists as the list", NameText(name)),
+            Failure::Exists(name) => write!(f, "{}: exists", NameText(name)),
+            Failure::InUse(name) => write!(f, "{}: in use", NameText(name)),
+            Failure::JournalRow(name, row, fault) => write!(
+                f,
+                "{}: row {row}: {fault}",
+                NameText(name)
+            ),
+            Failure::NotTheList(name) => write!(f, "{}: not the journal's list", NameText(name)),
             Failure::MayHaveAired(event) => write!(f, "event {event} may have aired"),
             Failure::NoEvent(event) => write!(f, "no event {event}"),
-            Failure::Address => write!(f, "address"),
-            Failure::Connect => write!(f, "cannot connect"),
-            Failure::NotEmpty => write!(f, "port not empty"),
-            Failure::Bind => write!(f, "cannot bind"),
-            Failure::LineFailed => write!(f, "line failed"),
-            Failure::LineClosed => write!(f, "line closed"),
-            Failure::Spent => write!(f, "spent"),
-            Failure::Memory => write!(f, "memory"),
-            Failure::Writer => write!(f, "write"),
+            Failure::Address => f.write_str("address"),
+            Failure::Connect => f.write_str("cannot connect"),
+            Failure::NotEmpty => f.write_str("port not empty"),
+            Failure::Bind => f.write_str("cannot bind"),
+            Failure::LineFailed => f.write_str("line failed"),
+            Failure::LineClosed => f.write_str("line closed"),
+            Failure::Unanswered => f.write_str("never answered"),
+            Failure::Spent => f.write_str("spent"),
+            Failure::Memory => f.write_str("memory"),
+            Failure::Writer => f.write_str("write"),
         }
     }
 }
@@ -162,6 +181,8 @@ pub enum RowFault {
     Twice,
     /// It is the first past the limit.
     TooMany,
+    /// It has more than 64 KiB.
+    Long,
 }
 
 impl fmt::Display for RowFault {
@@ -172,11 +193,12 @@ impl fmt::Display for RowFault {
 
     fn fmt<W: fmt::Write>(&self, f: &mut fmt::Formatter<W>) -> fmt::Result {
         match self {
-            RowFault::Columns => write!(f, "columns"),
-            RowFault::Id => write!(f, "id"),
-            RowFault::Time => write!(f, "time"),
-            RowFault::Twice => write!(f, "twice"),
-            RowFault::TooMany => write!(f, "too many"),
+            RowFault::Columns => f.write_str("columns"),
+            RowFault::Id => f.write_str("id"),
+            RowFault::Time => f.write_str("time"),
+            RowFault::Twice => f.write_str("twice"),
+            RowFault::TooMany => f.write_str("too many"),
+            RowFault::Long => f.write_str("long"),
         }
     }
 }
@@ -190,6 +212,8 @@ pub enum ScriptLineFault {
     Number,
     /// Its bytes aren't such as it can have.
     Hex,
+    /// It has more than 64 KiB.
+    Long,
 }
 
 impl fmt::Display for ScriptLineFault {
@@ -200,9 +224,10 @@ impl fmt::Display for ScriptLineFault {
 
     fn fmt<W: fmt::Write>(&self, f: &mut fmt::Formatter<W>) -> fmt::Result {
         match self {
-            ScriptLineFault::Word => write!(f, "word"),
-            ScriptLineFault::Number => write!(f, "number"),
-            ScriptLineFault::Hex => write!(f, "hex"),
+            ScriptLineFault::Word => f.write_str("word"),
+            ScriptLineFault::Number => f.write_str("number"),
+            ScriptLineFault::Hex => f.write_str("hex"),
+            ScriptLineFault::Long => f.write_str("long"),
         }
     }
 }
@@ -244,6 +269,8 @@ pub enum JournalFault {
     Event,
     /// It has no outcome, or one that the controller doesn't come to there.
     Outcome,
+    /// It has more than 64 KiB.
+    Long,
 }
 
 impl fmt::Display for JournalFault {
@@ -254,23 +281,24 @@ impl fmt::Display for JournalFault {
 
     fn fmt<W: fmt::Write>(&self, f: &mut fmt::Formatter<W>) -> fmt::Result {
         match self {
-            JournalFault::Empty => write!(f, "empty"),
-            JournalFault::Columns => write!(f, "columns"),
-            JournalFault::Time => write!(f, "time"),
-            JournalFault::Word => write!(f, "word"),
-            JournalFault::Digest => write!(f, "digest"),
-            JournalFault::Mode => write!(f, "mode"),
-            JournalFault::Number => write!(f, "number"),
-            JournalFault::List => write!(f, "list"),
-            JournalFault::Unit => write!(f, "unit"),
-            JournalFault::Port => write!(f, "port"),
-            JournalFault::Limit => write!(f, "limit"),
-            JournalFault::Command => write!(f, "command"),
-            JournalFault::Reply => write!(f, "reply"),
-            JournalFault::Detail => write!(f, "detail"),
-            JournalFault::Unawaited => write!(f, "unawaited"),
-            JournalFault::Event => write!(f, "event"),
-            JournalFault::Outcome => write!(f, "outcome"),
+            JournalFault::Empty => f.write_str("empty"),
+            JournalFault::Columns => f.write_str("columns"),
+            JournalFault::Time => f.write_str("time"),
+            JournalFault::Word => f.write_str("word"),
+            JournalFault::Digest => f.write_str("digest"),
+            JournalFault::Mode => f.write_str("mode"),
+            JournalFault::Number => f.write_str("number"),
+            JournalFault::List => f.write_str("list"),
+            JournalFault::Unit => f.write_str("unit"),
+            JournalFault::Port => f.write_str("port"),
+            JournalFault::Limit => f.write_str("limit"),
+            JournalFault::Command => f.write_str("command"),
+            JournalFault::Reply => f.write_str("reply"),
+            JournalFault::Detail => f.write_str("detail"),
+            JournalFault::Unawaited => f.write_str("unawaited"),
+            JournalFault::Event => f.write_str("event"),
+            JournalFault::Outcome => f.write_str("outcome"),
+            JournalFault::Long => f.write_str("long"),
         }
     }
 }

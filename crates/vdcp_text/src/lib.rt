@@ -1,12 +1,12 @@
 //! Messages, items, outcomes, exchanges and failures as text, and the subcommands `show` and `make`, which
 //! need no more than that.
 //!
-//! `HexText`, `ByteText`, `DataText`, `MessageText`, `MeaningText`, `EndText`, `ItemText`, `OutcomeText` and
-//! `ExchangeText` are shown by `Display`, each with its exact text. A `Failure` is why a subcommand gives up:
+//! `HexText`, `ByteText`, `DataText`, `MessageText`, `MeaningText`, `EndText`, `ItemText`, `OutcomeText`,
+//! `ExchangeText` and `NameText` are shown by `Display`, each with its exact text. A `Failure` is why a subcommand gives up:
 //! its `Display` is what standard error gets, and `Failure::report` gives the exit status. `do_show` shows a
 //! burst's reading, and `do_make` makes the bytes of a command.
 //!
-//! Files: `text` (bytes, messages and ends), `item`, `outcome`, `exchange` (what their names say, as text), `failure`
+//! Files: `text` (bytes, messages and ends), `name` (of a file), `item`, `outcome`, `exchange` (what their names say, as text), `failure`
 //! (why a subcommand gives up, as a line and a status), `show` and `make` (a subcommand each).
 #![tactic(auto)]
 
@@ -14,6 +14,7 @@ mod exchange;
 mod failure;
 mod item;
 mod make;
+mod name;
 mod outcome;
 mod show;
 mod text;
@@ -22,6 +23,7 @@ pub use exchange::ExchangeText;
 pub use failure::{Failure, JournalFault, RowFault, ScriptLineFault};
 pub use item::ItemText;
 pub use make::do_make;
+pub use name::NameText;
 pub use outcome::OutcomeText;
 pub use show::do_show;
 pub use text::{ByteText, DataText, EndText, HexText, MeaningText, MessageText};

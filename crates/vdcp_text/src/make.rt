@@ -79,24 +79,58 @@ fn command_of(word: &str, arguments: &[&str]) -> Result<Command, Failure<'static
     ensures err { IfErr result (IsMakeFault word.now) }
 {
     match word {
-        "open" => {
-            let [port, lock] = arguments else {
-                return Err(Failure::Arguments);
-            };
-            Ok(Command::Open(byte_of(port)?, byte_of(lock)?))
-        }
+        "open" => open(arguments),
         "close" => Ok(Command::Close(byte_of(only(arguments)?)?)),
         "select" => Ok(Command::Select(byte_of(only(arguments)?)?)),
-        "cue" => Ok(Command::PlayCue(id_of(only(arguments)?)?)),
+        "cue" => cue(arguments),
         "cue-data" => cue_data(arguments),
         "play" => alone(Command::Play, arguments),
         "stop" => alone(Command::Stop, arguments),
         "status" => Ok(Command::Status(byte_of(only(arguments)?)?)),
         "active" => alone(Command::ActiveId, arguments),
-        "exists" => Ok(Command::IdRequest(id_of(only(arguments)?)?)),
-        "size" => Ok(Command::IdSize(id_of(only(arguments)?)?)),
+        "exists" => exists(arguments),
+        "size" => size(arguments),
         _ => Err(Failure::Word),
     }
+}
+
+// The command of this name, of its arguments.
+fn open(arguments: &[&str]) -> Result<Command, Failure<'static>>
+    ensures ok { IfOk result (Names (words_of (codes "open") arguments.now)) }
+    ensures unnamed { OnErr result (NamesNone (words_of (codes "open") arguments.now)) }
+    ensures err { IfErr result (λ e. e ≡ Failure.Arguments) }
+{
+    let [port, lock] = arguments else {
+        return Err(Failure::Arguments);
+    };
+    Ok(Command::Open(byte_of(port)?, byte_of(lock)?))
+}
+
+// The command of this name, of its arguments.
+fn cue(arguments: &[&str]) -> Result<Command, Failure<'static>>
+    ensures ok { IfOk result (Names (words_of (codes "cue") arguments.now)) }
+    ensures unnamed { OnErr result (NamesNone (words_of (codes "cue") arguments.now)) }
+    ensures err { IfErr result (λ e. e ≡ Failure.Arguments) }
+{
+    Ok(Command::PlayCue(id_of(only(arguments)?)?))
+}
+
+// The command of this name, of its arguments.
+fn exists(arguments: &[&str]) -> Result<Command, Failure<'static>>
+    ensures ok { IfOk result (Names (words_of (codes "exists") arguments.now)) }
+    ensures unnamed { OnErr result (NamesNone (words_of (codes "exists") arguments.now)) }
+    ensures err { IfErr result (λ e. e ≡ Failure.Arguments) }
+{
+    Ok(Command::IdRequest(id_of(only(arguments)?)?))
+}
+
+// The command of this name, of its arguments.
+fn size(arguments: &[&str]) -> Result<Command, Failure<'static>>
+    ensures ok { IfOk result (Names (words_of (codes "size") arguments.now)) }
+    ensures unnamed { OnErr result (NamesNone (words_of (codes "size") arguments.now)) }
+    ensures err { IfErr result (λ e. e ≡ Failure.Arguments) }
+{
+    Ok(Command::IdSize(id_of(only(arguments)?)?))
 }
 
 // The CUE WITH DATA of an ID and two time codes.

@@ -3,13 +3,18 @@ use std::process::Abort;
 use vdcp_text::{Failure, JournalFault, RowFault, ScriptLineFault};
 
 // Each failure, with the line that tells it and its status.
-static ROWS: [(Failure<'static>, &str, u8); 37] = [
+static ROWS: [(Failure<'static>, &str, u8); 44] = [
     (Failure::Hex, "vdcp: hex\n", 1),
     (Failure::Word, "vdcp: word\n", 1),
     (Failure::Arguments, "vdcp: arguments\n", 1),
     (Failure::Text, "vdcp: text\n", 2),
     (Failure::Open("a.csv"), "vdcp: a.csv: cannot open\n", 3),
     (Failure::Open("a b"), "vdcp: a b: cannot open\n", 3),
+    (
+        Failure::Open("\x1b[2J\ta\u{9b}\u{e9}\x7f"),
+        "vdcp: \\x1b[2J\\x09a\\x9b\u{e9}\\x7f: cannot open\n",
+        3,
+    ),
     (Failure::Read("a.csv"), "vdcp: a.csv: read\n", 3),
     (
         Failure::Row("a.csv", 1, RowFault::Columns),
@@ -47,6 +52,16 @@ static ROWS: [(Failure<'static>, &str, u8); 37] = [
         1,
     ),
     (
+        Failure::Row("a.csv", 3, RowFault::Long),
+        "vdcp: a.csv: row 3: long\n",
+        1,
+    ),
+    (
+        Failure::ScriptLine("a.txt", 4, ScriptLineFault::Long),
+        "vdcp: a.txt: line 4: long\n",
+        1,
+    ),
+    (
         Failure::ScriptLine("a.txt", 1, ScriptLineFault::Word),
         "vdcp: a.txt: line 1: word\n",
         1,
@@ -67,6 +82,7 @@ static ROWS: [(Failure<'static>, &str, u8); 37] = [
         1,
     ),
     (Failure::NotText("a.txt"), "vdcp: a.txt: text\n", 1),
+    (Failure::Empty("a.txt"), "vdcp: a.txt: empty\n", 1),
     (Failure::Write("a.csv"), "vdcp: a.csv: write\n", 3),
     (
         Failure::IsList("a.csv"),
@@ -91,6 +107,16 @@ static ROWS: [(Failure<'static>, &str, u8); 37] = [
         1,
     ),
     (
+        Failure::JournalRow("a.csv", 5, JournalFault::Long),
+        "vdcp: a.csv: row 5: long\n",
+        1,
+    ),
+    (
+        Failure::NotTheList("a.csv"),
+        "vdcp: a.csv: not the journal's list\n",
+        1,
+    ),
+    (
         Failure::MayHaveAired(12),
         "vdcp: event 12 may have aired\n",
         1,
@@ -102,6 +128,7 @@ static ROWS: [(Failure<'static>, &str, u8); 37] = [
     (Failure::Bind, "vdcp: cannot bind\n", 3),
     (Failure::LineFailed, "vdcp: line failed\n", 3),
     (Failure::LineClosed, "vdcp: line closed\n", 3),
+    (Failure::Unanswered, "vdcp: never answered\n", 3),
     (Failure::Spent, "vdcp: spent\n", 3),
     (Failure::Memory, "vdcp: memory\n", 3),
     (Failure::Writer, "", 3),
