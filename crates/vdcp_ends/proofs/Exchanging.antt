@@ -1,5 +1,5 @@
 -- Exchanges that nothing disturbs, and the channel of one burst each way beside them: each is a good round.
-use Rattle.std.proofs.Common.{ℕ, zero, suc, ◌≡◌, ◌*◌, ◌+◌, ◌≤◌, Bool, true, false, All, List, [], ◌∷◌, ◌++◌, length, drop, map, refl, sym, ap, ap₂, subst, ◌∙◌, append_assoc, append-nil, length-append, arith, lit≤, if◌then◌else◌}
+use Rattle.std.proofs.Common.{ℕ, zero, suc, ◌≡◌, ◌≤◌, Bool, true, false, All, List, [], ◌∷◌, ◌++◌, length, drop, map, refl, sym, ap, ap₂, subst, ◌∙◌, append_assoc, append-nil, length-append, arith, lit≤, if◌then◌else◌}
 use Rattle.std.proofs.lemmas.List.{drop_at, map-append}
 use Rattle.std.proofs.lemmas.List.Elements.{All-head, All-nil}
 use Rattle.std.specs.Option.{option_to_list}
@@ -22,11 +22,11 @@ use Rattle.vdcp_port.specs.Row.{command_row}
 use Rattle.vdcp_auto.specs.Heard.{heard_as, heard_first, heard_in}
 use Rattle.vdcp_auto.specs.Plan.{Plan}
 use Rattle.vdcp_auto.specs.State.{State}
-use Rattle.vdcp_auto.specs.Turn.{awaited, came_to, exchange_of, given, is_end, ticked}
+use Rattle.vdcp_auto.specs.Turn.{came_to, given, ticked}
 use Rattle.vdcp_auto.specs.declared.exchange.Exchange.{Exchange}
 use Rattle.vdcp_auto.specs.declared.exchange.Heard.{Heard}
 use Rattle.vdcp_auto.specs.declared.phase.Mode.{Mode}
-use Rattle.vdcp_auto.specs.declared.phase.Mode.TheVariants.{Plain}
+use Rattle.vdcp_auto.specs.declared.phase.Mode.TheVariants.{Plain, Confirming}
 use Rattle.vdcp_world.specs.BoundedEnd as bounded
 use Rattle.vdcp_world.specs.BoundedEnd.{BoundedEnd}
 use Rattle.vdcp_world.specs.Channel.{Channel, IsReached, after_events, answered, down_behind, log_hearing, log_waiting, new_channel, state_hearing, up_behind}
@@ -36,14 +36,14 @@ use Rattle.vdcp_wire.specs.Wires.{Arrival, bytes, silence, close, has_closed}
 use Rattle.vdcp_drive.specs.Bursts.{open_burst}
 use Rattle.vdcp_drive.specs.Driven.{bytes_of}
 use Rattle.vdcp_drive.specs.Prompt.{Prompt, commands_in, gives, hears_all}
-use Rattle.vdcp_drive.specs.PromptReading.{Held, holds, completed, held_after}
+use Rattle.vdcp_drive.specs.PromptReading.{Held, holds, completed, held_after, held_after_silence}
 use Rattle.vdcp_drive.specs.Served.{items_served}
 use Rattle.vdcp_ends.specs.TwoEnds as two
 use Rattle.vdcp_ends.specs.TwoEnds.{AreJoined, CanJoin, Ends, aired_now, bytes_in, new_ends, port_now, sent_down, sent_up, with_down}
-use Rattle.vdcp_ends.specs.Undisturbed.{AreUndisturbed, CanPlay, IsDone, exchanged, first, none, with_all_down, with_all_up, with_command, with_frames, with_piece_up}
+use Rattle.vdcp_ends.specs.Undisturbed.{AreUndisturbed, CanPlay, IsDone, exchanged, first, most_exchanges, none, with_all_down, with_all_up, with_command, with_frames, with_piece_up, with_time_out}
 use Rattle.vdcp_ends.specs.Below.{Answered, Completed, Spelt, Written}
 use Rattle.vdcp_ends.proofs.Bytes.{clean_spelt, messages_spelt, nothing_unfinished, spells_all, spelt, spelt_both}
-use Rattle.vdcp_ends.proofs.Commands.{awaits_none_in, commands_listens, hears_comes, left_by, ticks, ticks_state}
+use Rattle.vdcp_ends.proofs.Commands.{commands_listens, hears_comes, ticks}
 use Rattle.vdcp_ends.proofs.Joining.{answers_fit, given_fits}
 use Rattle.vdcp_ends.proofs.Queues.{bytes_from, bytes_to, messages_from, messages_to}
 use Rattle.vdcp_ends.proofs.Serving.{bytes_more, bytes_silence, open_bytes, open_silence, serves_bytes, serves_frame}
@@ -131,11 +131,10 @@ frames_end law (suc n) p kept cue playing =
 
 -- Between two exchanges.
 
--- all that was sent has come, nothing is awaited, and whole commands came since the last frame
+-- all that was sent has come, and whole commands came since the last frame
 record IsAtRest (plan : Plan) (port : ClockedPort) (e : Ends) : Type 0 where
   joined : AreJoined plan port e
   held_is : e.automation.held ≡ holds []
-  rests : awaited plan e.automation.state ≡ None
   all_down : sent_down plan port.state.unit e ≡ bytes_in e.downs
   all_up : sent_up e ≡ e.ups
   no_close : has_closed e.downs ≡ false
@@ -176,7 +175,6 @@ one_frame law plan port e r =
       rest = record {
         joined = two.frame r.joined r.no_close all;
         held_is = r.held_is;
-        rests = r.rests;
         all_down = r.all_down ∙ sym (bytes_silence e.downs);
         all_up = s.sent ∙ append-nil (sent_up e) ∙ r.all_up;
         no_close = no_close_more e.downs silence refl r.no_close;
@@ -245,33 +243,6 @@ answered_by q (framed kind unit code rest) = refl
 
 -- One exchange.
 
-option_none : (x : Option Command) → option_to_list x ≡ [] → x ≡ None
-option_none None is = refl
-option_none (Some c) is = cc
-
-option_some : (x : Option Command) (c : Command) → option_to_list x ≡ c ∷ [] → x ≡ Some c
-option_some None c is = cc
-option_some (Some d) c is = cc
-
-awaits_after : (plan : Plan) (s : State) (command : Option Command) → awaited plan s ≡ None → given plan s ≡ command
-    → option_to_list (awaited plan (ticked s)) ≡ option_to_list command
-awaits_after plan s command rests gives_it =
-    ticks_state plan s
-    ∙ ap₂ (λ (a b : Option Command). option_to_list a ++ option_to_list b) rests gives_it
-
--- in plain mode whatever is heard ends the exchange
-ends_plain : (plan : Plan) (h : Heard) (s : State) (c : Command) → plan.mode ≡ Plain → awaited plan s ≡ Some c
-    → awaited plan (came_to plan (Some h) s) ≡ None
-ends_plain plan h s c plain is =
-    ap (λ (x : Option Command). awaited plan (left_by plan s (exchange_of plan.mode (Some h) x))) is
-    ∙ ap (λ (b : Bool). awaited plan (left_by plan s
-    (if b then Some (record { command = c; heard = Some h }) else None)))
-    (ap (λ (mode : Mode). is_end mode c (Some h)) plain)
-    ∙ awaits_none_in plan s.stage (record { command = c; heard = Some h }) s is
-
-still : (plan : Plan) (s : State) → awaited plan s ≡ None → came_to plan None s ≡ s
-still plan s rests = ap (λ (c : Option Command). left_by plan s (exchange_of plan.mode None c)) rests
-
 kept_all : (law : Laws) (q : ClockedPort) (ms : List Content) → IsKept q → IsKept (after_messages q ms)
 kept_all law q [] kept = kept
 kept_all law q (m ∷ ms) kept = kept_all law (after_message q m) ms (law.message_kept q m kept)
@@ -286,26 +257,20 @@ small_command law unit (Some c) fits =
     omega (arith, size.1, length-append (spelling m ++ []) [], length-append (spelling m) [])
 
 -- what the command, if one is given, leaves of the automation and of the channel
-record Leaves (plan : Plan) (unit : ℕ) (p : Prompt) (q : ClockedPort) (aired : List Item)
-    (command : Option Command) : Type 0 where
-  rests : awaited plan (hears_all plan unit
-      (messages_from unit (answers_to q (messages_to unit (option_to_list command)))) (gives p)).state ≡ None
-  channel : (log : List Exchange) → (log' : List Exchange)
-      × (delivered plan (ticked p.state) q command aired log
-      ≡ channel_with plan
-      (hears_all plan unit (messages_from unit (answers_to q (messages_to unit (option_to_list command)))) (gives p)).state
-      (after_messages q (messages_to unit (option_to_list command)))
-      (aired ++ aired_on_way q (messages_to unit (option_to_list command))) log')
+abbrev Leaves : Plan → ℕ → Prompt → ClockedPort → List Item → Option Command → Type 0
+Leaves plan unit p q aired command =
+    (log : List Exchange) → (log' : List Exchange)
+    × (delivered plan (ticked p.state) q command aired log
+    ≡ channel_with plan
+    (hears_all plan unit (messages_from unit (answers_to q (messages_to unit (option_to_list command)))) (gives p)).state
+    (after_messages q (messages_to unit (option_to_list command)))
+    (aired ++ aired_on_way q (messages_to unit (option_to_list command))) log')
 
 leaves : (law : Laws) (plan : Plan) (unit : ℕ) (p : Prompt) (q : ClockedPort) (aired : List Item)
-    (command : Option Command) → unit ≤ 15 → plan.mode ≡ Plain → awaited plan p.state ≡ None
-    → given plan p.state ≡ command → q.state.unit ≡ unit → IfSome command IsWritableCommand
+    (command : Option Command) → unit ≤ 15 → q.state.unit ≡ unit → IfSome command IsWritableCommand
     → Leaves plan unit p q aired command
-leaves law plan unit p q aired None few plain rests gives_it unit_is writable = record {
-  rests = option_none (awaited plan (ticked p.state)) (awaits_after plan p.state None rests gives_it);
-  channel = λ log. (log, refl);
-}
-leaves law plan unit p q aired (Some c) few plain rests gives_it unit_is writable =
+leaves law plan unit p q aired None few unit_is writable log = (log, refl)
+leaves law plan unit p q aired (Some c) few unit_is writable log =
     let s : State = p.state in
     let m : Content = command_message unit c in
     let fit : Fits m = law.written.command unit c few writable in
@@ -334,28 +299,19 @@ leaves law plan unit p q aired (Some c) few plain rests gives_it unit_is writabl
     ap (λ (b : List ℕ). heard_in (after_burst q b).state.unit (answered q b [])) burst
     ∙ ap₂ heard_in (ap (λ (x : ClockedPort). x.state.unit) port ∙ law.answered.unit_message q m ∙ unit_is) up
     ∙ ap (heard_first unit) (law.spelt.alone rm (law.written.reply unit r few a.2)) in
-    record {
-      rests = ap (awaited plan) state
-          ∙ ends_plain plan h (ticked s) c plain
-          (option_some (awaited plan (ticked s)) c (awaits_after plan s (Some c) rests gives_it));
-      channel = λ log. (
-        log_hearing plan (heard_in (after_burst q (spelling (command_message q.state.unit c))).state.unit
-            (answered q (spelling (command_message q.state.unit c)) [])) (ticked s) log,
-        ap₂ (λ (x : Option Heard) (b : List ℕ). channel_with plan (state_hearing plan x (ticked s)) (after_burst q b)
-            (aired ++ aired_for q b)
-            (log_hearing plan (heard_in (after_burst q (spelling (command_message q.state.unit c))).state.unit
-            (answered q (spelling (command_message q.state.unit c)) [])) (ticked s) log)) hears burst
-            ∙ ap₂ (λ (t : State) (x : ClockedPort). channel_with plan t x (aired ++ aired_for q (spelling m))
-            (log_hearing plan (heard_in (after_burst q (spelling (command_message q.state.unit c))).state.unit
-            (answered q (spelling (command_message q.state.unit c)) [])) (ticked s) log)) (sym state) port
-            ∙ ap (λ (l : List Item). channel_with plan
-            (hears_all plan unit (messages_from unit (answers_to q (m ∷ []))) (gives p)).state (after_message q m)
-            (aired ++ l)
-            (log_hearing plan (heard_in (after_burst q (spelling (command_message q.state.unit c))).state.unit
-            (answered q (spelling (command_message q.state.unit c)) [])) (ticked s) log))
-            (law.answered.one_aired q m fit ∙ sym (append-nil (items_for q m))),
-      );
-    }
+    let log' : List Exchange =
+    log_hearing plan (heard_in (after_burst q (spelling (command_message q.state.unit c))).state.unit
+    (answered q (spelling (command_message q.state.unit c)) [])) (ticked s) log in (
+      log',
+      ap₂ (λ (x : Option Heard) (b : List ℕ). channel_with plan (state_hearing plan x (ticked s)) (after_burst q b)
+          (aired ++ aired_for q b) log') hears burst
+          ∙ ap₂ (λ (t : State) (x : ClockedPort). channel_with plan t x (aired ++ aired_for q (spelling m)) log')
+          (sym state) port
+          ∙ ap (λ (l : List Item). channel_with plan
+          (hears_all plan unit (messages_from unit (answers_to q (m ∷ []))) (gives p)).state (after_message q m)
+          (aired ++ l) log')
+          (law.answered.one_aired q m fit ∙ sym (append-nil (items_for q m))),
+    )
 
 -- what an exchange leaves
 record HasExchanged (plan : Plan) (port : ClockedPort) (e e' : Ends) : Type 0 where
@@ -364,11 +320,10 @@ record HasExchanged (plan : Plan) (port : ClockedPort) (e e' : Ends) : Type 0 wh
       × (delivered plan (ticked e.automation.state) (port_now e) (given plan e.automation.state) (aired_now e) log
       ≡ channel_of plan e' log')
 
-exchanges : (law : Laws) (plan : Plan) (port : ClockedPort) (e : Ends) → CanJoin plan port → plan.mode ≡ Plain
-    → IsAtRest plan port e → open_burst e.downs ≡ []
-    → HasExchanged plan port e
+exchanges : (law : Laws) (plan : Plan) (port : ClockedPort) (e : Ends) → CanJoin plan port → IsAtRest plan port e
+    → open_burst e.downs ≡ [] → HasExchanged plan port e
     (with_all_up plan port.state.unit (with_all_down plan port.state.unit (with_command plan e)))
-exchanges law plan port e can plain r none_open =
+exchanges law plan port e can r none_open =
     let unit : ℕ = port.state.unit in
     let p : Prompt = e.automation in
     let s : State = p.state in
@@ -418,7 +373,7 @@ exchanges law plan port e can plain r none_open =
     ap (λ (at : Held). held_after at (spelt rs)) r.held_is
     ∙ ap (held_after (holds [])) (sym (append-nil (spelt rs)))
     ∙ law.completed.held rs (spelt rs) [] spells u in
-    let l = leaves law plan unit p q (aired_now e) (given plan s) can.unit_fits plain r.rests refl r.unit_is writable in
+    let l = leaves law plan unit p q (aired_now e) (given plan s) can.unit_fits r.unit_is writable in
     let state : heard.automation.state ≡ (hears_all plan unit rs (gives p)).state =
     ap (λ (l : List Content). (hears_all plan unit l (gives p)).state) new in
     subst (HasExchanged plan port e) (sym (ap (with_all_up plan unit) asks ∙ hears)) (record {
@@ -426,7 +381,6 @@ exchanges law plan port e can plain r none_open =
         joined = two.came_up joined (spelt rs) []
             (up ∙ ap (λ (l : List ℕ). e.ups ++ l) (sym (append-nil (spelt rs))));
         held_is = held;
-        rests = ap (awaited plan) state ∙ l.rests;
         all_down = ap (bytes_of unit) (commands_listens plan unit (bytes (spelt rs)) (gives p)) ∙ down
             ∙ sym (bytes_more e.downs (spelt ms));
         all_up = up;
@@ -440,11 +394,11 @@ exchanges law plan port e can plain r none_open =
         kept = subst IsKept (sym serves.left) (kept_all law q ms r.kept);
       };
       channel = λ log. (
-        (l.channel log).0,
-        (l.channel log).1
+        (l log).0,
+        (l log).1
             ∙ ap₂ (λ (t : State) (x : ClockedPort). channel_with plan t x (aired_now e ++ aired_on_way q ms)
-            (l.channel log).0) (sym state) (sym serves.left)
-            ∙ ap (λ (i : List Item). channel_with plan heard.automation.state (port_now heard) i (l.channel log).0)
+            (l log).0) (sym state) (sym serves.left)
+            ∙ ap (λ (i : List Item). channel_with plan heard.automation.state (port_now heard) i (l log).0)
             (append_assoc e.aired_before (items_served e.port e.downs) (aired_on_way q ms)
             ∙ ap (λ (i : List Item). e.aired_before ++ i) (sym serves.aired)),
       );
@@ -452,29 +406,45 @@ exchanges law plan port e can plain r none_open =
 
 -- Many exchanges.
 
+-- what was awaited has timed out
+times_out : (plan : Plan) (port : ClockedPort) (e : Ends) → IsAtRest plan port e
+    → IsAtRest plan port (with_time_out plan port.state.unit e)
+times_out plan port e r = record {
+  joined = two.waited r.joined;
+  held_is = ap held_after_silence r.held_is;
+  all_down = ap (bytes_of port.state.unit) (commands_listens plan port.state.unit silence e.automation) ∙ r.all_down;
+  all_up = r.all_up;
+  no_close = r.no_close;
+  whole = r.whole;
+  fits = r.fits;
+  open_is = r.open_is;
+  small = r.small;
+  unit_is = r.unit_is;
+  kept = r.kept;
+}
+
 are_good_rounds : (law : Laws) (plan : Plan) (port : ClockedPort) (n : ℕ) (e e' : Ends) (log : List Exchange)
-    → CanJoin plan port → plan.mode ≡ Plain → IsAtRest plan port e → AreUndisturbed plan port.state.unit n e e'
+    → CanJoin plan port → IsAtRest plan port e → AreUndisturbed plan port.state.unit n e e'
     → IsAtRest plan port e' × ((log' : List Exchange)
     × (after_events (channel_of plan e log) (times n good_round) ≡ channel_of plan e' log'))
-are_good_rounds law plan port _ e _ log can plain r none = (r, (log, refl))
-are_good_rounds law plan port _ e e' log can plain r (first {n} frames some cue playing more) =
+are_good_rounds law plan port _ e _ log can r none = (r, (log, refl))
+are_good_rounds law plan port _ e e' log can r (first {n} frames some cue playing more) =
     let unit : ℕ = port.state.unit in
-    let s : State = e.automation.state in
-    let f = have_frames law plan port frames e r in
-    let at : Ends = with_frames frames e in
-    let x = exchanges law plan port at can plain f.rest (opens_none law plan port frames e r some) in
-    let then_log : List Exchange = log_waiting plan [] [] s log in
+    let late : Ends = with_time_out plan unit e in
+    let t = times_out plan port e r in
+    let f = have_frames law plan port frames late t in
+    let at : Ends = with_frames frames late in
+    let x = exchanges law plan port at can f.rest (opens_none law plan port frames late t some) in
+    let then_log : List Exchange = log_waiting plan [] [] e.automation.state log in
     let y = x.channel then_log in
     let round : after_events (channel_of plan e log) good_round ≡ channel_of plan (exchanged plan unit frames e) y.0 =
-    ap (λ (t : State). delivered plan (ticked t) (after_ended (after_ready (port_now e))) (given plan t) (aired_now e)
-    then_log) (still plan s r.rests)
-    ∙ ap₂ (λ (t : State) (q : ClockedPort). delivered plan (ticked t) q (given plan t) (aired_now e) then_log)
+    ap₂ (λ (s : State) (q : ClockedPort). delivered plan (ticked s) q (given plan s) (aired_now e) then_log)
     (ap (λ (p : Prompt). p.state) (sym f.automation_is))
     (sym (frames_end law frames (port_now e) r.kept cue playing) ∙ sym f.port_is)
     ∙ ap (λ (i : List Item). delivered plan (ticked at.automation.state) (port_now at) (given plan at.automation.state) i
     then_log) (sym f.aired_is)
     ∙ y.1 in
-    let rest = are_good_rounds law plan port n (exchanged plan unit frames e) e' y.0 can plain x.rest more in (
+    let rest = are_good_rounds law plan port n (exchanged plan unit frames e) e' y.0 can x.rest more in (
       rest.0,
       (rest.1.0, ap (λ (c : Channel). after_events c (times n good_round)) round ∙ rest.1.1),
     )
@@ -484,7 +454,6 @@ new_at_rest : (law : Laws) (plan : Plan) (clips : List (ClipId × Timecode)) (un
 new_at_rest law plan clips unit cue_frames takes = record {
   joined = two.begun;
   held_is = refl;
-  rests = refl;
   all_down = refl;
   all_up = refl;
   no_close = refl;
@@ -496,8 +465,18 @@ new_at_rest law plan clips unit cue_frames takes = record {
   kept = law.new_kept clips unit plan.port cue_frames takes;
 }
 
+brings_to_end : (plan : Plan) (clips : List (ClipId × Timecode)) (unit cue_frames n : ℕ) (mode : Mode)
+    → plan.mode ≡ mode → CanPlay plan (new_port clips unit plan.port cue_frames)
+    → most_exchanges mode (length plan.list) ≤ n → BoundedEnd (new_channel plan clips unit cue_frames)
+    → bounded.IsDone (after_events (new_channel plan clips unit cue_frames) (times n good_round))
+brings_to_end plan clips unit cue_frames n Plain is can enough ends =
+    ends.plain (record { plain = is; ready = refl; no_wish = refl; no_stop = refl; playable = can.playable }) n
+    (omega (arith, enough))
+brings_to_end plan clips unit cue_frames n Confirming is can enough ends =
+    ends.confirming (record { confirming = is; is_new = refl; playable = can.playable }) n (omega (arith, enough))
+
 are_done : (law : Laws) (plan : Plan) (clips : List (ClipId × Timecode)) (unit cue_frames n : ℕ) (e : Ends)
-    → CanPlay plan (new_port clips unit plan.port cue_frames) → 5 * length plan.list + 4 ≤ n
+    → CanPlay plan (new_port clips unit plan.port cue_frames) → most_exchanges plan.mode (length plan.list) ≤ n
     → AreUndisturbed plan unit n (new_ends (new_port clips unit plan.port cue_frames)) e
     → AreJoined plan (new_port clips unit plan.port cue_frames) e × IsDone plan e
 are_done law plan clips unit cue_frames n e can enough good =
@@ -517,17 +496,15 @@ are_done law plan clips unit cue_frames n e can enough good =
       of_bytes = can.can_join.of_bytes;
       led = refl;
     } in
-    let r = are_good_rounds law plan port n (new_ends port) e [] can.can_join can.plain
+    let r = are_good_rounds law plan port n (new_ends port) e [] can.can_join
     (new_at_rest law plan clips unit cue_frames can.cue_takes) good in
     let d : bounded.IsDone (channel_of plan e r.1.0) =
     subst bounded.IsDone r.1.1
-    ((law.bounded c reached).plain
-    (record { plain = can.plain; ready = refl; no_wish = refl; no_stop = refl; playable = can.playable }) n
-    (omega (arith, enough))) in
+    (brings_to_end plan clips unit cue_frames n plan.mode refl can enough (law.bounded c reached)) in
     (r.0.joined, record { ended = d.ended; all_aired = d.all_aired; all_reported = d.all_reported })
 
 pub play_all : (law : Laws) (plan : Plan) (port : ClockedPort) (n : ℕ) (e : Ends) → CanPlay plan port
-    → 5 * length plan.list + 4 ≤ n → AreUndisturbed plan port.state.unit n (new_ends port) e
+    → most_exchanges plan.mode (length plan.list) ≤ n → AreUndisturbed plan port.state.unit n (new_ends port) e
     → AreJoined plan port e × IsDone plan e
 play_all law plan port n e can enough good =
     let unit : ℕ = port.state.unit in

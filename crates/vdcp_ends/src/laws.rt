@@ -1,6 +1,6 @@
 //! The laws of the definitions in `specs/`. The functions do nothing: their contracts are the laws, and a caller whose
 //! proof needs one calls it.
-ghost use Rattle.std.specs.Prelude.{ℕ, ◌≡◌, ◌≤◌, ◌+◌, ◌*◌, ◌++◌, List, length, Option, None, map};
+ghost use Rattle.std.specs.Prelude.{ℕ, ◌≡◌, ◌≤◌, ◌++◌, List, length, Option, None, map};
 ghost use Rattle.vdcp_value.specs.declared.part.Item.{Item};
 ghost use Rattle.vdcp_frame.specs.Progress.{Progress};
 ghost use Rattle.vdcp_port.specs.Clock.{ClockedPort};
@@ -18,7 +18,7 @@ ghost use Rattle.vdcp_ends.specs.EndsHeadline.{EndsHeadline};
 ghost use Rattle.vdcp_ends.specs.OneConnection.{HasCome, IsFresh, ends_of};
 ghost use Rattle.vdcp_ends.specs.SeveralRuns.{HaveAired};
 ghost use Rattle.vdcp_ends.specs.TwoEnds.{AreJoined, CanJoin, Ends, IsLateChannel, aired_now, connected_anew, log_now, new_ends};
-ghost use Rattle.vdcp_ends.specs.Undisturbed.{AreUndisturbed, CanPlay, IsDone};
+ghost use Rattle.vdcp_ends.specs.Undisturbed.{AreUndisturbed, CanPlay, IsDone, most_exchanges};
 
 /// An automation that hears at once and a server, joined by two streams of bytes that keep order, are a late channel: in
 /// whatever pieces and however late the bytes come, with time-outs at any moment, and over one connection after another,
@@ -71,11 +71,11 @@ pub fn several_runs_air_a_beginning()
     two_ends_keep_the_headline();
 }
 
-/// Exchanges that nothing disturbs bring a list to its end, in plain mode and from two new ends: five for each event, and
-/// four, or more. They are among what may come of the two ends.
+/// Exchanges that nothing disturbs bring a list to its end, from two new ends: in plain mode five for each event, and
+/// four, or more; in confirm mode six, and six. They are among what may come of the two ends.
 pub fn undisturbed_ends_play_the_list()
     ensures { (plan : Plan) (port : ClockedPort) (n : ℕ) (e : Ends) → CanPlay plan port →
-        5 * length plan.list + 4 ≤ n → AreUndisturbed plan port.state.unit n (new_ends port) e →
+        most_exchanges plan.mode (length plan.list) ≤ n → AreUndisturbed plan port.state.unit n (new_ends port) e →
         AreJoined plan port e × IsDone plan e }
 {
     what_is_below();
