@@ -1,4 +1,4 @@
--- Two ends with their bytes, computed: a run that the laws speak of; and for two premises what happens without them.
+-- Two ends with their bytes, computed: a run that the laws speak of; and for three premises what happens without them.
 use Rattle.std.proofs.Common.{◌≡◌, ◌<◌, ℕ, true, List, [], ◌∷◌, ◌++◌, max, refl, ap, arith, lit<, lit≤, take}
 use Rattle.std.proofs.lemmas.List.Elements.{All-cons, All-nil}
 use Rattle.std.specs.Simd.Lanes.{all_below}
@@ -22,9 +22,11 @@ use Rattle.vdcp_port.specs.Port.{done, empty}
 use Rattle.vdcp_port.specs.declared.access.Access.TheVariants.{Selected}
 use Rattle.vdcp_auto.specs.Commands.{cue_for}
 use Rattle.vdcp_auto.specs.Plan.{Plan}
+use Rattle.vdcp_auto.specs.Turn.{came_to}
 use Rattle.vdcp_auto.specs.declared.phase.Mode.TheVariants.{Plain}
 use Rattle.vdcp_wire.specs.Wires.{Arrival, bytes, silence}
-use Rattle.vdcp_drive.specs.Prompt.{new_prompt, prompted}
+use Rattle.vdcp_drive.specs.Prompt.{Prompt, gives, new_prompt, prompted}
+use Rattle.vdcp_drive.specs.PromptReading.{holds}
 use Rattle.vdcp_drive.specs.Served.{items_served, served}
 use Rattle.vdcp_ends.specs.OneConnection.{HasCome, begun, up, down, waited, frame, down_bytes}
 use Rattle.vdcp_ends.specs.TwoEnds as ends
@@ -271,6 +273,36 @@ torn_bytes_keep_order length one = (refl, ap (sent_then length) one)
 torn_command_airs_twice : (length : Timecode) → frames_of length ≡ 1
     → items_served (port length) torn_downs ≡ whole clip ∷ whole clip ∷ []
 torn_command_airs_twice length one = ap (aired_then length) one
+
+-- A command whose row isn't safe.
+
+-- The automation puts the event to air and is killed, and its journal ends with the cue: it goes on by cueing again.
+
+abbrev first_ups : List Arrival
+first_ups = bytes granted_bytes ∷ bytes (0x04 ∷ []) ∷ bytes present_bytes ∷ bytes (0x04 ∷ []) ∷ bytes done_bytes ∷ []
+
+abbrev goes_on : Prompt
+goes_on = record {
+  held = holds [];
+  state = came_to plan None (gives (prompted plan 0 (take 3 first_ups))).state;
+  log = [];
+  passed = 0;
+}
+
+both_send :
+    (down_bytes plan 0 new_prompt first_ups
+    ≡ open_bytes ++ select_bytes ++ exists_bytes ++ (cue_front ++ cue_rest) ++ status_bytes ++ play_bytes)
+    × (down_bytes plan 0 goes_on (bytes (0x04 ∷ []) ∷ bytes done_bytes ∷ [])
+    ≡ (cue_front ++ cue_rest) ++ status_bytes ++ play_bytes)
+both_send = (refl, refl)
+
+-- and the event airs twice
+unsafe_command_airs_twice : (length : Timecode) → frames_of length ≡ 1
+    → items_served (port length)
+    (bytes open_bytes ∷ bytes select_bytes ∷ bytes exists_bytes ∷ bytes (cue_front ++ cue_rest) ∷ silence
+    ∷ bytes status_bytes ∷ bytes play_bytes ∷ then_downs)
+    ≡ whole clip ∷ whole clip ∷ []
+unsafe_command_airs_twice length one = ap (aired_then length) one
 
 -- What an earlier conversation has left.
 
