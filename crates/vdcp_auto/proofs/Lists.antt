@@ -1,7 +1,7 @@
 -- Lists that grow at their end.
-use Rattle.std.proofs.Common.{◌≡◌, ◌≢◌, ℕ, zero, suc, ◌+◌, ◌<◌, Bool, cond, Option, Some, List, [], ◌∷◌, ◌++◌, length, refl, arith, sym, ap, ◌∙◌, ◌⊎◌, inl, inr, add-zero}
+use Rattle.std.proofs.Common.{◌≡◌, ◌≢◌, ℕ, zero, suc, ◌+◌, ◌<◌, Bool, false, ◌||◌, cond, Option, Some, List, [], ◌∷◌, ◌++◌, length, refl, arith, sym, ap, ◌∙◌, ◌⊎◌, inl, inr, add-zero}
 use Rattle.std.specs.Prelude.{slice_get, count_by}
-use Rattle.std.specs.List.{last_or, range_with_len}
+use Rattle.std.specs.List.{last_or, list_any, range_with_len}
 use Rattle.std.proofs.lemmas.List.Sums.{sum_by-cons}
 
 -- where a list that has grown by one is cut before its end
@@ -67,3 +67,27 @@ count_by-range_same p q a (suc n) same =
       sum_by-cons (λ k. cond (q k) 1 0) a (range_with_len (a + 1) n),
       ap (λ b. cond {A = ℕ} b 1 0) here,
     )
+
+-- the test at one place more
+pub list_any-range_more : (p : ℕ → Bool) (a n : ℕ) → list_any p (range_with_len a (suc n))
+    ≡ (list_any p (range_with_len a n) || p (a + n))
+list_any-range_more p a zero = grind (arith, ap p (add-zero a))
+list_any-range_more p a (suc n) =
+    let place : a + 1 + n ≡ a + suc n = omega arith in
+    grind (arith, list_any-range_more p (a + 1) n, ap p place)
+
+pub list_any-range_same : (p q : ℕ → Bool) (a n : ℕ) → ((k : ℕ) → k < a + n → p k ≡ q k)
+    → list_any p (range_with_len a n) ≡ list_any q (range_with_len a n)
+list_any-range_same p q a zero same = refl
+list_any-range_same p q a (suc n) same =
+    let here : p a ≡ q a = same a (omega arith) in
+    let rest = list_any-range_same p q (a + 1) n (λ k below. same k (omega arith)) in
+    grind (arith, here, rest)
+
+pub list_any-range_none : (p : ℕ → Bool) (a n : ℕ) → ((k : ℕ) → k < a + n → p k ≡ false)
+    → list_any p (range_with_len a n) ≡ false
+list_any-range_none p a zero none = refl
+list_any-range_none p a (suc n) none =
+    let here : p a ≡ false = none a (omega arith) in
+    let rest = list_any-range_none p (a + 1) n (λ k below. none k (omega arith)) in
+    grind (arith, here, rest)

@@ -1,6 +1,6 @@
 -- The look-backs of specs/ over a log that has grown by one exchange, and what a log leaves behind.
-use Rattle.std.proofs.Common.{◌≡◌, ℕ, suc, ◌+◌, ◌≤◌, ◌<◌, Bool, true, false, cond, not, ◌||◌, ◌&&◌, None, List, [], ◌∷◌, ◌++◌, length, take, refl, arith, sym, ap, ◌∙◌, append_assoc}
-use Rattle.std.specs.Prelude.{if◌then◌else◌, slice_get, count_by, filter}
+use Rattle.std.proofs.Common.{◌≡◌, ℕ, suc, ◌+◌, ◌≤◌, ◌<◌, Bool, true, false, cond, not, ◌||◌, ◌&&◌, None, List, [], ◌∷◌, ◌++◌, Some, length, take, drop, take-append-drop, refl, arith, sym, ap, subst, ◌∙◌, append_assoc}
+use Rattle.std.specs.Prelude.{if◌then◌else◌, nat_eq, slice_get, count_by, filter}
 use Rattle.std.specs.Option.{option_map_or}
 use Rattle.std.specs.List.{last_or, range_with_len, list_any}
 use Rattle.std.proofs.Math.Seq.{take-append_seam}
@@ -13,8 +13,8 @@ use Rattle.vdcp_auto.specs.declared.exchange.Exchange.{Exchange}
 use Rattle.vdcp_auto.specs.declared.phase.Mode.{Mode}
 use Rattle.vdcp_auto.specs.declared.phase.Mode.TheVariants.{Plain, Confirming}
 use Rattle.vdcp_auto.specs.Log.{is_play, is_stop, is_cue, is_acked, is_answered, is_done_status, is_empty_status}
-use Rattle.vdcp_auto.specs.Settled.{tells_of_play, has_open_play, settles, settles_at, settled}
-use Rattle.vdcp_auto.proofs.Lists.{last_or-push, slice_get-append, slice_get-push, count_by-range_more, count_by-range_same}
+use Rattle.vdcp_auto.specs.Settled.{tells_of_play, has_open_play, settles, settles_at, settled, plays_at, may_have_aired}
+use Rattle.vdcp_auto.proofs.Lists.{last_or-push, slice_get-append, slice_get-push, count_by-range_more, count_by-range_same, list_any-range_more, list_any-range_same, list_any-range_none}
 use Rattle.vdcp_auto.proofs.Memo.{opens, settles_now}
 
 -- Open PLAYs.
@@ -83,6 +83,81 @@ settled-push mode log e =
     ∙ ap (λ b. settled mode log + cond {A = ℕ} b 1 0) (ap p (omega arith) ∙ settles_at_end mode log e
     ∙ settles_is mode log e)
 
+-- What may have aired.
+
+front_settles : (mode : Mode) (log more : List Exchange) → settled mode log ≤ settled mode (log ++ more)
+front_settles mode log [] = rw append-nil (omega arith)
+front_settles mode log (e ∷ more) =
+    let here = settled-push mode log e in
+    let rest : settled mode (log ++ e ∷ []) ≤ settled mode (log ++ e ∷ more) =
+    subst (λ xs. settled mode (log ++ e ∷ []) ≤ settled mode xs) (append_assoc log (e ∷ []) more)
+    (front_settles mode (log ++ e ∷ []) more) in
+    omega (arith, here, rest)
+
+taken_settles : (mode : Mode) (log : List Exchange) (k : ℕ) → settled mode (take k log) ≤ settled mode log
+taken_settles mode log k =
+    subst (λ xs. settled mode (take k log) ≤ settled mode xs) (take-append-drop k log)
+    (front_settles mode (take k log) (drop k log))
+
+-- a PLAY stands at this place, and nothing has settled since
+abbrev airs_at : Mode → List Exchange → ℕ → Bool
+airs_at mode log k = plays_at log k && nat_eq (settled mode (take k log)) (settled mode log)
+
+airs_within : (mode : Mode) (log : List Exchange) (e : Exchange) → settled mode (log ++ e ∷ []) ≡ settled mode log
+    → (k : ℕ) → k < length log → airs_at mode (log ++ e ∷ []) k ≡ airs_at mode log k
+airs_within mode log e same k below =
+    let front : take k (log ++ e ∷ []) ≡ take k log = take-append-le k log (e ∷ []) (omega arith) in
+    let here : slice_get (log ++ e ∷ []) k ≡ slice_get log k = slice_get-append log (e ∷ []) k below in
+    rw (front, here, same)
+
+airs_at_end : (mode : Mode) (log : List Exchange) (e : Exchange) → settled mode (log ++ e ∷ []) ≡ settled mode log
+    → airs_at mode (log ++ e ∷ []) (length log) ≡ is_play e
+airs_at_end mode log e same =
+    let front : take (length log) (log ++ e ∷ []) ≡ log = take-append_seam log (e ∷ []) in
+    let here : slice_get (log ++ e ∷ []) (length log) ≡ Some e = slice_get-push log e in
+    rw (front, here, same) (equal (is_play e) (settled mode log))
+  where
+    equal : (b : Bool) (n : ℕ) → (b && nat_eq n n) ≡ b
+    equal b n = grind arith
+
+none_airs : (mode : Mode) (log : List Exchange) (e : Exchange) → settled mode (log ++ e ∷ []) ≡ settled mode log + 1
+    → (k : ℕ) → k < length log + 1 → airs_at mode (log ++ e ∷ []) k ≡ false
+none_airs mode log e more k below =
+    let front : take k (log ++ e ∷ []) ≡ take k log = take-append-le k log (e ∷ []) (omega arith) in
+    let few = taken_settles mode log k in
+    rw (front, more) (apart (plays_at (log ++ e ∷ []) k) (settled mode (take k log)) (settled mode log) few)
+  where
+    apart : (b : Bool) (n m : ℕ) → n ≤ m → (b && nat_eq n (m + 1)) ≡ false
+    apart b n m few = grind arith
+
+-- after one exchange more
+airs-push : (mode : Mode) (log : List Exchange) (e : Exchange) (now : Bool) → settles mode log e ≡ now
+    → may_have_aired mode (log ++ e ∷ []) ≡ (not now && (is_play e || may_have_aired mode log))
+airs-push mode log e true is =
+    let more : settled mode (log ++ e ∷ []) ≡ settled mode log + 1 =
+    settled-push mode log e ∙ ap (λ b. settled mode log + cond {A = ℕ} b 1 0) (sym (settles_is mode log e) ∙ is) in
+    list_any-range_none (airs_at mode (log ++ e ∷ [])) 0 (length (log ++ e ∷ []))
+    (λ k below. none_airs mode log e more k (omega (arith, below, length-append log (e ∷ []))))
+airs-push mode log e false is =
+    let same : settled mode (log ++ e ∷ []) ≡ settled mode log =
+    omega (
+      arith,
+      settled-push mode log e,
+      ap (λ b. cond {A = ℕ} b 1 0) (sym (settles_is mode log e) ∙ is),
+    ) in
+    let grown : length (log ++ e ∷ []) ≡ suc (length log) = rw length-append (omega arith) in
+    let p = airs_at mode (log ++ e ∷ []) in
+    let fronts = list_any-range_same p (airs_at mode log) 0 (length log)
+    (λ k below. airs_within mode log e same k (omega arith)) in
+    let last : p (0 + length log) ≡ is_play e = ap p (omega arith) ∙ airs_at_end mode log e same in
+    ap (λ n. list_any p (range_with_len 0 n)) grown
+    ∙ list_any-range_more p 0 (length log)
+    ∙ either (list_any p (range_with_len 0 (length log))) (p (0 + length log)) (may_have_aired mode log) (is_play e)
+    fronts last
+  where
+    either : (a b c d : Bool) → a ≡ c → b ≡ d → (a || b) ≡ (d || c)
+    either a b c d e f = grind arith
+
 -- the same in the words of specs/
 
 opens_is : (p s m answered opened : Bool) → (if p then not answered else (if s || m then false else opened))
@@ -103,6 +178,10 @@ pub settled_grows : (mode : Mode) (log : List Exchange) (e : Exchange) → settl
 settled_grows mode log e = settled-push mode log e
     ∙ ap (λ b. settled mode log + cond {A = ℕ} b 1 0) (sym (settles_is mode log e))
     ∙ one_if (settled mode log) (settles mode log e)
+
+pub airing_grows : (mode : Mode) (log : List Exchange) (e : Exchange) → may_have_aired mode (log ++ e ∷ [])
+    ≡ (not (settles mode log e) && (is_play e || may_have_aired mode log))
+airing_grows mode log e = airs-push mode log e (settles mode log e) refl
 
 pub settled_stays : (mode : Mode) (log : List Exchange) (opened : Bool) (e : Exchange) → has_open_play log ≡ opened
     → settles_now mode opened e ≡ false

@@ -1,6 +1,6 @@
--- Which events a log shows to be aired.
-use Rattle.std.specs.Prelude.{ℕ, Bool, false, not, ◌||◌, ◌&&◌, None, List, length, take, filter, count_by, slice_get}
-use Rattle.std.specs.List.{last_or, range_with_len}
+-- Which events a log shows to be aired, and whether one more may have aired.
+use Rattle.std.specs.Prelude.{ℕ, Bool, false, not, ◌||◌, ◌&&◌, None, List, length, nat_eq, take, filter, count_by, slice_get}
+use Rattle.std.specs.List.{last_or, list_any, range_with_len}
 use Rattle.std.specs.Option.{option_map_or}
 use Rattle.vdcp_auto.specs.declared.exchange.Exchange.{Exchange}
 use Rattle.vdcp_auto.specs.declared.phase.Mode.{Mode}
@@ -29,3 +29,13 @@ settles_at mode log place = option_map_or (settles mode (take place log)) (slice
 -- how many of the log's exchanges settle
 abbrev pub settled : Mode → List Exchange → ℕ
 settled mode log = count_by (settles_at mode log) (range_with_len 0 (length log))
+
+-- the log's exchange at this place is a PLAY
+abbrev pub plays_at : List Exchange → ℕ → Bool
+plays_at log place = option_map_or is_play (slice_get log place) false
+
+-- one event more than are settled may have aired: a PLAY stands in the log, and nothing has settled since
+abbrev pub may_have_aired : Mode → List Exchange → Bool
+may_have_aired mode log =
+    list_any (λ place. plays_at log place && nat_eq (settled mode (take place log)) (settled mode log))
+    (range_with_len 0 (length log))

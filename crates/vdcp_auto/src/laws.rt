@@ -1,6 +1,6 @@
 //! The laws of the definitions that the contracts of this crate cite. The functions do nothing: their
 //! contracts are the laws, and a caller whose proof needs one calls it.
-ghost use Rattle.std.specs.Prelude.{◌≡◌, ◌+◌, ◌≤◌, ◌<◌, ◌&&◌, not, if◌then◌else◌, true, None, IfSome, List, Option, [], ◌∷◌, ◌++◌, All};
+ghost use Rattle.std.specs.Prelude.{◌≡◌, ◌+◌, ◌≤◌, ◌<◌, ◌&&◌, ◌||◌, not, if◌then◌else◌, true, None, IfSome, List, Option, [], ◌∷◌, ◌++◌, All};
 ghost use Rattle.vdcp_value.specs.Parts.{IsItem};
 ghost use Rattle.vdcp_words.specs.Commands.{IsWritableCommand};
 ghost use Rattle.vdcp_auto.specs.declared.exchange.Heard.{Heard};
@@ -15,7 +15,7 @@ ghost use Rattle.vdcp_auto.specs.Turn.{awaited, given, ended_by, came_to};
 ghost use Rattle.vdcp_auto.specs.Course.{course, course_from, after_input, ended_by_input, after_inputs, after_inputs_from, logged, Reached};
 ghost use Rattle.vdcp_auto.specs.Law.{IsLawful};
 ghost use Rattle.vdcp_auto.specs.Log.{is_play, is_answered};
-ghost use Rattle.vdcp_auto.specs.Settled.{tells_of_play, has_open_play, settles, settled};
+ghost use Rattle.vdcp_auto.specs.Settled.{tells_of_play, has_open_play, settles, settled, may_have_aired};
 
 /// Whatever calls a new controller had, in whatever order (ticks, replies of any kind, time-outs, takes,
 /// stops, and wishes forgotten, also while an answer is awaited), in either mode, of the controller and of
@@ -74,10 +74,13 @@ pub fn a_receipt_confirms_nothing()
         plan.mode ≡ Confirming → hears_receipt came ≡ true → came_to plan came state ≡ state }
 {}
 
-/// What one more exchange at the end of a log makes of the open PLAY and of the number of settled events.
+/// What one more exchange at the end of a log makes of the open PLAY, of the number of settled events, and of whether one
+/// event more may have aired.
 pub fn a_log_grows()
     ensures open { (log : List Exchange) (e : Exchange) → has_open_play (log ++ e ∷ [])
         ≡ (if tells_of_play e then is_play e && not (is_answered e) else has_open_play log) }
     ensures settled { (mode : Mode) (log : List Exchange) (e : Exchange) → settled mode (log ++ e ∷ [])
         ≡ (if settles mode log e then settled mode log + 1 else settled mode log) }
+    ensures airing { (mode : Mode) (log : List Exchange) (e : Exchange) → may_have_aired mode (log ++ e ∷ [])
+        ≡ (not (settles mode log e) && (is_play e || may_have_aired mode log)) }
 {}

@@ -6,7 +6,7 @@ use Rattle.std.specs.List.{list_any}
 use Rattle.std.specs.Prelude.{if◌then◌else◌, slice_get}
 use Rattle.vdcp_auto.specs.Commands.{is_play_command}
 use Rattle.vdcp_auto.specs.Log.{is_answered, is_play}
-use Rattle.vdcp_auto.specs.Settled.{has_open_play, settled, settles, tells_of_play}
+use Rattle.vdcp_auto.specs.Settled.{has_open_play, may_have_aired, settled, settles, tells_of_play}
 use Rattle.vdcp_auto.specs.declared.exchange.Exchange.{Exchange}
 use Rattle.vdcp_auto.specs.declared.exchange.Heard.{Heard}
 use Rattle.vdcp_auto.specs.declared.phase.Mode.{Mode}
@@ -493,7 +493,7 @@ fits mode rows asked played airings n h = omega (arith, h.few, room asked n)
 -- all rows: the exchange that is open is timed out
 pub all_shown : SettledGrows → (mode : Mode) (rows : List Row) (asked : Option Command) (played : Option Moment)
     (airings : List Airing) (event : Option ℕ) (has : Bool) (count : ℕ) → SoFar mode rows asked played airings
-    → has ≡ has_open_play (ended_from None rows ++ exchange_with None asked [])
+    → has ≡ may_have_aired mode (ended_from None rows ++ exchange_with None asked [])
     → count ≡ settled mode (ended_from None rows ++ exchange_with None asked [])
     → event ≡ (if has then Some count else None)
     → AreAirings mode rows airings event
@@ -503,6 +503,6 @@ all_shown law mode rows asked played airings event has count h has_is count_is e
     record {
       one_each = h.one_each ∙ sym (shown_is law mode rows);
       are = h.are;
-      open_is = event_is ∙ ap₂ (λ (b : Bool) (n : ℕ). if b then Some n else None)
-          (has_is ∙ ap has_open_play log) (count_is ∙ ap (settled mode) log);
+      besides = event_is ∙ ap₂ (λ (b : Bool) (n : ℕ). if b then Some n else None)
+          (has_is ∙ ap (may_have_aired mode) log) (count_is ∙ ap (settled mode) log);
     }

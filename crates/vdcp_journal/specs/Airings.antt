@@ -2,7 +2,7 @@
 use Rattle.std.specs.List.{list_any}
 use Rattle.std.specs.Prelude.{◌≡◌, ℕ, ◌+◌, Bool, false, IsTrue, Option, None, Some, List, [], ◌∷◌, ◌++◌, if◌then◌else◌, length, slice_get}
 use Rattle.vdcp_auto.specs.Commands.{is_play_command}
-use Rattle.vdcp_auto.specs.Settled.{has_open_play, settled}
+use Rattle.vdcp_auto.specs.Settled.{may_have_aired, settled}
 use Rattle.vdcp_auto.specs.declared.phase.Mode.{Mode}
 use Rattle.vdcp_journal.specs.Resume.{log_of}
 use Rattle.vdcp_journal.specs.declared.airings.Airing.{Airing}
@@ -43,12 +43,12 @@ pub record IsAiring (mode : Mode) (rows : List Row) (k : ℕ) (airing : Airing) 
   pub played : airing.played ≡ play.time
   pub known : airing.known ≡ settling.time
 
--- the event whose PLAY is open, if one is: the first that isn't settled
-abbrev pub open_event : Mode → List Row → Option ℕ
-open_event mode rows = if has_open_play (log_of rows) then Some (settled_in mode rows) else None
+-- the event that may have aired besides, if one may: the first that isn't settled
+abbrev pub unsettled_event : Mode → List Row → Option ℕ
+unsettled_event mode rows = if may_have_aired mode (log_of rows) then Some (settled_in mode rows) else None
 
 -- these are the airings of the events that the rows show to be aired, and the event that may have aired besides
 pub record AreAirings (mode : Mode) (rows : List Row) (airings : List Airing) (event : Option ℕ) : Type 0 where
   pub one_each : length airings ≡ settled_in mode rows
   pub are : (k : ℕ) (airing : Airing) → slice_get airings k ≡ Some airing → IsAiring mode rows k airing
-  pub open_is : event ≡ open_event mode rows
+  pub besides : event ≡ unsettled_event mode rows

@@ -1,7 +1,5 @@
 -- The runs of a journal, one after another. Each has a controller of its own, which begins with an event of the list.
-use Rattle.std.specs.List.{list_any}
-use Rattle.std.specs.Prelude.{ℕ, ◌+◌, ◌-◌, Bool, false, List, [], ◌∷◌, ◌++◌, Option, None, Some, drop, length, take}
-use Rattle.vdcp_auto.specs.Commands.{is_stop_command}
+use Rattle.std.specs.Prelude.{ℕ, ◌+◌, ◌-◌, List, [], ◌∷◌, ◌++◌, Option, None, Some, drop, length, take}
 use Rattle.vdcp_journal.specs.declared.row.Note.{Note}
 use Rattle.vdcp_journal.specs.declared.row.Note.TheVariants as note
 use Rattle.vdcp_journal.specs.declared.row.Row.{Row}
@@ -47,16 +45,3 @@ runs_of rows = runs_after (record { from = 0; begin = 0; rows = [] }) rows
 -- the run that has its rows at these places
 abbrev pub run_at : List Row → JournalRun → Run
 run_at rows run = record { from = run.from; begin = run.begin; rows = take (run.end - run.begin) (drop run.begin rows) }
-
--- a STOP goes out
-abbrev pub sends_stop : Note → Bool
-sends_stop (note.Sent c) = is_stop_command c
-sends_stop (note.Heard h) = false
-sends_stop note.Silence = false
-sends_stop note.Take = false
-sends_stop note.Stop = false
-sends_stop (note.End outcome) = false
-sends_stop (note.From k) = false
-
-abbrev pub has_stop : List Row → Bool
-has_stop rows = list_any (λ row. sends_stop row.note) rows

@@ -43,8 +43,8 @@ impl Timed for Airing {
 pub struct Airings {
     /// Those of the reported events, in order.
     pub airings: Vec<Airing>,
-    /// The event that may have aired besides: its PLAY went out, and no answer has settled it.
-    pub open: Option<usize>,
+    /// The event that may have aired besides: its PLAY went out, and nothing has settled it since.
+    pub unsettled: Option<usize>,
 }
 
 /// When the events aired that the rows of a journal report, and which may have aired besides. The controller is one of
@@ -54,7 +54,7 @@ pub fn airings_in<S: Source>(
     controller: &Controller<S>,
     rows: &[Row],
 ) -> Result<Airings, AllocError>
-    ensures { IfOk result (λ found. AreAirings controller.now.mode rows.now found.airings.items found.open) }
+    ensures { IfOk result (λ found. AreAirings controller.now.mode rows.now found.airings.items found.unsettled) }
 {
     a_log_grows();
     let mut judge = judge_of(controller);
@@ -68,8 +68,8 @@ pub fn airings_in<S: Source>(
         played = last_play(played, row);
     }
     end(&mut judge, &mut asked, None);
-    let open = open_event(&judge);
-    Ok(Airings { airings, open })
+    let unsettled = unsettled_event(&judge);
+    Ok(Airings { airings, unsettled })
 }
 
 /// A judge of a controller that is new.
@@ -141,11 +141,11 @@ fn last_play(before: Option<Moment>, row: &Row) -> Option<Moment>
     }
 }
 
-/// The event whose PLAY is open, by what a judge knows.
-fn open_event<S: Source>(judge: &Judge<S>) -> Option<usize>
-    ensures { result ≡ (if judge.now.has_open_play then Some judge.now.settled else None) }
+/// The event that may have aired besides those that are settled, by what a judge knows.
+fn unsettled_event<S: Source>(judge: &Judge<S>) -> Option<usize>
+    ensures { result ≡ (if judge.now.may_have_aired then Some judge.now.settled else None) }
 {
-    if judge.has_open_play() {
+    if judge.may_have_aired() {
         Some(judge.settled())
     } else {
         None

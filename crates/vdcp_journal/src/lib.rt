@@ -9,7 +9,7 @@
 //! `read_journal` reads a journal's bytes, and leaves out a last row that was torn.
 //!
 //! `resume` gives a new controller the rows of a journal, and times out the exchange that was open.
-//! `airings_in` finds in them when each reported event aired.
+//! `airings_in` finds in them when each reported event aired, and which event may have aired besides.
 //!
 //! A journal may have the rows of several runs, one after another: `runs_in` finds them. `resume` and `airings_in` are
 //! given those of one run.
@@ -38,5 +38,5 @@ pub use moment::Moment;
 pub use read::{Journal, read_journal};
 pub use replay::{Resumed, resume};
 pub use row::{Heading, Note, Row};
-pub use runs::{JournalRun, has_stop, runs_in};
+pub use runs::{JournalRun, runs_in};
 pub use write::{write_heading, write_row};

@@ -2,7 +2,6 @@ ghost use Rattle.std.specs.Prelude.{◌≡◌, ◌≤◌, ◌↔◌, IfErr, IfOk
 ghost use Rattle.vdcp_auto.specs.Law.{IsLawful};
 ghost use Rattle.vdcp_auto.specs.Log.{is_answered, is_play};
 ghost use Rattle.vdcp_auto.specs.Plan.{plan_of};
-ghost use Rattle.vdcp_auto.specs.Settled.{has_open_play, tells_of_play};
 ghost use Rattle.vdcp_auto.specs.Turn.{awaited, start};
 ghost use Rattle.vdcp_journal.specs.Resume.{AreTold, IsResumeFault, Tells, after_call_if, after_rows, call_of, fault_of, log_of, timed_out};
 

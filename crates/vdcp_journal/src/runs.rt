@@ -1,9 +1,8 @@
 ghost use Rattle.std.specs.Prelude.{◌≡◌, ◌≤◌, All, IfOk, length, map};
-ghost use Rattle.vdcp_journal.specs.Runs.{begins_at, has_stop, run_at, runs_of, sends_stop};
+ghost use Rattle.vdcp_journal.specs.Runs.{begins_at, run_at, runs_of};
 
 use crate::row::{Note, Row};
 use std::alloc::{AllocError, Global};
-use vdcp_words::Command;
 
 /// A run of a journal: its rows are those from `begin` to `end`, that one left out.
 #[derive(Clone, Copy, Debug, PartialEq, Eq)]
@@ -53,23 +52,4 @@ fn begins_at(note: &Note) -> Option<usize>
         Note::From(event) => Some(*event),
         _ => None,
     }
-}
-
-/// Whether a STOP went out by these rows.
-pub fn has_stop(rows: &[Row]) -> bool
-    ensures { result ≡ has_stop rows.now }
-{
-    for k in 0..rows.len() {
-        if sends_stop(&rows[k].note) {
-            return true;
-        }
-    }
-    false
-}
-
-/// Whether a note tells of a STOP that goes out.
-fn sends_stop(note: &Note) -> bool
-    ensures { result ≡ sends_stop note.now }
-{
-    matches!(note, Note::Sent(Command::Stop))
 }

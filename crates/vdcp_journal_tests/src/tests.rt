@@ -8,7 +8,7 @@ use std::process::Abort;
 use vdcp_auto::{Controller, Heard, Outcome, Source};
 use vdcp_journal::{
     Airing, Heading, JournalReadFault, JournalRowFault, JournalWriteFault, Moment, Note,
-    ResumeFault, Resumed, Row, has_stop, read_journal, resume, runs_in, write_heading, write_row,
+    ResumeFault, Resumed, Row, read_journal, resume, runs_in, write_heading, write_row,
 };
 use vdcp_list::{List, read_list, write_timed_events, write_timed_heading};
 use vdcp_testing::{FailingWriter, Fails};
@@ -28,8 +28,6 @@ enum TableNote {
     /// The command to cue the clip `A,B`.
     Cue,
     Play,
-    /// The command to stop, and not the operator's wish.
-    SentStop,
     Ack,
     Nak(u8),
     Granted,
@@ -49,7 +47,6 @@ impl TableNote {
             TableNote::Select => Note::Sent(Command::Select(1)),
             TableNote::Cue => Note::Sent(Command::PlayCue(ClipId::new(*b"A,B     "))),
             TableNote::Play => Note::Sent(Command::Play),
-            TableNote::SentStop => Note::Sent(Command::Stop),
             TableNote::Ack => Note::Heard(Heard::Reply(Reply::Ack)),
             TableNote::Nak(byte) => Note::Heard(Heard::Reply(Reply::Nak(byte))),
             TableNote::Granted => Note::Heard(Heard::Reply(Reply::Opened(true))),
@@ -344,23 +341,6 @@ fn each_run_has_its_rows(rt: HostRuntime) {
     for (notes, wanted) in CASES.iter() {
         let places = run_places(&rt, notes);
         assert_eq!(rt; places.as_slice(), *wanted, "{notes:?}");
-    }
-}
-
-#[test]
-fn a_stop_is_found(rt: HostRuntime) {
-    static CASES: [(&[TableNote], bool); 4] = [
-        (&[], false),
-        (&[TableNote::Play, TableNote::Stop], false),
-        (&[TableNote::SentStop], true),
-        (
-            &[TableNote::Stop, TableNote::SentStop, TableNote::Silence],
-            true,
-        ),
-    ];
-    for (notes, wanted) in CASES.iter() {
-        let rows = rows_of(&rt, notes, rt.alloc());
-        assert_eq!(rt; has_stop(rows.as_slice()), *wanted, "{notes:?}");
     }
 }
 

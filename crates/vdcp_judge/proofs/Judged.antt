@@ -5,7 +5,7 @@ use Rattle.std.specs.List.{list_any}
 use Rattle.std.specs.Prelude.{◌↔◌, IsTrue, if◌then◌else◌}
 use Rattle.vdcp_auto.specs.Log.{is_close, is_cue, is_done_status, is_grant, is_play, is_stop}
 use Rattle.vdcp_auto.specs.RuleBook.{MayPlay}
-use Rattle.vdcp_auto.specs.Settled.{has_open_play, settled, settles}
+use Rattle.vdcp_auto.specs.Settled.{has_open_play, may_have_aired, settled, settles}
 use Rattle.vdcp_auto.specs.declared.exchange.Exchange.{Exchange}
 use Rattle.vdcp_auto.specs.declared.phase.Mode.{Mode}
 use Rattle.vdcp_judge.proofs.Cues.{done_before, done_from, done_now, old_cue, old_cue_from, play_stands}
@@ -31,6 +31,19 @@ settled_after law mode log e n m b is which few h =
     h (omega (arith, is, settles_few mode log, few))
     ∙ ap (λ k. if b then k + 1 else k) is
     ∙ ap (λ t. if t then settled mode log + 1 else settled mode log) which
+    ∙ sym (law mode log e)
+
+-- what the law of a growing log says
+abbrev pub AiringGrows : Type 0
+AiringGrows = (mode : Mode) (log : List Exchange) (e : Exchange) → may_have_aired mode (log ++ e ∷ [])
+    ≡ (not (settles mode log e) && (is_play e || may_have_aired mode log))
+
+pub airing_after : AiringGrows → (mode : Mode) (log : List Exchange) (e : Exchange) (had has b : Bool)
+    → had ≡ may_have_aired mode log → b ≡ settles mode log e → has ≡ (not b && (is_play e || had))
+    → has ≡ may_have_aired mode (log ++ e ∷ [])
+airing_after law mode log e had has b was which is =
+    is ∙ ap (λ x. not b && (is_play e || x)) was
+    ∙ ap (λ x. not x && (is_play e || may_have_aired mode log)) which
     ∙ sym (law mode log e)
 
 pub stands_after : SettledGrows → (mode : Mode) (list : List Item) (log : List Exchange) (e : Exchange)
@@ -79,14 +92,16 @@ done_after law mode list log e stood done after other still stands may is = (
 
 pub knows_after : {S : Type 0} (items : S → List Item) (log : List Exchange) (old new : View S)
     → new.source ≡ old.source → new.mode ≡ old.mode → new.settled ≡ settled old.mode log
-    → new.has_open_play ≡ has_open_play log → new.stopped ≡ list_any is_stop log
+    → new.has_open_play ≡ has_open_play log → new.may_have_aired ≡ may_have_aired old.mode log
+    → new.stopped ≡ list_any is_stop log
     → new.closed ≡ list_any is_close log → new.granted ≡ list_any is_grant log
     → (IsTrue (stands new.last_cue) ↔ CueStands old.mode (items old.source) log)
     → (IsTrue (is_done new.last_cue) ↔ MayPlay old.mode (items old.source) log)
     → Knows items log new
-knows_after items log old new source mode count opened stopped closed granted cue play = record {
+knows_after items log old new source mode count opened airing stopped closed granted cue play = record {
   settled = count ∙ ap (λ m. settled m log) (sym mode);
   open_play = opened;
+  airing = airing ∙ ap (λ m. may_have_aired m log) (sym mode);
   stopped = stopped;
   closed = closed;
   granted = granted;

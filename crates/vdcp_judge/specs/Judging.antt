@@ -7,7 +7,7 @@ use Rattle.vdcp_auto.specs.declared.phase.Mode.{Mode}
 use Rattle.vdcp_auto.specs.declared.phase.Mode.TheVariants.{Plain, Confirming}
 use Rattle.vdcp_auto.specs.Log.{is_cue, is_stop, is_close, is_grant}
 use Rattle.vdcp_auto.specs.RuleBook.{CuesItemAt, IsTaken, MayPlay}
-use Rattle.vdcp_auto.specs.Settled.{has_open_play, settled}
+use Rattle.vdcp_auto.specs.Settled.{has_open_play, may_have_aired, settled}
 use Rattle.vdcp_judge.specs.declared.judge.LastCue.{LastCue}
 use Rattle.vdcp_judge.specs.declared.judge.LastCue.TheVariants.{Void, Stands, Done}
 
@@ -17,6 +17,7 @@ pub record View (S : Type 0) : Type 0 where
   pub mode : Mode
   pub settled : ℕ
   pub has_open_play : Bool
+  pub may_have_aired : Bool
   pub stopped : Bool
   pub closed : Bool
   pub granted : Bool
@@ -51,6 +52,7 @@ is_done Done = true
 pub record Knows {S : Type 0} (items : S → List Item) (log : List Exchange) (view : View S) : Type 0 where
   pub settled : view.settled ≡ settled view.mode log
   pub open_play : view.has_open_play ≡ has_open_play log
+  pub airing : view.may_have_aired ≡ may_have_aired view.mode log
   pub stopped : view.stopped ≡ list_any is_stop log
   pub closed : view.closed ≡ list_any is_close log
   pub granted : view.granted ≡ list_any is_grant log

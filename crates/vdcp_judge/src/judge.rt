@@ -4,7 +4,7 @@ ghost use Rattle.vdcp_auto.specs.declared.exchange.Exchange.{Exchange};
 ghost use Rattle.vdcp_auto.specs.declared.phase.Mode.TheVariants.{Plain, Confirming};
 ghost use Rattle.vdcp_auto.specs.Log.{is_done_status, is_play};
 ghost use Rattle.vdcp_auto.specs.RuleBook.{CuesItemAt, IsTaken, May, MayPlay, Rule};
-ghost use Rattle.vdcp_auto.specs.Settled.{has_open_play, settled, settles};
+ghost use Rattle.vdcp_auto.specs.Settled.{has_open_play, may_have_aired, settled, settles};
 ghost use Rattle.vdcp_judge.specs.Judging.{CueStands, Knows, is_done, mode_of, stands};
 ghost use Rattle.vdcp_judge.specs.Rulings.{IsRuling};
 
@@ -41,7 +41,7 @@ pub struct Ruling {
 
 /// Holds an automation's exchanges against the rule book, one after another.
 ///
-/// - `allows`, `rule_on`, `settled` and `has_open_play` only look.
+/// - `allows`, `rule_on`, `settled` and `may_have_aired` only look.
 /// - `add` takes the exchange that ended.
 ///
 /// A clause about the log is of whatever log the judge was given, exchange by exchange, from its first one on.
@@ -51,6 +51,7 @@ pub struct Judge<S: Source> {
     confirming: bool,
     settled: usize,
     has_open_play: bool,
+    may_have_aired: bool,
     stopped: bool,
     closed: bool,
     granted: bool,
@@ -67,6 +68,7 @@ impl<S: Source> Model for Judge<S> {
       mode = mode_of j.confirming;
       settled = j.settled;
       has_open_play = j.has_open_play;
+      may_have_aired = j.may_have_aired;
       stopped = j.stopped;
       closed = j.closed;
       granted = j.granted;
@@ -105,6 +107,7 @@ impl<S: Source> Judge<S> {
             confirming,
             settled: 0,
             has_open_play: false,
+            may_have_aired: false,
             stopped: false,
             closed: false,
             granted: false,
@@ -121,14 +124,14 @@ impl<S: Source> Judge<S> {
         *settled
     }
 
-    /// Whether a PLAY is open: of all PLAYs, STOPs and empty statuses of the log, the last is a PLAY without an
-    /// answer.
-    pub fn has_open_play(&self) -> bool
-        ensures kept { result ≡ self.now.has_open_play }
-        ensures open { (log : List Exchange) → Knows S.items log self.now → result ≡ has_open_play log }
+    /// Whether one event more than are settled may have aired: a PLAY stands in the log, and nothing has settled since.
+    pub fn may_have_aired(&self) -> bool
+        ensures kept { result ≡ self.now.may_have_aired }
+        ensures airing { (log : List Exchange) → Knows S.items log self.now →
+            result ≡ may_have_aired self.now.mode log }
     {
-        let Self { has_open_play, .. } = self;
-        *has_open_play
+        let Self { may_have_aired, .. } = self;
+        *may_have_aired
     }
 
     /// Whether the rule book lets the command follow the log.
@@ -162,8 +165,10 @@ impl<S: Source> Judge<S> {
         let last_cue = self.cue_after(exchange, has_settled);
         let has_open_play = self.has_open_play_after(exchange);
         let settled = self.settled_after(has_settled);
+        let may_have_aired = self.may_have_aired_after(exchange, has_settled);
         self.last_cue = last_cue;
         self.has_open_play = has_open_play;
+        self.may_have_aired = may_have_aired;
         self.settled = settled;
         self.stopped |= is_stop(exchange);
         self.closed |= is_close(exchange);
@@ -237,6 +242,13 @@ impl<S: Source> Judge<S> {
         } else {
             self.has_open_play && !is_stop(exchange) && !is_empty_status(exchange)
         }
+    }
+
+    /// Whether one event more may have aired once the exchange has ended, which settles an event or doesn't.
+    fn may_have_aired_after(&self, exchange: &Exchange, has_settled: bool) -> bool
+        ensures { result ≡ (not has_settled && (is_play exchange.now || self.now.may_have_aired)) }
+    {
+        !has_settled && (is_play(exchange) || self.may_have_aired)
     }
 
     /// What the last cue is good for once the exchange has ended, which settles an event or doesn't.

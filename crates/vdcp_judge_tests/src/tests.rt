@@ -308,15 +308,18 @@ fn what_ends(rt: HostRuntime) {
     check(&rt, &CASES);
 }
 
+// Once a PLAY stands in the log, until an event is settled.
 #[test]
-fn an_open_play_is_seen(rt: HostRuntime) {
+fn what_may_have_aired_is_seen(rt: HostRuntime) {
     let mut judge = Judge::new(Clips::new());
-    let before = judge.has_open_play();
+    let before = judge.may_have_aired();
+    judge.add(&heard(Command::Play, Reply::Nak(0x01)));
+    judge.add(&silent(Command::Stop));
+    let refused = judge.may_have_aired();
     judge.add(&silent(Command::Play));
-    let open = judge.has_open_play();
     judge.add(&status(0x01));
-    let after = judge.has_open_play();
-    assert_eq!(rt; (before, open, after), (false, true, false));
+    let after = judge.may_have_aired();
+    assert_eq!(rt; (before, refused, after), (false, true, false));
 }
 
 #[test]

@@ -6,7 +6,7 @@ use Rattle.vdcp_auto.specs.Plan.{Plan}
 use Rattle.vdcp_auto.specs.State.{State}
 use Rattle.vdcp_journal.specs.Runs.{Run}
 use Rattle.vdcp_journal.specs.declared.row.Heading.{Heading}
-use Rattle.vdcp_record.specs.Resuming.{IsNoBeginning, IsReplayed, IsUnopenedAgain, bad, may_have, may_have_aired, next_event, no_event, no_memory, not_listed, out_of_memory, unresumed, unsettled}
+use Rattle.vdcp_record.specs.Resuming.{IsNoBeginning, IsReplayed, IsUnopenedAgain, bad, may_have, next_event, next_may_have_aired, no_event, no_memory, not_listed, out_of_memory, unresumed, unsettled}
 use Rattle.vdcp_text.specs.declared.failure.Failure.{Failure}
 use Rattle.vdcp_text.specs.declared.failure.Failure.TheVariants as failures
 use Rattle.vdcp_value.specs.declared.part.Item.{Item}
@@ -24,7 +24,7 @@ not_begun items name wanted word bytes run ended end whole failure replayed (out
 
 -- where the operator says nothing
 pub none_next : (items : List Item) (heading : Heading) (run : Run) (failure : Failure)
-    → (failure ≡ failures.Memory) ⊎ (IsTrue (may_have_aired run) × (failure ≡ failures.MayHaveAired (next_event heading run)))
+    → (failure ≡ failures.Memory) ⊎ (IsTrue (next_may_have_aired heading run) × (failure ≡ failures.MayHaveAired (next_event heading run)))
     → IsNoBeginning items heading run None failure
 none_next items heading run failure (inl is) = out_of_memory is
 none_next items heading run failure (inr p) = may_have refl p.0 p.1

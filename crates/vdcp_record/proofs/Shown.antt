@@ -4,7 +4,7 @@ use Rattle.std.proofs.lemmas.List.{length-drop, map-append, take_more}
 use Rattle.std.specs.Prelude.{Option, None, Some, IfSome, if◌then◌else◌}
 use Rattle.vdcp_auto.specs.Law.{IsLawful}
 use Rattle.vdcp_auto.specs.Plan.{Plan}
-use Rattle.vdcp_auto.specs.Settled.{has_open_play}
+use Rattle.vdcp_auto.specs.Settled.{may_have_aired}
 use Rattle.vdcp_auto.specs.State.{State}
 use Rattle.vdcp_auto.specs.declared.phase.Mode.{Mode}
 use Rattle.vdcp_files.specs.Mode.{mode_of}
@@ -53,24 +53,24 @@ pub mapped_more : {X Y : Type 0} (f : X → Y) (xs : List X) (k : ℕ) (d : X) �
 mapped_more f xs k d below =
     ap (map f) (take_more xs k d below) ∙ map-append f (take k xs) (get_or xs k d ∷ [])
 
--- the number of an open event in the whole list is one of the machine's
-open_counts : (is_open : Bool) (from n : ℕ) → from + n < 2 ^ 64
-    → IfSome (if is_open then Some n else None) (λ k. from + k < 2 ^ 64)
-open_counts true from n few = few
-open_counts false from n few = tt
+-- the number of an unsettled event in the whole list is one of the machine's
+unsettled_counts : (is_one : Bool) (from n : ℕ) → from + n < 2 ^ 64
+    → IfSome (if is_one then Some n else None) (λ k. from + k < 2 ^ 64)
+unsettled_counts true from n few = few
+unsettled_counts false from n few = tt
 
-open_counts_in : (items : List Item) (heading : Heading) (run : Run) (plan : Plan) (state : State) (reported : ℕ)
+unsettled_counts_in : (items : List Item) (heading : Heading) (run : Run) (plan : Plan) (state : State) (reported : ℕ)
     (airings : List Airing) (event : Option ℕ) → IsResumed (plan_of_run heading items run) run.rows plan state
     → AreAirings plan.mode run.rows airings event → reported ≡ state.settled → reported ≤ length plan.list
     → run.from ≤ length items → length items < 2 ^ 64 → IfSome event (λ k. run.from + k < 2 ^ 64)
-open_counts_in items heading run plan state reported airings event resumed are count within listed few =
+unsettled_counts_in items heading run plan state reported airings event resumed are count within listed few =
     let mode_is : plan.mode ≡ mode_of heading.confirming = ap (λ (p : Plan). p.mode) resumed.plan_is in
     let settled_is : state.settled ≡ settled_in plan.mode run.rows =
     resumed.lawful.is_settled ∙ ap (λ (m : Mode). settled_in m run.rows) (sym mode_is) in
     let left : length plan.list ≡ length items - run.from =
     ap (λ (p : Plan). length p.list) resumed.plan_is ∙ length-drop run.from items in
-    subst (λ (o : Option ℕ). IfSome o (λ k. run.from + k < 2 ^ 64)) (sym are.open_is)
-    (open_counts (has_open_play (log_of run.rows)) run.from (settled_in plan.mode run.rows)
+    subst (λ (o : Option ℕ). IfSome o (λ k. run.from + k < 2 ^ 64)) (sym are.besides)
+    (unsettled_counts (may_have_aired plan.mode (log_of run.rows)) run.from (settled_in plan.mode run.rows)
     (omega (arith, settled_is, count, within, left, listed, few)))
 
 -- it is of rows that are these
@@ -81,7 +81,7 @@ pub event_counts : (items : List Item) (heading : Heading) (rows rows' : List Ro
     → reported ≤ length plan.list → run.from ≤ length items → length items < 2 ^ 64
     → IfSome event (λ k. run.from + k < 2 ^ 64)
 event_counts items heading rows rows' run plan state reported airings event same resumed are count within listed few =
-    open_counts_in items heading (run_at rows' run) plan state reported airings event resumed are count within listed few
+    unsettled_counts_in items heading (run_at rows' run) plan state reported airings event resumed are count within listed few
 
 run_shows_so : (settings : AsrunSettings) (items : List Item) (heading : Heading) (run : Run) (plan : Plan) (state : State)
     (reported : ℕ) (airings : List Airing) (event : Option ℕ)

@@ -1,9 +1,9 @@
 -- What goes on from a journal, and why nothing does.
 use Rattle.std.specs.Borrow.{Bor}
-use Rattle.std.specs.Prelude.{ℕ, ◌≡◌, ◌≢◌, ◌⊎◌, ◌+◌, ◌≤◌, ◌<◌, Bool, IsFalse, IsTrue, List, [], ◌∷◌, ◌++◌, Option, None, Some, drop, length, ◌||◌}
+use Rattle.std.specs.Prelude.{ℕ, ◌≡◌, ◌≢◌, ◌⊎◌, ◌+◌, ◌≤◌, ◌<◌, Bool, IsFalse, IsTrue, List, [], ◌∷◌, ◌++◌, Option, None, Some, drop, length}
 use Rattle.vdcp_auto.specs.Law.{IsLawful}
 use Rattle.vdcp_auto.specs.Plan.{Plan}
-use Rattle.vdcp_auto.specs.Settled.{has_open_play}
+use Rattle.vdcp_auto.specs.Settled.{may_have_aired}
 use Rattle.vdcp_auto.specs.State.{State}
 use Rattle.vdcp_auto.specs.Turn.{outcome_of, start}
 use Rattle.vdcp_auto.specs.declared.outcome.Outcome.{Outcome}
@@ -12,7 +12,7 @@ use Rattle.vdcp_files.specs.Mode.{mode_of}
 use Rattle.vdcp_journal.specs.Airings.{settled_in}
 use Rattle.vdcp_journal.specs.Journals.{IsJournal, IsJournalFault}
 use Rattle.vdcp_journal.specs.Resume.{AreTold, IsResumeFault, after_rows, log_of, timed_out}
-use Rattle.vdcp_journal.specs.Runs.{Run, has_stop, runs_of}
+use Rattle.vdcp_journal.specs.Runs.{Run, runs_of}
 use Rattle.vdcp_journal.specs.declared.faults.JournalReadFault.{JournalReadFault}
 use Rattle.vdcp_journal.specs.declared.faults.JournalReadFault.TheVariants as unread
 use Rattle.vdcp_journal.specs.declared.faults.JournalRowFault.{JournalRowFault}
@@ -153,20 +153,20 @@ pub data IsUnresumed (items : List Item) (name : Bor (List ℕ)) (wanted : Headi
 abbrev pub next_event : Heading → Run → ℕ
 next_event heading run = run.from + settled_in (mode_of heading.confirming) run.rows
 
--- that event may have aired: its PLAY is open, or a STOP went out
-abbrev pub may_have_aired : Run → Bool
-may_have_aired run = has_open_play (log_of run.rows) || has_stop run.rows
+-- that event may have aired
+abbrev pub next_may_have_aired : Heading → Run → Bool
+next_may_have_aired heading run = may_have_aired (mode_of heading.confirming) (log_of run.rows)
 
 -- the event with which a controller begins after a run: the one that the operator says, or else the first that the run
 -- doesn't report, which can't have aired
 abbrev pub BeginsAfter : Heading → Run → Option ℕ → ℕ → Type 0
 BeginsAfter heading run (Some word) from = from ≡ word
-BeginsAfter heading run None from = (from ≡ next_event heading run) × IsFalse (may_have_aired run)
+BeginsAfter heading run None from = (from ≡ next_event heading run) × IsFalse (next_may_have_aired heading run)
 
 -- why no controller begins after a run
 pub data IsNoBeginning (items : List Item) (heading : Heading) (run : Run) (word : Option ℕ) (failure : Failure)
     : Type 0 where
-  may_have : word ≡ None → IsTrue (may_have_aired run) → failure ≡ failures.MayHaveAired (next_event heading run)
+  may_have : word ≡ None → IsTrue (next_may_have_aired heading run) → failure ≡ failures.MayHaveAired (next_event heading run)
       → IsNoBeginning items heading run word failure
   not_listed : (k : ℕ) → word ≡ Some k → length items < k → failure ≡ failures.NoEvent k
       → IsNoBeginning items heading run word failure
@@ -192,7 +192,7 @@ pub data IsUnopenedAgain (items : List Item) (name : Bor (List ℕ)) (wanted : H
     : Type 0 where
   unresumed : IsUnresumed items name wanted failure → IsUnopenedAgain items name wanted word failure
   unsettled : word ≡ None → (bytes : List ℕ) (run : Run) (ended : Plan) (end : State) (whole : ℕ)
-      → IsReplayed items wanted bytes run ended end whole → IsTrue (may_have_aired run)
+      → IsReplayed items wanted bytes run ended end whole → IsTrue (next_may_have_aired wanted run)
       → failure ≡ failures.MayHaveAired (next_event wanted run) → IsUnopenedAgain items name wanted word failure
   no_event : (k : ℕ) → word ≡ Some k → length items < k → failure ≡ failures.NoEvent k
       → IsUnopenedAgain items name wanted word failure

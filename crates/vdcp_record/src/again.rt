@@ -3,7 +3,7 @@ ghost use Rattle.vdcp_auto.specs.Plan.{plan_of};
 ghost use Rattle.vdcp_auto.specs.Turn.{outcome_of};
 ghost use Rattle.vdcp_journal.specs.Runs.{run_at};
 ghost use Rattle.vdcp_list.specs.Rests.{items_left};
-ghost use Rattle.vdcp_record.specs.Resuming.{BeginsAfter, IsNoBeginning, IsOpenedAgain, IsOver, IsResumed, IsUnopenedAgain, may_have_aired, next_event, plan_of_run};
+ghost use Rattle.vdcp_record.specs.Resuming.{BeginsAfter, IsNoBeginning, IsOpenedAgain, IsOver, IsResumed, IsUnopenedAgain, next_event, next_may_have_aired, plan_of_run};
 ghost use Rattle.vdcp_text.specs.declared.failure.Failure.TheVariants as failures;
 
 use crate::pending::Pending;
@@ -14,7 +14,7 @@ use std::alloc::Global;
 use std::fs::File;
 use std::rt::{Clock, Files};
 use vdcp_auto::{Controller, Outcome, Source};
-use vdcp_journal::{Heading, airings_in, has_stop};
+use vdcp_journal::{Heading, airings_in};
 use vdcp_list::Rest;
 use vdcp_text::Failure;
 
@@ -131,7 +131,7 @@ fn next_event<'a, S: Source>(
         (BeginsAfter wanted.now (run_at replayed.now.rows.items replayed.now.run) None) }
     ensures listed { IfOk result (λ k. k ≤ length (S.items source.now)) }
     ensures unsettled { IfErr result (λ failure. (failure ≡ failures.Memory)
-        ⊎ (IsTrue (may_have_aired (run_at replayed.now.rows.items replayed.now.run))
+        ⊎ (IsTrue (next_may_have_aired wanted.now (run_at replayed.now.rows.items replayed.now.run))
         × (failure ≡ failures.MayHaveAired
         (next_event wanted.now (run_at replayed.now.rows.items replayed.now.run))))) }
 {
@@ -141,7 +141,7 @@ fn next_event<'a, S: Source>(
     let rows = &replayed.rows[run.begin..run.end];
     let found = airings_in(alloc, &replayed.controller, rows)?;
     let event = run.from + replayed.controller.settled();
-    if found.open.is_some() || has_stop(rows) {
+    if found.unsettled.is_some() {
         return Err(Failure::MayHaveAired(event));
     }
     Ok(event)

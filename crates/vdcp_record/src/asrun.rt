@@ -212,7 +212,7 @@ fn add_run<'a, S: Source>(
     let airings = found.airings.as_slice();
     let text = &mut shown.text;
     add_reported(alloc, events, run.from, reported, airings, settings, text)?;
-    add_event(settings, run.from, found.open, &mut shown.told)
+    add_event(settings, run.from, found.unsettled, &mut shown.told)
 }
 
 // Adds the rows of the events that a run reports.

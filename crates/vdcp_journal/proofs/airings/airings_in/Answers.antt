@@ -1,6 +1,6 @@
 use Rattle.std.proofs.Common.{◌≡◌, ◌+◌, ◌<◌, ◌^◌, [], ◌∷◌, ◌++◌, List, None, length, take, sym, ap, subst, ◌∙◌, arith}
 use Rattle.std.proofs.lemmas.List.{length-take, take_all, take_more}
-use Rattle.vdcp_auto.specs.Settled.{settled}
+use Rattle.vdcp_auto.specs.Settled.{may_have_aired, settled}
 use Rattle.vdcp_auto.specs.declared.exchange.Exchange.{Exchange}
 use Rattle.vdcp_journal.proofs.AiringSteps.{SoFar, all_shown, ended_from, fits, log_on, one_row_more}
 use Rattle.vdcp_journal.proofs.airings.airings_in.Goals as goal
@@ -69,9 +69,10 @@ returns g c =
     omega (arith, here.so_far.few, length-take k all) in
     let knows = c.end.ensures.knows log few here.knows in
     let shown = all_shown c.a_log_grows.ensures.settled mode front c.loop-k.asked c.loop-k.played
-    c.loop-k.airings.items c.open_event-open.result c.end.new.judge.has_open_play c.end.new.judge.settled here.so_far
-    knows.open_play (knows.settled ∙ ap (λ m. settled m last) c.end.ensures.mode) c.open_event-open.ensures in
+    c.loop-k.airings.items c.unsettled_event-unsettled.result c.end.new.judge.may_have_aired c.end.new.judge.settled
+    here.so_far (knows.airing ∙ ap (λ m. may_have_aired m last) c.end.ensures.mode)
+    (knows.settled ∙ ap (λ m. settled m last) c.end.ensures.mode) c.unsettled_event-unsettled.ensures in
     let whole : front ≡ all = take_all k all (omega arith) in
-    subst (λ rows. AreAirings c.args.controller.now.mode rows c.loop-k.airings.items c.open_event-open.result) whole
-    (subst (λ m. AreAirings m front c.loop-k.airings.items c.open_event-open.result)
+    subst (λ rows. AreAirings c.args.controller.now.mode rows c.loop-k.airings.items c.unsettled_event-unsettled.result) whole
+    (subst (λ m. AreAirings m front c.loop-k.airings.items c.unsettled_event-unsettled.result)
     (here.mode ∙ c.judge_of-judge.ensures.mode) shown)

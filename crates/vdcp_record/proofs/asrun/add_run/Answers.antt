@@ -7,7 +7,7 @@ pub add_event-requires : goal.add_event-requires
 add_event-requires g c =
     event_counts (g.S.Source.items c.args.events.now) c.args.journal.now.heading c.args.journal.now.rows.items
     c.as_slice-rows.result.now c.args.run _ _ c.settled-reported.result c.in_ok-found.found.airings.items
-    c.in_ok-found.found.«open» c.as_slice-rows.ensures.value c.in_ok-resumed.ensures.resumed c.in_ok-found.ensures
+    c.in_ok-found.found.unsettled c.as_slice-rows.ensures.value c.in_ok-resumed.ensures.resumed c.in_ok-found.ensures
     c.settled-reported.ensures.count c.settled-reported.ensures.within c.in_ok-resumed.ensures.listed
     (g.met.S.Source.countable c.args.events.now)
 
@@ -16,10 +16,10 @@ returns-clause-shown g c =
     let items = g.S.Source.items c.args.events.now in
     on_ok_weaker c.add_event.result (λ told. (
       reported_text c.args.settings items c.args.run.from c.settled-reported.result c.in_ok-found.found.airings.items,
-      event_told c.args.settings c.args.run.from c.in_ok-found.found.«open»,
+      event_told c.args.settings c.args.run.from c.in_ok-found.found.unsettled,
       run_shows c.args.settings items c.args.journal.now.heading c.args.journal.now.rows.items
           c.as_slice-rows.result.now c.args.run _ _ c.settled-reported.result c.in_ok-found.found.airings.items
-          c.in_ok-found.found.«open» c.as_slice-rows.ensures.value c.in_ok-resumed.ensures.resumed
+          c.in_ok-found.found.unsettled c.as_slice-rows.ensures.value c.in_ok-resumed.ensures.resumed
           c.in_ok-found.ensures c.settled-reported.ensures.count c.in_ok-resumed.ensures.listed,
       rw c.as_slice-airings.ensures.value at c.in_ok-add_reported.ensures.text,
       told,

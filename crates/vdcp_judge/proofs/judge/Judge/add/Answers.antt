@@ -1,6 +1,6 @@
 use Rattle.std.proofs.Common.{Bool, ◌||◌, ap, ◌∙◌, [], ◌∷◌, ◌++◌}
 use Rattle.vdcp_auto.specs.Log.{is_stop, is_close, is_grant}
-use Rattle.vdcp_judge.proofs.Judged.{any_after, knows_after, settled_after}
+use Rattle.vdcp_judge.proofs.Judged.{airing_after, any_after, knows_after, settled_after}
 use Rattle.vdcp_judge.proofs.judge.Judge.add.Goals as goal
 
 pub returns-clause-knows : goal.returns-clause-knows
@@ -13,6 +13,9 @@ returns-clause-knows g c log few knows =
     (settled_after c.a_log_grows.ensures.settled old.mode log e old.settled c.settled_after-settled.result
     c.settles-has_settled.result knows.settled which few c.settled_after-settled.ensures)
     (c.has_open_play_after-has_open_play.ensures log knows)
+    (airing_after c.a_log_grows.ensures.airing old.mode log e old.may_have_aired
+    c.may_have_aired_after-may_have_aired.result c.settles-has_settled.result knows.airing which
+    c.may_have_aired_after-may_have_aired.ensures)
     (ap (λ (b : Bool). c.self.inside.stopped || b) c.is_stop.ensures
     ∙ any_after is_stop log e c.self.inside.stopped (ap (λ v. v.stopped) view_is ∙ knows.stopped))
     (ap (λ (b : Bool). c.self.inside.closed || b) c.is_close.ensures

@@ -11,6 +11,7 @@ returns-clause-knows g c =
     record {
       settled = refl;
       open_play = refl;
+      airing = refl;
       stopped = refl;
       closed = refl;
       granted = refl;
