@@ -328,8 +328,13 @@ old_play_airs_another length = refl
 abbrev a_kill : (length : Timecode) → (e : Ends) × AreJoined plan (port length) e
 a_kill length = (
   _,
-  ends.came_up (ends.came_down (ends.gave (ends.resumed (ends.came_down (ends.gave ends.begun) open_bytes [] refl refl)))
-      open_bytes [] refl refl) granted_bytes [] refl,
+  ends.went_on
+      (ends.went_on
+      (ends.went_on
+      (ends.went_on (ends.went_on (ends.went_on ends.begun ends.gave) (ends.came_down open_bytes [] refl refl)) ends.resumed)
+      ends.gave)
+      (ends.came_down open_bytes [] refl refl))
+      (ends.came_up granted_bytes [] refl),
 )
 
 its_journal : (length : Timecode) → (a_kill length).0.notes

@@ -173,7 +173,7 @@ one_frame law plan port e r =
     let opens : open_burst (e.downs ++ silence ∷ []) ≡ [] = open_silence [] e.downs r.no_close in
     record {
       rest = record {
-        joined = two.frame r.joined r.no_close all;
+        joined = two.went_on r.joined (two.frame r.no_close all);
         held_is = r.held_is;
         all_down = r.all_down ∙ sym (bytes_silence e.downs);
         all_up = s.sent ∙ append-nil (sent_up e) ∙ r.all_up;
@@ -346,8 +346,8 @@ exchanges law plan port e can r none_open =
     ap (λ (b : List ℕ). with_down (bytes b) (with_command plan e))
     (ap (drop (length went)) down ∙ drop_at went (spelt ms) (length went) refl) in
     let joined : AreJoined plan port asked =
-    two.came_down (two.gave r.joined) (spelt ms) []
-    (down ∙ ap (λ (l : List ℕ). went ++ l) (sym (append-nil (spelt ms)))) r.no_close in
+    two.went_on (two.went_on r.joined two.gave) (two.came_down (spelt ms) []
+    (down ∙ ap (λ (l : List ℕ). went ++ l) (sym (append-nil (spelt ms)))) r.no_close) in
     let reads : messages_of (spelt ms) ≡ ms =
     ap messages_of (sym (append-nil (spelt ms)))
     ∙ messages_spelt law.spelt ms [] fits (nothing_unfinished law.spelt) small in
@@ -378,8 +378,8 @@ exchanges law plan port e can r none_open =
     ap (λ (l : List Content). (hears_all plan unit l (gives p)).state) new in
     subst (HasExchanged plan port e) (sym (ap (with_all_up plan unit) asks ∙ hears)) (record {
       rest = record {
-        joined = two.came_up joined (spelt rs) []
-            (up ∙ ap (λ (l : List ℕ). e.ups ++ l) (sym (append-nil (spelt rs))));
+        joined = two.went_on joined (two.came_up (spelt rs) []
+            (up ∙ ap (λ (l : List ℕ). e.ups ++ l) (sym (append-nil (spelt rs)))));
         held_is = held;
         all_down = ap (bytes_of unit) (commands_listens plan unit (bytes (spelt rs)) (gives p)) ∙ down
             ∙ sym (bytes_more e.downs (spelt ms));
@@ -410,7 +410,7 @@ exchanges law plan port e can r none_open =
 times_out : (plan : Plan) (port : ClockedPort) (e : Ends) → IsAtRest plan port e
     → IsAtRest plan port (with_time_out plan port.state.unit e)
 times_out plan port e r = record {
-  joined = two.waited r.joined;
+  joined = two.went_on r.joined two.waited;
   held_is = ap held_after_silence r.held_is;
   all_down = ap (bytes_of port.state.unit) (commands_listens plan port.state.unit silence e.automation) ∙ r.all_down;
   all_up = r.all_up;

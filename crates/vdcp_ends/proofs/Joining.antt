@@ -31,7 +31,7 @@ use Rattle.vdcp_drive.specs.Served.{items_served}
 use Rattle.vdcp_late.specs.LateChannel.{LateChannel, IsLateReached, after_late_event, after_late_events, command_bursts, made_anew, new_late_channel}
 use Rattle.vdcp_late.specs.declared.event.LateEvent.{LateEvent}
 use Rattle.vdcp_late.specs.declared.event.LateEvent.TheVariants as event
-use Rattle.vdcp_ends.specs.TwoEnds.{AreJoined, begun, gave, came_up, came_down, waited, hung_up, frame, shut, took, halted, resumed, restarted}
+use Rattle.vdcp_ends.specs.TwoEnds.{AreJoined, begun, went_on, gave, came_up, came_down, waited, hung_up, frame, shut, took, halted, resumed, restarted}
 use Rattle.vdcp_ends.specs.TwoEnds.{CanJoin, Ends, IsLateChannel, aired_now, bytes_in, connected_anew, log_now, new_ends, port_now, sent_up, notes_ended, notes_given, notes_heard, wishing, with_automation, with_down, with_up}
 use Rattle.vdcp_ends.specs.Below.{Answered, Completed, Spelt, Written}
 use Rattle.vdcp_ends.proofs.Bytes.{clean_spelt, completes, end_past, front_small, messages_past, messages_spelt, messages_within_limit, nothing_unfinished, spelt, spelt_both, whole_spelt, within_limit}
@@ -582,10 +582,10 @@ connects law plan port e c d q b reached same is unit clips =
 pub beside : (law : Laws) (plan : Plan) (port : ClockedPort) (e : Ends) → CanJoin plan port
     → AreJoined plan port e → AreBeside plan port e
 beside law plan port _ can begun = record { channel = _; beside = begins law plan port can }
-beside law plan port _ can (gave {e} j) =
+beside law plan port _ can (went_on {e} j gave) =
     let r = beside law plan port e can j in
     record { channel = _; beside = gives_next law plan port e r.channel (notes_given plan e.automation.state) can r.beside }
-beside law plan port _ can (came_up {e} j piece rest is) =
+beside law plan port _ can (went_on {e} j (came_up piece rest is)) =
     let r = beside law plan port e can j in
     let u = r.beside.upwards in
     let on = comes_on law.spelt u.said e.ups u.held r.channel.up u.on_way piece rest (sym u.said_is ∙ is) in
@@ -594,46 +594,46 @@ beside law plan port _ can (came_up {e} j piece rest is) =
       beside = comes_up law plan port e piece r.channel
           (notes_heard plan port.state.unit (completed e.automation.held piece) e.automation) r.beside on;
     }
-beside law plan port _ can (came_down {e} j piece rest is no_close) =
+beside law plan port _ can (went_on {e} j (came_down piece rest is no_close)) =
     let r = beside law plan port e can j in
     comes_down law plan port e piece r.channel can r.beside no_close rest
     (sym (bytes_to port.state.unit (commands_in plan e.automation)) ∙ is) (cases_lt burst_limit (length (open_burst e.downs)))
-beside law plan port _ can (waited {e} j) =
+beside law plan port _ can (went_on {e} j waited) =
     let r = beside law plan port e can j in record {
       channel = _;
       beside = times_out law plan port e r.channel silence (notes_ended plan None e.automation.state) r.beside refl refl
           (ap held_after_silence r.beside.upwards.held_is);
     }
-beside law plan port _ can (hung_up {e} j) =
+beside law plan port _ can (went_on {e} j hung_up) =
     let r = beside law plan port e can j in record {
       channel = _;
       beside = times_out law plan port e r.channel close (notes_ended plan None e.automation.state) r.beside refl refl r.beside.upwards.held_is;
     }
-beside law plan port _ can (frame {e} j no_close all) =
+beside law plan port _ can (went_on {e} j (frame no_close all)) =
     let r = beside law plan port e can j in
     passes law plan port e r.channel r.beside no_close all (cases_lt burst_limit (length (open_burst e.downs)))
-beside law plan port _ can (shut {e} j) =
+beside law plan port _ can (went_on {e} j shut) =
     let r = beside law plan port e can j in
     record { channel = r.channel; beside = shuts plan port e r.channel r.beside }
-beside law plan port _ can (took {e} j on) =
+beside law plan port _ can (went_on {e} j (took on)) =
     let r = beside law plan port e can j in record {
       channel = _;
       beside = wishes law plan port e r.channel event.Take (taken e.automation.state) (note.Take ∷ []) r.beside refl
           (ap taken r.beside.state_is) refl;
     }
-beside law plan port _ can (halted {e} j on) =
+beside law plan port _ can (went_on {e} j (halted on)) =
     let r = beside law plan port e can j in record {
       channel = _;
       beside = wishes law plan port e r.channel event.Stop (stopped e.automation.state) (note.Stop ∷ []) r.beside refl
           (ap stopped r.beside.state_is) refl;
     }
-beside law plan port _ can (resumed {e} j) =
+beside law plan port _ can (went_on {e} j resumed) =
     let r = beside law plan port e can j in record {
       channel = lost r.channel;
       beside = connects law plan port e r.channel (lost r.channel) (port_now e) r.beside
           (lost_reached law r.channel r.beside.reached) refl r.beside.port_is r.beside.unit_is r.beside.clips_are;
     }
-beside law plan port _ can (restarted {e} j) =
+beside law plan port _ can (went_on {e} j restarted) =
     let r = beside law plan port e can j in record {
       channel = after_late_event (lost r.channel) event.ServerAnew;
       beside = connects law plan port e r.channel (after_late_event (lost r.channel) event.ServerAnew)

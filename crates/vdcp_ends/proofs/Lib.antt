@@ -9,4 +9,5 @@ mod Logging
 mod Headline
 mod SeveralRuns
 mod Exchanging
+mod Killed
 mod Examples

@@ -20,7 +20,7 @@ use Rattle.vdcp_journal.specs.declared.row.Row.{Row}
 use Rattle.vdcp_drive.specs.Keeping.{end_of, ended_notes, given_notes}
 use Rattle.vdcp_drive.specs.Prompt.{Prompt, hears, hears_all}
 use Rattle.vdcp_drive.specs.PromptReading.{completed}
-use Rattle.vdcp_ends.specs.TwoEnds.{AreJoined, begun, gave, came_up, came_down, waited, hung_up, frame, shut, took, halted, resumed, restarted}
+use Rattle.vdcp_ends.specs.TwoEnds.{AreJoined, begun, went_on, gave, came_up, came_down, waited, hung_up, frame, shut, took, halted, resumed, restarted}
 use Rattle.vdcp_ends.specs.TwoEnds.{Ends, log_now, note_for, notes_ended, notes_given, notes_heard}
 use Rattle.vdcp_ends.proofs.Commands.{awaits_none_in, ends_alone, exchange_is, hears_comes}
 
@@ -167,51 +167,51 @@ time_leads plan p = ended_leads plan p.state p.log None (ended_by plan None p.st
 
 pub are_logged : (plan : Plan) (port : ClockedPort) (e : Ends) → AreJoined plan port e → IsLogged plan e
 are_logged plan port _ begun = record { open_is = refl; closed_is = refl }
-are_logged plan port _ (gave {e} j) =
+are_logged plan port _ (went_on {e} j gave) =
     let p : Prompt = e.automation in
     let l = logs_on plan e (ticked p.state) p.log (notes_given plan p.state) (are_logged plan port e j)
     (given_leads plan p.state p.log (given plan p.state) refl) in
     record { open_is = l.0; closed_is = l.1 }
-are_logged plan port _ (came_up {e} j piece rest is) =
+are_logged plan port _ (went_on {e} j (came_up piece rest is)) =
     let p : Prompt = e.automation in
     let ms : List Content = completed p.held piece in
     let q : Prompt = hears_all plan port.state.unit ms p in
     let l = logs_on plan e q.state q.log (notes_heard plan port.state.unit ms p) (are_logged plan port e j)
     (heard_leads plan port.state.unit ms p) in
     record { open_is = l.0; closed_is = l.1 }
-are_logged plan port _ (came_down {e} j piece rest is no_close) =
+are_logged plan port _ (went_on {e} j (came_down piece rest is no_close)) =
     let l = are_logged plan port e j in record { open_is = l.open_is; closed_is = l.closed_is }
-are_logged plan port _ (waited {e} j) =
+are_logged plan port _ (went_on {e} j waited) =
     let p : Prompt = e.automation in
     let l = logs_on plan e (came_to plan None p.state) (logged p.log (ended_by plan None p.state))
     (notes_ended plan None p.state) (are_logged plan port e j) (time_leads plan p) in
     record { open_is = l.0; closed_is = l.1 }
-are_logged plan port _ (hung_up {e} j) =
+are_logged plan port _ (went_on {e} j hung_up) =
     let p : Prompt = e.automation in
     let l = logs_on plan e (came_to plan None p.state) (logged p.log (ended_by plan None p.state))
     (notes_ended plan None p.state) (are_logged plan port e j) (time_leads plan p) in
     record { open_is = l.0; closed_is = l.1 }
-are_logged plan port _ (frame {e} j no_close all) =
+are_logged plan port _ (went_on {e} j (frame no_close all)) =
     let l = are_logged plan port e j in record { open_is = l.open_is; closed_is = l.closed_is }
-are_logged plan port _ (shut {e} j) =
+are_logged plan port _ (went_on {e} j shut) =
     let l = are_logged plan port e j in record { open_is = l.open_is; closed_is = l.closed_is }
-are_logged plan port _ (took {e} j on) =
+are_logged plan port _ (went_on {e} j (took on)) =
     let p : Prompt = e.automation in
     let l = logs_on plan e (taken p.state) p.log (note.Take ∷ []) (are_logged plan port e j)
     (wish_leads plan p.state (taken p.state) p.log refl).0 in
     record { open_is = l.0; closed_is = l.1 }
-are_logged plan port _ (halted {e} j on) =
+are_logged plan port _ (went_on {e} j (halted on)) =
     let p : Prompt = e.automation in
     let l = logs_on plan e (stopped p.state) p.log (note.Stop ∷ []) (are_logged plan port e j)
     (wish_leads plan p.state (stopped p.state) p.log refl).1 in
     record { open_is = l.0; closed_is = l.1 }
-are_logged plan port _ (resumed {e} j) =
+are_logged plan port _ (went_on {e} j resumed) =
     let p : Prompt = e.automation in
     let log : List Exchange = logged p.log (ended_by plan None p.state) in
     let l = logs_on plan e (came_to plan None p.state) log (notes_ended plan None p.state) (are_logged plan port e j)
     (time_leads plan p) in
     record { open_is = l.0; closed_is = append-nil (e.log_before ++ log) ∙ l.1 }
-are_logged plan port _ (restarted {e} j) =
+are_logged plan port _ (went_on {e} j restarted) =
     let p : Prompt = e.automation in
     let log : List Exchange = logged p.log (ended_by plan None p.state) in
     let l = logs_on plan e (came_to plan None p.state) log (notes_ended plan None p.state) (are_logged plan port e j)

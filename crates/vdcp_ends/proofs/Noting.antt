@@ -26,7 +26,7 @@ use Rattle.vdcp_drive.specs.declared.keep.Kept.{Kept}
 use Rattle.vdcp_drive.specs.declared.keep.Kept.TheVariants as kept
 use Rattle.vdcp_drive.specs.Prompt.{Prompt, gives, hears, hears_all, kept_in, receives}
 use Rattle.vdcp_drive.specs.PromptReading.{completed}
-use Rattle.vdcp_ends.specs.TwoEnds.{AreJoined, begun, gave, came_up, came_down, waited, hung_up, frame, shut, took, halted, resumed, restarted}
+use Rattle.vdcp_ends.specs.TwoEnds.{AreJoined, begun, went_on, gave, came_up, came_down, waited, hung_up, frame, shut, took, halted, resumed, restarted}
 use Rattle.vdcp_ends.specs.TwoEnds.{CanJoin, Ends, log_now, note_for, notes_ended, notes_given, notes_heard}
 use Rattle.vdcp_ends.proofs.Commands.{awaits_none_in, exchange_is, hears_comes, ticks_state}
 use Rattle.vdcp_ends.proofs.Queues.{logged_behind}
@@ -252,7 +252,7 @@ connects_so plan e n =
 pub are_noted : (lawful : Lawful) (plan : Plan) (port : ClockedPort) (e : Ends) → CanJoin plan port
     → AreJoined plan port e → IsNoted plan e
 are_noted lawful plan port _ can begun = record { reached = course.begun can.some can.few; noted = refl; told = tt }
-are_noted lawful plan port _ can (gave {e} j) =
+are_noted lawful plan port _ can (went_on {e} j gave) =
     let n = are_noted lawful plan port e can j in
     let s : State = e.automation.state in record {
       reached = called n.reached Tick;
@@ -260,7 +260,7 @@ are_noted lawful plan port _ can (gave {e} j) =
           (given_by plan s (given plan s) refl (lawful plan s (log_now e) n.reached).gives);
       told = told_more plan e (notes_given plan s) n (given_told plan s (given plan s) refl);
     }
-are_noted lawful plan port _ can (came_up {e} j piece rest is) =
+are_noted lawful plan port _ can (went_on {e} j (came_up piece rest is)) =
     let n = are_noted lawful plan port e can j in
     let unit : ℕ = port.state.unit in
     let p : Prompt = e.automation in
@@ -270,10 +270,10 @@ are_noted lawful plan port _ can (came_up {e} j piece rest is) =
           (heard_then plan unit ms p);
       told = told_more plan e (notes_heard plan unit ms p) n (heard_told plan unit ms p);
     }
-are_noted lawful plan port _ can (came_down {e} j piece rest is no_close) =
+are_noted lawful plan port _ can (went_on {e} j (came_down piece rest is no_close)) =
     let n = are_noted lawful plan port e can j in
     record { reached = n.reached; noted = n.noted; told = n.told }
-are_noted lawful plan port _ can (waited {e} j) =
+are_noted lawful plan port _ can (went_on {e} j waited) =
     let n = are_noted lawful plan port e can j in
     let s : State = e.automation.state in record {
       reached = receives_so plan e.log_before e.automation.log s None n.reached;
@@ -281,7 +281,7 @@ are_noted lawful plan port _ can (waited {e} j) =
           (ended_then plan s None (ended_by plan None s) refl);
       told = told_more plan e (notes_ended plan None s) n (ended_told plan s None (ended_by plan None s) refl);
     }
-are_noted lawful plan port _ can (hung_up {e} j) =
+are_noted lawful plan port _ can (went_on {e} j hung_up) =
     let n = are_noted lawful plan port e can j in
     let s : State = e.automation.state in record {
       reached = receives_so plan e.log_before e.automation.log s None n.reached;
@@ -289,28 +289,28 @@ are_noted lawful plan port _ can (hung_up {e} j) =
           (ended_then plan s None (ended_by plan None s) refl);
       told = told_more plan e (notes_ended plan None s) n (ended_told plan s None (ended_by plan None s) refl);
     }
-are_noted lawful plan port _ can (frame {e} j no_close all) =
+are_noted lawful plan port _ can (went_on {e} j (frame no_close all)) =
     let n = are_noted lawful plan port e can j in
     record { reached = n.reached; noted = n.noted; told = n.told }
-are_noted lawful plan port _ can (shut {e} j) =
+are_noted lawful plan port _ can (went_on {e} j shut) =
     let n = are_noted lawful plan port e can j in
     record { reached = n.reached; noted = n.noted; told = n.told }
-are_noted lawful plan port _ can (took {e} j on) =
+are_noted lawful plan port _ can (went_on {e} j (took on)) =
     let n = are_noted lawful plan port e can j in record {
       reached = called n.reached Take;
       noted = noted_more plan e (note.Take ∷ []) (taken e.automation.state) n refl;
       told = told_more plan e (note.Take ∷ []) n (on, tt);
     }
-are_noted lawful plan port _ can (halted {e} j on) =
+are_noted lawful plan port _ can (went_on {e} j (halted on)) =
     let n = are_noted lawful plan port e can j in record {
       reached = called n.reached Stop;
       noted = noted_more plan e (note.Stop ∷ []) (stopped e.automation.state) n refl;
       told = told_more plan e (note.Stop ∷ []) n (on, tt);
     }
-are_noted lawful plan port _ can (resumed {e} j) =
+are_noted lawful plan port _ can (went_on {e} j resumed) =
     let n = are_noted lawful plan port e can j in
     let both = connects_so plan e n in record { reached = both.0; noted = both.1; told = both.2 }
-are_noted lawful plan port _ can (restarted {e} j) =
+are_noted lawful plan port _ can (went_on {e} j restarted) =
     let n = are_noted lawful plan port e can j in
     let both = connects_so plan e n in record { reached = both.0; noted = both.1; told = both.2 }
 

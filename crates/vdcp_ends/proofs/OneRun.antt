@@ -62,7 +62,7 @@ first plan port unit e f j =
     let kept_is : List Note = map note_for (kept_in plan g) in
     subst (λ (l : List Arrival). AreJoined plan port (ends_with e l g [] kept_is)) f.no_downs
     (subst (λ (l : List ℕ). AreJoined plan port (ends_with e e.downs g l kept_is)) f.no_ups
-    (subst (λ (l : List Note). AreJoined plan port (ends_with e e.downs g e.ups l)) (gives_first plan e f) (two.gave j)))
+    (subst (λ (l : List Note). AreJoined plan port (ends_with e e.downs g e.ups l)) (gives_first plan e f) (two.went_on j two.gave)))
 
 -- One more listen.
 
@@ -129,19 +129,19 @@ are_joined plan port e _ _ f j (up {ups} {downs} h piece rest is) =
     let ms : List Content = completed g.held piece in
     heard plan port unit e ups downs (bytes piece) (bytes_in ups ++ piece) (notes_heard plan unit ms g)
     (bytes_more ups piece) (kept_hears_all plan unit ms g)
-    (two.gave (two.came_up (are_joined plan port e ups downs f j h) piece rest is))
+    (two.went_on (two.went_on (are_joined plan port e ups downs f j h) (two.came_up piece rest is)) two.gave)
 are_joined plan port e _ _ f j (down {ups} {downs} h piece rest is no_close) =
-    two.came_down (are_joined plan port e ups downs f j h) piece rest is no_close
+    two.went_on (are_joined plan port e ups downs f j h) (two.came_down piece rest is no_close)
 are_joined plan port e _ _ f j (waited {ups} {downs} h) =
     let unit : ℕ = port.state.unit in
     let g : Prompt = gives (prompted_from plan unit e.automation ups) in
     heard plan port unit e ups downs silence (bytes_in ups) (notes_ended plan None g.state) (bytes_silence ups)
-    (ended plan g (listens plan unit silence g) refl) (two.gave (two.waited (are_joined plan port e ups downs f j h)))
+    (ended plan g (listens plan unit silence g) refl) (two.went_on (two.went_on (are_joined plan port e ups downs f j h) two.waited) two.gave)
 are_joined plan port e _ _ f j (frame {ups} {downs} h no_close all) =
-    two.frame (are_joined plan port e ups downs f j h) no_close all
+    two.went_on (are_joined plan port e ups downs f j h) (two.frame no_close all)
 are_joined plan port e _ _ f j (hung_up {ups} {downs} h) =
     let unit : ℕ = port.state.unit in
     let g : Prompt = gives (prompted_from plan unit e.automation ups) in
     heard plan port unit e ups downs close (bytes_in ups) (notes_ended plan None g.state) (bytes_close ups)
-    (ended plan g (listens plan unit close g) refl) (two.gave (two.hung_up (are_joined plan port e ups downs f j h)))
-are_joined plan port e _ _ f j (shut {ups} {downs} h) = two.shut (are_joined plan port e ups downs f j h)
+    (ended plan g (listens plan unit close g) refl) (two.went_on (two.went_on (are_joined plan port e ups downs f j h) two.hung_up) two.gave)
+are_joined plan port e _ _ f j (shut {ups} {downs} h) = two.went_on (are_joined plan port e ups downs f j h) two.shut

@@ -114,42 +114,55 @@ connected_anew plan port e =
       notes = e.notes ++ notes_ended plan None e.automation.state;
     }
 
--- What may come of both ends. Of what the one has sent comes to the other a beginning, in whatever pieces; the rest
+-- What may come of both ends next. Of what the one has sent comes to the other a beginning, in whatever pieces; the rest
 -- comes later, or never.
-pub data AreJoined (plan : Plan) (port : ClockedPort) : Ends → Type 0 where
-  begun : AreJoined plan port (new_ends port)
+pub data Step (plan : Plan) (unit : ℕ) (e : Ends) : Ends → Type 0 where
   -- the automation gives its next command, if none is awaited and it hasn't ended
-  gave : {e : Ends} → AreJoined plan port e
-      → AreJoined plan port (with_automation (gives e.automation) (notes_given plan e.automation.state) e)
-  came_up : {e : Ends} → AreJoined plan port e → (piece rest : List ℕ) → sent_up e ≡ e.ups ++ (piece ++ rest)
-      → AreJoined plan port (with_up piece (with_automation
-      (listens plan port.state.unit (bytes piece) e.automation)
-      (notes_heard plan port.state.unit (completed e.automation.held piece) e.automation) e))
-  came_down : {e : Ends} → AreJoined plan port e → (piece rest : List ℕ)
-      → sent_down plan port.state.unit e ≡ bytes_in e.downs ++ (piece ++ rest)
-      → has_closed e.downs ≡ false → AreJoined plan port (with_down (bytes piece) e)
+  gave : Step plan unit e (with_automation (gives e.automation) (notes_given plan e.automation.state) e)
+  came_up : (piece rest : List ℕ) → sent_up e ≡ e.ups ++ (piece ++ rest) → Step plan unit e (with_up piece
+      (with_automation (listens plan unit (bytes piece) e.automation)
+      (notes_heard plan unit (completed e.automation.held piece) e.automation) e))
+  came_down : (piece rest : List ℕ) → sent_down plan unit e ≡ bytes_in e.downs ++ (piece ++ rest)
+      → has_closed e.downs ≡ false → Step plan unit e (with_down (bytes piece) e)
   -- its time is up, at any moment; or its line is closed
-  waited : {e : Ends} → AreJoined plan port e
-      → AreJoined plan port (with_automation (listens plan port.state.unit silence e.automation)
+  waited : Step plan unit e (with_automation (listens plan unit silence e.automation)
       (notes_ended plan None e.automation.state) e)
-  hung_up : {e : Ends} → AreJoined plan port e
-      → AreJoined plan port (with_automation (listens plan port.state.unit close e.automation)
+  hung_up : Step plan unit e (with_automation (listens plan unit close e.automation)
       (notes_ended plan None e.automation.state) e)
   -- a frame passes at the server, at any moment but within a command; or its line is closed
-  frame : {e : Ends} → AreJoined plan port e → has_closed e.downs ≡ false → AreMessages (open_burst e.downs)
-      → AreJoined plan port (with_down silence e)
-  shut : {e : Ends} → AreJoined plan port e → AreJoined plan port (with_down close e)
+  frame : has_closed e.downs ≡ false → AreMessages (open_burst e.downs) → Step plan unit e (with_down silence e)
+  shut : Step plan unit e (with_down close e)
   -- the operator's wishes, while it goes on
-  took : {e : Ends} → AreJoined plan port e → outcome_of e.automation.state.stage ≡ None
-      → AreJoined plan port (with_automation (wishing (taken e.automation.state) e.automation) (note.Take ∷ []) e)
-  halted : {e : Ends} → AreJoined plan port e → outcome_of e.automation.state.stage ≡ None
-      → AreJoined plan port (with_automation (wishing (stopped e.automation.state) e.automation) (note.Stop ∷ []) e)
-  -- The automation is killed, and goes on from its journal over a new connection, once the server has left the old one.
-  -- What isn't safe in the journal by then hasn't happened: no command went out since, and what came is lost.
-  resumed : {e : Ends} → AreJoined plan port e → AreJoined plan port (connected_anew plan (port_now e) e)
+  took : outcome_of e.automation.state.stage ≡ None → Step plan unit e
+      (with_automation (wishing (taken e.automation.state) e.automation) (note.Take ∷ []) e)
+  halted : outcome_of e.automation.state.stage ≡ None → Step plan unit e
+      (with_automation (wishing (stopped e.automation.state) e.automation) (note.Stop ∷ []) e)
+  -- the automation is killed, and goes on from its journal over a new connection, once the server has left the old one
+  resumed : Step plan unit e (connected_anew plan (port_now e) e)
   -- the same, to a server that was started anew
-  restarted : {e : Ends} → AreJoined plan port e
-      → AreJoined plan port (connected_anew plan (made_anew (port_now e)) e)
+  restarted : Step plan unit e (connected_anew plan (made_anew (port_now e)) e)
+
+-- what may come of two new ends
+pub data AreJoined (plan : Plan) (port : ClockedPort) : Ends → Type 0 where
+  begun : AreJoined plan port (new_ends port)
+  went_on : {e e' : Ends} → AreJoined plan port e → Step plan port.state.unit e e' → AreJoined plan port e'
+
+-- no command is given in it
+abbrev pub GivesNone : {plan : Plan} {unit : ℕ} {e e' : Ends} → Step plan unit e e' → Type 0
+GivesNone gave = ⊥
+GivesNone resumed = ⊥
+GivesNone restarted = ⊥
+GivesNone _ = Unit {0}
+
+-- what may have come of them since, while no command was given
+pub data IsSince (plan : Plan) (unit : ℕ) (kept : Ends) : Ends → Type 0 where
+  at_once : IsSince plan unit kept kept
+  later : {e e' : Ends} → IsSince plan unit kept e → (step : Step plan unit e e') → GivesNone step
+      → IsSince plan unit kept e'
+
+-- the automation as it was kept, and the server as it is now
+abbrev pub with_kept : Ends → Ends → Ends
+with_kept kept now = record kept { downs = now.downs }
 
 -- what the two ends begin with: as `IsLateReached` asks of a plan and a port
 pub record CanJoin (plan : Plan) (port : ClockedPort) : Type 0 where

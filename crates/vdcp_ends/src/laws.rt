@@ -17,7 +17,7 @@ ghost use Rattle.vdcp_ends.specs.Below.{Answered, Completed, Spelt, Written};
 ghost use Rattle.vdcp_ends.specs.EndsHeadline.{EndsHeadline};
 ghost use Rattle.vdcp_ends.specs.OneConnection.{HasCome, IsFresh, ends_of};
 ghost use Rattle.vdcp_ends.specs.SeveralRuns.{HaveAired};
-ghost use Rattle.vdcp_ends.specs.TwoEnds.{AreJoined, CanJoin, Ends, IsLateChannel, aired_now, connected_anew, log_now, new_ends};
+ghost use Rattle.vdcp_ends.specs.TwoEnds.{AreJoined, CanJoin, Ends, IsLateChannel, IsSince, aired_now, connected_anew, log_now, new_ends, port_now, with_kept};
 ghost use Rattle.vdcp_ends.specs.Undisturbed.{AreUndisturbed, CanPlay, IsDone, most_exchanges};
 
 /// An automation that hears at once and a server, joined by two streams of bytes that keep order, are a late channel: in
@@ -84,6 +84,18 @@ pub fn undisturbed_ends_play_the_list()
     vdcp_port::laws::what_a_port_holds();
     vdcp_world::laws::good_rounds_bring_all_to_air();
 }
+
+/// An automation that is killed goes on as it was when the last of what is safe in its journal was noted, if it gave no
+/// command since. What came to it since is lost, and the server is as it is now; so this is among what may come of the
+/// two ends, and a new connection may follow.
+pub fn a_kill_loses_what_came_since()
+    ensures joined { (plan : Plan) (port : ClockedPort) (kept now : Ends) → AreJoined plan port kept →
+        IsSince plan port.state.unit kept now → AreJoined plan port (with_kept kept now) }
+    ensures port { (plan : Plan) (port : ClockedPort) (kept now : Ends) → AreJoined plan port kept →
+        IsSince plan port.state.unit kept now → port_now (with_kept kept now) ≡ port_now now }
+    ensures aired { (plan : Plan) (port : ClockedPort) (kept now : Ends) → AreJoined plan port kept →
+        IsSince plan port.state.unit kept now → aired_now (with_kept kept now) ≡ aired_now now }
+{}
 
 /// The rows of a journal that has these notes make the automation's controller of a new one, each tells what the
 /// controller does there, and the log that they show is the automation's, with the command that is awaited timed out.
