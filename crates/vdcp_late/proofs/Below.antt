@@ -17,7 +17,11 @@ use Rattle.vdcp_port.specs.Port.{PortState}
 use Rattle.vdcp_port.specs.Row.{command_row}
 use Rattle.vdcp_auto.specs.Plan.{Plan}
 use Rattle.vdcp_auto.specs.Turn.{given}
+use Rattle.vdcp_auto.specs.Course.{Reached}
+use Rattle.vdcp_auto.specs.Law.{IsLawful}
 use Rattle.vdcp_auto.specs.State.{State}
+use Rattle.vdcp_auto.specs.declared.exchange.Exchange.{Exchange}
+use Rattle.vdcp_late.proofs.Exactness.{AiringGrows, SettledGrows}
 
 pub record Below : Type 0 where
   -- what is spelt reads as its message, alone and with bytes after it
@@ -44,6 +48,9 @@ pub record Below : Type 0 where
   pub one_left : (p : ClockedPort) (m : Content) (burst : List ℕ) → messages_of burst ≡ m ∷ []
       → after_burst p burst ≡ after_message p m
   pub unit_frame : (p : ClockedPort) → (after_frame p).state.unit ≡ p.state.unit
-  -- the controller
+  -- the controller, and a log that has grown
+  pub lawful : (plan : Plan) (state : State) (log : List Exchange) → Reached plan state log → IsLawful plan state log
+  pub settled_grows : SettledGrows
+  pub airing_grows : AiringGrows
   pub given_written : (plan : Plan) (state : State) → All IsItem plan.list → plan.port < 256
       → IfSome (given plan state) IsWritableCommand

@@ -1,5 +1,5 @@
 -- What may be claimed of a late channel in one mode, and how a claim has to be closed so that every event keeps it.
-use Rattle.std.proofs.Common.{◌≡◌, ℕ, ◌⊎◌, Bool, true, List, [], ◌∷◌, ◌++◌, Option, Some}
+use Rattle.std.proofs.Common.{◌≡◌, ℕ, ◌⊎◌, Bool, true, false, List, [], ◌∷◌, ◌++◌, Option, Some}
 use Rattle.vdcp_value.specs.declared.clip_id.ClipId.{ClipId}
 use Rattle.vdcp_value.specs.declared.part.Item.{Item}
 use Rattle.vdcp_value.specs.declared.timecode.Timecode.{Timecode}
@@ -16,7 +16,8 @@ use Rattle.vdcp_auto.specs.State.{Ready, Awaiting}
 use Rattle.vdcp_auto.specs.State.{State}
 use Rattle.vdcp_late.specs.Damage.{is_no_answer}
 use Rattle.vdcp_late.proofs.Closing.{Ages}
-use Rattle.vdcp_late.proofs.Places.{Answer}
+use Rattle.vdcp_late.proofs.Exactness.{exact_ages, exact_copied, exact_reads, exact_thins, is_exact_at}
+use Rattle.vdcp_late.proofs.Places.{Answer, Exact}
 use Rattle.vdcp_late.proofs.Standing.{Reads}
 use Rattle.vdcp_late.proofs.Thinning.{Thins}
 
@@ -33,7 +34,8 @@ Comes mode ups came =
     (is_no_answer mode came ≡ true) ⊎ ((x : Answer) × (rest : List Answer) × (ups ≡ x ∷ rest) ×
     (came ≡ Some (heard.Reply x.reply)))
 
-pub record Closed (mode : Mode) (S : Claim) : Type 0 where
+-- each event keeps it that leaves the controller as it is
+pub record Steady (S : Claim) : Type 0 where
   -- something on the way is left out
   pub thins : (list : List Item) (clips : List (ClipId × Timecode)) (settled : ℕ) (s : Bool) (a : Cued)
       (aired : List Item) (ups others : List Answer)
@@ -55,6 +57,10 @@ pub record Closed (mode : Mode) (S : Claim) : Type 0 where
       (b : Cued) (aired : List Item)
       (ups : List Answer) (downs : List Phase) (stage : Stage) → Ages s a t b
       → S list clips settled s a aired ups downs stage → S list clips settled t b aired ups downs stage
+
+-- and the others do
+pub record Closed (mode : Mode) (S : Claim) : Type 0 where
+  pub steady : Steady S
   -- the controller sends
   pub sends : (list : List Item) (clips : List (ClipId × Timecode)) (settled : ℕ) (s : Bool) (a : Cued)
       (aired : List Item) (ups : List Answer)
@@ -66,3 +72,38 @@ pub record Closed (mode : Mode) (S : Claim) : Type 0 where
       (state : State) (came : Option Heard) → plan.mode ≡ mode → Comes mode ups came
       → S plan.list clips state.settled s a aired ups downs state.stage
       → S plan.list clips (came_to plan came state).settled s a aired ups downs (came_to plan came state).stage
+  -- where no PLAY is on the way, or the port has nothing that it could play
+  pub exact : (list : List Item) (clips : List (ClipId × Timecode)) (settled : ℕ) (s : Bool) (a : Cued)
+      (aired : List Item) (ups : List Answer)
+      (downs : List Phase) (stage : Stage) → is_exact_at stage ≡ true
+      → S list clips settled s a aired ups downs stage → Exact list settled s a aired downs
+
+-- the claim, and where no event more than are settled may have aired, that none has
+pub record Exactly (S : Claim) (may : Bool) (list : List Item) (clips : List (ClipId × Timecode)) (settled : ℕ) (s : Bool)
+    (a : Cued) (aired : List Item) (ups : List Answer) (downs : List Phase) (stage : Stage) : Type 0 where
+  pub stands : S list clips settled s a aired ups downs stage
+  pub exact : may ≡ false → Exact list settled s a aired downs
+
+pub exactly : (S : Claim) (may : Bool) → Steady S → Steady (Exactly S may)
+exactly S may h = record {
+  thins = λ list clips settled s a aired ups others downs left stage u d k.
+      record {
+        stands = h.thins list clips settled s a aired ups others downs left stage u d k.stands;
+        exact = λ e. exact_thins list settled s a aired downs left d (k.exact e);
+      };
+  copied = λ list clips settled s a aired ups d downs stage k.
+      record {
+        stands = h.copied list clips settled s a aired ups d downs stage k.stands;
+        exact = λ e. exact_copied list settled s a aired d downs (k.exact e);
+      };
+  reads = λ list clips settled s a aired ups d downs stage r t b airs k x.
+      record {
+        stands = h.reads list clips settled s a aired ups d downs stage r t b airs k.stands x;
+        exact = λ e. exact_reads list settled s a aired d downs r t b airs (k.exact e) x.executed;
+      };
+  ages = λ list clips settled s a t b aired ups downs stage g k.
+      record {
+        stands = h.ages list clips settled s a t b aired ups downs stage g k.stands;
+        exact = λ e. exact_ages list settled s a t b aired downs g (k.exact e);
+      };
+}

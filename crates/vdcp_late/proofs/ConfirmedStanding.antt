@@ -26,7 +26,7 @@ use Rattle.vdcp_late.proofs.Delivering.{at_same, airs_none, none_pushed}
 use Rattle.vdcp_late.proofs.Executed.{Executed}
 use Rattle.vdcp_late.proofs.Pipes.{climbs_thins, climbs_pushed, climbs_within}
 use Rattle.vdcp_late.proofs.Places.{Answer, pipe_of, plays, misfits, At}
-use Rattle.vdcp_late.proofs.Safety.{near_at, near_of, quiet, quiet_first, no_plays}
+use Rattle.vdcp_late.proofs.Safety.{near_at, near_of, none_plays, quiet}
 use Rattle.vdcp_late.proofs.Standing.{knows, misleads, Reads}
 use Rattle.vdcp_late.proofs.Stretches.{Lies, lies_at, downs_climb, none_within, pipe_delivered, pipe_pushed, pipe_copied}
 use Rattle.vdcp_late.proofs.Thinning.{Thins, none_thins}
@@ -133,24 +133,17 @@ pub secure_in : (list : List Item) (settled : ℕ) (s : Bool) (a : Cued) (aired 
     → Spot list settled s a aired ups downs q → IsPipe Confirming (length list) q (pipe_of ups downs)
     → Secure list settled a aired downs
 secure_in list settled s a aired ups downs phase.Open h c =
-    secure_calm list settled a aired downs 0 h.0
-    (no_plays Confirming (length list) 0 0 ups downs (λ d l. quiet_first Confirming (length list) d
-    (l.0, omega (arith, l.1))) c)
+    secure_calm list settled a aired downs 0 h.0 (none_plays Confirming (length list) ups downs phase.Open refl c)
 secure_in list settled s a aired ups downs phase.Select h c =
-    secure_calm list settled a aired downs 0 h.0 (no_plays Confirming (length list) 0 1 ups downs
-    (quiet_first Confirming (length list)) c)
+    secure_calm list settled a aired downs 0 h.0 (none_plays Confirming (length list) ups downs phase.Select refl c)
 secure_in list settled s a aired ups downs phase.Seen h c =
-    secure_calm list settled a aired downs 0 h.0 (no_plays Confirming (length list) 0 1 ups downs
-    (quiet_first Confirming (length list)) c)
+    secure_calm list settled a aired downs 0 h.0 (none_plays Confirming (length list) ups downs phase.Seen refl c)
 secure_in list settled s a aired ups downs (phase.Exists k) h c =
-    secure_calm list settled a aired downs k h.0.0 (no_plays Confirming (length list) (5 * k + 1) (5 * k + 2) ups downs
-    (quiet Confirming (length list) k (5 * k + 1) (5 * k + 2) (omega arith) (omega arith)) c)
+    secure_calm list settled a aired downs k h.0.0 (none_plays Confirming (length list) ups downs (phase.Exists k) refl c)
 secure_in list settled s a aired ups downs (phase.Cue k) h c =
-    secure_calm list settled a aired downs k h.at (no_plays Confirming (length list) (5 * k + 2) (5 * k + 4) ups downs
-    (quiet Confirming (length list) k (5 * k + 2) (5 * k + 4) (omega arith) (omega arith)) c)
+    secure_calm list settled a aired downs k h.at (none_plays Confirming (length list) ups downs (phase.Cue k) refl c)
 secure_in list settled s a aired ups downs (phase.Wait k) h c =
-    secure_calm list settled a aired downs k h.at (no_plays Confirming (length list) (5 * k + 2) (5 * k + 4) ups downs
-    (quiet Confirming (length list) k (5 * k + 2) (5 * k + 4) (omega arith) (omega arith)) c)
+    secure_calm list settled a aired downs k h.at (none_plays Confirming (length list) ups downs (phase.Wait k) refl c)
 secure_in list settled s a aired ups downs (phase.Play k) h c =
     secure_sounding list settled s a aired ups downs k h
     (last_within (length list) k (5 * k + 4) downs (omega arith)
@@ -169,15 +162,9 @@ secure_in list settled s a aired ups downs (phase.Check k) h c = record {
   }));
 }
 secure_in list settled s a aired ups downs phase.Drain h c =
-    secure_calm list settled a aired downs (length list) h (no_plays Confirming (length list) (5 * length list + 1)
-    (5 * length list + 2) ups downs
-    (quiet Confirming (length list) (length list) (5 * length list + 1) (5 * length list + 2) (omega arith)
-    (omega arith)) c)
+    secure_calm list settled a aired downs (length list) h (none_plays Confirming (length list) ups downs phase.Drain refl c)
 secure_in list settled s a aired ups downs phase.Close h c =
-    secure_calm list settled a aired downs (length list) h (no_plays Confirming (length list) (5 * length list + 1)
-    (5 * length list + 3) ups downs
-    (quiet Confirming (length list) (length list) (5 * length list + 1) (5 * length list + 3) (omega arith)
-    (omega arith)) c)
+    secure_calm list settled a aired downs (length list) h (none_plays Confirming (length list) ups downs phase.Close refl c)
 secure_in list settled s a aired ups downs phase.Halt h c = h
 secure_in list settled s a aired ups downs phase.HaltClose h c = h
 

@@ -1,5 +1,5 @@
 -- The headline, from what holds of the clips that went to air, and from the law of the controller.
-use Rattle.std.proofs.Common.{ℕ, zero, suc, ◌+◌, ◌≡◌, ◌<◌, ◌≤◌, false, List, [], ◌∷◌, ◌++◌, length, take, drop, refl, arith, sym, ap, subst, ◌∙◌, take-append-drop, length-append, length-drop, append-nil}
+use Rattle.std.proofs.Common.{ℕ, zero, suc, ◌+◌, ◌≡◌, ◌<◌, ◌≤◌, Bool, false, List, [], ◌∷◌, ◌++◌, length, take, drop, refl, arith, sym, ap, subst, ◌∙◌, take-append-drop, length-append, length-drop, append-nil}
 use Rattle.std.proofs.Math.Seq.{take-length}
 use Rattle.std.specs.Prelude.{Option, None, Some, IsTrue, IfSome, IsSomeAnd, slice_get}
 use Rattle.vdcp_value.specs.declared.clip_id.ClipId.{ClipId}
@@ -9,7 +9,7 @@ use Rattle.vdcp_port.specs.Clips.{is_known}
 use Rattle.vdcp_auto.specs.Endings.{IsRefused}
 use Rattle.vdcp_auto.specs.Law.{IsLawful}
 use Rattle.vdcp_auto.specs.Plan.{Plan}
-use Rattle.vdcp_auto.specs.Settled.{settled}
+use Rattle.vdcp_auto.specs.Settled.{may_have_aired, settled}
 use Rattle.vdcp_auto.specs.Turn.{outcome_of}
 use Rattle.vdcp_auto.specs.declared.exchange.Exchange.{Exchange}
 use Rattle.vdcp_auto.specs.declared.outcome.Outcome.{Outcome}
@@ -20,7 +20,7 @@ use Rattle.vdcp_auto.specs.State.{Stage}
 use Rattle.vdcp_auto.specs.State.{Ready, Awaiting, Ended}
 use Rattle.vdcp_world.specs.Headline.{IsUnknownAt, AreReported}
 use Rattle.vdcp_late.specs.LateChannel.{LateChannel}
-use Rattle.vdcp_late.specs.LateHeadline.{IsLateRefused, LateMeans, LateHeadline, is_late_complete, reported_of}
+use Rattle.vdcp_late.specs.LateHeadline.{IsLateRefused, LateMeans, LateHeadline, is_late_complete, log_so_far, reported_of}
 use Rattle.vdcp_late.proofs.Delivering.{no_item}
 use Rattle.vdcp_late.proofs.Places.{At, Near}
 use Rattle.vdcp_late.proofs.Safety.{taken}
@@ -45,9 +45,15 @@ EndHoldsAt mode list clips aired settled _ = Unit {0}
 
 -- what a channel's clips have to keep
 pub record Airs (mode : Mode) (list : List Item) (clips : List (ClipId × Timecode)) (aired : List Item) (settled : ℕ)
-    (stage : Stage) : Type 0 where
+    (may : Bool) (stage : Stage) : Type 0 where
   pub near : Near list aired settled
+  pub exact : may ≡ false → aired ≡ take settled list
   pub end_holds : EndHoldsAt mode list clips aired settled stage
+
+abbrev pub AirsIn : LateChannel → Type 0
+AirsIn c =
+    Airs c.plan.mode c.plan.list c.port.clips c.aired c.state.settled (may_have_aired c.plan.mode (log_so_far c))
+    c.state.stage
 
 -- ---- lists
 
@@ -130,11 +136,12 @@ means_at c (Ready q) e h l = tt
 means_at c (Awaiting q) e h l = tt
 means_at c (Ended o) e h l = means c o h l (ap outcome_of e)
 
-pub headline : (c : LateChannel) → Airs c.plan.mode c.plan.list c.port.clips c.aired c.state.settled c.state.stage
+pub headline : (c : LateChannel) → AirsIn c
     → IsLawful c.plan c.state c.log → LateHeadline c
 headline c a l = record {
   beginning = begins c.plan.list c.aired c.state.settled a.near;
   reported = reports c.plan.list c.aired c.state.settled a.near;
+  exact = a.exact;
   count = taken c.plan.list c.state.settled (omega (arith, a.near.low, a.near.within));
   is_settled = l.is_settled;
   keeps_rules = l.keeps_rules;

@@ -31,7 +31,7 @@ use Rattle.vdcp_late.specs.LateChannel.{LateChannel, bursts_of}
 use Rattle.vdcp_late.proofs.Below.{Below}
 use Rattle.vdcp_late.proofs.Carrying.{Carries, carries_pushed, carries_pushed_junk, carries_same, Left}
 use Rattle.vdcp_late.proofs.Closing.{Ages}
-use Rattle.vdcp_late.proofs.Claims.{Claim, Closed}
+use Rattle.vdcp_late.proofs.Claims.{Claim, Steady}
 use Rattle.vdcp_late.proofs.Delivering.{aired_same}
 use Rattle.vdcp_late.proofs.Executing.{reads}
 use Rattle.vdcp_late.proofs.Places.{Answer}
@@ -133,13 +133,13 @@ pub record Delivered (mode : Mode) (S : Claim) (plan : Plan) (state : State) (p 
   pub up_is : UpCarries mode p.state.unit (up ++ bursts_of (sent_for p down)) ups
   pub stands : StandsAt S plan.list (after_burst p down) state.settled state.stage (aired ++ aired_for p down) ups downs
 
-pub delivered_nothing : (mode : Mode) (S : Claim) → Closed mode S
+pub delivered_nothing : (mode : Mode) (S : Claim) → Steady S
     → (plan : Plan) (state : State) (p : ClockedPort) (up : List (List ℕ)) (aired : List Item) (down : List ℕ)
     (ups : List Answer)
     (downs : List Phase) → ReadsNothing p down → UpCarries mode p.state.unit up ups
     → StandsAt S plan.list p state.settled state.stage aired ups downs
     → Delivered mode S plan state p up aired down downs
-delivered_nothing mode S closed plan state p up aired down ups downs r u h = record {
+delivered_nothing mode S steady plan state p up aired down ups downs r u h = record {
   unit_same = ap (λ (q : ClockedPort). q.state.unit) r.stays;
   ups = ups;
   up_is = junk_joins mode p.state.unit up ups (sent_for p down) (says_junk mode p down r) u;
@@ -152,17 +152,17 @@ delivered_nothing mode S closed plan state p up aired down ups downs r u h = rec
 clips_same : (change : Change) (p : ClockedPort) → (after_change change p).clips ≡ p.clips
 clips_same change p = refl
 
-pub delivered_command : (mode : Mode) (S : Claim) → Closed mode S
+pub delivered_command : (mode : Mode) (S : Claim) → Steady S
     → (plan : Plan) (state : State) (p : ClockedPort) (up : List (List ℕ)) (aired : List Item) (down : List ℕ)
     (ups : List Answer)
     (d : Phase) (downs : List Phase) (c : Command) → command_in plan.list plan.port d ≡ Some c → ReadsCommand p down c
     → UpCarries mode p.state.unit up ups
     → StandsAt S plan.list p state.settled state.stage aired ups (d ∷ downs)
     → Delivered mode S plan state p up aired down downs
-delivered_command mode S closed plan state p up aired down ups d downs c is r u h =
+delivered_command mode S steady plan state p up aired down ups d downs c is r u h =
     let change : Change = (command_row p.clips p.state c).change in
     let x : Answer = record { to = d; reply = r.answer } in
-    let after = closed.reads plan.list p.clips state.settled (is_selected p.state) p.state.cued aired ups d downs
+    let after = steady.reads plan.list p.clips state.settled (is_selected p.state) p.state.cued aired ups d downs
     state.stage r.answer
     (is_selected (changed change p.state)) (changed change p.state).cued (option_to_list (on_air change)) h
     (reads plan.list p.clips p.state plan.port d c is r.answer r.answers) in
@@ -180,11 +180,11 @@ delivered_command mode S closed plan state p up aired down ups d downs c is r u 
 -- ---- with parts of a channel changed
 
 -- with another controller
-pub with_state : (mode : Mode) (S : Claim) → Closed mode S
-    → (c : LateChannel) (k : IsKept mode S c) (state : State) (log : List Exchange)
-    → StandsAt S c.plan.list c.port state.settled state.stage c.aired k.ups k.downs
-    → IsKept mode S (record c { state = state; log = log })
-with_state mode S closed c k state log stands = record {
+pub with_state : (mode : Mode) (S T : Claim) (c : LateChannel) (k : IsKept mode S c) (state : State)
+    (log : List Exchange)
+    → StandsAt T c.plan.list c.port state.settled state.stage c.aired k.ups k.downs
+    → IsKept mode T (record c { state = state; log = log })
+with_state mode S T c k state log stands = record {
   mode_is = k.mode_is;
   unit_fits = k.unit_fits;
   port_fits = k.port_fits;
@@ -197,11 +197,11 @@ with_state mode S closed c k state log stands = record {
 }
 
 -- with another port, of the same unit and the same catalogue
-pub with_port : (mode : Mode) (S : Claim) → Closed mode S → (c : LateChannel) (k : IsKept mode S c) (p : ClockedPort)
+pub with_port : (mode : Mode) (S : Claim) → Steady S → (c : LateChannel) (k : IsKept mode S c) (p : ClockedPort)
     → p.state.unit ≡ c.port.state.unit → p.clips ≡ c.port.clips
     → Ages (is_selected c.port.state) c.port.state.cued (is_selected p.state) p.state.cued
     → IsKept mode S (record c { port = p })
-with_port mode S closed c k p same clips ages = record {
+with_port mode S steady c k p same clips ages = record {
   mode_is = k.mode_is;
   unit_fits = subst (λ (unit : ℕ). unit < 16) (sym same) k.unit_fits;
   port_fits = k.port_fits;
@@ -213,17 +213,17 @@ with_port mode S closed c k p same clips ages = record {
   stands = subst (λ (known : List (ClipId × Timecode)). S c.plan.list known c.state.settled
       (is_selected p.state) p.state.cued c.aired k.ups k.downs
       c.state.stage) (sym clips)
-      (closed.ages c.plan.list c.port.clips c.state.settled (is_selected c.port.state) c.port.state.cued
+      (steady.ages c.plan.list c.port.clips c.state.settled (is_selected c.port.state) c.port.state.cued
       (is_selected p.state) p.state.cued c.aired k.ups k.downs
       c.state.stage ages k.stands);
 }
 
 -- with other bursts on the way, of which some may be left out
-pub with_down : (mode : Mode) (S : Claim) → Closed mode S
+pub with_down : (mode : Mode) (S : Claim) → Steady S
     → (c : LateChannel) (k : IsKept mode S c) (down : List (List ℕ))
     → Left IsJunkDown (IsCommand c.plan.list c.plan.port c.port.state.unit) down k.downs
     → IsKept mode S (record c { down = down })
-with_down mode S closed c k down l = record {
+with_down mode S steady c k down l = record {
   mode_is = k.mode_is;
   unit_fits = k.unit_fits;
   port_fits = k.port_fits;
@@ -232,15 +232,15 @@ with_down mode S closed c k down l = record {
   ups = k.ups;
   down_is = l.carries;
   up_is = k.up_is;
-  stands = closed.thins c.plan.list c.port.clips c.state.settled (is_selected c.port.state) c.port.state.cued c.aired
+  stands = steady.thins c.plan.list c.port.clips c.state.settled (is_selected c.port.state) c.port.state.cued c.aired
       k.ups k.ups k.downs l.left c.state.stage
       (all_left k.ups) l.thins k.stands;
 }
 
-pub with_up : (mode : Mode) (S : Claim) → Closed mode S → (c : LateChannel) (k : IsKept mode S c) (up : List (List ℕ))
+pub with_up : (mode : Mode) (S : Claim) → Steady S → (c : LateChannel) (k : IsKept mode S c) (up : List (List ℕ))
     → Left (IsJunkUp mode c.port.state.unit) (IsAnswer c.port.state.unit) up k.ups
     → IsKept mode S (record c { up = up })
-with_up mode S closed c k up l = record {
+with_up mode S steady c k up l = record {
   mode_is = k.mode_is;
   unit_fits = k.unit_fits;
   port_fits = k.port_fits;
@@ -249,13 +249,13 @@ with_up mode S closed c k up l = record {
   ups = l.left;
   down_is = k.down_is;
   up_is = l.carries;
-  stands = closed.thins c.plan.list c.port.clips c.state.settled (is_selected c.port.state) c.port.state.cued c.aired
+  stands = steady.thins c.plan.list c.port.clips c.state.settled (is_selected c.port.state) c.port.state.cued c.aired
       k.ups l.left k.downs k.downs c.state.stage
       l.thins (all_left k.downs) k.stands;
 }
 
 -- after a delivery to the port
-pub with_delivery : (mode : Mode) (S : Claim) → Closed mode S
+pub with_delivery : (mode : Mode) (S : Claim) → Steady S
     → (c : LateChannel) (k : IsKept mode S c) (burst : List ℕ) (down : List (List ℕ)) (downs : List Phase)
     → DownCarries c.plan.list c.plan.port c.port.state.unit down downs
     → Delivered mode S c.plan c.state c.port c.up c.aired burst downs
@@ -265,7 +265,7 @@ pub with_delivery : (mode : Mode) (S : Claim) → Closed mode S
       up = c.up ++ bursts_of (sent_for c.port burst);
       aired = c.aired ++ aired_for c.port burst;
     })
-with_delivery mode S closed c k burst down downs down_is d = record {
+with_delivery mode S steady c k burst down downs down_is d = record {
   mode_is = k.mode_is;
   unit_fits = subst (λ (unit : ℕ). unit < 16) (sym d.unit_same) k.unit_fits;
   port_fits = k.port_fits;

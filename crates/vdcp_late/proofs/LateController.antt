@@ -29,7 +29,7 @@ strays_reached : (mode : Mode) (plan : Plan) (state : State) (log : List Exchang
 strays_reached Plain plan state log receipt r = r
 strays_reached Confirming plan state log receipt r = called r (Receive (Some (heard.Reply receipt)))
 
-controller_event : (c : LateChannel) (e : LateEvent) → Reached c.plan c.state c.log
+pub controller_event : (c : LateChannel) (e : LateEvent) → Reached c.plan c.state c.log
     → Reached (after_late_event c e).plan (after_late_event c e).state (after_late_event c e).log
 controller_event c event.Tick r = called r call.Tick
 controller_event c event.Down r = r

@@ -5,15 +5,15 @@ use Rattle.vdcp_auto.specs.declared.phase.Mode.TheVariants.{Plain, Confirming}
 use Rattle.vdcp_late.specs.LateChannel.{LateChannel, CanStart, IsLateReached}
 use Rattle.vdcp_late.proofs.Below.{Below}
 use Rattle.vdcp_late.proofs.ConfirmedReached.{confirming_airs}
-use Rattle.vdcp_late.proofs.HeadlineProof.{Airs}
+use Rattle.vdcp_late.proofs.HeadlineProof.{AirsIn}
 use Rattle.vdcp_late.proofs.PlainReached.{plain_airs}
 
 pub reached_airs : Below → (c : LateChannel) → IsLateReached c
-    → Airs c.plan.mode c.plan.list c.port.clips c.aired c.state.settled c.state.stage
+    → AirsIn c
 reached_airs below c r = by r.plan.mode refl r.can_start
   where
     by : (mode : Mode) → r.plan.mode ≡ mode → CanStart mode r.port.state.cued
-        → Airs c.plan.mode c.plan.list c.port.clips c.aired c.state.settled c.state.stage
-    by Plain e start = plain_airs below r.plan r.port r.events e r.unit_fits r.port_fits r.of_bytes c r.led
+        → AirsIn c
+    by Plain e start = plain_airs below r.plan r.port r.events e r.unit_fits r.port_fits r.of_bytes r.some r.few c r.led
     by Confirming e start =
-        confirming_airs below r.plan r.port r.events e start r.unit_fits r.port_fits r.of_bytes c r.led
+        confirming_airs below r.plan r.port r.events e start r.unit_fits r.port_fits r.of_bytes r.some r.few c r.led

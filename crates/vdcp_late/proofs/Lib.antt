@@ -8,6 +8,7 @@ pub mod DeliveringPlay
 pub mod Safety
 pub mod Closing
 pub mod Standing
+pub mod Exactness
 pub mod Passing
 pub mod Hearing
 pub mod Executing

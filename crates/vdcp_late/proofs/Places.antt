@@ -167,6 +167,17 @@ pub record Safe (list : List Item) (settled : ℕ) (selected : Bool) (cued : Cue
   pub near : Near list aired settled
   pub calm : (list_any plays downs ≡ false) ⊎ Unarmed list settled selected cued aired downs
 
+-- nothing that is on the way down airs: there is no PLAY, or nothing is cued nor will be
+abbrev pub Still : Bool → Cued → List Phase → Type 0
+Still selected cued downs =
+    (list_any plays downs ≡ false) ⊎ (HasNone selected cued × (list_any arms downs ≡ false))
+
+-- what was aired is settled, all of it, and no more airs
+pub record Exact (list : List Item) (settled : ℕ) (selected : Bool) (cued : Cued) (aired : List Item)
+    (downs : List Phase) : Type 0 where
+  pub at : At list aired settled settled
+  pub still : Still selected cued downs
+
 abbrev pub Place : List Item → ℕ → Bool → Cued → List Item → List Answer → List Phase → Phase → Type 0
 Place list settled selected cued aired ups downs phase.Open = At list aired settled 0
 Place list settled selected cued aired ups downs phase.Select = At list aired settled 0

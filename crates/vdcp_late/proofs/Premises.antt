@@ -1,7 +1,7 @@
 -- The premises of the headline are needed: runs, computed from the definitions, in which one of them is dropped and the
 -- headline
 -- fails.
-use Rattle.std.proofs.Common.{◌≡◌, ℕ, List, [], ◌∷◌, ◌++◌, refl}
+use Rattle.std.proofs.Common.{◌≡◌, ℕ, true, false, List, [], ◌∷◌, ◌++◌, refl}
 use Rattle.std.specs.Prelude.{Some, reverse}
 use Rattle.vdcp_value.specs.declared.clip_id.ClipId.{ClipId}
 use Rattle.vdcp_value.specs.declared.part.Item.{Item}
@@ -14,11 +14,13 @@ use Rattle.vdcp_words.specs.declared.command.Command.TheVariants as command
 use Rattle.vdcp_port.specs.Clips.{whole}
 use Rattle.vdcp_port.specs.Clock.{ClockedPort, new_port}
 use Rattle.vdcp_port.specs.Port.{done}
+use Rattle.vdcp_auto.specs.Settled.{may_have_aired}
 use Rattle.vdcp_auto.specs.Turn.{outcome_of}
 use Rattle.vdcp_auto.specs.declared.outcome.Outcome.TheVariants.{Refused}
 use Rattle.vdcp_auto.specs.declared.phase.Mode.{Mode}
 use Rattle.vdcp_auto.specs.declared.phase.Mode.TheVariants.{Plain, Confirming}
 use Rattle.vdcp_late.specs.LateChannel.{LateChannel, new_late_channel, after_late_events}
+use Rattle.vdcp_late.specs.LateHeadline.{log_so_far}
 use Rattle.vdcp_late.specs.declared.event.LateEvent.{LateEvent}
 use Rattle.vdcp_late.specs.declared.event.LateEvent.TheVariants.{Tick, Down, Up, DownCopy, UpCopy, LoseDown, LoseUp, Timeout, Ready, ServerAnew}
 
@@ -109,6 +111,20 @@ a_refusal_may_leave_one_out = refl
 
 and_is_one : outcome_of refused_in_plain_mode.state.stage ≡ Some (Refused 0)
 and_is_one = refl
+
+and_its_event_may_have_aired : may_have_aired Plain (log_so_far refused_in_plain_mode) ≡ true
+and_its_event_may_have_aired = refl
+
+-- before its PLAY it can't have, nor once it is settled
+abbrev played : LateChannel
+played = after_late_events (new Plain) (to_cue ++ round ++ Ready ∷ round ++ Tick ∷ [])
+
+what_may_have_aired :
+    may_have_aired Plain (log_so_far (after_late_events (new Plain) (to_cue ++ round ++ Ready ∷ round))) ∷
+    may_have_aired Plain (log_so_far played) ∷
+    may_have_aired Plain (log_so_far (after_late_events played (Down ∷ Up ∷ []))) ∷ []
+    ≡ false ∷ true ∷ false ∷ []
+what_may_have_aired = refl
 
 -- ---- order
 

@@ -8,7 +8,7 @@ use Rattle.vdcp_auto.specs.Replies.{is_ack}
 use Rattle.vdcp_auto.specs.declared.phase.Phase.{Phase}
 use Rattle.vdcp_auto.specs.declared.phase.Phase.TheVariants as phase
 use Rattle.vdcp_auto.specs.declared.phase.Mode.{Mode}
-use Rattle.vdcp_auto.specs.declared.phase.Mode.TheVariants.{Plain}
+use Rattle.vdcp_auto.specs.declared.phase.Mode.TheVariants.{Plain, Confirming}
 use Rattle.vdcp_late.specs.Pipe.{Climbs, stretches, IsPipe}
 use Rattle.vdcp_late.proofs.Delivering.{aired_same, item_same, none_same, no_more, airs_none}
 use Rattle.vdcp_late.proofs.DeliveringPlay.{airs_item, airs_nothing}
@@ -181,6 +181,12 @@ unarmed n k low high l h phase.Select lies = absurd (omega arith)
 unarmed n k low high l h (phase.Cue j) lies = absurd (omega arith)
 unarmed n k low high l h d lies = refl
 
+unarmed_after : (mode : Mode) (n k : ℕ) (d : Phase) → Lies mode n (5 * k + 5) (5 * k + 6) d → arms d ≡ false
+unarmed_after mode n k phase.Select lies = absurd (omega arith)
+unarmed_after Plain n k (phase.Cue j) lies = absurd (omega arith)
+unarmed_after Confirming n k (phase.Cue j) lies = absurd (omega arith)
+unarmed_after mode n k d lies = refl
+
 pub no_plays : (mode : Mode) (n low high : ℕ) (ups : List Answer) (downs : List Phase)
     → ((d : Phase) → Lies mode n low high d → plays d ≡ false)
     → Climbs low high (stretches mode n (pipe_of ups downs)) → list_any plays downs ≡ false
@@ -220,29 +226,72 @@ safe_calm : (list : List Item) (settled : ℕ) (s : Bool) (a : Cued) (aired : Li
     → At list aired settled k → list_any plays downs ≡ false → Safe list settled s a aired downs
 safe_calm list settled s a aired downs k h e = record { near = near_at list aired settled k h; calm = inl e }
 
+-- in these phases no PLAY is on the way
+abbrev pub is_silent : Phase → Bool
+is_silent (phase.Play k) = false
+is_silent (phase.Probe k) = false
+is_silent (phase.Check k) = false
+is_silent phase.Halt = false
+is_silent phase.HaltClose = false
+is_silent _ = true
+
+pub none_plays : (mode : Mode) (n : ℕ) (ups : List Answer) (downs : List Phase) (q : Phase) → is_silent q ≡ true
+    → IsPipe mode n q (pipe_of ups downs) → list_any plays downs ≡ false
+none_plays mode n ups downs phase.Open e c =
+    no_plays mode n 0 0 ups downs (λ d l. quiet_first mode n d (l.0, omega (arith, l.1))) c
+none_plays mode n ups downs phase.Select e c = no_plays mode n 0 1 ups downs (quiet_first mode n) c
+none_plays mode n ups downs phase.Seen e c = no_plays mode n 0 1 ups downs (quiet_first mode n) c
+none_plays mode n ups downs (phase.Exists k) e c =
+    no_plays mode n (5 * k + 1) (5 * k + 2) ups downs
+    (quiet mode n k (5 * k + 1) (5 * k + 2) (omega arith) (omega arith)) c
+none_plays Plain n ups downs (phase.Cue k) e c =
+    no_plays Plain n (5 * k + 2) (5 * k + 3) ups downs
+    (quiet Plain n k (5 * k + 2) (5 * k + 3) (omega arith) (omega arith)) c
+none_plays Confirming n ups downs (phase.Cue k) e c =
+    no_plays Confirming n (5 * k + 2) (5 * k + 4) ups downs
+    (quiet Confirming n k (5 * k + 2) (5 * k + 4) (omega arith) (omega arith)) c
+none_plays Plain n ups downs (phase.Wait k) e c =
+    no_plays Plain n (5 * k + 3) (5 * k + 4) ups downs
+    (quiet Plain n k (5 * k + 3) (5 * k + 4) (omega arith) (omega arith)) c
+none_plays Confirming n ups downs (phase.Wait k) e c =
+    no_plays Confirming n (5 * k + 2) (5 * k + 4) ups downs
+    (quiet Confirming n k (5 * k + 2) (5 * k + 4) (omega arith) (omega arith)) c
+none_plays mode n ups downs phase.Drain e c =
+    no_plays mode n (5 * n + 1) (5 * n + 2) ups downs
+    (quiet mode n n (5 * n + 1) (5 * n + 2) (omega arith) (omega arith)) c
+none_plays mode n ups downs phase.Close e c =
+    no_plays mode n (5 * n + 1) (5 * n + 3) ups downs
+    (quiet mode n n (5 * n + 1) (5 * n + 3) (omega arith) (omega arith)) c
+none_plays mode n ups downs (phase.Play k) e c = cc
+none_plays mode n ups downs (phase.Probe k) e c = cc
+none_plays mode n ups downs (phase.Check k) e c = cc
+none_plays mode n ups downs phase.Halt e c = cc
+none_plays mode n ups downs phase.HaltClose e c = cc
+
+-- nor in Check anything that arms
+pub none_arms_in : (mode : Mode) (n k : ℕ) (ups : List Answer) (downs : List Phase)
+    → Climbs (5 * k + 5) (5 * k + 6) (stretches mode n (pipe_of ups downs)) → list_any arms downs ≡ false
+none_arms_in mode n k ups downs c =
+    none_within mode n (5 * k + 5) (5 * k + 6) arms downs (unarmed_after mode n k)
+    (downs_climb mode n (5 * k + 5) (5 * k + 6) ups downs c)
+
 -- what is on the way down in a phase in which nothing can air
 pub calm_in : (list : List Item) (settled : ℕ) (s : Bool) (a : Cued) (aired : List Item) (ups : List Answer)
     (downs : List Phase) (q : Phase)
     → Place list settled s a aired ups downs q → IsPipe Plain (length list) q (pipe_of ups downs)
     → Safe list settled s a aired downs
 calm_in list settled s a aired ups downs phase.Open h c =
-    safe_calm list settled s a aired downs 0 h (no_plays Plain (length list) 0 0 ups downs
-    (λ d l. quiet_first Plain (length list) d (l.0, omega (arith, l.1))) c)
+    safe_calm list settled s a aired downs 0 h (none_plays Plain (length list) ups downs phase.Open refl c)
 calm_in list settled s a aired ups downs phase.Select h c =
-    safe_calm list settled s a aired downs 0 h (no_plays Plain (length list) 0 1 ups downs
-    (quiet_first Plain (length list)) c)
+    safe_calm list settled s a aired downs 0 h (none_plays Plain (length list) ups downs phase.Select refl c)
 calm_in list settled s a aired ups downs phase.Seen h c =
-    safe_calm list settled s a aired downs 0 h (no_plays Plain (length list) 0 1 ups downs
-    (quiet_first Plain (length list)) c)
+    safe_calm list settled s a aired downs 0 h (none_plays Plain (length list) ups downs phase.Seen refl c)
 calm_in list settled s a aired ups downs (phase.Exists k) h c =
-    safe_calm list settled s a aired downs k h.0 (no_plays Plain (length list) (5 * k + 1) (5 * k + 2) ups downs
-    (quiet Plain (length list) k (5 * k + 1) (5 * k + 2) (omega arith) (omega arith)) c)
+    safe_calm list settled s a aired downs k h.0 (none_plays Plain (length list) ups downs (phase.Exists k) refl c)
 calm_in list settled s a aired ups downs (phase.Cue k) h c =
-    safe_calm list settled s a aired downs k h.at (no_plays Plain (length list) (5 * k + 2) (5 * k + 3) ups downs
-    (quiet Plain (length list) k (5 * k + 2) (5 * k + 3) (omega arith) (omega arith)) c)
+    safe_calm list settled s a aired downs k h.at (none_plays Plain (length list) ups downs (phase.Cue k) refl c)
 calm_in list settled s a aired ups downs (phase.Wait k) h c =
-    safe_calm list settled s a aired downs k h.at (no_plays Plain (length list) (5 * k + 3) (5 * k + 4) ups downs
-    (quiet Plain (length list) k (5 * k + 3) (5 * k + 4) (omega arith) (omega arith)) c)
+    safe_calm list settled s a aired downs k h.at (none_plays Plain (length list) ups downs (phase.Wait k) refl c)
 calm_in list settled s a aired ups downs (phase.Play k) h c =
     safe_playing list settled s a aired ups downs k h (no_arms (length list) (5 * k + 4) (5 * k + 5) ups downs
     (unarmed (length list) k (5 * k + 4) (5 * k + 5) (omega arith) (omega arith)) c)
@@ -251,19 +300,11 @@ calm_in list settled s a aired ups downs (phase.Probe k) h c =
     (unarmed (length list) k (5 * k + 4) (5 * k + 5) (omega arith) (omega arith)) c)
 calm_in list settled s a aired ups downs (phase.Check k) h c = record {
   near = near_at list aired settled (k + 1) h.at;
-  calm = inr (record {
-    none_arms = no_arms (length list) (5 * k + 5) (5 * k + 6) ups downs
-        (unarmed (length list) k (5 * k + 5) (5 * k + 6) (omega arith) (omega arith)) c;
-    last = inl h.has_none;
-  });
+  calm = inr (record { none_arms = none_arms_in Plain (length list) k ups downs c; last = inl h.has_none });
 }
 calm_in list settled s a aired ups downs phase.Drain h c =
-    safe_calm list settled s a aired downs (length list) h (no_plays Plain (length list) (5 * length list + 1)
-    (5 * length list + 2) ups downs
-    (quiet Plain (length list) (length list) (5 * length list + 1) (5 * length list + 2) (omega arith) (omega arith)) c)
+    safe_calm list settled s a aired downs (length list) h (none_plays Plain (length list) ups downs phase.Drain refl c)
 calm_in list settled s a aired ups downs phase.Close h c =
-    safe_calm list settled s a aired downs (length list) h (no_plays Plain (length list) (5 * length list + 1)
-    (5 * length list + 3) ups downs
-    (quiet Plain (length list) (length list) (5 * length list + 1) (5 * length list + 3) (omega arith) (omega arith)) c)
+    safe_calm list settled s a aired downs (length list) h (none_plays Plain (length list) ups downs phase.Close refl c)
 calm_in list settled s a aired ups downs phase.Halt h c = h
 calm_in list settled s a aired ups downs phase.HaltClose h c = h

@@ -1,14 +1,15 @@
 -- The headline of a line that keeps order: what holds of every channel that events have led to, however late the
 -- answers came, and whichever end was started anew.
-use Rattle.std.specs.Prelude.{ℕ, ◌≡◌, ◌≤◌, Bool, true, false, IfSome, List, ◌++◌, length, take}
+use Rattle.std.specs.Prelude.{ℕ, ◌≡◌, ◌≤◌, Bool, true, false, None, IfSome, List, ◌++◌, length, take}
 use Rattle.vdcp_value.specs.declared.clip_id.ClipId.{ClipId}
 use Rattle.vdcp_value.specs.declared.part.Item.{Item}
 use Rattle.vdcp_value.specs.declared.timecode.Timecode.{Timecode}
+use Rattle.vdcp_auto.specs.Course.{logged}
 use Rattle.vdcp_auto.specs.Endings.{IsLost, IsRefused}
 use Rattle.vdcp_auto.specs.Plan.{Plan}
 use Rattle.vdcp_auto.specs.RuleBook.{May, KeepsRules}
-use Rattle.vdcp_auto.specs.Settled.{settled}
-use Rattle.vdcp_auto.specs.Turn.{awaited, outcome_of}
+use Rattle.vdcp_auto.specs.Settled.{may_have_aired, settled}
+use Rattle.vdcp_auto.specs.Turn.{awaited, ended_by, outcome_of}
 use Rattle.vdcp_auto.specs.declared.exchange.Exchange.{Exchange}
 use Rattle.vdcp_auto.specs.declared.outcome.Outcome.{Outcome}
 use Rattle.vdcp_auto.specs.declared.outcome.Outcome.TheVariants as outcome
@@ -47,11 +48,17 @@ is_late_complete mode _ = false
 abbrev pub reported_of : LateChannel → List Item
 reported_of c = take c.state.settled c.plan.list
 
+-- the log, at whose end is what is awaited, as an exchange without an answer
+abbrev pub log_so_far : LateChannel → List Exchange
+log_so_far c = logged c.log (ended_by c.plan None c.state)
+
 -- What went to air is a beginning of the playlist, each event once and in order; and the events reported as
 -- aired are a beginning of these, shorter by one at most.
 pub record LateHeadline (c : LateChannel) : Type 0 where
   pub beginning : (more : List Item) × (c.plan.list ≡ c.aired ++ more)
   pub reported : (last : List Item) × (c.aired ≡ reported_of c ++ last) × (length last ≤ 1)
+  -- and all that went to air, where no PLAY stands after the last exchange that settles
+  pub exact : may_have_aired c.plan.mode (log_so_far c) ≡ false → c.aired ≡ reported_of c
   -- and that many are reported
   pub count : length (reported_of c) ≡ c.state.settled
   -- what is reported is what the exchanges between the two ends show to be aired

@@ -17,7 +17,8 @@ ghost use Rattle.vdcp_world.specs.declared.event.Event.{Event};
 ///
 /// - what went to air is a beginning of the playlist, each event once and in order;
 /// - the events reported as aired are a beginning of these, shorter by one at most, and are those that the log shows
-///   to be aired;
+///   to be aired; where no PLAY stands after the last exchange that settles, the awaited one included, they are all
+///   that went to air;
 /// - the rule book allows each command of the log where it stands, and the one that is awaited;
 /// - Done means that the whole playlist went to air and is reported; Missing(k), that event k's clip isn't in the
 ///   catalogue, and in confirm mode Refused(k), that `limit` or more empty statuses came after a cue of event k,
@@ -37,6 +38,7 @@ pub fn a_late_line_keeps_the_headline()
     vdcp_port::laws::the_unit_stays();
     vdcp_auto::laws::commands_can_be_written();
     vdcp_auto::laws::reached_is_lawful();
+    vdcp_auto::laws::a_log_grows();
 }
 
 /// Whatever happens on a line that holds one burst each way happens on one that keeps order: each event of the one is

@@ -21,6 +21,9 @@ returns c =
       one_aired = c.a_burst_with_one_message.ensures.aired;
       one_left = c.a_burst_with_one_message.ensures.next;
       unit_frame = c.the_unit_stays.ensures.frame;
+      lawful = c.reached_is_lawful.ensures;
+      settled_grows = c.a_log_grows.ensures.settled;
+      airing_grows = c.a_log_grows.ensures.airing;
       given_written = c.commands_can_be_written.ensures.given;
     } in
     λ channel reached.
