@@ -10,4 +10,5 @@ mod Headline
 mod SeveralRuns
 mod Exchanging
 mod Killed
+mod Ended
 mod Examples

@@ -142,10 +142,14 @@ pub data Step (plan : Plan) (unit : ℕ) (e : Ends) : Ends → Type 0 where
   -- the same, to a server that was started anew
   restarted : Step plan unit e (connected_anew plan (made_anew (port_now e)) e)
 
--- what may come of two new ends
-pub data AreJoined (plan : Plan) (port : ClockedPort) : Ends → Type 0 where
-  begun : AreJoined plan port (new_ends port)
-  went_on : {e e' : Ends} → AreJoined plan port e → Step plan port.state.unit e e' → AreJoined plan port e'
+-- what may come of both ends in some steps
+pub data AreLed (plan : Plan) (unit : ℕ) (first : Ends) : Ends → Type 0 where
+  begun : AreLed plan unit first first
+  went_on : {e e' : Ends} → AreLed plan unit first e → Step plan unit e e' → AreLed plan unit first e'
+
+-- and of two new ends
+abbrev pub AreJoined : Plan → ClockedPort → Ends → Type 0
+AreJoined plan port e = AreLed plan port.state.unit (new_ends port) e
 
 -- no command is given in it
 abbrev pub GivesNone : {plan : Plan} {unit : ℕ} {e e' : Ends} → Step plan unit e e' → Type 0

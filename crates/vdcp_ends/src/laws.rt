@@ -1,23 +1,27 @@
 //! The laws of the definitions in `specs/`. The functions do nothing: their contracts are the laws, and a caller whose
 //! proof needs one calls it.
-ghost use Rattle.std.specs.Prelude.{ℕ, ◌≡◌, ◌≤◌, ◌++◌, List, length, Option, None, map};
+ghost use Rattle.std.specs.Prelude.{ℕ, ◌≡◌, ◌≤◌, ◌++◌, false, List, length, IsTrue, Option, None, Some, map};
 ghost use Rattle.vdcp_value.specs.declared.part.Item.{Item};
 ghost use Rattle.vdcp_frame.specs.Progress.{Progress};
 ghost use Rattle.vdcp_port.specs.Clock.{ClockedPort};
 ghost use Rattle.vdcp_auto.specs.Course.{logged};
 ghost use Rattle.vdcp_auto.specs.Plan.{Plan};
+ghost use Rattle.vdcp_auto.specs.Settled.{may_have_aired};
 ghost use Rattle.vdcp_auto.specs.State.{State};
-ghost use Rattle.vdcp_auto.specs.Turn.{ended_by, start};
+ghost use Rattle.vdcp_auto.specs.Turn.{ended_by, outcome_of, start};
+ghost use Rattle.vdcp_auto.specs.declared.outcome.Outcome.{Outcome};
+ghost use Rattle.vdcp_journal.specs.Airings.{settled_in};
 ghost use Rattle.vdcp_journal.specs.Resume.{AreTold, after_rows, log_of};
 ghost use Rattle.vdcp_journal.specs.declared.row.Row.{Row};
 ghost use Rattle.vdcp_wire.specs.Wires.{Arrival, Told};
 ghost use Rattle.vdcp_drive.specs.Prompt.{HasRunPrompt, HasRunPromptBroken, prompted};
 ghost use Rattle.vdcp_drive.specs.Served.{IsServed, items_served};
+ghost use Rattle.vdcp_late.specs.LateHeadline.{is_late_complete};
 ghost use Rattle.vdcp_ends.specs.Below.{Answered, Completed, Spelt, Written};
 ghost use Rattle.vdcp_ends.specs.EndsHeadline.{EndsHeadline};
 ghost use Rattle.vdcp_ends.specs.OneConnection.{HasCome, IsFresh, ends_of};
 ghost use Rattle.vdcp_ends.specs.SeveralRuns.{HaveAired};
-ghost use Rattle.vdcp_ends.specs.TwoEnds.{AreJoined, CanJoin, Ends, IsLateChannel, IsSince, aired_now, connected_anew, log_now, new_ends, port_now, with_kept};
+ghost use Rattle.vdcp_ends.specs.TwoEnds.{AreJoined, AreLed, CanJoin, Ends, IsLateChannel, IsSince, aired_now, connected_anew, log_now, new_ends, port_now, with_kept};
 ghost use Rattle.vdcp_ends.specs.Undisturbed.{AreUndisturbed, CanPlay, IsDone, most_exchanges};
 
 /// An automation that hears at once and a server, joined by two streams of bytes that keep order, are a late channel: in
@@ -63,12 +67,28 @@ pub fn two_ends_keep_the_headline()
     vdcp_late::laws::a_late_line_keeps_the_headline();
 }
 
+/// Once the automation has ended so that all that went to air is reported, nothing more airs, whatever is still on its way.
+pub fn nothing_airs_after_a_complete_end()
+    ensures { (plan : Plan) (port : ClockedPort) (e later : Ends) (outcome : Outcome) → CanJoin plan port →
+        AreJoined plan port e → outcome_of e.automation.state.stage ≡ Some outcome →
+        IsTrue (is_late_complete plan.mode outcome) → AreLed plan port.state.unit e later →
+        aired_now later ≡ aired_now e }
+{
+    two_ends_are_a_late_channel();
+    vdcp_late::laws::a_late_line_keeps_the_headline();
+}
+
 /// What aired over several runs of a list, each of which begins with the number of all that aired before, is a beginning
 /// of that list.
 pub fn several_runs_air_a_beginning()
-    ensures { (list aired : List Item) → HaveAired list aired → (more : List Item) × (list ≡ aired ++ more) }
+    ensures list { (list aired : List Item) → HaveAired list aired → (more : List Item) × (list ≡ aired ++ more) }
+    // that number is what a run's journal settles, where it shows that no event more may have aired
+    ensures next { (plan : Plan) (port : ClockedPort) (e : Ends) (rows : List Row) → CanJoin plan port →
+        AreJoined plan port e → map (λ row. row.note) rows ≡ e.notes →
+        may_have_aired plan.mode (log_of rows) ≡ false → length (aired_now e) ≡ settled_in plan.mode rows }
 {
-    two_ends_keep_the_headline();
+    two_ends_are_a_late_channel();
+    vdcp_late::laws::a_late_line_keeps_the_headline();
 }
 
 /// Exchanges that nothing disturbs bring a list to its end, from two new ends: in plain mode five for each event, and
