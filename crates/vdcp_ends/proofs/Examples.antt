@@ -1,5 +1,5 @@
 -- Two ends with their bytes, computed: a run that the laws speak of; and for three premises what happens without them.
-use Rattle.std.proofs.Common.{◌≡◌, ◌<◌, ℕ, true, List, [], ◌∷◌, ◌++◌, max, refl, ap, arith, lit<, lit≤, take}
+use Rattle.std.proofs.Common.{◌≡◌, ◌<◌, ◌+◌, ℕ, zero, suc, true, List, [], ◌∷◌, ◌++◌, max, refl, ap, arith, lit<, lit≤, take}
 use Rattle.std.proofs.lemmas.List.Elements.{All-cons, All-nil}
 use Rattle.std.specs.Simd.Lanes.{all_below}
 use Rattle.std.specs.Prelude.{None, Some}
@@ -30,7 +30,9 @@ use Rattle.vdcp_drive.specs.PromptReading.{holds}
 use Rattle.vdcp_drive.specs.Served.{items_served, served}
 use Rattle.vdcp_ends.specs.OneConnection.{HasCome, begun, up, down, waited, frame, down_bytes}
 use Rattle.vdcp_ends.specs.TwoEnds as ends
-use Rattle.vdcp_ends.specs.TwoEnds.{AreJoined, Ends, bytes_in, new_ends}
+use Rattle.vdcp_ends.specs.TwoEnds.{AreJoined, Ends, bytes_in, new_ends, port_now}
+use Rattle.vdcp_ends.specs.Undisturbed as undisturbed
+use Rattle.vdcp_ends.specs.Undisturbed.{AreUndisturbed, exchanged}
 
 -- a clip whose ID and the checksum of its cue end as PLAY to unit 0
 abbrev clip : ClipId
@@ -341,3 +343,13 @@ its_journal : (length : Timecode) → (a_kill length).0.notes
     ≡ note.Sent (command.Open 1 1) ∷ note.Silence ∷ note.Sent (command.Open 1 1) ∷ note.Heard
     (heard.Reply (reply.Opened true)) ∷ []
 its_journal length = refl
+
+-- Exchanges that nothing disturbs: from wherever there are as many as one likes.
+as_many_exchanges : (n : ℕ) (e : Ends) → (later : Ends) × AreUndisturbed plan 0 n e later
+as_many_exchanges zero e = (e, undisturbed.none)
+as_many_exchanges (suc n) e =
+    let cue : ℕ = (port_now e).counts.cue in
+    let playing : ℕ = (port_now e).counts.playing in
+    let frames : ℕ = 1 + cue + playing in
+    let r = as_many_exchanges n (exchanged plan 0 frames e) in
+    (r.0, undisturbed.first frames (omega arith) (omega arith) (omega arith) r.1)
