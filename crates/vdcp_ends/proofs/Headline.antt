@@ -1,5 +1,5 @@
 -- The headline of a late channel, said of the two ends.
-use Rattle.std.proofs.Common.{ℕ, ◌≡◌, ◌≤◌, List, ◌++◌, length, take, refl, sym, ap, subst, ◌∙◌}
+use Rattle.std.proofs.Common.{ℕ, ◌⊎◌, inl, inr, ◌≡◌, ◌≤◌, List, ◌++◌, length, take, refl, sym, ap, subst, ◌∙◌}
 use Rattle.std.specs.Prelude.{IfSome, Option}
 use Rattle.vdcp_value.specs.declared.clip_id.ClipId.{ClipId}
 use Rattle.vdcp_value.specs.declared.part.Item.{Item}
@@ -86,22 +86,17 @@ pub of_run : (law : Laws) (plan : Plan) (start port : ClockedPort) (up : Told) (
     (reader : Option Progress) (passed : ℕ) → CanJoin plan start
     → HasCome plan start.state.unit (new_ends start) up.came downs → port ≡ port_after start downs
     → HasRunPrompt plan start.state.unit up state reader passed
+    ⊎ HasRunPromptBroken plan start.state.unit up state reader passed
     → EndsHeadline plan port.clips state (prompted plan start.state.unit up.came).log (items_served start downs)
-of_run law plan start port up downs state reader passed can h is run =
+of_run law plan start port up downs state reader passed can h is (inl run) =
     let log : List Exchange = (prompted plan start.state.unit up.came).log in
     let aired : List Item = items_served start downs in
     before_tick plan port.clips state log aired
     (subst (λ (s : State). EndsHeadline plan port.clips (ticked s) log aired) (sym run.shows.state_is)
     (with_next law plan start port up.came downs can h is))
-
-pub of_broken : (law : Laws) (plan : Plan) (start port : ClockedPort) (up : Told) (downs : List Arrival) (state : State)
-    (reader : Option Progress) (passed : ℕ) → CanJoin plan start
-    → HasCome plan start.state.unit (new_ends start) up.came downs → port ≡ port_after start downs
-    → HasRunPromptBroken plan start.state.unit up state reader passed
-    → EndsHeadline plan port.clips state (prompted plan start.state.unit up.came).log (items_served start downs)
-of_broken law plan start port up downs state reader passed can h is (in_send b) =
+of_run law plan start port up downs state reader passed can h is (inr (in_send b)) =
     subst (λ (s : State). EndsHeadline plan port.clips s (prompted plan start.state.unit up.came).log
     (items_served start downs)) (sym b.shows.state_is) (with_next law plan start port up.came downs can h is)
-of_broken law plan start port up downs state reader passed can h is (in_listen b) =
+of_run law plan start port up downs state reader passed can h is (inr (in_listen b)) =
     subst (λ (s : State). EndsHeadline plan port.clips s (prompted plan start.state.unit up.came).log
     (items_served start downs)) (sym b.shows.state_is) (with_next law plan start port up.came downs can h is)

@@ -1,6 +1,6 @@
 //! The laws of the definitions in `specs/`. The functions do nothing: their contracts are the laws, and a caller whose
 //! proof needs one calls it.
-ghost use Rattle.std.specs.Prelude.{ℕ, ◌≡◌, ◌≤◌, ◌++◌, false, List, length, IsTrue, Option, None, Some, map};
+ghost use Rattle.std.specs.Prelude.{ℕ, ◌≡◌, ◌≤◌, ◌⊎◌, ◌++◌, false, List, length, IsTrue, Option, None, Some, map};
 ghost use Rattle.vdcp_value.specs.declared.part.Item.{Item};
 ghost use Rattle.vdcp_frame.specs.Progress.{Progress};
 ghost use Rattle.vdcp_port.specs.Clock.{ClockedPort};
@@ -47,19 +47,13 @@ pub fn two_ends_are_a_late_channel()
 pub fn two_ends_keep_the_headline()
     ensures ends { (plan : Plan) (port : ClockedPort) (e : Ends) → CanJoin plan port → AreJoined plan port e →
         EndsHeadline plan port.clips e.automation.state (log_now e) (aired_now e) }
-    // Of a driver that has run since it was new, and a server that has served since it was new, if what came to either
-    // is of what the other one has sent.
+    // Of a driver that has run since it was new, also where its wire failed, and a server that has served since it was
+    // new, if what came to either is of what the other one has sent.
     ensures run { (plan : Plan) (start port : ClockedPort) (up down : Told) (state : State)
         (reader : Option Progress) (passed : ℕ) (taken : Progress) → CanJoin plan start →
         HasCome plan start.state.unit (new_ends start) up.came down.came →
-        HasRunPrompt plan start.state.unit up state reader passed → IsServed start down port taken →
-        EndsHeadline plan port.clips state (prompted plan start.state.unit up.came).log
-        (items_served start down.came) }
-    // and where the driver's wire failed
-    ensures broken { (plan : Plan) (start port : ClockedPort) (up down : Told) (state : State)
-        (reader : Option Progress) (passed : ℕ) (taken : Progress) → CanJoin plan start →
-        HasCome plan start.state.unit (new_ends start) up.came down.came →
-        HasRunPromptBroken plan start.state.unit up state reader passed → IsServed start down port taken →
+        HasRunPrompt plan start.state.unit up state reader passed
+        ⊎ HasRunPromptBroken plan start.state.unit up state reader passed → IsServed start down port taken →
         EndsHeadline plan port.clips state (prompted plan start.state.unit up.came).log
         (items_served start down.came) }
 {

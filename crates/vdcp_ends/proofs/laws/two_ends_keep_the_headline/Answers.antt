@@ -1,4 +1,4 @@
-use Rattle.vdcp_ends.proofs.Headline.{Laws, of_broken, of_ends, of_run}
+use Rattle.vdcp_ends.proofs.Headline.{Laws, of_ends, of_run}
 use Rattle.vdcp_ends.proofs.laws.two_ends_keep_the_headline.Goals as goal
 
 pub returns : goal.returns
@@ -11,6 +11,4 @@ returns c =
       ends = of_ends law;
       run = λ plan start port up down state reader passed taken can h run served.
           of_run law plan start port up down.came state reader passed can h served.port_is run;
-      broken = λ plan start port up down state reader passed taken can h run served.
-          of_broken law plan start port up down.came state reader passed can h served.port_is run;
     }
