@@ -109,6 +109,8 @@ impl<'a, W: Wire, L: io::Write + Drop> Logged<'a, W, L> {
 }
 
 impl<W: Wire, L: io::Write + Drop> Wire for Logged<'_, W, L> {
+    ghost does = { λ act old new. W.does act old.wire new.wire };
+
     ghost told = { λ w. W.told w.wire };
 
     ghost failures = { λ w. W.failures w.wire };
@@ -150,6 +152,8 @@ impl<W: Wire, L: io::Write + Drop> Wire for Logged<'_, W, L> {
     }
 
     ghost fails_once = { λ w. W.fails_once w.wire };
+
+    ghost tells = { λ act old new. W.tells act old.wire new.wire };
 }
 
 /// Logs each item that goes to air, counted from 0, with the time codes of its part at a rate.

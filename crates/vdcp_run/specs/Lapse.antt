@@ -1,5 +1,7 @@
 -- A silence that comes by the clock, where bytes keep coming.
-use Rattle.std.specs.Prelude.{ℕ, suc, zero, ◌-◌, Bool, false, nat_le}
+use Rattle.std.specs.Prelude.{ℕ, suc, zero, ◌≡◌, ◌-◌, Bool, true, false, nat_le}
+use Rattle.vdcp_wire.specs.Acts.{Act, sends, brings, drops, fails}
+use Rattle.vdcp_wire.specs.Wires.{silence}
 use Rattle.vdcp_wire.specs.declared.wire.Came.{Came}
 use Rattle.vdcp_wire.specs.declared.wire.Came.TheVariants as brings
 use Rattle.vdcp_run.specs.declared.lapsing.Since.{Since}
@@ -7,9 +9,9 @@ use Rattle.vdcp_run.specs.declared.lapsing.Since.TheVariants as since
 
 -- whether a silence's time has passed since the last command was sent, and bytes came since. (Where none came, the wire
 -- tells silences itself)
-abbrev pub has_lapsed : Since → (silence sent now : ℕ) → Bool
-has_lapsed since.Nothing silence sent now = false
-has_lapsed since.Bytes silence sent now = nat_le silence (now - sent)
+abbrev pub has_lapsed : Since → (time sent now : ℕ) → Bool
+has_lapsed since.Nothing time sent now = false
+has_lapsed since.Bytes time sent now = nat_le time (now - sent)
 
 -- what has come since the last command or silence, with what came now
 abbrev pub since_with : Came → Since → Since
@@ -17,3 +19,18 @@ since_with brings.Silence before = since.Nothing
 since_with brings.Closed before = before
 since_with (brings.Bytes zero) before = before
 since_with (brings.Bytes (suc n)) before = since.Bytes
+
+-- what the wire below does, but for a silence by the clock, where that stays as it is. A command that is sent begins anew
+abbrev pub Lapses : {W : Type 0} → (Act → W → W → Type 0) → (lapsed : Bool) → (since' : Since) → Act → W → W → Type 0
+Lapses does lapsed since' (sends bytes) old new = does (sends bytes) old new × (since' ≡ since.Nothing)
+Lapses does true since' (brings what) old new = (what ≡ silence) × (new ≡ old)
+Lapses does false since' (brings what) old new = does (brings what) old new
+Lapses does lapsed since' drops old new = does drops old new
+Lapses does lapsed since' fails old new = does fails old new
+
+-- what a dead line may do: bring nothing
+abbrev pub IsDead : Act → Type 0
+IsDead (sends bytes) = Unit {0}
+IsDead (brings what) = what ≡ silence
+IsDead drops = Unit {0}
+IsDead fails = ⊥

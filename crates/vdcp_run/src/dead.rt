@@ -5,8 +5,11 @@ use vdcp_wire::{Came, PIECE, Wire, WireFault};
 pub struct DeadWire;
 
 impl Wire for DeadWire {
-    ghost use Rattle.std.specs.Prelude.{false, None};
+    ghost use Rattle.std.specs.Prelude.{false, None, refl};
+    ghost use Rattle.vdcp_run.specs.Lapse.{IsDead};
     ghost use Rattle.vdcp_wire.specs.Scripts.{fails_at_most_once};
+
+    ghost does = { λ act _ _. IsDead act };
 
     ghost told = { λ _. None };
 
@@ -25,4 +28,6 @@ impl Wire for DeadWire {
     }
 
     ghost fails_once = { λ _. fails_at_most_once false };
+
+    ghost tells = { λ _ _ _ _. refl };
 }

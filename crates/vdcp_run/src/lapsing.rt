@@ -1,6 +1,7 @@
-ghost use Rattle.std.specs.Prelude.{◌≡◌, ◌≤◌, true, false, IfOk, Ok, OnErr, OnOk};
-ghost use Rattle.vdcp_wire.specs.Wires.{FitsBuffer};
-ghost use Rattle.vdcp_run.specs.Lapse.{has_lapsed, since_with};
+ghost use Rattle.std.specs.Prelude.{◌≡◌, ◌≤◌, ◌*◌, IfOk, OnErr, OnOk};
+ghost use Rattle.vdcp_wire.specs.Acts.{brings, fails};
+ghost use Rattle.vdcp_wire.specs.Wires.{arrival_of, FitsBuffer};
+ghost use Rattle.vdcp_run.specs.Lapse.{has_lapsed, since_with, Lapses};
 
 use crate::stopwatch::{Stopwatch, nanoseconds};
 use std::rt::Clock;
@@ -33,6 +34,7 @@ impl<'a, R: Clock, W: Wire> Lapsing<'a, R, W> {
     /// A wire over this one, whose silences are of this many milliseconds.
     pub fn new(wire: W, clock: &'a R, silence: u32) -> Self
         ensures wire { result.wire ≡ wire }
+        ensures silence { result.silence ≡ silence * 1000000 }
         ensures since { result.since ≡ Since.Nothing }
     {
         Lapsing {
@@ -72,8 +74,10 @@ impl<'a, R: Clock, W: Wire> Lapsing<'a, R, W> {
         ensures fits { IfOk result FitsBuffer }
         ensures works { OnOk result (W.failures self.new.wire ≡ 0) }
         ensures failed { OnErr result (W.failures self.new.wire ≡ 1) }
-        ensures lapsed { has_lapsed self.old.since self.old.silence self.old.sent self.new.stopwatch.now ≡ true →
-            (result ≡ Ok Came.Silence) × (self.new.wire ≡ self.old.wire) }
+        ensures brings { IfOk result (λ came. Lapses W.does
+            (has_lapsed self.old.since self.old.silence self.old.sent self.new.stopwatch.now) self.new.since
+            (brings (arrival_of came buffer.new)) self.old.wire self.new.wire) }
+        ensures fails { OnErr result (W.does fails self.old.wire self.new.wire) }
         ensures since { IfOk result (λ came. self.new.since ≡ since_with came self.old.since) }
         ensures sent { self.new.sent ≡ self.old.sent }
     {
@@ -99,16 +103,19 @@ fn since_with(came: Came, since: Since) -> Since
 }
 
 impl<R: Clock, W: Wire> Wire for Lapsing<'_, R, W> {
-    ghost use Rattle.std.specs.Prelude.{None};
+    ghost use Rattle.std.specs.Prelude.{None, refl};
+
+    ghost does = { λ act old new. Lapses W.does (has_lapsed old.since old.silence old.sent new.stopwatch.now) new.since act
+        old.wire new.wire };
 
     ghost told = { λ _. None };
 
     ghost failures = { λ w. W.failures w.wire };
 
     fn send(&mut self, bytes: &[u8]) -> Result<(), WireFault> {
-        self.wire.send(bytes)?;
+        let sent = self.wire.send(bytes);
         self.note_sent();
-        Ok(())
+        sent
     }
 
     fn listen(&mut self, buffer: &mut [u8; PIECE]) -> Result<Came, WireFault> {
@@ -120,4 +127,6 @@ impl<R: Clock, W: Wire> Wire for Lapsing<'_, R, W> {
     }
 
     ghost fails_once = { λ w. W.fails_once w.wire };
+
+    ghost tells = { λ _ _ _ _. refl };
 }

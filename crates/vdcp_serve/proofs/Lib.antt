@@ -1,4 +1,4 @@
 mod Ends
-mod GivenUp
 mod Kept
+mod Pacing
 mod Unserved

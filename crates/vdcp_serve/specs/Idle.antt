@@ -1,9 +1,10 @@
 -- A line that is given up where nothing comes for too long.
 use Rattle.std.specs.Int.{div_ceil}
-use Rattle.std.specs.Prelude.{ℕ, ◌*◌, Bool, true, false, Option, None, Some, max, nat_le}
+use Rattle.std.specs.Prelude.{ℕ, ◌≡◌, ◌*◌, Bool, true, false, Option, None, Some, max, nat_le}
 use Rattle.vdcp_value.specs.Labels.{frames_per_second}
 use Rattle.vdcp_value.specs.declared.rate.Rate.{Rate}
-use Rattle.vdcp_wire.specs.Wires.{Told, close, adds_came}
+use Rattle.vdcp_wire.specs.Acts.{Act, sends, brings, drops, fails}
+use Rattle.vdcp_wire.specs.Wires.{Told, Arrival, close, adds_came}
 use Rattle.vdcp_serve.specs.declared.idling.Idling.{Idling}
 use Rattle.vdcp_serve.specs.declared.idling.Patience.{Patience}
 use Rattle.vdcp_serve.specs.declared.idling.Patience.TheVariants as patience
@@ -38,3 +39,21 @@ idling_told told w = told_with w.patience (told w.wire)
 
 abbrev pub idling_failures : {W : Type 0} → (W → ℕ) → Idling W → ℕ
 idling_failures failures w = failures w.wire
+
+-- whether it gives up, or has given up, at the next listen
+abbrev pub gives_up : Option ℕ → Patience → Bool
+gives_up most (patience.Waits silences) = are_too_many most silences
+gives_up most patience.GaveUp = true
+
+-- what a listen brings: the close where it gives up, while the wire below stays, or else what that brings
+abbrev pub IdlingBrings : {W : Type 0} → (Act → W → W → Type 0) → (gives_up : Bool) → Arrival → Idling W → Idling W → Type 0
+IdlingBrings does true what old new = (what ≡ close) × (new.wire ≡ old.wire) × (new.patience ≡ patience.GaveUp)
+IdlingBrings does false what old new =
+    does (brings what) old.wire new.wire × (has_given_up new.patience ≡ false)
+
+-- what it does is what the wire below does, but for that close
+abbrev pub IdlingDoes : {W : Type 0} → (Act → W → W → Type 0) → Act → Idling W → Idling W → Type 0
+IdlingDoes does (sends bytes) old new = does (sends bytes) old.wire new.wire × (new.patience ≡ old.patience)
+IdlingDoes does (brings what) old new = IdlingBrings does (gives_up old.most old.patience) what old new
+IdlingDoes does drops old new = does drops old.wire new.wire × (new.patience ≡ old.patience)
+IdlingDoes does fails old new = does fails old.wire new.wire × (new.patience ≡ old.patience)

@@ -1,4 +1,5 @@
 pub mod Idle
+pub mod IdleLaws
 pub mod Pace
 pub mod Stay
 pub mod Serve

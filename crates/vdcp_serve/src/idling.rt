@@ -76,7 +76,10 @@ fn silences_with(silences: u64, came: Came) -> u64 {
 }
 
 impl<W: Wire> Wire for Idling<W> {
-    ghost use Rattle.vdcp_serve.specs.Idle.{idling_failures, idling_told};
+    ghost use Rattle.vdcp_serve.specs.Idle.{idling_failures, idling_told, IdlingDoes};
+    ghost use Rattle.vdcp_serve.specs.IdleLaws.{idling_tells};
+
+    ghost does = { λ act old new. IdlingDoes W.does act old new };
 
     ghost told = { λ w. idling_told W.told w };
 
@@ -105,4 +108,6 @@ impl<W: Wire> Wire for Idling<W> {
     }
 
     ghost fails_once = { λ w. W.fails_once w.wire };
+
+    ghost tells = { idling_tells W.does W.told W.tells };
 }

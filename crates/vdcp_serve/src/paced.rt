@@ -1,7 +1,9 @@
 ghost use Rattle.std.specs.Prelude.{◌≡◌, ◌≢◌, ◌≤◌, length, false, true, IfOk, OnErr, OnOk};
+ghost use Rattle.vdcp_frame.specs.Reader.{answer_of};
 ghost use Rattle.vdcp_value.specs.Labels.{frames_per_second};
-ghost use Rattle.vdcp_wire.specs.Wires.{FitsBuffer};
-ghost use Rattle.vdcp_serve.specs.Pace.{frames_in, CountsFrames, HasPassed};
+ghost use Rattle.vdcp_wire.specs.Acts.{brings, fails};
+ghost use Rattle.vdcp_wire.specs.Wires.{arrival_of, FitsBuffer};
+ghost use Rattle.vdcp_serve.specs.Pace.{after_silence, before_bytes, burst_after, frames_in, is_over, is_silent, passed, BringsBelow, CountsFrames, HasPassed, PacedBrings};
 
 use std::rt::Clock;
 use std::time::{Duration, Instant};
@@ -120,12 +122,16 @@ impl<'a, R: Clock, W: Wire> Paced<'a, R, W> {
     }
 
     // Whether nothing has come for as long as ends a burst.
-    fn is_silent(&self) -> bool {
+    fn is_silent(&self) -> bool
+        ensures { result ≡ is_silent self.entry.now.silence self.entry.now.now self.entry.now.heard }
+    {
         self.silence <= self.now.saturating_sub(self.heard)
     }
 
     // Whether the burst is over, and no silence was answered yet.
-    fn is_over(&self) -> bool {
+    fn is_over(&self) -> bool
+        ensures { result ≡ is_over self.entry.now.burst (is_silent self.entry.now.silence self.entry.now.now self.entry.now.heard) }
+    {
         match self.burst {
             Burst::Between | Burst::Skipped => false,
             Burst::Within | Burst::Faulty => self.is_silent(),
@@ -135,6 +141,8 @@ impl<'a, R: Clock, W: Wire> Paced<'a, R, W> {
     // Lets a frame pass if one is over, and answers whether it did.
     fn pass_frame(&mut self, rate: Rate) -> bool
         ensures passes { result ≡ true → HasPassed rate self.new.now self.old.frames self.new.frames }
+        ensures burst { result ≡ true → self.new.burst ≡ after_silence self.old.burst
+            (is_silent self.old.silence self.old.now self.old.heard) }
         ensures stays { result ≡ false → self.new ≡ self.old }
         ensures none_over { result ≡ false → ¬ (self.old.burst ≡ Burst.Within)
             → frames_in rate self.old.now ≤ self.old.frames }
@@ -157,7 +165,10 @@ impl<'a, R: Clock, W: Wire> Paced<'a, R, W> {
 
     // A silence is answered.
     fn end_burst(&mut self)
-        ensures { self.new ≡ record self.old { burst = self.new.burst; reader = self.new.reader } }
+        ensures { self.new ≡ record self.old {
+          burst = after_silence self.old.burst (is_silent self.old.silence self.old.now self.old.heard);
+          reader = self.new.reader;
+        } }
     {
         self.reader.silence();
         self.burst = match self.burst {
@@ -168,11 +179,13 @@ impl<'a, R: Clock, W: Wire> Paced<'a, R, W> {
 
     // Takes bytes that came, and answers how many of them are passed on: all, or none after a fault.
     fn take(&mut self, piece: &[u8]) -> usize
+        ensures passes { result ≡ passed
+            (before_bytes self.old.burst (is_silent self.old.silence self.old.now self.old.heard)) (length piece.now) }
         ensures within { result ≤ length piece.now }
         ensures keeps { self.new ≡ record self.old {
           burst = self.new.burst;
           reader = self.new.reader;
-          heard = self.new.heard;
+          heard = self.old.now;
         } }
     {
         if let Burst::Skipped = self.burst
@@ -196,6 +209,9 @@ impl<'a, R: Clock, W: Wire> Paced<'a, R, W> {
         ensures fits { IfOk result FitsBuffer }
         ensures works { OnOk result (W.failures self.new.wire ≡ 0) }
         ensures failed { OnErr result (W.failures self.new.wire ≡ 1) }
+        ensures brings { IfOk result (λ came. PacedBrings W.does self.old.pace (arrival_of came buffer.new)
+            self.old self.new) }
+        ensures fails { OnErr result (W.does fails self.old.wire self.new.wire) }
         ensures counts { (rate : Rate) → self.old.pace ≡ Pace.Clock rate
             → self.old.frames ≤ frames_in rate self.old.now →
             IfOk result (λ came. CountsFrames rate self.old.burst came self.old.frames self.new.frames self.new.now) }
@@ -216,8 +232,11 @@ impl<'a, R: Clock, W: Wire> Paced<'a, R, W> {
 
     // Listens to the wire below, whose silence is none here.
     fn listen_below(&mut self, buffer: &mut [u8; PIECE]) -> Result<Came, WireFault>
-        requires { W.failures self.old.wire ≡ 0 }
+        requires line { W.failures self.old.wire ≡ 0 }
+        requires listens { is_over self.old.burst (is_silent self.old.silence self.old.now self.old.heard) ≡ false }
         ensures fits { IfOk result FitsBuffer }
+        ensures brings { IfOk result (λ came. BringsBelow W.does (arrival_of came buffer.new) self.old self.new) }
+        ensures fails { OnErr result (W.does fails self.old.wire self.new.wire) }
         ensures none_passes { IfOk result (λ came. came ≢ Came.Silence) }
         ensures frames { self.new.frames ≡ self.old.frames }
         ensures now { self.new.now ≡ self.old.now }
@@ -237,13 +256,23 @@ fn read_on(reader: &mut Reader, burst: Burst, piece: &[u8]) -> Burst {
     let mut burst = burst;
     let mut rest = piece;
     'piece: while !rest.is_empty() {
-        burst = match reader.next(&mut rest) {
-            Got::Message(_) => Burst::Between,
-            Got::More => Burst::Within,
-            Got::Fault(_, _) => return Burst::Faulty,
-        };
+        burst = burst_after(reader.next(&mut rest));
+        if let Burst::Faulty = burst {
+            return burst;
+        }
     }
     burst
+}
+
+// How far a burst is after what its reader gave.
+fn burst_after(got: Got<'_>) -> Burst
+    ensures { result ≡ burst_after (answer_of got.entry) }
+{
+    match got {
+        Got::Message(_) => Burst::Between,
+        Got::More => Burst::Within,
+        Got::Fault(_, _) => Burst::Faulty,
+    }
 }
 
 // How many frames are over after this many nanoseconds.
@@ -260,7 +289,10 @@ fn frames_in(rate: Rate, nanoseconds: u64) -> u128
 }
 
 impl<R: Clock, W: Wire> Wire for Paced<'_, R, W> {
-    ghost use Rattle.std.specs.Prelude.{None};
+    ghost use Rattle.std.specs.Prelude.{None, refl};
+    ghost use Rattle.vdcp_serve.specs.Pace.{PacedDoes};
+
+    ghost does = { λ act old new. PacedDoes W.does act old new };
 
     ghost told = { λ _. None };
 
@@ -279,4 +311,6 @@ impl<R: Clock, W: Wire> Wire for Paced<'_, R, W> {
     }
 
     ghost fails_once = { λ w. W.fails_once w.wire };
+
+    ghost tells = { λ _ _ _ _. refl };
 }

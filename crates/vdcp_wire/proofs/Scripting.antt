@@ -4,6 +4,7 @@ use Rattle.std.proofs.lemmas.List.{length-append, length-drop, take-append-le, d
 use Rattle.std.specs.Prelude.{Some, if◌then◌else◌}
 use Rattle.vdcp_wire.specs.declared.wire.Came.{Came}
 use Rattle.vdcp_wire.specs.declared.wire.Came.TheVariants.{Bytes, Silence, Closed}
+use Rattle.vdcp_wire.specs.Acts.{sends, OfFront, Tells}
 use Rattle.vdcp_wire.specs.Scripts.{arrivals, brought_in_all, closes}
 use Rattle.vdcp_wire.specs.Wires.{Arrival, bytes, Told, SendsFront, adds_came, arrival_of, brought, has_closed}
 use Rattle.vdcp_wire.specs.WireLaws.{closed_bytes, closed_silence, closed_close}
@@ -90,3 +91,7 @@ sends_some t octets piece rest sent false parts is = record {
     drops = t.drops;
   })) (is ∙ sym (append-nil t.sent));
 }
+
+pub does_some : (octets : List ℕ) (t u : Told) → SendsFront octets (Some t) (Some u)
+    → OfFront octets (λ front. Tells (sends front) (Some t) (Some u))
+does_some octets t u h = record { front = h.front; rest = h.rest; parts = h.parts; is_so = (tt, h.told) }

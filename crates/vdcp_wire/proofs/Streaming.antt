@@ -1,8 +1,11 @@
--- What reads in a row take.
-use Rattle.std.proofs.Common.{ℕ, List, []}
-use Rattle.std.proofs.KnownBytes.{Consumes-nil, Consumes-trans, Consumes-kept}
-use Rattle.std.specs.Io.KnownBytes.{ReadConsumes}
-use Rattle.std.specs.Prelude.{Option, Result, Ok, Err, take}
+-- What reads and writes in a row do to a connection's bytes.
+use Rattle.std.proofs.Common.{ℕ, ◌+◌, ◌-◌, List, [], ◌++◌, length, take, drop, sym, ap, subst, ◌∙◌}
+use Rattle.std.proofs.KnownBytes.{Appends-kept, Appends-trans, Consumes-nil, Consumes-trans, Consumes-kept}
+use Rattle.std.proofs.Math.Seq.{take-add}
+use Rattle.std.proofs.lemmas.List.{take_rest, take-append-drop}
+use Rattle.std.specs.Io.KnownBytes.{Appends, Keeps, ReadConsumes}
+use Rattle.std.specs.Prelude.{Option, Result, Ok, Err, OnErr}
+use Rattle.vdcp_wire.specs.Acts.{OfFront}
 use Rattle.vdcp_wire.specs.Streams.{Takes}
 
 pub takes_none : (a : Option (List ℕ)) → Takes a a
@@ -13,3 +16,22 @@ pub takes_more : {E : Type 0} (a b c : Option (List ℕ)) (read : Result ℕ E) 
     → Takes a b → ReadConsumes b c read buffer → Takes a c
 takes_more a b c (Ok n) buffer before more = (_, Consumes-trans a b c before.0 (take n buffer) before.1 more.0)
 takes_more a b c (Err e) buffer before more = (before.0, Consumes-kept a b c before.0 before.1 more)
+
+-- one more write
+pub appends_more : (a b c : Option (List ℕ)) (xs : List ℕ) (at n : ℕ) → Appends a b (take at xs)
+    → Appends b c (take n (take (length xs - at) (drop at xs))) → Appends a c (take (at + n) xs)
+appends_more a b c xs at n first next =
+    subst (Appends a c) (ap (λ (l : List ℕ). take at xs ++ take n l) (take_rest xs at) ∙ sym (take-add at n xs))
+    (Appends-trans a b c (take at xs) (take n (take (length xs - at) (drop at xs))) first next)
+
+pub front_of : (a b : Option (List ℕ)) (xs : List ℕ) (n : ℕ) → Appends a b (take n xs) → OfFront xs (Appends a b)
+front_of a b xs n h =
+    record { front = take n xs; rest = drop n xs; parts = sym (take-append-drop n xs); is_so = h }
+
+pub front_kept : (a b c : Option (List ℕ)) (xs : List ℕ) (n : ℕ) → Appends a b (take n xs) → Keeps b c
+    → OfFront xs (Appends a c)
+front_kept a b c xs n h k = front_of a c xs n (Appends-kept a b c (take n xs) h k)
+
+pub on_err_of : {T E P : Type 0} (r : Result T E) → P → OnErr r P
+on_err_of (Ok x) p = tt
+on_err_of (Err e) p = p

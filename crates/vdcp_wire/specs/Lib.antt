@@ -1,4 +1,5 @@
 -- What the clauses of this crate cite, and facts about it for those above.
+pub mod Acts
 pub mod Scripts
 pub mod Streams
 pub mod Wires

@@ -1,13 +1,15 @@
 -- What a wire over a connection makes of its bytes and of a read, and how often it failed.
 use Rattle.std.proofs.Common.{rules}
 use Rattle.std.specs.IoError.{error_kind}
-use Rattle.std.specs.Io.KnownBytes.{Consumes}
-use Rattle.std.specs.Prelude.{ℕ, zero, suc, ◌≤◌, List, Option, Result, Ok, Err}
+use Rattle.std.specs.Io.KnownBytes.{Appends, Consumes, Keeps}
+use Rattle.std.specs.Prelude.{ℕ, zero, suc, ◌≤◌, List, [], Option, Result, Ok, Err}
 use Rattle.std.specs.declared.io.Error.{Error}
 use Rattle.std.specs.declared.io.ErrorKind.{ErrorKind}
 use Rattle.std.specs.declared.io.ErrorKind.TheVariants.{WouldBlock, Interrupted}
 use Rattle.vdcp_wire.specs.declared.stream.Connection.{Connection}
 use Rattle.vdcp_wire.specs.declared.stream.Connection.TheVariants as connection
+use Rattle.vdcp_wire.specs.Acts.{Act, sends, brings, drops, fails}
+use Rattle.vdcp_wire.specs.Wires.{Arrival, bytes, silence, close}
 use Rattle.vdcp_wire.specs.declared.wire.Came.{Came}
 use Rattle.vdcp_wire.specs.declared.wire.Came.TheVariants as came
 
@@ -21,6 +23,19 @@ pub record Streamed : Type 0 where
 -- some of the next bytes, or none, were taken
 abbrev pub Takes : Option (List ℕ) → Option (List ℕ) → Type 0
 Takes old new = (bytes : List ℕ) × Consumes old new bytes
+
+-- the bytes that an arrival has
+abbrev pub bytes_in : Arrival → List ℕ
+bytes_in (bytes piece) = piece
+bytes_in silence = []
+bytes_in close = []
+
+-- what a wire does to the bytes of its connection, where these are known
+abbrev pub StreamDoes : Act → Streamed → Streamed → Type 0
+StreamDoes (sends all) old new = Appends old.written new.written all × Keeps old.ahead new.ahead
+StreamDoes (brings what) old new = Consumes old.ahead new.ahead (bytes_in what) × Keeps old.written new.written
+StreamDoes drops old new = Takes old.ahead new.ahead × Keeps old.written new.written
+StreamDoes fails old new = Takes old.ahead new.ahead × Keeps old.written new.written
 
 -- what a read that failed so brought, or else the failure: it waited long enough, or it was interrupted. Where the
 -- system gives up a connection, nothing being acknowledged, the kind isn't that of a read that waited

@@ -14,18 +14,20 @@
 //! match wire.listen(&mut buffer)? { Came::Bytes(n) => .., Came::Silence => .., Came::Closed => .. }
 //! ```
 //!
-//! Files: `wire` (the trait), `script` (a wire in memory), `stream` (a wire over a connection), `address` and `accept`
-//! (the text of an address; who listens there, and takes connections).
+//! Files: `wire` (the trait), `script` (a wire in memory), `stream` (a wire over a connection), `duplex` (what that needs
+//! of its connection), `address` and `accept` (the text of an address; who listens there, and takes connections).
 #![tactic(auto)]
 
 mod accept;
 mod address;
+mod duplex;
 mod script;
 mod stream;
 mod wire;
 
 pub use accept::{AcceptFault, accept_one, listen_at};
 pub use address::{AddressFault, address_of};
+pub use duplex::Duplex;
 pub use script::{Entry, ScriptWire};
 pub use stream::StreamWire;
 pub use wire::{Came, PIECE, Wire, WireFault};

@@ -237,7 +237,10 @@ fn put(bytes: &[u8], given: usize, buffer: &mut [u8; PIECE]) -> Came
 
 impl<A: Allocator + Copy> Wire for ScriptWire<A> {
     ghost use Rattle.std.specs.Prelude.{Some, if◌then◌else◌};
+    ghost use Rattle.vdcp_wire.specs.Acts.{Tells};
     ghost use Rattle.vdcp_wire.specs.Scripts.{fails_at_most_once};
+
+    ghost does = { λ act old new. Tells act (Some old.told) (Some new.told) };
 
     ghost told = { λ w. Some w.told };
 
@@ -274,6 +277,8 @@ impl<A: Allocator + Copy> Wire for ScriptWire<A> {
     }
 
     ghost fails_once = { λ w. fails_at_most_once w.failed };
+
+    ghost tells = { λ _ _ _ told. told };
 }
 
 // The first place from this one on that has no stale entry.

@@ -1,12 +1,15 @@
-ghost use Rattle.std.specs.Io.KnownBytes.{Appends, Consumes, IsAtEnd, Keeps};
+ghost use Rattle.std.specs.Io.KnownBytes.{Appends, Consumes, IsAtEnd, Keeps, WriteAppends};
+ghost use Rattle.std.specs.Io.{WritesAtMost};
 ghost use Rattle.std.specs.Prelude.{◌≡◌, take, IfOk, IsOk, OnErr, OnOk};
+ghost use Rattle.vdcp_wire.specs.Acts.{OfFront};
 ghost use Rattle.vdcp_wire.specs.Streams.{came_of, connection_behind, failures_of, Takes};
 ghost use Rattle.vdcp_wire.specs.Wires.{brought, FitsBuffer};
 
+use crate::duplex::Duplex;
 use crate::wire::{Came, PIECE, Wire, WireFault};
-use std::io::{self, ErrorKind, Read, Write};
+use std::io::{self, ErrorKind};
 use std::marker::Model;
-use std::net::{OpenStream, TcpStream};
+use std::net::TcpStream;
 use std::time::Duration;
 
 /// Read limit of `drop_waiting`, so that a peer that goes on sending can't hold it up.
@@ -25,38 +28,38 @@ enum Connection {
 
 /// A wire over a connection. `send` and `listen` may wait for the other end.
 ///
-/// What it carried from its start it doesn't tell, since a read may change what a connection holds of the bytes
-/// written. But where the connection's bytes are known, `send` appends exactly its bytes, what `listen` gives is
-/// exactly what came next, and `drop_waiting` takes some of that.
+/// What it carried from its start it doesn't tell. But where the connection's bytes are known, `send` appends exactly
+/// its bytes, or a beginning of them if it fails; what `listen` gives is exactly what came next; and `drop_waiting`
+/// takes some of that.
 ///
 /// A read that waited for the time of a silence is one, and an interrupted read brings no bytes. A connection that
 /// the system gives up, since nothing is acknowledged any more, has failed. `drop_waiting` doesn't wait. It drops what
 /// at most 128 reads take; the rest stays.
 #[derive(Drop)]
-pub struct StreamWire<S: Read + Write + OpenStream + Drop = TcpStream> {
+pub struct StreamWire<S: Duplex + Drop = TcpStream> {
     stream: S,
     connection: Connection,
 }
 
-impl<S: Read + Write + OpenStream + Drop> Model for StreamWire<S> {
+impl<S: Duplex + Drop> Model for StreamWire<S> {
     ghost use Rattle.vdcp_wire.specs.Streams.{Streamed};
 
     ghost Value = { Streamed };
 
     ghost view = { λ w. record {
       connection = w.connection;
-      ahead = S.remaining w.stream;
-      written = S.contents w.stream;
+      ahead = S.ahead w.stream;
+      written = S.written w.stream;
     } };
 }
 
-impl<S: Read + Write + OpenStream + Drop> StreamWire<S> {
+impl<S: Duplex + Drop> StreamWire<S> {
     /// A wire over this connection, on which nothing comes for `silence` at the end of a burst, 1
     /// millisecond or more. What is sent goes out at once. Err where the connection refuses this.
     pub fn new(stream: S, silence: Duration) -> io::Result<Self>
         ensures open { IfOk result (λ wire. wire.connection ≡ Connection.Open) }
-        ensures ahead { IfOk result (λ wire. wire.ahead ≡ S.remaining stream) }
-        ensures written { IfOk result (λ wire. wire.written ≡ S.contents stream) }
+        ensures ahead { IfOk result (λ wire. wire.ahead ≡ S.ahead stream) }
+        ensures written { IfOk result (λ wire. wire.written ≡ S.written stream) }
     {
         stream.set_nodelay(true)?;
         stream.set_read_timeout(Some(silence))?;
@@ -72,6 +75,7 @@ impl<S: Read + Write + OpenStream + Drop> StreamWire<S> {
         ensures fits { IfOk result FitsBuffer }
         ensures bytes { IfOk result (λ came. Consumes self.old.ahead self.new.ahead (take (brought came) buffer.new)) }
         ensures kept { OnErr result (Keeps self.old.ahead self.new.ahead) }
+        ensures apart { Keeps self.old.written self.new.written }
         ensures end { self.old.connection ≡ Connection.Open → result ≡ Ok Came.Closed → IsAtEnd self.new.ahead }
         ensures next { IfOk result (λ came. self.new.connection ≡ connection_behind came self.old.connection) }
         ensures closed { self.old.connection ≡ Connection.Closed → (result ≡ Ok Came.Closed) × (self.new ≡ self.old) }
@@ -80,7 +84,7 @@ impl<S: Read + Write + OpenStream + Drop> StreamWire<S> {
         if let Connection::Closed = self.connection {
             return Ok(Came::Closed);
         }
-        let came = came_of(self.stream.read(buffer))?;
+        let came = came_of(self.stream.read_some(buffer))?;
         if let Came::Closed = came {
             self.connection = Connection::Closed;
         }
@@ -91,6 +95,7 @@ impl<S: Read + Write + OpenStream + Drop> StreamWire<S> {
     fn drop_reads(&mut self) -> io::Result<()>
         requires { failures_of self.old.connection ≡ 0 }
         ensures taken { Takes self.old.ahead self.new.ahead }
+        ensures apart { Keeps self.old.written self.new.written }
         ensures closed { self.old.connection ≡ Connection.Closed → IsOk result × (self.new ≡ self.old) }
         ensures works { failures_of self.new.connection ≡ 0 }
     {
@@ -107,16 +112,21 @@ impl<S: Read + Write + OpenStream + Drop> StreamWire<S> {
     // The fault of a call that failed. None is made again.
     fn fail(&mut self) -> WireFault
         ensures failed { self.new.connection ≡ Connection.Failed }
-        ensures bytes { self.new.ahead ≡ self.old.ahead }
+        ensures ahead { self.new.ahead ≡ self.old.ahead }
+        ensures written { self.new.written ≡ self.old.written }
     {
         self.connection = Connection::Failed;
         WireFault
     }
 }
 
-impl<S: Read + Write + OpenStream + Drop> Wire for StreamWire<S> {
-    ghost use Rattle.std.specs.Prelude.{None};
-    ghost use Rattle.vdcp_wire.specs.Streams.{counted_once};
+impl<S: Duplex + Drop> Wire for StreamWire<S> {
+    ghost use Rattle.std.specs.Prelude.{None, refl};
+    ghost use Rattle.vdcp_wire.specs.Acts.{sends, brings, drops, fails};
+    ghost use Rattle.vdcp_wire.specs.Streams.{StreamDoes, counted_once};
+    ghost use Rattle.vdcp_wire.specs.Wires.{arrival_of};
+
+    ghost does = { StreamDoes };
 
     ghost told = { λ _. None };
 
@@ -124,11 +134,12 @@ impl<S: Read + Write + OpenStream + Drop> Wire for StreamWire<S> {
 
     fn send(&mut self, bytes: &[u8]) -> Result<(), WireFault>
         requires { failures_of self.old.connection ≡ 0 }
-        ensures written { OnOk result (Appends self.old.written self.new.written bytes.now) }
+        ensures sends { OnOk result (StreamDoes (sends bytes.now) self.old self.new) }
+        ensures sends_some { OnErr result (OfFront bytes.now (λ front. StreamDoes (sends front) self.old self.new)) }
         ensures connection { OnOk result (self.new.connection ≡ self.old.connection) }
         ensures failed { OnErr result (failures_of self.new.connection ≡ 1) }
     {
-        match self.stream.write_all(bytes) {
+        match write_all(&mut self.stream, bytes) {
             Ok(()) => Ok(()),
             Err(_) => Err(self.fail()),
         }
@@ -137,7 +148,8 @@ impl<S: Read + Write + OpenStream + Drop> Wire for StreamWire<S> {
     fn listen(&mut self, buffer: &mut [u8; PIECE]) -> Result<Came, WireFault>
         requires { failures_of self.old.connection ≡ 0 }
         ensures fits { IfOk result FitsBuffer }
-        ensures bytes { IfOk result (λ came. Consumes self.old.ahead self.new.ahead (take (brought came) buffer.new)) }
+        ensures brings { IfOk result (λ c. StreamDoes (brings (arrival_of c buffer.new)) self.old self.new) }
+        ensures fails { OnErr result (StreamDoes fails self.old self.new) }
         ensures kept { OnErr result (Keeps self.old.ahead self.new.ahead) }
         ensures end { self.old.connection ≡ Connection.Open → result ≡ Ok Came.Closed → IsAtEnd self.new.ahead }
         ensures next { IfOk result (λ came. self.new.connection ≡ connection_behind came self.old.connection) }
@@ -152,7 +164,8 @@ impl<S: Read + Write + OpenStream + Drop> Wire for StreamWire<S> {
 
     fn drop_waiting(&mut self) -> Result<(), WireFault>
         requires { failures_of self.old.connection ≡ 0 }
-        ensures taken { Takes self.old.ahead self.new.ahead }
+        ensures drops { OnOk result (StreamDoes drops self.old self.new) }
+        ensures fails { OnErr result (StreamDoes fails self.old self.new) }
         ensures closed { self.old.connection ≡ Connection.Closed → IsOk result × (self.new ≡ self.old) }
         ensures works { OnOk result (failures_of self.new.connection ≡ 0) }
         ensures failed { OnErr result (failures_of self.new.connection ≡ 1) }
@@ -164,16 +177,51 @@ impl<S: Read + Write + OpenStream + Drop> Wire for StreamWire<S> {
     }
 
     ghost fails_once = { λ w. counted_once w.connection };
+
+    ghost tells = { λ _ _ _ _. refl };
+}
+
+// Writes all these bytes, or a beginning of them where it fails.
+fn write_all<S: Duplex>(stream: &mut S, bytes: &[u8]) -> io::Result<()>
+    ensures all { OnOk result (Appends (S.written stream.old) (S.written stream.new) bytes.now) }
+    ensures front { OnErr result (OfFront bytes.now (Appends (S.written stream.old) (S.written stream.new))) }
+    ensures apart { Keeps (S.ahead stream.old) (S.ahead stream.new) }
+{
+    let mut at = 0;
+    'writes: for _ in 0..u32::MAX {
+        if at == bytes.len() {
+            return Ok(());
+        }
+        at += write_some(stream, &bytes[at..])?;
+    }
+    Err(io::Error::from(ErrorKind::TimedOut))
+}
+
+// Writes some of these bytes: none where that is interrupted.
+fn write_some<S: Duplex>(stream: &mut S, bytes: &[u8]) -> io::Result<usize>
+    ensures bound { WritesAtMost result bytes.now }
+    ensures bytes { WriteAppends (S.written stream.old) (S.written stream.new) result bytes.now }
+    ensures apart { Keeps (S.ahead stream.old) (S.ahead stream.new) }
+{
+    match stream.write_some(bytes) {
+        Ok(0) => Err(io::Error::from(ErrorKind::WriteZero)),
+        Ok(n) => Ok(n),
+        Err(error) => match error.kind() {
+            ErrorKind::Interrupted => Ok(0),
+            _ => Err(error),
+        },
+    }
 }
 
 // Reads what waits on a connection that doesn't wait, and says whether the other end has closed.
-fn read_waiting<S: Read>(stream: &mut S) -> io::Result<Connection>
-    ensures taken { Takes (S.remaining stream.old) (S.remaining stream.new) }
+fn read_waiting<S: Duplex>(stream: &mut S) -> io::Result<Connection>
+    ensures taken { Takes (S.ahead stream.old) (S.ahead stream.new) }
+    ensures apart { Keeps (S.written stream.old) (S.written stream.new) }
     ensures works { IfOk result (λ connection. failures_of connection ≡ 0) }
 {
     let mut buffer = [0; PIECE];
     'reads: for _ in 0..MOST_READS {
-        match came_of(stream.read(&mut buffer))? {
+        match came_of(stream.read_some(&mut buffer))? {
             Came::Bytes(_) => {}
             Came::Silence => return Ok(Connection::Open),
             Came::Closed => return Ok(Connection::Closed),

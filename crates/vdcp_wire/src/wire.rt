@@ -24,7 +24,11 @@ pub enum Came {
 /// A wire that fails once isn't called again: each call requires that it never failed.
 pub trait Wire {
     ghost use Rattle.std.specs.Prelude.{◌≡◌, ◌≤◌, ℕ, OnOk, OnErr, IfOk, Option};
+    ghost use Rattle.vdcp_wire.specs.Acts.{Act, sends, brings, drops, fails, OfFront, Tells};
     ghost use Rattle.vdcp_wire.specs.Wires.{Told, arrival_of, adds_sent, adds_came, adds_drop, MayCome, SendsFront, FitsBuffer};
+
+    /// From one of its states to the next it does this.
+    ghost does: { Act → Self → Self → Type 0 };
 
     /// What went out, what came, and where waiting bytes were dropped, if the wire tells it.
     ghost told: { Self → Option Told };
@@ -35,6 +39,8 @@ pub trait Wire {
     /// Sends the bytes. Where it fails, a beginning of them was sent.
     fn send(&mut self, bytes: &[u8]) -> Result<(), WireFault>
         requires { failures self.old ≡ 0 }
+        ensures sends { OnOk result (does (sends bytes.now) self.old self.new) }
+        ensures sends_some { OnErr result (OfFront bytes.now (λ front. does (sends front) self.old self.new)) }
         ensures sent { OnOk result (told self.new ≡ adds_sent bytes.now (told self.old)) }
         ensures front { OnErr result (SendsFront bytes.now (told self.old) (told self.new)) }
         ensures works { OnOk result (failures self.new ≡ 0) }
@@ -45,6 +51,8 @@ pub trait Wire {
     fn listen(&mut self, buffer: &mut [u8; PIECE]) -> Result<Came, WireFault>
         requires { failures self.old ≡ 0 }
         ensures fits { IfOk result FitsBuffer }
+        ensures brings { IfOk result (λ c. does (brings (arrival_of c buffer.new)) self.old self.new) }
+        ensures fails { OnErr result (does fails self.old self.new) }
         ensures came { IfOk result (λ c. told self.new ≡ adds_came (arrival_of c buffer.new) (told self.old)) }
         ensures may_come { IfOk result (λ c. MayCome (arrival_of c buffer.new) (told self.old)) }
         ensures kept { OnErr result (told self.new ≡ told self.old) }
@@ -55,6 +63,8 @@ pub trait Wire {
     /// bytes may be gone.
     fn drop_waiting(&mut self) -> Result<(), WireFault>
         requires { failures self.old ≡ 0 }
+        ensures drops { OnOk result (does drops self.old self.new) }
+        ensures fails { OnErr result (does fails self.old self.new) }
         ensures dropped { OnOk result (told self.new ≡ adds_drop (told self.old)) }
         ensures kept { OnErr result (told self.new ≡ told self.old) }
         ensures works { OnOk result (failures self.new ≡ 0) }
@@ -62,4 +72,7 @@ pub trait Wire {
 
     /// A failure is counted once.
     ghost fails_once: { (wire : Self) → failures wire ≤ 1 };
+
+    /// What it tells is what it does.
+    ghost tells: { (act : Act) (old new : Self) → does act old new → Tells act (told old) (told new) };
 }

@@ -1,4 +1,5 @@
 use super::{Connection, StreamWire};
+use crate::duplex::Duplex;
 use crate::wire::{Came, PIECE, Wire, WireFault};
 use std::alloc::Global;
 use std::cell::Cell;
@@ -33,7 +34,7 @@ fn wait_for(stream: &TcpStream) -> io::Result<()> {
 }
 
 /// What comes next, while the wire works.
-fn listen<S: Read + Write + OpenStream + Drop>(
+fn listen<S: Duplex + Drop>(
     wire: &mut StreamWire<S>,
     buffer: &mut [u8; PIECE],
 ) -> Result<Came, WireFault> {
@@ -44,15 +45,12 @@ fn listen<S: Read + Write + OpenStream + Drop>(
 }
 
 /// The same, with the bytes thrown away.
-fn hear<S: Read + Write + OpenStream + Drop>(wire: &mut StreamWire<S>) -> Result<Came, WireFault> {
+fn hear<S: Duplex + Drop>(wire: &mut StreamWire<S>) -> Result<Came, WireFault> {
     listen(wire, &mut [0; PIECE])
 }
 
 /// Sends these bytes, while the wire works.
-fn send<S: Read + Write + OpenStream + Drop>(
-    wire: &mut StreamWire<S>,
-    bytes: &[u8],
-) -> Result<(), WireFault> {
+fn send<S: Duplex + Drop>(wire: &mut StreamWire<S>, bytes: &[u8]) -> Result<(), WireFault> {
     match wire.connection {
         Connection::Failed => Err(WireFault),
         Connection::Open | Connection::Closed => wire.send(bytes),
@@ -60,9 +58,7 @@ fn send<S: Read + Write + OpenStream + Drop>(
 }
 
 /// Drops what waits, while the wire works.
-fn drop_waiting<S: Read + Write + OpenStream + Drop>(
-    wire: &mut StreamWire<S>,
-) -> Result<(), WireFault> {
+fn drop_waiting<S: Duplex + Drop>(wire: &mut StreamWire<S>) -> Result<(), WireFault> {
     match wire.connection {
         Connection::Failed => Err(WireFault),
         Connection::Open | Connection::Closed => wire.drop_waiting(),

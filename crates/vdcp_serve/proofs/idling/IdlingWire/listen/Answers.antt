@@ -1,5 +1,5 @@
 use Rattle.std.proofs.Common.{rules}
-use Rattle.vdcp_serve.proofs.GivenUp.{given_up_stays}
+use Rattle.vdcp_serve.specs.IdleLaws.{given_up_stays}
 use Rattle.vdcp_serve.proofs.idling.IdlingWire.listen.Goals as goal
 
 pub returns-in_default-clause-came : goal.returns-in_default-clause-came

@@ -3,7 +3,7 @@ use Rattle.std.specs.Prelude.{Some, is_ok}
 use Rattle.std.proofs.lemmas.List.{take-append-drop}
 use Rattle.vdcp_wire.specs.Scripts.{Script, arrivals}
 use Rattle.vdcp_wire.specs.Wires.{Told, SendsFront}
-use Rattle.vdcp_wire.proofs.Scripting.{sends_some}
+use Rattle.vdcp_wire.proofs.Scripting.{does_some, sends_some}
 use Rattle.vdcp_wire.proofs.script.ScriptWireWire.send.Goals as goal
 
 pub returns-clause-front : goal.returns-clause-front
@@ -19,3 +19,7 @@ returns-clause-front g c =
     (sends_some old bytes (take n bytes) (drop n bytes) c.extend_from_slice-grown.new.self.items
     (is_ok c.extend_from_slice-grown.result) (sym
     (take-append-drop n bytes)) c.extend_from_slice-grown.ensures.items)
+
+pub returns-clause-sends_some : goal.returns-clause-sends_some
+returns-clause-sends_some g c =
+    does_some c.args.bytes.now c.args.self.now.told _ (returns-clause-front g c)
