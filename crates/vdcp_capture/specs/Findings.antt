@@ -1,6 +1,6 @@
 -- What is found of the exchanges that a capture shows, and the text of it.
-use Rattle.std.specs.List.{flat_map}
-use Rattle.std.specs.Prelude.{ℕ, suc, ◌≡◌, Bool, not, List, [], ◌∷◌, ◌++◌, codes, count_by, decimal, length, map, Option, None, Some, if◌then◌else◌, slice_get}
+use Rattle.std.specs.List.{flat_map, list_any}
+use Rattle.std.specs.Prelude.{ℕ, suc, ◌≡◌, Bool, true, false, not, List, [], ◌∷◌, ◌++◌, codes, count_by, decimal, length, map, Option, None, Some, if◌then◌else◌, slice_get}
 use Rattle.vdcp_auto.specs.declared.phase.Mode.{Mode}
 use Rattle.vdcp_capture.specs.declared.capture.Piece.{Piece}
 use Rattle.vdcp_capture.specs.declared.findings.Finding.{Finding}
@@ -15,6 +15,15 @@ use Rattle.vdcp_value.specs.declared.rate.Rate.{Rate}
 use Rattle.vdcp_words.specs.Texts.{command_text}
 
 -- ---- what is found
+
+-- a message, and no silence
+abbrev pub is_message : Captured → Bool
+is_message (Sent c) = true
+is_message (Came h) = true
+is_message Silence = false
+
+abbrev pub has_message : List Piece → Bool
+has_message pieces = list_any (λ p. is_message p.captured) pieces
 
 abbrev pub captured_of : List Piece → List Captured
 captured_of pieces = map (λ p. p.captured) pieces

@@ -1,8 +1,8 @@
 -- What judge does with a list and a capture.
 use Rattle.std.specs.Borrow.{Bor}
 use Rattle.std.specs.Io.KnownBytes.{Appends, Keeps}
-use Rattle.std.specs.Prelude.{ℕ, ◌≡◌, ◌⊎◌, List, Option}
-use Rattle.vdcp_capture.specs.Findings.{AreFindings, forbidden_in, judged_text}
+use Rattle.std.specs.Prelude.{ℕ, ◌≡◌, ◌⊎◌, true, List, Option}
+use Rattle.vdcp_capture.specs.Findings.{AreFindings, forbidden_in, has_message, judged_text}
 use Rattle.vdcp_capture.specs.Forms.{IsCaptureOf}
 use Rattle.vdcp_capture.specs.declared.capture.Piece.{Piece}
 use Rattle.vdcp_capture.specs.declared.findings.Finding.{Finding}
@@ -24,6 +24,7 @@ pub record IsJudged (settings : JudgeSettings) (list : File) (capture old new : 
   pub is_playlist : IsListOf settings.rate (bytes_of list) items
   pub pieces : List Piece
   pub is_capture : IsCaptureOf settings capture pieces
+  pub some_message : has_message pieces ≡ true
   pub findings : List Finding
   pub are_findings : AreFindings (mode_of settings.confirming) items pieces findings
   pub gained : Appends old new (judged_text settings.rate items findings)
@@ -34,11 +35,12 @@ abbrev pub AreWhole : JudgeSettings → File → Option (List ℕ) → Type 0
 AreWhole settings list capture =
     IsWholeList settings.rate list × (pieces : List Piece) × IsCaptureOf settings capture pieces
 
--- the capture of this name is refused so: a line of it, or it isn't text; or it can't be read
+-- the capture of this name is refused so: a line of it, it isn't text, or it has no message; or it can't be read
 abbrev pub IsCaptureFailure : Bor (List ℕ) → Failure → Type 0
 IsCaptureFailure name failure =
     ((number : ℕ) × (fault : ScriptLineFault) × (failure ≡ failures.ScriptLine name number fault))
-    ⊎ ((failure ≡ failures.NotText name) ⊎ ((failure ≡ failures.Read name) ⊎ (failure ≡ failures.Memory)))
+    ⊎ ((failure ≡ failures.NotText name) ⊎ ((failure ≡ failures.Empty name)
+    ⊎ ((failure ≡ failures.Read name) ⊎ (failure ≡ failures.Memory))))
 
 -- a row or the capture is refused: one writer gained the line that says so, and the other nothing
 pub record IsToldOnly (out out' err err' : Option (List ℕ)) : Type 0 where

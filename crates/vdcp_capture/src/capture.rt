@@ -55,28 +55,12 @@ pub fn read_capture<'a, R: io::Read + Drop>(
     ensures pieces { IfOk result (λ pieces. IsCaptureOf settings (R.remaining capture.entry.reader) pieces.items) }
     ensures refused { IfErr result (IsCaptureFailure capture.entry.name) }
 {
-    let NamedFile { name, mut reader } = capture;
-    let mut bytes = Vec::new(alloc);
-    read_to_end(name, &mut reader, &mut bytes)?;
+    let name = capture.name;
+    let bytes = capture.read_lines(alloc)?;
     let Ok(text) = str::from_utf8(bytes.as_slice()) else {
         return Err(Failure::NotText(name));
     };
     read_lines(alloc, name, text, settings)
-}
-
-fn read_to_end<'a, R: io::Read>(
-    name: &'a str,
-    reader: &mut R,
-    bytes: &mut Vec<u8>,
-) -> Result<(), Failure<'a>>
-    ensures bytes { OnOk result (IfSome (R.remaining reader.old) (λ more. bytes.new.items ≡ bytes.old.items ++ more)) }
-    ensures unread { IfErr result (λ failure. (failure ≡ failures.Read name.entry) ⊎ (failure ≡ failures.Memory)) }
-{
-    match reader.read_to_end(bytes) {
-        Ok(_) => Ok(()),
-        Err(error) if error.kind() == io::ErrorKind::OutOfMemory => Err(Failure::Memory),
-        Err(_) => Err(Failure::Read(name)),
-    }
 }
 
 /// Reads the lines of the capture of this name.

@@ -1,5 +1,5 @@
 ghost use Rattle.std.specs.Prelude.{◌≡◌, List, [], IfOk, length, map};
-ghost use Rattle.vdcp_capture.specs.Findings.{AreFindings, captured_of, command_lines};
+ghost use Rattle.vdcp_capture.specs.Findings.{AreFindings, captured_of, command_lines, has_message, is_message};
 ghost use Rattle.vdcp_judge.specs.Judging.{Knows, mode_of};
 
 use crate::capture::Piece;
@@ -44,6 +44,25 @@ fn judge_of<S: Source>(events: &S, confirming: bool) -> Judge<&S>
     } else {
         Judge::new(events)
     }
+}
+
+/// Whether a piece is a message.
+pub fn has_message(pieces: &[Piece]) -> bool
+    ensures { result ≡ has_message pieces.now }
+{
+    for k in 0..pieces.len() {
+        if is_message(&pieces[k].captured) {
+            return true;
+        }
+    }
+    false
+}
+
+/// It is a message, and no silence.
+fn is_message(captured: &Captured) -> bool
+    ensures { result ≡ is_message captured.now }
+{
+    matches!(captured, Captured::Sent(_) | Captured::Came(_))
 }
 
 /// What was captured, without the lines.

@@ -6,7 +6,7 @@ ghost use Rattle.vdcp_text.specs.Failure.{status_of};
 ghost use Rattle.vdcp_text.specs.declared.failure.Failure.TheVariants as failures;
 
 use crate::capture::read_capture;
-use crate::findings::find;
+use crate::findings::{find, has_message};
 use crate::report::{forbidden_in, report};
 use crate::settings::JudgeSettings;
 use std::alloc::Global;
@@ -19,7 +19,7 @@ use vdcp_text::Failure;
 /// aired, and then how many exchanges there are, how many commands were forbidden, and how many events are reported.
 ///
 /// The status is 0 where no command was forbidden, and 1 where one was. It is also 1 where a row of the list or the
-/// capture is refused, and 3 where a file can't be read or memory was refused: `err` gets a line of either, and
+/// capture is refused, or the capture has no message, and 3 where a file can't be read or memory was refused: `err` gets a line of either, and
 /// `out` nothing. The list is read first. The status is 3 where a writer failed: nothing more is written to that one.
 /// `out` is flushed after the last line.
 pub fn do_judge<L: io::Read + Drop, C: io::Read + Drop, W: io::Write, E: io::Write>(
@@ -67,7 +67,11 @@ fn judge<'a, L: io::Read + Drop, C: io::Read + Drop, W: io::Write>(
     ensures statuses { IfErr result (λ f. status_of f ≢ 2) }
 {
     let events = list.read_list(alloc, settings.rate)?;
+    let name = capture.name;
     let pieces = read_capture(alloc, capture, settings)?;
+    if !has_message(pieces.as_slice()) {
+        return Err(Failure::Empty(name));
+    }
     let findings = find(alloc, &events, settings.confirming, pieces.as_slice())?;
     let text = report(alloc, settings.rate, &events, findings.as_slice())?;
     match write(text.as_bytes(), out) {

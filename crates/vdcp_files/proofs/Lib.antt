@@ -1,3 +1,4 @@
 mod CheckLemmas
+mod Consumed
 mod VectorLemmas
 mod Examples

@@ -1,17 +1,21 @@
 -- The two fields of a row, and the rows of a file one after another.
 use Rattle.csv.specs.Records.{field_at}
 use Rattle.std.proofs.Common.{◌≡◌, ℕ, ◌+◌, ◌≤◌, ◌<◌, suc, true, false, List, [], ◌∷◌}
-use Rattle.std.proofs.Common.{◌++◌, length, sym, ap, ap₂, subst, ◌∙◌, arith, append_assoc, append-nil}
+use Rattle.std.proofs.Common.{◌++◌, length, sym, ap, ap₂, subst, ◌∙◌, arith, append_assoc, append-nil, inl, inr, Bor}
 use Rattle.std.proofs.lemmas.Grind.{flat_map-append}
 use Rattle.std.proofs.lemmas.List.{length-append, length-map, map-append}
 use Rattle.std.specs.Prelude.{IfNone, IfOk, Result, Ok, Err, Option, None, Some, codes, option_map, string_bytes}
-use Rattle.vdcp_files.specs.Vectors.{Finding, HasTooMany, IsTally, IsTallyOf, bad_count, columns, finding_of_row}
+use Rattle.vdcp_files.specs.Files.{file_failure}
+use Rattle.vdcp_files.specs.Vectors.{Finding, HasTooMany, IsTally, IsTallyOf, IsUntested, bad_count, columns, finding_of_row}
 use Rattle.vdcp_files.specs.Vectors.{finding_text, findings_of, findings_text, got, joined_text, hex, right}
 use Rattle.vdcp_text.specs.Text.{message_text}
 use Rattle.vdcp_files.specs.declared.vectors.Tally.{Tally}
 use Rattle.vdcp_frame.specs.Message.{Content}
-use Rattle.vdcp_list.specs.Reading.{IsFront, TakesRow}
+use Rattle.vdcp_list.specs.Reading.{IsFront, IsReadFault, TakesRow}
 use Rattle.vdcp_list.specs.Rows.{AreRowsOf, FileRow, HasRows, most_rows, rows_of}
+use Rattle.vdcp_list.specs.declared.faults.ListFault.TheVariants as lists
+use Rattle.vdcp_list.specs.declared.faults.ListFault.{ListFault}
+use Rattle.vdcp_text.specs.declared.failure.Failure.{Failure}
 
 pub two_fields : (fields : List (List ℕ)) (first second : List ℕ) → length fields ≡ 2 → Some first ≡ field_at fields 0
     → Some second ≡ field_at fields 1
@@ -185,3 +189,15 @@ pub joined_text-push : (ms : List Content) (m : Content)
 joined_text-push ms m =
     flat_map-append (λ m. message_text m ++ codes "; ") ms (m ∷ [])
     ∙ ap (λ text. joined_text ms ++ text) (append-nil (message_text m ++ codes "; "))
+
+-- a row that couldn't be read
+pub untested : (name : Bor (List ℕ)) (file : Option (List ℕ)) (fault : ListFault) (failure : Failure) → IsReadFault fault
+    → failure ≡ file_failure name fault → IsUntested name file failure
+untested name file (lists.Columns row) failure h e = absurd h
+untested name file (lists.Id row) failure h e = absurd h
+untested name file (lists.Time row) failure h e = absurd h
+untested name file (lists.Twice row) failure h e = absurd h
+untested name file (lists.TooMany row) failure h e = absurd h
+untested name file (lists.Long row) failure h e = inr (inr (inl (row, e)))
+untested name file lists.Memory failure h e = inl e
+untested name file lists.Read failure h e = inr (inl e)

@@ -1,13 +1,14 @@
 -- Files to read: when one is a playlist or a catalogue, and the failure where it is refused.
 use Rattle.std.specs.Borrow.{Bor}
-use Rattle.std.specs.Prelude.{ℕ, ◌≡◌, List, Option}
+use Rattle.std.specs.Prelude.{ℕ, ◌≡◌, ◌⊎◌, List, Option}
 use Rattle.vdcp_list.specs.Catalogues.{IsCatalogueFaultOf, IsCatalogueOf}
 use Rattle.vdcp_list.specs.Playlists.{IsListFaultOf, IsListOf}
 use Rattle.vdcp_list.specs.declared.faults.ListFault.TheVariants as lists
 use Rattle.vdcp_list.specs.declared.faults.ListFault.{ListFault}
 use Rattle.vdcp_text.specs.declared.failure.Failure.{Failure}
-use Rattle.vdcp_text.specs.declared.failure.Failure.TheVariants.{Memory, Read, Row as RefusedRow}
+use Rattle.vdcp_text.specs.declared.failure.Failure.TheVariants.{Memory, Read, Row as RefusedRow, ScriptLine}
 use Rattle.vdcp_text.specs.declared.failure.RowFault.TheVariants as rows
+use Rattle.vdcp_text.specs.declared.failure.ScriptLineFault.TheVariants.{Long}
 use Rattle.vdcp_value.specs.declared.clip_id.ClipId.{ClipId}
 use Rattle.vdcp_value.specs.declared.part.Item.{Item}
 use Rattle.vdcp_value.specs.declared.rate.Rate.{Rate}
@@ -28,6 +29,7 @@ file_failure name (lists.Id row) = RefusedRow name row rows.Id
 file_failure name (lists.Time row) = RefusedRow name row rows.Time
 file_failure name (lists.Twice row) = RefusedRow name row rows.Twice
 file_failure name (lists.TooMany row) = RefusedRow name row rows.TooMany
+file_failure name (lists.Long row) = RefusedRow name row rows.Long
 file_failure name lists.Memory = Memory
 file_failure name lists.Read = Read name
 
@@ -48,3 +50,8 @@ RefusesList rate (file name bytes) failure =
 abbrev pub RefusesCatalogue : Rate → File → Failure → Type 0
 RefusesCatalogue rate (file name bytes) failure =
     (fault : ListFault) × (failure ≡ file_failure name fault) × IsCatalogueFaultOf rate bytes fault
+
+-- why the lines of a file of this name aren't read: one is too long, or the file can't be read
+abbrev pub IsUnread : Bor (List ℕ) → Failure → Type 0
+IsUnread name failure =
+    ((number : ℕ) × (failure ≡ ScriptLine name number Long)) ⊎ ((failure ≡ Read name) ⊎ (failure ≡ Memory))

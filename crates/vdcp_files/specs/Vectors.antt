@@ -9,7 +9,7 @@ use Rattle.hex.specs.declared.error.FromHexError.{FromHexError}
 use Rattle.vdcp_text.specs.Text.{end_text, line, message_text}
 use Rattle.vdcp_text.specs.declared.failure.Failure.{Failure}
 use Rattle.vdcp_text.specs.declared.failure.Failure.TheVariants.{Memory, Read, Row as RefusedRow}
-use Rattle.vdcp_text.specs.declared.failure.RowFault.TheVariants.{TooMany}
+use Rattle.vdcp_text.specs.declared.failure.RowFault.TheVariants.{Long, TooMany}
 use Rattle.vdcp_files.specs.declared.vectors.Tally.{Tally}
 use Rattle.vdcp_files.specs.declared.vectors.Verdict.{Verdict}
 use Rattle.vdcp_files.specs.declared.vectors.Verdict.TheVariants.{Right, Other, Columns, Hex}
@@ -118,7 +118,12 @@ HasTooMany file = HasRows file (λ rows. most_rows < length rows)
 abbrev pub too_many : Bor (List ℕ) → Failure
 too_many name = RefusedRow name (most_rows + 1) TooMany
 
+-- the failure of a file of this name of which this row is too long
+abbrev pub too_long : Bor (List ℕ) → ℕ → Failure
+too_long name row = RefusedRow name row Long
+
 -- why the rows of a file of this name aren't tested
 abbrev pub IsUntested : Bor (List ℕ) → Option (List ℕ) → Failure → Type 0
 IsUntested name file failure =
-    (failure ≡ Memory) ⊎ (failure ≡ Read name) ⊎ ((failure ≡ too_many name) × HasTooMany file)
+    (failure ≡ Memory) ⊎ (failure ≡ Read name) ⊎ ((row : ℕ) × (failure ≡ too_long name row))
+    ⊎ ((failure ≡ too_many name) × HasTooMany file)

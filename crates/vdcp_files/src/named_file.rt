@@ -1,5 +1,5 @@
-ghost use Rattle.std.specs.Prelude.{◌≡◌, ◌≢◌, IfErr, IfOk};
-ghost use Rattle.vdcp_files.specs.Files.{RefusesCatalogue, RefusesList, file, file_failure};
+ghost use Rattle.std.specs.Prelude.{◌≡◌, ◌≢◌, IfErr, IfOk, IfSome};
+ghost use Rattle.vdcp_files.specs.Files.{IsUnread, RefusesCatalogue, RefusesList, file, file_failure};
 ghost use Rattle.vdcp_list.specs.Catalogues.{IsCatalogueOf};
 ghost use Rattle.vdcp_list.specs.List.{items_of};
 ghost use Rattle.vdcp_list.specs.Playlists.{IsListOf};
@@ -8,8 +8,11 @@ ghost use Rattle.vdcp_text.specs.Failure.{status_of};
 use std::alloc::Global;
 use std::io;
 use vdcp_list::{List, ListFault, Table, read_catalogue, read_list};
-use vdcp_text::{Failure, RowFault};
+use vdcp_text::{Failure, RowFault, ScriptLineFault};
 use vdcp_value::Rate;
+
+/// How many bytes a line has at most, without its line feed.
+const LONGEST_LINE: usize = 65_536;
 
 /// A file to read, with its name.
 #[derive(Drop)]
@@ -45,6 +48,58 @@ impl<'a, R: io::Read + Drop> NamedFile<'a, R> {
             Err(fault) => Err(file_failure(self.name, fault)),
         }
     }
+
+    /// Reads the file, whose lines have 64 KiB each at most. `ScriptLine` where a line has more, which isn't read to its
+    /// end; `Read` where the file can't be read, and `Memory`.
+    #[tactic(auto, using(crate::proofs::Consumed::nothing_read, crate::proofs::Consumed::reads_more, crate::proofs::Consumed::reads_none, crate::proofs::Consumed::reads_all))]
+    pub fn read_lines(self, alloc: Global) -> Result<Vec<u8>, Failure<'a>>
+        ensures bytes { IfOk result (λ bytes. IfSome (R.remaining self.entry.reader) (λ known. known ≡ bytes.items)) }
+        ensures refused { IfErr result (IsUnread self.entry.name) }
+    {
+        let NamedFile { name, mut reader } = self;
+        let mut bytes = Vec::new(alloc);
+        let mut line = Line { number: 1, size: 0 };
+        let mut piece = [0; 4096];
+        'reads: for _ in 0..u64::MAX {
+            match reader.read(&mut piece) {
+                Ok(0) => return Ok(bytes),
+                Ok(count) => {
+                    bytes.extend_from_slice(&piece[..count])?;
+                    line.go_over(&piece[..count]);
+                    if line.size > LONGEST_LINE {
+                        return Err(Failure::ScriptLine(name, line.number, ScriptLineFault::Long));
+                    }
+                }
+                Err(error) if error.kind() == io::ErrorKind::Interrupted => {}
+                Err(_) => return Err(Failure::Read(name)),
+            }
+        }
+        Err(Failure::Read(name))
+    }
+}
+
+// The line of a text that is being read: its number, from 1, and how many bytes of it there are.
+#[derive(Drop)]
+struct Line {
+    number: usize,
+    size: usize,
+}
+
+impl Line {
+    // Goes over the bytes that come next, to the first line that is too long.
+    fn go_over(&mut self, bytes: &[u8]) {
+        for byte in bytes {
+            if self.size > LONGEST_LINE {
+                return;
+            }
+            if *byte == b'\n' {
+                self.number = self.number.saturating_add(1);
+                self.size = 0;
+            } else {
+                self.size = self.size.saturating_add(1);
+            }
+        }
+    }
 }
 
 /// Why the list or the catalogue of this name isn't read.
@@ -57,6 +112,7 @@ pub fn file_failure<'a>(name: &'a str, fault: ListFault) -> Failure<'a>
         ListFault::Time(row) => Failure::Row(name, row, RowFault::Time),
         ListFault::Twice(row) => Failure::Row(name, row, RowFault::Twice),
         ListFault::TooMany(row) => Failure::Row(name, row, RowFault::TooMany),
+        ListFault::Long(row) => Failure::Row(name, row, RowFault::Long),
         ListFault::Memory => Failure::Memory,
         ListFault::Read => Failure::Read(name),
     }

@@ -1,24 +1,25 @@
 ghost use Rattle.csv.specs.Records.{fields_of};
 ghost use Rattle.hex.specs.Hex.{decode_of};
 ghost use Rattle.std.specs.Io.KnownBytes.{Appends, Keeps};
-ghost use Rattle.std.specs.Prelude.{◌≡◌, ◌⊎◌, ◌<◌, ◌≤◌, ℕ, ◌≢◌, ◌++◌, ◌∷◌, [], IfErr, IfNone, IfOk, IfSome, List, OnOk, codes, length, string_bytes};
+ghost use Rattle.std.specs.Prelude.{◌≡◌, ◌⊎◌, ◌<◌, ◌≤◌, ℕ, ◌≢◌, ◌++◌, ◌∷◌, [], IfErr, IfNone, IfOk, IfSome, List, OnOk, Option, codes, length, string_bytes, true};
 ghost use Rattle.vdcp_text.specs.Failure.{failure_line};
 ghost use Rattle.vdcp_text.specs.Text.{message_text};
-ghost use Rattle.vdcp_files.specs.Vectors.{AreTested, Finding, HasTooMany, IsTally, IsTallyOf, IsUntested, bad_count, finding_of, finding_of_burst, finding_of_row, finding_text, joined_reading, joined_text, too_many, vectors_text};
+ghost use Rattle.vdcp_files.specs.Vectors.{AreTested, Finding, HasTooMany, IsTally, IsTallyOf, IsUntested, bad_count, finding_of, finding_of_burst, finding_of_row, finding_text, joined_reading, joined_text, too_long, too_many, vectors_text};
 ghost use Rattle.vdcp_frame.specs.Burst.{end_of, messages_of};
 ghost use Rattle.vdcp_frame.specs.Message.{content_of};
 ghost use Rattle.vdcp_frame.specs.Walk.{end_seen};
+ghost use Rattle.vdcp_list.specs.Reading.{IsSet, TakesRow, rows_left};
 ghost use Rattle.vdcp_list.specs.Rows.{most_rows, rows_of};
 
 use crate::named_file::{NamedFile, file_failure};
-use csv::ByteRecord;
+use csv::{ByteRecord, Reader};
 use hex::FromHexError;
 use std::alloc::{AllocError, Global};
 use std::fmt::Write;
 use std::{fmt, io};
 use vdcp_frame::{End, Message, Messages};
 use vdcp_list::laws::rows_are_read_in_order;
-use vdcp_list::{MAX_ROWS, next_row, rows_in};
+use vdcp_list::{Bounded, MAX_ROWS, next_row, rows_in};
 use vdcp_text::{EndText, Failure, MessageText, RowFault};
 
 /// Tests each row of a vector file: a burst in hexadecimal digits, and its reading, the lines of
@@ -28,7 +29,7 @@ use vdcp_text::{EndText, Failure, MessageText, RowFault};
 /// the number of rows.
 ///
 /// The status is 0 where all rows are right, and 1 where one isn't. It is also 1 where there are more
-/// than 10,000 rows, and 3 where the file can't be read or memory was refused: `err` gets a line of
+/// than 10,000 rows or one is longer than 64 KiB, and 3 where the file can't be read or memory was refused: `err` gets a line of
 /// either, and `out` nothing. The status is 3 where a writer failed: nothing more is written to that
 /// one. `out` is flushed after the last line.
 pub fn do_vectors<R: io::Read + Drop, W: io::Write, E: io::Write>(
@@ -39,11 +40,13 @@ pub fn do_vectors<R: io::Read + Drop, W: io::Write, E: io::Write>(
 ) -> u8
     ensures right { result ≡ 0 → AreTested (R.remaining file.entry.reader) (W.contents out.old) (W.contents out.new) 0 }
     ensures untold { result ≡ 0 → Keeps (E.contents err.old) (E.contents err.new) }
-    // The status is 1 where a row is bad, and for a file of too many rows.
+    // The status is 1 where a row is bad, and for a file of too many rows or of one that is too long.
     ensures bad { result ≡ 1 →
         (Keeps (E.contents err.old) (E.contents err.new)
         × (bad : ℕ) × (0 < bad)
         × AreTested (R.remaining file.entry.reader) (W.contents out.old) (W.contents out.new) bad)
+        ⊎ ((row : ℕ) × Keeps (W.contents out.old) (W.contents out.new)
+        × Appends (E.contents err.old) (E.contents err.new) (failure_line (too_long file.entry.name row)))
         ⊎ (HasTooMany (R.remaining file.entry.reader) × Keeps (W.contents out.old) (W.contents out.new)
         × Appends (E.contents err.old) (E.contents err.new) (failure_line (too_many file.entry.name))) }
     ensures silent { Keeps (W.contents out.old) (W.contents out.new)
@@ -89,7 +92,7 @@ fn test_rows<'a, R: io::Read + Drop>(
     let mut burst = Vec::new(alloc);
     let mut reading = String::new(alloc);
     let mut tally = Tally::new(alloc);
-    while next_row(&mut rows, &mut row).map_err(|fault| file_failure(name, fault))? {
+    while take_row(name, &mut rows, &mut row)? {
         if tally.rows == MAX_ROWS {
             return Err(too_many(name));
         }
@@ -97,6 +100,25 @@ fn test_rows<'a, R: io::Read + Drop>(
         tally.add(verdict)?;
     }
     Ok(tally)
+}
+
+// Takes the next row of the file of this name.
+#[tactic(auto, using(crate::proofs::VectorLemmas::untested))]
+fn take_row<'a, R: io::Read>(
+    name: &'a str,
+    reader: &mut Reader<Bounded<R>>,
+    row: &mut ByteRecord,
+) -> Result<bool, Failure<'a>>
+    requires { IsSet reader.old }
+    ensures set { IfOk result (λ found. found ≡ true → IsSet reader.new) }
+    ensures takes { IfOk result (λ found. TakesRow (rows_left R.remaining reader.old) (rows_left R.remaining reader.new)
+        found (fields_of row.new)) }
+    ensures refused { (file : Option (List ℕ)) → IfErr result (IsUntested name.entry file) }
+{
+    match next_row(reader, row) {
+        Ok(found) => Ok(found),
+        Err(fault) => Err(file_failure(name, fault)),
+    }
 }
 
 // Why a file of this name that has more rows isn't tested.

@@ -14,7 +14,7 @@ use Rattle.vdcp_list.specs.Catalogues.{CanLast, IsNextRow, Gives, IsCatalogueFau
 use Rattle.vdcp_list.specs.Catalogues.{IsCatalogueOf, IsClipFault, RefusesRow, StandsIn, clip_row, ids_of}
 use Rattle.vdcp_list.specs.Reading.{IsFront, IsReadFault, TakesRow}
 use Rattle.vdcp_list.specs.Rows.{FileRow, most_rows, rows_of}
-use Rattle.vdcp_list.specs.declared.faults.ListFault.TheVariants.{Columns, Id, Time, Twice, TooMany, Memory, Read}
+use Rattle.vdcp_list.specs.declared.faults.ListFault.TheVariants.{Columns, Id, Time, Twice, TooMany, Long, Memory, Read}
 use Rattle.vdcp_list.specs.declared.faults.ListFault.{ListFault}
 use Rattle.vdcp_port.specs.Clips.{length_of}
 use Rattle.vdcp_value.specs.Ids.{is_same_id, text_of_id}
@@ -105,6 +105,7 @@ of_row rate rows k row (Time j) f h = subst (λ m. RefusesRow rate rows m (Time 
     (row, f, (refl, h.1, h.2, h.3))
 of_row rate rows k row (Twice j) f h = absurd h
 of_row rate rows k row (TooMany j) f h = absurd h
+of_row rate rows k row (Long j) f h = absurd h
 of_row rate rows k row Memory f h = absurd h
 of_row rate rows k row Read f h = absurd h
 
@@ -195,6 +196,7 @@ read_fault rate rows (Id k) h = absurd h
 read_fault rate rows (Time k) h = absurd h
 read_fault rate rows (Twice k) h = absurd h
 read_fault rate rows (TooMany k) h = absurd h
+read_fault rate rows (Long j) h = tt
 read_fault rate rows Memory h = tt
 read_fault rate rows Read h = tt
 

@@ -11,7 +11,7 @@ use Rattle.vdcp_list.specs.Playlists.{CanName, IsItemFault, IsPlaylist, IsPlayli
 use Rattle.vdcp_list.specs.Playlists.{RefusesRow, columns_of, has_parts, is_of_columns, item_row, part_fields, time_text}
 use Rattle.vdcp_list.specs.Reading.{IsReadFault}
 use Rattle.vdcp_list.specs.Rows.{FileRow, HasId, most_rows}
-use Rattle.vdcp_list.specs.declared.faults.ListFault.TheVariants.{Columns, Id, Time, Twice, TooMany, Memory, Read}
+use Rattle.vdcp_list.specs.declared.faults.ListFault.TheVariants.{Columns, Id, Time, Twice, TooMany, Long, Memory, Read}
 use Rattle.vdcp_list.specs.declared.faults.ListFault.{ListFault}
 use Rattle.vdcp_value.specs.Bcd.{is_time}
 use Rattle.vdcp_value.specs.Bytes.{AreBytes}
@@ -194,6 +194,7 @@ not_refused rate rows n k items row fault h below e f = by_fault fault f
     by_fault (Time j) g = g.3 named.item named.can named.row_is
     by_fault (Twice j) g = g
     by_fault (TooMany j) g = g
+    by_fault (Long j) g = g
     by_fault Memory g = g
     by_fault Read g = g
 
@@ -219,6 +220,7 @@ stands rate rows (Twice k) h other = absurd h
 stands rate rows (TooMany k) h other =
     let (e, many, items, named) = h in
     inr (record { fault_is = ap TooMany e; many = many; items = items; named = named })
+stands rate rows (Long j) h other = absurd (other tt)
 stands rate rows Memory h other = absurd (other tt)
 stands rate rows Read h other = absurd (other tt)
 
@@ -239,10 +241,12 @@ same_fault rate columns k row (Time i) (Id j) f g = absurd (g.2 f.2)
 same_fault rate columns k row (Time i) (Time j) f g = ap Time (f.0 ∙ sym g.0)
 same_fault rate columns k row a (Twice j) f g = absurd g
 same_fault rate columns k row a (TooMany j) f g = absurd g
+same_fault rate columns k row a (Long j) f g = absurd g
 same_fault rate columns k row a Memory f g = absurd g
 same_fault rate columns k row a Read f g = absurd g
 same_fault rate columns k row (Twice i) b f g = absurd f
 same_fault rate columns k row (TooMany i) b f g = absurd f
+same_fault rate columns k row (Long j) b f g = absurd f
 same_fault rate columns k row Memory b f g = absurd f
 same_fault rate columns k row Read b f g = absurd f
 
@@ -297,5 +301,6 @@ not_both rate rows items (Id k) h f = refused_none rate rows items k (Id k) h f
 not_both rate rows items (Time k) h f = refused_none rate rows items k (Time k) h f
 not_both rate rows items (Twice k) h f = f
 not_both rate rows items (TooMany k) h f = let few = h.few in let many = f.1 in omega (arith, few, many)
+not_both rate rows items (Long j) h f = tt
 not_both rate rows items Memory h f = tt
 not_both rate rows items Read h f = tt

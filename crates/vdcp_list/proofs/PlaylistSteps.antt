@@ -9,7 +9,7 @@ use Rattle.vdcp_list.specs.Playlists.{CanName, IsNextRow, IsItemFault, IsListFau
 use Rattle.vdcp_list.specs.Playlists.{IsPlaylistFault, Names, RefusesRow, columns_of, has_parts, item_row}
 use Rattle.vdcp_list.specs.Reading.{IsFront, IsReadFault, TakesRow}
 use Rattle.vdcp_list.specs.Rows.{FileRow, most_rows, rows_of}
-use Rattle.vdcp_list.specs.declared.faults.ListFault.TheVariants.{Columns, Id, Time, Twice, TooMany, Memory, Read}
+use Rattle.vdcp_list.specs.declared.faults.ListFault.TheVariants.{Columns, Id, Time, Twice, TooMany, Long, Memory, Read}
 use Rattle.vdcp_list.specs.declared.faults.ListFault.{ListFault}
 use Rattle.vdcp_value.specs.declared.part.Item.{Item}
 use Rattle.vdcp_value.specs.declared.rate.Rate.{Rate}
@@ -151,6 +151,7 @@ of_row rate rows k columns row (Time j) f e h =
     subst (λ m. RefusesRow rate rows m (Time m)) (sym g.0) (row, f, (refl, g.1, g.2, g.3))
 of_row rate rows k columns row (Twice j) f e h = absurd h
 of_row rate rows k columns row (TooMany j) f e h = absurd h
+of_row rate rows k columns row (Long j) f e h = absurd h
 of_row rate rows k columns row Memory f e h = absurd h
 of_row rate rows k columns row Read f e h = absurd h
 
@@ -206,6 +207,7 @@ read_fault rate rows (Id k) h = absurd h
 read_fault rate rows (Time k) h = absurd h
 read_fault rate rows (Twice k) h = absurd h
 read_fault rate rows (TooMany k) h = absurd h
+read_fault rate rows (Long j) h = tt
 read_fault rate rows Memory h = tt
 read_fault rate rows Read h = tt
 

@@ -10,6 +10,7 @@ use Rattle.std.specs.Prelude.{Option, None, Some, option_map}
 use Rattle.vdcp_list.proofs.RowsLeft.{rows_from-some, rows_from-none}
 use Rattle.vdcp_list.specs.Reading.{IsReadFault, TakesRow, fault_of_kind, rows_left}
 use Rattle.vdcp_list.specs.Rows.{FileRow, rows_from}
+use Rattle.vdcp_list.specs.declared.bounded.Bounded.{Bounded}
 
 takes_next : (s s2 : State) (xs ys : List ℕ) (o : Option Read) (found : Bool) (fields : FileRow)
     → next_record default_config s [] [] xs ≡ o → NextIs o found fields s2 ys
@@ -32,12 +33,14 @@ takes s s2 (Some xs) (Some ys) found fields h = takes_next s s2 xs ys (next_reco
     fields refl h
 
 -- what a read of a record takes of the rows left
-pub takes_row : {R : Type 0} (remaining : R → Option (List ℕ)) (old new : Reader R) (found : Bool) (fields : FileRow)
-    → old.config ≡ default_config → ReadRecord remaining old new found fields
+pub takes_row : {R : Type 0} (remaining : R → Option (List ℕ)) (old new : Reader (Bounded R)) (found : Bool)
+    (fields : FileRow)
+    → old.config ≡ default_config → ReadRecord (λ (b : Bounded R). remaining b.source) old new found fields
     → TakesRow (rows_left remaining old) (rows_left remaining new) found fields
-takes_row remaining old new found fields config h =
-    let known : source_of remaining new ≡ pending_of (remaining new.rdr) new = rw h.1 refl in
-    rw known (takes old.state new.state (source_of remaining old) (pending_of (remaining new.rdr) new) found fields
+takes_row {R} remaining old new found fields config h =
+    let given : Bounded R → Option (List ℕ) = λ b. remaining b.source in
+    let known : source_of given new ≡ pending_of (given new.rdr) new = rw h.1 refl in
+    rw known (takes old.state new.state (source_of given old) (pending_of (given new.rdr) new) found fields
     (rw config at h.0))
 
 -- a failure of csv is one of the reader or of memory

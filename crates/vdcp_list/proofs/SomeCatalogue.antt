@@ -10,7 +10,7 @@ use Rattle.vdcp_list.proofs.Steps.{one_more}
 use Rattle.vdcp_list.specs.Catalogues.{CanLast, Gives, IsCatalogue, IsCatalogueFault, IsClipFault, clip_row}
 use Rattle.vdcp_list.specs.Reading.{IsReadFault}
 use Rattle.vdcp_list.specs.Rows.{FileRow, most_rows}
-use Rattle.vdcp_list.specs.declared.faults.ListFault.TheVariants.{Columns, Id, Time, Twice, TooMany, Memory, Read}
+use Rattle.vdcp_list.specs.declared.faults.ListFault.TheVariants.{Columns, Id, Time, Twice, TooMany, Long, Memory, Read}
 use Rattle.vdcp_list.specs.declared.faults.ListFault.{ListFault}
 use Rattle.vdcp_port.specs.Clips.{length_of}
 use Rattle.vdcp_value.specs.Ids.{is_same_id, text_of_id}
@@ -85,6 +85,7 @@ of_rows rate row k (Id j) f h = h
 of_rows rate row k (Time j) f h = h
 of_rows rate row k (Twice j) f h = h
 of_rows rate row k (TooMany j) f h = h
+of_rows rate row k (Long j) f h = f
 of_rows rate row k Memory f h = f
 of_rows rate row k Read f h = f
 

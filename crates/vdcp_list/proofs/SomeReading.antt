@@ -10,7 +10,7 @@ use Rattle.vdcp_list.proofs.Steps.{one_more}
 use Rattle.vdcp_list.specs.Playlists.{CanName, IsItemFault, IsPlaylist, IsPlaylistFault, Names, columns_of, has_parts, is_of_columns, item_row, part_fields}
 use Rattle.vdcp_list.specs.Reading.{IsReadFault}
 use Rattle.vdcp_list.specs.Rows.{FileRow, most_rows}
-use Rattle.vdcp_list.specs.declared.faults.ListFault.TheVariants.{Columns, Id, Time, Twice, TooMany, Memory, Read}
+use Rattle.vdcp_list.specs.declared.faults.ListFault.TheVariants.{Columns, Id, Time, Twice, TooMany, Long, Memory, Read}
 use Rattle.vdcp_list.specs.declared.faults.ListFault.{ListFault}
 use Rattle.vdcp_value.specs.Ids.{text_of_id}
 use Rattle.vdcp_value.specs.declared.clip_id.ClipId.{ClipId}
@@ -109,6 +109,7 @@ of_rows rate columns row k (Id j) f h = h
 of_rows rate columns row k (Time j) f h = h
 of_rows rate columns row k (Twice j) f h = h
 of_rows rate columns row k (TooMany j) f h = h
+of_rows rate columns row k (Long j) f h = f
 of_rows rate columns row k Memory f h = f
 of_rows rate columns row k Read f h = f
 

@@ -2,7 +2,7 @@
 use Rattle.std.specs.List.{IsDistinct}
 use Rattle.std.specs.Prelude.{ℕ, ◌+◌, ◌-◌, ◌<◌, ◌≤◌, ◌≡◌, ◌≢◌, ⊤, Option, Some, List, [], ◌∷◌, All, Contains, map, length, take, slice_get}
 use Rattle.vdcp_list.specs.Rows.{FileRow, HasId, HasRows, Reaches, most_rows}
-use Rattle.vdcp_list.specs.declared.faults.ListFault.TheVariants.{Columns, Id, Time, Twice, TooMany, Memory, Read}
+use Rattle.vdcp_list.specs.declared.faults.ListFault.TheVariants.{Columns, Id, Time, Twice, TooMany, Long, Memory, Read}
 use Rattle.vdcp_list.specs.declared.faults.ListFault.{ListFault}
 use Rattle.vdcp_value.specs.Ids.{is_same_id, text_of_id}
 use Rattle.vdcp_value.specs.Timecodes.{frames_of, rate_of, text_of}
@@ -47,6 +47,7 @@ IsClipFault rate row k (Id j) = (j ≡ k) × (length row ≡ 2) × ¬ HasId row
 IsClipFault rate row k (Time j) = (j ≡ k) × (length row ≡ 2) × HasId row × IsNoClip rate row
 IsClipFault rate row k (Twice j) = ⊥
 IsClipFault rate row k (TooMany j) = ⊥
+IsClipFault rate row k (Long j) = ⊥
 IsClipFault rate row k Memory = ⊥
 IsClipFault rate row k Read = ⊥
 
@@ -69,6 +70,7 @@ IsCatalogueFault rate rows (Twice k) =
 IsCatalogueFault rate rows (TooMany k) =
     (k ≡ most_rows + 1) × (most_rows < length rows)
     × (clips : List (ClipId × Timecode)) × Gives rate (take most_rows rows) clips
+IsCatalogueFault rate rows (Long j) = ⊤
 IsCatalogueFault rate rows Memory = ⊤
 IsCatalogueFault rate rows Read = ⊤
 

@@ -1,7 +1,7 @@
 -- The items that the rows of a playlist name, and which row is refused.
 use Rattle.std.specs.Prelude.{ℕ, ◌+◌, ◌<◌, ◌≤◌, ◌≡◌, ◌≢◌, ◌==◌, ◌&&◌, ◌||◌, ⊤, Bool, true, false, IsTrue, IsFalse, List, [], ◌∷◌, All, map, length, take, Option, None, Some}
 use Rattle.vdcp_list.specs.Rows.{FileRow, HasId, HasRows, Reaches, most_rows}
-use Rattle.vdcp_list.specs.declared.faults.ListFault.TheVariants.{Columns, Id, Time, Twice, TooMany, Memory, Read}
+use Rattle.vdcp_list.specs.declared.faults.ListFault.TheVariants.{Columns, Id, Time, Twice, TooMany, Long, Memory, Read}
 use Rattle.vdcp_list.specs.declared.faults.ListFault.{ListFault}
 use Rattle.vdcp_value.specs.Bcd.{is_time, label_of_bcd, frames_in}
 use Rattle.vdcp_value.specs.Ids.{text_of_id}
@@ -71,6 +71,7 @@ IsItemFault rate columns row k (Time j) =
     × ((item : Item) → CanName rate (has_parts columns) item.part → item_row rate (has_parts columns) item ≢ row)
 IsItemFault rate columns row k (Twice j) = ⊥
 IsItemFault rate columns row k (TooMany j) = ⊥
+IsItemFault rate columns row k (Long j) = ⊥
 IsItemFault rate columns row k Memory = ⊥
 IsItemFault rate columns row k Read = ⊥
 
@@ -88,6 +89,7 @@ IsPlaylistFault rate rows (Twice k) = ⊥
 IsPlaylistFault rate rows (TooMany k) =
     (k ≡ most_rows + 1) × (most_rows < length rows)
     × (items : List Item) × Names rate (has_parts (columns_of rows)) (take most_rows rows) items
+IsPlaylistFault rate rows (Long j) = ⊤
 IsPlaylistFault rate rows Memory = ⊤
 IsPlaylistFault rate rows Read = ⊤
 

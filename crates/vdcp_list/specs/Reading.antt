@@ -6,8 +6,9 @@ use Rattle.csv.specs.declared.reader.Reader.{Reader}
 use Rattle.csv.specs.declared.reader.Trim.TheVariants as trim
 use Rattle.std.specs.Prelude.{ℕ, ◌≡◌, ⊤, Bool, true, false, List, [], ◌∷◌, ◌++◌, Option, None, Some, option_map}
 use Rattle.vdcp_list.specs.Rows.{FileRow, rows_from}
-use Rattle.vdcp_list.specs.declared.faults.ListFault.TheVariants.{Columns, Id, Time, Twice, TooMany, Memory, Read}
+use Rattle.vdcp_list.specs.declared.faults.ListFault.TheVariants.{Columns, Id, Time, Twice, TooMany, Long, Memory, Read}
 use Rattle.vdcp_list.specs.declared.faults.ListFault.{ListFault}
+use Rattle.vdcp_list.specs.declared.bounded.Bounded.{Bounded}
 
 -- the reader gives rows of any length, as they stand, and none is a header
 pub record IsSet {R : Type 0} (reader : Reader R) : Type 0 where
@@ -17,8 +18,8 @@ pub record IsSet {R : Type 0} (reader : Reader R) : Type 0 where
   pub ready : Ready reader
 
 -- the rows that a reader has left, where its bytes are known
-abbrev pub rows_left : {R : Type 0} → (R → Option (List ℕ)) → Reader R → Option (List FileRow)
-rows_left remaining reader = option_map (rows_from (reader_state reader)) (source_of remaining reader)
+abbrev pub rows_left : {R : Type 0} → (R → Option (List ℕ)) → Reader (Bounded R) → Option (List FileRow)
+rows_left remaining reader = option_map (rows_from (reader_state reader)) (source_of (λ b. remaining b.source) reader)
 
 -- a read took the first row of those left, or there was none; of bytes that aren't known it says nothing
 abbrev pub TakesRow : Option (List FileRow) → Option (List FileRow) → Bool → FileRow → Type 0
@@ -31,13 +32,14 @@ abbrev pub IsFront : Option (List FileRow) → Option (List FileRow) → List Fi
 IsFront None left front = ⊤
 IsFront (Some rows) left front = (more : List FileRow) × (left ≡ Some more) × (rows ≡ front ++ more)
 
--- a fault of the reader or of memory
+-- a fault of the reading: a row that is too long, or the reader or memory failed
 abbrev pub IsReadFault : ListFault → Type 0
 IsReadFault (Columns k) = ⊥
 IsReadFault (Id k) = ⊥
 IsReadFault (Time k) = ⊥
 IsReadFault (Twice k) = ⊥
 IsReadFault (TooMany k) = ⊥
+IsReadFault (Long j) = ⊤
 IsReadFault Memory = ⊤
 IsReadFault Read = ⊤
 

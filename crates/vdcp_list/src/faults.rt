@@ -1,7 +1,7 @@
 use thiserror::Error;
 
 /// Why a playlist or a catalogue is refused. Rows are tested one after another and count from 1, and
-/// the first refusal is given; within a row the order is `TooMany`, `Columns`, `Id`, `Time`, `Twice`.
+/// the first refusal is given; within a row the order is `Long`, `TooMany`, `Columns`, `Id`, `Time`, `Twice`.
 #[derive(Clone, Copy, Debug, PartialEq, Eq, Error)]
 pub enum ListFault {
     /// The row has another number of fields than it has to have.
@@ -19,6 +19,9 @@ pub enum ListFault {
     /// The first row past the limit of 10,000.
     #[error("row {0} is one too many")]
     TooMany(usize),
+    /// The row has more than 64 KiB, and isn't read to its end.
+    #[error("row {0} is too long")]
+    Long(usize),
     #[error("out of memory")]
     Memory,
     /// The reader failed.

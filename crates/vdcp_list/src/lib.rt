@@ -11,6 +11,7 @@
 #![tactic(auto)]
 
 mod asrun;
+mod bounded;
 mod catalogue;
 mod faults;
 mod fields;
@@ -24,6 +25,7 @@ mod table;
 mod timed;
 
 pub use asrun::{write_asrun, write_events};
+pub use bounded::Bounded;
 pub use catalogue::read_catalogue;
 pub use faults::{ListFault, SlotFault, WriteFault};
 pub use list::List;

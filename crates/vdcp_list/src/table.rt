@@ -1,4 +1,4 @@
-ghost use Rattle.std.specs.Prelude.{◌≡◌, ◌++◌, ◌∷◌, [], IfOk, IsSome, List, None, OnErr, false, length, true};
+ghost use Rattle.std.specs.Prelude.{◌≡◌, ◌++◌, ◌∷◌, [], IfOk, IsSome, List, None, OnErr, false, length, option_map, slice_get, true};
 ghost use Rattle.vdcp_list.specs.Places.{key_of, place_of};
 ghost use Rattle.vdcp_port.specs.Clips.{length_of};
 ghost use Rattle.vdcp_value.specs.declared.clip_id.ClipId.{ClipId};
@@ -49,6 +49,16 @@ impl Table {
         ensures { result ≡ length self.now }
     {
         self.clips.len()
+    }
+
+    /// The ID in the row of this place, counted from 0, if there is one.
+    pub fn id_at(&self, place: usize) -> Option<ClipId>
+        ensures { result ≡ option_map (λ clip. clip.0) (slice_get self.now place) }
+    {
+        match self.clips.get(place) {
+            Some(clip) => Some(clip.0),
+            None => None,
+        }
     }
 
     /// Adds a clip, unless one of its ID is there, and says whether it did.

@@ -32,6 +32,7 @@ list_status name (lists.Id row) e = omega (arith, e)
 list_status name (lists.Time row) e = omega (arith, e)
 list_status name (lists.Twice row) e = omega (arith, e)
 list_status name (lists.TooMany row) e = omega (arith, e)
+list_status name (lists.Long row) e = omega (arith, e)
 list_status name lists.Memory e = omega (arith, e)
 list_status name lists.Read e = omega (arith, e)
 

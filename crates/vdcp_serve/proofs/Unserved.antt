@@ -70,6 +70,7 @@ not_of_a_file name (lists.Id row) e = omega (arith, e)
 not_of_a_file name (lists.Time row) e = omega (arith, e)
 not_of_a_file name (lists.Twice row) e = omega (arith, e)
 not_of_a_file name (lists.TooMany row) e = omega (arith, e)
+not_of_a_file name (lists.Long row) e = omega (arith, e)
 not_of_a_file name lists.Memory e = omega (arith, e)
 not_of_a_file name lists.Read e = omega (arith, e)
 

@@ -34,17 +34,17 @@ add-requires-clause-within g c =
 
 pub loop-tally-preserved : goal.loop-tally-preserved
 loop-tally-preserved g c =
-    let found : c.next_row.result ≡ Ok true = grind (arith, common_steps) in
+    let found : c.take_row.result ≡ Ok true = grind (arith, common_steps) in
     let takes = if_ok (λ f. TakesRow (rows_left g.R.Read.remaining c.loop-tally.rows)
-    (rows_left g.R.Read.remaining c.next_row.new.reader) f
-    (fields_of c.next_row.new.row))
-    c.next_row.result true c.next_row.ensures.takes found in
+    (rows_left g.R.Read.remaining c.take_row.new.reader) f
+    (fields_of c.take_row.new.row))
+    c.take_row.result true c.take_row.ensures.takes found in
     let h = counted (g.R.Read.remaining c.args.file.reader)
     (rows_left g.R.Read.remaining c.loop-tally.rows) c.loop-tally.tally c.loop-tally.invariant.tested in
     let room : c.loop-tally.tally.rows < most_rows = omega (arith, h.1, c.if-tally-eq-MAX_ROWS.false) in
     record {
       set = if_ok (λ f. f ≡ true
-          → IsSet c.next_row.new.reader) c.next_row.result true c.next_row.ensures.set found refl;
+          → IsSet c.take_row.new.reader) c.take_row.result true c.take_row.ensures.set found refl;
       tested =
           tested_next (record {
             none = c.rows_are_read_in_order.ensures.none;
@@ -52,8 +52,8 @@ loop-tally-preserved g c =
             all = c.rows_are_read_in_order.ensures.all;
             begins = c.rows_are_read_in_order.ensures.begins;
           }) (g.R.Read.remaining c.args.file.reader) (rows_left g.R.Read.remaining c.loop-tally.rows)
-          (rows_left g.R.Read.remaining c.next_row.new.reader)
-          c.loop-tally.tally c.add.new.self (fields_of c.next_row.new.row)
+          (rows_left g.R.Read.remaining c.take_row.new.reader)
+          c.loop-tally.tally c.add.new.self (fields_of c.take_row.new.row)
           (finding_of c.in_ok-verdict.verdict) c.loop-tally.invariant.tested takes room
           c.in_ok-verdict.ensures c.in_ok-add.ensures;
     }
@@ -71,12 +71,12 @@ loop-tally-smaller g c =
 
 pub returns-then-tally-eq-MAX_ROWS-clause-refused : goal.returns-then-tally-eq-MAX_ROWS-clause-refused
 returns-then-tally-eq-MAX_ROWS-clause-refused g c =
-    let found : c.next_row.result ≡ Ok true = grind (arith, common_steps) in
+    let found : c.take_row.result ≡ Ok true = grind (arith, common_steps) in
     let takes = if_ok (λ f. TakesRow (rows_left g.R.Read.remaining c.loop-tally.rows)
-    (rows_left g.R.Read.remaining c.next_row.new.reader) f
-    (fields_of c.next_row.new.row))
-    c.next_row.result true c.next_row.ensures.takes found in
-    inr (inr (
+    (rows_left g.R.Read.remaining c.take_row.new.reader) f
+    (fields_of c.take_row.new.row))
+    c.take_row.result true c.take_row.ensures.takes found in
+    inr (inr (inr (
       c.too_many.ensures,
       tested_too_many (record {
         none = c.rows_are_read_in_order.ensures.none;
@@ -84,22 +84,22 @@ returns-then-tally-eq-MAX_ROWS-clause-refused g c =
         all = c.rows_are_read_in_order.ensures.all;
         begins = c.rows_are_read_in_order.ensures.begins;
       }) (g.R.Read.remaining c.args.file.reader) (rows_left g.R.Read.remaining c.loop-tally.rows)
-          (rows_left g.R.Read.remaining c.next_row.new.reader) c.loop-tally.tally
-          (fields_of c.next_row.new.row) c.loop-tally.invariant.tested takes c.if-tally-eq-MAX_ROWS.true,
-    ))
+          (rows_left g.R.Read.remaining c.take_row.new.reader) c.loop-tally.tally
+          (fields_of c.take_row.new.row) c.loop-tally.invariant.tested takes c.if-tally-eq-MAX_ROWS.true,
+    )))
 
 pub returns-clause-tally : goal.returns-clause-tally
 returns-clause-tally g c =
-    let none : c.next_row.result ≡ Ok false = grind (arith, common_steps) in
+    let none : c.take_row.result ≡ Ok false = grind (arith, common_steps) in
     let takes = if_ok (λ f. TakesRow (rows_left g.R.Read.remaining c.loop-tally.rows)
-    (rows_left g.R.Read.remaining c.next_row.new.reader) f
-    (fields_of c.next_row.new.row))
-    c.next_row.result false c.next_row.ensures.takes none in
+    (rows_left g.R.Read.remaining c.take_row.new.reader) f
+    (fields_of c.take_row.new.row))
+    c.take_row.result false c.take_row.ensures.takes none in
     tested_all (record {
       none = c.rows_are_read_in_order.ensures.none;
       more = c.rows_are_read_in_order.ensures.more;
       all = c.rows_are_read_in_order.ensures.all;
       begins = c.rows_are_read_in_order.ensures.begins;
     }) (g.R.Read.remaining c.args.file.reader) (rows_left g.R.Read.remaining c.loop-tally.rows)
-    (rows_left g.R.Read.remaining c.next_row.new.reader)
-    c.loop-tally.tally (fields_of c.next_row.new.row) c.loop-tally.invariant.tested takes
+    (rows_left g.R.Read.remaining c.take_row.new.reader)
+    c.loop-tally.tally (fields_of c.take_row.new.row) c.loop-tally.invariant.tested takes

@@ -4,11 +4,11 @@ use Rattle.vdcp_list.proofs.Reading.{is_read_fault, takes_row}
 use Rattle.vdcp_list.proofs.rows.next_row.Goals as goal
 use Rattle.vdcp_list.specs.Reading.{IsReadFault}
 
-pub returns-in-Ok-clause-takes : goal.returns-in-Ok-clause-takes
-returns-in-Ok-clause-takes g c =
-    takes_row g.R.Read.remaining c.args.reader.now c.read_byte_record.new.self c.in-Ok.found _ c.requires.config
+pub returns-in-Ok-2-clause-takes : goal.returns-in-Ok-2-clause-takes
+returns-in-Ok-2-clause-takes g c =
+    takes_row g.R.Read.remaining c.args.reader.now c.read_byte_record.new.self c.in-Ok.field-0 _ c.requires.config
     (c.in-Ok.ensures.reads c.requires.trims c.requires.ready)
 
-pub returns-in-Err-clause-failed : goal.returns-in-Err-clause-failed
-returns-in-Err-clause-failed g c = subst IsReadFault (sym c.fault_of.ensures)
-    (is_read_fault (error_kind c.in-Err.error))
+pub returns-in-Err-2-clause-failed : goal.returns-in-Err-2-clause-failed
+returns-in-Err-2-clause-failed g c = subst IsReadFault (sym c.fault_of.ensures)
+    (is_read_fault (error_kind c.in-Err.field-0))
