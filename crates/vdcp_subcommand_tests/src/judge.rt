@@ -40,7 +40,7 @@ fn judged<C: io::Read + Drop>(alloc: Global, capture: C, settings: JudgeSettings
 
 #[test]
 fn captures_are_judged(rt: HostRuntime) {
-    static ROWS: [(&[u8], JudgeSettings, (&str, &str, u8)); 6] = [
+    static ROWS: [(&[u8], JudgeSettings, (&str, &str, u8)); 7] = [
         (
             b"9:30,down,02021001ef\r\n\n9:30,up,04",
             SETTINGS,
@@ -62,6 +62,7 @@ fn captures_are_judged(rt: HostRuntime) {
         ),
         (b"4,up\n", SETTINGS, ("", "vdcp: line: line 1: word\n", 1)),
         (b"\n,up,0\n", SETTINGS, ("", "vdcp: line: line 2: hex\n", 1)),
+        (b",up,\n", SETTINGS, ("", "vdcp: line: empty\n", 1)),
         (
             b"<- ack\ndropped 2\n",
             SETTINGS,
@@ -83,6 +84,6 @@ fn failures_have_status_3(rt: HostRuntime) {
     expect_run(&rt, capture, &run, ("", "vdcp: line: read\n", 3));
     let mut full = FailingWriter::new(alloc, Fails::From(0));
     let mut told = Vec::new(alloc);
-    let status = judge(alloc, b"".as_slice(), SETTINGS, &mut full, &mut told);
+    let status = judge(alloc, capture, SETTINGS, &mut full, &mut told);
     assert_eq!(rt; (status, told.len()), (3, 0));
 }
