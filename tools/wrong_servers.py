@@ -174,9 +174,9 @@ class Babbles(Port):
 
 
 class HangsUp(Port):
-    """Instead of the eleventh answer the connection is closed."""
+    """Instead of the twelfth answer the connection is closed."""
 
-    answers_left = 10
+    answers_left = 11
 
     def answer(self, message):
         if not self.answers_left:

@@ -7,12 +7,11 @@
 //!
 //! Files: `row` (what a row is made of), `table` (the rows), `naming` (what steps send), `asking` (a burst goes out, and
 //! what comes for it), `follower` (the port that a server is held against, and its answers), `walk` (a row, step by
-//! step), `reading` (a difference as text), `report` (the lines of rows, and their counts), `clips` (the first two clips
-//! of a catalogue), `settings`, `probe` (the subcommand).
+//! step), `reading` (a difference as text), `report` (the lines of rows, and their counts), `settings`, `probe` (the
+//! subcommand).
 #![tactic(auto)]
 
 mod asking;
-mod clips;
 mod follower;
 mod naming;
 mod probe;

@@ -3,10 +3,10 @@ ghost use Rattle.std.specs.List.{flat_map};
 ghost use Rattle.std.specs.Prelude.{◌≡◌, ◌==◌, ◌≤◌, ◌∷◌, ◌++◌, [], ℕ, IfOk, List, OnOk, Option, if◌then◌else◌};
 ghost use Rattle.vdcp_probe.specs.Told.{counts_text, differing_in, probed_text, told_text};
 
-use crate::clips::{first_ids, read_all};
+use crate::asking::ask;
 use crate::naming::Naming;
 use crate::report::{Told, differing_in, write_counts, write_told};
-use crate::row::Row;
+use crate::row::{Ask, Row};
 use crate::settings::ProbeSettings;
 use crate::walk::walk_row;
 use std::alloc::{AllocError, Global};
@@ -16,9 +16,12 @@ use std::time::Duration;
 use vdcp_files::NamedFile;
 use vdcp_list::Table;
 use vdcp_port::Catalogue;
-use vdcp_text::Failure;
+use vdcp_text::{Failure, NameText};
 use vdcp_value::ClipId;
 use vdcp_wire::{StreamWire, Wire, address_of};
+
+/// How often a server that answers nothing is asked.
+const MOST_ASKS: u32 = 3;
 
 /// Why a server isn't probed, or not to the end.
 #[derive(Clone, Copy, Debug, PartialEq, Eq)]
@@ -52,7 +55,7 @@ impl ProbeFault<'_> {
                 }
             }
             ProbeFault::FewClips(name) => {
-                match writeln!(err, "vdcp: {name}: fewer than two clips") {
+                match writeln!(err, "vdcp: {}: fewer than two clips", NameText(name)) {
                     Ok(()) => 1,
                     Err(_) => 3,
                 }
@@ -69,7 +72,7 @@ impl ProbeFault<'_> {
 /// The status is 0 where no row differs, and 1 where one does, where a row of the catalogue is refused, and where
 /// it has fewer than two clips. It is 2 where the port may not be stopped, and where the address is none, which is
 /// tested next; and 3 where the catalogue can't be read, memory was refused, nobody takes the connection, it is closed
-/// or fails, an answer doesn't end, or a writer failed. For each of these but the last `err` gets a line.
+/// or fails, nothing is ever answered, an answer doesn't end, or a writer failed. For each of these but the last `err` gets a line.
 pub fn do_probe<R: Net + AllocGlobal, C: io::Read + Drop, W: io::Write, E: io::Write>(
     rt: &R,
     address: &str,
@@ -125,13 +128,12 @@ fn read_clips<'a, C: io::Read + Drop>(
     settings: ProbeSettings,
 ) -> Result<(Table, Naming), ProbeFault<'a>>
     requires { settings.unit ≤ 15 }
-    ensures { IfOk result (λ read. read.1.unit ≤ 15) }
+    ensures unit { IfOk result (λ read. read.1.unit ≡ settings.unit) }
+    ensures port { IfOk result (λ read. read.1.port ≡ settings.port) }
 {
-    let NamedFile { name, mut reader } = catalogue;
-    let bytes = read_all(alloc, name, &mut reader)?;
-    let reader = bytes.as_slice();
-    let clips = NamedFile { name, reader }.read_catalogue(alloc, settings.rate)?;
-    let Some((first, second)) = first_ids(alloc, bytes.as_slice()) else {
+    let name = catalogue.name;
+    let clips = catalogue.read_catalogue(alloc, settings.rate)?;
+    let (Some(first), Some(second)) = (clips.id_at(0), clips.id_at(1)) else {
         return Err(ProbeFault::FewClips(name));
     };
     let naming = Naming {
@@ -162,8 +164,8 @@ fn probe_connected<T: io::Read + io::Write + OpenStream + Drop, C: Catalogue, W:
     }
 }
 
-/// Puts those of the rows that `settings.only` has to a server over a wire, and writes what is found of each, and then
-/// the counts. Of the settings nothing else counts: the port is asked as `naming` says, and is stopped.
+/// Asks a server over a wire for its state until it answers, and puts those of the rows that `settings.only` has to it.
+/// Writes what is found of each, and then the counts. `Unanswered` where nothing came. Of the settings nothing else counts: the port is asked as `naming` says, and is stopped.
 pub fn probe_rows<C: Catalogue, T: Wire, W: io::Write>(
     alloc: Global,
     clips: &C,
@@ -177,6 +179,7 @@ pub fn probe_rows<C: Catalogue, T: Wire, W: io::Write>(
     requires works { T.failures wire.old ≡ 0 }
     ensures printed { IfOk result (λ told. Appends (W.contents out.old) (W.contents out.new) (probed_text told.items)) }
 {
+    test_answers(alloc, naming, wire)?;
     let mut all = Vec::new(alloc);
     for k in 0..rows.len() {
         let row = &rows[k];
@@ -188,6 +191,26 @@ pub fn probe_rows<C: Catalogue, T: Wire, W: io::Write>(
         Ok(()) => Ok(all),
         Err(_) => Err(Failure::Writer),
     }
+}
+
+// Asks for the state until something comes.
+fn test_answers<T: Wire>(
+    alloc: Global,
+    naming: &Naming,
+    wire: &mut T,
+) -> Result<(), Failure<'static>>
+    requires unit { naming.now.unit ≤ 15 }
+    requires works { T.failures wire.old ≡ 0 }
+    ensures works { OnOk result (T.failures wire.new ≡ 0) }
+{
+    let mut status = Vec::new(alloc);
+    naming.add_ask(&Ask::Status(0x01), &mut status)?;
+    'asks: for _ in 0..MOST_ASKS {
+        if !ask(alloc, status.as_slice(), wire)?.is_empty() {
+            return Ok(());
+        }
+    }
+    Err(Failure::Unanswered)
 }
 
 // Puts a row, writes what is found of it, and adds that.
