@@ -1,4 +1,8 @@
-use crate::paced::{Pace, Paced};
+ghost use Rattle.std.specs.Prelude.{◌≡◌, IfOk};
+ghost use Rattle.vdcp_wire.specs.Streams.{failures_of};
+
+use crate::paced::Paced;
+use crate::serve::ServeSettings;
 use crate::stay::{Coming, Connections};
 use mio::unix::SourceFd;
 use mio::{Events, Interest, Poll, Token};
@@ -7,9 +11,9 @@ use std::io;
 use std::net::{Net, OpenListener};
 use std::os::fd::AsRawFd;
 use std::rt::Clock;
-use std::time::Instant;
+use std::time::{Duration, Instant};
 use vdcp_log::{Log, Logged};
-use vdcp_wire::{StreamWire, WireFault};
+use vdcp_wire::{Duplex, StreamWire, WireFault};
 
 /// Who listens at an address and takes one connection after another. The system has those wait that come meanwhile.
 #[derive(Drop)]
@@ -18,19 +22,17 @@ pub struct Entrance<'a, R: Net + Clock, L: io::Write> {
     listener: R::Listener,
     poll: Poll,
     events: Events<Global>,
-    pace: Pace,
-    silence: u32,
+    settings: ServeSettings,
     log: &'a Log<L>,
 }
 
 impl<'a, R: Net + AllocGlobal + Clock, L: io::Write + Drop> Entrance<'a, R, L> {
-    /// With this listener. A wait for a connection is no longer than a silence of one, of this many milliseconds, or by
-    /// the clock than a frame; the log is told of its messages.
+    /// With this listener. A wait for a connection is no longer than a silence of one, or by the clock than a frame; the
+    /// log is told of its messages.
     pub fn new(
         rt: &'a R,
         listener: R::Listener,
-        pace: Pace,
-        silence: u32,
+        settings: ServeSettings,
         log: &'a Log<L>,
     ) -> io::Result<Self> {
         listener.set_nonblocking(true)?;
@@ -44,8 +46,7 @@ impl<'a, R: Net + AllocGlobal + Clock, L: io::Write + Drop> Entrance<'a, R, L> {
             listener,
             poll,
             events,
-            pace,
-            silence,
+            settings,
             log,
         })
     }
@@ -68,11 +69,8 @@ impl<'a, R: Net + AllocGlobal + Clock, L: io::Write + Drop> Connections<
         let mut taken = self.take();
         if taken.is_none() {
             // (what came is told once, so that one that can't be taken doesn't cut the wait short again)
-            if self
-                .poll
-                .poll(&mut self.events, Some(self.pace.pause(self.silence)))
-                .is_err()
-            {
+            let pause = self.settings.pace.pause(self.settings.silence);
+            if self.poll.poll(&mut self.events, Some(pause)).is_err() {
                 return Err(WireFault);
             }
             taken = self.take();
@@ -80,13 +78,28 @@ impl<'a, R: Net + AllocGlobal + Clock, L: io::Write + Drop> Connections<
         let Some(stream) = taken else {
             return Ok(Coming::Nobody);
         };
-        let Ok(wire) = StreamWire::new(stream, self.pace.wait(self.silence)) else {
-            return Ok(Coming::Failed);
-        };
-        let Ok(began) = Instant::now(self.rt) else {
-            return Ok(Coming::Failed);
-        };
-        let wire = Paced::new(wire, self.pace, self.rt, began, self.silence);
-        Ok(Coming::Line(Logged::new(wire, self.log)))
+        match line_over(self.rt, stream, self.settings) {
+            Ok(line) => Ok(Coming::Line(Logged::new(line, self.log))),
+            Err(_) => Ok(Coming::Failed),
+        }
     }
+}
+
+/// The line over a connection. Err where that refuses to be one.
+pub fn line_over<R: Clock, S: Duplex + Drop>(
+    rt: &R,
+    stream: S,
+    settings: ServeSettings,
+) -> io::Result<Paced<'_, R, StreamWire<S>>>
+    ensures { IfOk result (λ line. failures_of line.wire.connection ≡ 0) }
+{
+    let wait = settings.pace.wait(settings.silence);
+    let wire = match settings.idle {
+        Some(seconds) => {
+            StreamWire::with_sending(stream, wait, Duration::from_secs(u64::from(seconds)))
+        }
+        None => StreamWire::new(stream, wait),
+    }?;
+    let began = Instant::now(rt)?;
+    Ok(Paced::new(wire, settings.pace, rt, began, settings.silence))
 }

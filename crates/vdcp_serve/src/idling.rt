@@ -12,9 +12,15 @@ enum Patience {
     GaveUp,
 }
 
+/// A wire that may drop bytes, and knows when some came.
+pub trait Hears: Wire {
+    /// When bytes came last, also such as it dropped, in nanoseconds since its start; 0 where it drops none.
+    fn heard(&self) -> u64;
+}
+
 /// A wire that gives its line up where nothing comes for too long: it answers then that the other end has closed.
 #[derive(Drop)]
-pub struct Idling<W: Wire> {
+pub struct Idling<W: Hears> {
     wire: W,
     // How many silences one after another are too many; None where no number is.
     most: Option<u64>,
@@ -22,7 +28,7 @@ pub struct Idling<W: Wire> {
     listens: u64,
 }
 
-impl<W: Wire> Idling<W> {
+impl<W: Hears> Idling<W> {
     /// A wire over this one, which gives up after this many silences one after another.
     pub fn new(wire: W, most: Option<u64>) -> Self
         ensures wire { result.wire ≡ wire }
@@ -75,7 +81,7 @@ fn silences_with(silences: u64, came: Came) -> u64 {
     }
 }
 
-impl<W: Wire> Wire for Idling<W> {
+impl<W: Hears> Wire for Idling<W> {
     ghost use Rattle.vdcp_serve.specs.Idle.{idling_failures, idling_told, IdlingDoes};
     ghost use Rattle.vdcp_serve.specs.IdleLaws.{idling_tells};
 
@@ -98,7 +104,13 @@ impl<W: Wire> Wire for Idling<W> {
             self.patience = Patience::GaveUp;
             return Ok(Came::Closed);
         }
+        let heard = self.wire.heard();
         let came = self.wire.listen(buffer)?;
+        let silences = if self.wire.heard() == heard {
+            silences
+        } else {
+            0
+        };
         self.patience = Patience::Waits(silences_with(silences, came));
         Ok(came)
     }

@@ -1,13 +1,17 @@
-ghost use Rattle.std.specs.Prelude.{◌≡◌, ◌≢◌, ◌≤◌, length, false, true, IfOk, OnErr, OnOk};
+ghost use Rattle.std.specs.Duration.{as_nanos};
+ghost use Rattle.std.specs.Prelude.{◌≡◌, ◌≢◌, ◌≤◌, ◌*◌, ◌-◌, length, false, true, IfOk, OnErr, OnOk};
 ghost use Rattle.vdcp_frame.specs.Reader.{answer_of};
 ghost use Rattle.vdcp_value.specs.Labels.{frames_per_second};
 ghost use Rattle.vdcp_wire.specs.Acts.{brings, fails};
 ghost use Rattle.vdcp_wire.specs.Wires.{arrival_of, FitsBuffer};
 ghost use Rattle.vdcp_serve.specs.Pace.{after_silence, before_bytes, burst_after, frames_in, is_over, is_silent, passed, BringsBelow, CountsFrames, HasPassed, PacedBrings};
 
+use crate::idling::Hears;
+use std::io;
 use std::rt::Clock;
 use std::time::{Duration, Instant};
 use vdcp_frame::{Got, Reader};
+use vdcp_log::Logged;
 use vdcp_value::Rate;
 use vdcp_wire::{Came, PIECE, Wire, WireFault};
 
@@ -32,13 +36,17 @@ impl Pace {
         }
     }
 
-    /// How long a frame is that passes while there is no line.
-    pub fn pause(self, silence: u32) -> Duration {
+    /// How long a frame is that passes while there is no line: by the clock the least time after which one is over.
+    pub fn pause(self, silence: u32) -> Duration
+        ensures silence { self ≡ Pace.Silences → as_nanos result ≡ silence * 1000000 }
+        ensures frame { (rate : Rate) → self ≡ Pace.Clock rate → (frames_in rate (as_nanos result) ≡ 1)
+            × (frames_in rate (as_nanos result - 1) ≡ 0) }
+    {
         match self {
             Pace::Silences => Duration::from_millis(u64::from(silence)),
             Pace::Clock(Rate::F24) => Duration::from_nanos(41_666_667),
             Pace::Clock(Rate::F25) => Duration::from_nanos(40_000_000),
-            Pace::Clock(Rate::F30) => Duration::from_nanos(33_333_333),
+            Pace::Clock(Rate::F30) => Duration::from_nanos(33_333_334),
             Pace::Clock(Rate::D30) => Duration::from_nanos(33_366_667),
         }
     }
@@ -94,6 +102,7 @@ impl<'a, R: Clock, W: Wire> Paced<'a, R, W> {
     pub fn new(wire: W, pace: Pace, clock: &'a R, began: Instant, silence: u32) -> Self
         ensures wire { result.wire ≡ wire }
         ensures pace { result.pace ≡ pace }
+        ensures silence { result.silence ≡ silence * 1000000 }
         ensures frames { result.frames ≡ 0 }
     {
         Paced {
@@ -285,6 +294,18 @@ fn frames_in(rate: Rate, nanoseconds: u64) -> u128
         Rate::F25 => time * 25 / 1_000_000_000,
         Rate::F30 => time * 30 / 1_000_000_000,
         Rate::D30 => time * 30 / 1_001_000_000,
+    }
+}
+
+impl<R: Clock, W: Wire> Hears for Paced<'_, R, W> {
+    fn heard(&self) -> u64 {
+        self.heard
+    }
+}
+
+impl<W: Hears, L: io::Write + Drop> Hears for Logged<'_, W, L> {
+    fn heard(&self) -> u64 {
+        self.wire.heard()
     }
 }
 

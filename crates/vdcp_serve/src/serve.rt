@@ -9,21 +9,20 @@ ghost use Rattle.vdcp_serve.specs.Serve.{end_of};
 ghost use Rattle.vdcp_port.specs.Clock.{new_port};
 ghost use Rattle.vdcp_text.specs.Failure.{failure_line};
 
-use crate::entrance::Entrance;
-use crate::idling::Idling;
-use crate::paced::{Pace, Paced, frames_in_second};
+use crate::entrance::{Entrance, line_over};
+use crate::idling::{Hears, Idling};
+use crate::paced::{Pace, frames_in_second};
 use crate::stay::stay;
 use std::io::{self, ErrorKind};
 use std::net::{Net, SocketAddrV4};
 use std::rt::Clock;
-use std::time::Instant;
 use vdcp_drive::{DriveFault, Ran, Server, WatchAir};
 use vdcp_files::NamedFile;
 use vdcp_log::{AirLog, Log, Logged};
 use vdcp_port::{Catalogue, Port};
 use vdcp_text::Failure;
 use vdcp_value::Rate;
-use vdcp_wire::{AcceptFault, StreamWire, Wire, accept_one, address_of, listen_at};
+use vdcp_wire::{AcceptFault, Wire, accept_one, address_of, listen_at};
 
 /// What a channel is served with.
 #[derive(Clone, Copy, Debug, PartialEq, Eq)]
@@ -44,7 +43,8 @@ pub struct ServeSettings {
     pub turns: u32,
     /// Whether the port is kept for the next connection when one ends.
     pub stay: bool,
-    /// For how many seconds nothing may come by a connection, 1 to 86,400; None: as long as nobody closes it.
+    /// For how many seconds nothing may come by a connection, nor go out where something is to, 1 to 86,400; None: as
+    /// long as nobody closes it, but what is to go out fails after ten seconds.
     pub idle: Option<u32>,
 }
 
@@ -248,14 +248,10 @@ fn serve_first<
         Err(AcceptFault::Bind) => return Err(Failure::Bind),
         Err(AcceptFault::Writer) => return Err(Failure::Writer),
     };
-    let Ok(wire) = StreamWire::new(stream, settings.pace.wait(settings.silence)) else {
-        return Err(Failure::LineFailed);
-    };
-    let Ok(began) = Instant::now(rt) else {
-        return Err(Failure::LineFailed);
-    };
-    let wire = Paced::new(wire, settings.pace, rt, began, settings.silence);
-    serve_line(port, wire, settings, log, out)
+    match line_over(rt, stream, settings) {
+        Ok(line) => serve_line(port, line, settings, log, out),
+        Err(_) => Err(Failure::LineFailed),
+    }
 }
 
 // Takes one connection after another, and serves them.
@@ -275,13 +271,7 @@ fn serve_each<R: Net + AllocGlobal + Clock, C: Catalogue + Drop, L: io::Write + 
         Err(AcceptFault::Bind) => return Err(Failure::Bind),
         Err(AcceptFault::Writer) => return Err(Failure::Writer),
     };
-    let mut entrance: Entrance<R, L> = match Entrance::new(
-        rt,
-        listener,
-        settings.pace,
-        settings.silence,
-        log,
-    ) {
+    let mut entrance: Entrance<R, L> = match Entrance::new(rt, listener, settings, log) {
         Ok(entrance) => entrance,
         Err(error) if error.kind() == ErrorKind::OutOfMemory => return Err(Failure::Memory),
         Err(_) => return Err(Failure::Bind),
@@ -306,7 +296,7 @@ fn serve_each<R: Net + AllocGlobal + Clock, C: Catalogue + Drop, L: io::Write + 
 }
 
 // Serves a port over a line, and tells how that ended.
-fn serve_line<'f, C: Catalogue + Drop, S: Wire + Drop, L: io::Write + Drop, W: io::Write>(
+fn serve_line<'f, C: Catalogue + Drop, S: Hears + Drop, L: io::Write + Drop, W: io::Write>(
     port: Port<C>,
     wire: S,
     settings: ServeSettings,
@@ -329,7 +319,7 @@ fn serve_line<'f, C: Catalogue + Drop, S: Wire + Drop, L: io::Write + Drop, W: i
 }
 
 // Makes at most this many turns of a server, and prints how they ended.
-fn serve_turns<'f, C: Catalogue, S: Wire, V: WatchAir, W: io::Write>(
+fn serve_turns<'f, C: Catalogue, S: Hears, V: WatchAir, W: io::Write>(
     server: &mut Server<C, Idling<S>>,
     turns: u32,
     watcher: &mut V,

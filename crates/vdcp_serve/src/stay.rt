@@ -5,7 +5,7 @@ ghost use Rattle.vdcp_serve.specs.Idle.{idling_failures, idling_told};
 ghost use Rattle.vdcp_serve.specs.Stay.{IsKept, IsTakenWith, left_after};
 ghost use Rattle.vdcp_serve.specs.declared.idling.Idling.{Idling};
 
-use crate::idling::Idling;
+use crate::idling::{Hears, Idling};
 use std::io;
 use vdcp_drive::{DriveFault, Ran, Server};
 use vdcp_log::{AirLog, Log};
@@ -37,7 +37,7 @@ pub trait Connections<W: Wire> {
 /// silence. While there is no line a frame passes at each silence. A line ends where the other end closes it, where it
 /// is given up after `most` silences one after another, and where it fails; the port stays as it is. The log is told of
 /// each. Err where nobody can be waited for.
-pub fn stay<C: Catalogue + Drop, W: Wire + Drop, D: Connections<W>, L: io::Write + Drop>(
+pub fn stay<C: Catalogue + Drop, W: Hears + Drop, D: Connections<W>, L: io::Write + Drop>(
     port: Port<C>,
     connections: &mut D,
     turns: u64,
@@ -70,7 +70,7 @@ pub fn stay<C: Catalogue + Drop, W: Wire + Drop, D: Connections<W>, L: io::Write
 }
 
 // Serves over one line for at most the turns that are left: the port then, and the turns that are left then.
-fn serve_one<C: Catalogue + Drop, W: Wire + Drop, L: io::Write + Drop>(
+fn serve_one<C: Catalogue + Drop, W: Hears + Drop, L: io::Write + Drop>(
     server: Server<C, Idling<W>>,
     left: u64,
     log: &Log<L>,

@@ -15,6 +15,9 @@ use std::time::Duration;
 /// Read limit of `drop_waiting`, so that a peer that goes on sending can't hold it up.
 const MOST_READS: u32 = 128;
 
+/// For how many seconds a send waits where the other end takes nothing, unless that is said.
+const SENDING: u64 = 10;
+
 /// What a wire knows of its connection.
 #[derive(Clone, Copy, Debug, PartialEq, Eq)]
 enum Connection {
@@ -26,7 +29,8 @@ enum Connection {
     Failed,
 }
 
-/// A wire over a connection. `send` and `listen` may wait for the other end.
+/// A wire over a connection. `send` and `listen` may wait for the other end: `listen` for the time of a silence, and
+/// `send` for its own, after which the wire has failed, for each part of the bytes that the connection takes at once.
 ///
 /// What it carried from its start it doesn't tell. But where the connection's bytes are known, `send` appends exactly
 /// its bytes, or a beginning of them if it fails; what `listen` gives is exactly what came next; and `drop_waiting`
@@ -55,14 +59,25 @@ impl<S: Duplex + Drop> Model for StreamWire<S> {
 
 impl<S: Duplex + Drop> StreamWire<S> {
     /// A wire over this connection, on which nothing comes for `silence` at the end of a burst, 1
-    /// millisecond or more. What is sent goes out at once. Err where the connection refuses this.
+    /// millisecond or more. What is sent goes out at once; where the other end takes nothing, a send waits for ten
+    /// seconds. Err where the connection refuses this.
     pub fn new(stream: S, silence: Duration) -> io::Result<Self>
+        ensures open { IfOk result (λ wire. wire.connection ≡ Connection.Open) }
+        ensures ahead { IfOk result (λ wire. wire.ahead ≡ S.ahead stream) }
+        ensures written { IfOk result (λ wire. wire.written ≡ S.written stream) }
+    {
+        StreamWire::with_sending(stream, silence, Duration::from_secs(SENDING))
+    }
+
+    /// The same; where the other end takes nothing, a send waits for this time, 1 microsecond or more.
+    pub fn with_sending(stream: S, silence: Duration, sending: Duration) -> io::Result<Self>
         ensures open { IfOk result (λ wire. wire.connection ≡ Connection.Open) }
         ensures ahead { IfOk result (λ wire. wire.ahead ≡ S.ahead stream) }
         ensures written { IfOk result (λ wire. wire.written ≡ S.written stream) }
     {
         stream.set_nodelay(true)?;
         stream.set_read_timeout(Some(silence))?;
+        stream.set_write_timeout(Some(sending))?;
         Ok(StreamWire {
             stream,
             connection: Connection::Open,

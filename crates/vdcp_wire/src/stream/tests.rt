@@ -108,8 +108,51 @@ fn bytes_go(rt: HostRuntime) -> Result<(), Fail> {
 #[test]
 fn what_is_sent_goes_out_at_once(rt: HostRuntime) -> Result<(), Fail> {
     let (_peer, wire) = wire(&rt, 1000)?;
-    let seen = (wire.stream.nodelay()?, wire.stream.read_timeout()?);
-    expect(&rt, &seen, &(true, Some(Duration::from_millis(1000))));
+    let stream = &wire.stream;
+    let seen = (
+        stream.nodelay()?,
+        stream.read_timeout()?,
+        stream.write_timeout()?,
+    );
+    let times = (
+        Some(Duration::from_millis(1000)),
+        Some(Duration::from_secs(10)),
+    );
+    expect(&rt, &seen, &(true, times.0, times.1));
+    Ok(())
+}
+
+/// Sends until that fails, and says how much was sent by then.
+fn send_all(wire: &mut StreamWire) -> usize {
+    let mut sent = 0usize;
+    for _ in 0..100_000 {
+        if send(wire, &[3; 512]).is_err() {
+            break;
+        }
+        sent = sent.saturating_add(512);
+    }
+    sent
+}
+
+// (of the send that fails a part may have gone out)
+#[test]
+fn send_that_nobody_takes_fails_in_time(rt: HostRuntime) -> Result<(), Fail> {
+    let (peer, stream) = pair(&rt)?;
+    let short = Duration::from_millis(50);
+    let mut wire = StreamWire::with_sending(stream, short, short)?;
+    let start = Instant::now(&rt)?;
+    let sent = send_all(&mut wire);
+    let is_early = start.elapsed(&rt)? < Duration::from_millis(LONG);
+    expect(
+        &rt,
+        &(wire.connection, is_early),
+        &(Connection::Failed, true),
+    );
+    let mut peer = StreamWire::new(peer, short)?;
+    drop(wire);
+    let came = count_rest(&mut peer)?;
+    let is_front = sent <= came && came - sent < 512;
+    expect(&rt, &(sent, came, is_front), &(sent, came, true));
     Ok(())
 }
 
@@ -343,6 +386,10 @@ impl OpenStream for Fake {
     }
 
     fn set_read_timeout(&self, _silence: Option<Duration>) -> io::Result<()> {
+        Ok(())
+    }
+
+    fn set_write_timeout(&self, _sending: Option<Duration>) -> io::Result<()> {
         Ok(())
     }
 
