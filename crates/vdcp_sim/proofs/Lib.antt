@@ -1,5 +1,4 @@
 mod AsrunRows
-mod Consumed
 mod Numbered
 mod Ran
 mod Refusals

@@ -7,9 +7,6 @@ use vdcp_files::NamedFile;
 use vdcp_text::{Failure, ScriptLineFault};
 use vdcp_world::{ScriptEvent, ScriptFault, read_script};
 
-/// A script that needs more reads can't be read. The limit is this profile's.
-const MOST_READS: u32 = 1_000_000;
-
 /// Reads a script.
 pub fn read_events<'a, E: ScriptEvent, R: io::Read + Drop>(
     alloc: Global,
@@ -20,34 +17,11 @@ pub fn read_events<'a, E: ScriptEvent, R: io::Read + Drop>(
     ensures refused { IfErr result (IsScriptFailure script.entry.name) }
 {
     let name = script.name;
-    let bytes = read_bytes(alloc, name, script.reader)?;
+    let bytes = script.read_lines(alloc)?;
     let Ok(text) = str::from_utf8(bytes.as_slice()) else {
         return Err(Failure::NotText(name));
     };
     read_script(alloc, text).map_err(|fault| script_failure(name, fault))
-}
-
-// Reads the bytes of the script of this name.
-#[tactic(auto, using(crate::proofs::Consumed::nothing_read, crate::proofs::Consumed::reads_more, crate::proofs::Consumed::reads_none, crate::proofs::Consumed::reads_all))]
-fn read_bytes<'a, R: io::Read + Drop>(
-    alloc: Global,
-    name: &'a str,
-    mut reader: R,
-) -> Result<Vec<u8>, Failure<'a>>
-    ensures bytes { IfOk result (λ bytes. IfSome (R.remaining reader) (λ known. known ≡ bytes.items)) }
-    ensures refused { IfErr result (IsScriptFailure name.entry) }
-{
-    let mut bytes = Vec::new(alloc);
-    let mut piece = [0; 4096];
-    'reads: for _ in 0..MOST_READS {
-        match reader.read(&mut piece) {
-            Ok(0) => return Ok(bytes),
-            Ok(count) => bytes.extend_from_slice(&piece[..count])?,
-            Err(error) if error.kind() == io::ErrorKind::Interrupted => {}
-            Err(_) => return Err(Failure::Read(name)),
-        }
-    }
-    Err(Failure::Read(name))
 }
 
 // Why the script of this name isn't one.
