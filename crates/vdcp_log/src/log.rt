@@ -1,5 +1,6 @@
 ghost use Rattle.std.specs.Prelude.{◌≡◌};
 
+use crate::hearing::Hearing;
 use crate::lines::Lines;
 use crate::statuses::{HINT, MANY, Statuses};
 use std::cell::Cell;
@@ -85,25 +86,39 @@ impl fmt::Display for Direction {
 /// A wire that logs each message that came by another wire or went out there, and each end of a burst that
 /// isn't clean: the lines of the burst's reading with words, but for `clean`. Where `MANY` statuses were answered with
 /// no other command between, a line says so.
+///
+/// What comes is read as it is heard. Where that is at once, reading begins anew after each message, so a burst may have
+/// any length, and what a silence has torn is read on.
 #[derive(Drop)]
 pub struct Logged<'a, W: Wire, L: io::Write> {
     /// The wire below.
     pub wire: W,
     log: &'a Log<L>,
-    came: Reader,
+    hearing: Hearing,
+    // none after a fault, until a silence
+    came: Option<Reader>,
     statuses: Statuses,
 }
 
 impl<'a, W: Wire, L: io::Write + Drop> Logged<'a, W, L> {
-    /// A wire over this one, at the start of a burst.
-    pub fn new(wire: W, log: &'a Log<L>) -> Self
+    /// A wire over this one, at the start of a burst; what comes is heard so.
+    pub fn new(wire: W, log: &'a Log<L>, hearing: Hearing) -> Self
         ensures { result.wire ≡ wire }
     {
         Logged {
             wire,
             log,
-            came: Reader::new(),
+            hearing,
+            came: Some(Reader::new()),
             statuses: Statuses::new(),
+        }
+    }
+
+    // Whether a silence ends nothing that is read.
+    fn reads_on(&self) -> bool {
+        match self.hearing {
+            Hearing::AtSilences => false,
+            Hearing::AtOnce(_) => self.came.is_some(),
         }
     }
 }
@@ -117,10 +132,11 @@ impl<W: Wire, L: io::Write + Drop> Wire for Logged<'_, W, L> {
 
     fn send(&mut self, bytes: &[u8]) -> Result<(), WireFault> {
         self.wire.send(bytes)?;
-        let mut sent = Reader::new();
+        let mut sent = Some(Reader::new());
         tell_piece(
             self.log,
             Direction::Out,
+            Hearing::AtSilences,
             &mut sent,
             &mut self.statuses,
             bytes,
@@ -137,11 +153,13 @@ impl<W: Wire, L: io::Write + Drop> Wire for Logged<'_, W, L> {
                 tell_piece(
                     self.log,
                     Direction::In,
+                    self.hearing,
                     &mut self.came,
                     &mut self.statuses,
                     piece,
                 )
             }
+            Came::Silence if self.reads_on() => {}
             Came::Silence | Came::Closed => tell_end(self.log, Direction::In, &mut self.came),
         }
         Ok(came)
@@ -187,19 +205,28 @@ impl<L: io::Write + Drop> WatchAir for AirLog<'_, L> {
     }
 }
 
-// Tells the messages that a piece of a burst completes, and a fault that it shows.
+// Tells the messages that a piece of a burst completes, and a fault that it shows, after which nothing is read.
 fn tell_piece<L: io::Write + Drop>(
     log: &Log<L>,
     direction: Direction,
-    reader: &mut Reader,
+    hearing: Hearing,
+    reader: &mut Option<Reader>,
     statuses: &mut Statuses,
     piece: &[u8],
 ) {
     let mut rest = piece;
-    'piece: loop {
-        match reader.next(&mut rest) {
-            Got::Message(message) => tell_message(log, direction, statuses, message),
-            Got::Fault(fault, place) => tell_burst_fault(log, direction, End::Fault(fault, place)),
+    'piece: while let Some(begun) = reader {
+        match begun.next(&mut rest) {
+            Got::Message(message) => {
+                tell_message(log, direction, statuses, message);
+                if let Hearing::AtOnce(_) = hearing {
+                    begun.silence();
+                }
+            }
+            Got::Fault(fault, place) => {
+                tell_burst_fault(log, direction, End::Fault(fault, place));
+                *reader = None;
+            }
             Got::More => return,
         }
     }
@@ -226,11 +253,15 @@ fn tell_message<L: io::Write + Drop>(
 }
 
 // The burst ends: tells where it was cut.
-fn tell_end<L: io::Write + Drop>(log: &Log<L>, direction: Direction, reader: &mut Reader) {
-    match reader.silence() {
-        Ended::Cut(count) => tell_burst_fault(log, direction, End::Cut(count)),
-        Ended::Clean | Ended::AfterFault => {}
+fn tell_end<L: io::Write + Drop>(log: &Log<L>, direction: Direction, reader: &mut Option<Reader>) {
+    let ended = match reader {
+        Some(begun) => begun.silence(),
+        None => Ended::AfterFault,
+    };
+    if let Ended::Cut(count) = ended {
+        tell_burst_fault(log, direction, End::Cut(count));
     }
+    *reader = Some(Reader::new());
 }
 
 fn tell_burst_fault<L: io::Write + Drop>(log: &Log<L>, direction: Direction, end: End) {

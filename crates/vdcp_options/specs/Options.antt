@@ -1,5 +1,5 @@
 -- What an option says: a number, a rate, or whether it is wanted.
-use Rattle.std.specs.Prelude.{ℕ, List, ◌≡◌, ◌≤◌, ◌⊎◌, Bool, true, false, Option, None, Some, IsSome, codes}
+use Rattle.std.specs.Prelude.{ℕ, zero, suc, List, ◌≡◌, ◌≤◌, ◌⊎◌, Bool, true, false, Option, None, Some, IsSome, codes}
 use Rattle.std.specs.Str.Parse.{IsNumeral, digits_value, without_leading_plus}
 use Rattle.clap.specs.Matches.{first_value, one_text}
 use Rattle.clap.specs.declared.parser.matches.Found.{Found}
@@ -18,6 +18,16 @@ abbrev pub GivesNumber : Found → List ℕ → ℕ → ℕ → ℕ → Type 0
 GivesNumber found name least most number =
     (text : List ℕ) × (first_value found name ≡ Some text) × WritesNumber text number
     × (least ≤ number) × (number ≤ most)
+
+-- for how many seconds a connection may be idle, where this number is said: for ever where it is 0
+abbrev pub idle_bound : ℕ → Option ℕ
+idle_bound zero = None
+idle_bound (suc n) = Some (suc n)
+
+-- and where none is said: a port that stays isn't left to one that is dead
+abbrev pub default_idle : (stay : Bool) → Option ℕ
+default_idle true = Some 10
+default_idle false = None
 
 -- the text that names each rate
 abbrev pub NamesRate : List ℕ → Rate → Type 0

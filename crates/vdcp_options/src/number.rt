@@ -1,6 +1,6 @@
 ghost use Rattle.clap.specs.Matches.{first_value, found_of};
 ghost use Rattle.std.specs.Prelude.{◌≡◌, ◌≤◌, ℕ, codes, IfSome, None, Some};
-ghost use Rattle.vdcp_options.specs.Options.{GivesNumber, WritesNumber};
+ghost use Rattle.vdcp_options.specs.Options.{GivesNumber, WritesNumber, default_idle, idle_bound};
 
 use clap::{Arg, ArgMatches, value_parser};
 use std::alloc::Global;
@@ -191,24 +191,45 @@ pub fn number_option<'a>(alloc: Global, option: &NumberOption) -> Arg<'a> {
         .help(option.help)
 }
 
-/// The option `--idle`, for the command line: a number of seconds, 1 to 86400. Left out, it says none.
+/// The option `--idle`, for the command line: a number of seconds, 0 to 86400. Left out, it says none.
 pub fn idle_option<'a>(alloc: Global) -> Arg<'a> {
     Arg::new(alloc, "idle")
         .long("idle")
         .value_name("S")
-        .value_parser(value_parser!(u32).range(1..=86_400))
-        .help("A connection has ended when nothing came by it for this many seconds, at most 86400")
+        .value_parser(value_parser!(u32).range(0..=86_400))
+        .help(
+            "A connection has ended when nothing came by it for this many seconds, at most 86400 (with --stay 10 if left out); 0: it never has",
+        )
 }
 
-/// For how many seconds a connection may be idle, if that is bounded.
-pub fn idle_of(matches: &ArgMatches) -> Option<u32>
+/// For how many seconds a connection may be idle, if that is bounded; left out, it is where the port stays.
+pub fn idle_of(matches: &ArgMatches, stay: bool) -> Option<u32>
     ensures least { IfSome result (λ seconds. 1 ≤ seconds) }
     ensures most { IfSome result (λ seconds. seconds ≤ 86400) }
-    ensures number { (n : ℕ) → GivesNumber (found_of matches.now) (codes "idle") 1 86400 n → result ≡ Some n }
-    ensures missing { first_value (found_of matches.now) (codes "idle") ≡ None → result ≡ None }
+    ensures number { (n : ℕ) → GivesNumber (found_of matches.now) (codes "idle") 0 86400 n → result ≡ idle_bound n }
+    ensures missing { first_value (found_of matches.now) (codes "idle") ≡ None → result ≡ default_idle stay }
 {
-    let text = matches.get_str("idle")?;
-    Some(number_in(text, 1, 86_400))
+    match matches.get_str("idle") {
+        Some(text) => idle_bound(number_in(text, 0, 86_400)),
+        None => default_idle(stay),
+    }
+}
+
+// The bound of this many seconds.
+fn idle_bound(seconds: u32) -> Option<u32>
+    ensures { result ≡ idle_bound seconds }
+{
+    match seconds {
+        0 => None,
+        _ => Some(seconds),
+    }
+}
+
+// The bound where none is said.
+fn default_idle(stay: bool) -> Option<u32>
+    ensures { result ≡ default_idle stay }
+{
+    if stay { Some(10) } else { None }
 }
 
 /// The option `--from`, for the command line: the number of an event. Left out, it says none.

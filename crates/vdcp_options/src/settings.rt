@@ -1,6 +1,6 @@
 ghost use Rattle.clap.specs.Matches.{first_value, found_of};
 ghost use Rattle.std.specs.Prelude.{◌≡◌, ◌≤◌, ℕ, Bool, codes, false, None, option_map, Some, true};
-ghost use Rattle.vdcp_options.specs.Options.{GivesNumber, GivesRate, HasFlag, NamesJournal, OpensAgain};
+ghost use Rattle.vdcp_options.specs.Options.{GivesNumber, GivesRate, HasFlag, NamesJournal, OpensAgain, default_idle, idle_bound};
 ghost use Rattle.vdcp_value.specs.declared.rate.Rate.{Rate};
 
 use crate::number::{
@@ -10,10 +10,11 @@ use crate::number::{
 use crate::rate::rate_of;
 use clap::ArgMatches;
 use vdcp_capture::JudgeSettings;
+use vdcp_log::Hearing;
 use vdcp_lossy::{Chances, LossySettings};
 use vdcp_probe::{Only, ProbeSettings};
 use vdcp_record::AsrunSettings;
-use vdcp_run::{Hearing, RunJournal, RunSettings};
+use vdcp_run::{RunJournal, RunSettings};
 use vdcp_serve::{Pace, ServeSettings};
 use vdcp_sim::SimSettings;
 
@@ -73,8 +74,10 @@ pub fn serve_settings_of(matches: &ArgMatches) -> ServeSettings
     ensures rates { (rate : Rate) → GivesRate (found_of matches.now) (codes "rate") rate → result.rate ≡ rate }
     ensures stays { HasFlag (found_of matches.now) (codes "stay") true → result.stay ≡ true }
     ensures stays_not { HasFlag (found_of matches.now) (codes "stay") false → result.stay ≡ false }
-    ensures idles { (n : ℕ) → GivesNumber (found_of matches.now) (codes "idle") 1 86400 n → result.idle ≡ Some n }
-    ensures idles_not { first_value (found_of matches.now) (codes "idle") ≡ None → result.idle ≡ None }
+    ensures idles { (n : ℕ) → GivesNumber (found_of matches.now) (codes "idle") 0 86400 n
+        → result.idle ≡ idle_bound n }
+    ensures idles_not { first_value (found_of matches.now) (codes "idle") ≡ None
+        → result.idle ≡ default_idle result.stay }
     ensures paces { HasFlag (found_of matches.now) (codes "real-time") true → result.pace ≡ Pace.Clock result.rate }
     ensures paces_not { HasFlag (found_of matches.now) (codes "real-time") false → result.pace ≡ Pace.Silences }
 {
@@ -84,6 +87,7 @@ pub fn serve_settings_of(matches: &ArgMatches) -> ServeSettings
     } else {
         Pace::Silences
     };
+    let stay = flag_of(matches, "stay");
     ServeSettings {
         unit: unit_of(matches),
         port: port_of(matches),
@@ -92,8 +96,8 @@ pub fn serve_settings_of(matches: &ArgMatches) -> ServeSettings
         pace,
         silence: number_of(matches, &SERVE_SILENCE),
         turns: turns_of(matches),
-        stay: flag_of(matches, "stay"),
-        idle: idle_of(matches),
+        stay,
+        idle: idle_of(matches, stay),
     }
 }
 

@@ -24,4 +24,4 @@ mod run;
 mod stopwatch;
 
 pub use keeping::RunJournal;
-pub use run::{Hearing, RunSettings, Showing, do_run};
+pub use run::{RunSettings, Showing, do_run};

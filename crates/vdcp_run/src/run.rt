@@ -39,22 +39,12 @@ use vdcp_drive::{
 };
 use vdcp_files::NamedFile;
 use vdcp_list::{Rest, Table};
-use vdcp_log::{Log, Logged};
+use vdcp_log::{Hearing, Log, Logged};
 use vdcp_record::RecordFault;
 use vdcp_text::{Failure, OutcomeText};
 use vdcp_value::Rate;
 use vdcp_wire::{StreamWire, Wire, WireFault, address_of};
 use vdcp_words::Command;
-
-/// When the answers of a server are heard.
-#[derive(Clone, Copy, Debug, PartialEq, Eq)]
-pub enum Hearing {
-    /// Once the line is silent. What comes late is dropped, and where it is torn its rest may be heard as an answer.
-    AtSilences,
-    /// As soon as they have come, on a line that keeps order. The port is asked for its state again after this many
-    /// milliseconds at the earliest.
-    AtOnce(u32),
-}
 
 /// What a list is played with.
 #[derive(Clone, Copy, Debug)]
@@ -498,7 +488,7 @@ fn play_shown<
         }
         Showing::Messages(writer) => {
             let log = Log::new(writer);
-            let wire = Logged::new(wire, &log);
+            let wire = Logged::new(wire, &log, settings.hearing);
             play_asked(rt, controller, wire, &mut Unwatched, keeping, settings)
         }
     }

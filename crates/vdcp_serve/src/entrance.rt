@@ -12,7 +12,7 @@ use std::net::{Net, OpenListener};
 use std::os::fd::AsRawFd;
 use std::rt::Clock;
 use std::time::{Duration, Instant};
-use vdcp_log::{Log, Logged};
+use vdcp_log::{Hearing, Log, Logged};
 use vdcp_wire::{Duplex, StreamWire, WireFault};
 
 /// Who listens at an address and takes one connection after another. The system has those wait that come meanwhile.
@@ -79,7 +79,7 @@ impl<'a, R: Net + AllocGlobal + Clock, L: io::Write + Drop> Connections<
             return Ok(Coming::Nobody);
         };
         match line_over(self.rt, stream, self.settings) {
-            Ok(line) => Ok(Coming::Line(Logged::new(line, self.log))),
+            Ok(line) => Ok(Coming::Line(Logged::new(line, self.log, Hearing::AtSilences))),
             Err(_) => Ok(Coming::Failed),
         }
     }

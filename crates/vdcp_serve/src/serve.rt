@@ -18,7 +18,7 @@ use std::net::{Net, SocketAddrV4};
 use std::rt::Clock;
 use vdcp_drive::{DriveFault, Ran, Server, WatchAir};
 use vdcp_files::NamedFile;
-use vdcp_log::{AirLog, Log, Logged};
+use vdcp_log::{AirLog, Hearing, Log, Logged};
 use vdcp_port::{Catalogue, Port};
 use vdcp_text::Failure;
 use vdcp_value::Rate;
@@ -308,7 +308,7 @@ fn serve_line<'f, C: Catalogue + Drop, S: Hears + Drop, L: io::Write + Drop, W: 
     ensures failed { IfErr result (λ e. (e ≡ Failure.Writer)
         ⊎ ((e ≡ Failure.LineFailed) × Keeps (W.contents out.old) (W.contents out.new))) }
 {
-    let wire = Idling::new(Logged::new(wire, log), idle_silences(settings));
+    let wire = Idling::new(Logged::new(wire, log, Hearing::AtSilences), idle_silences(settings));
     let mut watcher = AirLog::new(log, settings.rate);
     serve_turns(
         &mut Server::new(port, wire),

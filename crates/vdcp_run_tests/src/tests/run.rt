@@ -4,7 +4,8 @@ use std::io::Write;
 use std::net::{Ipv4Addr, SocketAddr, TcpListener};
 use std::test::Fail;
 use vdcp_files::NamedFile;
-use vdcp_run::{Hearing, RunSettings, Showing, do_run};
+use vdcp_log::Hearing;
+use vdcp_run::{RunSettings, Showing, do_run};
 use vdcp_testing::{FailingWriter, Fails};
 use vdcp_value::Rate;
 

@@ -1,5 +1,5 @@
 use Rattle.std.proofs.Common.{ap}
-use Rattle.vdcp_run.specs.declared.run.Hearing.TheVariants.{AtOnce}
+use Rattle.vdcp_log.specs.declared.hearing.Hearing.TheVariants.{AtOnce}
 use Rattle.vdcp_options.proofs.settings.hearing_of.Goals as goal
 
 pub returns-then-flag_of-clause-prompts : goal.returns-then-flag_of-clause-prompts
