@@ -41,6 +41,8 @@ Example, in three terminals:
 enum Argument {
     // One that has to be there: its name.
     Required(&'static str, &'static str),
+    // One that may be left out: its name.
+    Optional(&'static str, &'static str),
     // Any number of words: their name.
     Words(&'static str, &'static str),
     // An option without a value: its name.
@@ -197,10 +199,13 @@ const RUN: Subcommand = Subcommand {
 const ASRUN: Subcommand = Subcommand {
     name: "asrun",
     about: "Prints the as-run list that a journal shows",
-    after_help: "Example: vdcp asrun run.journal examples/playlist.csv",
+    after_help: "Example: vdcp asrun run.journal",
     arguments: &[
         Argument::Required("JOURNAL", "The journal's file"),
-        LIST,
+        Argument::Optional(
+            "LIST",
+            "The playlist's file, to test that the journal is of it",
+        ),
         Argument::Rate,
         Argument::Flag(
             "times",
@@ -320,6 +325,7 @@ fn made<'a>(alloc: Global, subcommand: &Subcommand) -> Result<Command<'a>, Alloc
 fn argument_of<'a>(alloc: Global, argument: &Argument) -> Result<Arg<'a>, AllocError> {
     match *argument {
         Argument::Required(name, help) => Ok(Arg::new(alloc, name).required(true).help(help)),
+        Argument::Optional(name, help) => Ok(Arg::new(alloc, name).help(help)),
         Argument::Words(name, help) => Ok(Arg::new(alloc, name).num_args(0..).help(help)),
         Argument::Flag(name, help) => Ok(flag(alloc, name, help)),
         Argument::Value(name, value, help) => Ok(option(alloc, name, value, help)),
@@ -373,7 +379,7 @@ fn resume<'a>(alloc: Global) -> Result<Arg<'a>, AllocError> {
         alloc,
         "resume",
         "FILE",
-        "Goes on with a run that was killed, from its journal",
+        "Goes on with a run that was killed or lost, from its journal",
     )
     .conflicts_with("journal")
 }

@@ -201,7 +201,10 @@ fn run_asrun<'a, W: Write, E: Write>(
     err: &mut E,
 ) -> Result<u8, Failure<'a>> {
     let journal = open_file(rt, matches, "JOURNAL")?;
-    let list = open_file(rt, matches, "LIST")?;
+    let list = match matches.get_str("LIST") {
+        Some(_) => Some(open_file(rt, matches, "LIST")?),
+        None => None,
+    };
     let settings = asrun_settings_of(matches);
     Ok(do_asrun(rt.alloc(), journal, list, settings, out, err))
 }

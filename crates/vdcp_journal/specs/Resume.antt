@@ -1,11 +1,12 @@
 -- What the rows of a journal make of a controller, and the log that they show.
-use Rattle.std.specs.Prelude.{◌≡◌, ℕ, IsTrue, Option, None, Some, is_some, List, [], ◌∷◌, take, slice_get}
+use Rattle.std.specs.Prelude.{◌≡◌, ℕ, ◌+◌, ◌*◌, min, ⊤, Bool, true, false, IsTrue, Option, None, Some, is_some, List, [], ◌∷◌, take, slice_get, count_by}
 use Rattle.vdcp_auto.specs.Course.{Call, Tick, Receive, Take, Stop, after_call}
 use Rattle.vdcp_auto.specs.Plan.{Plan}
 use Rattle.vdcp_auto.specs.State.{State}
-use Rattle.vdcp_auto.specs.Turn.{came_to, ended_by, given, outcome_of}
+use Rattle.vdcp_auto.specs.Turn.{came_to, ended_by, given, outcome_of, start}
 use Rattle.vdcp_auto.specs.declared.exchange.Exchange.{Exchange}
 use Rattle.vdcp_auto.specs.declared.exchange.Heard.{Heard}
+use Rattle.vdcp_auto.specs.declared.outcome.Outcome.TheVariants.{Lost}
 use Rattle.vdcp_journal.specs.declared.faults.ResumeFault.{ResumeFault}
 use Rattle.vdcp_journal.specs.declared.faults.ResumeFault.TheVariants.{Command, Unawaited, Outcome}
 use Rattle.vdcp_journal.specs.declared.row.Note.{Note}
@@ -33,13 +34,15 @@ after_rows plan state [] = state
 after_rows plan state (row ∷ rows) = after_rows plan (after_call_if plan (call_of row.note) state) rows
 
 -- the note is what the controller does there: a command is the one that it gives, what came ends an exchange,
--- the operator's calls come while it goes on, and an end is the one that it came to. No controller begins another run
+-- the operator's calls come while it goes on, and an end is the one that it came to. A loss may be gone on from, under a
+-- greater limit: `WereLost` says where it stands. No controller begins another run
 abbrev pub Tells : Plan → State → Note → Type 0
 Tells plan state (note.Sent c) = given plan state ≡ Some c
 Tells plan state (note.Heard h) = IsTrue (is_some (ended_by plan (Some h) state))
 Tells plan state note.Silence = IsTrue (is_some (ended_by plan None state))
 Tells plan state note.Take = outcome_of state.stage ≡ None
 Tells plan state note.Stop = outcome_of state.stage ≡ None
+Tells plan state (note.End Lost) = ⊤
 Tells plan state (note.End outcome) = outcome_of state.stage ≡ Some outcome
 Tells plan state (note.From k) = ⊥
 
@@ -48,6 +51,40 @@ abbrev pub AreTold : Plan → State → List Row → Type 0
 AreTold plan state [] = Unit {0}
 AreTold plan state (row ∷ rows) =
     Tells plan state row.note × AreTold plan (after_call_if plan (call_of row.note) state) rows
+
+-- the run was lost
+abbrev pub is_loss : Note → Bool
+is_loss (note.End Lost) = true
+is_loss _ = false
+
+abbrev pub losses : List Row → ℕ
+losses rows = count_by (λ row. is_loss row.note) rows
+
+-- the limit of a run that was lost so often: each time it may spend as much more, up to 1,000 in all
+abbrev pub limit_after : ℕ → ℕ → ℕ
+limit_after limit lost = min 1000 (limit * (lost + 1))
+
+-- the plan under which a run goes on after these rows of it
+abbrev pub plan_after : Plan → List Row → Plan
+plan_after plan rows = record plan { limit = limit_after plan.limit (losses rows) }
+
+-- the rows, given to the controller that went on then, end it Lost
+abbrev pub IsLostAfter : Plan → List Row → Type 0
+IsLostAfter plan rows = outcome_of (after_rows (plan_after plan rows) start rows).stage ≡ Some Lost
+
+-- the run was lost wherever a row says so
+abbrev pub WereLost : Plan → List Row → Type 0
+WereLost plan rows =
+    (k : ℕ) (row : Row) → slice_get rows k ≡ Some row → IsTrue (is_loss row.note) → IsLostAfter plan (take k rows)
+
+-- row k says that the run was lost, where it wasn't
+pub record IsFalseLoss (plan : Plan) (rows : List Row) (fault : ResumeFault) : Type 0 where
+  pub k : ℕ
+  pub row : Row
+  pub at_k : slice_get rows k ≡ Some row
+  pub says : IsTrue (is_loss row.note)
+  pub goes_on : ¬ IsLostAfter plan (take k rows)
+  pub fault_is : fault ≡ Outcome k
 
 -- the exchange that is open is timed out
 abbrev pub timed_out : Plan → State → State

@@ -14,8 +14,10 @@
 //! A journal may have the rows of several runs, one after another: `runs_in` finds them. `resume` and `airings_in` are
 //! given those of one run.
 //!
+//! A run that was lost goes on from its journal, too: `limit_after` is the limit under which it does.
+//!
 //! Files: `moment`, `digest`, `row` (headings, rows and notes), `fields` (a note's fields), `texts` (what fields name),
-//! `write`, `read`, `faults`, `replay`, `airings`, `runs`, `laws`.
+//! `write`, `read`, `faults`, `replay`, `losses`, `airings`, `runs`, `laws`.
 #![tactic(auto)]
 
 mod airings;
@@ -23,6 +25,7 @@ mod digest;
 mod faults;
 mod fields;
 pub mod laws;
+mod losses;
 mod moment;
 mod read;
 mod replay;
@@ -34,6 +37,7 @@ mod write;
 pub use airings::{Airing, Airings, airings_in};
 pub use digest::digest_of;
 pub use faults::{JournalReadFault, JournalRowFault, JournalWriteFault, ResumeFault};
+pub use losses::{are_lost, is_loss, limit_after};
 pub use moment::Moment;
 pub use read::{Journal, read_journal};
 pub use replay::{Resumed, resume};

@@ -8,7 +8,7 @@ ghost use Rattle.vdcp_journal.specs.Resume.{AreTold, IsResumeFault, Tells, after
 use crate::faults::ResumeFault;
 use crate::laws::what_is_told_is_lawful;
 use crate::row::{Note, Row};
-use vdcp_auto::{Controller, Source};
+use vdcp_auto::{Controller, Outcome, Source};
 use vdcp_frame::laws::a_spelling_is_its_message;
 use vdcp_words::Command;
 use vdcp_words::laws::{command_is_read_first, written_command_is_read};
@@ -78,6 +78,8 @@ fn goes_on<S: Source>(controller: &mut Controller<S>, note: &Note) -> bool
             controller.stop();
             controller.outcome().is_none()
         }
+        // (that a run was lost is no call, and it may be gone on from)
+        Note::End(Outcome::Lost) => true,
         Note::End(outcome) => controller.outcome() == Some(*outcome),
         // (no controller goes on as a new one)
         Note::From(_) => false,

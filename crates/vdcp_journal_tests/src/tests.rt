@@ -8,7 +8,8 @@ use std::process::Abort;
 use vdcp_auto::{Controller, Heard, Outcome, Source};
 use vdcp_journal::{
     Airing, Heading, JournalReadFault, JournalRowFault, JournalWriteFault, Moment, Note,
-    ResumeFault, Resumed, Row, read_journal, resume, runs_in, write_heading, write_row,
+    ResumeFault, Resumed, Row, are_lost, is_loss, limit_after, read_journal, resume, runs_in,
+    write_heading, write_row,
 };
 use vdcp_list::{List, read_list, write_timed_events, write_timed_heading};
 use vdcp_testing::{FailingWriter, Fails};
@@ -262,6 +263,30 @@ fn an_end_is_told(rt: HostRuntime) {
         (controller.outcome(), controller.settled(), resumed.open),
         (Some(Outcome::Denied), 0, None)
     );
+}
+
+#[test]
+fn a_lost_run_has_more_to_spend(rt: HostRuntime) {
+    static NOTES: [TableNote; 7] = [
+        TableNote::Open(1),
+        TableNote::Silence,
+        TableNote::Open(1),
+        TableNote::Silence,
+        TableNote::Open(1),
+        TableNote::Silence,
+        TableNote::End(Outcome::Lost),
+    ];
+    let rows = rows_of(&rt, &NOTES, rt.alloc());
+    let rows = rows.as_slice();
+    for k in 0..7 {
+        let before = &rows[..k];
+        let lost = are_lost(controller(&rt, rt.alloc()), before);
+        assert_eq!(rt; (lost, is_loss(&rows[k].note)), (k == 6, k == 6), "{k}");
+        assert_eq!(rt; limit_after(3, before), 3, "{k}");
+    }
+    for (limit, raised) in [(1, 2), (3, 6), (500, 1000), (501, 1000), (1000, 1000)] {
+        assert_eq!(rt; limit_after(limit, rows), raised, "{limit}");
+    }
 }
 
 #[test]

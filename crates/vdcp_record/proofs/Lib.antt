@@ -1,3 +1,4 @@
 pub mod Chains
+pub mod Losses
 pub mod OpenedAgain
 pub mod Shown

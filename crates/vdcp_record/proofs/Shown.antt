@@ -9,13 +9,13 @@ use Rattle.vdcp_auto.specs.State.{State}
 use Rattle.vdcp_auto.specs.declared.phase.Mode.{Mode}
 use Rattle.vdcp_files.specs.Mode.{mode_of}
 use Rattle.vdcp_journal.specs.Airings.{AreAirings, settled_in}
-use Rattle.vdcp_journal.specs.Resume.{log_of}
+use Rattle.vdcp_journal.specs.Resume.{WereLost, log_of}
 use Rattle.vdcp_journal.specs.Runs.{Run, run_at}
 use Rattle.vdcp_journal.specs.declared.airings.Airing.{Airing}
 use Rattle.vdcp_journal.specs.declared.row.Heading.{Heading}
 use Rattle.vdcp_journal.specs.declared.row.Row.{Row}
 use Rattle.vdcp_journal.specs.declared.runs.JournalRun.{JournalRun}
-use Rattle.vdcp_record.specs.Resuming.{IsResumed, plan_of_run}
+use Rattle.vdcp_record.specs.Resuming.{IsResumed, plan_begun, plan_of_run}
 use Rattle.vdcp_record.specs.Showing.{ShowRuns, ShowsRun, event_told, reported_text}
 use Rattle.vdcp_record.specs.declared.asrun.AsrunSettings.{AsrunSettings}
 use Rattle.vdcp_value.specs.declared.part.Item.{Item}
@@ -86,11 +86,12 @@ event_counts items heading rows rows' run plan state reported airings event same
 run_shows_so : (settings : AsrunSettings) (items : List Item) (heading : Heading) (run : Run) (plan : Plan) (state : State)
     (reported : ℕ) (airings : List Airing) (event : Option ℕ)
     → IsResumed (plan_of_run heading items run) run.rows plan state → AreAirings plan.mode run.rows airings event
-    → reported ≡ state.settled → run.from ≤ length items
+    → reported ≡ state.settled → run.from ≤ length items → WereLost (plan_begun heading items run) run.rows
     → ShowsRun settings items heading run (reported_text settings items run.from reported airings)
     (event_told settings run.from event)
-run_shows_so settings items heading run plan state reported airings event resumed are count listed = record {
+run_shows_so settings items heading run plan state reported airings event resumed are count listed lost = record {
   within = listed;
+  lost = lost;
   are_told = resumed.told;
   lawful = subst (λ (s : State). IsLawful (plan_of_run heading items run) s (log_of run.rows)) resumed.state_is
       resumed.lawful;
@@ -107,9 +108,11 @@ pub run_shows : (settings : AsrunSettings) (items : List Item) (heading : Headin
     (run : JournalRun) (plan : Plan) (state : State) (reported : ℕ) (airings : List Airing) (event : Option ℕ)
     → rows' ≡ rows → IsResumed (plan_of_run heading items (run_at rows' run)) (run_at rows' run).rows plan state
     → AreAirings plan.mode (run_at rows' run).rows airings event → reported ≡ state.settled → run.from ≤ length items
+    → WereLost (plan_begun heading items (run_at rows' run)) (run_at rows' run).rows
     → ShowsRun settings items heading (run_at rows run) (reported_text settings items run.from reported airings)
     (event_told settings run.from event)
-run_shows settings items heading rows rows' run plan state reported airings event same resumed are count listed =
+run_shows settings items heading rows rows' run plan state reported airings event same resumed are count listed lost =
     subst (λ (xs : List Row). ShowsRun settings items heading (run_at xs run)
     (reported_text settings items run.from reported airings) (event_told settings run.from event)) same
-    (run_shows_so settings items heading (run_at rows' run) plan state reported airings event resumed are count listed)
+    (run_shows_so settings items heading (run_at rows' run) plan state reported airings event resumed are count listed
+    lost)

@@ -1,3 +1,4 @@
+pub mod Named
 pub mod Recording
 pub mod Recorded
 pub mod Resuming

@@ -15,6 +15,7 @@ use Rattle.vdcp_record.specs.declared.pending.RecordFault.{RecordFault}
 use Rattle.vdcp_record.specs.declared.pending.RecordFault.TheVariants as fault
 use Rattle.vdcp_text.specs.declared.failure.Failure.{Failure}
 use Rattle.vdcp_text.specs.declared.failure.Failure.TheVariants as failures
+use Rattle.vdcp_words.specs.declared.command.Command.{Command}
 
 -- a recorder: the journal's name, the unit of its server, its file, and what is still to be written
 pub record Recording (F : Type 0) : Type 0 where
@@ -38,6 +39,12 @@ ended (pending.Failed fault) row = pending.Failed fault
 abbrev pub end_note : Option Heard → Note
 end_note None = note.Silence
 end_note (Some heard) = note.Heard heard
+
+-- this is still to be written where this command's exchange was timed out, if one was
+abbrev pub IsTimedOut : Option Command → Pending → Type 0
+IsTimedOut None left = left ≡ pending.Nothing
+IsTimedOut (Some command) left =
+    (time : Moment) × (left ≡ pending.End (record { time = time; note = note.Silence }))
 
 -- the row of how the controller ended, if it has ended
 abbrev pub outcome_rows : Moment → Option Outcome → List Row

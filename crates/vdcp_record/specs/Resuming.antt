@@ -1,6 +1,6 @@
 -- What goes on from a journal, and why nothing does.
 use Rattle.std.specs.Borrow.{Bor}
-use Rattle.std.specs.Prelude.{ℕ, ◌≡◌, ◌≢◌, ◌⊎◌, ◌+◌, ◌≤◌, ◌<◌, Bool, IsFalse, IsTrue, List, [], ◌∷◌, ◌++◌, Option, None, Some, drop, length}
+use Rattle.std.specs.Prelude.{ℕ, ◌≡◌, ◌≢◌, ◌⊎◌, ◌+◌, ◌≤◌, ◌<◌, Bool, IsFalse, IsTrue, List, [], ◌∷◌, ◌++◌, Option, None, Some, drop, length, slice_get, take}
 use Rattle.vdcp_auto.specs.Law.{IsLawful}
 use Rattle.vdcp_auto.specs.Plan.{Plan}
 use Rattle.vdcp_auto.specs.Settled.{may_have_aired}
@@ -11,7 +11,7 @@ use Rattle.vdcp_auto.specs.declared.outcome.Outcome.TheVariants.{Done, Stopped}
 use Rattle.vdcp_files.specs.Mode.{mode_of}
 use Rattle.vdcp_journal.specs.Airings.{settled_in}
 use Rattle.vdcp_journal.specs.Journals.{IsJournal, IsJournalFault}
-use Rattle.vdcp_journal.specs.Resume.{AreTold, IsResumeFault, after_rows, log_of, timed_out}
+use Rattle.vdcp_journal.specs.Resume.{AreTold, IsFalseLoss, IsLostAfter, IsResumeFault, WereLost, after_rows, is_loss, log_of, plan_after, timed_out}
 use Rattle.vdcp_journal.specs.Runs.{Run, runs_of}
 use Rattle.vdcp_journal.specs.declared.faults.JournalReadFault.{JournalReadFault}
 use Rattle.vdcp_journal.specs.declared.faults.JournalReadFault.TheVariants as unread
@@ -38,9 +38,13 @@ plan_in heading items = record {
   limit = heading.limit;
 }
 
--- the plan of one of a journal's runs of this list: it plays the events from its first one on
+-- the plan with which one of a journal's runs of this list was begun: it plays the events from its first one on
+abbrev pub plan_begun : Heading → List Item → Run → Plan
+plan_begun heading items run = plan_in heading (drop run.from items)
+
+-- the plan under which it goes on: wherever it was lost its limit was raised
 abbrev pub plan_of_run : Heading → List Item → Run → Plan
-plan_of_run heading items run = plan_in heading (drop run.from items)
+plan_of_run heading items run = plan_after (plan_begun heading items run) run.rows
 
 -- where a controller is after the rows, with the open exchange timed out
 abbrev pub state_after : Plan → List Row → State
@@ -107,14 +111,24 @@ place_of (refused.Command k) = k
 place_of (refused.Unawaited k) = k
 place_of (refused.Outcome k) = k
 
--- why a run of a journal of this name is none of these items: it begins with no event of them, or a row doesn't tell what
--- its controller does
+-- row k, where it says that the run was lost, stands where it was
+abbrev pub TellsLoss : Plan → List Row → ℕ → Type 0
+TellsLoss plan rows k =
+    (row : Row) → slice_get rows k ≡ Some row → IsTrue (is_loss row.note) → IsLostAfter plan (take k rows)
+
+-- why a row of a run of these items is none of a controller: it doesn't tell what that does, or says that it was lost where
+-- it wasn't
+abbrev pub IsUntold : List Item → Heading → Run → ResumeFault → Type 0
+IsUntold items heading run wrong = IsResumeFault (plan_of_run heading items run) start run.rows wrong
+    ⊎ IsFalseLoss (plan_begun heading items run) run.rows wrong
+
+-- why a run of a journal of this name is none of these items: it begins with no event of them, or a row is none of its
+-- controller
 pub data IsRunRefused (items : List Item) (name : Bor (List ℕ)) (heading : Heading) (run : Run) (failure : Failure)
     : Type 0 where
   no_event : length items < run.from → failure ≡ failures.JournalRow name (run.begin + 1) fault.Event
       → IsRunRefused items name heading run failure
-  untold : (wrong : ResumeFault) → IsResumeFault (plan_of_run heading items run) start run.rows wrong
-      → failure ≡ untold_failure name run.begin wrong → IsRunRefused items name heading run failure
+  untold : (wrong : ResumeFault) → IsUntold items heading run wrong → failure ≡ untold_failure name run.begin wrong → IsRunRefused items name heading run failure
 
 -- why bytes are no journal of what is wanted, whose last run goes on with these items
 pub data IsRefused (items : List Item) (name : Bor (List ℕ)) (wanted : Heading) (bytes : List ℕ) (failure : Failure)
@@ -137,6 +151,7 @@ pub record IsReplayed (items : List Item) (wanted : Heading) (bytes : List ℕ) 
   pub wanted_is : journal.heading ≡ wanted
   pub last : IsLastRun journal.rows.items run
   pub within : run.from ≤ length items
+  pub lost : WereLost (plan_begun wanted items run) run.rows
   pub resumes : IsResumed (plan_of_run wanted items run) run.rows plan state
   pub whole_is : whole ≡ journal.whole
 

@@ -9,7 +9,7 @@ use Rattle.vdcp_files.specs.Files.{File, bytes_of}
 use Rattle.vdcp_files.specs.Mode.{mode_of}
 use Rattle.vdcp_journal.specs.Airings.{AreAirings}
 use Rattle.vdcp_journal.specs.Journals.{IsJournal}
-use Rattle.vdcp_journal.specs.Resume.{AreTold, log_of}
+use Rattle.vdcp_journal.specs.Resume.{AreTold, WereLost, log_of}
 use Rattle.vdcp_journal.specs.Runs.{Run, runs_of}
 use Rattle.vdcp_journal.specs.Times.{moment_text}
 use Rattle.vdcp_journal.specs.declared.airings.Airing.{Airing}
@@ -19,7 +19,7 @@ use Rattle.vdcp_journal.specs.declared.row.Row.{Row}
 use Rattle.vdcp_list.specs.Asrun.{asrun_text, events_text, has_part}
 use Rattle.vdcp_list.specs.Playlists.{IsListOf}
 use Rattle.vdcp_list.specs.Timed.{timed_heading, timed_rows}
-use Rattle.vdcp_record.specs.Resuming.{plan_of_run, state_after}
+use Rattle.vdcp_record.specs.Resuming.{plan_begun, plan_of_run, state_after}
 use Rattle.vdcp_record.specs.declared.asrun.AsrunSettings.{AsrunSettings}
 use Rattle.vdcp_text.specs.Failure.{failure_line, status_of}
 use Rattle.vdcp_text.specs.Text.{line}
@@ -57,6 +57,7 @@ event_told settings from event = if settings.may_have_aired then open_text from 
 pub record ShowsRun (settings : AsrunSettings) (items : List Item) (heading : Heading) (run : Run)
     (text told : List ℕ) : Type 0 where
   pub within : run.from ≤ length items
+  pub lost : WereLost (plan_begun heading items run) run.rows
   pub are_told : AreTold (plan_of_run heading items run) start run.rows
   pub lawful : IsLawful (plan_of_run heading items run) (state_after (plan_of_run heading items run) run.rows)
       (log_of run.rows)
@@ -74,26 +75,33 @@ ShowRuns settings items heading (run ∷ runs) text told = (first first_told res
     × ShowsRun settings items heading run first first_told × ShowRuns settings items heading runs rest rest_told
     × (text ≡ first ++ rest) × (told ≡ first_told ++ rest_told)
 
--- the rows are those of a journal of these items, and a writer gained the as-run list of its runs
+-- the rows are those of controllers of these items, and a writer gained the as-run list of their runs
 pub record ShowsRows (settings : AsrunSettings) (items : List Item) (heading : Heading) (rows : List Row)
     (old new : Option (List ℕ)) (told : List ℕ) : Type 0 where
-  pub digest : heading.digest ≡ digest_of settings.rate items
   pub text : List ℕ
   pub runs : ShowRuns settings items heading (runs_of rows) text told
   pub printed : Appends old new (heading_text settings items ++ text)
 
--- the files are a playlist and a journal of it, and a writer gained the as-run list that this shows
-pub record IsShown (settings : AsrunSettings) (list journal : File) (old new : Option (List ℕ)) (told : List ℕ)
-    : Type 0 where
+-- a journal with this heading is of these items: of those of a playlist, where one is given. Where none is they are any of
+-- whose controllers the rows are: by the rule book each PLAY is of the item that was cued last, so the rows alone say what
+-- was played
+abbrev pub AreItemsOf : AsrunSettings → Option File → Heading → List Item → Type 0
+AreItemsOf settings None heading items = Unit {0}
+AreItemsOf settings (Some list) heading items =
+    IsListOf settings.rate (bytes_of list) items × (heading.digest ≡ digest_of settings.rate items)
+
+-- the files are a playlist, if there is one, and a journal of it, and a writer gained the as-run list that this shows
+pub record IsShown (settings : AsrunSettings) (list : Option File) (journal : File) (old new : Option (List ℕ))
+    (told : List ℕ) : Type 0 where
   pub items : List Item
-  pub is_playlist : IsListOf settings.rate (bytes_of list) items
   pub read : Journal
+  pub are_items : AreItemsOf settings list read.heading items
   pub is_journal : IfSome (bytes_of journal) (λ bytes. IsJournal bytes read)
   pub shows : ShowsRows settings items read.heading read.rows.items old new told
 
 -- and another writer gained what is told of the events that may have aired
-pub record IsShownAndTold (settings : AsrunSettings) (list journal : File) (out out' err err' : Option (List ℕ))
-    : Type 0 where
+pub record IsShownAndTold (settings : AsrunSettings) (list : Option File) (journal : File)
+    (out out' err err' : Option (List ℕ)) : Type 0 where
   pub told : List ℕ
   pub shown : IsShown settings list journal out out' told
   pub tells : Appends err err' told

@@ -38,7 +38,7 @@ pub fn begin_again<'a, 'r, 's, R: Files<File = File> + Clock + AllocGlobal, S: S
     ensures goes_on { IfOk result (λ r. IsSome r.recorder ↔ (outcome_of r.controller.state.stage ≡ None)) }
     ensures unopened { IfErr result (IsUnopenedAgain (S.items source.now) name.entry wanted.now word) }
 {
-    let (file, bytes) = read_file(rt, name)?;
+    let (file, bytes) = read_file(rt, name, wanted)?;
     let replayed = replay(rt.alloc(), name, bytes.as_slice(), wanted, source)?;
     if is_told_again(word, &replayed.controller) {
         cut(name, &file, replayed.whole, bytes.len())?;

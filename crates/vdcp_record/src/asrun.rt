@@ -1,11 +1,14 @@
 ghost use Rattle.std.specs.Io.KnownBytes.{Appends, Keeps};
-ghost use Rattle.std.specs.Prelude.{◌≡◌, ◌≢◌, ◌⊎◌, ◌≤◌, ◌<◌, ◌+◌, ◌^◌, ◌++◌, ℕ, List, [], IfErr, IfOk, IfSome, OnOk, length};
+ghost use Rattle.std.specs.Option.{option_map};
+ghost use Rattle.std.specs.Prelude.{◌≡◌, ◌≢◌, ◌⊎◌, ◌≤◌, ◌<◌, ◌+◌, ◌^◌, ◌++◌, ℕ, List, [], None, Some, IfErr, IfOk, IfSome, OnOk, length};
 ghost use Rattle.vdcp_files.specs.Files.{file};
+ghost use Rattle.vdcp_journal.specs.Journals.{IsJournal};
 ghost use Rattle.vdcp_journal.specs.Runs.{run_at, runs_of};
 ghost use Rattle.vdcp_record.specs.Showing.{IsShown, IsShownAndTold, IsToldOnly, ShowRuns, ShowsRows, ShowsRun, digest_of, event_told, heading_text, reported_text};
 ghost use Rattle.vdcp_text.specs.Failure.{status_of};
 ghost use Rattle.vdcp_text.specs.declared.failure.Failure.TheVariants as failures;
 
+use crate::named::named_events;
 use crate::reading::{journal_in, run_resumed};
 use crate::resume::read_to_end;
 use std::alloc::Global;
@@ -28,21 +31,24 @@ pub struct AsrunSettings {
     pub may_have_aired: bool,
 }
 
-/// Prints the as-run list that a journal of this list shows: run by run, the events that a controller given the run's
-/// rows reports, and the times of each if they are wanted. A torn last row counts as none.
+/// Prints the as-run list that a journal shows: run by run, the events that a controller given the run's rows reports, and
+/// the times of each if they are wanted. The journal is of this list; where none is given the journal's own cues say what
+/// was played. A torn last row counts as none.
 ///
-/// The status is 0 where it is printed, 1 where a row of the list or of the journal is refused, and 3 where a file
-/// can't be read, memory was refused or a writer failed. The list is read first. Where it isn't 0, `err` gets one
-/// line, unless it was a writer that failed. Where it is 0, `err` gets a line for each event that is to be told.
+/// The status is 0 where it is printed, 1 where a row of the list or of the journal is refused, or the list isn't the
+/// journal's, and 3 where a file can't be read, memory was refused or a writer failed. The list is read first. Where it
+/// isn't 0, `err` gets one line, unless it was a writer that failed. Where it is 0, `err` gets a line for each event that
+/// is to be told.
 pub fn do_asrun<J: io::Read + Drop, L: io::Read + Drop, W: io::Write, E: io::Write>(
     alloc: Global,
     journal: NamedFile<'_, J>,
-    list: NamedFile<'_, L>,
+    list: Option<NamedFile<'_, L>>,
     settings: AsrunSettings,
     out: &mut W,
     err: &mut E,
 ) -> u8
-    ensures shown { result ≡ 0 → IsShownAndTold settings (file list.entry.name (L.remaining list.entry.reader))
+    ensures shown { result ≡ 0 → IsShownAndTold settings
+        (option_map (λ list. file list.name (L.remaining list.reader)) list.entry)
         (file journal.entry.name (J.remaining journal.entry.reader)) (W.contents out.old) (W.contents out.new)
         (E.contents err.old) (E.contents err.new) }
     ensures refused { result ≡ 1 →
@@ -70,25 +76,80 @@ fn tell<E: io::Write>(told: &[u8], err: &mut E) -> u8
 fn print_asrun<'a, J: io::Read + Drop, L: io::Read + Drop, W: io::Write>(
     alloc: Global,
     journal: NamedFile<'a, J>,
-    list: NamedFile<'a, L>,
+    list: Option<NamedFile<'a, L>>,
     settings: AsrunSettings,
     out: &mut W,
 ) -> Result<Vec<u8>, Failure<'a>>
-    ensures shown { IfOk result (λ told. IsShown settings (file list.entry.name (L.remaining list.entry.reader))
+    ensures shown { IfOk result (λ told. IsShown settings
+        (option_map (λ list. file list.name (L.remaining list.reader)) list.entry)
         (file journal.entry.name (J.remaining journal.entry.reader)) (W.contents out.old) (W.contents out.new)
         told.items) }
     ensures silent { IfErr result (λ f. f ≢ failures.Writer → Keeps (W.contents out.old) (W.contents out.new)) }
     ensures statuses { IfErr result (λ f. status_of f ≢ 2) }
 {
+    match list {
+        Some(list) => print_listed(alloc, journal, list, settings, out),
+        None => print_named(alloc, journal, settings, out),
+    }
+}
+
+// Prints the list of a journal of this list.
+fn print_listed<'a, J: io::Read + Drop, L: io::Read + Drop, W: io::Write>(
+    alloc: Global,
+    journal: NamedFile<'a, J>,
+    list: NamedFile<'a, L>,
+    settings: AsrunSettings,
+    out: &mut W,
+) -> Result<Vec<u8>, Failure<'a>>
+    ensures shown { IfOk result (λ told. IsShown settings
+        (Some (file list.entry.name (L.remaining list.entry.reader)))
+        (file journal.entry.name (J.remaining journal.entry.reader)) (W.contents out.old) (W.contents out.new)
+        told.items) }
+    ensures silent { IfErr result (λ f. f ≢ failures.Writer → Keeps (W.contents out.old) (W.contents out.new)) }
+    ensures statuses { IfErr result (λ f. status_of f ≢ 2) }
+{
+    let list_name = list.name;
     let events = list.read_list(alloc, settings.rate)?;
-    let NamedFile { name, mut reader } = journal;
-    let mut bytes = Vec::new(alloc);
-    read_to_end(name, &mut reader, &mut bytes)?;
-    let journal = journal_in(alloc, name, bytes.as_slice())?;
+    let name = journal.name;
+    let journal = journal_of(alloc, journal)?;
+    expect_list(alloc, list_name, &events, settings.rate, &journal.heading)?;
     print_rows(alloc, name, &journal, &events, settings, out)
 }
 
-// Prints what the rows of a journal show, if it is one of these events, and gives what is to be told.
+// Prints the list of a journal by its own cues.
+fn print_named<'a, J: io::Read + Drop, W: io::Write>(
+    alloc: Global,
+    journal: NamedFile<'a, J>,
+    settings: AsrunSettings,
+    out: &mut W,
+) -> Result<Vec<u8>, Failure<'a>>
+    ensures shown { IfOk result (λ told. IsShown settings None
+        (file journal.entry.name (J.remaining journal.entry.reader)) (W.contents out.old) (W.contents out.new)
+        told.items) }
+    ensures silent { IfErr result (λ f. f ≢ failures.Writer → Keeps (W.contents out.old) (W.contents out.new)) }
+    ensures statuses { IfErr result (λ f. status_of f ≢ 2) }
+{
+    let name = journal.name;
+    let journal = journal_of(alloc, journal)?;
+    let events = named_events(alloc, name, settings.rate, journal.rows.as_slice())?;
+    print_rows(alloc, name, &journal, &events, settings, out)
+}
+
+// The journal in a file.
+fn journal_of<'a, J: io::Read + Drop>(
+    alloc: Global,
+    journal: NamedFile<'a, J>,
+) -> Result<Journal, Failure<'a>>
+    ensures journal { IfOk result (λ read. IfSome (J.remaining journal.entry.reader) (λ bytes. IsJournal bytes read)) }
+    ensures statuses { IfErr result (λ f. (status_of f ≢ 2) × (f ≢ failures.Writer)) }
+{
+    let NamedFile { name, mut reader } = journal;
+    let mut bytes = Vec::new(alloc);
+    read_to_end(name, &mut reader, &mut bytes)?;
+    journal_in(alloc, name, bytes.as_slice())
+}
+
+// Prints what the rows of a journal of these events show, and gives what is to be told.
 fn print_rows<'a, S: Source, W: io::Write>(
     alloc: Global,
     name: &'a str,
@@ -102,7 +163,6 @@ fn print_rows<'a, S: Source, W: io::Write>(
     ensures silent { IfErr result (λ f. f ≢ failures.Writer → Keeps (W.contents out.old) (W.contents out.new)) }
     ensures statuses { IfErr result (λ f. status_of f ≢ 2) }
 {
-    expect_list(alloc, name, events, settings.rate, &journal.heading)?;
     expect_limit(name, &journal.heading)?;
     let mut shown = Shown::new(alloc);
     add_heading(alloc, events, settings, &mut shown.text)?;
@@ -267,7 +327,7 @@ fn add_event<'a>(
     }
 }
 
-// Refuses a journal of another list.
+// Refuses a list of this name that isn't the one of a journal's heading.
 fn expect_list<'a, S: Source>(
     alloc: Global,
     name: &'a str,
@@ -281,7 +341,7 @@ fn expect_list<'a, S: Source>(
 {
     match digest_of(alloc, events, rate) {
         Ok(digest) if digest == heading.digest => Ok(()),
-        Ok(_) => Err(Failure::JournalRow(name, 1, JournalFault::List)),
+        Ok(_) => Err(Failure::NotTheList(name)),
         // (each part of a list was read at this rate)
         Err(_) => Err(Failure::Memory),
     }

@@ -7,14 +7,17 @@
 //! `AsrunSettings` say. Each failure is told in one line.
 //!
 //! Files: `file` (a file whose bytes are safe once it says so; it is made, opened and locked), `pending` and `recorder`
-//! (what is still to be written; the rows), `begin`, `reading` (a journal's bytes against what is wanted), `resume`,
-//! `again`, `asrun` (the subcommand).
+//! (what is still to be written; the rows), `begin`, `reading` (a journal's bytes against what is wanted), `mending` (what a
+//! killed run left undone), `resume`, `again`, `named` (the events that a journal's own rows name), `asrun` (the
+//! subcommand).
 #![tactic(auto)]
 
 mod again;
 mod asrun;
 mod begin;
 mod file;
+mod mending;
+mod named;
 mod pending;
 mod reading;
 mod recorder;

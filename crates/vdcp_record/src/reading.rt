@@ -1,12 +1,12 @@
-ghost use Rattle.std.specs.Prelude.{◌≡◌, ◌+◌, ◌<◌, ◌≤◌, length, IfErr, IfOk, IfNone, IfSome, OnOk};
+ghost use Rattle.std.specs.Prelude.{◌≡◌, ◌↔◌, ◌+◌, ◌<◌, ◌≤◌, length, IfErr, IfOk, IfNone, IfSome, IsFalse, IsTrue, OnOk};
 ghost use Rattle.vdcp_auto.specs.Plan.{plan_of};
 ghost use Rattle.vdcp_auto.specs.Turn.{new_controller, start};
 ghost use Rattle.vdcp_files.specs.Mode.{mode_of};
 ghost use Rattle.vdcp_journal.specs.Journals.{IsJournal, IsJournalFault};
-ghost use Rattle.vdcp_journal.specs.Resume.{IsResumeFault};
+ghost use Rattle.vdcp_journal.specs.Resume.{IsFalseLoss, IsLostAfter, IsResumeFault, WereLost, limit_after, losses};
 ghost use Rattle.vdcp_journal.specs.Runs.{run_at};
 ghost use Rattle.vdcp_list.specs.Rests.{items_left};
-ghost use Rattle.vdcp_record.specs.Resuming.{Differs, IsLastRun, IsRefused, IsReplayed, IsResumed, IsRunRefused, place_of, plan_of_run, read_failure, row_fault, untold_failure};
+ghost use Rattle.vdcp_record.specs.Resuming.{Differs, IsLastRun, IsRefused, IsReplayed, IsResumed, IsRunRefused, TellsLoss, place_of, plan_begun, plan_in, plan_of_run, read_failure, row_fault, untold_failure};
 ghost use Rattle.vdcp_journal.specs.declared.faults.JournalReadFault.{JournalReadFault};
 ghost use Rattle.vdcp_journal.specs.declared.faults.ResumeFault.{ResumeFault};
 ghost use Rattle.vdcp_text.specs.declared.failure.JournalFault.{JournalFault};
@@ -16,7 +16,7 @@ use std::alloc::{AllocError, Global};
 use vdcp_auto::{Controller, Source};
 use vdcp_journal::{
     Heading, Journal, JournalReadFault, JournalRowFault, JournalRun, Note, ResumeFault, Resumed,
-    Row, read_journal, resume, runs_in,
+    Row, are_lost, is_loss, limit_after, read_journal, resume, runs_in,
 };
 use vdcp_list::Rest;
 use vdcp_text::{Failure, JournalFault};
@@ -95,6 +95,8 @@ pub(crate) fn run_resumed<'a, S: Source + Drop>(
     requires within { run.«end» ≤ length rows.now }
     ensures listed { OnOk result (run.from ≤ length (S.items source)) }
     ensures from { IfOk result (λ r. r.controller.source.from ≡ run.from) }
+    ensures lost { OnOk result (WereLost (plan_begun heading.now (S.items source) (run_at rows.now run))
+        (run_at rows.now run).rows) }
     ensures resumed { IfOk result (λ r. IsResumed (plan_of_run heading.now (S.items source) (run_at rows.now run))
         (run_at rows.now run).rows (plan_of (items_left S.items) r.controller) r.controller.state) }
     ensures refused { IfErr result (IsRunRefused (S.items source) name.entry heading.now (run_at rows.now run)) }
@@ -103,8 +105,67 @@ pub(crate) fn run_resumed<'a, S: Source + Drop>(
         let row = from_row(rows, run);
         return Err(Failure::JournalRow(name, row, JournalFault::Event));
     }
-    let controller = controller_of(Rest::new(source, run.from), heading);
+    let rest = Rest::new(source, run.from);
+    let of_run = &rows[run.begin..run.end];
+    if let Some(fault) = false_loss(&rest, heading, of_run) {
+        return Err(untold_failure(name, fault, rows, run));
+    }
+    let controller = controller_of(rest, &raised(heading, of_run));
     resumed(name, controller, rows, run)
+}
+
+// The first of these rows of a run that says that it was lost where it wasn't.
+fn false_loss<S: Source>(events: &S, heading: &Heading, rows: &[Row]) -> Option<ResumeFault>
+    requires some { 1 ≤ heading.now.limit }
+    requires few { heading.now.limit ≤ 1000 }
+    ensures some { IfSome result (IsFalseLoss (plan_in heading.now (S.items events.now)) rows.now) }
+    ensures within { IfSome result (λ fault. place_of fault < length rows.now) }
+    ensures none { IfNone result (WereLost (plan_in heading.now (S.items events.now)) rows.now) }
+{
+    for k in 0..rows.len() {
+        if !is_true(events, heading, rows, k) {
+            return Some(ResumeFault::Outcome(k));
+        }
+    }
+    None
+}
+
+// Whether the row at a place, where it says that the run was lost, stands where it was.
+fn is_true<S: Source>(events: &S, heading: &Heading, rows: &[Row], k: usize) -> bool
+    requires some { 1 ≤ heading.now.limit }
+    requires few { heading.now.limit ≤ 1000 }
+    requires within { k < length rows.now }
+    ensures yes { IsTrue result → TellsLoss (plan_in heading.now (S.items events.now)) rows.now k }
+    ensures no { IsFalse result
+        → IsFalseLoss (plan_in heading.now (S.items events.now)) rows.now (ResumeFault.Outcome k) }
+{
+    if !is_loss(&rows[k].note) {
+        return true;
+    }
+    are_lost_again(events, heading, &rows[..k])
+}
+
+// Whether a run with these rows was lost after them.
+fn are_lost_again<S: Source>(events: &S, heading: &Heading, rows: &[Row]) -> bool
+    requires some { 1 ≤ heading.now.limit }
+    requires few { heading.now.limit ≤ 1000 }
+    ensures { IsTrue result ↔ IsLostAfter (plan_in heading.now (S.items events.now)) rows.now }
+{
+    are_lost(controller_of(events, &raised(heading, rows)), rows)
+}
+
+// The heading of a run, with the limit under which it goes on after these rows.
+fn raised(heading: &Heading, rows: &[Row]) -> Heading
+    requires some { 1 ≤ heading.now.limit }
+    requires few { heading.now.limit ≤ 1000 }
+    ensures heading { result ≡ record heading.now { limit = limit_after heading.now.limit (losses rows.now) } }
+    ensures some { 1 ≤ result.limit }
+    ensures few { result.limit ≤ 1000 }
+{
+    Heading {
+        limit: limit_after(heading.limit, rows),
+        ..*heading
+    }
 }
 
 // The number of the row that says with which event a run begins: the heading is row 1.

@@ -300,11 +300,29 @@ fn write_first<F: JournalFile>(
     ensures { OnOk result (Appends (F.safe file.old) (F.safe file.new)
         (fields_text (heading_fields time.now heading.now))) }
 {
-    let mut text = Vec::new(alloc);
-    if write_heading(alloc, time, heading, &mut text).is_err() {
-        return Err(RecordFault::Memory);
-    }
+    let text = first_text(alloc, time, heading)?;
     append(file, text.as_slice())
+}
+
+/// The text of the first row of a journal that is begun now.
+pub(crate) fn heading_text<R: Clock + AllocGlobal>(
+    rt: &R,
+    heading: &Heading,
+) -> Result<Vec<u8>, RecordFault>
+    ensures { IfOk result (λ text. (time : Moment)
+        × (text.items ≡ fields_text (heading_fields time heading.now))) }
+{
+    first_text(rt.alloc(), &now(rt), heading)
+}
+
+fn first_text(alloc: Global, time: &Moment, heading: &Heading) -> Result<Vec<u8>, RecordFault>
+    ensures { IfOk result (λ text. text.items ≡ fields_text (heading_fields time.now heading.now)) }
+{
+    let mut text = Vec::new(alloc);
+    match write_heading(alloc, time, heading, &mut text) {
+        Ok(()) => Ok(text),
+        Err(_) => Err(RecordFault::Memory),
+    }
 }
 
 // Writes up to two rows in one.
@@ -325,7 +343,8 @@ fn write_rows<F: JournalFile>(
     append(file, text.as_slice())
 }
 
-fn text_of(
+/// The text of up to two rows.
+pub(crate) fn text_of(
     alloc: Global,
     unit: u8,
     first: Option<Row>,

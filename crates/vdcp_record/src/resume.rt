@@ -1,13 +1,15 @@
-ghost use Rattle.std.specs.Prelude.{◌≡◌, ◌⊎◌, ◌≤◌, ◌↔◌, ◌++◌, ℕ, List, IfErr, IfOk, IfSome, IsSome, None, OnOk};
+ghost use Rattle.std.specs.Prelude.{◌≡◌, ◌⊎◌, ◌≤◌, ◌↔◌, ◌++◌, ℕ, List, IfErr, IfOk, IfSome, IsSome, None, OnOk, Some, if◌then◌else◌, nat_lt};
 ghost use Rattle.vdcp_auto.specs.Plan.{plan_of};
 ghost use Rattle.vdcp_auto.specs.Turn.{outcome_of};
 ghost use Rattle.vdcp_journal.specs.Runs.{Run};
 ghost use Rattle.vdcp_list.specs.Rests.{items_left};
-ghost use Rattle.vdcp_record.specs.Recording.{IsUnopened, IsUnwritten};
+ghost use Rattle.vdcp_record.specs.Recorded.{HoldsNoCommand};
+ghost use Rattle.vdcp_record.specs.Recording.{IsTimedOut, IsUnopened, IsUnwritten};
 ghost use Rattle.vdcp_record.specs.Resuming.{IsReplayed, IsUnresumed};
 ghost use Rattle.vdcp_text.specs.declared.failure.Failure.TheVariants as failures;
 
 use crate::file::open;
+use crate::mending::{mend_heading, mend_loss};
 use crate::pending::Pending;
 use crate::reading::{Replayed, has_end, replay};
 use crate::recorder::{Recorder, row_now};
@@ -18,6 +20,7 @@ use vdcp_auto::{Controller, Source};
 use vdcp_journal::{Heading, Note};
 use vdcp_list::Rest;
 use vdcp_text::Failure;
+use vdcp_words::Command;
 
 /// What goes on from a journal in a file.
 #[derive(Drop)]
@@ -29,8 +32,9 @@ pub struct Resumption<'a, 'r, R, S: Source> {
 }
 
 /// Goes on with the last run of the journal of this name, where it is one of what is wanted: gives its rows to a new
-/// controller of the list, and times out the exchange that was open. A torn last row is cut off. Where it is refused
-/// nothing is written.
+/// controller of the list, and times out the exchange that was open. Where the run was lost, the controller may leave as
+/// many exchanges more unanswered, up to 1,000 in a row in all. A torn last row is cut off, and a torn first one is
+/// written. Where it is refused nothing is written.
 pub fn resume_journal<'a, 'r, R: Files<File = File> + Clock + AllocGlobal, S: Source + Drop>(
     rt: &'r R,
     name: &'a str,
@@ -45,24 +49,29 @@ pub fn resume_journal<'a, 'r, R: Files<File = File> + Clock + AllocGlobal, S: So
         r.controller.state whole
         × (r.controller.source.from ≡ run.from)) }
     ensures goes_on { IfOk result (λ r. IsSome r.recorder ↔ (outcome_of r.controller.state.stage ≡ None)) }
+    ensures unit { IfOk result (λ r. IfSome r.recorder (λ recorder. recorder.unit ≡ wanted.now.unit)) }
     ensures unresumed { IfErr result (IsUnresumed (S.items source) name.entry wanted.now) }
 {
-    let (file, bytes) = read_file(rt, name)?;
+    let (mut file, mut bytes) = read_file(rt, name, wanted)?;
+    mend_loss(rt, name, wanted, &source, &mut file, &mut bytes)?;
     let replayed = replay(rt.alloc(), name, bytes.as_slice(), wanted, source)?;
     cut(name, &file, replayed.whole, bytes.len())?;
     go_on(rt, name, wanted.unit, file, replayed)
 }
 
-/// Opens the file of this name, and reads it.
-pub(crate) fn read_file<'a, R: Files<File = File> + AllocGlobal>(
+/// Opens the file of this name, and reads it. Where its first row was torn, that is written.
+pub(crate) fn read_file<'a, R: Files<File = File> + Clock + AllocGlobal>(
     rt: &R,
     name: &'a str,
+    wanted: &Heading,
 ) -> Result<(File, Vec<u8>), Failure<'a>>
-    ensures { IfErr result (λ failure. IsUnopened name.entry failure ⊎ (failure ≡ failures.Read name.entry)) }
+    ensures { IfErr result (λ failure. IsUnopened name.entry failure
+        ⊎ ((failure ≡ failures.Read name.entry) ⊎ IsUnwritten name.entry failure)) }
 {
     let mut file = open(rt, name)?;
     let mut bytes = Vec::new(rt.alloc());
     read_to_end(name, &mut file, &mut bytes)?;
+    mend_heading(rt, name, wanted, &mut file, &mut bytes)?;
     Ok((file, bytes))
 }
 
@@ -91,12 +100,23 @@ pub(crate) fn cut<'a>(
 ) -> Result<(), Failure<'a>>
     ensures { IfErr result (IsUnwritten name.entry) }
 {
-    if whole >= all {
-        return Ok(());
+    match size_of_rows(whole, all) {
+        Some(size) => match file.set_len(size) {
+            Ok(()) => Ok(()),
+            Err(_) => Err(Failure::Write(name)),
+        },
+        None => Ok(()),
     }
-    match file.set_len(whole as u64) {
-        Ok(()) => Ok(()),
-        Err(_) => Err(Failure::Write(name)),
+}
+
+// How many bytes are left of a file, if more follows its whole rows.
+fn size_of_rows(whole: usize, all: usize) -> Option<u64>
+    ensures { result ≡ (if nat_lt whole all then Some whole else None) }
+{
+    if whole < all {
+        Some(whole as u64)
+    } else {
+        None
     }
 }
 
@@ -111,6 +131,8 @@ pub(crate) fn go_on<'a, 'r, R: Files<File = File> + Clock + AllocGlobal, S: Sour
     requires unit { unit ≤ 15 }
     ensures controller { IfOk result (λ r. r.controller ≡ replayed.controller) }
     ensures goes_on { IfOk result (λ r. IsSome r.recorder ↔ (outcome_of r.controller.state.stage ≡ None)) }
+    ensures unit { IfOk result (λ r. IfSome r.recorder (λ recorder. recorder.unit ≡ unit)) }
+    ensures pending { IfOk result (λ r. IfSome r.recorder (λ recorder. IsTimedOut replayed.«open» recorder.pending)) }
     ensures unwritten { IfErr result (IsUnwritten name.entry) }
 {
     let Replayed {
@@ -119,11 +141,7 @@ pub(crate) fn go_on<'a, 'r, R: Files<File = File> + Clock + AllocGlobal, S: Sour
         rows,
         ..
     } = replayed;
-    let pending = match open {
-        Some(_) => Pending::End(row_now(rt, Note::Silence)),
-        None => Pending::Nothing,
-    };
-    let mut recorder = Recorder::after(rt, name, unit, file, pending);
+    let mut recorder = Recorder::after(rt, name, unit, file, pending_after(rt, open));
     if let Some(outcome) = controller.outcome() {
         if !has_end(rows.as_slice()) {
             recorder.finish(Some(outcome))?;
@@ -137,4 +155,15 @@ pub(crate) fn go_on<'a, 'r, R: Files<File = File> + Clock + AllocGlobal, S: Sour
         controller,
         recorder: Some(recorder),
     })
+}
+
+// What is still to be written where this command's exchange was timed out, if one was.
+fn pending_after<R: Clock>(rt: &R, open: Option<Command>) -> Pending
+    ensures pending { IsTimedOut «open» result }
+    ensures ends { HoldsNoCommand result }
+{
+    match open {
+        Some(_) => Pending::End(row_now(rt, Note::Silence)),
+        None => Pending::Nothing,
+    }
 }

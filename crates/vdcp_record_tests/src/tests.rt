@@ -100,7 +100,7 @@ fn shown(alloc: Global, journal: &[u8], times: bool) -> (u8, Vec<u8>, Vec<u8>) {
         times,
         may_have_aired: true,
     };
-    let status = do_asrun(alloc, journal, list, settings, &mut out, &mut err);
+    let status = do_asrun(alloc, journal, Some(list), settings, &mut out, &mut err);
     (status, out, err)
 }
 

@@ -1,6 +1,7 @@
 -- The end of a run, by the state that its controller reached.
-use Rattle.std.proofs.Common.{ℕ, ◌≡◌, ◌≤◌, ◌+◌, ◌++◌, Bor, List, [], ◌∷◌, ap, inl, refl, subst, sym, ◌∙◌}
-use Rattle.std.specs.Prelude.{◌↔◌, Bool, Err, IfOk, IsSome, None, Ok, Option, Result, Some, drop, length}
+use Rattle.std.proofs.Common.{ℕ, ◌≡◌, ◌≤◌, ◌+◌, ◌++◌, Bor, List, [], ◌∷◌, ap, arith, inl, refl, subst, sym, ◌∙◌}
+use Rattle.std.proofs.Math.Nat.{one-le-mul}
+use Rattle.std.specs.Prelude.{◌↔◌, ◌*◌, Bool, Err, IfOk, IsSome, None, Ok, Option, Result, Some, drop, length}
 use Rattle.vdcp_auto.specs.Course.{Call, Reached, Receive, begun, called, ended_by_call, logged}
 use Rattle.vdcp_auto.specs.Plan.{Plan, View, plan_of}
 use Rattle.vdcp_auto.specs.Turn.{given_in, new_controller, outcome_of, start}
@@ -15,7 +16,7 @@ use Rattle.vdcp_drive.specs.declared.keep.KeptFault.TheVariants as fault
 use Rattle.vdcp_drive.specs.declared.line.Ran.{Ran}
 use Rattle.vdcp_wire.specs.Wires.{Told}
 use Rattle.vdcp_files.specs.Mode.{mode_of}
-use Rattle.vdcp_journal.specs.Resume.{after_call_if, after_rows, call_of}
+use Rattle.vdcp_journal.specs.Resume.{after_call_if, after_rows, call_of, limit_after, losses}
 use Rattle.vdcp_journal.specs.Runs.{Run}
 use Rattle.vdcp_journal.specs.declared.row.Row.{Row}
 use Rattle.vdcp_journal.specs.declared.row.Heading.{Heading}
@@ -187,15 +188,15 @@ has_ended recorder (Some outcome) h none = cc
 -- a controller of the rest of a list, and a state that it was led to
 run_of : {S : Type 0} (items : S → List Item) (list : List Item) (settings : RunSettings) (journal : Option RunJournal)
     (controller : View (FromEvent S)) (end : RunEnd) (from : ℕ) (log : List Exchange)
-    → BeginsAt settings list journal from → from ≤ length list
-    → plan_of (items_left items) controller ≡ plan_for settings (drop from list)
+    → BeginsAt settings list journal from (plan_of (items_left items) controller) → from ≤ length list
     → controller.source.from ≡ from → Reached (plan_of (items_left items) controller) controller.state log
     → ComesTo items controller end → IsRunOf settings list journal end
-run_of items list settings journal controller end from log begins within plan_is is reached came = record {
+run_of items list settings journal controller end from log begins within is reached came = record {
   from = from;
+  plan = plan_of (items_left items) controller;
   begins = begins;
   within = within;
-  ends = subst (λ (p : Plan). IsEndOf p end) plan_is (came.ends log reached);
+  ends = came.ends log reached;
   from_is = came.from_is ∙ is;
 }
 
@@ -205,13 +206,13 @@ new_run : {S : Type 0} (items : S → List Item) (source : S) (settings : RunSet
     → rest ≡ record { source = source; from = from }
     → controller ≡ new_controller rest (mode_of settings.confirm) settings.port settings.limit
     → 1 ≤ settings.limit → settings.limit ≤ 1000 → from ≤ length (items source)
-    → BeginsAt settings (items source) journal from → ComesTo items controller end
-    → IsRunOf settings (items source) journal end
+    → BeginsAt settings (items source) journal from (plan_for settings (drop from (items source)))
+    → ComesTo items controller end → IsRunOf settings (items source) journal end
 new_run {S} items source settings journal rest controller end from is made some few within begins came =
     let new = λ (r : FromEvent S). new_controller r (mode_of settings.confirm) settings.port settings.limit in
     let first : FromEvent S = record { source = source; from = from } in
     let made : controller ≡ new first = made ∙ ap new is in
-    run_of items (items source) settings journal (new first) end from [] begins within refl refl (begun some few)
+    run_of items (items source) settings journal (new first) end from [] begins within refl (begun some few)
     (subst (λ (v : View (FromEvent S)). ComesTo items v end) made came)
 
 pub new_run_if : {S : Type 0} (items : S → List Item) (source : S) (settings : RunSettings)
@@ -220,7 +221,8 @@ pub new_run_if : {S : Type 0} (items : S → List Item) (source : S) (settings :
     → rest ≡ record { source = source; from = from }
     → controller ≡ new_controller rest (mode_of settings.confirm) settings.port settings.limit
     → 1 ≤ settings.limit → settings.limit ≤ 1000 → first_event settings.from ≤ length (items source)
-    → from ≡ first_event settings.from → BeginsAt settings (items source) journal from
+    → from ≡ first_event settings.from
+    → BeginsAt settings (items source) journal from (plan_for settings (drop from (items source)))
     → IfOk result (ComesTo items controller) → IfOk result (IsRunOf settings (items source) journal)
 new_run_if items source settings journal rest controller (Ok end) from is made some few listed first begins came =
     new_run items source settings journal rest controller end from is made some few
@@ -228,21 +230,27 @@ new_run_if items source settings journal rest controller (Ok end) from is made s
 new_run_if items source settings journal rest controller (Err failure) from is made some few listed first begins came =
     tt
 
+-- a limit that was raised
+raised_limit : (limit lost : ℕ) → 1 ≤ limit → (1 ≤ limit_after limit lost) × (limit_after limit lost ≤ 1000)
+raised_limit limit lost some =
+    let more : 1 ≤ limit * (lost + 1) = one-le-mul some (omega arith) in (omega (arith, more), omega arith)
+
 -- it goes on from the last run of a journal
 replayed_run : {S : Type 0} (items : S → List Item) (list : List Item) (settings : RunSettings) (journal : Option RunJournal)
     (controller : View (FromEvent S)) (end : RunEnd) (bytes : List ℕ) (run : Run) (whole : ℕ)
     → 1 ≤ settings.limit → settings.limit ≤ 1000
     → IsReplayed list (heading_for settings list) bytes run (plan_of (items_left items) controller)
     controller.state whole
-    → controller.source.from ≡ run.from → BeginsAt settings list journal run.from
+    → controller.source.from ≡ run.from
+    → BeginsAt settings list journal run.from (plan_of (items_left items) controller)
     → ComesTo items controller end → IsRunOf settings list journal end
 replayed_run items list settings journal controller end bytes run whole some few replayed is begins came =
     let heading : Heading = heading_for settings list in
     let resumed = replayed.resumes in
+    let raised = raised_limit settings.limit (losses run.rows) some in
     let reached = reached_after (plan_of_run heading list run) (plan_of (items_left items) controller)
-    controller.state run.rows some few resumed.plan_is resumed.state_is in
-    run_of items list settings journal controller end run.from reached.0 begins replayed.within resumed.plan_is is
-    reached.1 came
+    controller.state run.rows raised.0 raised.1 resumed.plan_is resumed.state_is in
+    run_of items list settings journal controller end run.from reached.0 begins replayed.within is reached.1 came
 
 pub resumed_run_if : {S : Type 0} (items : S → List Item) (list : List Item) (settings : RunSettings) (name : Bor (List ℕ))
     (heading : Heading) (controller : View (FromEvent S)) (result : Result RunEnd Failure) (bytes : List ℕ) (run : Run)
@@ -255,10 +263,9 @@ resumed_run_if items list settings name heading controller (Ok end) bytes run wh
     let plan : Plan = plan_of (items_left items) controller in
     let replayed = subst (λ (h : Heading). IsReplayed list h bytes run plan controller.state whole) of
     replayed in
-    let goes : GoesOnFrom settings list run.from = record {
+    let goes : GoesOnFrom settings list run.from plan = record {
       bytes = bytes;
       run = run;
-      plan = plan;
       state = controller.state;
       whole = whole;
       replayed = replayed;
@@ -272,7 +279,8 @@ resumed_run_if items list settings name heading controller (Err failure) bytes r
 -- it begins after the last run of a journal, or tells that run's end again
 opened_so : {S : Type 0} (items : S → List Item) (list : List Item) (settings : RunSettings) (name : Bor (List ℕ))
     (controller : View (FromEvent S)) (end : RunEnd)
-    → 1 ≤ settings.limit → settings.limit ≤ 1000 → BeginsAgainFrom settings list controller.source.from
+    → 1 ≤ settings.limit → settings.limit ≤ 1000
+    → BeginsAgainFrom settings list controller.source.from (plan_of (items_left items) controller)
     → IsOpenedAgain list (heading_for settings list) settings.from controller.source.from
     (plan_of (items_left items) controller) controller.state
     → ComesTo items controller end → IsRunOf settings list (Some (journals.Again name)) end
@@ -281,14 +289,16 @@ opened_so items list settings name controller end some few begins
     let plan : Plan = plan_for settings (drop controller.source.from list) in
     let new : Reached plan start [] = begun some few in
     run_of items list settings (Some (journals.Again name)) controller end controller.source.from [] begins within
-    plan_is refl
+    refl
     (subst (λ (p : Plan). Reached p controller.state []) (sym plan_is)
     (subst (λ (s : State). Reached plan s []) (sym state_is) new))
     came
 opened_so items list settings name controller end some few begins
     (resuming.is_over unsaid bytes run whole replayed from_is over) came =
     replayed_run items list settings (Some (journals.Again name)) controller end bytes run whole some few replayed
-    from_is (subst (λ (from : ℕ). BeginsAgainFrom settings list from) from_is begins) came
+    from_is
+    (subst (λ (from : ℕ). BeginsAgainFrom settings list from (plan_of (items_left items) controller)) from_is begins)
+    came
 
 opened_run : {S : Type 0} (items : S → List Item) (list : List Item) (settings : RunSettings) (name : Bor (List ℕ))
     (controller : View (FromEvent S)) (end : RunEnd)
@@ -297,8 +307,7 @@ opened_run : {S : Type 0} (items : S → List Item) (list : List Item) (settings
     (plan_of (items_left items) controller) controller.state
     → ComesTo items controller end → IsRunOf settings list (Some (journals.Again name)) end
 opened_run items list settings name controller end some few opened came =
-    let begins : BeginsAgainFrom settings list controller.source.from = record {
-      plan = plan_of (items_left items) controller;
+    let begins : BeginsAgainFrom settings list controller.source.from (plan_of (items_left items) controller) = record {
       state = controller.state;
       opened = opened;
     } in

@@ -1,7 +1,7 @@
 -- Of the reasons why a list isn't played, only an address that is none has status 2, and only a refused row status 1.
 use Rattle.std.proofs.Common.{◌≡◌, ◌≢◌, ◌⊎◌, refl, ℕ, ◌<◌, List, inl, inr, sym, ap, subst, ◌∙◌, arith, Bor}
 use Rattle.std.specs.Io.KnownBytes.{Appends, Keeps}
-use Rattle.std.specs.Prelude.{IfErr, Option, None, Some, Result, Ok, Err}
+use Rattle.std.specs.Prelude.{Bool, true, false, if◌then◌else◌, IfErr, Option, None, Some, Result, Ok, Err}
 use Rattle.vdcp_list.specs.declared.faults.ListFault.{ListFault}
 use Rattle.vdcp_list.specs.declared.faults.ListFault.TheVariants as lists
 use Rattle.vdcp_journal.specs.declared.faults.JournalReadFault.{JournalReadFault}
@@ -21,7 +21,7 @@ use Rattle.vdcp_text.specs.declared.failure.Failure.TheVariants as failures
 use Rattle.vdcp_files.specs.Files.{File, bytes_of, file, file_failure}
 use Rattle.vdcp_list.specs.Playlists.{IsListOf}
 use Rattle.vdcp_wire.specs.Address.{IsAddress}
-use Rattle.vdcp_run.specs.Run.{IsEventRefused, IsJournalOf, IsJournalRefused, IsListRefused, IsNoEvent, IsNotBegun, IsPlaceRefused, IsRunRefused, IsUnkept, IsUnplayed, heading_for, no_address, no_event, no_journal, no_list, no_place, not_connected, not_empty}
+use Rattle.vdcp_run.specs.Run.{IsEventRefused, IsJournalOf, IsJournalRefused, IsListRefused, IsNoEvent, IsNotBegun, IsPlaceRefused, IsRunRefused, IsUnkept, IsUnkeptOf, IsUnplayed, heading_for, is_of_other_list, name_of_file, no_address, no_event, no_journal, no_list, no_place, not_connected, not_empty, told_of_list}
 use Rattle.vdcp_run.specs.declared.keeping.RunJournal.{RunJournal}
 use Rattle.vdcp_run.specs.declared.keeping.RunJournal.TheVariants as journals
 use Rattle.vdcp_run.specs.declared.run.RunSettings.{RunSettings}
@@ -146,6 +146,16 @@ unkept_status settings items (Some journal) failure (inl e) = inr (ap status_of 
 unkept_status settings items (Some journal) failure (inr (inl h)) = journal_status settings items journal failure h
 unkept_status settings items (Some journal) failure (inr (inr h)) = asrun_status settings.asrun failure h
 
+-- also where the list isn't the journal's
+told_status_if : (is_other : Bool) (list : Bor (List ℕ)) (failure : Failure) → one_or_three failure
+    → one_or_three (if is_other then failures.NotTheList list else failure)
+told_status_if true list failure known = inl refl
+told_status_if false list failure known = known
+
+told_status : (list : Bor (List ℕ)) (failure : Failure) → one_or_three failure
+    → one_or_three (told_of_list list failure)
+told_status list failure known = told_status_if (is_of_other_list failure) list failure known
+
 -- that of an event that the list hasn't is 1
 no_event_status : (from : Option ℕ) (items : List Item) (failure : Failure) → IsNoEvent from items failure
     → status_of failure ≡ 1
@@ -168,9 +178,10 @@ told_with_2 settings text list failure status err err' (no_event some items list
 told_with_2 settings text list failure status err err' (no_place some whole refused) is told two =
     let three : status_of failure ≡ 3 = place_status settings.asrun failure refused in
     absurd (omega (arith, three, own_status failure status is two))
-told_with_2 settings text list failure status err err' (no_journal some items lists refused) is told two =
-    absurd (not_2 failure (unkept_status settings items settings.journal failure refused)
-    (own_status failure status is two))
+told_with_2 settings text list failure status err err' (no_journal some items lists unkept refused e) is told two =
+    let known = subst one_or_three (sym e)
+    (told_status (name_of_file list) unkept (unkept_status settings items settings.journal unkept refused)) in
+    absurd (not_2 failure known (own_status failure status is two))
 told_with_2 settings text list failure status err err' (not_connected some whole e) is told two =
     let three : status_of failure ≡ 3 = ap status_of e in
     absurd (omega (arith, three, own_status failure status is two))
@@ -207,12 +218,14 @@ told_with_1 settings text list failure status out err err' (no_event some items 
 told_with_1 settings text list failure status out err err' (no_place some whole refused) is told one =
     let three : status_of failure ≡ 3 = place_status settings.asrun failure refused in
     absurd (omega (arith, three, own_status_1 failure status is one))
-told_with_1 settings text list failure status out err err' (no_journal some items lists refused) is told one =
+told_with_1 settings text list failure status out err err' (no_journal some items lists unkept refused e) is told one =
     inr (inl (record {
       failure = failure;
       items = items;
       lists = lists;
+      unkept = unkept;
       refused = refused;
+      failure_is = e;
       of_row = own_status_1 failure status is one;
       told = told (omega (arith, one));
       silent = keeps_itself out;
@@ -226,17 +239,26 @@ told_with_1 settings text list failure status out err err' (not_empty some whole
   silent = keeps_itself out;
 })))
 
+-- as it is told
+pub told_unkept : (settings : RunSettings) (list : Bor (List ℕ)) (items : List Item) (journal : RunJournal)
+    (failure told : Failure) → told ≡ told_of_list list failure
+    → IsUnkept settings items (Some journal) failure ⊎ ((failure ≡ failures.Connect) ⊎ (failure ≡ failures.NotEmpty))
+    → IsUnkeptOf settings list items journal told ⊎ ((told ≡ failures.Connect) ⊎ (told ≡ failures.NotEmpty))
+told_unkept settings list items journal failure told is (inl refused) = inl (failure, refused, is)
+told_unkept settings list items journal failure told is (inr (inl e)) = inr (inl (is ∙ ap (told_of_list list) e))
+told_unkept settings list items journal failure told is (inr (inr e)) = inr (inr (is ∙ ap (told_of_list list) e))
+
 -- a list with a journal, where it isn't played
 pub unplayed_with : {A : Type 0} (settings : RunSettings) (text : List ℕ) (list : File) (items : List Item)
     (journal : RunJournal) (result : Result A Failure)
     → IsAddress text → IsListOf settings.rate (bytes_of list) items → settings.journal ≡ Some journal
-    → IfErr result (λ failure. IsUnkept settings items (Some journal) failure
+    → IfErr result (λ failure. IsUnkeptOf settings (name_of_file list) items journal failure
     ⊎ ((failure ≡ failures.Connect) ⊎ (failure ≡ failures.NotEmpty)))
     → IfErr result (IsUnplayed settings text list)
 unplayed_with settings text list items journal (Ok a) some lists is h = tt
-unplayed_with settings text list items journal (Err failure) some lists is (inl refused) =
-    no_journal some items lists
-    (subst (λ (j : Option RunJournal). IsUnkept settings items j failure) (sym is) refused)
+unplayed_with settings text list items journal (Err failure) some lists is (inl (unkept, refused, e)) =
+    no_journal some items lists unkept
+    (subst (λ (j : Option RunJournal). IsUnkept settings items j unkept) (sym is) refused) e
 unplayed_with settings text list items journal (Err failure) some lists is (inr (inl e)) =
     not_connected some (items, lists) e
 unplayed_with settings text list items journal (Err failure) some lists is (inr (inr e)) =

@@ -1,7 +1,7 @@
 -- How a run ends: what it tells then, and its exit status.
 use Rattle.std.specs.Borrow.{Bor}
 use Rattle.std.specs.Io.KnownBytes.{Appends, Keeps}
-use Rattle.std.specs.Prelude.{ℕ, zero, suc, ◌≡◌, ◌⊎◌, ◌+◌, ◌-◌, ◌^◌, ◌<◌, ◌≤◌, min, Bool, true, false, List, [], ◌++◌, codes, decimal, drop, length, take, Option, None, Some, option_map, IsSome, Result, Ok, Err}
+use Rattle.std.specs.Prelude.{ℕ, zero, suc, ◌≡◌, ◌⊎◌, ◌+◌, ◌-◌, ◌^◌, ◌<◌, ◌≤◌, min, Bool, true, false, List, [], ◌++◌, codes, decimal, drop, length, take, Option, None, Some, option_map, IsSome, Result, Ok, Err, if◌then◌else◌}
 use Rattle.vdcp_value.specs.declared.part.Item.{Item}
 use Rattle.vdcp_value.specs.declared.rate.Rate.{Rate}
 use Rattle.vdcp_auto.specs.Course.{Reached}
@@ -15,7 +15,8 @@ use Rattle.vdcp_text.specs.Failure.{failure_line, status_of}
 use Rattle.vdcp_text.specs.Text.{line}
 use Rattle.vdcp_text.specs.declared.failure.Failure.{Failure}
 use Rattle.vdcp_text.specs.declared.failure.Failure.TheVariants as failures
-use Rattle.vdcp_files.specs.Files.{File, IsWholeList, RefusesList, bytes_of}
+use Rattle.vdcp_text.specs.declared.failure.JournalFault.TheVariants as wrong
+use Rattle.vdcp_files.specs.Files.{File, IsWholeList, RefusesList, bytes_of, file}
 use Rattle.vdcp_files.specs.Mode.{mode_of}
 use Rattle.vdcp_journal.specs.declared.row.Heading.{Heading}
 use Rattle.vdcp_journal.specs.Runs.{Run}
@@ -128,6 +129,9 @@ reported_text rate items controller =
     (take controller.state.settled (drop controller.source.from (items controller.source.source)))
 
 -- ---- the journal
+
+abbrev pub name_of_file : File → Bor (List ℕ)
+name_of_file (file name bytes) = name
 
 -- the name of its file
 abbrev pub name_of : RunJournal → Bor (List ℕ)
@@ -242,36 +246,42 @@ pub record ComesTo {S : Type 0} (items : S → List Item) (controller : View (Fr
   pub ends : (log : List Exchange) → Reached (plan_of (items_left items) controller) controller.state log
       → IsEndOf (plan_of (items_left items) controller) end
 
--- the last run of some journal of these items, which is made with these settings, began with this event
-pub record GoesOnFrom (settings : RunSettings) (items : List Item) (from : ℕ) : Type 0 where
+-- the last run of some journal of these items, which is made with these settings, began with this event, and this is the
+-- plan under which it goes on
+pub record GoesOnFrom (settings : RunSettings) (items : List Item) (from : ℕ) (plan : Plan) : Type 0 where
   pub bytes : List ℕ
   pub run : Run
-  pub plan : Plan
   pub state : State
   pub whole : ℕ
   pub replayed : IsReplayed items (heading_for settings items) bytes run plan state whole
   pub from_is : from ≡ run.from
 
--- what goes on where a journal of these items is opened again, which is made with these settings, began with this event
-pub record BeginsAgainFrom (settings : RunSettings) (items : List Item) (from : ℕ) : Type 0 where
-  pub plan : Plan
+-- what goes on where a journal of these items is opened again, which is made with these settings, began with this event,
+-- and this is its plan
+pub record BeginsAgainFrom (settings : RunSettings) (items : List Item) (from : ℕ) (plan : Plan) : Type 0 where
   pub state : State
   pub opened : IsOpenedAgain items (heading_for settings items) settings.from from plan state
 
--- the event that the controller of a run of these items began with, by the journal that it has, if it has one
-abbrev pub BeginsAt : RunSettings → List Item → Option RunJournal → ℕ → Type 0
-BeginsAt settings items None from = from ≡ first_event settings.from
-BeginsAt settings items (Some (journals.New name)) from = from ≡ first_event settings.from
-BeginsAt settings items (Some (journals.Older name)) from = GoesOnFrom settings items from
-BeginsAt settings items (Some (journals.Again name)) from = BeginsAgainFrom settings items from
+-- a new controller of these items begins with this event, by this plan
+abbrev pub BeginsNew : RunSettings → List Item → ℕ → Plan → Type 0
+BeginsNew settings items from plan =
+    (from ≡ first_event settings.from) × (plan ≡ plan_for settings (drop from items))
+
+-- the event that the controller of a run of these items began with, and its plan, by the journal that it has, if it has one
+abbrev pub BeginsAt : RunSettings → List Item → Option RunJournal → ℕ → Plan → Type 0
+BeginsAt settings items None from plan = BeginsNew settings items from plan
+BeginsAt settings items (Some (journals.New name)) from plan = BeginsNew settings items from plan
+BeginsAt settings items (Some (journals.Older name)) from plan = GoesOnFrom settings items from plan
+BeginsAt settings items (Some (journals.Again name)) from plan = BeginsAgainFrom settings items from plan
 
 -- this is the end of a controller that plays these items from one on, by the journal that the run has, if it has one
 pub record IsRunOf (settings : RunSettings) (items : List Item) (journal : Option RunJournal) (end : RunEnd)
     : Type 0 where
   pub from : ℕ
-  pub begins : BeginsAt settings items journal from
+  pub plan : Plan
+  pub begins : BeginsAt settings items journal from plan
   pub within : from ≤ length items
-  pub ends : IsEndOf (plan_for settings (drop from items)) end
+  pub ends : IsEndOf plan end
   pub from_is : end.from ≡ from
 
 -- the file is a playlist, and this is the end of a controller that plays it, from an event on
@@ -294,6 +304,20 @@ abbrev pub IsNoEvent : Option ℕ → List Item → Failure → Type 0
 IsNoEvent None items failure = ⊥
 IsNoEvent (Some event) items failure = (length items < event) × (failure ≡ failures.NoEvent event)
 
+-- a journal is refused since it is of another list
+abbrev pub is_of_other_list : Failure → Bool
+is_of_other_list (failures.JournalRow name row wrong.List) = true
+is_of_other_list _ = false
+
+-- what is told of that, and of any other failure: that the list of this name isn't the journal's
+abbrev pub told_of_list : Bor (List ℕ) → Failure → Failure
+told_of_list list failure = if is_of_other_list failure then failures.NotTheList list else failure
+
+-- why a run of the list of this name isn't begun with a journal, as it is told
+abbrev pub IsUnkeptOf : RunSettings → Bor (List ℕ) → List Item → RunJournal → Failure → Type 0
+IsUnkeptOf settings list items journal failure =
+    (unkept : Failure) × IsUnkept settings items (Some journal) unkept × (failure ≡ told_of_list list unkept)
+
 -- why a list isn't played: the text is no address, or else the list isn't read, or else it has no event to begin with, or
 -- else the as-run list can't be written, or else the journal can't be kept, or else nobody takes the connection, or else
 -- the port isn't empty
@@ -305,7 +329,8 @@ pub data IsUnplayed (settings : RunSettings) (text : List ℕ) (list : File) (fa
   no_place : IsAddress text → IsWholeList settings.rate list → IsPlaceRefused settings.asrun failure →
       IsUnplayed settings text list failure
   no_journal : IsAddress text → (items : List Item) → IsListOf settings.rate (bytes_of list) items →
-      IsUnkept settings items settings.journal failure → IsUnplayed settings text list failure
+      (unkept : Failure) → IsUnkept settings items settings.journal unkept →
+      failure ≡ told_of_list (name_of_file list) unkept → IsUnplayed settings text list failure
   not_connected : IsAddress text → IsWholeList settings.rate list → failure ≡ failures.Connect →
       IsUnplayed settings text list failure
   not_empty : IsAddress text → IsWholeList settings.rate list → failure ≡ failures.NotEmpty →
@@ -326,13 +351,15 @@ pub record IsEventRefused (settings : RunSettings) (list : File) (out out' err e
   pub told : Appends err err' (failure_line failure)
   pub silent : Keeps out out'
 
--- a row of the journal is refused, or the event to go on with may have aired: one writer gained the line that tells it,
--- and the other nothing
+-- a row of the journal is refused, or the list isn't the journal's, or the event to go on with may have aired: one writer
+-- gained the line that tells it, and the other nothing
 pub record IsRunRefused (settings : RunSettings) (list : File) (out out' err err' : Option (List ℕ)) : Type 0 where
   pub failure : Failure
   pub items : List Item
   pub lists : IsListOf settings.rate (bytes_of list) items
-  pub refused : IsUnkept settings items settings.journal failure
+  pub unkept : Failure
+  pub refused : IsUnkept settings items settings.journal unkept
+  pub failure_is : failure ≡ told_of_list (name_of_file list) unkept
   pub of_row : status_of failure ≡ 1
   pub told : Appends err err' (failure_line failure)
   pub silent : Keeps out out'

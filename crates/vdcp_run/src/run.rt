@@ -9,7 +9,7 @@ ghost use Rattle.vdcp_files.specs.Mode.{mode_of};
 ghost use Rattle.vdcp_list.specs.Rests.{items_left};
 ghost use Rattle.vdcp_wire.specs.Address.{IsAddress};
 ghost use Rattle.vdcp_wire.specs.Wires.{IfTold, nothing_told};
-ghost use Rattle.vdcp_run.specs.Run.{ComesTo, IsEventRefused, IsListRefused, IsNoEvent, IsNotBegun, IsOpening, IsPlayed, IsRun, IsRunOf, IsRunRefused, IsUnplayed, MayBeUnkept, MayBeUnwritten, journal_in};
+ghost use Rattle.vdcp_run.specs.Run.{ComesTo, IsEventRefused, IsListRefused, IsNoEvent, IsNotBegun, IsOpening, IsPlayed, IsRun, IsRunOf, IsRunRefused, IsUnkeptOf, IsUnplayed, MayBeUnkept, MayBeUnwritten, journal_in, name_of, told_of_list};
 ghost use Rattle.vdcp_run.specs.Run.{end_text, fault_text, faults_text, first_event, line_end_of, line_failure, outcome_in_list, run_status};
 ghost use Rattle.vdcp_text.specs.Failure.{failure_line};
 
@@ -41,7 +41,7 @@ use vdcp_files::NamedFile;
 use vdcp_list::{Rest, Table};
 use vdcp_log::{Hearing, Log, Logged};
 use vdcp_record::RecordFault;
-use vdcp_text::{Failure, OutcomeText};
+use vdcp_text::{Failure, JournalFault, OutcomeText};
 use vdcp_value::Rate;
 use vdcp_wire::{StreamWire, Wire, WireFault, address_of};
 use vdcp_words::Command;
@@ -318,7 +318,48 @@ fn run_list<
     test_place(rt, settings.asrun, name)?;
     match settings.journal {
         None => play_unkept(rt, address, events, settings, showing),
-        Some(journal) => play_kept(rt, address, journal, events, settings, showing),
+        Some(journal) => play_listed(rt, address, name, journal, events, settings, showing),
+    }
+}
+
+// Plays the list of this name with a journal, which has to be of it.
+fn play_listed<
+    'a,
+    R: Net + Files<File = File> + Clock + AllocGlobal,
+    S: Source + Drop,
+    V: io::Write + Drop,
+>(
+    rt: &R,
+    address: SocketAddrV4,
+    list: &'a str,
+    journal: RunJournal<'a>,
+    source: S,
+    settings: RunSettings<'a>,
+    showing: Showing<V>,
+) -> Result<RunEnd<'a>, Failure<'a>>
+    requires unit { settings.unit ≤ 15 }
+    requires some { 1 ≤ settings.limit }
+    requires few { settings.limit ≤ 1000 }
+    requires listed { first_event settings.from ≤ length (S.items source) }
+    ensures unwritten { IfOk result (λ end. MayBeUnwritten settings.entry.asrun end.unwritten) }
+    ensures unkept { IfOk result (λ end. MayBeUnkept (Some (name_of journal.entry)) end.unkept) }
+    ensures end { IfOk result (IsRunOf settings.entry (S.items source) (Some journal.entry)) }
+    ensures refused { IfErr result (λ failure. IsUnkeptOf settings.entry list.entry (S.items source) journal.entry failure
+        ⊎ ((failure ≡ Failure.Connect) ⊎ (failure ≡ Failure.NotEmpty))) }
+{
+    match play_kept(rt, address, journal, source, settings, showing) {
+        Ok(end) => Ok(end),
+        Err(failure) => Err(told_of_list(list, failure)),
+    }
+}
+
+// What is told where the list of this name isn't the journal's, and of any other failure.
+fn told_of_list<'a>(list: &'a str, failure: Failure<'a>) -> Failure<'a>
+    ensures { result ≡ told_of_list list.entry failure.entry }
+{
+    match failure {
+        Failure::JournalRow(_, _, JournalFault::List) => Failure::NotTheList(list),
+        other => other,
     }
 }
 

@@ -20,7 +20,8 @@ returns-clause-shown g c =
       run_shows c.args.settings items c.args.journal.now.heading c.args.journal.now.rows.items
           c.as_slice-rows.result.now c.args.run _ _ c.settled-reported.result c.in_ok-found.found.airings.items
           c.in_ok-found.found.unsettled c.as_slice-rows.ensures.value c.in_ok-resumed.ensures.resumed
-          c.in_ok-found.ensures c.settled-reported.ensures.count c.in_ok-resumed.ensures.listed,
+          c.in_ok-found.ensures c.settled-reported.ensures.count c.in_ok-resumed.ensures.listed
+          c.in_ok-resumed.ensures.lost,
       rw c.as_slice-airings.ensures.value at c.in_ok-add_reported.ensures.text,
       told,
     )) c.add_event.ensures.told

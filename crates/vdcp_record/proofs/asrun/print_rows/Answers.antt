@@ -12,7 +12,6 @@ returns-clause-shown g c =
     let heading = c.in_ok-add_heading.ensures.text
     ∙ ap (λ (l : List ℕ). l ++ heading_text c.args.settings items) c.new-shown.ensures.text in
     record {
-      digest = c.in_ok-expect_list.ensures.digest;
       text = added.0;
       runs = subst (λ (told : List ℕ). ShowRuns c.args.settings items journal.heading (runs_of journal.rows.items)
           added.0 told) (sym (added.4 ∙ ap (λ (l : List ℕ). l ++ added.1) c.new-shown.ensures.told)) added.2;

@@ -31,6 +31,7 @@ returns-clause-replayed g c =
       wanted_is = c.in_default.ensures.same;
       last = rw c.as_slice-rows.ensures.value at c.in_ok-run.ensures.last;
       within = c.in_ok-controller.ensures.listed;
+      lost = rw c.as_slice-rows.ensures.value at c.in_ok-controller.ensures.lost;
       resumes = rw c.as_slice-rows.ensures.value at c.in_ok-controller.ensures.resumed;
       whole_is = refl;
     }

@@ -7,8 +7,8 @@ use Rattle.vdcp_run.specs.Run.{no_event}
 pub returns-in-Some-clause-unplayed : goal.returns-in-Some-clause-unplayed
 returns-in-Some-clause-unplayed g c =
     unplayed_with c.args.settings _ _ (items_of c.in_ok-events.events) c.in-Some.journal
-    c.play_kept.result (c.in-Ok.address, c.in-Ok.ensures.address) c.in_ok-events.ensures.events c.in-Some.is
-    c.play_kept.ensures.refused
+    c.play_listed.result (c.in-Ok.address, c.in-Ok.ensures.address) c.in_ok-events.ensures.events c.in-Some.is
+    c.play_listed.ensures.refused
 
 pub returns-in_err-test_event-clause-unplayed : goal.returns-in_err-test_event-clause-unplayed
 returns-in_err-test_event-clause-unplayed g c =

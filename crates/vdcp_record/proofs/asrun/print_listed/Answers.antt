@@ -1,0 +1,12 @@
+use Rattle.std.proofs.lemmas.Result.{IfOk-weaker}
+use Rattle.vdcp_list.specs.List.{items_of}
+use Rattle.vdcp_record.proofs.asrun.print_listed.Goals as goal
+
+pub returns-clause-shown : goal.returns-clause-shown
+returns-clause-shown g c = IfOk-weaker c.print_rows.result _ _ (λ event shows. record {
+  items = items_of c.in_ok-events.events;
+  read = c.in_ok-journal.journal;
+  are_items = (c.in_ok-events.ensures.events, c.in_ok-expect_list.ensures.digest);
+  is_journal = c.in_ok-journal.ensures.journal;
+  shows = shows;
+}) c.print_rows.ensures.shown

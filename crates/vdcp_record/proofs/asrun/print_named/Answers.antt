@@ -1,0 +1,12 @@
+use Rattle.std.proofs.lemmas.Result.{IfOk-weaker}
+use Rattle.vdcp_record.proofs.asrun.print_named.Goals as goal
+use Rattle.vdcp_record.specs.Named.{items_of}
+
+pub returns-clause-shown : goal.returns-clause-shown
+returns-clause-shown g c = IfOk-weaker c.print_rows.result _ _ (λ event shows. record {
+  items = items_of c.in_ok-events.events;
+  read = c.in_ok-journal.journal;
+  are_items = tt;
+  is_journal = c.in_ok-journal.ensures.journal;
+  shows = shows;
+}) c.print_rows.ensures.shown
