@@ -1,9 +1,9 @@
 use clap::{Arg, ArgAction, Command};
 use std::alloc::{AllocError, Global};
 use vdcp_options::{
-    COPY, CUE_FRAMES, CUT, DAMAGE, FORGE, LIMIT, LISTENS, LOSE, LOSSY_SILENCE, NumberOption, POLL,
-    PORT, RUN_LIMIT, RUN_SILENCE, SEED, SERVE_SILENCE, TURNS, UNIT, WITHIN, from_option,
-    idle_option, number_option, rate_option,
+    COPY, CUE_FRAMES, CUT, DAMAGE, FORGE, LIMIT, LISTENS, LOSE, LOSSY_SILENCE, NumberOption, PORT,
+    RUN_SILENCE, SEED, SERVE_SILENCE, TURNS, UNIT, WITHIN, from_option, idle_option, number_option,
+    poll_option, rate_option, run_limit_option,
 };
 
 // The program's version, and the toolchain that it is proved with.
@@ -51,6 +51,8 @@ enum Argument {
     Value(&'static str, &'static str, &'static str),
     Number(&'static NumberOption),
     Rate,
+    RunLimit,
+    Poll,
     Idle,
     From,
     Only,
@@ -168,21 +170,25 @@ const RUN: Subcommand = Subcommand {
         LIST,
         Argument::Number(&UNIT),
         Argument::Number(&PORT),
-        Argument::Number(&RUN_LIMIT),
+        Argument::RunLimit,
         Argument::Rate,
         CONFIRM,
+        Argument::Flag(
+            "ask",
+            "Asks the port first, and plays nothing where something is cued there or plays",
+        ),
         Argument::Number(&RUN_SILENCE),
         Argument::Number(&LISTENS),
         Argument::Flag(
             "prompt",
             "Hears each answer as soon as it has come, torn or late; for a line that keeps order, as TCP does",
         ),
-        Argument::Number(&POLL),
+        Argument::Poll,
         Argument::Lengths,
         Argument::Value(
             "asrun",
             "FILE",
-            "Makes this file, with the as-run list of the reported events",
+            "Makes this file at the end, with the as-run list; an older one of other bytes stays as FILE.~N~",
         ),
         Argument::Value(
             "journal",
@@ -331,6 +337,8 @@ fn argument_of<'a>(alloc: Global, argument: &Argument) -> Result<Arg<'a>, AllocE
         Argument::Value(name, value, help) => Ok(option(alloc, name, value, help)),
         Argument::Number(number) => Ok(number_option(alloc, number)),
         Argument::Rate => Ok(rate_option(alloc)),
+        Argument::RunLimit => Ok(run_limit_option(alloc)),
+        Argument::Poll => poll_option(alloc),
         Argument::Idle => Ok(idle_option(alloc)),
         Argument::From => Ok(from_option(alloc)),
         Argument::Only => Ok(only(alloc)),

@@ -25,7 +25,7 @@ use vdcp_options::{
 };
 use vdcp_probe::{do_probe, rows};
 use vdcp_record::do_asrun;
-use vdcp_run::{RunSettings, Showing, do_run};
+use vdcp_run::{RunSettings, Showing, do_run, test_apart};
 use vdcp_serve::{Telling, do_serve};
 use vdcp_sim::do_sim;
 use vdcp_text::{Failure, do_make, do_show};
@@ -173,10 +173,11 @@ fn run_run<'a, W: Write, E: Write>(
     let list = open_file(rt, matches, "LIST")?;
     let address = matches.get_str("ADDR").unwrap_or("");
     let lengths = match matches.get_str("lengths") {
-        Some(_) => Some(open_file(rt, matches, "lengths")?.read_catalogue(
-            rt.alloc(),
-            rate_of(matches),
-        )?),
+        Some(name) => {
+            test_apart(rt, matches.get_str("asrun"), name)?;
+            let file = open_file(rt, matches, "lengths")?;
+            Some(file.read_catalogue(rt.alloc(), rate_of(matches))?)
+        }
         None => None,
     };
     let settings = RunSettings {

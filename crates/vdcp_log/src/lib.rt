@@ -1,20 +1,17 @@
 //! What is told of a channel while it is up, by writers that hold neither end up.
 //!
 //! A `Log` gets a line for each message (`Logged`, a wire over another one, which reads as `Hearing` says), for each item
-//! that goes to air (`AirLog`) and for each fault. `Statuses` counts answered statuses in a row, of which a line is told too. `Lines` and `Screen`
-//! are writers that don't wait for who reads them.
+//! that goes to air (`AirLog`) and for each fault. `Lines` and `Screen` are writers that don't wait for who reads them.
 //!
-//! Files: `log`, `hearing`, `statuses`, `lines`, `screen`.
+//! Files: `log`, `hearing`, `lines`, `screen`.
 #![tactic(auto)]
 
 mod hearing;
 mod lines;
 mod log;
 mod screen;
-mod statuses;
 
 pub use hearing::Hearing;
 pub use lines::Lines;
 pub use log::{AirLog, Log, Logged};
 pub use screen::{Screen, write_at_once};
-pub use statuses::{HINT, MANY, Statuses, is_status};

@@ -2,7 +2,6 @@ ghost use Rattle.std.specs.Prelude.{◌≡◌};
 
 use crate::hearing::Hearing;
 use crate::lines::Lines;
-use crate::statuses::{HINT, MANY, Statuses};
 use std::cell::Cell;
 use std::io::Write;
 use std::{fmt, io};
@@ -84,8 +83,7 @@ impl fmt::Display for Direction {
 }
 
 /// A wire that logs each message that came by another wire or went out there, and each end of a burst that
-/// isn't clean: the lines of the burst's reading with words, but for `clean`. Where `MANY` statuses were answered with
-/// no other command between, a line says so.
+/// isn't clean: the lines of the burst's reading with words, but for `clean`.
 ///
 /// What comes is read as it is heard. Where that is at once, reading begins anew after each message, so a burst may have
 /// any length, and what a silence has torn is read on.
@@ -97,7 +95,6 @@ pub struct Logged<'a, W: Wire, L: io::Write> {
     hearing: Hearing,
     // none after a fault, until a silence
     came: Option<Reader>,
-    statuses: Statuses,
 }
 
 impl<'a, W: Wire, L: io::Write + Drop> Logged<'a, W, L> {
@@ -110,7 +107,6 @@ impl<'a, W: Wire, L: io::Write + Drop> Logged<'a, W, L> {
             log,
             hearing,
             came: Some(Reader::new()),
-            statuses: Statuses::new(),
         }
     }
 
@@ -138,7 +134,6 @@ impl<W: Wire, L: io::Write + Drop> Wire for Logged<'_, W, L> {
             Direction::Out,
             Hearing::AtSilences,
             &mut sent,
-            &mut self.statuses,
             bytes,
         );
         tell_end(self.log, Direction::Out, &mut sent);
@@ -150,14 +145,7 @@ impl<W: Wire, L: io::Write + Drop> Wire for Logged<'_, W, L> {
         match came {
             Came::Bytes(n) => {
                 let piece = &buffer[..n];
-                tell_piece(
-                    self.log,
-                    Direction::In,
-                    self.hearing,
-                    &mut self.came,
-                    &mut self.statuses,
-                    piece,
-                )
+                tell_piece(self.log, Direction::In, self.hearing, &mut self.came, piece)
             }
             Came::Silence if self.reads_on() => {}
             Came::Silence | Came::Closed => tell_end(self.log, Direction::In, &mut self.came),
@@ -211,14 +199,13 @@ fn tell_piece<L: io::Write + Drop>(
     direction: Direction,
     hearing: Hearing,
     reader: &mut Option<Reader>,
-    statuses: &mut Statuses,
     piece: &[u8],
 ) {
     let mut rest = piece;
     'piece: while let Some(begun) = reader {
         match begun.next(&mut rest) {
             Got::Message(message) => {
-                tell_message(log, direction, statuses, message);
+                tell_message(log, direction, message);
                 if let Hearing::AtOnce(_) = hearing {
                     begun.silence();
                 }
@@ -232,24 +219,10 @@ fn tell_piece<L: io::Write + Drop>(
     }
 }
 
-// Tells a message, and where it is the answer to the last of many statuses, that there were.
-fn tell_message<L: io::Write + Drop>(
-    log: &Log<L>,
-    direction: Direction,
-    statuses: &mut Statuses,
-    message: Message<'_>,
-) {
+fn tell_message<L: io::Write + Drop>(log: &Log<L>, direction: Direction, message: Message<'_>) {
     let text = MessageText(message);
     let meaning = MeaningText(message);
     log.tell(&format_args!("{direction} {text}{meaning}"));
-    match direction {
-        Direction::Out => statuses.ask(&message),
-        Direction::In => {
-            if statuses.answer() {
-                log.tell(&format_args!("status answered {MANY} times: {HINT}"));
-            }
-        }
-    }
 }
 
 // The burst ends: tells where it was cut.

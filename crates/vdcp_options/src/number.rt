@@ -3,7 +3,7 @@ ghost use Rattle.std.specs.Prelude.{◌≡◌, ◌≤◌, ℕ, codes, IfSome, No
 ghost use Rattle.vdcp_options.specs.Options.{GivesNumber, WritesNumber, default_idle, idle_bound};
 
 use clap::{Arg, ArgMatches, value_parser};
-use std::alloc::Global;
+use std::alloc::{AllocError, Global};
 
 /// An option whose value is a number, in decimal digits, from `least` to `most`.
 pub struct NumberOption {
@@ -41,16 +41,6 @@ pub const LIMIT: NumberOption = NumberOption {
     least: 1,
     most: 1_000,
     default: "3",
-    help: "The controller gives up after this many unanswered exchanges in a row, 1 to 1000",
-};
-
-/// The limit over TCP: before the port is given up the system can send what was lost again, and once more.
-pub const RUN_LIMIT: NumberOption = NumberOption {
-    name: "limit",
-    value_name: "L",
-    least: 1,
-    most: 1_000,
-    default: "10",
     help: "The controller gives up after this many unanswered exchanges in a row, 1 to 1000",
 };
 
@@ -189,6 +179,22 @@ pub fn number_option<'a>(alloc: Global, option: &NumberOption) -> Arg<'a> {
         .value_parser(value_parser!(u32).range(range))
         .default_value(option.default)
         .help(option.help)
+}
+
+/// The option `--limit` of a run, for the command line. Left out, it says none.
+pub fn run_limit_option<'a>(alloc: Global) -> Arg<'a> {
+    Arg::new(alloc, "limit")
+        .long("limit")
+        .value_name("L")
+        .value_parser(value_parser!(u32).range(1..=1_000))
+        .help(
+            "The controller gives up after this many unanswered exchanges in a row, at most 1000; left out it is 3, with --prompt 10",
+        )
+}
+
+/// The option `--poll`, for the command line: it needs `--prompt`.
+pub fn poll_option<'a>(alloc: Global) -> Result<Arg<'a>, AllocError> {
+    number_option(alloc, &POLL).requires_arg("prompt")
 }
 
 /// The option `--idle`, for the command line: a number of seconds, 0 to 86400. Left out, it says none.

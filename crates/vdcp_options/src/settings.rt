@@ -138,6 +138,12 @@ pub fn run_settings_of<'a>(matches: &'a ArgMatches<'_>) -> RunSettings<'a>
     ensures rates { (rate : Rate) → GivesRate (found_of matches.now) (codes "rate") rate → result.rate ≡ rate }
     ensures confirms { HasFlag (found_of matches.now) (codes "confirm") true → result.confirm ≡ true }
     ensures confirms_not { HasFlag (found_of matches.now) (codes "confirm") false → result.confirm ≡ false }
+    ensures plain_limit { first_value (found_of matches.now) (codes "limit") ≡ None →
+        HasFlag (found_of matches.now) (codes "prompt") false → result.limit ≡ 3 }
+    ensures prompt_limit { first_value (found_of matches.now) (codes "limit") ≡ None →
+        HasFlag (found_of matches.now) (codes "prompt") true → result.limit ≡ 10 }
+    ensures asks { HasFlag (found_of matches.now) (codes "ask") true → result.ask ≡ true }
+    ensures asks_not { HasFlag (found_of matches.now) (codes "ask") false → result.ask ≡ false }
     ensures prompts { HasFlag (found_of matches.now) (codes "prompt") true →
         (n : ℕ) → GivesNumber (found_of matches.now) (codes "poll") 0 60000 n → result.hearing ≡ Hearing.AtOnce n }
     ensures prompts_not { HasFlag (found_of matches.now) (codes "prompt") false →
@@ -153,8 +159,9 @@ pub fn run_settings_of<'a>(matches: &'a ArgMatches<'_>) -> RunSettings<'a>
     RunSettings {
         unit: unit_of(matches),
         port: port_of(matches),
-        limit: limit_of(matches),
+        limit: run_limit_of(matches),
         confirm: flag_of(matches, "confirm"),
+        ask: flag_of(matches, "ask"),
         rate: rate_of(matches),
         silence: number_of(matches, &RUN_SILENCE),
         hearing: hearing_of(matches),
@@ -164,6 +171,23 @@ pub fn run_settings_of<'a>(matches: &'a ArgMatches<'_>) -> RunSettings<'a>
         asrun: matches.get_str("asrun"),
         journal: journal_of(matches),
     }
+}
+
+// After how many unanswered exchanges in a row the controller gives up, by the specification. On a line that keeps order
+// the system sends what was lost again, and once more, before that.
+fn run_limit_of(matches: &ArgMatches) -> u32
+    ensures least { 1 ≤ result }
+    ensures most { result ≤ 1000 }
+    ensures number { (n : ℕ) → GivesNumber (found_of matches.now) (codes "limit") 1 1000 n → result ≡ n }
+    ensures plain { first_value (found_of matches.now) (codes "limit") ≡ None →
+        HasFlag (found_of matches.now) (codes "prompt") false → result ≡ 3 }
+    ensures prompt { first_value (found_of matches.now) (codes "limit") ≡ None →
+        HasFlag (found_of matches.now) (codes "prompt") true → result ≡ 10 }
+{
+    if let Some(_) = matches.get_str("limit") {
+        return limit_of(matches);
+    }
+    if flag_of(matches, "prompt") { 10 } else { 3 }
 }
 
 // When answers are heard.

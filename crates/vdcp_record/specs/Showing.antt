@@ -2,7 +2,7 @@
 use Rattle.csv.specs.Writing.{default_writer, row_text}
 use Rattle.sha2.specs.Sha256.{sha256}
 use Rattle.std.specs.Io.KnownBytes.{Appends, Keeps}
-use Rattle.std.specs.Prelude.{ℕ, ◌≡◌, ◌≤◌, ◌+◌, ◌∷◌, ◌++◌, List, [], Option, None, Some, IfSome, codes, decimal, drop, if◌then◌else◌, length, take}
+use Rattle.std.specs.Prelude.{ℕ, ◌≡◌, ◌≤◌, ◌+◌, ◌∷◌, ◌++◌, List, [], Option, None, Some, IfSome, false, codes, decimal, drop, if◌then◌else◌, length, take}
 use Rattle.vdcp_auto.specs.Law.{IsLawful}
 use Rattle.vdcp_auto.specs.Turn.{start}
 use Rattle.vdcp_files.specs.Files.{File, bytes_of}
@@ -81,6 +81,15 @@ pub record ShowsRows (settings : AsrunSettings) (items : List Item) (heading : H
   pub text : List ℕ
   pub runs : ShowRuns settings items heading (runs_of rows) text told
   pub printed : Appends old new (heading_text settings items ++ text)
+
+-- the text is the as-run list, without times, of some journal of these items
+pub record IsAsrunOf (rate : Rate) (items : List Item) (text : List ℕ) : Type 0 where
+  pub bytes : List ℕ
+  pub read : Journal
+  pub is_journal : IsJournal bytes read
+  pub told : List ℕ
+  pub shows : ShowsRows (record { rate = rate; times = false; may_have_aired = false }) items read.heading
+      read.rows.items (Some []) (Some text) told
 
 -- a journal with this heading is of these items: of those of a playlist, where one is given. Where none is they are any of
 -- whose controllers the rows are: by the rule book each PLAY is of the item that was cued last, so the rows alone say what

@@ -4,7 +4,7 @@ ghost use Rattle.std.specs.Prelude.{◌≡◌, ◌≢◌, ◌⊎◌, ◌≤◌, 
 ghost use Rattle.vdcp_files.specs.Files.{file};
 ghost use Rattle.vdcp_journal.specs.Journals.{IsJournal};
 ghost use Rattle.vdcp_journal.specs.Runs.{run_at, runs_of};
-ghost use Rattle.vdcp_record.specs.Showing.{IsShown, IsShownAndTold, IsToldOnly, ShowRuns, ShowsRows, ShowsRun, digest_of, event_told, heading_text, reported_text};
+ghost use Rattle.vdcp_record.specs.Showing.{IsAsrunOf, IsShown, IsShownAndTold, IsToldOnly, ShowRuns, ShowsRows, ShowsRun, digest_of, event_told, heading_text, reported_text};
 ghost use Rattle.vdcp_text.specs.Failure.{status_of};
 ghost use Rattle.vdcp_text.specs.declared.failure.Failure.TheVariants as failures;
 
@@ -12,7 +12,9 @@ use crate::named::named_events;
 use crate::reading::{journal_in, run_resumed};
 use crate::resume::read_to_end;
 use std::alloc::Global;
-use std::io::{self, Write};
+use std::fs::File;
+use std::io::{self, ErrorKind, Write};
+use std::rt::Files;
 use vdcp_auto::Source;
 use vdcp_files::NamedFile;
 use vdcp_journal::{Airing, Heading, Journal, JournalRun, airings_in, digest_of, runs_in};
@@ -58,6 +60,38 @@ pub fn do_asrun<J: io::Read + Drop, L: io::Read + Drop, W: io::Write, E: io::Wri
     match print_asrun(alloc, journal, list, settings, out) {
         Ok(told) => tell(told.as_slice(), err),
         Err(failure) => failure.report(err),
+    }
+}
+
+/// The as-run list that the journal of this name shows, of these events: what `do_asrun` prints of the two. It is read as
+/// it is, whoever writes it.
+pub fn asrun_of_journal<'a, R: Files + AllocGlobal, S: Source>(
+    rt: &R,
+    name: &'a str,
+    events: &S,
+    rate: Rate,
+) -> Result<Vec<u8>, Failure<'a>>
+    ensures { IfOk result (λ text. IsAsrunOf rate (S.items events.now) text.items) }
+{
+    let alloc = rt.alloc();
+    let mut file = match File::open(rt, name) {
+        Ok(file) => file,
+        Err(error) if error.kind() == ErrorKind::OutOfMemory => return Err(Failure::Memory),
+        Err(_) => return Err(Failure::Open(name)),
+    };
+    let mut bytes = Vec::new(alloc);
+    read_to_end(name, &mut file, &mut bytes)?;
+    let journal = journal_in(alloc, name, bytes.as_slice())?;
+    let settings = AsrunSettings {
+        rate,
+        times: false,
+        may_have_aired: false,
+    };
+    let mut text = Vec::new(alloc);
+    match print_rows(alloc, name, &journal, events, settings, &mut text) {
+        Ok(_) => Ok(text),
+        Err(Failure::Writer) => Err(Failure::Memory),
+        Err(failure) => Err(failure),
     }
 }
 

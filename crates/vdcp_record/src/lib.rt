@@ -4,7 +4,7 @@
 //! `run` and `run_prompt` run an automation, and `finish` writes what is left. `resume_journal` makes the controller of
 //! a journal's last run anew, and a `Recorder` that appends to it; `replay` makes the controller of bytes alone.
 //! `begin_again` begins a new controller after that run. `do_asrun` prints the as-run list that a journal shows, as its
-//! `AsrunSettings` say. Each failure is told in one line.
+//! `AsrunSettings` say, and `asrun_of_journal` gives it. Each failure is told in one line.
 //!
 //! Files: `file` (a file whose bytes are safe once it says so; it is made, opened and locked), `pending` and `recorder`
 //! (what is still to be written; the rows), `begin`, `reading` (a journal's bytes against what is wanted), `mending` (what a
@@ -24,7 +24,7 @@ mod recorder;
 mod resume;
 
 pub use again::begin_again;
-pub use asrun::{AsrunSettings, do_asrun};
+pub use asrun::{AsrunSettings, asrun_of_journal, do_asrun};
 pub use begin::begin_journal;
 pub use file::{AppendFault, JournalFile};
 pub use pending::RecordFault;

@@ -21,7 +21,7 @@ use Rattle.vdcp_text.specs.declared.failure.Failure.TheVariants as failures
 use Rattle.vdcp_files.specs.Files.{File, bytes_of, file, file_failure}
 use Rattle.vdcp_list.specs.Playlists.{IsListOf}
 use Rattle.vdcp_wire.specs.Address.{IsAddress}
-use Rattle.vdcp_run.specs.Run.{IsEventRefused, IsJournalOf, IsJournalRefused, IsListRefused, IsNoEvent, IsNotBegun, IsPlaceRefused, IsRunRefused, IsUnkept, IsUnkeptOf, IsUnplayed, heading_for, is_of_other_list, name_of_file, no_address, no_event, no_journal, no_list, no_place, not_connected, not_empty, told_of_list}
+use Rattle.vdcp_run.specs.Run.{IsEventRefused, IsJournalRefused, IsListRefused, IsNoEvent, IsNotBegun, IsOverList, IsPlaceRefused, IsRunRefused, IsUnkept, IsUnkeptOf, IsUnplayed, heading_for, is_of_other_list, name_of_file, no_address, no_event, no_journal, no_list, no_place, not_connected, not_empty, told_of_list}
 use Rattle.vdcp_run.specs.declared.keeping.RunJournal.{RunJournal}
 use Rattle.vdcp_run.specs.declared.keeping.RunJournal.TheVariants as journals
 use Rattle.vdcp_run.specs.declared.run.RunSettings.{RunSettings}
@@ -53,6 +53,10 @@ keeps_itself None = tt
 keeps_itself (Some xs) = refl
 
 -- that of a name for the as-run file is 3
+list_place_status : (name : Option (Bor (List ℕ))) (failure : Failure) → IsOverList name failure → status_of failure ≡ 3
+list_place_status None failure refused = absurd refused
+list_place_status (Some name) failure e = ap status_of e
+
 place_status : (name : Option (Bor (List ℕ))) (failure : Failure) → IsPlaceRefused name failure → status_of failure ≡ 3
 place_status None failure refused = absurd refused
 place_status (Some name) failure (inl e) = ap status_of e
@@ -135,16 +139,12 @@ journal_status settings items (journals.Older name) failure h =
 journal_status settings items (journals.Again name) failure h =
     unopened_again_status items name (heading_for settings items) settings.from failure h
 
-asrun_status : (name : Option (Bor (List ℕ))) (failure : Failure) → IsJournalOf name failure → one_or_three failure
-asrun_status None failure is = absurd is
-asrun_status (Some name) failure e = inr (ap status_of e)
-
 unkept_status : (settings : RunSettings) (items : List Item) (journal : Option RunJournal) (failure : Failure)
     → IsUnkept settings items journal failure → one_or_three failure
 unkept_status settings items None failure h = absurd h
 unkept_status settings items (Some journal) failure (inl e) = inr (ap status_of e)
 unkept_status settings items (Some journal) failure (inr (inl h)) = journal_status settings items journal failure h
-unkept_status settings items (Some journal) failure (inr (inr h)) = asrun_status settings.asrun failure h
+unkept_status settings items (Some journal) failure (inr (inr h)) = inr (place_status settings.asrun failure h)
 
 -- also where the list isn't the journal's
 told_status_if : (is_other : Bool) (list : Bor (List ℕ)) (failure : Failure) → one_or_three failure
@@ -176,7 +176,7 @@ told_with_2 settings text list failure status err err' (no_event some items list
     let one : status_of failure ≡ 1 = no_event_status settings.from items failure missing in
     absurd (omega (arith, one, own_status failure status is two))
 told_with_2 settings text list failure status err err' (no_place some whole refused) is told two =
-    let three : status_of failure ≡ 3 = place_status settings.asrun failure refused in
+    let three : status_of failure ≡ 3 = list_place_status settings.asrun failure refused in
     absurd (omega (arith, three, own_status failure status is two))
 told_with_2 settings text list failure status err err' (no_journal some items lists unkept refused e) is told two =
     let known = subst one_or_three (sym e)
@@ -216,7 +216,7 @@ told_with_1 settings text list failure status out err err' (no_event some items 
       silent = keeps_itself out;
     })))
 told_with_1 settings text list failure status out err err' (no_place some whole refused) is told one =
-    let three : status_of failure ≡ 3 = place_status settings.asrun failure refused in
+    let three : status_of failure ≡ 3 = list_place_status settings.asrun failure refused in
     absurd (omega (arith, three, own_status_1 failure status is one))
 told_with_1 settings text list failure status out err err' (no_journal some items lists unkept refused e) is told one =
     inr (inl (record {

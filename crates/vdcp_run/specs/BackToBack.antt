@@ -63,6 +63,11 @@ abbrev pub state_with : Reply → Option Reply → Option Reply
 state_with (reply.State groups (Some byte)) before = Some (reply.State groups (Some byte))
 state_with _ before = before
 
+-- how long the last answer took that was a state, once this one was heard now: since it was asked for
+abbrev pub took_with : Reply → (now asked before : ℕ) → ℕ
+took_with (reply.State groups (Some byte)) now asked before = now - asked
+took_with _ now asked before = before
+
 -- the next event is cued, and the last one still plays
 abbrev pub is_waiting : Option Reply → Bool
 is_waiting None = false

@@ -27,10 +27,3 @@ Lapses does true since' (brings what) old new = (what ≡ silence) × (new ≡ o
 Lapses does false since' (brings what) old new = does (brings what) old new
 Lapses does lapsed since' drops old new = does drops old new
 Lapses does lapsed since' fails old new = does fails old new
-
--- what a dead line may do: bring nothing
-abbrev pub IsDead : Act → Type 0
-IsDead (sends bytes) = Unit {0}
-IsDead (brings what) = what ≡ silence
-IsDead drops = Unit {0}
-IsDead fails = ⊥

@@ -25,15 +25,16 @@ use Rattle.vdcp_list.specs.Playlists.{IsListOf}
 use Rattle.vdcp_list.specs.Rests.{FromEvent, items_left}
 use Rattle.vdcp_record.specs.Recording.{IsUnbegun}
 use Rattle.vdcp_record.specs.Resuming.{IsOpenedAgain, IsReplayed, IsUnopenedAgain, IsUnresumed}
-use Rattle.vdcp_record.specs.Showing.{digest_of}
+use Rattle.vdcp_record.specs.Showing.{IsAsrunOf, digest_of}
 use Rattle.vdcp_text.specs.Outcome.{outcome_text}
 use Rattle.vdcp_drive.specs.declared.keep.KeptFault.{KeptFault}
 use Rattle.vdcp_drive.specs.declared.keep.KeptFault.TheVariants as fault
 use Rattle.vdcp_drive.specs.declared.line.Ran.{Ran}
 use Rattle.vdcp_drive.specs.declared.line.Ran.TheVariants as ran
+use Rattle.vdcp_drive.specs.declared.vacancy.Vacancy.{Vacancy}
+use Rattle.vdcp_drive.specs.declared.vacancy.Vacancy.TheVariants as vacancy
 use Rattle.vdcp_wire.specs.Address.{IsAddress}
-use Rattle.vdcp_run.specs.declared.asrun.Older.{Older}
-use Rattle.vdcp_run.specs.declared.asrun.Older.TheVariants as older
+use Rattle.vdcp_wire.specs.declared.wire.WireFault.{WireFault}
 use Rattle.vdcp_run.specs.declared.keeping.Keeping.{Keeping}
 use Rattle.vdcp_run.specs.declared.keeping.Keeping.TheVariants as keeping
 use Rattle.vdcp_run.specs.declared.keeping.RunJournal.{RunJournal}
@@ -97,6 +98,17 @@ line_failure line_end.Spent = Some failures.Spent
 line_failure line_end.Failed = Some failures.LineFailed
 line_failure line_end.Unkept = None
 line_failure line_end.Occupied = Some failures.NotEmpty
+line_failure line_end.Unanswered = None
+
+-- of a list that isn't begun, by what the port was found to be
+abbrev pub unbegun_line : Result Vacancy WireFault → LineEnd
+unbegun_line (Ok vacancy.Unanswered) = line_end.Unanswered
+unbegun_line (Ok vacancy.Closed) = line_end.Closed
+unbegun_line (Ok vacancy.Spent) = line_end.Spent
+unbegun_line (Ok vacancy.Vacant) = line_end.Occupied
+unbegun_line (Ok (vacancy.Occupied state)) = line_end.Occupied
+unbegun_line (Ok vacancy.Denied) = line_end.Occupied
+unbegun_line (Err fault) = line_end.Failed
 
 -- ---- the as-run file
 
@@ -105,28 +117,41 @@ abbrev pub IsUnwritten : Bor (List ℕ) → Failure → Type 0
 IsUnwritten name failure = (failure ≡ failures.Open name)
     ⊎ ((failure ≡ failures.Write name) ⊎ (failure ≡ failures.Memory))
 
--- where no file is named nothing is written, and that is no failure
-abbrev pub MayBeUnwritten : Option (Bor (List ℕ)) → Option Failure → Type 0
-MayBeUnwritten name None = Unit {0}
-MayBeUnwritten None (Some failure) = ⊥
-MayBeUnwritten (Some name) (Some failure) = IsUnwritten name failure
+-- why there is no list for the file: memory was refused, or the journal that goes on is
+abbrev pub IsUnlisted : Option RunJournal → Failure → Type 0
+IsUnlisted None failure = failure ≡ failures.Memory
+IsUnlisted (Some (journals.New name)) failure = failure ≡ failures.Memory
+IsUnlisted (Some (journals.Older name)) failure = Unit {0}
+IsUnlisted (Some (journals.Again name)) failure = Unit {0}
 
--- why a run isn't begun with this name for its file, if it has one: it names the list, or the file can't have its list
+-- where no file is named nothing is written, and that is no failure
+abbrev pub MayBeUnwritten : Option (Bor (List ℕ)) → Option RunJournal → Option Failure → Type 0
+MayBeUnwritten name journal None = Unit {0}
+MayBeUnwritten None journal (Some failure) = ⊥
+MayBeUnwritten (Some name) journal (Some failure) = IsUnwritten name failure ⊎ IsUnlisted journal failure
+
+-- the file that is named for the as-run list, if one is, is the list
+abbrev pub IsOverList : Option (Bor (List ℕ)) → Failure → Type 0
+IsOverList None failure = ⊥
+IsOverList (Some name) failure = failure ≡ failures.IsList name
+
+-- it is a file that has to stay, or can't have its list
 abbrev pub IsPlaceRefused : Option (Bor (List ℕ)) → Failure → Type 0
 IsPlaceRefused None failure = ⊥
-IsPlaceRefused (Some name) failure = (failure ≡ failures.IsList name) ⊎ IsUnwritten name failure
-
--- what becomes of an older file, by how many events are reported and whether the port has answered
-abbrev pub older_after : ℕ → Bool → Older
-older_after zero false = older.Kept
-older_after zero true = older.Replaced
-older_after (suc n) answered = older.Replaced
+IsPlaceRefused (Some name) failure = (failure ≡ failures.Exists name) ⊎ IsUnwritten name failure
 
 -- the text of the list: the events that a controller reports of the rest of a list, with the numbers of the whole list
 abbrev pub reported_text : {S : Type 0} → Rate → (S → List Item) → View (FromEvent S) → List ℕ
 reported_text rate items controller =
     events_text rate (has_part (items controller.source.source)) controller.source.from
     (take controller.state.settled (drop controller.source.from (items controller.source.source)))
+
+-- the text that the file gets: where a journal goes on all that it shows
+abbrev pub IsListed : {S : Type 0} → (S → List Item) → Rate → Option RunJournal → View (FromEvent S) → List ℕ → Type 0
+IsListed items rate None controller text = text ≡ reported_text rate items controller
+IsListed items rate (Some (journals.New name)) controller text = text ≡ reported_text rate items controller
+IsListed items rate (Some (journals.Older name)) controller text = IsAsrunOf rate (items controller.source.source) text
+IsListed items rate (Some (journals.Again name)) controller text = IsAsrunOf rate (items controller.source.source) text
 
 -- ---- the journal
 
@@ -162,17 +187,12 @@ IsJournalRefused settings items (journals.Older name) failure =
 IsJournalRefused settings items (journals.Again name) failure =
     IsUnopenedAgain items name (heading_for settings items) settings.from failure
 
--- the file that is named for the as-run list is the journal
-abbrev pub IsJournalOf : Option (Bor (List ℕ)) → Failure → Type 0
-IsJournalOf None failure = ⊥
-IsJournalOf (Some name) failure = failure ≡ failures.Exists name
-
--- why a run of these items isn't begun with this journal, if it has one: that can't be kept, or it is the as-run file
+-- why a run of these items isn't begun with this journal, if it has one: that can't be kept, or the as-run list can't be
 abbrev pub IsUnkept : RunSettings → List Item → Option RunJournal → Failure → Type 0
 IsUnkept settings items None failure = ⊥
 IsUnkept settings items (Some journal) failure =
     (failure ≡ failures.Memory) ⊎ (IsJournalRefused settings items journal failure
-    ⊎ IsJournalOf settings.asrun failure)
+    ⊎ IsPlaceRefused settings.asrun failure)
 
 -- why the journal of this name isn't whole, if it isn't: it can't be written, or memory was refused
 abbrev pub MayBeUnkept : Option (Bor (List ℕ)) → Option Failure → Type 0
@@ -188,9 +208,20 @@ IsOpening (Some command) = ⊥
 
 -- ---- what is printed and reported
 
+-- a port that didn't answer its questions is lost
+abbrev pub told_outcome : LineEnd → Option Outcome → Option Outcome
+told_outcome line_end.Unanswered outcome = Some Lost
+told_outcome line_end.Unneeded outcome = outcome
+told_outcome line_end.Closed outcome = outcome
+told_outcome line_end.Spent outcome = outcome
+told_outcome line_end.Failed outcome = outcome
+told_outcome line_end.Unkept outcome = outcome
+told_outcome line_end.Occupied outcome = outcome
+
 -- the lines of how many events are reported, and how the controller ended
 abbrev pub end_text : RunEnd → List ℕ
-end_text end = line (codes "reported " ++ decimal end.reported) ++ line (codes "outcome " ++ outcome_text end.outcome)
+end_text end =
+    line (codes "reported " ++ decimal end.reported) ++ line (codes "outcome " ++ outcome_text (told_outcome end.line end.outcome))
 
 abbrev pub fault_text : Option Failure → List ℕ
 fault_text None = []
@@ -221,7 +252,7 @@ status_unless (Some failure) status = 3
 abbrev pub run_status : RunEnd → ℕ
 run_status end =
     status_unless end.unwritten
-    (status_unless end.unkept (status_unless (line_failure end.line) (outcome_status end.outcome)))
+    (status_unless end.unkept (status_unless (line_failure end.line) (outcome_status (told_outcome end.line end.outcome))))
 
 -- ---- the whole
 
@@ -289,7 +320,7 @@ pub record IsPlayed (settings : RunSettings) (list : File) (end : RunEnd) : Type
   pub items : List Item
   pub lists : IsListOf settings.rate (bytes_of list) items
   pub runs : IsRunOf settings items settings.journal end
-  pub unwritten : MayBeUnwritten settings.asrun end.unwritten
+  pub unwritten : MayBeUnwritten settings.asrun settings.journal end.unwritten
   pub unkept : MayBeUnkept (option_map name_of settings.journal) end.unkept
 
 -- the list was played to this end: a writer gained the lines of that, and this is the status
@@ -319,14 +350,14 @@ IsUnkeptOf settings list items journal failure =
     (unkept : Failure) × IsUnkept settings items (Some journal) unkept × (failure ≡ told_of_list list unkept)
 
 -- why a list isn't played: the text is no address, or else the list isn't read, or else it has no event to begin with, or
--- else the as-run list can't be written, or else the journal can't be kept, or else nobody takes the connection, or else
+-- else the as-run file is the list, or else the journal can't be kept, or else nobody takes the connection, or else
 -- the port isn't empty
 pub data IsUnplayed (settings : RunSettings) (text : List ℕ) (list : File) (failure : Failure) : Type 0 where
   no_address : ¬ IsAddress text → failure ≡ failures.Address → IsUnplayed settings text list failure
   no_list : IsAddress text → RefusesList settings.rate list failure → IsUnplayed settings text list failure
   no_event : IsAddress text → (items : List Item) → IsListOf settings.rate (bytes_of list) items →
       IsNoEvent settings.from items failure → IsUnplayed settings text list failure
-  no_place : IsAddress text → IsWholeList settings.rate list → IsPlaceRefused settings.asrun failure →
+  no_place : IsAddress text → IsWholeList settings.rate list → IsOverList settings.asrun failure →
       IsUnplayed settings text list failure
   no_journal : IsAddress text → (items : List Item) → IsListOf settings.rate (bytes_of list) items →
       (unkept : Failure) → IsUnkept settings items settings.journal unkept →

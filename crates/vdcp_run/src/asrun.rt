@@ -1,72 +1,118 @@
-ghost use Rattle.std.specs.Io.KnownBytes.{Appends, Keeps};
-ghost use Rattle.std.specs.Prelude.{◌≡◌, ◌≢◌, IfErr, OnOk};
-ghost use Rattle.vdcp_list.specs.Asrun.{AppendsBeginning};
-ghost use Rattle.vdcp_run.specs.Run.{IsUnwritten, older_after, reported_text};
+ghost use Rattle.std.specs.Io.KnownBytes.{Appends};
+ghost use Rattle.std.specs.Prelude.{◌≡◌, IfErr, IfOk, OnOk};
+ghost use Rattle.vdcp_run.specs.Run.{IsListed, IsUnlisted, IsUnwritten, MayBeUnwritten, reported_text};
 
+use crate::keeping::RunJournal;
 use crate::place::{Place, make_beside, not_made};
-use std::alloc::Global;
+use crate::run::RunSettings;
 use std::fs::{self, File, OpenFile};
-use std::io;
+use std::io::{self, ErrorKind};
 use std::path::Path;
 use std::rt::Files;
 use vdcp_auto::{Controller, Source};
-use vdcp_list::{Rest, WriteFault, write_events};
+use vdcp_list::{Rest, write_events};
+use vdcp_record::asrun_of_journal;
 use vdcp_text::Failure;
 use vdcp_value::Rate;
 
-/// What becomes of an older file.
-#[derive(Clone, Copy, Debug, PartialEq, Eq)]
-pub enum Older {
-    /// The new list takes its place.
-    Replaced,
-    /// It stays, and no list is written.
-    Kept,
+/// Makes the as-run file of a run that has ended, if one is named. An older file is there, whole, until the new one is;
+/// one of other bytes is kept beside, as `NAME.~N~`.
+pub fn save_asrun<'a, R: Files + AllocGlobal, S: Source>(
+    rt: &R,
+    controller: &Controller<Rest<S>>,
+    settings: RunSettings<'a>,
+) -> Option<Failure<'a>>
+    ensures { MayBeUnwritten settings.entry.asrun settings.entry.journal result }
+{
+    let name = settings.asrun?;
+    let text = match listed(rt, controller, settings) {
+        Ok(text) => text,
+        Err(failure) => return Some(failure),
+    };
+    save_text(rt, name, text.as_slice()).err()
 }
 
-impl Older {
-    /// After a run that reports this many events, and to which the port answered or never did.
-    pub fn after(reported: usize, is_answered: bool) -> Older
-        ensures { result ≡ older_after reported is_answered }
-    {
-        if reported == 0 && !is_answered {
-            Older::Kept
-        } else {
-            Older::Replaced
-        }
+// The as-run list: where a journal went on all that it shows, else what the controller reports.
+fn listed<'a, R: Files + AllocGlobal, S: Source>(
+    rt: &R,
+    controller: &Controller<Rest<S>>,
+    settings: RunSettings<'a>,
+) -> Result<Vec<u8>, Failure<'a>>
+    ensures listed { IfOk result (λ text. IsListed S.items settings.entry.rate settings.entry.journal controller.now
+        text.items) }
+    ensures unlisted { IfErr result (IsUnlisted settings.entry.journal) }
+{
+    let events = controller.source().whole();
+    match settings.journal {
+        Some(RunJournal::Older(name)) => asrun_of_journal(rt, name, events, settings.rate),
+        Some(RunJournal::Again(name)) => asrun_of_journal(rt, name, events, settings.rate),
+        Some(RunJournal::New(_)) => reported(rt, controller, settings.rate),
+        None => reported(rt, controller, settings.rate),
     }
 }
 
-/// Makes the file of this name and writes the as-run list to it: the events that the controller reports, with the
-/// numbers of the whole list. An older file is there, whole, until the new one is.
-pub fn save_asrun<'a, R: Files + AllocGlobal, S: Source>(
+// The events that the controller reports, with the numbers of the whole list.
+fn reported<'a, R: AllocGlobal, S: Source>(
     rt: &R,
-    name: &'a str,
-    older: Older,
     controller: &Controller<Rest<S>>,
     rate: Rate,
+) -> Result<Vec<u8>, Failure<'a>>
+    ensures text { IfOk result (λ text. text.items ≡ reported_text rate S.items controller.now) }
+    ensures memory { IfErr result (λ failure. failure ≡ Failure.Memory) }
+{
+    let alloc = rt.alloc();
+    let rest = controller.source();
+    let mut text = Vec::new(alloc);
+    // (the text is written to memory, and each part of a list was read at this rate)
+    match write_events(
+        alloc,
+        rest.whole(),
+        rate,
+        rest.from(),
+        controller.settled(),
+        &mut text,
+    ) {
+        Ok(()) => Ok(text),
+        Err(_) => Err(Failure::Memory),
+    }
+}
+
+// Makes the file of this name with this text.
+fn save_text<'a, R: Files + AllocGlobal>(
+    rt: &R,
+    name: &'a str,
+    text: &[u8],
 ) -> Result<(), Failure<'a>>
     ensures { IfErr result (IsUnwritten name.entry) }
 {
     match Place::of(rt, name) {
-        Ok(Place::Taken(_)) if older == Older::Kept => Ok(()),
-        Ok(Place::Free(whole) | Place::Taken(whole)) => {
-            save_beside(rt, name, whole.as_str(), controller, rate)
-        }
+        Ok(Place::Taken(whole)) if has_bytes(rt, whole.as_str(), text) => Ok(()),
+        Ok(Place::Free(whole) | Place::Taken(whole)) => save_beside(rt, name, whole.as_str(), text),
         Ok(Place::Device) => match fs::create(rt, name) {
-            Ok(mut file) => save_to(rt, name, &mut file, controller, rate),
+            Ok(mut file) => write_to(name, &mut file, text),
             Err(error) => Err(not_made(&error, name)),
         },
         Err(error) => Err(not_made(&error, name)),
     }
 }
 
-// Writes the list to a new file beside the whole name, which then gets that name.
-fn save_beside<'a, R: Files + AllocGlobal, S: Source>(
+// Whether the file of this name can be read, and has just these bytes.
+fn has_bytes<R: Files + AllocGlobal>(rt: &R, name: &str, bytes: &[u8]) -> bool {
+    match fs::metadata(rt, name) {
+        Ok(found) if found.len() == bytes.len() as u64 => match fs::read(rt, name) {
+            Ok(older) => older.as_slice() == bytes,
+            Err(_) => false,
+        },
+        _ => false,
+    }
+}
+
+// Writes the text to a new file beside the whole name, which then gets that name.
+fn save_beside<'a, R: Files + AllocGlobal>(
     rt: &R,
     name: &'a str,
     whole: &str,
-    controller: &Controller<Rest<S>>,
-    rate: Rate,
+    text: &[u8],
 ) -> Result<(), Failure<'a>>
     ensures { IfErr result (IsUnwritten name.entry) }
 {
@@ -74,26 +120,63 @@ fn save_beside<'a, R: Files + AllocGlobal, S: Source>(
         Ok(made) => made,
         Err(error) => return Err(not_made(&error, name)),
     };
-    let saved = save_to(rt, name, &mut file, controller, rate);
+    let saved = match write_to(name, &mut file, text) {
+        Ok(()) => put_in_place(rt, name, &file, beside.as_str(), whole),
+        Err(failure) => Err(failure),
+    };
     if saved.is_err() {
         let _ = fs::remove_file(rt, beside.as_str());
-        return saved;
     }
-    if put_in_place(rt, &file, beside.as_str(), whole).is_err() {
-        let _ = fs::remove_file(rt, beside.as_str());
+    saved
+}
+
+// Writes the text to a file, which has the name for the fault.
+fn write_to<'a, W: io::Write>(name: &'a str, file: &mut W, text: &[u8]) -> Result<(), Failure<'a>>
+    ensures written { OnOk result (Appends (W.contents file.old) (W.contents file.new) text.now) }
+    ensures failed { IfErr result (λ failure. failure ≡ Failure.Write name.entry) }
+{
+    if file.write_all(text).is_err() || file.flush().is_err() {
         return Err(Failure::Write(name));
     }
     Ok(())
 }
 
 // Gives a file that is written the whole name, once its bytes are on the disk. It may be written by whom the older one
-// might.
-fn put_in_place<R: Files>(rt: &R, file: &R::File, beside: &str, whole: &str) -> io::Result<()> {
+// might, which is kept beside.
+fn put_in_place<'a, R: Files + AllocGlobal>(
+    rt: &R,
+    name: &'a str,
+    file: &R::File,
+    beside: &str,
+    whole: &str,
+) -> Result<(), Failure<'a>>
+    ensures { IfErr result (IsUnwritten name.entry) }
+{
+    match take_name(rt, file, beside, whole) {
+        Ok(()) => Ok(()),
+        Err(error) if error.kind() == ErrorKind::OutOfMemory => Err(Failure::Memory),
+        Err(_) => Err(Failure::Write(name)),
+    }
+}
+
+fn take_name<R: Files + AllocGlobal>(
+    rt: &R,
+    file: &R::File,
+    beside: &str,
+    whole: &str,
+) -> io::Result<()> {
+    file.sync_all()?;
+    let mut kept = None;
     if let Ok(older) = fs::metadata(rt, whole) {
         let _ = file.set_permissions(older.permissions());
+        kept = keep_older(rt, whole)?;
     }
-    file.sync_all()?;
-    fs::rename(rt, beside, whole)?;
+    if let Err(error) = fs::rename(rt, beside, whole) {
+        if let Some(kept) = kept {
+            let _ = fs::remove_file(rt, kept.as_str());
+        }
+        return Err(error);
+    }
     // (that it has the name is on the disk once the folder is, where the system can say that of a folder)
     if let Some(folder) = Path::new(whole).parent() {
         if let Ok(folder) = File::open(rt, folder) {
@@ -103,45 +186,19 @@ fn put_in_place<R: Files>(rt: &R, file: &R::File, beside: &str, whole: &str) -> 
     Ok(())
 }
 
-// Writes the list to a file, which has the name for the fault.
-fn save_to<'a, R: AllocGlobal, S: Source, W: io::Write>(
-    rt: &R,
-    name: &'a str,
-    file: &mut W,
-    controller: &Controller<Rest<S>>,
-    rate: Rate,
-) -> Result<(), Failure<'a>>
-    ensures { IfErr result (IsUnwritten name.entry) }
-{
-    match write_reported(rt.alloc(), controller, rate, file) {
-        Ok(()) => Ok(()),
-        Err(WriteFault::Memory) => Err(Failure::Memory),
-        // (each part of a list was read at the rate at which it is written)
-        Err(WriteFault::Device | WriteFault::Time(_)) => Err(Failure::Write(name)),
+// Keeps a file as `NAME.~N~`, too, by the first N from 1 that no file has, and gives that name.
+fn keep_older<R: Files + AllocGlobal>(rt: &R, name: &str) -> io::Result<Option<String>> {
+    for number in 1..u32::MAX {
+        let kept = format!(in rt.alloc(); "{name}.~{number}~")?;
+        match fs::hard_link(rt, name, kept.as_str()) {
+            Ok(()) => return Ok(Some(kept)),
+            Err(error) if error.kind() == ErrorKind::AlreadyExists => {}
+            Err(_) => {
+                // (where a file can't have two names it changes its own, which for a moment no file has)
+                fs::rename(rt, name, kept.as_str())?;
+                return Ok(None);
+            }
+        }
     }
-}
-
-/// Writes the as-run list of the events that the controller reports, and flushes the writer.
-fn write_reported<S: Source, W: io::Write>(
-    alloc: Global,
-    controller: &Controller<Rest<S>>,
-    rate: Rate,
-    writer: &mut W,
-) -> Result<(), WriteFault>
-    ensures ok { OnOk result (Appends (W.contents writer.old) (W.contents writer.new)
-        (reported_text rate S.items controller.now)) }
-    ensures kept { IfErr result (λ fault. fault ≢ WriteFault.Device →
-        Keeps (W.contents writer.old) (W.contents writer.new)) }
-    ensures beginning { IfErr result (λ fault. fault ≡ WriteFault.Device →
-        AppendsBeginning (W.contents writer.old) (W.contents writer.new) (reported_text rate S.items controller.now)) }
-{
-    let rest = controller.source();
-    write_events(
-        alloc,
-        rest.whole(),
-        rate,
-        rest.from(),
-        controller.settled(),
-        writer,
-    )
+    Err(io::Error::from(ErrorKind::AlreadyExists))
 }

@@ -1,5 +1,5 @@
 ghost use Rattle.std.specs.Prelude.{◌≡◌, ◌+◌, ◌-◌, ◌^◌, ℕ, min, OnErr, OnOk, Some};
-ghost use Rattle.vdcp_run.specs.BackToBack.{answered_at, asks_once_taken, asks_state, cued_time, is_due, is_waiting, lead, playing, state_with, taken_in, time_on_air};
+ghost use Rattle.vdcp_run.specs.BackToBack.{answered_at, asks_once_taken, asks_state, cued_time, is_due, is_waiting, lead, playing, state_with, taken_in, time_on_air, took_with};
 ghost use Rattle.vdcp_words.specs.declared.command.Command.TheVariants.{Play};
 
 use crate::keeping::Journal;
@@ -178,6 +178,7 @@ impl<'a, R: Clock, K: Journal> BackToBack<'a, R, K> {
     // A reply was heard.
     fn hear(&mut self, reply: Reply)
         ensures state { self.new.state ≡ state_with reply self.old.state }
+        ensures took { self.new.took ≡ took_with reply self.new.stopwatch.now self.old.asked self.old.took }
         ensures keeps { self.new ≡ record self.old {
           stopwatch = self.new.stopwatch;
           state = self.new.state;

@@ -6,17 +6,14 @@
 //! Files: `run`, `asrun` (the as-run file) and `place` (how it comes to be), `in_list` (the numbers of events in the
 //! whole list), `progress` (the line of a terminal that shows how far a run is), `polling` (how soon the state is asked
 //! again), `back_to_back` (when the next event is taken), `lapsing` (a silence that comes by the clock), `stopwatch`
-//! (which both read), `notice` (whether the port has answered), `keeping` (the journal of a run), `dead` (a wire on
-//! which nothing comes).
+//! (which both read), `keeping` (the journal of a run).
 #![tactic(auto)]
 
 mod asrun;
 mod back_to_back;
-mod dead;
 mod in_list;
 mod keeping;
 mod lapsing;
-mod notice;
 mod place;
 mod polling;
 mod progress;
@@ -24,4 +21,5 @@ mod run;
 mod stopwatch;
 
 pub use keeping::RunJournal;
+pub use place::test_apart;
 pub use run::{RunSettings, Showing, do_run};

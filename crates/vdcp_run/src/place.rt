@@ -1,5 +1,5 @@
 ghost use Rattle.std.specs.Prelude.{IfErr};
-ghost use Rattle.vdcp_run.specs.Run.{IsJournalOf, IsPlaceRefused, IsUnwritten};
+ghost use Rattle.vdcp_run.specs.Run.{IsOverList, IsPlaceRefused, IsUnwritten};
 
 use std::fs::{self, File, OpenFile, OpenOptions};
 use std::io::{self, ErrorKind};
@@ -52,21 +52,43 @@ impl Place {
     }
 }
 
-/// Tests, before anything is sent, whether the as-run list can come into the file that is named for it, if one is: the
-/// file isn't that of the list, and its folder takes a new file.
-pub fn test_place<'a, R: Files + AllocGlobal>(
+/// Tests that the file for the as-run list, if one is named, isn't that of the list.
+pub fn test_list<'a, R: Files>(rt: &R, name: Option<&'a str>, list: &str) -> Result<(), Failure<'a>>
+    ensures { IfErr result (IsOverList name.entry) }
+{
+    match name {
+        Some(name) if is_same_file(rt, name, list) => Err(Failure::IsList(name)),
+        _ => Ok(()),
+    }
+}
+
+/// Tests that the file for the as-run list, if one is named, isn't this other one, which has to stay: a journal, say.
+pub fn test_apart<'a, R: Files>(
     rt: &R,
     name: Option<&'a str>,
-    list: &str,
+    other: &str,
 ) -> Result<(), Failure<'a>>
     ensures { IfErr result (IsPlaceRefused name.entry) }
 {
+    match name {
+        Some(name) if is_same_file(rt, name, other) => Err(Failure::Exists(name)),
+        _ => Ok(()),
+    }
+}
+
+/// Tests, before anything is sent, that the as-run list can come into the file that is named for it, if one is: its
+/// folder takes a new file, and it isn't the journal.
+pub fn test_place<'a, R: Files + AllocGlobal>(
+    rt: &R,
+    name: Option<&'a str>,
+    journal: &str,
+) -> Result<(), Failure<'a>>
+    ensures { IfErr result (IsPlaceRefused name.entry) }
+{
+    test_apart(rt, name, journal)?;
     let Some(name) = name else {
         return Ok(());
     };
-    if is_same_file(rt, name, list) {
-        return Err(Failure::IsList(name));
-    }
     match try_place(rt, name) {
         Ok(()) => Ok(()),
         Err(error) => Err(not_made(&error, name)),
@@ -95,20 +117,6 @@ pub fn make_beside<R: Files + AllocGlobal>(rt: &R, name: &str) -> io::Result<(R:
         }
     }
     Err(io::Error::from(ErrorKind::AlreadyExists))
-}
-
-/// Tests that the file for the as-run list, if one is named, isn't that of the journal.
-pub fn test_journal<'a, R: Files>(
-    rt: &R,
-    name: Option<&'a str>,
-    journal: &str,
-) -> Result<(), Failure<'a>>
-    ensures { IfErr result (IsJournalOf name.entry) }
-{
-    match name {
-        Some(name) if is_same_file(rt, name, journal) => Err(Failure::Exists(name)),
-        _ => Ok(()),
-    }
 }
 
 // Both names are those of one file, by another path or a link.

@@ -1,14 +1,18 @@
+ghost use Rattle.std.specs.Prelude.{◌≡◌};
+
 use crate::in_list::reported_in_list;
 use arrayvec::ArrayString;
+use std::cell::Cell;
 use std::fmt::{self, Write};
 use std::io;
 use std::rt::Clock;
-use std::time::Instant;
+use std::time::{Duration, Instant};
 use vdcp_auto::{Controller, Source};
 use vdcp_drive::Watch;
 use vdcp_list::Rest;
-use vdcp_log::{HINT, MANY, Statuses, is_status, write_at_once};
+use vdcp_log::write_at_once;
 use vdcp_value::ClipId;
+use vdcp_wire::{Came, PIECE, Wire, WireFault};
 use vdcp_words::Command;
 
 /// Where nothing changed, the line is drawn again no sooner than after this time, in milliseconds.
@@ -17,29 +21,70 @@ const REDRAWN_AFTER: u128 = 100;
 /// The columns of a line at most, so that no terminal breaks it in two.
 const MOST_COLUMNS: usize = 79;
 
-/// An answered status takes two waits, for its bytes and for the silence that ends it; one where it is heard at once.
-const MANY_WAITS: u32 = 2 * MANY;
+/// How long an answer may take to come, beside the silences round it, before it is said that there is none, in
+/// milliseconds.
+const PATIENCE: u64 = 1_000;
 
 /// Puts the cursor at the front of its line, and erases that.
 const ERASE: &'static str = "\r\x1b[K";
 
-/// A line of a terminal that shows how far a run is: the event at hand, the command whose answer is awaited,
-/// how many events are reported (with the numbers of the whole list), and the time so far. It is drawn again where something changed, and ten
-/// times a second at most where nothing did. Where `MANY_WAITS` waits in a row were for the answer to a status, it says
-/// what to look at. Where the terminal or the clock fails, nothing more is drawn.
+/// A line of a terminal that shows how far a run is: the event at hand, the command whose answer is awaited, for how long
+/// nothing was answered, where that is long, how many events are reported (with the numbers of the whole list), and the
+/// time so far. It is drawn again where something changed, and ten times a second at most where nothing did.
+///
+/// A `ShownWire` draws it before each listen, and `Glances` says what is seen of the controller; before it has said
+/// anything the port is asked whether it is empty. They share the line, so its parts are in cells.
 #[derive(Drop)]
 pub struct Progress<'a, R: Clock, V: io::Write> {
     clock: &'a R,
-    terminal: V,
-    drawing: Drawing,
-    // (a wait counts as an answer)
-    waits: Statuses,
+    patience: Duration,
+    // None once it has failed, or the clock has: nothing more is drawn.
+    terminal: Cell<Option<V>>,
+    work: Cell<Work>,
+    wait: Cell<Wait>,
+    drawing: Cell<Drawing>,
+}
+
+/// What is done.
+#[derive(Clone, Copy, PartialEq, Eq)]
+enum Work {
+    /// The port is asked whether it is empty.
+    Questions,
+    /// A controller awaits an answer.
+    List {
+        /// The event that is reported next, if one is left.
+        event: Option<ClipId>,
+        command: Command,
+        /// The first event that isn't reported, by its number in the whole list.
+        reported: usize,
+        /// How many events the whole list has.
+        events: usize,
+    },
+}
+
+/// What has come since the first command that wasn't answered.
+#[derive(Clone, Copy)]
+enum Wait {
+    /// There is none.
+    Nothing,
+    /// It went out then, and nothing has come.
+    Silent(Instant),
+    /// It went out then, and bytes have come that no silence has ended.
+    Bytes(Instant),
+}
+
+/// What is shown, but for the time.
+#[derive(Clone, Copy, PartialEq, Eq)]
+struct Glance {
+    work: Work,
+    /// For how many seconds nothing was answered, if that is long.
+    unanswered: Option<u64>,
 }
 
 /// What stands on the terminal.
-#[derive(Clone, Copy, PartialEq, Eq)]
+#[derive(Clone, Copy)]
 enum Drawing {
-    /// No line: nothing was looked at yet.
+    /// No line.
     Blank,
     /// A line of this.
     Line {
@@ -47,83 +92,106 @@ enum Drawing {
         begun: Instant,
         drawn: Instant,
     },
-    /// Whatever was there when the terminal or the clock failed.
-    Failed,
 }
 
-/// What is seen of a controller that awaits an answer.
-#[derive(Clone, Copy, PartialEq, Eq)]
-struct Glance {
-    /// The event that is reported next, if one is left.
-    event: Option<ClipId>,
-    command: Command,
-    /// There were many waits for the answer to a status.
-    has_many: bool,
-    /// The first event that isn't reported, by its number in the whole list.
-    reported: usize,
-    /// How many events the whole list has.
-    events: usize,
-}
-
-impl<'a, R: Clock, V: io::Write> Progress<'a, R, V> {
-    /// Nothing is drawn yet.
-    pub fn new(clock: &'a R, terminal: V) -> Self {
+impl<'a, R: Clock, V: io::Write + Drop> Progress<'a, R, V> {
+    /// Nothing is drawn yet. A silence has this many milliseconds.
+    pub fn new(clock: &'a R, terminal: V, silence: u32) -> Self {
         Progress {
             clock,
-            terminal,
-            drawing: Drawing::Blank,
-            waits: Statuses::new(),
+            patience: Duration::from_millis(PATIENCE + 2 * u64::from(silence)),
+            terminal: Cell::new(Some(terminal)),
+            work: Cell::new(Work::Questions),
+            wait: Cell::new(Wait::Nothing),
+            drawing: Cell::new(Drawing::Blank),
         }
     }
 
     /// Erases the line.
-    pub fn clear(&mut self) {
-        if let Drawing::Line { .. } = self.drawing {
-            let _ = write_at_once(&mut self.terminal, ERASE.as_bytes());
-            let _ = self.terminal.flush();
-            self.drawing = Drawing::Blank;
+    pub fn clear(&self) {
+        let Some(mut terminal) = self.terminal.replace(None) else {
+            return;
+        };
+        if let Drawing::Line { .. } = self.drawing.get() {
+            let _ = write_at_once(&mut terminal, ERASE.as_bytes());
+            let _ = terminal.flush();
         }
     }
 
-    // Counts a wait for the answer to a command, and says whether there were many for a status.
-    fn count(&mut self, command: &Command) -> bool {
-        self.waits.ask_one(is_status(command));
-        let _ = self.waits.answer();
-        self.waits.answered >= MANY_WAITS
+    // A command has gone out.
+    fn note_sent(&self) {
+        match (self.wait.get(), Instant::now(self.clock)) {
+            (Wait::Silent(_), _) | (_, Err(_)) => {}
+            (Wait::Nothing | Wait::Bytes(_), Ok(now)) => self.wait.set(Wait::Silent(now)),
+        }
+    }
+
+    fn note_came(&self, came: Came) {
+        match (self.wait.get(), came) {
+            (Wait::Silent(since), Came::Bytes(n)) if n > 0 => self.wait.set(Wait::Bytes(since)),
+            (Wait::Bytes(_), Came::Silence) => self.wait.set(Wait::Nothing),
+            _ => {}
+        }
     }
 
     // Draws what is seen now, if it is to be drawn.
-    fn show(&mut self, glance: Glance) -> io::Result<()> {
+    fn show(&self) {
+        let Some(mut terminal) = self.terminal.replace(None) else {
+            return;
+        };
+        if self.show_on(&mut terminal).is_ok() {
+            let _ = self.terminal.replace(Some(terminal));
+        }
+    }
+
+    fn show_on(&self, terminal: &mut V) -> io::Result<()> {
         let now = Instant::now(self.clock)?;
-        let Some(begun) = begun_before(self.drawing, &glance, now) else {
+        let glance = Glance {
+            work: self.work.get(),
+            unanswered: self.unanswered(now),
+        };
+        let Some(begun) = begun_before(self.drawing.get(), &glance, now) else {
             return Ok(());
         };
-        self.draw(&glance, now.duration_since(begun).as_secs())?;
-        self.drawing = Drawing::Line {
+        draw(&glance, now.duration_since(begun).as_secs(), terminal)?;
+        self.drawing.set(Drawing::Line {
             glance,
             begun,
             drawn: now,
-        };
+        });
         Ok(())
     }
 
-    // Writes the line at once, so that it doesn't flicker. What the terminal doesn't take then is never drawn.
-    fn draw(&mut self, glance: &Glance, seconds: u64) -> io::Result<()> {
-        let mut line = ArrayString::<256>::new();
-        let _ = write!(line, "{ERASE}{glance}, ");
-        let _ = write_time(seconds, &mut line);
-        let bytes = line.as_bytes();
-        let end = bytes.len().min(ERASE.len() + MOST_COLUMNS);
-        write_at_once(&mut self.terminal, &bytes[..end])?;
-        self.terminal.flush()
+    // For how many seconds nothing was answered, if that is long.
+    fn unanswered(&self, now: Instant) -> Option<u64> {
+        match self.wait.get() {
+            Wait::Nothing => None,
+            Wait::Silent(since) | Wait::Bytes(since) => {
+                let waited = now.duration_since(since);
+                if waited < self.patience {
+                    return None;
+                }
+                Some(waited.as_secs())
+            }
+        }
     }
+}
+
+// Writes the line at once, so that it doesn't flicker. What the terminal doesn't take then is never drawn.
+fn draw<V: io::Write>(glance: &Glance, seconds: u64, terminal: &mut V) -> io::Result<()> {
+    let mut line = ArrayString::<256>::new();
+    let _ = write!(line, "{ERASE}{glance}, ");
+    let _ = write_time(seconds, &mut line);
+    let bytes = line.as_bytes();
+    let end = bytes.len().min(ERASE.len() + MOST_COLUMNS);
+    write_at_once(terminal, &bytes[..end])?;
+    terminal.flush()
 }
 
 // When the run began whose line is to be drawn now; None where it isn't to be drawn.
 fn begun_before(drawing: Drawing, glance: &Glance, now: Instant) -> Option<Instant> {
     match drawing {
         Drawing::Blank => Some(now),
-        Drawing::Failed => None,
         Drawing::Line {
             glance: last,
             begun,
@@ -137,24 +205,73 @@ fn begun_before(drawing: Drawing, glance: &Glance, now: Instant) -> Option<Insta
     }
 }
 
-impl<S: Source, R: Clock, V: io::Write> Watch<Rest<S>> for Progress<'_, R, V> {
+/// A wire over another one, before each of whose listens the line is drawn.
+#[derive(Drop)]
+pub struct ShownWire<'a, R: Clock, V: io::Write, W: Wire> {
+    wire: W,
+    progress: &'a Progress<'a, R, V>,
+}
+
+impl<'a, R: Clock, V: io::Write, W: Wire> ShownWire<'a, R, V, W> {
+    pub fn new(wire: W, progress: &'a Progress<'a, R, V>) -> Self
+        ensures { result.wire ≡ wire }
+    {
+        ShownWire { wire, progress }
+    }
+}
+
+impl<R: Clock, V: io::Write + Drop, W: Wire> Wire for ShownWire<'_, R, V, W> {
+    ghost does = { λ act old new. W.does act old.wire new.wire };
+
+    ghost told = { λ w. W.told w.wire };
+
+    ghost failures = { λ w. W.failures w.wire };
+
+    fn send(&mut self, bytes: &[u8]) -> Result<(), WireFault> {
+        self.wire.send(bytes)?;
+        self.progress.note_sent();
+        Ok(())
+    }
+
+    fn listen(&mut self, buffer: &mut [u8; PIECE]) -> Result<Came, WireFault> {
+        self.progress.show();
+        let came = self.wire.listen(buffer)?;
+        self.progress.note_came(came);
+        Ok(came)
+    }
+
+    fn drop_waiting(&mut self) -> Result<(), WireFault> {
+        self.wire.drop_waiting()
+    }
+
+    ghost fails_once = { λ w. W.fails_once w.wire };
+
+    ghost tells = { λ act old new. W.tells act old.wire new.wire };
+}
+
+/// Says what is seen of a controller.
+#[derive(Drop)]
+pub struct Glances<'a, R: Clock, V: io::Write> {
+    progress: &'a Progress<'a, R, V>,
+}
+
+impl<'a, R: Clock, V: io::Write> Glances<'a, R, V> {
+    pub fn new(progress: &'a Progress<'a, R, V>) -> Self {
+        Glances { progress }
+    }
+}
+
+impl<S: Source, R: Clock, V: io::Write> Watch<Rest<S>> for Glances<'_, R, V> {
     fn look(&mut self, controller: &Controller<Rest<S>>) {
-        let Some(command) = controller.awaited() else {
-            return;
-        };
-        let has_many = self.count(&command);
-        if self
-            .show(Glance::of(controller, command, has_many))
-            .is_err()
-        {
-            self.drawing = Drawing::Failed;
+        if let Some(command) = controller.awaited() {
+            self.progress.work.set(Work::of(controller, command));
         }
     }
 }
 
-impl Glance {
-    // What is seen of a controller that awaits the answer to this command.
-    fn of<S: Source>(controller: &Controller<Rest<S>>, command: Command, has_many: bool) -> Glance {
+impl Work {
+    // Of a controller that awaits the answer to this command.
+    fn of<S: Source>(controller: &Controller<Rest<S>>, command: Command) -> Work {
         let rest = controller.source();
         let settled = controller.settled();
         let event = if settled < rest.len() {
@@ -162,35 +279,51 @@ impl Glance {
         } else {
             None
         };
-        Glance {
+        Work::List {
             event,
             command,
-            has_many,
             reported: reported_in_list(controller),
             events: rest.whole().len(),
         }
     }
 }
 
-// Shows the event that is reported next, the command, and how many events are reported.
+// Shows the event that is reported next, the command, for how long nothing was answered, and how many events are
+// reported.
 impl fmt::Display for Glance {
     fn fmt<W: fmt::Write>(&self, f: &mut fmt::Formatter<W>) -> fmt::Result {
-        let reported = self.reported;
-        let events = self.events;
-        if let Some(id) = self.event {
-            let mut text = ArrayString::<18>::new();
-            id.show(&mut text);
-            let id = text.as_str();
-            write!(f, "event {reported} {id}: ")?;
+        match self.work {
+            Work::Questions => {
+                write!(f, "is the port empty?")?;
+                write_unanswered(self.unanswered, f)
+            }
+            Work::List {
+                event,
+                command,
+                reported,
+                events,
+            } => {
+                if let Some(id) = event {
+                    let mut text = ArrayString::<18>::new();
+                    id.show(&mut text);
+                    let id = text.as_str();
+                    write!(f, "event {reported} {id}: ")?;
+                }
+                let mut text = ArrayString::<64>::new();
+                command.show(&mut text);
+                let command = text.as_str();
+                write!(f, "{command}")?;
+                write_unanswered(self.unanswered, f)?;
+                write!(f, ", {reported} of {events} reported")
+            }
         }
-        let mut text = ArrayString::<64>::new();
-        self.command.show(&mut text);
-        let command = text.as_str();
-        write!(f, "{command}")?;
-        if self.has_many {
-            write!(f, " ({HINT})")?;
-        }
-        write!(f, ", {reported} of {events} reported")
+    }
+}
+
+fn write_unanswered<W: fmt::Write>(seconds: Option<u64>, f: &mut W) -> fmt::Result {
+    match seconds {
+        Some(seconds) => write!(f, " (no answer for {seconds} s)"),
+        None => Ok(()),
     }
 }
 

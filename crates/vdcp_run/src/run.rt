@@ -10,7 +10,7 @@ ghost use Rattle.vdcp_list.specs.Rests.{items_left};
 ghost use Rattle.vdcp_wire.specs.Address.{IsAddress};
 ghost use Rattle.vdcp_wire.specs.Wires.{IfTold, nothing_told};
 ghost use Rattle.vdcp_run.specs.Run.{ComesTo, IsEventRefused, IsListRefused, IsNoEvent, IsNotBegun, IsOpening, IsPlayed, IsRun, IsRunOf, IsRunRefused, IsUnkeptOf, IsUnplayed, MayBeUnkept, MayBeUnwritten, journal_in, name_of, told_of_list};
-ghost use Rattle.vdcp_run.specs.Run.{end_text, fault_text, faults_text, first_event, line_end_of, line_failure, outcome_in_list, run_status};
+ghost use Rattle.vdcp_run.specs.Run.{end_text, fault_text, faults_text, first_event, line_end_of, line_failure, outcome_in_list, run_status, told_outcome, unbegun_line};
 ghost use Rattle.vdcp_text.specs.Failure.{failure_line};
 
 mod back_to_back;
@@ -20,14 +20,12 @@ mod prompt;
 use self::back_to_back::play_back_to_back;
 use self::journaled::play_kept;
 use self::prompt::play_prompt;
-use crate::asrun::{Older, save_asrun};
-use crate::dead::DeadWire;
+use crate::asrun::save_asrun;
 use crate::in_list::{outcome_in_list, reported_in_list};
 use crate::keeping::{Journal, Keeping, RunJournal};
 use crate::lapsing::Lapsing;
-use crate::notice::Notice;
-use crate::place::test_place;
-use crate::progress::Progress;
+use crate::place::test_list;
+use crate::progress::{Glances, Progress, ShownWire};
 use std::fs::File;
 use std::io;
 use std::net::{Net, OpenStream, SocketAddr, SocketAddrV4};
@@ -46,6 +44,9 @@ use vdcp_value::Rate;
 use vdcp_wire::{StreamWire, Wire, WireFault, address_of};
 use vdcp_words::Command;
 
+/// How long a connection may take to come about, in seconds.
+const CONNECTING: u64 = 5;
+
 /// What a list is played with.
 #[derive(Clone, Copy, Debug)]
 pub struct RunSettings<'a> {
@@ -57,6 +58,8 @@ pub struct RunSettings<'a> {
     pub limit: u32,
     /// The controller is in confirm mode.
     pub confirm: bool,
+    /// The port is asked first whether it is empty, and the list is begun only if it is.
+    pub ask: bool,
     /// The frame rate of time codes.
     pub rate: Rate,
     /// How long the line has to be silent for an answer to be missing, in milliseconds, 1 to 60,000. It has to be
@@ -103,6 +106,8 @@ enum LineEnd {
     Unkept,
     /// The port has something cued or plays something, and the list wasn't begun.
     Occupied,
+    /// The port didn't answer what it was asked, and the list wasn't begun.
+    Unanswered,
 }
 
 impl LineEnd {
@@ -124,8 +129,8 @@ impl LineEnd {
         ensures { result ≡ line_failure self }
     {
         match self {
-            // (that of the journal is reported)
-            LineEnd::Unneeded | LineEnd::Unkept => None,
+            // (that of the journal is reported, and that nothing was answered is the outcome)
+            LineEnd::Unneeded | LineEnd::Unkept | LineEnd::Unanswered => None,
             LineEnd::Closed => Some(Failure::LineClosed),
             LineEnd::Spent => Some(Failure::Spent),
             LineEnd::Failed => Some(Failure::LineFailed),
@@ -169,10 +174,25 @@ impl RunEnd<'_> {
         ensures { OnOk result (Appends (W.contents out.old) (W.contents out.new) (end_text self.now)) }
     {
         let reported = self.reported;
-        let outcome = OutcomeText(self.outcome);
+        let outcome = OutcomeText(self.told_outcome());
         writeln!(out, "reported {reported}")?;
         writeln!(out, "outcome {outcome}")?;
         out.flush()
+    }
+
+    // How the run is told to have ended: a port that didn't answer its questions is lost.
+    fn told_outcome(&self) -> Option<Outcome>
+        ensures { result ≡ told_outcome self.now.line self.now.outcome }
+    {
+        match self.line {
+            LineEnd::Unanswered => Some(Outcome::Lost),
+            LineEnd::Unneeded
+            | LineEnd::Closed
+            | LineEnd::Spent
+            | LineEnd::Failed
+            | LineEnd::Unkept
+            | LineEnd::Occupied => self.outcome,
+        }
     }
 
     // Writes the fault lines of the as-run file, the journal and the line, of which there are any.
@@ -191,7 +211,7 @@ impl RunEnd<'_> {
         if self.unwritten.is_some() || self.unkept.is_some() || self.line.failure().is_some() {
             return 3;
         }
-        match self.outcome {
+        match self.told_outcome() {
             Some(Outcome::Done | Outcome::Stopped) => 0,
             Some(Outcome::Denied | Outcome::Missing(_) | Outcome::Refused(_)) => 1,
             Some(Outcome::Foreign(_) | Outcome::Strange(_)) => 1,
@@ -213,8 +233,8 @@ fn write_fault<E: io::Write>(failure: Option<Failure<'_>>, err: &mut E) -> io::R
 /// Plays a list through the port of a server at `address`: an IPv4 address, a colon and a TCP port. It
 /// reads the list, connects, and runs a new controller until that ends, the other end closes, all listens
 /// are made or the line fails. Then, whatever the end is, it makes the as-run file, if one is named, with a
-/// row for each reported event; and `out` gets how many events are reported, and how the controller ended,
-/// and is flushed. `err` gets the fault lines of the as-run file, the journal and the line, of which there are any.
+/// row for each reported event, and where it went on from a journal with all that this shows; an older file of other
+/// bytes is kept beside. And `out` gets how many events are reported, and how the controller ended, and is flushed. `err` gets the fault lines of the as-run file, the journal and the line, of which there are any.
 ///
 /// A controller begins with the list's first event, or with the one that is said, or after what a journal shows; the
 /// numbers that are told are always those of the whole list.
@@ -226,15 +246,16 @@ fn write_fault<E: io::Write>(failure: Option<Failure<'_>>, err: &mut E) -> io::R
 /// Foreign or Strange. It is 3 where it ended Lost, where the other end closed, the listens are used up or
 /// the line failed, and where the as-run list or a row of the journal isn't written.
 ///
-/// In confirm mode the port is asked first, by OPEN, SELECT and STATUS, where the next command is OPEN. Where something
-/// is cued at it or plays, the run ends. Questions that aren't answered, as many as the limit in a row, end it as Lost,
-/// and an OPEN that is denied as Denied.
+/// Where it is to be asked, the port is asked first, by OPEN, SELECT and STATUS, where the next command is OPEN. Where
+/// something is cued at it or plays, the run ends. Questions that aren't answered, as many as the limit in a row, end it
+/// as Lost, and an OPEN that is denied as Denied.
 ///
 /// Where it doesn't come to this, no file is made, `out` gets nothing, and `err` gets one fault line. The
 /// status is 2 where the address is none, which is tested before the list is read; 1 where a row of the list
 /// or of the journal is refused, where the event to begin with isn't there or may have aired, and where the port isn't
-/// empty; and 3 where the list can't be read, the as-run file can't be made or is the list or the journal, the journal
-/// exists, is in use or can't be opened, read or written, memory was refused or nobody takes the connection. It is 3
+/// empty; and 3 where the list can't be read, the as-run file is the list, the journal exists, is in use or can't be
+/// opened, read or written, the as-run file of a run with a journal is that or can't be made, memory was refused or nobody
+/// takes the connection within five seconds. It is 3
 /// too where `out` or `err` failed. To a writer that failed nothing more is written.
 pub fn do_run<
     R: Net + Files<File = File> + Clock + AllocGlobal,
@@ -315,7 +336,7 @@ fn run_list<
     let name = list.name;
     let events = list.read_list(rt.alloc(), settings.rate)?;
     test_event(&events, settings.from)?;
-    test_place(rt, settings.asrun, name)?;
+    test_list(rt, settings.asrun, name)?;
     match settings.journal {
         None => play_unkept(rt, address, events, settings, showing),
         Some(journal) => play_listed(rt, address, name, journal, events, settings, showing),
@@ -341,7 +362,7 @@ fn play_listed<
     requires some { 1 ≤ settings.limit }
     requires few { settings.limit ≤ 1000 }
     requires listed { first_event settings.from ≤ length (S.items source) }
-    ensures unwritten { IfOk result (λ end. MayBeUnwritten settings.entry.asrun end.unwritten) }
+    ensures unwritten { IfOk result (λ end. MayBeUnwritten settings.entry.asrun settings.entry.journal end.unwritten) }
     ensures unkept { IfOk result (λ end. MayBeUnkept (Some (name_of journal.entry)) end.unkept) }
     ensures end { IfOk result (IsRunOf settings.entry (S.items source) (Some journal.entry)) }
     ensures refused { IfErr result (λ failure. IsUnkeptOf settings.entry list.entry (S.items source) journal.entry failure
@@ -396,7 +417,7 @@ fn play_unkept<'a, R: Net + Files + Clock + AllocGlobal, S: Source + Drop, V: io
     requires some { 1 ≤ settings.limit }
     requires few { settings.limit ≤ 1000 }
     requires listed { first_event settings.from ≤ length (S.items source) }
-    ensures unwritten { IfOk result (λ end. MayBeUnwritten settings.entry.asrun end.unwritten) }
+    ensures unwritten { IfOk result (λ end. MayBeUnwritten settings.entry.asrun settings.entry.journal end.unwritten) }
     ensures unkept { IfOk result (λ end. MayBeUnkept None end.unkept) }
     ensures end { IfOk result (IsRunOf settings.entry (S.items source) None) }
     ensures refused { IfErr result (λ failure. (failure ≡ Failure.Connect) ⊎ (failure ≡ Failure.NotEmpty)) }
@@ -424,12 +445,13 @@ fn play_at<
 ) -> Result<RunEnd<'a>, Failure<'a>>
     requires unit { settings.unit ≤ 15 }
     requires some { 1 ≤ settings.limit }
-    ensures unwritten { IfOk result (λ end. MayBeUnwritten settings.entry.asrun end.unwritten) }
+    ensures unwritten { IfOk result (λ end. MayBeUnwritten settings.entry.asrun settings.entry.journal end.unwritten) }
     ensures unkept { IfOk result (λ end. MayBeUnkept (journal_in keeping.entry) end.unkept) }
     ensures end { IfOk result (ComesTo S.items controller) }
     ensures refused { IfErr result (λ failure. (failure ≡ Failure.Connect) ⊎ (failure ≡ Failure.NotEmpty)) }
 {
-    let Ok(stream) = rt.connect(SocketAddr::V4(address)) else {
+    let within = Duration::from_secs(CONNECTING);
+    let Ok(stream) = rt.connect_timeout(SocketAddr::V4(address), within) else {
         return Err(Failure::Connect);
     };
     let end = play_connected(rt, controller, stream, keeping, settings, showing);
@@ -457,7 +479,7 @@ fn play_connected<
 ) -> RunEnd<'a>
     requires unit { settings.unit ≤ 15 }
     requires some { 1 ≤ settings.limit }
-    ensures unwritten { MayBeUnwritten settings.entry.asrun result.unwritten }
+    ensures unwritten { MayBeUnwritten settings.entry.asrun settings.entry.journal result.unwritten }
     ensures unkept { MayBeUnkept (journal_in keeping.entry) result.unkept }
     ensures end { ComesTo S.items controller result }
 {
@@ -466,7 +488,8 @@ fn play_connected<
     play_over(rt, controller, wire, keeping, settings, showing)
 }
 
-// Plays a list over the wire of a connection. One that refuses to be a wire is a line that failed.
+// Plays a list over the wire of a connection, on which time-outs come by the clock where answers are heard at once. One
+// that refuses to be a wire is a line that failed.
 fn play_over<
     'a,
     R: Files + Clock + AllocGlobal,
@@ -486,13 +509,19 @@ fn play_over<
     requires some { 1 ≤ settings.limit }
     requires works { IfOk wire (λ w. W.failures w ≡ 0) }
     ensures failed { OnErr wire (result.line ≡ LineEnd.Failed) }
-    ensures unwritten { MayBeUnwritten settings.entry.asrun result.unwritten }
+    ensures unwritten { MayBeUnwritten settings.entry.asrun settings.entry.journal result.unwritten }
     ensures unkept { MayBeUnkept (journal_in keeping.entry) result.unkept }
     ensures end { ComesTo S.items controller result }
 {
     match wire {
-        Ok(wire) => play_shown(rt, controller, wire, keeping, settings, showing),
-        Err(_) => ended(rt, &controller, LineEnd::Failed, false, settings),
+        Ok(wire) => match settings.hearing {
+            Hearing::AtSilences => play_shown(rt, controller, wire, keeping, settings, showing),
+            Hearing::AtOnce(_) => {
+                let wire = Lapsing::new(wire, rt, settings.silence);
+                play_shown(rt, controller, wire, keeping, settings, showing)
+            }
+        },
+        Err(_) => ended(rt, &controller, LineEnd::Failed, settings),
     }
 }
 
@@ -515,15 +544,17 @@ fn play_shown<
     requires unit { settings.unit ≤ 15 }
     requires some { 1 ≤ settings.limit }
     requires works { W.failures wire ≡ 0 }
-    ensures unwritten { MayBeUnwritten settings.entry.asrun result.unwritten }
+    ensures unwritten { MayBeUnwritten settings.entry.asrun settings.entry.journal result.unwritten }
     ensures unkept { MayBeUnkept (journal_in keeping.entry) result.unkept }
     ensures end { ComesTo S.items controller result }
 {
     match showing {
         Showing::Nothing => play_asked(rt, controller, wire, &mut Unwatched, keeping, settings),
         Showing::Progress(terminal) => {
-            let mut progress = Progress::new(rt, terminal);
-            let end = play_asked(rt, controller, wire, &mut progress, keeping, settings);
+            let progress = Progress::new(rt, terminal, settings.silence);
+            let wire = ShownWire::new(wire, &progress);
+            let mut glances = Glances::new(&progress);
+            let end = play_asked(rt, controller, wire, &mut glances, keeping, settings);
             progress.clear();
             end
         }
@@ -535,8 +566,8 @@ fn play_shown<
     }
 }
 
-// Plays a list over a wire. In confirm mode, where another item than the list's could go to air if it was cued before,
-// the port is asked first, and the list is begun only if nothing is cued there and nothing plays.
+// Plays a list over a wire. If it is to be asked, the port is asked first, and the list is begun only if nothing is cued
+// there and nothing plays.
 fn play_asked<
     'a,
     R: Files + Clock + AllocGlobal,
@@ -555,7 +586,7 @@ fn play_asked<
     requires unit { settings.unit ≤ 15 }
     requires some { 1 ≤ settings.limit }
     requires works { W.failures wire ≡ 0 }
-    ensures unwritten { MayBeUnwritten settings.entry.asrun result.unwritten }
+    ensures unwritten { MayBeUnwritten settings.entry.asrun settings.entry.journal result.unwritten }
     ensures unkept { MayBeUnkept (journal_in keeping.entry) result.unkept }
     ensures end { ComesTo S.items controller result }
 {
@@ -569,16 +600,27 @@ fn play_asked<
             };
             play_on(rt, controller, wire, watcher, keeping, rest)
         }
-        Ok(Vacancy::Unanswered) => play_on(rt, controller, DeadWire, watcher, keeping, settings),
-        Ok(Vacancy::Occupied(_)) => unbegun(rt, &controller, LineEnd::Occupied, settings),
-        Ok(Vacancy::Closed) => unbegun(rt, &controller, LineEnd::Closed, settings),
-        Ok(Vacancy::Spent) => unbegun(rt, &controller, LineEnd::Spent, settings),
-        Err(WireFault) => unbegun(rt, &controller, LineEnd::Failed, settings),
+        others => unbegun(rt, &controller, unbegun_line(others), settings),
     }
 }
 
-// Asks the port whether it is empty, if that matters: in confirm mode, and until it was opened for the list, since from
-// then on what is cued may be the list's own. `left` is how many listens may be made.
+// How the line of a list that isn't begun ends, by what the port was found to be.
+fn unbegun_line(asked: Result<Vacancy, WireFault>) -> LineEnd
+    ensures line { result ≡ unbegun_line asked }
+    ensures begun { result ≢ LineEnd.Unneeded }
+    ensures kept { result ≢ LineEnd.Unkept }
+{
+    match asked {
+        Ok(Vacancy::Unanswered) => LineEnd::Unanswered,
+        Ok(Vacancy::Closed) => LineEnd::Closed,
+        Ok(Vacancy::Spent) => LineEnd::Spent,
+        Ok(Vacancy::Vacant | Vacancy::Occupied(_) | Vacancy::Denied) => LineEnd::Occupied,
+        Err(WireFault) => LineEnd::Failed,
+    }
+}
+
+// Asks the port whether it is empty, if it is to be asked, until it was opened for the list, since from then on what is
+// cued may be the list's own. `left` is how many listens may be made.
 fn vacancy_for<S: Source, W: Wire>(
     controller: &Controller<S>,
     settings: RunSettings<'_>,
@@ -589,16 +631,16 @@ fn vacancy_for<S: Source, W: Wire>(
     requires some { 1 ≤ settings.limit }
     requires works { W.failures wire.old ≡ 0 }
     ensures works { OnOk result (W.failures wire.new ≡ 0) }
-    ensures plain { settings.entry.confirm ≡ false → (result ≡ Ok Vacancy.Vacant) × (wire.new ≡ wire.old) }
+    ensures unasked { settings.entry.ask ≡ false → (result ≡ Ok Vacancy.Vacant) × (wire.new ≡ wire.old) }
     ensures opened { ¬ IsOpening (turns.given (plan_of S.items controller.now) controller.now.state) →
         (result ≡ Ok Vacancy.Vacant) × (wire.new ≡ wire.old) }
-    ensures asks { settings.entry.confirm ≡ true →
+    ensures asks { settings.entry.ask ≡ true →
         IsOpening (turns.given (plan_of S.items controller.now) controller.now.state) →
         W.told wire.old ≡ Some nothing_told →
         IfOk result (λ answer. IfTold (W.told wire.new) (λ u.
         HasAsked settings.entry.unit settings.entry.port settings.entry.limit left.old left.new u answer)) }
 {
-    if !settings.confirm || !opens_next(controller) {
+    if !settings.ask || !opens_next(controller) {
         return Ok(Vacancy::Vacant);
     }
     ask_port(settings.unit, settings.port, settings.limit, left, wire)
@@ -629,7 +671,7 @@ fn play_on<
 ) -> RunEnd<'a>
     requires unit { settings.unit ≤ 15 }
     requires works { W.failures wire ≡ 0 }
-    ensures unwritten { MayBeUnwritten settings.entry.asrun result.unwritten }
+    ensures unwritten { MayBeUnwritten settings.entry.asrun settings.entry.journal result.unwritten }
     ensures unkept { MayBeUnkept (journal_in keeping.entry) result.unkept }
     ensures end { ComesTo S.items controller result }
 {
@@ -639,7 +681,6 @@ fn play_on<
             play(rt, &mut driver, watcher, keeping, settings)
         }
         Hearing::AtOnce(poll) => {
-            let wire = Lapsing::new(wire, rt, settings.silence);
             let mut driver = PromptDriver::new(controller, settings.unit, wire);
             match settings.lengths {
                 None => play_prompt(rt, &mut driver, poll, watcher, keeping, settings),
@@ -667,16 +708,16 @@ fn unbegun<'a, R: Files + AllocGlobal, S: Source>(
     ensures unneeded { result.line ≡ LineEnd.Unneeded → IsSome result.outcome }
     ensures ended { IsSome result.outcome → result.line ≡ LineEnd.Unneeded }
     ensures told { result.line ≢ LineEnd.Unkept }
-    ensures unwritten { MayBeUnwritten settings.entry.asrun result.unwritten }
+    ensures unwritten { MayBeUnwritten settings.entry.asrun settings.entry.journal result.unwritten }
     ensures kept { result.unkept ≡ None }
 {
     if controller.outcome().is_some() {
-        return ended(rt, controller, LineEnd::Unneeded, false, settings);
+        return ended(rt, controller, LineEnd::Unneeded, settings);
     }
     if line == LineEnd::Occupied {
         return end_of(controller, line);
     }
-    ended(rt, controller, line, false, settings)
+    ended(rt, controller, line, settings)
 }
 
 // The new controller of a list.
@@ -701,6 +742,7 @@ fn play<'a, R: Files + AllocGlobal, S: Source, W: Wire, V: Watch<Rest<S>>, J: Jo
     keeping: Keeping<'a, J>,
     settings: RunSettings<'a>,
 ) -> RunEnd<'a>
+    requires unit { driver.old.unit ≡ settings.unit }
     // What the driver's run left and answered, which is how the line ended.
     ensures leaves { (ran : Result Ran KeptFault) × (result.line ≡ line_end_of ran)
         × KeptLeaves (items_left S.items) W.told W.failures settings.entry.listens driver.old driver.new ran }
@@ -708,16 +750,14 @@ fn play<'a, R: Files + AllocGlobal, S: Source, W: Wire, V: Watch<Rest<S>>, J: Jo
     ensures outcome { result.outcome ≡ outcome_in_list result.from
         (turns.outcome_of driver.new.controller.state.stage) }
     ensures reported { result.reported ≡ result.from + driver.new.controller.state.settled }
-    ensures unwritten { MayBeUnwritten settings.entry.asrun result.unwritten }
+    ensures unwritten { MayBeUnwritten settings.entry.asrun settings.entry.journal result.unwritten }
     ensures unkept { MayBeUnkept (journal_in keeping.entry) result.unkept }
     ensures told { result.line ≡ LineEnd.Unkept → IsSome result.unkept }
 {
-    let mut notice = Notice::new(watcher);
-    let (line, unkept) = run_kept(driver, settings.listens, &mut notice, keeping);
-    let is_answered = notice.has_answer(driver.controller());
+    let (line, unkept) = run_kept(driver, settings.listens, watcher, keeping);
     RunEnd {
         unkept,
-        ..ended(rt, driver.controller(), line, is_answered, settings)
+        ..ended(rt, driver.controller(), line, settings)
     }
 }
 
@@ -753,31 +793,22 @@ fn run_kept<'a, S: Source, W: Wire, V: Watch<S>, J: Journal + Drop>(
     }
 }
 
-// How a run has ended, by its controller and its line, and by whether the port has answered. The as-run list is
-// written.
+// How a run has ended, by its controller and its line. The as-run list is written.
 fn ended<'a, R: Files + AllocGlobal, S: Source>(
     rt: &R,
     controller: &Controller<Rest<S>>,
     line: LineEnd,
-    is_answered: bool,
     settings: RunSettings<'a>,
 ) -> RunEnd<'a>
     ensures from { result.from ≡ controller.now.source.from }
     ensures outcome { result.outcome ≡ outcome_in_list result.from (turns.outcome_of controller.now.state.stage) }
     ensures reported { result.reported ≡ result.from + controller.now.state.settled }
     ensures line { result.line ≡ line }
-    ensures unwritten { MayBeUnwritten settings.entry.asrun result.unwritten }
+    ensures unwritten { MayBeUnwritten settings.entry.asrun settings.entry.journal result.unwritten }
     ensures kept { result.unkept ≡ None }
 {
-    let unwritten = match settings.asrun {
-        Some(name) => {
-            let older = Older::after(controller.settled(), is_answered);
-            save_asrun(rt, name, older, controller, settings.rate).err()
-        }
-        None => None,
-    };
     RunEnd {
-        unwritten,
+        unwritten: save_asrun(rt, controller, settings),
         ..end_of(controller, line)
     }
 }

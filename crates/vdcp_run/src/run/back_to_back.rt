@@ -8,7 +8,6 @@ ghost use Rattle.vdcp_run.specs.Run.{MayBeUnkept, MayBeUnwritten, journal_in, li
 use super::{LineEnd, RunEnd, RunSettings, ended};
 use crate::back_to_back::BackToBack;
 use crate::keeping::{Journal, Keeping};
-use crate::notice::Notice;
 use std::rt::{Clock, Files};
 use vdcp_auto::Source;
 use vdcp_drive::{KeptFault, PromptDriver, Ran, Unkept, Watch};
@@ -35,6 +34,7 @@ pub(super) fn play_back_to_back<
     keeping: Keeping<'a, J>,
     settings: RunSettings<'a>,
 ) -> RunEnd<'a>
+    requires unit { driver.old.unit ≡ settings.unit }
     // What the driver's runs left and answered, which is how the line ended.
     ensures leaves { (ran : Result Ran KeptFault) × (result.line ≡ line_end_of ran)
         × RunsWithTakes (items_left S.items) driver.old driver.new ran }
@@ -42,17 +42,15 @@ pub(super) fn play_back_to_back<
     ensures outcome { result.outcome ≡ outcome_in_list result.from
         (turns.outcome_of driver.new.controller.state.stage) }
     ensures reported { result.reported ≡ result.from + driver.new.controller.state.settled }
-    ensures unwritten { MayBeUnwritten settings.entry.asrun result.unwritten }
+    ensures unwritten { MayBeUnwritten settings.entry.asrun settings.entry.journal result.unwritten }
     ensures unkept { MayBeUnkept (journal_in keeping.entry) result.unkept }
     ensures told { result.line ≡ LineEnd.Unkept → IsSome result.unkept }
 {
-    let mut notice = Notice::new(watcher);
     let listens = u64::from(settings.listens);
-    let (line, unkept) = run_kept(rt, driver, poll, lengths, listens, &mut notice, keeping);
-    let is_answered = notice.has_answer(driver.controller());
+    let (line, unkept) = run_kept(rt, driver, poll, lengths, listens, watcher, keeping);
     RunEnd {
         unkept,
-        ..ended(rt, driver.controller(), line, is_answered, settings)
+        ..ended(rt, driver.controller(), line, settings)
     }
 }
 

@@ -1,12 +1,12 @@
 //! Runs with a journal: a new one, or one that is gone on with.
 ghost use Rattle.std.specs.Prelude.{◌≡◌, ◌⊎◌, ◌≤◌, ◌↔◌, IfErr, IfOk, IsSome, None, Some, length};
 ghost use Rattle.vdcp_auto.specs.Turn as turns;
-ghost use Rattle.vdcp_run.specs.Run.{ComesTo, IsJournalOf, IsRunOf, IsUnkept, MayBeUnkept, MayBeUnwritten};
+ghost use Rattle.vdcp_run.specs.Run.{ComesTo, IsPlaceRefused, IsRunOf, IsUnkept, MayBeUnkept, MayBeUnwritten};
 ghost use Rattle.vdcp_run.specs.Run.{first_event, heading_for, name_of};
 
 use super::{LineEnd, RunEnd, RunSettings, Showing, ended, first_event, new_controller, play_at};
 use crate::keeping::{Journal, Keeping, RunJournal};
-use crate::place::test_journal;
+use crate::place::{test_apart, test_place};
 use std::fs::{self, File};
 use std::io;
 use std::net::{Net, SocketAddrV4};
@@ -17,7 +17,7 @@ use vdcp_list::Rest;
 use vdcp_record::{Resumption, begin_again, begin_journal, resume_journal};
 use vdcp_text::Failure;
 
-/// Plays a list with a journal.
+/// Plays a list with a journal. The as-run list has to have its place before anything is sent.
 pub(super) fn play_kept<
     'a,
     R: Net + Files<File = File> + Clock + AllocGlobal,
@@ -35,12 +35,13 @@ pub(super) fn play_kept<
     requires some { 1 ≤ settings.limit }
     requires few { settings.limit ≤ 1000 }
     requires listed { first_event settings.from ≤ length (S.items source) }
-    ensures unwritten { IfOk result (λ end. MayBeUnwritten settings.entry.asrun end.unwritten) }
+    ensures unwritten { IfOk result (λ end. MayBeUnwritten settings.entry.asrun settings.entry.journal end.unwritten) }
     ensures unkept { IfOk result (λ end. MayBeUnkept (Some (name_of journal.entry)) end.unkept) }
     ensures end { IfOk result (IsRunOf settings.entry (S.items source) (Some journal.entry)) }
     ensures refused { IfErr result (λ failure. IsUnkept settings.entry (S.items source) (Some journal.entry) failure
         ⊎ (failure ≡ Failure.Connect) ⊎ (failure ≡ Failure.NotEmpty)) }
 {
+    test_place(rt, settings.asrun, journal.name())?;
     match journal {
         RunJournal::New(name) => play_new(rt, address, name, source, settings, showing),
         RunJournal::Older(name) => play_older(rt, address, name, source, settings, showing),
@@ -66,7 +67,7 @@ fn play_new<
     requires some { 1 ≤ settings.limit }
     requires few { settings.limit ≤ 1000 }
     requires listed { first_event settings.from ≤ length (S.items source) }
-    ensures unwritten { IfOk result (λ end. MayBeUnwritten settings.entry.asrun end.unwritten) }
+    ensures unwritten { IfOk result (λ end. MayBeUnwritten settings.entry.asrun settings.entry.journal end.unwritten) }
     ensures unkept { IfOk result (λ end. MayBeUnkept (Some name.entry) end.unkept) }
     ensures end { IfOk result (IsRunOf settings.entry (S.items source) (Some (RunJournal.New name.entry))) }
     ensures refused { IfErr result (λ failure. IsUnkept settings.entry (S.items source)
@@ -105,13 +106,13 @@ fn play_begun<
 ) -> Result<RunEnd<'a>, Failure<'a>>
     requires unit { settings.unit ≤ 15 }
     requires some { 1 ≤ settings.limit }
-    ensures unwritten { IfOk result (λ end. MayBeUnwritten settings.entry.asrun end.unwritten) }
+    ensures unwritten { IfOk result (λ end. MayBeUnwritten settings.entry.asrun settings.entry.journal end.unwritten) }
     ensures unkept { IfOk result (λ end. MayBeUnkept (Some name.entry) end.unkept) }
     ensures end { IfOk result (ComesTo S.items controller) }
-    ensures refused { IfErr result (λ failure. IsJournalOf settings.entry.asrun failure
+    ensures refused { IfErr result (λ failure. IsPlaceRefused settings.entry.asrun failure
         ⊎ (failure ≡ Failure.Connect) ⊎ (failure ≡ Failure.NotEmpty)) }
 {
-    test_journal(rt, settings.asrun, name)?;
+    test_apart(rt, settings.asrun, name)?;
     let keeping = Keeping::Journal(name, journal);
     play_at(rt, address, controller, keeping, settings, showing)
 }
@@ -134,14 +135,13 @@ fn play_older<
     requires unit { settings.unit ≤ 15 }
     requires some { 1 ≤ settings.limit }
     requires few { settings.limit ≤ 1000 }
-    ensures unwritten { IfOk result (λ end. MayBeUnwritten settings.entry.asrun end.unwritten) }
+    ensures unwritten { IfOk result (λ end. MayBeUnwritten settings.entry.asrun settings.entry.journal end.unwritten) }
     ensures unkept { IfOk result (λ end. MayBeUnkept (Some name.entry) end.unkept) }
     ensures end { IfOk result (IsRunOf settings.entry (S.items source) (Some (RunJournal.Older name.entry))) }
     ensures refused { IfErr result (λ failure. IsUnkept settings.entry (S.items source)
         (Some (RunJournal.Older name.entry)) failure
         ⊎ (failure ≡ Failure.Connect) ⊎ (failure ≡ Failure.NotEmpty)) }
 {
-    test_journal(rt, settings.asrun, name)?;
     let heading = heading_of(rt, &source, settings)?;
     let resumed = match resume_journal(rt, name, &heading, source) {
         Ok(resumed) => resumed,
@@ -167,14 +167,13 @@ fn play_again<
     requires unit { settings.unit ≤ 15 }
     requires some { 1 ≤ settings.limit }
     requires few { settings.limit ≤ 1000 }
-    ensures unwritten { IfOk result (λ end. MayBeUnwritten settings.entry.asrun end.unwritten) }
+    ensures unwritten { IfOk result (λ end. MayBeUnwritten settings.entry.asrun settings.entry.journal end.unwritten) }
     ensures unkept { IfOk result (λ end. MayBeUnkept (Some name.entry) end.unkept) }
     ensures end { IfOk result (IsRunOf settings.entry (S.items source) (Some (RunJournal.Again name.entry))) }
     ensures refused { IfErr result (λ failure. IsUnkept settings.entry (S.items source)
         (Some (RunJournal.Again name.entry)) failure
         ⊎ (failure ≡ Failure.Connect) ⊎ (failure ≡ Failure.NotEmpty)) }
 {
-    test_journal(rt, settings.asrun, name)?;
     let heading = heading_of(rt, &source, settings)?;
     let resumed = match begin_again(rt, name, &heading, &source, settings.from) {
         Ok(resumed) => resumed,
@@ -200,7 +199,7 @@ fn play_resumed<
     requires unit { settings.unit ≤ 15 }
     requires some { 1 ≤ settings.limit }
     requires goes_on { IsSome resumed.recorder ↔ (turns.outcome_of resumed.controller.state.stage ≡ None) }
-    ensures unwritten { IfOk result (λ end. MayBeUnwritten settings.entry.asrun end.unwritten) }
+    ensures unwritten { IfOk result (λ end. MayBeUnwritten settings.entry.asrun settings.entry.journal end.unwritten) }
     ensures unkept { IfOk result (λ end. MayBeUnkept (Some name.entry) end.unkept) }
     ensures end { IfOk result (ComesTo S.items resumed.entry.controller) }
     ensures refused { IfErr result (λ failure. (failure ≡ Failure.Connect) ⊎ (failure ≡ Failure.NotEmpty)) }
@@ -211,7 +210,7 @@ fn play_resumed<
             let keeping = Keeping::Journal(name, journal);
             play_at(rt, address, controller, keeping, settings, showing)
         }
-        None => Ok(ended(rt, &controller, LineEnd::Unneeded, true, settings)),
+        None => Ok(ended(rt, &controller, LineEnd::Unneeded, settings)),
     }
 }
 

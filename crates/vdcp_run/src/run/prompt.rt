@@ -6,7 +6,6 @@ ghost use Rattle.vdcp_run.specs.Run.{MayBeUnkept, MayBeUnwritten, journal_in, li
 
 use super::{LineEnd, RunEnd, RunSettings, ended};
 use crate::keeping::{Journal, Keeping};
-use crate::notice::Notice;
 use crate::polling::Polling;
 use std::rt::{Clock, Files};
 use vdcp_auto::Source;
@@ -32,6 +31,7 @@ pub(super) fn play_prompt<
     keeping: Keeping<'a, J>,
     settings: RunSettings<'a>,
 ) -> RunEnd<'a>
+    requires unit { driver.old.unit ≡ settings.unit }
     // What the driver's run left and answered, which is how the line ended.
     ensures leaves { (ran : Result Ran KeptFault) × (result.line ≡ line_end_of ran)
         × PromptKeptLeaves (items_left S.items) W.told W.failures settings.entry.listens driver.old driver.new ran }
@@ -39,16 +39,14 @@ pub(super) fn play_prompt<
     ensures outcome { result.outcome ≡ outcome_in_list result.from
         (turns.outcome_of driver.new.controller.state.stage) }
     ensures reported { result.reported ≡ result.from + driver.new.controller.state.settled }
-    ensures unwritten { MayBeUnwritten settings.entry.asrun result.unwritten }
+    ensures unwritten { MayBeUnwritten settings.entry.asrun settings.entry.journal result.unwritten }
     ensures unkept { MayBeUnkept (journal_in keeping.entry) result.unkept }
     ensures told { result.line ≡ LineEnd.Unkept → IsSome result.unkept }
 {
-    let mut notice = Notice::new(watcher);
-    let (line, unkept) = run_prompt(rt, driver, poll, settings.listens, &mut notice, keeping);
-    let is_answered = notice.has_answer(driver.controller());
+    let (line, unkept) = run_prompt(rt, driver, poll, settings.listens, watcher, keeping);
     RunEnd {
         unkept,
-        ..ended(rt, driver.controller(), line, is_answered, settings)
+        ..ended(rt, driver.controller(), line, settings)
     }
 }
 

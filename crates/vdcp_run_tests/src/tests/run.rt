@@ -29,6 +29,7 @@ fn run_with<V: Write + Drop, W: Write, E: Write>(
         port: 1,
         limit: 3,
         confirm: false,
+        ask: false,
         rate: Rate::F25,
         silence,
         hearing: Hearing::AtSilences,
