@@ -449,13 +449,12 @@ fn a_reader_may_fail(rt: HostRuntime) {
 }
 
 #[test]
-fn a_script_is_read_by_a_million_reads_at_most(rt: HostRuntime) {
-    // (the bytes take one read more, and the end another)
+fn an_interrupted_read_of_a_script_is_tried_again(rt: HostRuntime) {
     let text = "reported 0\nexchanges 1\noutcome open\n";
-    for (interrupted, text, line) in [(0, text, ""), (999_998, text, ""), (999_999, "", NOT_READ)] {
+    for interrupted in [0, 1, 1_000] {
         let mut reader = FailingReader::new(b"good\n", Fails::Before(interrupted));
         reader.kind = io::ErrorKind::Interrupted;
-        expect_read(&rt, reader, text, line);
+        expect_read(&rt, reader, text, "");
     }
 }
 
