@@ -1,6 +1,6 @@
 -- Runs over a line that keeps order, whose automation keeps a journal, is killed, and goes on from it.
 use Rattle.std.specs.Option.{option_map, option_to_list}
-use Rattle.std.specs.Prelude.{◌≤◌, ◌<◌, IsSome, List, [], ◌∷◌, ◌++◌, All, Option, None, Some}
+use Rattle.std.specs.Prelude.{◌≡◌, ◌⊎◌, ◌≤◌, ◌<◌, IsSome, List, [], ◌∷◌, ◌++◌, All, Option, None, Some}
 use Rattle.vdcp_value.specs.Parts.{IsItem}
 use Rattle.vdcp_words.specs.declared.reply.Reply.{Reply}
 use Rattle.vdcp_words.specs.declared.reply.Reply.TheVariants.{Ack, Nak}
@@ -11,6 +11,8 @@ use Rattle.vdcp_auto.specs.Turn.{ended_by, given}
 use Rattle.vdcp_auto.specs.declared.exchange.Exchange.{Exchange}
 use Rattle.vdcp_auto.specs.declared.exchange.Heard.{Heard}
 use Rattle.vdcp_auto.specs.declared.exchange.Heard.TheVariants as heard
+use Rattle.vdcp_auto.specs.declared.outcome.Outcome.{Outcome}
+use Rattle.vdcp_auto.specs.declared.outcome.Outcome.TheVariants.{Lost}
 use Rattle.vdcp_auto.specs.declared.phase.Mode.{Mode}
 use Rattle.vdcp_auto.specs.declared.phase.Mode.TheVariants.{Plain, Confirming}
 use Rattle.vdcp_journal.specs.declared.row.Note.{Note}
@@ -67,3 +69,7 @@ pub data IsRun : LateChannel → List Note → Type 0 where
   -- note is safe first; all else may have happened. What it awaited has timed out, which is noted.
   killed : {c : LateChannel} {notes : List Note} → IsRun c notes → (since : List LateEvent) → All IsNoTick since
       → IsRun (gone_on c (after_late_events c since)) (notes ++ silence_notes c)
+
+-- a run hasn't ended, or it was lost: it may go on, under a greater limit
+abbrev pub MayGoOn : Option Outcome → Type 0
+MayGoOn outcome = (outcome ≡ None) ⊎ (outcome ≡ Some Lost)
