@@ -46,7 +46,7 @@ _vdcp() {
     check:-) offers="--rate -h --help" ;;
     sim:-) offers="--unit --port --limit --rate --trace --cue-frames --confirm --late -h --help" ;;
     serve:-) offers="--unit --port --rate --cue-frames --silence --turns --real-time --stay --idle --log -h --help" ;;
-    run:-) offers="--unit --port --limit --rate --confirm --silence --listens --prompt --poll --lengths --asrun --journal --resume --open-again --from --log -h --help" ;;
+    run:-) offers="--unit --port --limit --rate --confirm --ask --silence --listens --prompt --poll --lengths --asrun --journal --resume --open-again --from --log -h --help" ;;
     asrun:-) offers="--rate --times --open -h --help" ;;
     judge:-) offers="--unit --rate --confirm --server -h --help" ;;
     probe:-) offers="--yes-it-may-stop --only --unit --port --rate --silence -h --help" ;;
