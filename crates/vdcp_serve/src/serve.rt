@@ -308,7 +308,10 @@ fn serve_line<'f, C: Catalogue + Drop, S: Hears + Drop, L: io::Write + Drop, W: 
     ensures failed { IfErr result (λ e. (e ≡ Failure.Writer)
         ⊎ ((e ≡ Failure.LineFailed) × Keeps (W.contents out.old) (W.contents out.new))) }
 {
-    let wire = Idling::new(Logged::new(wire, log, Hearing::AtSilences), idle_silences(settings));
+    let wire = Idling::new(
+        Logged::new(wire, log, Hearing::AtSilences),
+        idle_silences(settings),
+    );
     let mut watcher = AirLog::new(log, settings.rate);
     serve_turns(
         &mut Server::new(port, wire),
