@@ -2,12 +2,14 @@
 //! playlists, and plays them: over a line that is run from a script, and over TCP, of which it can be either end,
 //! and also what damages it between them.
 //!
-//! Files: `main` (which subcommand, and the exit status), `args` (what the command line may be). A subcommand has a
-//! constant in `args`, a function in `main` and a line in `run_named`; a number among its options is a `NumberOption` of
-//! `vdcp_options`. `args` and `stdout`, beside `src/`, are the words of one run and what it prints.
+//! Files: `main` (which subcommand, and the exit status), `args` (what the command line may be), `system` (why the system
+//! refused an address or a file). A subcommand has a constant in `args`, a function in `main` and a line in `run_named`; a
+//! number among its options is a `NumberOption` of `vdcp_options`. `args` and `stdout`, beside `src/`, are the words of one
+//! run and what it prints.
 #![tactic(auto)]
 
 mod args;
+mod system;
 
 use clap::ArgMatches;
 use clap::error::ErrorKind;
@@ -15,6 +17,7 @@ use std::fs::File;
 use std::io::{BufWriter, IsTerminal, Write};
 use std::process::ExitCode;
 use std::{env, io};
+use system::System;
 use vdcp_capture::do_judge;
 use vdcp_files::{do_check, do_vectors};
 use vdcp_log::{Lines, Screen};
@@ -84,24 +87,44 @@ fn run_named<W: Write, E: Write>(
     out: &mut W,
     err: &mut E,
 ) -> u8 {
+    let system = System::new(rt);
     let done = match name {
         "show" => Ok(run_show(rt, matches, out, err)),
         "make" => Ok(run_make(matches, out, err)),
         "check" => run_check(rt, matches, out, err),
         "sim" => run_sim(rt, matches, out, err),
-        "serve" => run_serve(rt, matches, out, err),
-        "run" => run_run(rt, matches, out, err),
+        "serve" => run_serve(&system, matches, out, err),
+        "run" => run_run(&system, matches, out, err),
         "asrun" => run_asrun(rt, matches, out, err),
         "judge" => run_judge(rt, matches, out, err),
-        "probe" => run_probe(rt, matches, out, err),
-        "lossy" => Ok(run_lossy(rt, matches, err)),
+        "probe" => run_probe(&system, matches, out, err),
+        "lossy" => Ok(run_lossy(&system, matches, err)),
         "vectors" => run_vectors(rt, matches, out, err),
         // (`clap` lets no other name through)
         _ => Ok(2),
     };
+    ended(&system, done, err)
+}
+
+// The exit status; a failure is told. On a terminal a second line says why an address or a file was refused.
+fn ended<E: Write>(system: &System<'_>, done: Result<u8, Failure<'_>>, err: &mut E) -> u8 {
+    let terminal = system.rt.stderr().is_terminal();
     match done {
-        Ok(status) => status,
-        Err(failure) => failure.report(err),
+        Ok(status) => {
+            if status == 3 && terminal {
+                system.explain_address(err);
+            }
+            status
+        }
+        Err(failure) => {
+            let status = failure.report(err);
+            if let Failure::Open(name) = failure
+                && terminal
+            {
+                system.explain_file(name, err);
+            }
+            status
+        }
     }
 }
 
@@ -147,36 +170,36 @@ fn run_sim<'a, W: Write, E: Write>(
 }
 
 fn run_serve<'a, W: Write, E: Write>(
-    rt: &HostRuntime,
+    system: &System<'_>,
     matches: &'a ArgMatches<'_>,
     out: &mut W,
     err: &mut E,
 ) -> Result<u8, Failure<'a>> {
-    let catalogue = open_file(rt, matches, "CATALOGUE")?;
+    let catalogue = open_file(system.rt, matches, "CATALOGUE")?;
     let address = matches.get_str("ADDR").unwrap_or("");
     let settings = serve_settings_of(matches);
-    let terminal = Screen::new(rt, rt.stderr());
+    let terminal = Screen::new(system, system.rt.stderr());
     let telling = if matches.get_flag("log") {
         Telling::All(terminal)
     } else {
         Telling::Faults(terminal)
     };
-    Ok(do_serve(rt, address, catalogue, settings, telling, out, err))
+    Ok(do_serve(system, address, catalogue, settings, telling, out, err))
 }
 
 fn run_run<'a, W: Write, E: Write>(
-    rt: &HostRuntime,
+    system: &System<'_>,
     matches: &'a ArgMatches<'_>,
     out: &mut W,
     err: &mut E,
 ) -> Result<u8, Failure<'a>> {
-    let list = open_file(rt, matches, "LIST")?;
+    let list = open_file(system.rt, matches, "LIST")?;
     let address = matches.get_str("ADDR").unwrap_or("");
     let lengths = match matches.get_str("lengths") {
         Some(name) => {
-            test_apart(rt, matches.get_str("asrun"), name)?;
-            let file = open_file(rt, matches, "lengths")?;
-            Some(file.read_catalogue(rt.alloc(), rate_of(matches))?)
+            test_apart(system, matches.get_str("asrun"), name)?;
+            let file = open_file(system.rt, matches, "lengths")?;
+            Some(file.read_catalogue(system.alloc(), rate_of(matches))?)
         }
         None => None,
     };
@@ -184,15 +207,15 @@ fn run_run<'a, W: Write, E: Write>(
         lengths: lengths.as_ref(),
         ..run_settings_of(matches)
     };
-    let terminal = rt.stderr();
+    let terminal = system.rt.stderr();
     let showing = if matches.get_flag("log") {
-        Showing::Messages(Screen::new(rt, terminal))
+        Showing::Messages(Screen::new(system, terminal))
     } else if terminal.is_terminal() {
-        Showing::Progress(Screen::new(rt, terminal))
+        Showing::Progress(Screen::new(system, terminal))
     } else {
         Showing::Nothing
     };
-    Ok(do_run(rt, address, list, settings, showing, out, err))
+    Ok(do_run(system, address, list, settings, showing, out, err))
 }
 
 fn run_asrun<'a, W: Write, E: Write>(
@@ -223,25 +246,33 @@ fn run_judge<'a, W: Write, E: Write>(
 }
 
 fn run_probe<'a, W: Write, E: Write>(
-    rt: &HostRuntime,
+    system: &System<'_>,
     matches: &'a ArgMatches<'_>,
     out: &mut W,
     err: &mut E,
 ) -> Result<u8, Failure<'a>> {
-    let catalogue = open_file(rt, matches, "CATALOGUE")?;
+    let catalogue = open_file(system.rt, matches, "CATALOGUE")?;
     let address = matches.get_str("ADDR").unwrap_or("");
     let settings = probe_settings_of(matches);
-    let rows = rows(rt.alloc())?;
-    Ok(do_probe(rt, address, catalogue, rows.as_slice(), settings, out, err))
+    let rows = rows(system.alloc())?;
+    Ok(do_probe(
+        system,
+        address,
+        catalogue,
+        rows.as_slice(),
+        settings,
+        out,
+        err,
+    ))
 }
 
-fn run_lossy<E: Write>(rt: &HostRuntime, matches: &ArgMatches<'_>, err: &mut E) -> u8 {
+fn run_lossy<E: Write>(system: &System<'_>, matches: &ArgMatches<'_>, err: &mut E) -> u8 {
     let address = matches.get_str("ADDR").unwrap_or("");
     let server = matches.get_str("SERVER").unwrap_or("");
     let settings = lossy_settings_of(matches);
     // (who doesn't read its lines doesn't hold the two ends up)
-    let mut out = Lines::new(Screen::new(rt, rt.stdout()));
-    do_lossy(rt, address, server, settings, &mut out, err)
+    let mut out = Lines::new(Screen::new(system, system.rt.stdout()));
+    do_lossy(system, address, server, settings, &mut out, err)
 }
 
 fn run_vectors<'a, W: Write, E: Write>(
