@@ -14,7 +14,7 @@ use vdcp_auto::{Outcome, Source};
 use vdcp_journal::{Heading, Note};
 use vdcp_text::Failure;
 
-/// Writes the first row where that was torn: nothing was sent then. The file and these, its bytes, grow alike.
+/// Writes the first row if it was torn; nothing was sent then. `bytes` is the file's content, before and after.
 pub(crate) fn mend_heading<'a, R: Clock + AllocGlobal>(
     rt: &R,
     name: &'a str,
@@ -50,8 +50,8 @@ fn is_torn(text: &[u8], row: &[u8]) -> bool {
     true
 }
 
-/// Writes that the run was lost where it was killed just there, before its last rows. The file and these, its bytes, grow
-/// alike.
+/// Writes that the run was lost, if it was killed before it could write that. `bytes` is the file's content, before and
+/// after.
 pub(crate) fn mend_loss<'a, R: Clock + AllocGlobal, S: Source>(
     rt: &R,
     name: &'a str,
@@ -85,7 +85,8 @@ fn is_loss_unsaid<S: Source>(replayed: &Replayed<S>) -> bool {
     replayed.controller.outcome() == Some(Outcome::Lost) && !has_end(replayed.rows.as_slice())
 }
 
-// Writes this text after so many bytes of a file, in place of what follows them. The other bytes are those of the file.
+// Keeps the first `whole` bytes of a file and writes this text after them; what followed is gone. `bytes` is the file's
+// content, before and after.
 fn replace_from<'a>(
     name: &'a str,
     whole: usize,

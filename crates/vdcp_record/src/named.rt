@@ -42,7 +42,7 @@ impl NamedEvents {
         }
     }
 
-    // Has so many events at least.
+    // Makes the list at least this long.
     fn extend(&mut self, count: usize) -> Result<(), AllocError> {
         for _ in self.items.len()..count {
             self.push(whole(ClipId::new(*b"        ")))?;
