@@ -82,8 +82,17 @@ commands_hears_all plan unit [] p = refl
 commands_hears_all plan unit (m ∷ ms) p =
     commands_hears_all plan unit ms (hears plan unit m p) ∙ commands_hears plan unit m p
 
+-- a tick sends what it gives
+pub commands_gives : (plan : Plan) (p : Prompt)
+    → commands_in plan (gives p) ≡ commands_in plan p ++ option_to_list (given plan p.state)
+commands_gives plan p = by (given plan p.state) refl where
+  by : (c : Option Command) → given plan p.state ≡ c
+      → commands_in plan (gives p) ≡ commands_in plan p ++ option_to_list c
+  by None is = gives_none plan p is ∙ sym (append-nil (commands_in plan p))
+  by (Some c) is = gives_some plan p c is
+
 -- a listen sends nothing
-commands_listens : (plan : Plan) (unit : ℕ) (a : Arrival) (p : Prompt)
+pub commands_listens : (plan : Plan) (unit : ℕ) (a : Arrival) (p : Prompt)
     → commands_in plan (listens plan unit a p) ≡ commands_in plan p
 commands_listens plan unit (bytes piece) p = commands_hears_all plan unit (completed p.held piece) p
 commands_listens plan unit silence p = commands_receives plan None p

@@ -1,6 +1,7 @@
 //! The laws of the definitions that the contracts of this crate cite. The functions do nothing: their
 //! contracts are the laws, and a caller whose proof needs one calls it.
-ghost use Rattle.std.specs.Prelude.{◌≡◌, ◌≤◌, ℕ, List, [], ◌++◌, Option, None};
+ghost use Rattle.std.specs.Option.{option_to_list};
+ghost use Rattle.std.specs.Prelude.{◌≡◌, ◌≤◌, ℕ, false, List, [], ◌∷◌, ◌++◌, Option, None};
 ghost use Rattle.vdcp_frame.specs.Message.{Content};
 ghost use Rattle.vdcp_frame.specs.Progress.{Progress, reading};
 ghost use Rattle.vdcp_frame.specs.Reading.{SpellsAll, IsUnfinished};
@@ -8,12 +9,13 @@ ghost use Rattle.vdcp_auto.specs.Course.{course};
 ghost use Rattle.vdcp_auto.specs.Law.{IsLawful};
 ghost use Rattle.vdcp_auto.specs.Plan.{Plan};
 ghost use Rattle.vdcp_auto.specs.State.{State};
-ghost use Rattle.vdcp_auto.specs.Turn.{start};
+ghost use Rattle.vdcp_auto.specs.Turn.{given, start};
+ghost use Rattle.vdcp_drive.specs.Bursts.{ended_bursts, open_burst};
 ghost use Rattle.vdcp_drive.specs.Driven.{HasRun, HasRunBroken, inputs_of};
-ghost use Rattle.vdcp_drive.specs.Prompt.{HasRunPrompt, HasRunPromptBroken, prompted};
+ghost use Rattle.vdcp_drive.specs.Prompt.{HasRunPrompt, HasRunPromptBroken, Prompt, commands_in, gives, listens, prompted};
 ghost use Rattle.vdcp_drive.specs.PromptReading.{Held, holds, completed, held_after};
 ghost use Rattle.vdcp_drive.specs.RunOn.{HasRunOn, StandsIn};
-ghost use Rattle.vdcp_wire.specs.Wires.{Told, nothing_told};
+ghost use Rattle.vdcp_wire.specs.Wires.{Arrival, Told, bytes, close, has_closed, nothing_told, silence};
 
 use vdcp_auto::laws as courses;
 use vdcp_frame::laws as bursts;
@@ -74,3 +76,25 @@ pub fn what_is_spelt_is_completed()
     bursts::what_is_followed_is_read();
     bursts::one_reading();
 }
+
+/// What an automation that hears at once has sent: a tick adds the command that it gives, and a listen nothing.
+pub fn a_tick_sends_its_command()
+    ensures tick { (plan : Plan) (p : Prompt) →
+        commands_in plan (gives p) ≡ commands_in plan p ++ option_to_list (given plan p.state) }
+    ensures listen { (plan : Plan) (unit : ℕ) (a : Arrival) (p : Prompt) →
+        commands_in plan (listens plan unit a p) ≡ commands_in plan p }
+{}
+
+/// What one arrival more makes of the bursts that came: bytes are added to the open one, a silence ends it, and a close
+/// ends none.
+pub fn bursts_grow()
+    ensures bytes { (came : List Arrival) (piece : List ℕ) → has_closed came ≡ false →
+        (ended_bursts (came ++ bytes piece ∷ []) ≡ ended_bursts came)
+        × (open_burst (came ++ bytes piece ∷ []) ≡ open_burst came ++ piece) }
+    ensures silence { (came : List Arrival) → has_closed came ≡ false →
+        (ended_bursts (came ++ silence ∷ []) ≡ ended_bursts came ++ open_burst came ∷ [])
+        × (open_burst (came ++ silence ∷ []) ≡ []) }
+    ensures close { (came : List Arrival) →
+        (ended_bursts (came ++ close ∷ []) ≡ ended_bursts came)
+        × (open_burst (came ++ close ∷ []) ≡ open_burst came) }
+{}

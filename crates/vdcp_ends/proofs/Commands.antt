@@ -1,6 +1,5 @@
--- The commands of an automation that hears at once: a listen adds none, and a tick the one that it gives.
-use Rattle.std.proofs.Common.{ℕ, ◌≡◌, List, [], ◌∷◌, ◌++◌, Bool, false, true, map, refl, sym, ap, ◌∙◌, append_assoc, append-nil}
-use Rattle.std.proofs.lemmas.List.{map-append}
+-- What an automation that hears at once awaits, after a tick, an exchange's end and a time-out.
+use Rattle.std.proofs.Common.{ℕ, ◌≡◌, List, [], ◌∷◌, ◌++◌, Bool, false, true, refl, sym, ap, ◌∙◌, append-nil}
 use Rattle.std.specs.Option.{option_to_list, option_map, option_map_or}
 use Rattle.std.specs.Prelude.{Option, Some, None, if◌then◌else◌}
 use Rattle.vdcp_frame.specs.Message.{Content}
@@ -17,9 +16,8 @@ use Rattle.vdcp_auto.specs.declared.phase.Mode.{Mode}
 use Rattle.vdcp_auto.specs.declared.phase.Mode.TheVariants.{Plain, Confirming}
 use Rattle.vdcp_auto.specs.declared.phase.Transition.{Transition}
 use Rattle.vdcp_auto.specs.declared.phase.Transition.TheVariants.{Goes, Settles, Retries, Ends}
-use Rattle.vdcp_drive.specs.Prompt.{Prompt, commands_in, gives, hears, hears_all, listens, passes, prompted_from, receives}
-use Rattle.vdcp_drive.specs.PromptReading.{completed}
-use Rattle.vdcp_wire.specs.Wires.{Arrival, bytes, silence, close}
+use Rattle.vdcp_drive.specs.Prompt.{Prompt, gives, hears, listens, passes, prompted_from, receives}
+use Rattle.vdcp_wire.specs.Wires.{Arrival}
 
 pub prompted_push : (plan : Plan) (unit : ℕ) (p : Prompt) (came : List Arrival) (a : Arrival)
     → prompted_from plan unit p (came ++ a ∷ []) ≡ listens plan unit a (gives (prompted_from plan unit p came))
@@ -45,14 +43,7 @@ ticks_in plan s (Ended outcome) is = ap (λ (t : Stage). option_to_list (awaited
 pub ticks_state : (plan : Plan) (s : State) → TicksTo plan s s.stage
 ticks_state plan s = ticks_in plan s s.stage refl
 
-pub ticks : (plan : Plan) (p : Prompt)
-    → commands_in plan (gives p) ≡ commands_in plan p ++ option_to_list (given plan p.state)
-ticks plan p =
-    ap (λ (l : List Command). map command_of p.log ++ l) (ticks_in plan p.state p.state.stage refl)
-    ∙ sym (append_assoc (map command_of p.log) (option_to_list (awaited plan p.state))
-    (option_to_list (given plan p.state)))
-
--- A listen.
+-- An exchange that ends is of the command that was awaited, and then none is.
 
 awaits_none : (plan : Plan) (transition : Transition) (n : ℕ) (s : State)
     → awaited plan (turns.state_after transition n s) ≡ None
@@ -61,17 +52,8 @@ awaits_none plan (Settles k) n s = refl
 awaits_none plan (Retries k) n s = refl
 awaits_none plan (Ends outcome) n s = refl
 
-abbrev KeepsAwaited : Plan → Option Heard → State → Type 0
-KeepsAwaited plan h s = option_to_list (option_map command_of (ended_by plan h s))
-    ++ option_to_list (awaited plan (came_to plan h s))
-    ≡ option_to_list (awaited plan s)
-
 abbrev pub left_by : Plan → State → Option Exchange → State
 left_by plan s ends = option_map_or (λ e. ended_in plan s.stage e s) ends s
-
-none_ends : (plan : Plan) (h : Option Heard) (s : State) → ended_by plan h s ≡ None → KeepsAwaited plan h s
-none_ends plan h s is = ap (λ (e : Option Exchange). option_to_list (option_map command_of e) ++ option_to_list
-    (awaited plan (left_by plan s e))) is
 
 pub awaits_none_in : (plan : Plan) (stage : Stage) (e : Exchange) (s : State) → awaited_in plan stage ≡ Some e.command
     → awaited plan (ended_in plan stage e s) ≡ None
@@ -79,14 +61,6 @@ awaits_none_in plan (Ready p) e s h = cc
 awaits_none_in plan (Awaiting p) e s h =
     awaits_none plan (transition_of plan s p e) (unanswered_after plan.mode e s.unanswered) s
 awaits_none_in plan (Ended outcome) e s h = cc
-
-one_ends : (plan : Plan) (h : Option Heard) (s : State) (e : Exchange) → ended_by plan h s ≡ Some e
-    → awaited plan s ≡ Some e.command → KeepsAwaited plan h s
-one_ends plan h s e is awaits =
-    ap (λ (x : Option Exchange). option_to_list (option_map command_of x)
-    ++ option_to_list (awaited plan (left_by plan s x))) is
-    ∙ ap (λ (c : Option Command). e.command ∷ option_to_list c) (awaits_none_in plan s.stage e s awaits)
-    ∙ ap (λ (c : Option Command). option_to_list c) (sym awaits)
 
 made_of : (b : Bool) (c : Command) (h : Option Heard) (e : Exchange)
     → (if b then Some (record { command = c; heard = h }) else None) ≡ Some e
@@ -98,45 +72,6 @@ pub exchange_is : (mode : Mode) (h : Option Heard) (c : Option Command) (e : Exc
     → c ≡ Some e.command
 exchange_is mode h None e is = cc
 exchange_is mode h (Some c) e is = made_of (is_end mode c h) c h e is
-
-keeps_awaited : (plan : Plan) (h : Option Heard) (s : State) (ends : Option Exchange) → ended_by plan h s ≡ ends
-    → KeepsAwaited plan h s
-keeps_awaited plan h s None is = none_ends plan h s is
-keeps_awaited plan h s (Some e) is = one_ends plan h s e is (exchange_is plan.mode h (awaited plan s) e is)
-
-logged_commands : (log : List Exchange) (ends : Option Exchange)
-    → map command_of (logged log ends) ≡ map command_of log ++ option_to_list (option_map command_of ends)
-logged_commands log None = sym (append-nil (map command_of log))
-logged_commands log (Some e) = map-append command_of log (e ∷ [])
-
-commands_receives : (plan : Plan) (h : Option Heard) (p : Prompt)
-    → commands_in plan (receives plan h p) ≡ commands_in plan p
-commands_receives plan h p =
-    let made : List Command = map command_of p.log in
-    let rest : List Command = option_to_list (awaited plan (came_to plan h p.state)) in
-    ap (λ (l : List Command). l ++ rest) (logged_commands p.log (ended_by plan h p.state))
-    ∙ append_assoc made (option_to_list (option_map command_of (ended_by plan h p.state))) rest
-    ∙ ap (λ (l : List Command). made ++ l) (keeps_awaited plan h p.state (ended_by plan h p.state) refl)
-
-commands_hears : (plan : Plan) (unit : ℕ) (m : Content) (p : Prompt)
-    → commands_in plan (hears plan unit m p) ≡ commands_in plan p
-commands_hears plan unit m p = by (is_awaiting p.state.stage) where
-  by : (b : Bool) → commands_in plan (if b then receives plan (Some (heard_as unit m)) p else passes p)
-      ≡ commands_in plan p
-  by true = commands_receives plan (Some (heard_as unit m)) p
-  by false = refl
-
-commands_hears_all : (plan : Plan) (unit : ℕ) (ms : List Content) (p : Prompt)
-    → commands_in plan (hears_all plan unit ms p) ≡ commands_in plan p
-commands_hears_all plan unit [] p = refl
-commands_hears_all plan unit (m ∷ ms) p =
-    commands_hears_all plan unit ms (hears plan unit m p) ∙ commands_hears plan unit m p
-
-pub commands_listens : (plan : Plan) (unit : ℕ) (a : Arrival) (p : Prompt)
-    → commands_in plan (listens plan unit a p) ≡ commands_in plan p
-commands_listens plan unit (bytes piece) p = commands_hears_all plan unit (completed p.held piece) p
-commands_listens plan unit silence p = commands_receives plan None p
-commands_listens plan unit close p = commands_receives plan None p
 
 -- After a time-out nothing is awaited.
 

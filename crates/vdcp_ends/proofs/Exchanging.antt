@@ -41,18 +41,19 @@ use Rattle.vdcp_drive.specs.Served.{items_served}
 use Rattle.vdcp_ends.specs.TwoEnds as two
 use Rattle.vdcp_ends.specs.TwoEnds.{AreJoined, CanJoin, Ends, aired_now, bytes_in, new_ends, port_now, sent_down, sent_up, with_down}
 use Rattle.vdcp_ends.specs.Undisturbed.{AreUndisturbed, CanPlay, IsDone, exchanged, first, most_exchanges, none, with_all_down, with_all_up, with_command, with_frames, with_piece_up, with_time_out}
-use Rattle.vdcp_ends.specs.Below.{Answered, Completed, Spelt, Written}
+use Rattle.vdcp_ends.specs.Below.{Answered, Arrived, Completed, Spelt, Written}
 use Rattle.vdcp_ends.proofs.Bytes.{clean_spelt, messages_spelt, nothing_unfinished, spells_all, spelt, spelt_both}
-use Rattle.vdcp_ends.proofs.Commands.{commands_listens, hears_comes, ticks}
+use Rattle.vdcp_ends.proofs.Commands.{hears_comes}
 use Rattle.vdcp_ends.proofs.Joining.{answers_fit, given_fits}
 use Rattle.vdcp_ends.proofs.Queues.{bytes_from, bytes_to, messages_from, messages_to}
-use Rattle.vdcp_ends.proofs.Serving.{bytes_more, bytes_silence, open_bytes, open_silence, serves_bytes, serves_frame}
+use Rattle.vdcp_ends.proofs.Serving.{bytes_more, bytes_silence, serves_bytes, serves_frame}
 
 -- the laws below: of vdcp_port a_command_is_answered, a_command_has_its_own_row and what_a_port_holds, and
 -- vdcp_world::laws::good_rounds_bring_all_to_air
 pub record Laws : Type 0 where
   pub spelt : Spelt
   pub completed : Completed
+  pub arrived : Arrived
   pub answered : Answered
   pub written : Written
   pub is_answered : (clips : List (ClipId × Timecode)) (p : PortState) (c : Command)
@@ -167,10 +168,10 @@ one_frame law plan port e r =
       r.whole,
       subst (SpellsAll r.whole) (sym (r.open_is ∙ append-nil (spelt r.whole))) (spells_all law.spelt r.whole r.fits),
     ) in
-    let s = serves_frame law.answered e.port e.downs [] r.no_close
+    let s = serves_frame law.answered law.arrived e.port e.downs [] r.no_close
     (ap (λ (l : List ℕ). end_answers (end_of l)) r.open_is
     ∙ ap end_answers (clean_spelt law.spelt r.whole r.fits r.small)) in
-    let opens : open_burst (e.downs ++ silence ∷ []) ≡ [] = open_silence [] e.downs r.no_close in
+    let opens : open_burst (e.downs ++ silence ∷ []) ≡ [] = (law.arrived.silence e.downs r.no_close).1 in
     record {
       rest = record {
         joined = two.went_on r.joined (two.frame r.no_close all);
@@ -210,7 +211,7 @@ opens_none : (law : Laws) (plan : Plan) (port : ClockedPort) (n : ℕ) (e : Ends
 opens_none law plan port zero e r some = absurd (omega (arith, some))
 opens_none law plan port (suc n) e r some =
     (have_frames law plan port n (with_down silence e) (one_frame law plan port e r).rest).none_open
-    (open_silence [] e.downs r.no_close)
+    (law.arrived.silence e.downs r.no_close).1
 
 -- The channel beside them.
 
@@ -336,7 +337,7 @@ exchanges law plan port e can r none_open =
     let small = small_command law.spelt unit (given plan s) fits in
     let went : List ℕ = bytes_in e.downs in
     let down : sent_down plan unit (with_command plan e) ≡ went ++ spelt ms =
-    ap (bytes_of unit) (ticks plan p)
+    ap (bytes_of unit) (law.arrived.tick plan p)
     ∙ bytes_to unit (before ++ more)
     ∙ ap spelt (map-append (command_message unit) before more)
     ∙ spelt_both (messages_to unit before) ms
@@ -351,7 +352,7 @@ exchanges law plan port e can r none_open =
     let reads : messages_of (spelt ms) ≡ ms =
     ap messages_of (sym (append-nil (spelt ms)))
     ∙ messages_spelt law.spelt ms [] fits (nothing_unfinished law.spelt) small in
-    let serves = serves_bytes law.answered e.port e.downs (spelt ms) [] ms r.no_close (ap messages_of none_open)
+    let serves = serves_bytes law.answered law.arrived e.port e.downs (spelt ms) [] ms r.no_close (ap messages_of none_open)
     (ap (λ (l : List ℕ). messages_of (l ++ spelt ms)) none_open ∙ reads) in
     let rs : List Content = messages_from unit (answers_to q ms) in
     let fits_up : All Fits rs = answers_fit law.written law.answered unit q ms can.unit_fits in
@@ -381,13 +382,13 @@ exchanges law plan port e can r none_open =
         joined = two.went_on joined (two.came_up (spelt rs) []
             (up ∙ ap (λ (l : List ℕ). e.ups ++ l) (sym (append-nil (spelt rs)))));
         held_is = held;
-        all_down = ap (bytes_of unit) (commands_listens plan unit (bytes (spelt rs)) (gives p)) ∙ down
+        all_down = ap (bytes_of unit) (law.arrived.listen plan unit (bytes (spelt rs)) (gives p)) ∙ down
             ∙ sym (bytes_more e.downs (spelt ms));
         all_up = up;
         no_close = no_close_more e.downs (bytes (spelt ms)) refl r.no_close;
         whole = ms;
         fits = fits;
-        open_is = open_bytes [] e.downs (spelt ms) r.no_close ∙ ap (λ (l : List ℕ). l ++ spelt ms) none_open
+        open_is = (law.arrived.bytes e.downs (spelt ms) r.no_close).1 ∙ ap (λ (l : List ℕ). l ++ spelt ms) none_open
             ∙ sym (append-nil (spelt ms));
         small = small;
         unit_is = ap (λ (x : ClockedPort). x.state.unit) serves.left ∙ law.answered.unit_messages q ms ∙ r.unit_is;
@@ -407,12 +408,12 @@ exchanges law plan port e can r none_open =
 -- Many exchanges.
 
 -- what was awaited has timed out
-times_out : (plan : Plan) (port : ClockedPort) (e : Ends) → IsAtRest plan port e
+times_out : (law : Laws) (plan : Plan) (port : ClockedPort) (e : Ends) → IsAtRest plan port e
     → IsAtRest plan port (with_time_out plan port.state.unit e)
-times_out plan port e r = record {
+times_out law plan port e r = record {
   joined = two.went_on r.joined two.waited;
   held_is = ap held_after_silence r.held_is;
-  all_down = ap (bytes_of port.state.unit) (commands_listens plan port.state.unit silence e.automation) ∙ r.all_down;
+  all_down = ap (bytes_of port.state.unit) (law.arrived.listen plan port.state.unit silence e.automation) ∙ r.all_down;
   all_up = r.all_up;
   no_close = r.no_close;
   whole = r.whole;
@@ -431,7 +432,7 @@ are_good_rounds law plan port _ e _ log can r none = (r, (log, refl))
 are_good_rounds law plan port _ e e' log can r (first {n} frames some cue playing more) =
     let unit : ℕ = port.state.unit in
     let late : Ends = with_time_out plan unit e in
-    let t = times_out plan port e r in
+    let t = times_out law plan port e r in
     let f = have_frames law plan port frames late t in
     let at : Ends = with_frames frames late in
     let x = exchanges law plan port at can f.rest (opens_none law plan port frames late t some) in

@@ -33,16 +33,17 @@ use Rattle.vdcp_late.specs.declared.event.LateEvent.{LateEvent}
 use Rattle.vdcp_late.specs.declared.event.LateEvent.TheVariants as event
 use Rattle.vdcp_ends.specs.TwoEnds.{AreJoined, begun, went_on, gave, came_up, came_down, waited, hung_up, frame, shut, took, halted, resumed, restarted}
 use Rattle.vdcp_ends.specs.TwoEnds.{CanJoin, Ends, IsLateChannel, aired_now, bytes_in, connected_anew, log_now, new_ends, port_now, sent_up, notes_ended, notes_given, notes_heard, wishing, with_automation, with_down, with_up}
-use Rattle.vdcp_ends.specs.Below.{Answered, Completed, Spelt, Written}
+use Rattle.vdcp_ends.specs.Below.{Answered, Arrived, Completed, Spelt, Written}
 use Rattle.vdcp_ends.proofs.Bytes.{clean_spelt, completes, end_past, front_small, messages_past, messages_spelt, messages_within_limit, nothing_unfinished, spelt, spelt_both, whole_spelt, within_limit}
-use Rattle.vdcp_ends.proofs.Commands.{commands_listens, ticks, timed_out}
+use Rattle.vdcp_ends.proofs.Commands.{timed_out}
 use Rattle.vdcp_ends.proofs.Queues.{ComesOn, IsOnWay, bursts_to, bytes_from, bytes_to, comes_on, delivers, downs_lost, downs_of, hears_each, logged_behind, loses_down, loses_first, loses_up, refuses, messages_from, messages_to, sends_on, ups_lost, ups_of, with_queues}
-use Rattle.vdcp_ends.proofs.Serving.{bytes_close, bytes_more, bytes_silence, clips_frame, clips_stay, open_bytes, open_close, open_silence, serves_bytes, serves_close, serves_frame}
+use Rattle.vdcp_ends.proofs.Serving.{bytes_close, bytes_more, bytes_silence, clips_frame, clips_stay, serves_bytes, serves_close, serves_frame}
 
 -- the laws below, and vdcp_late::laws::a_killed_automation_goes_on
 pub record Laws : Type 0 where
   pub spelt : Spelt
   pub completed : Completed
+  pub arrived : Arrived
   pub answered : Answered
   pub written : Written
   pub goes_on : (c : LateChannel) (events : List LateEvent) → IsLateReached c → IsLateReached (after_late_events c events)
@@ -116,7 +117,7 @@ gives_next law plan port e c notes can b =
     (given_fits law.written unit (given plan p.state) can.unit_fits
     (law.written.given plan p.state can.of_bytes can.port_fits)) in
     let all : messages_to unit before ++ messages_to unit more ≡ messages_to unit (commands_in plan (gives p)) =
-    sym (map-append (command_message unit) before more) ∙ ap (messages_to unit) (sym (ticks plan p)) in
+    sym (map-append (command_message unit) before more) ∙ ap (messages_to unit) (sym (law.arrived.tick plan p)) in
     let queue : c.down ++ map spelling (messages_to unit more)
     ≡ c.down ++ command_bursts c.port.state.unit (given c.plan c.state) =
     ap (λ (l : List (List ℕ)). c.down ++ l)
@@ -171,7 +172,7 @@ times_out law plan port e c a notes b state log held = record {
   port_is = b.port_is;
   aired_is = b.aired_is;
   downwards = same_down plan port.state.unit e (with_automation (listens plan port.state.unit a e.automation) notes e) c.down
-      c.down b.downwards refl (commands_listens plan port.state.unit a e.automation) refl;
+      c.down b.downwards refl (law.arrived.listen plan port.state.unit a e.automation) refl;
   upwards = record {
     said = b.upwards.said;
     said_is = b.upwards.said_is;
@@ -205,7 +206,7 @@ comes_up law plan port e piece c notes b on =
       port_is = h.port_is ∙ b.port_is;
       aired_is = h.aired_is ∙ b.aired_is;
       downwards = same_down plan unit e (with_up piece (with_automation (listens plan unit (bytes piece) p) notes e)) c.down
-          d.down b.downwards refl (commands_listens plan unit (bytes piece) p) h.down_is;
+          d.down b.downwards refl (law.arrived.listen plan unit (bytes piece) p) h.down_is;
       upwards = record {
         said = b.upwards.said;
         said_is = b.upwards.said_is;
@@ -274,8 +275,8 @@ read_and_lost law plan port e piece c can b no_close ms new past held rest befor
     ap (λ (q : List (List ℕ)). after_late_events (with_queues d q d.up) (downs_lost (map spelling past))) r.down_is
     ∙ loses_first (map spelling past) rest d.up d in
     let answers : List Content = messages_from unit (answers_to c.port new) in
-    let s = serves_bytes law.answered e.port downs piece ms new no_close before after in
-    let opens : open_burst (downs ++ bytes piece ∷ []) ≡ open_burst downs ++ piece = open_bytes [] downs piece no_close in
+    let s = serves_bytes law.answered law.arrived e.port downs piece ms new no_close before after in
+    let opens : open_burst (downs ++ bytes piece ∷ []) ≡ open_burst downs ++ piece = (law.arrived.bytes downs piece no_close).1 in
     record {
       channel = with_queues d rest d.up;
       beside = record {
@@ -395,8 +396,8 @@ ends_burst law plan port e c answers b no_close none ends fits reached =
     let answering : LateChannel = with_queues c c.down (c.up ++ map spelling more) in
     let w = b.downwards in
     let u = b.upwards in
-    let s = serves_frame law.answered e.port e.downs answers no_close ends in
-    let opens : open_burst (e.downs ++ silence ∷ []) ≡ [] = open_silence [] e.downs no_close in
+    let s = serves_frame law.answered law.arrived e.port e.downs answers no_close ends in
+    let opens : open_burst (e.downs ++ silence ∷ []) ≡ [] = (law.arrived.silence e.downs no_close).1 in
     record {
       channel = after_late_event answering event.Frame;
       beside = record {
@@ -451,14 +452,14 @@ passes law plan port e c b no_close all (inr small) =
     (All-nil Fits) (subst IsLateReached (ap (with_queues c c.down) (sym (append-nil c.up))) b.reached)
 
 -- the server's line is closed
-shuts : (plan : Plan) (port : ClockedPort) (e : Ends) (c : LateChannel) → IsBeside plan port e c
+shuts : (law : Laws) (plan : Plan) (port : ClockedPort) (e : Ends) (c : LateChannel) → IsBeside plan port e c
     → IsBeside plan port (with_down close e) c
-shuts plan port e c b =
+shuts law plan port e c b =
     let sent : List Content = messages_to port.state.unit (commands_in plan e.automation) in
     let w = b.downwards in
     let u = b.upwards in
-    let s = serves_close e.port e.downs in
-    let opens : open_burst (e.downs ++ close ∷ []) ≡ open_burst e.downs = open_close [] e.downs in
+    let s = serves_close law.arrived e.port e.downs in
+    let opens : open_burst (e.downs ++ close ∷ []) ≡ open_burst e.downs = (law.arrived.close e.downs).1 in
     record {
       reached = b.reached;
       plan_is = b.plan_is;
@@ -614,7 +615,7 @@ beside law plan port _ can (went_on {e} j (frame no_close all)) =
     passes law plan port e r.channel r.beside no_close all (cases_lt burst_limit (length (open_burst e.downs)))
 beside law plan port _ can (went_on {e} j shut) =
     let r = beside law plan port e can j in
-    record { channel = r.channel; beside = shuts plan port e r.channel r.beside }
+    record { channel = r.channel; beside = shuts law plan port e r.channel r.beside }
 beside law plan port _ can (went_on {e} j (took on)) =
     let r = beside law plan port e can j in record {
       channel = _;

@@ -9,7 +9,7 @@ use Rattle.vdcp_drive.specs.Prompt.{commands_in}
 use Rattle.vdcp_drive.specs.Served.{items_served, port_after}
 use Rattle.vdcp_ends.specs.TwoEnds.{AreJoined, Ends, IsSince, aired_now, at_once, later, port_now, went_on, with_kept}
 use Rattle.vdcp_ends.specs.TwoEnds.{gave, came_up, came_down, waited, hung_up, frame, shut, took, halted, resumed, restarted}
-use Rattle.vdcp_ends.proofs.Commands.{commands_listens}
+use Rattle.vdcp_ends.specs.Below.{Arrived}
 
 -- since then the automation has given nothing more, and the connection is the same
 record KeepsOn (plan : Plan) (port : ClockedPort) (kept now : Ends) : Type 0 where
@@ -18,69 +18,69 @@ record KeepsOn (plan : Plan) (port : ClockedPort) (kept now : Ends) : Type 0 whe
   before_is : now.aired_before ≡ kept.aired_before
   commands : commands_in plan now.automation ≡ commands_in plan kept.automation
 
-keeps_on : (plan : Plan) (port : ClockedPort) (kept now : Ends) → AreJoined plan port kept
+keeps_on : (law : Arrived) (plan : Plan) (port : ClockedPort) (kept now : Ends) → AreJoined plan port kept
     → IsSince plan port.state.unit kept now → KeepsOn plan port kept now
-keeps_on plan port kept _ j at_once = record { joined = j; port_is = refl; before_is = refl; commands = refl }
-keeps_on plan port kept _ j (later {e} since gave none) = absurd none
-keeps_on plan port kept _ j (later {e} since resumed none) = absurd none
-keeps_on plan port kept _ j (later {e} since restarted none) = absurd none
-keeps_on plan port kept _ j (later {e} since (came_up piece rest is) none) =
-    let k = keeps_on plan port kept e j since in record {
+keeps_on law plan port kept _ j at_once = record { joined = j; port_is = refl; before_is = refl; commands = refl }
+keeps_on law plan port kept _ j (later {e} since gave none) = absurd none
+keeps_on law plan port kept _ j (later {e} since resumed none) = absurd none
+keeps_on law plan port kept _ j (later {e} since restarted none) = absurd none
+keeps_on law plan port kept _ j (later {e} since (came_up piece rest is) none) =
+    let k = keeps_on law plan port kept e j since in record {
       joined = k.joined;
       port_is = k.port_is;
       before_is = k.before_is;
-      commands = commands_listens plan port.state.unit (bytes piece) e.automation ∙ k.commands;
+      commands = law.listen plan port.state.unit (bytes piece) e.automation ∙ k.commands;
     }
-keeps_on plan port kept _ j (later {e} since (came_down piece rest is no_close) none) =
-    let k = keeps_on plan port kept e j since in record {
+keeps_on law plan port kept _ j (later {e} since (came_down piece rest is no_close) none) =
+    let k = keeps_on law plan port kept e j since in record {
       joined = went_on k.joined
           (came_down piece rest (ap (bytes_of port.state.unit) (sym k.commands) ∙ is) no_close);
       port_is = k.port_is;
       before_is = k.before_is;
       commands = k.commands;
     }
-keeps_on plan port kept _ j (later {e} since waited none) =
-    let k = keeps_on plan port kept e j since in record {
+keeps_on law plan port kept _ j (later {e} since waited none) =
+    let k = keeps_on law plan port kept e j since in record {
       joined = k.joined;
       port_is = k.port_is;
       before_is = k.before_is;
-      commands = commands_listens plan port.state.unit silence e.automation ∙ k.commands;
+      commands = law.listen plan port.state.unit silence e.automation ∙ k.commands;
     }
-keeps_on plan port kept _ j (later {e} since hung_up none) =
-    let k = keeps_on plan port kept e j since in record {
+keeps_on law plan port kept _ j (later {e} since hung_up none) =
+    let k = keeps_on law plan port kept e j since in record {
       joined = k.joined;
       port_is = k.port_is;
       before_is = k.before_is;
-      commands = commands_listens plan port.state.unit close e.automation ∙ k.commands;
+      commands = law.listen plan port.state.unit close e.automation ∙ k.commands;
     }
-keeps_on plan port kept _ j (later {e} since (frame no_close all) none) =
-    let k = keeps_on plan port kept e j since in record {
+keeps_on law plan port kept _ j (later {e} since (frame no_close all) none) =
+    let k = keeps_on law plan port kept e j since in record {
       joined = went_on k.joined (frame no_close all);
       port_is = k.port_is;
       before_is = k.before_is;
       commands = k.commands;
     }
-keeps_on plan port kept _ j (later {e} since shut none) =
-    let k = keeps_on plan port kept e j since in
+keeps_on law plan port kept _ j (later {e} since shut none) =
+    let k = keeps_on law plan port kept e j since in
     record { joined = went_on k.joined shut; port_is = k.port_is; before_is = k.before_is; commands = k.commands }
-keeps_on plan port kept _ j (later {e} since (took on) none) =
-    let k = keeps_on plan port kept e j since in
+keeps_on law plan port kept _ j (later {e} since (took on) none) =
+    let k = keeps_on law plan port kept e j since in
     record { joined = k.joined; port_is = k.port_is; before_is = k.before_is; commands = k.commands }
-keeps_on plan port kept _ j (later {e} since (halted on) none) =
-    let k = keeps_on plan port kept e j since in
+keeps_on law plan port kept _ j (later {e} since (halted on) none) =
+    let k = keeps_on law plan port kept e j since in
     record { joined = k.joined; port_is = k.port_is; before_is = k.before_is; commands = k.commands }
 
-pub kept_joined : (plan : Plan) (port : ClockedPort) (kept now : Ends) → AreJoined plan port kept
+pub kept_joined : (law : Arrived) (plan : Plan) (port : ClockedPort) (kept now : Ends) → AreJoined plan port kept
     → IsSince plan port.state.unit kept now → AreJoined plan port (with_kept kept now)
-kept_joined plan port kept now j since = (keeps_on plan port kept now j since).joined
+kept_joined law plan port kept now j since = (keeps_on law plan port kept now j since).joined
 
-pub kept_port : (plan : Plan) (port : ClockedPort) (kept now : Ends) → AreJoined plan port kept
+pub kept_port : (law : Arrived) (plan : Plan) (port : ClockedPort) (kept now : Ends) → AreJoined plan port kept
     → IsSince plan port.state.unit kept now → port_now (with_kept kept now) ≡ port_now now
-kept_port plan port kept now j since =
-    ap (λ (q : ClockedPort). port_after q now.downs) (sym (keeps_on plan port kept now j since).port_is)
+kept_port law plan port kept now j since =
+    ap (λ (q : ClockedPort). port_after q now.downs) (sym (keeps_on law plan port kept now j since).port_is)
 
-pub kept_aired : (plan : Plan) (port : ClockedPort) (kept now : Ends) → AreJoined plan port kept
+pub kept_aired : (law : Arrived) (plan : Plan) (port : ClockedPort) (kept now : Ends) → AreJoined plan port kept
     → IsSince plan port.state.unit kept now → aired_now (with_kept kept now) ≡ aired_now now
-kept_aired plan port kept now j since =
-    let k = keeps_on plan port kept now j since in
+kept_aired law plan port kept now j since =
+    let k = keeps_on law plan port kept now j since in
     ap₂ (λ (l : List Item) (q : ClockedPort). l ++ items_served q now.downs) (sym k.before_is) (sym k.port_is)

@@ -7,53 +7,11 @@ use Rattle.vdcp_frame.specs.Message.{Content}
 use Rattle.vdcp_words.specs.declared.reply.Reply.{Reply}
 use Rattle.vdcp_port.specs.Answers.{after_burst, after_messages, aired_for, aired_on_way, answer_bytes, answers_to, bytes_for_all, end_answers, reply_bytes, sent_for}
 use Rattle.vdcp_port.specs.Clock.{ClockedPort, after_frame, after_message, after_ready, after_ended, completes_cue, counted_down, ends_clip}
-use Rattle.vdcp_drive.specs.Bursts.{ended_behind, ended_bursts, open_behind, open_burst}
+use Rattle.vdcp_drive.specs.Bursts.{ended_bursts, open_burst}
 use Rattle.vdcp_drive.specs.Served.{after_bursts, items_for_bursts, items_served, port_after, sent_for_bursts, served}
 use Rattle.vdcp_wire.specs.Wires.{Arrival, bytes, silence, close, has_closed}
 use Rattle.vdcp_ends.specs.TwoEnds.{bytes_in}
-use Rattle.vdcp_ends.specs.Below.{Answered}
-
--- Bursts, with one more arrival.
-
-ended_bytes : (s : List ℕ) (came : List Arrival) (piece : List ℕ)
-    → ended_behind s (came ++ bytes piece ∷ []) ≡ ended_behind s came
-ended_bytes s [] piece = refl
-ended_bytes s (bytes b ∷ came) piece = ended_bytes (s ++ b) came piece
-ended_bytes s (silence ∷ came) piece = ap (λ (l : List (List ℕ)). s ∷ l) (ended_bytes [] came piece)
-ended_bytes s (close ∷ came) piece = refl
-
-pub open_bytes : (s : List ℕ) (came : List Arrival) (piece : List ℕ) → has_closed came ≡ false
-    → open_behind s (came ++ bytes piece ∷ []) ≡ open_behind s came ++ piece
-open_bytes s [] piece h = refl
-open_bytes s (bytes b ∷ came) piece h = open_bytes (s ++ b) came piece h
-open_bytes s (silence ∷ came) piece h = open_bytes [] came piece h
-open_bytes s (close ∷ came) piece h = cc
-
-ended_silence : (s : List ℕ) (came : List Arrival) → has_closed came ≡ false
-    → ended_behind s (came ++ silence ∷ []) ≡ ended_behind s came ++ open_behind s came ∷ []
-ended_silence s [] h = refl
-ended_silence s (bytes b ∷ came) h = ended_silence (s ++ b) came h
-ended_silence s (silence ∷ came) h = ap (λ (l : List (List ℕ)). s ∷ l) (ended_silence [] came h)
-ended_silence s (close ∷ came) h = cc
-
-pub open_silence : (s : List ℕ) (came : List Arrival) → has_closed came ≡ false
-    → open_behind s (came ++ silence ∷ []) ≡ []
-open_silence s [] h = refl
-open_silence s (bytes b ∷ came) h = open_silence (s ++ b) came h
-open_silence s (silence ∷ came) h = open_silence [] came h
-open_silence s (close ∷ came) h = cc
-
-ended_close : (s : List ℕ) (came : List Arrival) → ended_behind s (came ++ close ∷ []) ≡ ended_behind s came
-ended_close s [] = refl
-ended_close s (bytes b ∷ came) = ended_close (s ++ b) came
-ended_close s (silence ∷ came) = ap (λ (l : List (List ℕ)). s ∷ l) (ended_close [] came)
-ended_close s (close ∷ came) = refl
-
-pub open_close : (s : List ℕ) (came : List Arrival) → open_behind s (came ++ close ∷ []) ≡ open_behind s came
-open_close s [] = refl
-open_close s (bytes b ∷ came) = open_close (s ++ b) came
-open_close s (silence ∷ came) = open_close [] came
-open_close s (close ∷ came) = refl
+use Rattle.vdcp_ends.specs.Below.{Answered, Arrived}
 
 -- The bytes of what came, with one more arrival.
 
@@ -116,15 +74,15 @@ pub record ServesMore (p : ClockedPort) (downs downs' : List Arrival) (new : Lis
   pub aired : items_served p downs' ≡ items_served p downs ++ aired_on_way (port_after p downs) new
   pub left : port_after p downs' ≡ after_messages (port_after p downs) new
 
-pub serves_bytes : (law : Answered) (p : ClockedPort) (downs : List Arrival) (piece : List ℕ) (ms new : List Content)
+pub serves_bytes : (law : Answered) (arrived : Arrived) (p : ClockedPort) (downs : List Arrival) (piece : List ℕ) (ms new : List Content)
     → has_closed downs ≡ false → messages_of (open_burst downs) ≡ ms → messages_of (open_burst downs ++ piece) ≡ ms ++ new
     → ServesMore p downs (downs ++ bytes piece ∷ []) new
-serves_bytes law p downs piece ms new no_close before after =
+serves_bytes law arrived p downs piece ms new no_close before after =
     let e : List (List ℕ) = ended_bursts downs in
     let q : ClockedPort = after_bursts p e in
-    let same : ended_bursts (downs ++ bytes piece ∷ []) ≡ e = ended_bytes [] downs piece in
+    let same : ended_bursts (downs ++ bytes piece ∷ []) ≡ e = (arrived.bytes downs piece no_close).0 in
     let reads : messages_of (open_burst (downs ++ bytes piece ∷ [])) ≡ ms ++ new =
-    ap messages_of (open_bytes [] downs piece no_close) ∙ after in
+    ap messages_of (arrived.bytes downs piece no_close).1 ∙ after in
     record {
       sent = ap₂ (served_by p) same reads
           ∙ ap (λ (l : List ℕ). sent_for_bursts p e ++ l) (law.sent q ms new)
@@ -154,16 +112,16 @@ at_end law p burst answers ends =
     ∙ ap (λ (n : ℕ). bytes_for_all p (messages_of burst) ++ answer_bytes n answers)
     (sym (law.unit_messages p (messages_of burst)))
 
-pub serves_frame : (law : Answered) (p : ClockedPort) (downs : List Arrival) (answers : List Reply)
+pub serves_frame : (law : Answered) (arrived : Arrived) (p : ClockedPort) (downs : List Arrival) (answers : List Reply)
     → has_closed downs ≡ false → end_answers (end_of (open_burst downs)) ≡ answers
     → ServesFrame p downs (downs ++ silence ∷ []) answers
-serves_frame law p downs answers no_close ends =
+serves_frame law arrived p downs answers no_close ends =
     let e : List (List ℕ) = ended_bursts downs in
     let b : List ℕ = open_burst downs in
     let q : ClockedPort = after_bursts p e in
-    let same : ended_bursts (downs ++ silence ∷ []) ≡ e ++ b ∷ [] = ended_silence [] downs no_close in
+    let same : ended_bursts (downs ++ silence ∷ []) ≡ e ++ b ∷ [] = (arrived.silence downs no_close).0 in
     let reads : messages_of (open_burst (downs ++ silence ∷ [])) ≡ [] =
-    ap messages_of (open_silence [] downs no_close) in
+    ap messages_of (arrived.silence downs no_close).1 in
     record {
       sent = ap₂ (served_by p) same reads
           ∙ append-nil (sent_for_bursts p (e ++ b ∷ []))
@@ -183,11 +141,11 @@ pub record ServesNothing (p : ClockedPort) (downs downs' : List Arrival) : Type 
   pub aired : items_served p downs' ≡ items_served p downs
   pub left : port_after p downs' ≡ port_after p downs
 
-pub serves_close : (p : ClockedPort) (downs : List Arrival) → ServesNothing p downs (downs ++ close ∷ [])
-serves_close p downs =
-    let same : ended_bursts (downs ++ close ∷ []) ≡ ended_bursts downs = ended_close [] downs in
+pub serves_close : (arrived : Arrived) (p : ClockedPort) (downs : List Arrival) → ServesNothing p downs (downs ++ close ∷ [])
+serves_close arrived p downs =
+    let same : ended_bursts (downs ++ close ∷ []) ≡ ended_bursts downs = (arrived.close downs).0 in
     let reads : messages_of (open_burst (downs ++ close ∷ [])) ≡ messages_of (open_burst downs) =
-    ap messages_of (open_close [] downs) in
+    ap messages_of (arrived.close downs).1 in
     record {
       sent = ap₂ (served_by p) same reads;
       aired = ap₂ (items_by p) same reads;

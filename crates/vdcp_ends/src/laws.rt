@@ -17,7 +17,7 @@ ghost use Rattle.vdcp_wire.specs.Wires.{Arrival, Told};
 ghost use Rattle.vdcp_drive.specs.Prompt.{HasRunPrompt, HasRunPromptBroken, prompted};
 ghost use Rattle.vdcp_drive.specs.Served.{IsServed, items_served};
 ghost use Rattle.vdcp_late.specs.LateHeadline.{is_late_complete};
-ghost use Rattle.vdcp_ends.specs.Below.{Answered, Completed, Spelt, Written};
+ghost use Rattle.vdcp_ends.specs.Below.{Answered, Arrived, Completed, Spelt, Written};
 ghost use Rattle.vdcp_ends.specs.EndsHeadline.{EndsHeadline};
 ghost use Rattle.vdcp_ends.specs.OneConnection.{HasCome, IsFresh, ends_of};
 ghost use Rattle.vdcp_ends.specs.SeveralRuns.{HaveAired};
@@ -109,7 +109,9 @@ pub fn a_kill_loses_what_came_since()
         IsSince plan port.state.unit kept now → port_now (with_kept kept now) ≡ port_now now }
     ensures aired { (plan : Plan) (port : ClockedPort) (kept now : Ends) → AreJoined plan port kept →
         IsSince plan port.state.unit kept now → aired_now (with_kept kept now) ≡ aired_now now }
-{}
+{
+    what_is_below();
+}
 
 /// The rows of a journal that has these notes make the automation's controller of a new one, each tells what the
 /// controller does there, and the log that they show is the automation's, with the command that is awaited timed out.
@@ -129,6 +131,7 @@ pub fn a_journal_makes_the_automation()
 fn what_is_below()
     ensures spelt { Spelt }
     ensures completed { Completed }
+    ensures arrived { Arrived }
     ensures answered { Answered }
     ensures written { Written }
 {
@@ -145,4 +148,6 @@ fn what_is_below()
     vdcp_port::laws::answers_are_read_back();
     vdcp_auto::laws::commands_can_be_written();
     vdcp_drive::laws::what_is_spelt_is_completed();
+    vdcp_drive::laws::a_tick_sends_its_command();
+    vdcp_drive::laws::bursts_grow();
 }

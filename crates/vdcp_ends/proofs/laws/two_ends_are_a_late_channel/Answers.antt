@@ -8,6 +8,7 @@ returns c =
     let law : Laws = record {
       spelt = c.what_is_below.ensures.spelt;
       completed = c.what_is_below.ensures.completed;
+      arrived = c.what_is_below.ensures.arrived;
       answered = c.what_is_below.ensures.answered;
       written = c.what_is_below.ensures.written;
       goes_on = c.a_killed_automation_goes_on.ensures.event;

@@ -6,6 +6,7 @@ returns c =
     let law : Laws = record {
       spelt = c.what_is_below.ensures.spelt;
       completed = c.what_is_below.ensures.completed;
+      arrived = c.what_is_below.ensures.arrived;
       answered = c.what_is_below.ensures.answered;
       written = c.what_is_below.ensures.written;
       is_answered = c.a_command_is_answered.ensures;

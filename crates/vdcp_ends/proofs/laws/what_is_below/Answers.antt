@@ -19,6 +19,13 @@ returns c =
         pieces = c.what_is_spelt_is_completed.ensures.pieces;
         pieces_held = c.what_is_spelt_is_completed.ensures.pieces_held;
       };
+      arrived = record {
+        tick = c.a_tick_sends_its_command.ensures.tick;
+        listen = c.a_tick_sends_its_command.ensures.listen;
+        bytes = c.bursts_grow.ensures.bytes;
+        silence = c.bursts_grow.ensures.silence;
+        close = c.bursts_grow.ensures.close;
+      };
       answered = record {
         sent = c.messages_after_messages.ensures.sent;
         aired = c.messages_after_messages.ensures.aired;
