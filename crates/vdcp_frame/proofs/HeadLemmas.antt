@@ -368,16 +368,3 @@ part_unfinished bytes needs p =
     let same : bytes ++ [] ≡ bytes = append-nil bytes in
     subst IsUnfinished same
     (p.open_yet [] (All-nil (λ b. b < 256)) (subst (λ (l : List ℕ). length l < needs) (sym same) p.short))
-
--- which stays one with too few bytes more
-pub part_further : (bytes more : List ℕ) (needs : ℕ) → IsPart bytes needs → AreOctets more
-    → length (bytes ++ more) < needs → IsPart (bytes ++ more) needs
-part_further bytes more needs p fits few = record {
-  short = few;
-  most = p.most;
-  open_yet = λ others others_fit less.
-      let joined : (bytes ++ more) ++ others ≡ bytes ++ (more ++ others) = append_assoc bytes more others in
-      subst IsUnfinished (sym joined)
-      (p.open_yet (more ++ others) (All-append (λ b. b < 256) more others fits others_fit)
-      (subst (λ (l : List ℕ). length l < needs) joined less));
-}

@@ -5,7 +5,7 @@ use Rattle.std.proofs.lemmas.Bool.{cases_lt, cases_eq, lt-ltb, le-ltb, eq-eqb, n
 use Rattle.std.proofs.lemmas.List.{take-append-drop, length-take}
 use Rattle.vdcp_frame.specs.Message.{AreOctets}
 use Rattle.vdcp_frame.specs.Head.{Head, part, wrong, found, data_head, body_head, frame_head, head_of, size_of, IsPart, HeadIs}
-use Rattle.vdcp_frame.specs.Place.{looked_at}
+use Rattle.vdcp_frame.specs.Front.{looked_at}
 use Rattle.vdcp_frame.proofs.HeadLemmas.{Begins-take, head_is, part_unfinished}
 
 abbrev IsDecided : Head → Type 0

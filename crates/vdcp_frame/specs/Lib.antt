@@ -7,6 +7,7 @@ pub mod Step
 pub mod Burst
 pub mod Progress
 pub mod Reader
+pub mod Front
 pub mod Place
 pub mod Pieces
 pub mod Walk

@@ -43,7 +43,7 @@ pub record ReadsOn (old : Progress) (piece : List ℕ) (answer : Answer) (left :
   pub follows : (burst : List ℕ) (ms : List Content) → Follows burst ms old →
       Follows (burst ++ take count piece) (ms ++ with_message answer []) new
 
--- a message and a fault take some bytes, and nothing is left where neither came
+-- a message and a fault take some bytes, and nothing is left if neither came
 abbrev pub GoesOn : Answer → List ℕ → List ℕ → Type 0
 GoesOn (message m) piece left = length left < length piece
 GoesOn more piece left = left ≡ []

@@ -1,3 +1,4 @@
+//! One step of a walk: what stands at a place of a burst.
 ghost use Rattle.std.specs.Prelude.{◌≡◌, ◌<◌, ◌≤◌, ◌++◌, ◌∷◌, [], List, length, take, drop, slice_range};
 ghost use Rattle.vdcp_frame.specs.Message.{Content, Spells};
 ghost use Rattle.vdcp_frame.specs.Reading.{SpellsAll, AreMessages, burst_limit, Reads};
@@ -27,7 +28,7 @@ pub enum Step<'a> {
 
 /// Reads the message that begins after the first `from` bytes of a burst, in VDCP's message format,
 /// or how the burst ends there. Those bytes, 4,096 at most, have to be whole messages: so they are
-/// for 0, and for each number that came with a message. Any other bytes are read, and refused where
+/// for 0, and for each number that came with a message. Any other bytes are read, and refused if
 /// they are no messages.
 pub fn read_at(burst: &[u8], from: usize) -> Step<'_>
     requires limit { from ≤ LIMIT }

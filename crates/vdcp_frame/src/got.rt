@@ -1,3 +1,4 @@
+//! What some bytes brought to a reader, and how a burst ended.
 use crate::message::{Fault, Message};
 
 /// What some bytes of a burst brought.

@@ -1,5 +1,6 @@
+//! The message format, read from the front of some bytes.
 ghost use Rattle.vdcp_frame.specs.Message as spelt;
-ghost use Rattle.std.specs.Prelude.{◌≡◌, ◌+◌, ◌*◌, ◌<◌, ◌≤◌, ℕ, length, sum, take};
+ghost use Rattle.std.specs.Prelude.{◌≡◌, ◌+◌, ◌*◌, ◌<◌, ◌≤◌, length, sum};
 
 use crate::message::{Fault, Message};
 
@@ -25,25 +26,13 @@ pub(crate) enum Head<'a> {
 
 impl Head<'_> {
     ghost use Rattle.vdcp_frame.specs.Seen.{seen, Means};
-    ghost use Rattle.vdcp_frame.specs.Head.{head_of, IsPart};
+    ghost use Rattle.vdcp_frame.specs.Head.{head_of};
 
     /// What stands at the front of these bytes.
     pub(crate) fn at(bytes: &[u8]) -> Head<'_>
         ensures { Means bytes.now result }
     {
         Head::of(bytes)
-    }
-
-    /// The same, where a front of the bytes was a part that needs `needs` bytes.
-    pub(crate) fn further(bytes: &[u8], needs: usize) -> Head<'_>
-        requires { (k : ℕ) × IsPart (take k bytes.now) needs }
-        ensures { Means bytes.now result }
-    {
-        if bytes.len() < needs {
-            Head::Part(needs)
-        } else {
-            Head::at(bytes)
-        }
     }
 
     /// The same, said exactly.

@@ -10,7 +10,7 @@ ghost use Rattle.vdcp_frame.specs.Pieces.{Call, FeedsAll, with_message, messages
 ghost use Rattle.vdcp_frame.specs.declared.got.Ended.{Ended};
 ghost use Rattle.vdcp_frame.specs.declared.message.Fault.TheVariants.{BadSum};
 
-/// Where one spelling begins with another, the two are the same, and of the same message.
+/// If one spelling begins with another, the two are the same, and of the same message.
 pub fn no_spelling_begins_another()
     ensures { (m n : Content) (a b more : List ℕ) → Spells m a → Spells n b → b ≡ a ++ more →
         (m ≡ n) × (more ≡ []) }
@@ -81,8 +81,8 @@ pub fn what_is_fed_is_followed()
         FollowsNext burst ms answer new → Follows burst (ms ++ with_message answer []) new }
 {}
 
-/// What a reader has followed is read: where the burst ends here, its messages are those given so
-/// far and its end is what a silence tells; where it goes on, its messages begin with those.
+/// What a reader has followed is read: if the burst ends here, its messages are those given so
+/// far and its end is what a silence tells; if it goes on, its messages begin with those.
 pub fn what_is_followed_is_read()
     ensures read { (burst : List ℕ) (ms : List Content) (p : Progress) →
         Follows burst ms p → ReadsAs burst ms (ended_of p) }

@@ -29,13 +29,15 @@
 //! at a silence: reader.silence()
 //! ```
 //!
-//! `feed` is one step of it, for a caller that keeps its place in the piece itself.
+//! `feed` is one step of it, for a caller that keeps its place in the piece itself; and of `feed` the steps are `fill` and
+//! `read_front`, for one that keeps the bytes held itself. What it kept `can_hold` tests.
 //!
 //! `write` appends a message's spelling to a buffer. Nothing here allocates: a message borrows its
 //! data from the burst, or from the reader's buffer.
 #![tactic(auto)]
 
 mod burst;
+mod front;
 mod got;
 mod head;
 pub mod laws;
@@ -45,6 +47,7 @@ mod spelling;
 mod walk;
 
 pub use burst::{LIMIT, Step, read_at};
+pub use front::{can_hold, fill, read_front};
 pub use got::{Ended, Got};
 pub use message::{Fault, Message};
 pub use reader::Reader;

@@ -1,16 +1,15 @@
+//! The reader of a burst that comes in pieces.
 ghost use Rattle.std.specs.Prelude.{◌≡◌, ◌+◌, ◌<◌, ◌≤◌, ◌++◌, [], List, ℕ, length, take};
 ghost use Rattle.vdcp_frame.specs.Message.{Content};
-ghost use Rattle.vdcp_frame.specs.Head.{head_of, size_of};
-ghost use Rattle.vdcp_frame.specs.Place.{Fills, looked_at};
+ghost use Rattle.vdcp_frame.specs.Place.{place_after};
 ghost use Rattle.vdcp_frame.specs.Progress.{Progress, reading};
 ghost use Rattle.vdcp_frame.specs.declared.reader.Place.TheVariants as places;
 ghost use Rattle.vdcp_frame.specs.Reader.{answer_of, Gives, fed, ended_of, Follows, FollowsNext, ReadsAs};
 ghost use Rattle.vdcp_frame.specs.Pieces.{ReadsOn, GoesOn};
 
-use crate::burst::LIMIT;
+use crate::front::{fill, read_front};
 use crate::got::{Ended, Got};
-use crate::head::{Head, LONGEST};
-use crate::message::Fault;
+use crate::head::LONGEST;
 use std::marker::Model;
 
 /// Reads a burst that comes in pieces.
@@ -26,13 +25,8 @@ pub struct Reader {
 /// Where a reader is in a burst.
 #[derive(Clone, Copy)]
 pub(crate) enum Place {
-    /// After `taken` bytes. The last `held` of them are the first ones of the buffer, and part of a
-    /// message that has `needs` bytes at least.
-    Reading {
-        taken: usize,
-        held: usize,
-        needs: usize,
-    },
+    /// After `taken` bytes. The last `held` of them are the first ones of the buffer, and begin a message.
+    Reading { taken: usize, held: usize },
     /// After a fault.
     Failed,
 }
@@ -40,12 +34,24 @@ pub(crate) enum Place {
 impl Place {
     // Between two messages, after `taken` bytes.
     const fn after(taken: usize) -> Self
-        ensures { result ≡ places.Reading taken 0 1 }
+        ensures { result ≡ places.Reading taken 0 }
     {
-        Place::Reading {
-            taken,
-            held: 0,
-            needs: 1,
+        Place::Reading { taken, held: 0 }
+    }
+
+    // Where a reader stands after a call that took `count` more bytes.
+    fn further(taken: usize, held: usize, count: usize, got: &Got) -> Self
+        requires taken { taken + count ≤ 4097 }
+        requires held { held ≤ 258 }
+        ensures { result ≡ place_after taken held count (answer_of got.now) }
+    {
+        match got {
+            Got::Message(_) => Place::after(taken + count),
+            Got::More => Place::Reading {
+                taken: taken + count,
+                held: held + count,
+            },
+            Got::Fault(_, _) => Place::Failed,
         }
     }
 }
@@ -92,35 +98,14 @@ impl Reader {
         ensures* after { sem 𝓛 (follows_so the_row the_row self.entry.ghost_name none (λ _ _. ⊤)
             (λ new. new ≡ fed self.old piece.now result.0 (answer_of result.1))) }
     {
-        let (taken, held, needs) = match self.place {
+        let (taken, held) = match self.place {
             Place::Failed => return (piece.len(), Got::More),
-            Place::Reading { taken, held, needs } => (taken, held, needs),
+            Place::Reading { taken, held } => (taken, held),
         };
-        let count = fill(&mut self.buffer, held, taken, piece);
-        match Head::further(&self.buffer[..held + count], needs) {
-            Head::Found(message, size) => {
-                let count = size - held;
-                self.place = Place::after(taken + count);
-                (count, Got::Message(message))
-            }
-            Head::Wrong(fault, size) => {
-                let count = size - held;
-                self.place = Place::Failed;
-                (count, Got::Fault(fault, taken + count))
-            }
-            Head::Part(needs) if count == piece.len() => {
-                self.place = Place::Reading {
-                    taken: taken + count,
-                    held: held + count,
-                    needs,
-                };
-                (count, Got::More)
-            }
-            Head::Part(_) => {
-                self.place = Place::Failed;
-                (count + 1, Got::Fault(Fault::Long, LIMIT + 1))
-            }
-        }
+        let count = fill(&mut self.buffer, taken, held, piece);
+        let (count, got) = read_front(&self.buffer[..held + count], taken, held, piece);
+        self.place = Place::further(taken, held, count, &got);
+        (count, got)
     }
 
     /// Reads on in a piece: takes bytes from the front of `rest`, up to the end of one message or one fault, or
@@ -152,39 +137,4 @@ impl Reader {
         self.place = Place::after(0);
         ended
     }
-}
-
-// Copies bytes of the piece to where the buffer's first `held` bytes end, up to the end of the message
-// that they begin, or of the burst's limit. Says how many.
-fn fill(buffer: &mut [u8; LONGEST], held: usize, taken: usize, piece: &[u8]) -> usize
-    requires held { held ≤ 258 }
-    requires taken { taken ≤ LIMIT }
-    ensures { Fills held taken piece.now result buffer.old buffer.new }
-{
-    let size = size_shown(&buffer[..held], piece).max(2).min(LONGEST);
-    let count = piece
-        .len()
-        .min(LIMIT - taken)
-        .min(size.saturating_sub(held));
-    put(buffer, held, &piece[..count]);
-    count
-}
-
-// How many bytes of those held and the piece to look at.
-fn size_shown(held: &[u8], piece: &[u8]) -> usize
-    ensures { result ≡ size_of (head_of (looked_at held.now piece.now)) }
-{
-    match (held, piece) {
-        ([], [first, second, ..]) => Head::of(&[*first, *second]).size(),
-        ([first], [second, ..]) => Head::of(&[*first, *second]).size(),
-        (_, _) => Head::of(held).size(),
-    }
-}
-
-// Copies the piece to a place of the buffer.
-fn put(buffer: &mut [u8], at: usize, piece: &[u8])
-    requires { at + length piece.now ≤ length buffer.old }
-    ensures { take (at + length piece.now) buffer.new ≡ take at buffer.old ++ piece.now }
-{
-    buffer[at..at + piece.len()].copy_from_slice(piece);
 }

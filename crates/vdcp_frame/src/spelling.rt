@@ -1,3 +1,4 @@
+//! How a message is written.
 ghost use Rattle.std.specs.Prelude.{◌≡◌, ◌+◌, ◌*◌, ◌<◌, ◌≤◌, ◌↔◌, ◌++◌, length, IsOk, OnOk, OnErr};
 ghost use Rattle.arrayvec.specs.ArrayVec.{array_vec_len};
 ghost use Rattle.vdcp_frame.specs.Message.{content_of, FitsFrame, IsWritable, Spells, spelling, frame_spelling};
@@ -13,7 +14,7 @@ use thiserror::Error;
 pub struct Full;
 
 /// Appends a message's spelling in VDCP's message format. Kind and unit are at most 15, and the data
-/// at most 253 bytes. `Full` where the buffer has no room for it; the buffer then stays as it was.
+/// at most 253 bytes. `Full` if the buffer has no room for it; the buffer then stays as it was.
 pub fn write<const N: usize>(message: &Message, out: &mut ArrayVec<u8, N>) -> Result<(), Full>
     requires { IsWritable (content_of message.now) }
     ensures spelt { Spells (content_of message.now) (spelling (content_of message.now)) }

@@ -1,3 +1,4 @@
+//! A walk along a whole burst in memory.
 ghost use Rattle.std.specs.Prelude.{◌≡◌, ◌≤◌, ◌∷◌, [], length, take, IfSome, IfNone, IfOk, OnErr, IfErr};
 ghost use Rattle.vdcp_frame.specs.Burst.{messages_of, end_of};
 ghost use Rattle.vdcp_frame.specs.Message.{content_of};
@@ -69,7 +70,7 @@ impl<'a> Messages<'a> {
         }
     }
 
-    /// The next message, or none where the burst has no more.
+    /// The next message, or none if the burst has no more.
     pub fn next(&mut self) -> Option<Message<'a>>
         ensures some { IfSome result (λ m. coming self.old ≡ content_of m ∷ coming self.new) }
         ensures none { IfNone result (coming self.old ≡ []) }

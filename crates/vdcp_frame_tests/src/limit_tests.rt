@@ -1,3 +1,4 @@
+//! Tests of bursts and buffers that are filled to their limits.
 ghost use Rattle.std.specs.Prelude.{◌≤◌};
 
 use crate::reader_tests::{are_read, read_in_pieces, read_next};

@@ -1,3 +1,4 @@
+//! Tests of the reader: pieces read as the whole burst does.
 ghost use Rattle.std.specs.Prelude.{◌≡◌, ◌<◌, ◌≤◌, ◌++◌, List, ℕ, length, take};
 ghost use Rattle.vdcp_frame.specs.Burst.{messages_of, end_of};
 ghost use Rattle.vdcp_frame.specs.Message.{Content, AreOctets};
@@ -173,7 +174,7 @@ pub(crate) fn read_next(
     end_burst(rt, reader, &expected);
 }
 
-// Whole, byte by byte, and cut at each place.
+// In one piece, in single bytes, and parted at every place.
 fn reads_the_same(rt: &impl Abort, alloc: Global, burst: &[u8]) -> Result<(), AllocError> {
     let (messages, end) = messages_and_end(alloc, burst)?;
     read_in_pieces(rt, burst, 0, burst.len(), messages.as_slice(), end);

@@ -1,3 +1,4 @@
+//! Tests of whole bursts, and of messages that are written and read back.
 ghost use Rattle.std.specs.Prelude.{◌≡◌, map, IfOk};
 ghost use Rattle.vdcp_frame.specs.Burst.{messages_of, end_of};
 ghost use Rattle.vdcp_frame.specs.Message.{content_of};

@@ -30,7 +30,7 @@ command_as unit (nak byte) = None
 command_as unit (framed kind to code rest) =
     if nat_eq to unit then command_read (command_of (framed kind to code rest)) else None
 
--- a message that went down counts where it is a command to the unit, one that came up in any case
+-- a message that went down counts if it is a command to the unit, one that came up in any case
 abbrev pub captured_as : ℕ → Way → Content → Option Captured
 captured_as unit Down m = option_map Sent (command_as unit m)
 captured_as unit Up m = Some (Came (heard_as unit m))

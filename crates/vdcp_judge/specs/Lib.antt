@@ -1,3 +1,4 @@
 pub mod Judging
 pub mod Captures
 pub mod Rulings
+pub mod Notes

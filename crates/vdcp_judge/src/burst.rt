@@ -1,3 +1,4 @@
+//! What a captured burst says, by the way that it went.
 ghost use Rattle.std.specs.Option.{option_to_list};
 ghost use Rattle.std.specs.Prelude.{◌≡◌, ◌++◌, IfOk, OnOk};
 ghost use Rattle.vdcp_frame.specs.Message.{content_of};
@@ -35,7 +36,7 @@ pub fn captured_in<A: Allocator>(
     Ok(captured)
 }
 
-/// Adds what was found, if there is one.
+/// Adds what was found, if anything.
 fn add<A: Allocator>(
     captured: &mut Vec<Captured, A>,
     found: Option<Captured>,

@@ -1,3 +1,4 @@
+//! What a captured line has, and the exchanges that it shows.
 ghost use Rattle.std.specs.Prelude.{◌≡◌, IfOk};
 ghost use Rattle.vdcp_judge.specs.Captures.{exchanges_in, heard_for};
 ghost use Rattle.vdcp_judge.specs.Judging.{mode_of};

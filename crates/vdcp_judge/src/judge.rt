@@ -1,3 +1,4 @@
+//! The judge, and what it keeps in place of a log.
 ghost use Rattle.std.specs.Prelude.{◌≡◌, ◌↔◌, ◌+◌, ◌<◌, ◌^◌, ◌||◌, ◌&&◌, not, if◌then◌else◌, false, IsTrue, List, [], ◌∷◌, ◌++◌, length};
 ghost use Rattle.vdcp_auto.specs.Commands.{is_close_command, is_stop_command};
 ghost use Rattle.vdcp_auto.specs.declared.exchange.Exchange.{Exchange};
@@ -6,12 +7,14 @@ ghost use Rattle.vdcp_auto.specs.Log.{is_done_status, is_play};
 ghost use Rattle.vdcp_auto.specs.RuleBook.{CuesItemAt, IsTaken, May, MayPlay, Rule};
 ghost use Rattle.vdcp_auto.specs.Settled.{has_open_play, may_have_aired, settled, settles};
 ghost use Rattle.vdcp_judge.specs.Judging.{CueStands, Knows, is_done, mode_of, stands};
+ghost use Rattle.vdcp_judge.specs.Notes.{view_of};
 ghost use Rattle.vdcp_judge.specs.Rulings.{IsRuling};
 
 use crate::meaning::{
     cue_of, is_acked, is_answered_play, is_close, is_cue, is_done_status, is_empty_status,
     is_grant, is_play, is_stop,
 };
+use crate::notes::Notes;
 use std::marker::Model;
 use vdcp_auto::laws::a_log_grows;
 use vdcp_auto::{Exchange, Source};
@@ -20,7 +23,7 @@ use vdcp_words::Command;
 use vdcp_words::laws::{command_is_read_first, written_command_is_read};
 
 /// What the last cue of a log is good for.
-#[derive(Clone, Copy)]
+#[derive(Clone, Copy, Debug, PartialEq, Eq)]
 pub enum LastCue {
     /// Nothing: none was sent, it isn't the next item's, it wasn't taken, or something has settled since.
     Void,
@@ -112,6 +115,39 @@ impl<S: Source> Judge<S> {
             closed: false,
             granted: false,
             last_cue: LastCue::Void,
+        }
+    }
+
+    /// All that the judge knows, but for its list. `of_notes` makes it again.
+    pub fn notes(&self) -> Notes
+        ensures { self.now ≡ view_of self.now.source result }
+    {
+        Notes {
+            confirming: self.confirming,
+            settled: self.settled,
+            has_open_play: self.has_open_play,
+            may_have_aired: self.may_have_aired,
+            stopped: self.stopped,
+            closed: self.closed,
+            granted: self.granted,
+            last_cue: self.last_cue,
+        }
+    }
+
+    /// The judge of a list that knows this.
+    pub fn of_notes(source: S, notes: &Notes) -> Self
+        ensures { result ≡ view_of source notes.now }
+    {
+        Judge {
+            source,
+            confirming: notes.confirming,
+            settled: notes.settled,
+            has_open_play: notes.has_open_play,
+            may_have_aired: notes.may_have_aired,
+            stopped: notes.stopped,
+            closed: notes.closed,
+            granted: notes.granted,
+            last_cue: notes.last_cue,
         }
     }
 

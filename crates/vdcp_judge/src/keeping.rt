@@ -1,3 +1,4 @@
+//! Whole logs: their rulings, and the first command that is forbidden.
 ghost use Rattle.std.specs.Prelude.{[], IfNone, IfOk, IfSome, IsSomeAnd, slice_get, take};
 ghost use Rattle.vdcp_auto.specs.RuleBook.{KeepsRules, May};
 ghost use Rattle.vdcp_judge.specs.Judging.{Knows};
@@ -8,7 +9,7 @@ use std::alloc::{AllocError, Allocator};
 use vdcp_auto::laws::a_log_grows;
 use vdcp_auto::{Exchange, Source};
 
-/// Where in a whole log the first exchange stands whose command the rule book forbids there, from 0; None where
+/// Where in a whole log the first exchange stands whose command the rule book forbids there, from 0; None if
 /// the log keeps the rules. The judge is a new one.
 pub fn first_forbidden<S: Source + Drop>(mut judge: Judge<S>, log: &[Exchange]) -> Option<usize>
     requires new { Knows S.items [] judge }

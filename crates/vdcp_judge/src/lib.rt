@@ -7,7 +7,7 @@
 //! `rulings` and `first_forbidden` do so for a whole log. `captured_in` says what the bursts of
 //! a captured line are, `captured_as` what one message is, and `exchanges_in` gives the log that these show.
 //!
-//! Files: `burst`, `capture`, `judge`, `keeping` (whole logs), `meaning` (what exchanges are).
+//! Files, in reading order: `meaning`, `judge`, `keeping`, `notes`, `burst`, `capture`.
 #![tactic(auto)]
 
 mod burst;
@@ -15,8 +15,10 @@ mod capture;
 mod judge;
 mod keeping;
 mod meaning;
+mod notes;
 
 pub use burst::{Way, captured_as, captured_in};
 pub use capture::{Captured, exchanges_in};
-pub use judge::{Judge, Ruling};
+pub use judge::{Judge, LastCue, Ruling};
 pub use keeping::{first_forbidden, rulings};
+pub use notes::Notes;

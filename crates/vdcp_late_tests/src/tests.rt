@@ -1,3 +1,4 @@
+//! Tests of late worlds and of their scripts.
 mod clips;
 mod memory;
 mod ports;

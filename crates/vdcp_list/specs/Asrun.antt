@@ -19,11 +19,11 @@ events_text rate with_parts k [] = []
 events_text rate with_parts k (item ∷ items) =
     row_text default_writer (decimal k ∷ item_row rate with_parts item) ++ events_text rate with_parts (suc k) items
 
--- the as-run text: the events reported, with the fields of a part where any event of the list has one
+-- the as-run text: the events reported, with the fields of a part if any event of the list has one
 abbrev pub asrun_text : Rate → List Item → ℕ → List ℕ
 asrun_text rate items reported = events_text rate (has_part items) 0 (take reported items)
 
--- the part of an event, where it has one, is lawful at the rate
+-- the part of an event, if it has one, is lawful at the rate
 abbrev pub is_lawful_event : Rate → Option Part → Bool
 is_lawful_event rate None = true
 is_lawful_event rate (Some part) = is_lawful_part rate part

@@ -17,7 +17,7 @@ pub record IsSet {R : Type 0} (reader : Reader R) : Type 0 where
   pub flexible : is_flexible reader ≡ true
   pub ready : Ready reader
 
--- the rows that a reader has left, where its bytes are known
+-- the rows that a reader has left, if its bytes are known
 abbrev pub rows_left : {R : Type 0} → (R → Option (List ℕ)) → Reader (Bounded R) → Option (List FileRow)
 rows_left remaining reader = option_map (rows_from (reader_state reader)) (source_of (λ b. remaining b.source) reader)
 

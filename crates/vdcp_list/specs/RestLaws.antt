@@ -6,10 +6,10 @@ use Rattle.std.specs.Prelude.{All}
 use Rattle.vdcp_value.specs.Parts.{IsItem}
 use Rattle.vdcp_value.specs.declared.part.Item.{Item}
 
--- the items that are left can be counted where all can
+-- the items that are left can be counted if all can
 pub countable : (from : ℕ) (items : List Item) → length items < 2 ^ 64 → length (drop from items) < 2 ^ 64
 countable from items few = omega (arith, length-drop from items, few)
 
--- and their parts are of bytes where those of all are
+-- and their parts are of bytes if those of all are
 pub of_bytes : (from : ℕ) (items : List Item) → All IsItem items → All IsItem (drop from items)
 of_bytes from items all = All-drop IsItem from items all

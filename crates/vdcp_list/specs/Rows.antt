@@ -10,6 +10,10 @@ use Rattle.vdcp_value.specs.declared.clip_id.ClipId.{ClipId}
 abbrev pub FileRow : Type 0
 FileRow = List (List ℕ)
 
+-- a file: its bytes, if they are known
+abbrev pub FileBytes : Type 0
+FileBytes = Option (List ℕ)
+
 -- the rows that csv reads from a state of its reader on
 abbrev pub rows_from : State → List ℕ → List FileRow
 rows_from state bytes = records_from default_config (length bytes + 1) state bytes
@@ -18,12 +22,12 @@ rows_from state bytes = records_from default_config (length bytes + 1) state byt
 abbrev pub rows_of : List ℕ → List FileRow
 rows_of bytes = rows_from StartRecord (strip_bom bytes)
 
--- the rows are those of a file, where its bytes are known
+-- the rows are those of a file, if its bytes are known
 abbrev pub AreRowsOf : Option (List ℕ) → List FileRow → Type 0
 AreRowsOf None rows = ⊤
 AreRowsOf (Some bytes) rows = rows ≡ rows_of bytes
 
--- a file has rows of which this holds: they are its own, where its bytes are known
+-- a file has rows of which this holds: they are its own, if its bytes are known
 abbrev pub HasRows : Option (List ℕ) → (List FileRow → Type 0) → Type 0
 HasRows file Holds = (rows : List FileRow) × AreRowsOf file rows × Holds rows
 

@@ -1,3 +1,4 @@
+//! How an as-run list is written.
 ghost use Rattle.csv.specs.Writing.{default_writer, fields_written, has_written, row_text, text_written, writer_setup};
 ghost use Rattle.std.specs.Io.KnownBytes.{Appends, Keeps};
 ghost use Rattle.std.specs.Prelude.{◌≡◌, ◌≢◌, ◌↔◌, ◌≤◌, ◌+◌, ◌∷◌, [], Err, IfErr, IfOk, IsTrue, OnErr, OnOk, decimal, drop, false, length, string_bytes, take, ℕ};
@@ -16,7 +17,7 @@ use vdcp_value::laws::a_time_code_has_lawful_bytes;
 use vdcp_value::{Item, Part, Rate, Timecode};
 
 /// Writes the as-run list of the first `reported` events of a source: a row each, of the event's
-/// number from 0 and its ID; and, where any event of the source has a part, of start and duration at
+/// number from 0 and its ID; and, if any event of the source has a part, of start and duration at
 /// this rate too, both empty for a whole clip. It is CSV with commas, quotes only where needed, and
 /// line feeds.
 ///
@@ -82,7 +83,7 @@ pub(crate) fn write_out<W: Write>(writer: &mut W, text: &[u8]) -> Result<(), Wri
     }
 }
 
-/// Writes a text. What a failure leaves is told by `write` alone, and not by `write_all`.
+/// Writes a text. `write` alone says what a failure leaves; `write_all` doesn't.
 fn write_text<W: Write>(writer: &mut W, text: &[u8]) -> Result<(), WriteFault>
     ensures ok { OnOk result (Appends (W.contents writer.old) (W.contents writer.new) text.now) }
     ensures device { IfErr result (λ fault. fault ≡ Device) }
@@ -127,7 +128,7 @@ pub(crate) fn check_parts<S: Source>(
     Ok(with_parts)
 }
 
-/// Whether an event has a part, where `among` says so of those before this one.
+/// Whether an event has a part, if `among` says so of those before this one.
 pub(crate) fn has_part<S: Source>(source: &S, from: usize, among: bool) -> bool
     requires within { from ≤ length (S.items source.now) }
     requires among { among ≡ has_part (take from (S.items source.now)) }
@@ -144,7 +145,7 @@ pub(crate) fn has_part<S: Source>(source: &S, from: usize, among: bool) -> bool
     false
 }
 
-/// Whether the part of an event, where it has one, is lawful at a rate.
+/// Whether the part of an event, if it has one, is lawful at a rate.
 fn is_lawful_event(rate: Rate, item: &Item) -> bool
     ensures { result ≡ is_lawful_event rate item.now.part }
 {

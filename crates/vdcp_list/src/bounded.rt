@@ -1,4 +1,4 @@
-// A source that isn't read on where a row doesn't end.
+// A source that isn't read on if a row doesn't end.
 ghost use Rattle.std.specs.Prelude.{◌≡◌};
 
 use std::cell::Cell;
@@ -8,7 +8,7 @@ use std::io::Read;
 /// How many bytes a row has at most, counted from the end of the row before it to its own.
 pub const LONGEST_ROW: usize = 65_536;
 
-/// The source of a file's rows. It gives what it owns gives, but fails where a row is longer than it may be.
+/// The source of a file's rows. It gives what it owns gives, but fails if a row is longer than it may be.
 #[derive(Drop)]
 pub struct Bounded<R> {
     source: R,

@@ -1,14 +1,18 @@
+//! How a catalogue is read.
 ghost use Rattle.csv.specs.Records.{fields_of};
-ghost use Rattle.std.specs.Prelude.{◌≡◌, ◌≢◌, [], ◌∷◌, IfErr, IfNone, IfOk, IfSome, drop, length};
+ghost use Rattle.std.specs.Prelude.{◌≡◌, ◌≢◌, [], ◌∷◌, IfErr, IfNone, IfOk, IfSome, OnOk, drop, length, option_map};
 ghost use Rattle.vdcp_list.specs.Catalogues.{CanLast, IsCatalogueFaultOf, IsCatalogueOf, IsClipFault, clip_row};
+ghost use Rattle.vdcp_list.specs.Reading.{IsSet, rows_left};
+ghost use Rattle.vdcp_list.specs.Rows.{FileBytes, rows_of};
 ghost use Rattle.vdcp_value.specs.Timecodes.{text_of};
 ghost use Rattle.vdcp_value.specs.declared.timecode.Timecode.{Timecode};
 
+use crate::bounded::Bounded;
 use crate::faults::ListFault;
 use crate::fields::{field_at, first_id, time_in};
 use crate::rows::{MAX_ROWS, next_row, rows_in};
 use crate::table::Table;
-use csv::ByteRecord;
+use csv::{ByteRecord, Reader};
 use std::alloc::Global;
 use std::io::Read;
 use vdcp_value::laws::{a_time_code_is_one, an_id_is_its_bytes};
@@ -56,9 +60,9 @@ fn last_length(row: &ByteRecord, rate: Rate) -> Option<Timecode>
 /// Reads a catalogue. A row is two fields: a clip's ID, and its length, a time code at this rate. It is
 /// CSV with commas and double quotes, without a header row, and blank lines are left out.
 ///
-/// The first row that is refused is reported as `TooMany` where 10,000 stand before it, else as `Columns`,
-/// `Id` (also where the field isn't UTF-8), `Time`: a text that is no lawful time code, or one of
-/// frame 0; or `Twice`, where an earlier row has its ID. `Read`: the reader failed; `Memory`:
+/// The first row that is refused is reported as `TooMany` if 10,000 stand before it, else as `Columns`,
+/// `Id` (also if the field isn't UTF-8), `Time`: a text that is no lawful time code, or one of
+/// frame 0; or `Twice`, if an earlier row has its ID. `Read`: the reader failed; `Memory`:
 /// memory was refused.
 pub fn read_catalogue<R: Read + Drop>(
     alloc: Global,
@@ -71,11 +75,31 @@ pub fn read_catalogue<R: Read + Drop>(
     let mut rows = rows_in(alloc, reader);
     let mut row = ByteRecord::new(alloc);
     let mut table = Table::new(alloc);
+    match add_rows(&mut rows, &mut row, &mut table, rate) {
+        Ok(()) => Ok(table),
+        Err(fault) => Err(fault),
+    }
+}
+
+/// Adds the clips of the rows that are left to a table of none, apart from what `read_catalogue` owns.
+fn add_rows<R: Read>(
+    rows: &mut Reader<Bounded<R>>,
+    row: &mut ByteRecord,
+    table: &mut Table,
+    rate: Rate,
+) -> Result<(), ListFault>
+    requires set { IsSet rows.old }
+    requires empty { table.old ≡ [] }
+    ensures clips { (file : FileBytes) → rows_left R.remaining rows.old ≡ option_map rows_of file
+        → OnOk result (IsCatalogueOf rate file table.new) }
+    ensures refused { (file : FileBytes) → rows_left R.remaining rows.old ≡ option_map rows_of file
+        → IfErr result (IsCatalogueFaultOf rate file) }
+{
     for read in 0..MAX_ROWS {
-        if !next_row(&mut rows, &mut row)? {
-            return Ok(table);
+        if !next_row(rows, row)? {
+            return Ok(());
         }
-        let (id, length) = clip_in(&row, rate, read + 1)?;
+        let (id, length) = clip_in(row, rate, read + 1)?;
         match table.add(id, length) {
             Ok(true) => {}
             Ok(false) => {
@@ -85,8 +109,8 @@ pub fn read_catalogue<R: Read + Drop>(
             Err(_) => return Err(ListFault::Memory),
         }
     }
-    if next_row(&mut rows, &mut row)? {
+    if next_row(rows, row)? {
         return Err(ListFault::TooMany(MAX_ROWS + 1));
     }
-    Ok(table)
+    Ok(())
 }

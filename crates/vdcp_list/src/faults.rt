@@ -1,3 +1,4 @@
+//! Why a list isn't read or written, or a clip not added.
 use thiserror::Error;
 
 /// Why a playlist or a catalogue is refused. Rows are tested one after another and count from 1, and
@@ -10,7 +11,7 @@ pub enum ListFault {
     /// The row's first field is no ID's text.
     #[error("row {0} has no clip id")]
     Id(usize),
-    /// The row has a bad time code, or one of frame 0 where a length is meant.
+    /// The row has a bad time code, or one of frame 0 if a length is meant.
     #[error("row {0} has no time code that it can have")]
     Time(usize),
     /// The row's ID stands in an earlier row. Of a catalogue only.

@@ -1,3 +1,4 @@
+//! The fields of a row, and what they name.
 ghost use Rattle.std.specs.Prelude.{◌≡◌, ◌≢◌, IfNone, IfSome, Some, option_copied, slice_get};
 ghost use Rattle.csv.specs.Records.{fields_of};
 ghost use Rattle.vdcp_list.specs.Rows.{HasId};

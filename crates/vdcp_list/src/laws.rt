@@ -20,7 +20,7 @@ use vdcp_value::laws::{
 };
 
 /// The rows that were read of a file are its first, in order: none before the first read, one more
-/// with each row that is taken, and all of them where none is left.
+/// with each row that is taken, and all of them if none is left.
 pub fn rows_are_read_in_order()
     ensures none { (all : Option (List FileRow)) → IsFront all all [] }
     ensures more { (all left left' : Option (List FileRow)) (front : List FileRow) (row : FileRow) →

@@ -1,8 +1,8 @@
 //! Playlists, catalogues and as-run lists: CSV files of clips, read and written.
 //!
 //! `read_list` and `read_catalogue` read a file of at most 10,000 rows to its end and keep nothing of
-//! the reader. The `List` that comes of a playlist is the controller's source, and the `Table` that
-//! comes of a catalogue is the port's catalogue; `Slots` is a catalogue of fixed room, which takes no
+//! the reader. The `List` made of a playlist is the controller's source, and the `Table` made of
+//! a catalogue is the port's catalogue; `Slots` is a catalogue of fixed room, which takes no
 //! memory. `Rest` is a source that begins with a later event of another.
 //!
 //! `write_asrun` writes which events of a source were reported as aired to a writer that it is lent, and `write_events`

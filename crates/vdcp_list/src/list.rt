@@ -1,3 +1,4 @@
+//! A playlist in memory, as a controller's source.
 ghost use Rattle.std.specs.List.{list_all};
 ghost use Rattle.std.specs.Prelude.{◌≡◌, ◌++◌, ◌∷◌, [], IsTrue, OnOk, OnErr};
 ghost use Rattle.vdcp_list.specs.Listings.{ends_from, ids_text, is_of_bytes};

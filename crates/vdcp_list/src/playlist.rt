@@ -1,15 +1,19 @@
+//! How a playlist is read.
 ghost use Rattle.csv.specs.Records.{fields_of};
-ghost use Rattle.std.specs.Prelude.{◌≡◌, ◌≢◌, [], ◌∷◌, drop, length, true, IfErr, IfNone, IfOk, IfSome, IsTrue, Option, Some, slice_get};
+ghost use Rattle.std.specs.Prelude.{◌≡◌, ◌≢◌, [], ◌∷◌, drop, length, option_map, true, IfErr, IfNone, IfOk, IfSome, IsTrue, OnOk, Option, Some, slice_get};
 ghost use Rattle.vdcp_list.specs.Playlists.{CanName, IsItemFault, IsListFaultOf, IsListOf, has_parts, is_of_columns, item_row, part_fields};
 ghost use Rattle.vdcp_list.specs.List.{items_of};
+ghost use Rattle.vdcp_list.specs.Reading.{IsSet, rows_left};
+ghost use Rattle.vdcp_list.specs.Rows.{FileBytes, rows_of};
 ghost use Rattle.vdcp_value.specs.Ids.{text_of_id};
 ghost use Rattle.vdcp_value.specs.declared.part.Part.{Part};
 
+use crate::bounded::Bounded;
 use crate::faults::ListFault;
 use crate::fields::{field_at, first_id, id_text, time_in};
 use crate::list::List;
 use crate::rows::{MAX_ROWS, next_row, rows_in};
-use csv::ByteRecord;
+use csv::{ByteRecord, Reader};
 use std::alloc::Global;
 use std::io::Read;
 use vdcp_value::laws::{
@@ -52,7 +56,7 @@ fn last_part(row: &ByteRecord, rate: Rate) -> Option<Option<Part>>
     }
 }
 
-/// The part that two fields name; None, of a whole clip, where both are empty.
+/// The part that two fields name; None, of a whole clip, if both are empty.
 fn part_in(start: &[u8], duration: &[u8], rate: Rate) -> Option<Option<Part>>
     ensures some { IfSome result (λ part. (part_fields rate part ≡ start.now ∷ duration.now ∷ [])
         × CanName rate true part) }
@@ -84,8 +88,8 @@ fn part_in(start: &[u8], duration: &[u8], rate: Rate) -> Option<Option<Part>>
 /// rate, which a whole clip leaves empty. The first row sets the number of fields. It is CSV with commas
 /// and double quotes, without a header row, and blank lines are left out.
 ///
-/// The first row that is refused is reported as `TooMany` where 10,000 stand before it, else as
-/// `Columns`, `Id` (also where the field isn't UTF-8), or `Time`: a text that is no lawful time code,
+/// The first row that is refused is reported as `TooMany` if 10,000 stand before it, else as
+/// `Columns`, `Id` (also if the field isn't UTF-8), or `Time`: a text that is no lawful time code,
 /// one of the two fields empty, or a duration of frame 0. `Read`: the reader failed; `Memory`: memory was
 /// refused.
 pub fn read_list<R: Read + Drop>(alloc: Global, reader: R, rate: Rate) -> Result<List, ListFault>
@@ -95,21 +99,42 @@ pub fn read_list<R: Read + Drop>(alloc: Global, reader: R, rate: Rate) -> Result
     let mut rows = rows_in(alloc, reader);
     let mut row = ByteRecord::new(alloc);
     let mut list = List::new(alloc);
+    match add_rows(&mut rows, &mut row, &mut list, rate) {
+        Ok(()) => Ok(list),
+        Err(fault) => Err(fault),
+    }
+}
+
+/// Adds the items of the rows that are left to a list of none. (Apart from what `read_list` owns, and would let go at each
+/// way out, this is proved much sooner.)
+fn add_rows<R: Read>(
+    rows: &mut Reader<Bounded<R>>,
+    row: &mut ByteRecord,
+    list: &mut List,
+    rate: Rate,
+) -> Result<(), ListFault>
+    requires set { IsSet rows.old }
+    requires empty { items_of list.old ≡ [] }
+    ensures items { (file : FileBytes) → rows_left R.remaining rows.old ≡ option_map rows_of file
+        → OnOk result (IsListOf rate file (items_of list.new)) }
+    ensures refused { (file : FileBytes) → rows_left R.remaining rows.old ≡ option_map rows_of file
+        → IfErr result (IsListFaultOf rate file) }
+{
     let mut columns = 0;
     for read in 0..MAX_ROWS {
-        if !next_row(&mut rows, &mut row)? {
-            return Ok(list);
+        if !next_row(rows, row)? {
+            return Ok(());
         }
         if read == 0 {
             columns = row.len();
         }
-        let item = item_in(&row, columns, rate, read + 1)?;
-        if list.push(item, id_text(&row)).is_err() {
+        let item = item_in(row, columns, rate, read + 1)?;
+        if list.push(item, id_text(row)).is_err() {
             return Err(ListFault::Memory);
         }
     }
-    if next_row(&mut rows, &mut row)? {
+    if next_row(rows, row)? {
         return Err(ListFault::TooMany(MAX_ROWS + 1));
     }
-    Ok(list)
+    Ok(())
 }

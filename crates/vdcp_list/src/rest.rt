@@ -1,3 +1,4 @@
+//! A source that begins with a later event of another.
 ghost use Rattle.std.specs.Prelude.{◌≡◌, ◌≤◌, length};
 
 use std::marker::Model;

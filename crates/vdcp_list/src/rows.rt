@@ -1,3 +1,4 @@
+//! How a file's rows are read, one after another.
 ghost use Rattle.csv.specs.Reading.{error_kind};
 ghost use Rattle.csv.specs.Records.{fields_of};
 ghost use Rattle.std.specs.Prelude.{◌≡◌, true, IfErr, IfOk, option_map};
@@ -29,8 +30,8 @@ pub fn rows_in<R: Read>(alloc: Global, source: R) -> Reader<Bounded<R>>
 /// Takes the next row into `row`, in place of the one that was there, and says whether there was one.
 /// Only `row` takes memory: it grows to the longest row that it held, and no row has more than 64 KiB.
 ///
-/// `Long` is told, with the row's number, where one has more; `Memory` where such a growth was refused, and `Read` where
-/// the source failed. After each of these, and where there was no row, the reader isn't read again.
+/// `Long` is reported, with the row's number, if one has more; `Memory` if such a growth was refused, and `Read` if
+/// the source failed. After each of these, and if there was no row, the reader isn't read again.
 pub fn next_row<R: Read>(
     reader: &mut Reader<Bounded<R>>,
     row: &mut ByteRecord,

@@ -1,3 +1,4 @@
+//! A catalogue of fixed room.
 ghost use Rattle.std.specs.Prelude.{◌≡◌, ◌↔◌, ◌++◌, ◌∷◌, [], Err, IsNone, IsSome, OnErr, OnOk, length};
 ghost use Rattle.vdcp_list.specs.declared.faults.SlotFault.TheVariants.{Full, Twice};
 ghost use Rattle.vdcp_port.specs.Clips.{length_of};
@@ -51,8 +52,8 @@ impl<const N: usize> Slots<N> {
         }
     }
 
-    /// Adds a clip. It is refused, and nothing changes, as `Twice` where one of its ID is there, and
-    /// as `Full` where `N` others are.
+    /// Adds a clip. It is refused, and nothing changes, as `Twice` if one of its ID is there, and
+    /// as `Full` if `N` others are.
     pub fn add(&mut self, id: ClipId, duration: Timecode) -> Result<(), SlotFault>
         ensures ok { OnOk result (self.new ≡ self.old ++ (id, duration) ∷ []) }
         ensures twice { (result ≡ Err Twice) ↔ IsSome (length_of self.old id) }

@@ -1,3 +1,4 @@
+//! A catalogue in memory, whose clips are found by their IDs.
 ghost use Rattle.std.specs.Prelude.{◌≡◌, ◌++◌, ◌∷◌, [], IfOk, IsSome, List, None, OnErr, false, length, option_map, slice_get, true};
 ghost use Rattle.vdcp_list.specs.Places.{key_of, place_of};
 ghost use Rattle.vdcp_port.specs.Clips.{length_of};
@@ -11,7 +12,7 @@ use vdcp_port::Catalogue;
 use vdcp_value::laws::{an_id_is_its_bytes, bytes_are_counted};
 use vdcp_value::{ClipId, Timecode};
 
-/// The clips of a catalogue file, in the order of its rows.
+/// Clips in order, as those of a catalogue file's rows.
 #[derive(Debug, Drop)]
 pub struct Table {
     clips: Vec<(ClipId, Timecode)>,
@@ -35,7 +36,7 @@ impl Model for Table {
 
 impl Table {
     /// A table of no clip.
-    pub(crate) fn new(alloc: Global) -> Table
+    pub fn new(alloc: Global) -> Table
         ensures { result ≡ [] }
     {
         Table {
@@ -51,7 +52,7 @@ impl Table {
         self.clips.len()
     }
 
-    /// The ID in the row of this place, counted from 0, if there is one.
+    /// The ID in the row of this place, counted from 0; None if there is no such row.
     pub fn id_at(&self, place: usize) -> Option<ClipId>
         ensures { result ≡ option_map (λ clip. clip.0) (slice_get self.now place) }
     {
@@ -62,7 +63,7 @@ impl Table {
     }
 
     /// Adds a clip, unless one of its ID is there, and says whether it did.
-    pub(crate) fn add(&mut self, id: ClipId, duration: Timecode) -> Result<bool, AllocError>
+    pub fn add(&mut self, id: ClipId, duration: Timecode) -> Result<bool, AllocError>
         ensures added { IfOk result (λ added. added ≡ true → self.new ≡ self.old ++ (id, duration) ∷ []) }
         ensures new { IfOk result (λ added. added ≡ true → length_of self.old id ≡ None) }
         ensures there { IfOk result (λ added. added ≡ false → IsSome (length_of self.old id)) }

@@ -1,3 +1,4 @@
+//! How an as-run list with times is written.
 ghost use Rattle.csv.specs.Writing.{default_writer, fields_written, has_written, row_text, text_written, writer_setup};
 ghost use Rattle.std.specs.Io.KnownBytes.{Appends, Keeps};
 ghost use Rattle.std.specs.Prelude.{◌≡◌, ◌≢◌, ◌≤◌, ◌+◌, ◌∷◌, IfErr, IfOk, IsTrue, List, OnOk, drop, false, length, take, ℕ};

@@ -2,6 +2,10 @@
 #![tactic(auto)]
 
 #[cfg(test)]
+mod asrun_tests;
+#[cfg(test)]
 mod fault_tests;
+#[cfg(test)]
+mod reading_tests;
 #[cfg(test)]
 mod tests;

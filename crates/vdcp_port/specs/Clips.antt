@@ -10,7 +10,7 @@ use Rattle.vdcp_value.specs.declared.part.Item.{Item}
 use Rattle.vdcp_value.specs.declared.part.Part.{Part}
 use Rattle.vdcp_value.specs.declared.timecode.Timecode.{Timecode}
 
--- the length of a clip, where these are the clips with their lengths: that of the first with its ID
+-- the length of a clip, if these are the clips with their lengths: that of the first with its ID
 abbrev pub length_of : List (ClipId × Timecode) → ClipId → Option Timecode
 length_of clips id = lookup (is_same_id id) clips
 
@@ -31,7 +31,7 @@ can_cue None part = false
 can_cue (Some clip) None = true
 can_cue (Some clip) (Some part) = part_fits part clip
 
--- the clip is known, and the part, where the item has one, fits it
+-- the clip is known, and the part, if the item has one, fits it
 abbrev pub is_playable : List (ClipId × Timecode) → Item → Bool
 is_playable clips item = can_cue (length_of clips item.id) item.part
 

@@ -9,7 +9,7 @@ use Rattle.vdcp_port.specs.Clips.{frames_on_air}
 use Rattle.vdcp_port.specs.Port.{PortState, new_state, ready_state, ended_state}
 use Rattle.vdcp_port.specs.Row.{Row, Change, keeps, opens, closes, selects, cues, airs, stops, message_row, changed, on_air}
 
--- the frames until the cue is done, and those until the clip ends; 0 where nothing is waited for
+-- the frames until the cue is done, and those until the clip ends; 0 if nothing is waited for
 pub record Counts : Type 0 where
   pub cue : ℕ
   pub playing : ℕ

@@ -7,3 +7,4 @@ pub mod Clock
 pub mod Answers
 pub mod Seen
 pub mod Kept
+pub mod Held

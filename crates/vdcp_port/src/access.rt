@@ -1,6 +1,6 @@
 /// What a port lets its controller do.
 #[derive(Clone, Copy, Debug, PartialEq, Eq)]
-pub(crate) enum Access {
+pub enum Access {
     /// OPEN PORT comes first.
     Closed,
     /// SELECT PORT comes next.

@@ -1,3 +1,4 @@
+//! What is cued and what plays, each with its frames.
 ghost use Rattle.std.specs.Prelude.{◌≡◌, ◌-◌, nat_eq, List, None, if◌then◌else◌};
 ghost use Rattle.vdcp_value.specs.declared.clip_id.ClipId.{ClipId};
 ghost use Rattle.vdcp_value.specs.declared.timecode.Timecode.{Timecode};
@@ -17,11 +18,11 @@ pub(crate) struct Cue {
 }
 
 /// What is on the air.
-#[derive(Clone, Copy)]
-pub(crate) struct Clip {
-    pub(crate) item: Item,
+#[derive(Clone, Copy, Debug, PartialEq, Eq)]
+pub struct Clip {
+    pub item: Item,
     /// The frames until it ends.
-    pub(crate) left: u32,
+    pub left: u32,
 }
 
 /// The cue once it is done.

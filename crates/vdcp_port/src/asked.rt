@@ -1,3 +1,4 @@
+//! What a message asks of a port, if it asks anything.
 ghost use Rattle.std.specs.Prelude.{◌≡◌};
 ghost use Rattle.vdcp_frame.specs.Message.{content_of};
 ghost use Rattle.vdcp_port.specs.Asked.{asked_of};

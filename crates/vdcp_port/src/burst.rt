@@ -1,3 +1,4 @@
+//! How a port answers a whole burst, its end included.
 ghost use Rattle.arrayvec.specs.ArrayVec.{array_vec_len};
 ghost use Rattle.std.specs.Option.{option_to_list};
 ghost use Rattle.std.specs.Prelude.{◌≡◌, ◌+◌, ◌≤◌, ◌++◌, IfSome, IsOk, OnErr, OnOk, length};
@@ -19,8 +20,8 @@ use vdcp_frame::{Ended, LIMIT, Message, Messages};
 use vdcp_value::Item;
 use vdcp_words::Reply;
 
-/// What a port answers to a burst's end, after its answers to the burst's messages: nothing where the
-/// burst ends after a whole message, NAK 80h where it ends inside one, and NAK 04h after a fault (this
+/// What a port answers to a burst's end, after its answers to the burst's messages: nothing if the
+/// burst ends after a whole message, NAK 80h if it ends inside one, and NAK 04h after a fault (this
 /// profile).
 pub fn reply_at_end(ended: Ended) -> Option<Reply>
     ensures exact { result ≡ reply_at_end ended }
@@ -37,12 +38,12 @@ impl<C: Catalogue> Port<C> {
     ghost use Rattle.vdcp_port.specs.Clock.{after_message, aired_by};
     ghost use Rattle.vdcp_port.specs.Answers.{bytes_for, bytes_for_all, sent_for, aired_for, after_burst};
 
-    /// Takes a whole burst. Appends the bytes of all answers to `out`, in order, and then a NAK where the
+    /// Takes a whole burst. Appends the bytes of all answers to `out`, in order, and then a NAK if the
     /// burst has a fault or ends inside a message; and the item that goes to air on the way, if one does,
     /// to `aired`.
     ///
-    /// All room is made first: three bytes for each byte that is read and two more, and one item where the
-    /// burst is long enough for a PLAY. Where it is refused the answer is `AllocError`, and nothing has
+    /// All room is made first: three bytes for each byte that is read and two more, and one item if the
+    /// burst is long enough for a PLAY. If it is refused the answer is `AllocError`, and nothing has
     /// changed.
     pub fn burst_answer<A: Allocator, B: Allocator>(
         &mut self,
@@ -67,7 +68,7 @@ impl<C: Catalogue> Port<C> {
         Ok(())
     }
 
-    /// Takes a whole burst where there is room for all answers to it: three bytes for each byte that is
+    /// Takes a whole burst if there is room for all answers to it: three bytes for each byte that is
     /// read, 4,096 at most, and two more. Appends the bytes of the answers to `out` as `burst_answer` does,
     /// and gives the item that goes to air on the way, if one does: a burst airs one at most.
     pub fn answer_into<const N: usize>(
@@ -85,7 +86,7 @@ impl<C: Catalogue> Port<C> {
         self.answer_all(burst, out)
     }
 
-    // Answers a burst, its end included, where there is room.
+    // Answers a burst, its end included, if there is room.
     fn answer_all<S: Sink>(&mut self, burst: &[u8], out: &mut S) -> Option<Item>
         requires { most_sent burst.now ≤ S.room out.old }
         ensures read { Reads burst.now (messages_of burst.now) (end_of burst.now) }
@@ -102,7 +103,7 @@ impl<C: Catalogue> Port<C> {
         aired
     }
 
-    // Answers the messages of a burst where there is room, and says how the burst ends.
+    // Answers the messages of a burst if there is room, and says how the burst ends.
     fn answer_messages<S: Sink>(&mut self, burst: &[u8], out: &mut S) -> (Option<Item>, Ended)
         requires { length (bytes_for_all self.old (messages_of burst.now)) ≤ S.room out.old }
         ensures sent { S.written out.new ≡ S.written out.old ++ bytes_for_all self.old (messages_of burst.now) }
@@ -120,7 +121,7 @@ impl<C: Catalogue> Port<C> {
         (aired, messages.end().ended())
     }
 
-    // Answers a message where there is room.
+    // Answers a message if there is room.
     fn answer_message<S: Sink>(&mut self, message: &Message, out: &mut S) -> Option<Item>
         requires { length (bytes_for self.old (content_of message.now)) ≤ S.room out.old }
         ensures sent { S.written out.new ≡ S.written out.old ++ bytes_for self.old (content_of message.now) }
@@ -154,7 +155,7 @@ fn make_room<A: Allocator, B: Allocator>(
     aired.reserve((burst.len() / 5).min(1))
 }
 
-// Appends the item that goes to air, if one does, where there is room.
+// Appends the item that goes to air, if one does, if there is room.
 fn tell<B: Allocator>(item: Option<Item>, aired: &mut Vec<Item, B>)
     requires { vec_len aired.old + length (option_to_list item) ≤ vec_capacity aired.old }
     ensures { aired.new.items ≡ aired.old.items ++ option_to_list item }
@@ -164,7 +165,7 @@ fn tell<B: Allocator>(item: Option<Item>, aired: &mut Vec<Item, B>)
     }
 }
 
-// Appends what is answered to a burst's end, where there is room.
+// Appends what is answered to a burst's end, if there is room.
 #[tactic(auto, using(crate::proofs::Answering::bytes_of_one))]
 fn append_end<S: Sink>(ended: Ended, unit: u8, out: &mut S)
     requires unit { unit ≤ 15 }
@@ -176,7 +177,7 @@ fn append_end<S: Sink>(ended: Ended, unit: u8, out: &mut S)
     }
 }
 
-// Appends the bytes of a reply where there is room.
+// Appends the bytes of a reply if there is room.
 fn append_reply<S: Sink>(reply: &Reply, unit: u8, out: &mut S)
     requires unit { unit ≤ 15 }
     requires room { length (reply_bytes unit reply.now) ≤ S.room out.old }

@@ -1,3 +1,4 @@
+//! The clips of a server as a trait, and how long items play.
 ghost use Rattle.std.specs.Prelude.{◌≡◌, ◌<◌, IsTrue, IsSome, IfSome, ◌↔◌};
 ghost use Rattle.vdcp_value.specs.Bcd.{frames_in};
 ghost use Rattle.vdcp_value.specs.Parts.{part_fits};
@@ -17,7 +18,7 @@ pub trait Catalogue {
     /// The clips with their lengths. Of two pairs with one ID the first counts.
     ghost clips: { Self → List (ClipId × Timecode) };
 
-    /// The length of a clip; `None` where the server hasn't got it.
+    /// The length of a clip; `None` if the server doesn't have it.
     fn length(&self, id: &ClipId) -> Option<Timecode>
         ensures { result ≡ length_of (clips self.now) id.now };
 }
@@ -36,7 +37,7 @@ impl<const N: usize> Catalogue for [(ClipId, Timecode); N] {
     }
 }
 
-/// How many frames an item plays; `None` where the clip isn't known, or the part doesn't fit it.
+/// How many frames an item plays; `None` if the clip isn't known, or the part doesn't fit it.
 pub(crate) fn frames_if_playable<C: Catalogue>(catalogue: &C, item: &Item) -> Option<u32>
     ensures playable { IsSome result ↔ IsTrue (is_playable (C.clips catalogue.now) item.now) }
     ensures frames { IfSome result (λ frames. frames ≡ frames_on_air (C.clips catalogue.now) item.now) }
@@ -49,7 +50,7 @@ pub(crate) fn frames_if_playable<C: Catalogue>(catalogue: &C, item: &Item) -> Op
     }
 }
 
-/// How many frames a part of a clip of this length has; `None` where it doesn't fit.
+/// How many frames a part of a clip of this length has; `None` if it doesn't fit.
 fn frames_of_part(part: &Part, length: &Timecode) -> Option<u32>
     ensures fits { IsSome result ↔ IsTrue (part_fits part.now length.now) }
     ensures frames { IfSome result (λ frames. frames ≡ frames_in (rate_of length.now) part.now.duration) }

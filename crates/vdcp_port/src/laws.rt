@@ -120,7 +120,7 @@ pub fn a_command_is_answered()
     vdcp_value::laws::a_time_code_has_lawful_bytes();
 }
 
-/// What a port holds is in its catalogue and fits, and its counts run where something is waited for.
+/// What a port holds is in its catalogue and fits, and its counts run if something is waited for.
 pub fn what_a_port_holds()
     ensures new { (clips : List (ClipId × Timecode)) (unit number cue_frames : ℕ) → 1 ≤ cue_frames →
         IsKept (new_port clips unit number cue_frames) }

@@ -15,9 +15,7 @@
 //! collections that it is lent; `answer_into` answers a burst into an array. A caller that has the messages
 //! one by one passes them to `answer`, and at the silence sends what `reply_at_end` gives.
 //!
-//! Files: `port` (the port's table), `burst` (a whole burst, and the answer to its end), `access` and `airing` (closed,
-//! open or selected; what airs next and what is on the air, with their counts), `asked` (what a message asks),
-//! `catalogue` (the trait), `sink` (where a burst's answers go), `laws`.
+//! Files, in reading order: `port`, `burst`, `access`, `airing`, `asked`, `catalogue`, `sink`, `kept`, `laws`.
 #![tactic(auto)]
 
 mod access;
@@ -25,10 +23,14 @@ mod airing;
 mod asked;
 mod burst;
 mod catalogue;
+mod kept;
 pub mod laws;
 mod port;
 mod sink;
 
+pub use access::Access;
+pub use airing::Clip;
 pub use burst::reply_at_end;
 pub use catalogue::Catalogue;
+pub use kept::Kept;
 pub use port::Port;

@@ -1,7 +1,9 @@
+//! The port and its table: what it answers to each command.
 use crate::access::Access;
 use crate::airing::{Clip, Cue, count_clip, count_cue, finish_cue};
 use crate::asked::Asked;
 use crate::catalogue::{Catalogue, frames_if_playable};
+use crate::kept::{Kept, clip_of, cue_of};
 use crate::laws;
 use std::marker::Model;
 use vdcp_frame::Message;
@@ -86,6 +88,40 @@ impl<C: Catalogue> Port<C> {
             access: Access::Closed,
             cued: None,
             playing: None,
+        }
+    }
+
+    ghost use Rattle.vdcp_port.specs.Held.{CanKeep, port_of};
+
+    /// All that the port knows, but for its catalogue. `of_kept` makes it again.
+    pub fn kept(&self) -> Kept
+        ensures seen { self.now ≡ port_of self.now.clips result }
+        ensures again { CanKeep self.now.clips result }
+    {
+        Kept {
+            unit: self.unit(),
+            number: self.number,
+            cue_frames: self.cue_frames,
+            access: self.access,
+            cued: clip_of(self.cued),
+            playing: self.playing,
+        }
+    }
+
+    /// The port over a catalogue that stands so: `Kept::stands_over` tests it.
+    pub fn of_kept(catalogue: C, kept: &Kept) -> Port<C>
+        requires { CanKeep (C.clips catalogue) kept.now }
+        ensures { result ≡ port_of (C.clips catalogue) kept.now }
+    {
+        let cued = cue_of(&catalogue, &kept.cued).unwrap();
+        Port {
+            catalogue,
+            address: kept.unit,
+            number: kept.number,
+            cue_frames: kept.cue_frames,
+            access: kept.access,
+            cued,
+            playing: kept.playing,
         }
     }
 

@@ -1,3 +1,4 @@
+//! A vector or an array to which answers are appended.
 use arrayvec::ArrayVec;
 use std::alloc::Allocator;
 
@@ -11,7 +12,7 @@ pub(crate) trait Sink {
     /// How many more bytes it has room for.
     ghost room: { Self → ℕ };
 
-    /// Appends bytes where there is room for them.
+    /// Appends bytes if there is room for them.
     fn append(&mut self, bytes: &[u8])
         requires { length bytes.now ≤ room self.old }
         ensures written { written self.new ≡ written self.old ++ bytes.now }

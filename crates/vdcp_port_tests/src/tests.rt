@@ -1,7 +1,6 @@
-ghost use Rattle.std.specs.Prelude.{◌<◌};
+//! What a port answers to bursts and messages, and what airs.
 
 use arrayvec::ArrayVec;
-use linked_list_allocator::LocalHeap;
 use std::alloc::{AllocError, Allocator, Global};
 use std::process::Abort;
 use std::test::Fail;
@@ -12,7 +11,7 @@ use vdcp_value::{ClipId, Item, Part, Timecode};
 use vdcp_words::{Command, Reply};
 
 /// A catalogue of two clips.
-type TwoClips = [(ClipId, Timecode); 2];
+pub type TwoClips = [(ClipId, Timecode); 2];
 
 /// CLIP0001 and CLIP0002, ten seconds each at 25 frames a second.
 fn ten_seconds_each() -> Result<TwoClips, &'static str> {
@@ -29,13 +28,13 @@ const STATUS: &'static [u8] = &[0x02, 0x03, 0x30, 0x05, 0x01, 0xCA];
 
 const ACTIVE: &'static [u8] = &[0x02, 0x02, 0x30, 0x07, 0xC9];
 
-const PLAY: &'static [u8] = &[0x02, 0x02, 0x10, 0x01, 0xEF];
+pub const PLAY: &'static [u8] = &[0x02, 0x02, 0x10, 0x01, 0xEF];
 
 const STOP: &'static [u8] = &[0x02, 0x02, 0x10, 0x00, 0xF0];
 
-const CUE_1: &'static [u8] = b"\x02\x0A\x20\x24CLIP0001\xD3";
+pub const CUE_1: &'static [u8] = b"\x02\x0A\x20\x24CLIP0001\xD3";
 
-const CUE_2: &'static [u8] = b"\x02\x0A\x20\x24CLIP0002\xD2";
+pub const CUE_2: &'static [u8] = b"\x02\x0A\x20\x24CLIP0002\xD2";
 
 const CUE_9: &'static [u8] = b"\x02\x0A\x20\x24CLIP0009\xCB";
 
@@ -45,12 +44,12 @@ fn new_port() -> Result<Port<TwoClips>, Fail> {
 }
 
 /// The same, open and selected.
-fn selected_port(alloc: Global) -> Result<Port<TwoClips>, Fail> {
+pub fn selected_port(alloc: Global) -> Result<Port<TwoClips>, Fail> {
     Ok(selected(alloc, ten_seconds_each()?)?)
 }
 
 // This promises nothing, so the proof of a test needn't go through the clauses of each call.
-fn answer<C: Catalogue, A: Allocator, B: Allocator>(
+pub fn answer<C: Catalogue, A: Allocator, B: Allocator>(
     port: &mut Port<C>,
     burst: &[u8],
     out: &mut Vec<u8, A>,
@@ -72,7 +71,7 @@ fn sent<C: Catalogue>(
 }
 
 /// What airs of these bursts.
-fn aired_by<C: Catalogue>(
+pub fn aired_by<C: Catalogue>(
     alloc: Global,
     port: &mut Port<C>,
     bursts: &[&[u8]],
@@ -93,7 +92,7 @@ fn selected<C: Catalogue + Drop>(alloc: Global, catalogue: C) -> Result<Port<C>,
 }
 
 /// The burst is answered so, nothing airs, and the port is then in this state.
-fn expect<C: Catalogue>(
+pub fn expect<C: Catalogue>(
     rt: &(impl Abort + AllocGlobal),
     port: &mut Port<C>,
     burst: &[u8],
@@ -262,7 +261,7 @@ fn bursts_after_one_another_are_answered(rt: HostRuntime) -> Result<(), Fail> {
 }
 
 /// A whole clip.
-fn whole(name: &[u8; 8]) -> Item {
+pub fn whole(name: &[u8; 8]) -> Item {
     Item {
         id: ClipId::new(*name),
         part: None,
@@ -329,7 +328,7 @@ fn clips_are_cued_and_aired(rt: HostRuntime) -> Result<(), Fail> {
     Ok(())
 }
 
-/// What goes out where this happens (nothing, where no burst comes), and what airs.
+/// What goes out if this happens (nothing, if no burst comes), and what airs.
 fn happens(
     alloc: Global,
     port: &mut Port<TwoClips>,
@@ -379,91 +378,6 @@ fn the_frame_clock_completes_cues_and_ends_clips(rt: HostRuntime) -> Result<(), 
     Ok(())
 }
 
-/// This many PLAYs.
-fn plays(alloc: Global, count: usize) -> Result<Vec<u8>, AllocError> {
-    let mut burst = Vec::new(alloc);
-    for _ in 0..count {
-        burst.extend_from_slice(PLAY)?;
-    }
-    Ok(burst)
-}
-
-/// This many ACKs, and then NAK 0x04.
-fn acks_and_a_nak(alloc: Global, count: usize) -> Result<Vec<u8>, AllocError> {
-    let mut answer = Vec::new(alloc);
-    for _ in 0..count {
-        answer.push(0x04)?;
-    }
-    answer.extend_from_slice(&[0x05, 0x04])?;
-    Ok(answer)
-}
-
-#[test]
-fn a_burst_is_answered_up_to_its_limit(rt: HostRuntime) -> Result<(), Fail> {
-    let burst = plays(rt.alloc(), 820)?;
-    let answer = acks_and_a_nak(rt.alloc(), 819)?;
-    let mut port = selected_port(rt.alloc())?;
-    expect(&rt, &mut port, burst.as_slice(), answer.as_slice(), 0x01)?;
-    Ok(())
-}
-
-#[test]
-fn the_largest_message_is_refused(rt: HostRuntime) -> Result<(), Fail> {
-    let mut burst = Vec::from_slice(rt.alloc(), &[0x02, 0xFF, 0x70, 0x00])?;
-    burst.extend_from_slice(&[0x00; 253])?;
-    burst.push(0x90)?;
-    let mut port = selected_port(rt.alloc())?;
-    expect(&rt, &mut port, burst.as_slice(), &[0x05, 0x01], 0x01)?;
-    Ok(())
-}
-
-/// The burst is answered by one NAK, and leaves the second clip cueing while the first one plays.
-fn is_refused(
-    rt: &(impl Abort + AllocGlobal),
-    port: &mut Port<TwoClips>,
-    burst: &[u8],
-    byte: u8,
-) -> Result<(), AllocError> {
-    expect(rt, port, burst, &[0x05, byte], 0x06)
-}
-
-static CUE: [u8; 13] = *b"\x02\x0A\x20\x24CLIP0001\xD3";
-
-/// A cue with another byte in this place is refused.
-fn change_is_refused(
-    rt: &(impl Abort + AllocGlobal),
-    port: &mut Port<TwoClips>,
-    place: usize,
-    byte: u8,
-) -> Result<(), AllocError>
-    requires { place < 13 }
-{
-    let mut burst = CUE;
-    burst[place] = byte;
-    // (a higher count asks for bytes that don't come)
-    let is_cut = place == 1 && byte > 10;
-    is_refused(rt, port, &burst, if is_cut { 0x80 } else { 0x04 })
-}
-
-#[test]
-fn hostile_bursts_change_nothing(rt: HostRuntime) -> Result<(), Fail> {
-    let mut port = selected_port(rt.alloc())?;
-    aired_by(rt.alloc(), &mut port, &[CUE_1])?;
-    port.ready();
-    aired_by(rt.alloc(), &mut port, &[PLAY, CUE_2])?;
-    for len in 1..13 {
-        is_refused(&rt, &mut port, &CUE[..len], 0x80)?;
-    }
-    for place in 0..13 {
-        for byte in 0..=255 {
-            if byte != CUE[place] {
-                change_is_refused(&rt, &mut port, place, byte)?;
-            }
-        }
-    }
-    Ok(())
-}
-
 /// The port's answer to a command for this unit. Nothing airs.
 fn expect_reply<C: Catalogue>(
     rt: &impl Abort,
@@ -488,71 +402,6 @@ fn single_messages_are_answered(rt: HostRuntime) -> Result<(), Fail> {
     expect_reply(&rt, &mut port, 3, Command::Select(7), Some(Reply::Ack));
     let idle = Reply::State(0x01, Some(0x01));
     expect_reply(&rt, &mut port, 3, Command::Status(0xFF), Some(idle));
-    Ok(())
-}
-
-/// Forty PLAYs, with a cue done.
-fn forty_plays(alloc: Global) -> Result<(Port<TwoClips>, Vec<u8>), Fail> {
-    let mut port = selected_port(alloc)?;
-    aired_by(alloc, &mut port, &[CUE_1])?;
-    port.ready();
-    Ok((port, plays(alloc, 40)?))
-}
-
-#[test]
-fn refused_room_for_answers_changes_nothing(rt: HostRuntime) -> Result<(), Fail> {
-    let heap = LocalHeap::new(rt.alloc(), 128)?;
-    let (mut port, burst) = forty_plays(rt.alloc())?;
-    let mut out = Vec::from_slice(&heap, &[0xAA])?;
-    let mut aired = Vec::from_slice(rt.alloc(), &[whole(b"CLIP0001")])?;
-    let refused = answer(&mut port, burst.as_slice(), &mut out, &mut aired);
-    assert_eq!(rt; out.as_slice(), b"\xAA".as_slice());
-    assert_eq!(rt;
-        (refused.is_err(), aired.len(), port.status_byte()),
-        (true, 1, 0x80)
-    );
-
-    // (with room the same burst is answered, and airs the item)
-    let mut out = Vec::from_slice(rt.alloc(), &[0xAA])?;
-    answer(&mut port, burst.as_slice(), &mut out, &mut aired)?;
-    assert_eq!(rt; aired.as_slice(), [whole(b"CLIP0001"); 2].as_slice());
-    assert_eq!(rt; (out.len(), port.status_byte()), (41, 0x04));
-    Ok(())
-}
-
-// One item airs, and there is no room for one more.
-#[test]
-fn refused_room_for_an_item_changes_nothing(rt: HostRuntime) -> Result<(), Fail> {
-    let heap = LocalHeap::new(rt.alloc(), 128)?;
-    let (mut port, burst) = forty_plays(rt.alloc())?;
-    let item = whole(b"CLIP0001");
-    let mut out = Vec::from_slice(rt.alloc(), &[0xAA])?;
-    let mut full = Vec::new(&heap);
-    for _ in 0..32 {
-        let _ = full.push(item);
-    }
-    let items = full.len();
-    let refused = answer(&mut port, burst.as_slice(), &mut out, &mut full);
-    assert_eq!(rt;
-        (
-            refused.is_err(),
-            out.as_slice(),
-            full.len(),
-            port.status_byte()
-        ),
-        (true, [0xAA].as_slice(), items, 0x80)
-    );
-
-    // A burst that is too short for a PLAY needs no room for an item.
-    answer(&mut port, &[0x04], &mut out, &mut full)?;
-    let after_short = full.len();
-
-    let mut aired = Vec::from_slice(rt.alloc(), &[item])?;
-    answer(&mut port, burst.as_slice(), &mut out, &mut aired)?;
-    assert_eq!(rt;
-        (after_short, out.len(), aired.as_slice(), port.status_byte()),
-        (items, 41, [item, item].as_slice(), 0x04)
-    );
     Ok(())
 }
 

@@ -7,7 +7,7 @@ use std::process::Abort;
 use std::test::Fail;
 use std::{env, fs, process};
 use vdcp_auto::{Controller, Outcome, Source};
-use vdcp_drive::{AutoDriver, Unwatched};
+use vdcp_drive::{AutoDriver, Unpaced, Unwatched};
 use vdcp_files::NamedFile;
 use vdcp_journal::{Heading, digest_of};
 use vdcp_list::{List, read_list};
@@ -98,7 +98,6 @@ fn shown(alloc: Global, journal: &[u8], times: bool) -> (u8, Vec<u8>, Vec<u8>) {
     let settings = AsrunSettings {
         rate: Rate::F25,
         times,
-        may_have_aired: true,
     };
     let status = do_asrun(alloc, journal, Some(list), settings, &mut out, &mut err);
     (status, out, err)
@@ -110,13 +109,13 @@ fn begun<'a, 'r>(
     name: &'a str,
 ) -> Result<Recorder<'a, 'r, HostRuntime, File>, Fail> {
     let heading = heading(rt, false)?;
-    Ok(begin_journal(rt, name, &heading).ok().ok_or("begun")?)
+    Ok(begin_journal(rt, name, &heading, None).ok().ok_or("begun")?)
 }
 
 /// Why no journal of this name can be begun.
 fn unbegun<'a>(rt: &HostRuntime, name: &'a str) -> Result<Option<Failure<'a>>, Fail> {
     let heading = heading(rt, false)?;
-    Ok(begin_journal(rt, name, &heading).err())
+    Ok(begin_journal(rt, name, &heading, None).err())
 }
 
 /// Why the journal of this name can't be gone on with in this mode.
@@ -134,7 +133,7 @@ fn unresumed<'a>(
 fn play(rt: &HostRuntime, name: &str, listens: u64) -> Result<usize, Fail> {
     let mut driver = driver(rt)?;
     let mut recorder = begun(rt, name)?;
-    let _ = recorder.run(&mut driver, listens, &mut Unwatched);
+    let _ = recorder.run(&mut driver, listens, &mut Unwatched, &mut Unpaced);
     let controller = driver.controller();
     if let Some(outcome) = controller.outcome() {
         recorder.finish(Some(outcome)).ok().ok_or("finished")?;
@@ -188,7 +187,7 @@ fn shows_all(rt: &impl Abort, alloc: Global, journal: &[u8]) {
     assert_eq!(rt; (status, begins, err.len()), (0, true, 0));
 }
 
-/// Of a beginning of the journal, a beginning of the list is shown, or nothing where the heading isn't whole.
+/// Of a beginning of the journal, a beginning of the list is shown, or nothing if the heading isn't whole.
 fn shows_some(rt: &impl Abort, alloc: Global, journal: &[u8]) {
     let (status, out, _) = shown(alloc, journal, false);
     let size = journal.len();

@@ -3,7 +3,7 @@
 //! No library of the program calls it outside its tests. `FailingReader` and `FailingWriter` work over memory
 //! and count their calls; `Fails` chooses the calls that fail. `two_clips` is a small catalogue's rows.
 //!
-//! Files: `fails` (which calls fail), `reader` and `writer` (that fail then), `clips`.
+//! Files, in reading order: `fails`, `reader`, `writer`, `clips`.
 #![tactic(auto)]
 
 mod clips;

@@ -1,3 +1,4 @@
+//! A reader that fails at chosen calls.
 use crate::fails::Fails;
 use std::io::{self, Read};
 

@@ -1,3 +1,4 @@
+//! Tests of the reader, the writer and the clips.
 use crate::{FailingReader, FailingWriter, Fails, two_clips};
 use std::alloc::Global;
 use std::io::{self, Read, Write};

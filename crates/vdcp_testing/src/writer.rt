@@ -1,3 +1,4 @@
+//! A writer that fails at chosen calls.
 use crate::fails::Fails;
 use std::alloc::Global;
 use std::io::{self, Write};

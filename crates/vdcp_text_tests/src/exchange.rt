@@ -1,3 +1,4 @@
+//! Tests of exchanges as text.
 use arrayvec::ArrayString;
 use std::fmt::Write;
 use std::process::Abort;

@@ -1,3 +1,4 @@
+//! Tests of failures, their lines and their exit statuses.
 use std::alloc::Global;
 use std::process::Abort;
 use vdcp_text::{Failure, JournalFault, RowFault, ScriptLineFault};
@@ -151,7 +152,7 @@ fn are_equal(one: &Failure, other: &Failure) -> bool {
     one == other
 }
 
-// Failures are equal where the same line tells them.
+// Failures are equal if the same line tells them.
 #[test]
 fn failures_are_equal_where_they_are_told_alike(rt: HostRuntime) {
     for (failure, line, _) in ROWS.iter() {

@@ -1,3 +1,4 @@
+//! Tests of `make`.
 use crate::run::{expect_last, expect_run, expect_whole};
 use std::alloc::{AllocError, Global};
 use std::io;

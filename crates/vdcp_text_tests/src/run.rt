@@ -1,3 +1,4 @@
+//! What a run gives, and what the tests expect of it.
 use std::process::Abort;
 use vdcp_testing::FailingWriter;
 

@@ -1,3 +1,4 @@
+//! Tests of `show`.
 use crate::run::{Run, expect_last, expect_run, expect_whole};
 use linked_list_allocator::LocalHeap;
 use std::alloc::{Allocator, Global};

@@ -41,7 +41,7 @@ hex_pair byte = hex_digit (byte / 16) ∷ hex_digit (byte % 16) ∷ []
 abbrev pub hex_form : List ℕ → List ℕ
 hex_form bytes = 48 ∷ 120 ∷ flat_map hex_pair bytes
 
--- the text of an ID of these bytes: its plain form, or the other one where it has none
+-- the text of an ID of these bytes: its plain form, or the other one if it has none
 abbrev pub IsTextOf : List ℕ → List ℕ → Type 0
 IsTextOf text bytes = IsPlainForm text bytes ⊎ (¬ (HasPlain bytes) × (text ≡ hex_form bytes))
 

@@ -29,6 +29,6 @@ id_if false bytes e = zero_id
 abbrev pub id_of : List ℕ → ClipId
 id_of bytes = id_if (are_bytes 8 bytes) bytes refl
 
--- the ID of a text, where it is the text of one
+-- the ID of a text, if it is the text of one
 abbrev pub id_of_text : List ℕ → ClipId
 id_of_text text = id_of (bytes_of_text text)

@@ -11,7 +11,7 @@ use Rattle.vdcp_value.specs.declared.timecode.Timecode.{Timecode}
 abbrev pub IsPart : Part → Type 0
 IsPart part = AreBytes 4 part.start × AreBytes 4 part.duration
 
--- the part of an item, where it has one, is of bytes
+-- the part of an item, if it has one, is of bytes
 abbrev pub IsItem : Item → Type 0
 IsItem item = MatchOption item.part (Unit {0}) IsPart
 

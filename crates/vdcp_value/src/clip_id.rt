@@ -1,3 +1,4 @@
+//! Clip IDs: eight bytes, and how their text is read and shown.
 ghost use Rattle.std.specs.Prelude.{◌≡◌, ◌≤◌, IfOk, IfErr, IsTrue, IsFalse, Ok, length, ◌∷◌};
 ghost use Rattle.vdcp_value.specs.Bytes.{AreBytes};
 ghost use Rattle.vdcp_value.specs.IdText.{IsTextOf, IsIdFault, is_plain, without_end_spaces, is_hex_long};
@@ -11,7 +12,7 @@ use arrayvec::ArrayString;
 
 /// A clip's ID: eight bytes, of any values.
 ///
-/// Its text is plain where all bytes are printable ASCII (20h to 7Eh) and the first isn't a space:
+/// Its text is plain if all bytes are printable ASCII (20h to 7Eh) and the first isn't a space:
 /// the bytes up to the last that isn't a space. Else the text is `0x` with the bytes in sixteen
 /// lower-case hexadecimal digits. So an ID has one text and no other (this profile).
 #[derive(Clone, Copy, Debug, PartialEq, Eq)]

@@ -1,7 +1,8 @@
+//! The faults of IDs and time codes.
 use std::fmt;
 use thiserror::Error;
 
-/// Why no ID has a text. `ClipId::parse` says which one is given where several hold.
+/// Why no ID has a text. `ClipId::parse` says which one is given if several hold.
 #[derive(Clone, Copy, Debug, PartialEq, Eq, Error)]
 pub enum IdFault {
     #[error("the id is empty")]
@@ -39,7 +40,7 @@ impl fmt::Display for Field {
     }
 }
 
-/// Why bytes or a text are no time code at a rate. Where several hold, the first of `Shape`,
+/// Why bytes or a text are no time code at a rate. If several hold, the first of `Shape`,
 /// `NotBcd`, `OutOfRange` and `Dropped` is given.
 #[derive(Clone, Copy, Debug, PartialEq, Eq, Error)]
 pub enum TcFault {

@@ -1,3 +1,4 @@
+//! The two forms of an ID's text: plain, or hexadecimal digits.
 ghost use Rattle.std.specs.Prelude.{◌≡◌, ◌≤◌, ◌<◌, ◌↔◌, IsTrue, IsFalse, IsSome, IfSome, IfNone, length, [], ◌++◌, ◌+◌};
 ghost use Rattle.std.specs.List.{flat_map, list_all};
 ghost use Rattle.vdcp_value.specs.IdText.{is_plain, is_plain_byte, has_edge_space, without_end_spaces, hex_digit, hex_pair, hex_form, is_hex_digit, is_hex_long};
@@ -101,7 +102,7 @@ fn hex_digit(n: u8) -> u8
     if n < 10 { b'0' + n } else { b'a' + (n - 10) }
 }
 
-/// The number of a digit, if it is one.
+/// The number that a digit stands for; None if it is none.
 fn hex_value(digit: u8) -> Option<u8>
     ensures some { IsSome result ↔ IsTrue (is_hex_digit digit) }
     ensures below { IfSome result (λ n. n < 16) }

@@ -1,3 +1,4 @@
+//! What a time code writes, before it is known to be lawful.
 ghost use Rattle.std.specs.Prelude.{IsTrue, ◌≡◌, ◌<◌, ◌+◌, ◌-◌, ◌*◌, ◌/◌, ◌%◌, IfOk, IfErr, Some};
 ghost use Rattle.vdcp_value.specs.Bcd.{label_fault};
 ghost use Rattle.vdcp_value.specs.Day.{frame_number, frames_of_day};

@@ -15,8 +15,7 @@
 //! What is read is checked once, by `parse` or `from_bcd`, which name the first fault. `laws` has the
 //! laws that hold of all these values.
 //!
-//! Files: `clip_id` and `id_text` (an ID, and its two forms as text), `rate`, `label` and `timecode` (rates; a label
-//! before it is known to be lawful; time codes), `part` (parts and items), `faults`, `laws`.
+//! Files, in reading order: `clip_id`, `id_text`, `rate`, `label`, `timecode`, `part`, `faults`, `laws`.
 #![tactic(auto)]
 
 mod clip_id;

@@ -1,3 +1,4 @@
+//! Parts of clips, and items.
 ghost use Rattle.std.specs.Prelude.{◌≡◌, ◌<◌, ◌↔◌, IsTrue, IsSome, IfSome};
 ghost use Rattle.vdcp_value.specs.Bcd.{is_time, frames_in};
 
@@ -32,7 +33,7 @@ impl Part {
     }
 }
 
-/// The frame number that four bytes say, where they are a lawful time code's.
+/// The frame number that four bytes say, if they are a lawful time code's.
 fn frames_in(rate: Rate, bytes: [u8; 4]) -> Option<u32>
     ensures lawful { IsSome result ↔ IsTrue (is_time rate bytes) }
     ensures number { IfSome result (λ frames. frames ≡ frames_in rate bytes) }

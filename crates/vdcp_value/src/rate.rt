@@ -1,3 +1,4 @@
+//! Frame rates.
 ghost use Rattle.std.specs.Prelude.{◌≡◌};
 ghost use Rattle.vdcp_value.specs.Day.{frames_of_day};
 ghost use Rattle.vdcp_value.specs.Labels.{frames_per_second};

@@ -1,3 +1,4 @@
+//! Time codes: as frame numbers, as bytes and as text.
 ghost use Rattle.std.specs.Prelude.{IsTrue, ◌≡◌, ◌<◌, ◌↔◌, length, IsSome, IfSome, IfOk, IfErr, Some, Ok, IsFalse, ℕ, ◌+◌, ◌≤◌, ◌≢◌, List, [], ◌∷◌, ◌++◌, IfNone, IsOk};
 ghost use Rattle.vdcp_value.specs.Bcd.{is_bcd, bcd_byte, bcd_value, bcd_fault, frames_in, is_time};
 ghost use Rattle.arrayvec.specs.ArrayString.{array_string_len};

@@ -14,7 +14,7 @@ use Rattle.vdcp_wire.specs.declared.wire.Came.{Came}
 use Rattle.vdcp_wire.specs.declared.wire.Came.TheVariants as came
 
 -- a wire over a connection: what is known of the connection, the bytes that its reads will give, and those that it
--- holds of what was written, where the connection tells them
+-- holds of what was written, if the connection tells them
 pub record Streamed : Type 0 where
   pub connection : Connection
   pub ahead : Option (List ℕ)
@@ -30,14 +30,14 @@ bytes_in (bytes piece) = piece
 bytes_in silence = []
 bytes_in close = []
 
--- what a wire does to the bytes of its connection, where these are known
+-- what a wire does to the bytes of its connection, if these are known
 abbrev pub StreamDoes : Act → Streamed → Streamed → Type 0
 StreamDoes (sends all) old new = Appends old.written new.written all × Keeps old.ahead new.ahead
 StreamDoes (brings what) old new = Consumes old.ahead new.ahead (bytes_in what) × Keeps old.written new.written
 StreamDoes drops old new = Takes old.ahead new.ahead × Keeps old.written new.written
 StreamDoes fails old new = Takes old.ahead new.ahead × Keeps old.written new.written
 
--- what a read that failed so brought, or else the failure: it waited long enough, or it was interrupted. Where the
+-- what a read that failed so brought, or else the failure: it waited long enough, or it was interrupted. If the
 -- system gives up a connection, nothing being acknowledged, the kind isn't that of a read that waited
 abbrev pub came_of_kind : ErrorKind → Error → Result Came Error
 came_of_kind WouldBlock error = Ok came.Silence

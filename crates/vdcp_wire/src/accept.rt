@@ -1,3 +1,4 @@
+//! How an address is listened at, and a connection taken there.
 ghost use Rattle.std.specs.Io.KnownBytes.{Appends, Keeps};
 ghost use Rattle.std.specs.Prelude.{◌≡◌, ◌⊎◌, IfErr, OnOk};
 ghost use Rattle.vdcp_wire.specs.Listening.{PrintsListening, listening_line};

@@ -1,3 +1,4 @@
+//! How the text of an address is read.
 ghost use Rattle.std.specs.Net.Grammar.{IsSocketV4Text};
 ghost use Rattle.std.specs.Prelude.{IfOk, OnErr};
 ghost use Rattle.vdcp_wire.specs.Address.{IsAddress};

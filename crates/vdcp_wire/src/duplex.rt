@@ -1,3 +1,4 @@
+//! What a wire needs of its connection.
 use std::io::{self, Read, Write};
 use std::net::OpenStream;
 
@@ -9,10 +10,10 @@ pub trait Duplex: OpenStream {
     ghost use Rattle.std.specs.Io.{ReadsAtMost, WritesAtMost};
     ghost use Rattle.std.specs.Prelude.{List, ℕ, Option, None};
 
-    /// The bytes that reads will give from here on, where they are known.
+    /// The bytes that reads will give from here on, if they are known.
     ghost ahead: { Self → Option (List ℕ) } = { λ _. None };
 
-    /// The bytes that were written, where they are known.
+    /// The bytes that were written, if they are known.
     ghost written: { Self → Option (List ℕ) } = { λ _. None };
 
     /// Reads, as `Read` does.

@@ -14,8 +14,7 @@
 //! match wire.listen(&mut buffer)? { Came::Bytes(n) => .., Came::Silence => .., Came::Closed => .. }
 //! ```
 //!
-//! Files: `wire` (the trait), `script` (a wire in memory), `stream` (a wire over a connection), `duplex` (what that needs
-//! of its connection), `address` and `accept` (the text of an address; who listens there, and takes connections).
+//! Files, in reading order: `wire`, `script`, `stream`, `duplex`, `address`, `accept`.
 #![tactic(auto)]
 
 mod accept;

@@ -1,3 +1,4 @@
+//! The wire in memory, which follows a script of entries.
 ghost use Rattle.std.specs.Prelude.{◌≡◌, false, length, take, OnOk, OnErr, IfOk, Some};
 ghost use Rattle.vdcp_wire.specs.Scripts.{closes};
 ghost use Rattle.vdcp_wire.specs.Wires.{arrival_of, adds_came, brought, has_closed, MayCome, FitsBuffer};
@@ -26,7 +27,7 @@ struct Failure {
     part: usize,
 }
 
-/// A wire in memory, which gives what a script says and tells its bytes. Where memory is refused, the
+/// A wire in memory, which gives what a script says and tells its bytes. If memory is refused, the
 /// wire fails.
 ///
 /// `listen` gives the entries in order, and after the last one that the other end has closed.
@@ -104,7 +105,7 @@ impl<A: Allocator + Copy> ScriptWire<A> {
     }
 
     /// The `call`-th call of the wire, counted from 1, is to fail. A send sends the first `part` of its
-    /// bytes before that, or all where it has fewer; any other call takes nothing.
+    /// bytes before that, or all if it has fewer; any other call takes nothing.
     pub fn fail_at(&mut self, call: u64, part: usize)
         ensures { self.new ≡ self.old }
     {
@@ -164,7 +165,7 @@ impl<A: Allocator + Copy> ScriptWire<A> {
         }
     }
 
-    // Keeps what came, where no close came before.
+    // Keeps what came, if no close came before.
     fn keep(&mut self, came: Came, buffer: &[u8; PIECE]) -> Result<(), AllocError>
         requires fits { FitsBuffer came }
         requires open { has_closed self.old.told.came ≡ false }

@@ -1,3 +1,4 @@
+//! The wire over a connection: how it sends, listens and fails.
 ghost use Rattle.std.specs.Io.KnownBytes.{Appends, Consumes, IsAtEnd, Keeps, WriteAppends};
 ghost use Rattle.std.specs.Io.{WritesAtMost};
 ghost use Rattle.std.specs.Prelude.{◌≡◌, take, IfOk, IsOk, OnErr, OnOk};
@@ -15,7 +16,7 @@ use std::time::Duration;
 /// Read limit of `drop_waiting`, so that a peer that goes on sending can't hold it up.
 const MOST_READS: u32 = 128;
 
-/// For how many seconds a send waits where the other end takes nothing, unless that is said.
+/// For how many seconds a send waits if the other end takes nothing, unless that is said.
 const SENDING: u64 = 10;
 
 /// What a wire knows of its connection.
@@ -32,7 +33,7 @@ enum Connection {
 /// A wire over a connection. `send` and `listen` may wait for the other end: `listen` for the time of a silence, and
 /// `send` for its own, after which the wire has failed, for each part of the bytes that the connection takes at once.
 ///
-/// What it carried from its start it doesn't tell. But where the connection's bytes are known, `send` appends exactly
+/// What it carried from its start it doesn't tell. But if the connection's bytes are known, `send` appends exactly
 /// its bytes, or a beginning of them if it fails; what `listen` gives is exactly what came next; and `drop_waiting`
 /// takes some of that.
 ///
@@ -59,8 +60,8 @@ impl<S: Duplex + Drop> Model for StreamWire<S> {
 
 impl<S: Duplex + Drop> StreamWire<S> {
     /// A wire over this connection, on which nothing comes for `silence` at the end of a burst, 1
-    /// millisecond or more. What is sent goes out at once; where the other end takes nothing, a send waits for ten
-    /// seconds. Err where the connection refuses this.
+    /// millisecond or more. What is sent goes out at once; if the other end takes nothing, a send waits for ten
+    /// seconds. Err if the connection refuses this.
     pub fn new(stream: S, silence: Duration) -> io::Result<Self>
         ensures open { IfOk result (λ wire. wire.connection ≡ Connection.Open) }
         ensures ahead { IfOk result (λ wire. wire.ahead ≡ S.ahead stream) }
@@ -69,7 +70,7 @@ impl<S: Duplex + Drop> StreamWire<S> {
         StreamWire::with_sending(stream, silence, Duration::from_secs(SENDING))
     }
 
-    /// The same; where the other end takes nothing, a send waits for this time, 1 microsecond or more.
+    /// Likewise, but if the other end takes nothing, a send waits for this time, 1 microsecond or more.
     pub fn with_sending(stream: S, silence: Duration, sending: Duration) -> io::Result<Self>
         ensures open { IfOk result (λ wire. wire.connection ≡ Connection.Open) }
         ensures ahead { IfOk result (λ wire. wire.ahead ≡ S.ahead stream) }
@@ -196,7 +197,7 @@ impl<S: Duplex + Drop> Wire for StreamWire<S> {
     ghost tells = { λ _ _ _ _. refl };
 }
 
-// Writes all these bytes, or a beginning of them where it fails.
+// Writes all these bytes, or a beginning of them if it fails.
 fn write_all<S: Duplex>(stream: &mut S, bytes: &[u8]) -> io::Result<()>
     ensures all { OnOk result (Appends (S.written stream.old) (S.written stream.new) bytes.now) }
     ensures front { OnErr result (OfFront bytes.now (Appends (S.written stream.old) (S.written stream.new))) }
@@ -212,7 +213,7 @@ fn write_all<S: Duplex>(stream: &mut S, bytes: &[u8]) -> io::Result<()>
     Err(io::Error::from(ErrorKind::TimedOut))
 }
 
-// Writes some of these bytes: none where that is interrupted.
+// Writes some of these bytes: none if that is interrupted.
 fn write_some<S: Duplex>(stream: &mut S, bytes: &[u8]) -> io::Result<usize>
     ensures bound { WritesAtMost result bytes.now }
     ensures bytes { WriteAppends (S.written stream.old) (S.written stream.new) result bytes.now }

@@ -1,3 +1,4 @@
+//! The wire as a trait, and what a listen brings.
 use thiserror::Error;
 
 /// Most bytes one `listen` returns.
@@ -36,7 +37,7 @@ pub trait Wire {
     /// How often it failed: 0 or 1.
     ghost failures: { Self → ℕ };
 
-    /// Sends the bytes. Where it fails, a beginning of them was sent.
+    /// Sends the bytes. If it fails, a beginning of them was sent.
     fn send(&mut self, bytes: &[u8]) -> Result<(), WireFault>
         requires { failures self.old ≡ 0 }
         ensures sends { OnOk result (does (sends bytes.now) self.old self.new) }
@@ -46,7 +47,7 @@ pub trait Wire {
         ensures works { OnOk result (failures self.new ≡ 0) }
         ensures failed { OnErr result (failures self.new ≡ 1) };
 
-    /// Waits for bytes, a silence or the close. After a close it answers only that. Where it fails,
+    /// Waits for bytes, a silence or the close. After a close it answers only that. If it fails,
     /// nothing is taken.
     fn listen(&mut self, buffer: &mut [u8; PIECE]) -> Result<Came, WireFault>
         requires { failures self.old ≡ 0 }

@@ -49,7 +49,7 @@ IsReply (nak byte) reply = reply ≡ Nak byte
 IsReply (framed kind unit code rest) reply =
     SameCode (framed kind unit code rest) (reply_message 0 reply) × IsReadFrom reply rest
 
--- the reply's numbers are bytes, its time code four of them, and it has a state byte exactly where
+-- the reply's numbers are bytes, its time code four of them, and it has a state byte exactly if
 -- bit 0 of the bitmap is set
 abbrev pub IsWritableReply : Reply → Type 0
 IsWritableReply Ack = Unit {0}

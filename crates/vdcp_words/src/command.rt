@@ -1,3 +1,4 @@
+//! Commands: they are read, written and shown.
 ghost use Rattle.std.specs.Prelude.{◌≡◌, ◌<◌, ◌≤◌, ℕ, All, length};
 ghost use Rattle.vdcp_frame.specs.Message.{content_of, framed, spelling, IsWritable};
 ghost use Rattle.vdcp_words.specs.Commands.{command_message, IsWritableCommand, ReadsCommand};
@@ -48,8 +49,8 @@ impl Command {
     /// The command that the message carries, to whatever unit. It has exactly the data that the
     /// command names (VDCP, and this profile for which commands there are).
     ///
-    /// `NotCommand` for ACK and NAK; `Unknown` where no command has the message's type and code;
-    /// `Length` where one has, but with another number of data bytes.
+    /// `NotCommand` for ACK and NAK; `Unknown` if no command has the message's type and code;
+    /// `Length` if one has, but with another number of data bytes.
     pub fn read(message: &Message) -> Result<Command, WordFault>
         ensures table { ReadsCommand (content_of message.now) result }
         ensures exact { result ≡ command_of (content_of message.now) }

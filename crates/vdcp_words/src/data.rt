@@ -8,7 +8,7 @@ use crate::command::Command;
 use crate::fault::WordFault;
 use vdcp_value::ClipId;
 
-/// The word, where there is no data.
+/// The word, if there is no data.
 pub(crate) fn nothing(rest: &[u8], word: Command) -> Result<Command, WordFault>
     ensures read { IfOk result (λ c. (c ≡ word) × (rest.now ≡ [])) }
     ensures length { IfErr result (λ e. (e ≡ WordFault.Length) × (length rest.now ≢ 0)) }

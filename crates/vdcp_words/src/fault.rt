@@ -1,3 +1,4 @@
+//! The faults of a message that is read as a word.
 use thiserror::Error;
 
 /// Why a message is no word of this profile.

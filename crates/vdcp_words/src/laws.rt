@@ -52,7 +52,7 @@ pub fn written_command_is_read()
     one_command();
 }
 
-/// A reply's message is read as that reply and as no other, if it has a state byte just where bit 0
+/// A reply's message is read as that reply and as no other, if it has a state byte exactly when bit 0
 /// of its bitmap asks for one. If it is framed it names its unit.
 pub fn written_reply_is_read()
     ensures read { (unit : ℕ) (reply : Reply) → IsWritableReply reply →

@@ -11,14 +11,13 @@
 //! }
 //! ```
 //!
-//! Where its message is wanted in place of its bytes, `to_message` makes one, whose data lies in 16
+//! If its message is wanted in place of its bytes, `to_message` makes one, whose data lies in 16
 //! bytes of room that the caller lends.
 //!
-//! Reading doesn't look at the unit that a message names: who reads it compares it. Nothing here
+//! Reading doesn't look at the unit that a message names: the caller compares it. Nothing here
 //! allocates.
 //!
-//! Files: `command` and `reply` (read, written, shown), `data` and `room` (a message's data, read and written),
-//! `encoding` (a word's bytes), `text`, `fault`, `laws`.
+//! Files, in reading order: `command`, `reply`, `data`, `room`, `encoding`, `text`, `fault`, `laws`.
 #![tactic(auto)]
 
 mod command;

@@ -1,3 +1,4 @@
+//! Replies: they are read, written and shown.
 ghost use Rattle.std.specs.Prelude.{◌≡◌, ◌<◌, ◌≤◌, ℕ, All, length};
 ghost use Rattle.vdcp_frame.specs.Message.{content_of, framed, spelling, IsWritable};
 ghost use Rattle.vdcp_words.specs.Computed.{reply_of};
@@ -39,7 +40,7 @@ impl Reply {
     /// byte means). Data after the bytes that a reply names is ignored. Bit 0 of a state's bitmap says
     /// whether a state byte follows.
     ///
-    /// `Unknown` where no reply has the message's type and code; `Length` where one has, but the
+    /// `Unknown` if no reply has the message's type and code; `Length` if one has, but the
     /// data ends too early. `NotCommand` never comes.
     pub fn read(message: &Message) -> Result<Reply, WordFault>
         ensures table { ReadsReply (content_of message.now) result }
@@ -63,7 +64,7 @@ impl Reply {
 
     /// The message that carries the reply from the unit, which is at most 15. The data of the
     /// message lies in `room`. A state is written with its bitmap as it is, and with a state byte
-    /// exactly where it has one.
+    /// exactly if it has one.
     pub fn to_message<'a>(&self, unit: u8, room: &'a mut [u8; 16]) -> Message<'a>
         requires { unit ≤ 15 }
         ensures message { content_of result ≡ reply_message unit self.now }

@@ -1,3 +1,4 @@
+//! Tests of commands and replies: written, read, shown and refused.
 ghost use Rattle.std.specs.Prelude.{◌≡◌, ◌≤◌, Ok};
 ghost use Rattle.vdcp_words.specs.Replies.{MatchesBitmap};
 
@@ -234,7 +235,7 @@ fn expect_refused(rt: &impl Abort, kind: u8, code: u8, rest: &[u8], fault: WordF
     assert_eq!(rt; read_data(kind, code, rest), Err(fault), "{kind} {code}");
 }
 
-// The data of a command is refused with one byte more, and with one less where it has any.
+// The data of a command is refused with one byte more, and with one less if it has any.
 fn check_length(rt: &impl Abort, alloc: Global, command: Command) {
     let mut room = [0; 16];
     let (kind, code, rest) = parts_of(rt, message_for(command, 0, &mut room));
@@ -409,7 +410,7 @@ fn command_read_back(command: Command, unit: u8) -> Result<Command, WordFault>
     Command::read(&command.to_message(unit, &mut room))
 }
 
-/// Each reply is read back that has a state byte just where bit 0 of its bitmap asks for one.
+/// Each reply is read back that has a state byte exactly if bit 0 of its bitmap asks for one.
 fn reply_read_back(reply: Reply, unit: u8) -> Result<Reply, WordFault>
     requires unit { unit ≤ 15 }
     requires state { MatchesBitmap reply }

@@ -1,3 +1,4 @@
+//! Tests of worlds and of their scripts.
 mod bound;
 mod clips;
 mod headline;

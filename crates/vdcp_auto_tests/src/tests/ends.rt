@@ -1,4 +1,4 @@
-//! How a controller ends where it is stopped, and at the smallest limit.
+//! How a controller ends if it is stopped, and at the smallest limit.
 use super::clips::{CUE, Clips, ONE, drive};
 use std::process::Abort;
 use vdcp_auto::{Controller, Exchange, Heard, Outcome};

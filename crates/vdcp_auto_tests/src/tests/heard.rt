@@ -1,3 +1,4 @@
+//! Tests of what is heard of a message.
 use super::course::input_of;
 use vdcp_auto::{Heard, Input};
 use vdcp_frame::Message;

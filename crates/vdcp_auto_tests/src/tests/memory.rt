@@ -1,4 +1,4 @@
-//! Where memory is refused, a rehearsal answers so.
+//! If memory is refused, a rehearsal answers so.
 use super::clips::{Clips, ONE};
 use super::course::inputs_of;
 use linked_list_allocator::LocalHeap;

@@ -1,3 +1,4 @@
+//! Tests of what the operator wishes: to stop, or to take.
 use super::clips::{
     ACK, CUE, CUED_AND_PLAYING, Clips, GRANTED, IDLE, ONE, PRESENT, TWO, drive, plays,
 };
@@ -103,7 +104,7 @@ fn driven(inputs: &[Input]) -> Controller<Clips> {
     controller
 }
 
-/// The phase sends its command, and awaits what comes of it. Where the operator stops in the phase,
+/// The phase sends its command, and awaits what comes of it. If the operator stops in the phase,
 /// it sends what it has to send then.
 fn check_phase(rt: &(impl Abort + AllocGlobal), case: &InPhase) -> Result<(), Fail> {
     let inputs = inputs_of(rt, case.inputs)?;

@@ -5,14 +5,15 @@ use super::messages::GRANTED;
 use super::scripts::SILENCE;
 use std::alloc::Global;
 use std::test::Fail;
-use vdcp_auto::Heard;
-use vdcp_drive::{Keep, KeepFault, Kept, KeptFault, Ran, Unwatched};
+use vdcp_auto::{Controller, Heard, Source};
+use vdcp_drive::{Call, Keep, KeepFault, Kept, KeptFault, Operator, Ran, Unpaced, Unwatched};
 use vdcp_words::{Command, Reply};
 
 /// Keeps as many commands as it has room for.
 #[derive(Drop)]
 struct Diary {
     kept: Vec<Kept>,
+    calls: usize,
     room: usize,
 }
 
@@ -32,6 +33,14 @@ impl Keep for Diary {
             None => Kept::Silence,
         });
     }
+
+    fn keep_call(&mut self, _call: Call) -> Result<(), KeepFault> {
+        if self.room == 0 {
+            return Err(KeepFault);
+        }
+        self.calls = self.calls.saturating_add(1);
+        Ok(())
+    }
 }
 
 /// A run with a diary of this much room, in which the first OPEN gets no answer, and the second one is granted: how it
@@ -40,6 +49,7 @@ fn kept(alloc: Global, room: usize) -> Result<(Result<Ran, KeptFault>, usize, Ve
     let mut auto = automation(alloc, false, &[SILENCE, GRANTED, SILENCE])?;
     let mut diary = Diary {
         kept: Vec::new(alloc),
+        calls: 0,
         room,
     };
     let ran = run_kept(&mut auto, &mut diary);
@@ -48,7 +58,7 @@ fn kept(alloc: Global, room: usize) -> Result<(Result<Ran, KeptFault>, usize, Ve
 
 // It promises nothing, so the proof of a test needn't go through its clauses.
 fn run_kept(auto: &mut Auto, diary: &mut Diary) -> Result<Ran, KeptFault> {
-    auto.run_kept(3, &mut Unwatched, diary)
+    auto.run_with(3, &mut Unwatched, diary, &mut Unpaced)
 }
 
 const OPEN: Kept = Kept::Sent(Command::Open(1, 1));
@@ -75,6 +85,48 @@ fn command_that_is_not_kept_is_not_sent(rt: HostRuntime) -> Result<(), Fail> {
         &rt,
         &(ran, sent, kept.as_slice()),
         &(Err(KeptFault::Unkept), 7, all.as_slice()),
+    );
+    Ok(())
+}
+
+/// Stops whatever is done.
+#[derive(Drop)]
+struct Stops;
+
+impl<S: Source> Operator<S> for Stops {
+    fn call(&mut self, _controller: &Controller<S>) -> Option<Call> {
+        Some(Call::Stop)
+    }
+}
+
+fn run_stopped(auto: &mut Auto, diary: &mut Diary) -> Result<Ran, KeptFault> {
+    auto.run_operated(1, &mut Unwatched, diary, &mut Stops)
+}
+
+/// With a diary of this much room: how a run of one listen ends that is stopped before it, which command is kept first, how
+/// many calls are kept, and whether the controller wished to stop.
+fn stopped(
+    alloc: Global,
+    room: usize,
+) -> Result<(Result<Ran, KeptFault>, Option<Kept>, usize), Fail> {
+    let mut auto = automation(alloc, false, &[SILENCE])?;
+    let mut diary = Diary {
+        kept: Vec::new(alloc),
+        calls: 0,
+        room,
+    };
+    let ran = run_stopped(&mut auto, &mut diary);
+    Ok((ran, diary.kept.first().copied(), diary.calls))
+}
+
+#[test]
+fn a_call_is_kept_and_given(rt: HostRuntime) -> Result<(), Fail> {
+    let first = Some(Kept::Sent(Command::Stop));
+    expect(&rt, &stopped(rt.alloc(), 2)?, &(Ok(Ran::Spent), first, 1));
+    expect(
+        &rt,
+        &stopped(rt.alloc(), 0)?,
+        &(Err(KeptFault::Unkept), None, 0),
     );
     Ok(())
 }

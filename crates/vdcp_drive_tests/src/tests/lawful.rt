@@ -1,11 +1,14 @@
 //! What a caller knows of what a new automation reports once it has run, by the contracts of its calls and
 //! the law of runs.
-ghost use Rattle.std.specs.Prelude.{◌≡◌, ◌≤◌, IfSome};
+ghost use Rattle.std.specs.Prelude.{◌≡◌, ◌≤◌, [], IfSome, Some};
 ghost use Rattle.vdcp_auto.specs.Course.{course};
 ghost use Rattle.vdcp_auto.specs.Plan.{plan_of};
 ghost use Rattle.vdcp_auto.specs.Settled.{settled};
-ghost use Rattle.vdcp_drive.specs.Driven.{IsNew, inputs_of};
-ghost use Rattle.vdcp_wire.specs.Wires.{IfTold};
+ghost use Rattle.vdcp_auto.specs.Turn.{start};
+ghost use Rattle.vdcp_drive.specs.Courses.{inputs_of};
+ghost use Rattle.vdcp_drive.specs.Hearing.{begun};
+ghost use Rattle.vdcp_drive.specs.Reading.{holds};
+ghost use Rattle.vdcp_wire.specs.Wires.{IfTold, nothing_told};
 
 use super::clips::Playlist;
 use super::expecting::expect_row;
@@ -19,7 +22,9 @@ use vdcp_wire::Wire;
 /// How many events a new automation reports as aired once it has run; None where its wire failed. It is
 /// what the exchanges over the wire show to be settled.
 fn reported<S: Source, W: Wire>(auto: &mut AutoDriver<S, W>, listens: u64) -> Option<usize>
-    requires new { IsNew W.told auto.old }
+    requires new { auto.old.controller.state ≡ start }
+    requires silent { auto.old.ear ≡ begun (holds []) }
+    requires fresh { W.told auto.old.wire ≡ Some nothing_told }
     requires some { 1 ≤ auto.old.controller.limit }
     requires few { auto.old.controller.limit ≤ 1000 }
     ensures shown { IfSome result (λ n. IfTold (W.told auto.new.wire) (λ u.

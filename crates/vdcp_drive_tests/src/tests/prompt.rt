@@ -10,7 +10,9 @@ use std::alloc::{AllocError, Global};
 use std::process::Abort;
 use std::test::Fail;
 use vdcp_auto::{Controller, Heard, Outcome};
-use vdcp_drive::{DriveFault, Keep, KeepFault, KeptFault, Line, PromptDriver, Ran, Unwatched};
+use vdcp_drive::{
+    Call, DriveFault, Keep, KeepFault, KeptFault, Line, PromptDriver, Ran, Unpaced, Unwatched,
+};
 use vdcp_wire::{Entry, ScriptWire};
 use vdcp_words::Command;
 
@@ -51,12 +53,11 @@ fn ran(
     (ran, is_sent, driver.controller().outcome())
 }
 
-/// What comes to a new automation in plain mode, in as many listens as there are pieces, what it sends then, and how many
-/// messages it passes over. It drops nothing, and is Done.
+/// What comes to a new automation in plain mode, in as many listens as there are pieces, and what it sends then. It drops
+/// nothing, and is Done.
 struct Row {
     came: &'static [&'static [u8]],
     sent: &'static [&'static [u8]],
-    passed: u64,
 }
 
 /// The answers that an empty list awaits, one after another.
@@ -69,7 +70,6 @@ static ROWS: [Row; 8] = [
     Row {
         came: ANSWERS,
         sent: COMMANDS,
-        passed: 0,
     },
     // A state's second byte is an ACK by itself. Torn before it, the state is read on, and its bytes answer nothing else.
     Row {
@@ -82,13 +82,11 @@ static ROWS: [Row; 8] = [
             ACK,
         ],
         sent: &[OPEN, SELECT, STATUS, STATUS, CLOSE],
-        passed: 0,
     },
     // An answer ahead of its time, in the same piece, is passed over.
     Row {
         came: &[b"\x02\x03\x30\x81\x01\x4E\x04", ACK, IDLE, ACK],
         sent: COMMANDS,
-        passed: 1,
     },
     // So is a copy. One that comes later is heard for the next command, which is sent again.
     Row {
@@ -99,18 +97,15 @@ static ROWS: [Row; 8] = [
             ACK,
         ],
         sent: COMMANDS,
-        passed: 1,
     },
     Row {
         came: &[GRANTED, GRANTED, ACK, IDLE, ACK],
         sent: &[OPEN, SELECT, SELECT, STATUS, CLOSE],
-        passed: 0,
     },
     // Each answer comes when the next command is awaited, and each command goes out twice.
     Row {
         came: &[SILENCE, GRANTED, GRANTED, ACK, ACK, IDLE, IDLE, ACK],
         sent: &[OPEN, OPEN, SELECT, SELECT, STATUS, STATUS, CLOSE, CLOSE],
-        passed: 0,
     },
     // Each comes when the next but one is. Three commands in a row without an answer would be too many.
     Row {
@@ -120,7 +115,6 @@ static ROWS: [Row; 8] = [
         sent: &[
             OPEN, OPEN, OPEN, SELECT, SELECT, SELECT, STATUS, STATUS, STATUS, CLOSE, CLOSE, CLOSE,
         ],
-        passed: 0,
     },
     // After a fault reading begins anew at the silence.
     Row {
@@ -134,7 +128,6 @@ static ROWS: [Row; 8] = [
             ACK,
         ],
         sent: &[OPEN, OPEN, SELECT, STATUS, CLOSE],
-        passed: 0,
     },
 ];
 
@@ -150,20 +143,19 @@ fn expect_done(
     rt: &(impl Abort + AllocGlobal),
     came: &[&[u8]],
     sent: &[&[u8]],
-    passed: u64,
     row: usize,
 ) -> Result<(), Fail> {
     let mut driver = driver(rt.alloc(), false, came)?;
     let ran = ran(&mut driver, came.len() as u64, sent);
-    let seen = (ran, driver.wire().drops().is_empty(), driver.passed());
-    expect_row(rt, row, &seen, &(DONE, true, passed));
+    let seen = (ran, driver.wire().drops().is_empty());
+    expect_row(rt, row, &seen, &(DONE, true));
     Ok(())
 }
 
 #[test]
 fn what_comes_is_answered(rt: HostRuntime) -> Result<(), Fail> {
     for (k, row) in ROWS.iter().enumerate() {
-        expect_done(&rt, row.came, row.sent, row.passed, k)?;
+        expect_done(&rt, row.came, row.sent, k)?;
     }
     Ok(())
 }
@@ -175,9 +167,9 @@ fn answer_split_at_each_place_by_a_silence_is_heard(rt: HostRuntime) -> Result<(
         let front = GRANTED.get(..cut).ok_or("six bytes")?;
         let rest = GRANTED.get(cut..).ok_or("six bytes")?;
         let came: [&[u8]; 6] = [front, SILENCE, rest, ACK, IDLE, ACK];
-        expect_done(&rt, &came, &[OPEN, OPEN, SELECT, STATUS, CLOSE], 0, 2 * cut)?;
+        expect_done(&rt, &came, &[OPEN, OPEN, SELECT, STATUS, CLOSE], 2 * cut)?;
         let came: [&[u8]; 5] = [front, rest, ACK, IDLE, ACK];
-        expect_done(&rt, &came, &[OPEN, SELECT, STATUS, CLOSE], 0, 2 * cut + 1)?;
+        expect_done(&rt, &came, &[OPEN, SELECT, STATUS, CLOSE], 2 * cut + 1)?;
     }
     Ok(())
 }
@@ -218,25 +210,27 @@ fn junk_without_end_answers_nothing(rt: HostRuntime) -> Result<(), Fail> {
     let second = ran(&mut driver, 100, &[OPEN, OPEN, OPEN]);
     let spent = (Ok(Ran::Spent), true, None);
     let ended = (Ok(Ran::Ended), true, Some(Outcome::Lost));
-    expect(&rt, &(first, second, driver.passed()), &(spent, ended, 0));
+    expect(&rt, &(first, second), &(spent, ended));
     Ok(())
 }
 
-/// How many messages are passed over where these bytes come in pieces of this many.
-fn passed(alloc: Global, all: &[u8], step: usize) -> Result<u64, Fail>
+/// Whether a list is played to its end after these bytes, which answer nothing, came in pieces of this many.
+fn is_done_behind(alloc: Global, all: &[u8], step: usize) -> Result<bool, Fail>
     requires { 0 < step }
 {
     let mut entries = Vec::new(alloc);
     for piece in all.chunks(step) {
         entries.push(Entry::Came(Vec::from_slice(alloc, piece)?))?;
     }
-    let mut driver = driver_over(alloc, entries);
-    for _ in 0..20_000 {
-        if let Ok(Line::Closed) = listen(&mut driver) {
-            break;
-        }
+    let pieces = entries.len();
+    for answer in ANSWERS {
+        entries.push(Entry::Came(Vec::from_slice(alloc, answer)?))?;
     }
-    Ok(driver.passed())
+    let mut driver = driver_over(alloc, entries);
+    for _ in 0..pieces {
+        let _ = listen(&mut driver);
+    }
+    Ok(ran(&mut driver, 4, COMMANDS) == DONE)
 }
 
 // Far more than a burst may have, and no silence: each message is read, wherever it is torn.
@@ -247,7 +241,12 @@ fn messages_without_end_are_read(rt: HostRuntime) -> Result<(), Fail> {
         all.extend_from_slice(GRANTED)?;
     }
     for step in [1, 5, 7, 512] {
-        expect_row(&rt, step, &passed(rt.alloc(), all.as_slice(), step)?, &3000);
+        expect_row(
+            &rt,
+            step,
+            &is_done_behind(rt.alloc(), all.as_slice(), step)?,
+            &true,
+        );
     }
     Ok(())
 }
@@ -426,10 +425,14 @@ impl Keep for Tally {
     fn note_end(&mut self, _heard: Option<Heard>) {
         self.ends = self.ends.saturating_add(1);
     }
+
+    fn keep_call(&mut self, _call: Call) -> Result<(), KeepFault> {
+        Ok(())
+    }
 }
 
 fn run_kept(driver: &mut Driver, listens: u64, tally: &mut Tally) -> Result<Ran, KeptFault> {
-    driver.run_kept(listens, &mut Unwatched, tally)
+    driver.run_with(listens, &mut Unwatched, tally, &mut Unpaced)
 }
 
 #[test]

@@ -138,7 +138,7 @@ fn port_is_asked(rt: HostRuntime) -> Result<(), Fail> {
     Ok(())
 }
 
-/// Whether the questions fail where the wire's call of this number does.
+/// Whether the questions fail if the wire's call of this number does.
 fn fails_at(alloc: Global, call: u64) -> Result<bool, Fail> {
     let mut wire = wire_of(alloc, EMPTY)?;
     wire.fail_at(call, 0);

@@ -6,7 +6,8 @@ use super::messages::{ACK, CUE_1, CUE_2, GRANTED, IDLE, OPEN, PLAY, SELECT};
 use super::scripts::SILENCE;
 use std::test::Fail;
 use vdcp_auto::{Controller, Source};
-use vdcp_drive::{Ran, Watch, WatchAir};
+use vdcp_drive::{Ran, Watch, WatchPort};
+use vdcp_port::{Catalogue, Port};
 use vdcp_value::{ClipId, Item};
 use vdcp_words::Command;
 
@@ -16,9 +17,11 @@ struct AsRun {
     items: Vec<Item>,
 }
 
-impl WatchAir for AsRun {
-    fn aired(&mut self, item: &Item) {
-        let _ = self.items.push(*item);
+impl<C: Catalogue> WatchPort<C> for AsRun {
+    fn look(&mut self, _port: &Port<C>, aired: Option<Item>) {
+        if let Some(item) = aired {
+            let _ = self.items.push(item);
+        }
     }
 }
 

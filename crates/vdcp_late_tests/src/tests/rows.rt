@@ -20,6 +20,7 @@ enum Known {
     Opened,
     UnreadOpen,
     DamagedOpen,
+    DeniedOpen,
     /// SELECT, for which the answer to OPEN was heard.
     OpenedLate,
     Selected,
@@ -42,6 +43,7 @@ impl Known {
             Known::Opened => (open, Some(Reply::Opened(true))),
             Known::UnreadOpen => (open, Some(Reply::Nak(0x04))),
             Known::DamagedOpen => (open, Some(Reply::Nak(0x80))),
+            Known::DeniedOpen => (open, Some(Reply::Nak(0x01))),
             Known::OpenedLate => (Command::Select(0x01), Some(Reply::Opened(true))),
             Known::Selected => (Command::Select(0x01), Some(Reply::Ack)),
             Known::UnreadSelect => (Command::Select(0x01), Some(Reply::Nak(0x04))),
@@ -183,8 +185,8 @@ static PLAIN: [Row; 35] = [
         at: &[(1, Known::Opened), (2, Known::UnreadSelect)],
     },
     Row {
-        name: "no refusal comes from nowhere",
-        script: "tick\njunk-up 0501\nup\n",
+        name: "no ACK comes from nowhere",
+        script: "tick\njunk-up 04\nup\n",
         aired: 0,
         reported: 0,
         outcome: None,
@@ -193,12 +195,12 @@ static PLAIN: [Row; 35] = [
     },
     Row {
         name: "a NAK comes from nowhere",
-        script: "tick\njunk-up 0501\nup\njunk-up 0580\nup\n",
+        script: "tick\njunk-up 0580\nup\ntick\njunk-up 0501\nup\n",
         aired: 0,
         reported: 0,
-        outcome: None,
-        exchanges: 1,
-        at: &[(1, Known::DamagedOpen)],
+        outcome: Some(Outcome::Denied),
+        exchanges: 2,
+        at: &[(1, Known::DamagedOpen), (2, Known::DeniedOpen)],
     },
     Row {
         name: "no receipt comes from nowhere",

@@ -34,7 +34,7 @@ impl Write for Unread<'_> {
     }
 }
 
-// What goes out of some lines where the writer takes this many bytes, and then none until this many writes were
+// What goes out of some lines if the writer takes this many bytes, and then none until this many writes were
 // refused.
 fn written_unread(
     alloc: Global,

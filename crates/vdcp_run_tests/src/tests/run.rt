@@ -4,8 +4,9 @@ use std::io::Write;
 use std::net::{Ipv4Addr, SocketAddr, TcpListener};
 use std::test::Fail;
 use vdcp_files::NamedFile;
-use vdcp_log::Hearing;
-use vdcp_run::{RunSettings, Showing, do_run};
+use vdcp_log::{Hearing, Telling};
+use vdcp_operator::Hand;
+use vdcp_run::{RunSettings, Showing, Shown, do_run};
 use vdcp_testing::{FailingWriter, Fails};
 use vdcp_value::Rate;
 
@@ -13,10 +14,30 @@ const TEXT: &[u8] = b"reported 0\noutcome open\n";
 
 const FAULT: &[u8] = b"vdcp: spent\n";
 
-// Plays a list for one listen, with this many milliseconds of silence: the status.
+// Nothing is shown or captured.
+fn nothing() -> Showing<Vec<u8>> {
+    Showing {
+        shown: Shown::Lines(Telling::Nothing),
+        capture: None,
+    }
+}
+
+// Plays a list for one listen, with this many milliseconds of silence, where nobody has a hand in it: the status.
 fn run_with<V: Write + Drop, W: Write, E: Write>(
     rt: &HostRuntime,
     silence: u32,
+    showing: Showing<V>,
+    out: &mut W,
+    err: &mut E,
+) -> Result<u8, Fail> {
+    run_operated(rt, silence, None, showing, out, err)
+}
+
+// The same with an operator that types this.
+fn run_operated<V: Write + Drop, W: Write, E: Write>(
+    rt: &HostRuntime,
+    silence: u32,
+    typed: Option<&[u8]>,
     showing: Showing<V>,
     out: &mut W,
     err: &mut E,
@@ -33,8 +54,8 @@ fn run_with<V: Write + Drop, W: Write, E: Write>(
         rate: Rate::F25,
         silence,
         hearing: Hearing::AtSilences,
-        lengths: None,
         listens: 1,
+        operated: typed.is_some(),
         asrun: None,
         journal: None,
         from: None,
@@ -43,7 +64,12 @@ fn run_with<V: Write + Drop, W: Write, E: Write>(
         name: "list.csv",
         reader: b"CLIP0001\n".as_slice(),
     };
-    Ok(do_run(rt, address.as_str(), list, settings, showing, out, err))
+    let told = Vec::new(rt.alloc());
+    let mut hand = Hand::new(rt, typed, told, None, None, settings.hearing);
+    let address = address.as_str();
+    Ok(do_run(
+        rt, address, list, settings, showing, &mut hand, &mut None, out, err,
+    ))
 }
 
 // The writers that a run told its end to, each of which answers this many calls, and the status.
@@ -54,7 +80,7 @@ fn written_to(
 ) -> Result<(FailingWriter, FailingWriter, u8), Fail> {
     let mut out = FailingWriter::new(rt.alloc(), Fails::From(out));
     let mut err = FailingWriter::new(rt.alloc(), Fails::From(err));
-    let showing: Showing<Vec<u8>> = Showing::Nothing;
+    let showing = nothing();
     let status = run_with(rt, 1, showing, &mut out, &mut err)?;
     Ok((out, err, status))
 }
@@ -98,20 +124,25 @@ fn told<V: Write + Drop>(
     Ok((status, out, err))
 }
 
-// A terminal or a log that fails is written to no more, and the run goes on.
+// What is shown and captured by this one writer, in one of three ways.
+fn shown_in<V>(way: usize, writer: V) -> Showing<V> {
+    let (shown, capture) = match way {
+        0 => (Shown::Progress(writer), None),
+        1 => (Shown::Lines(Telling::All(writer)), None),
+        _ => (Shown::Lines(Telling::Nothing), Some(writer)),
+    };
+    Showing { shown, capture }
+}
+
+// A terminal, a log or a capture that fails is written to no more, and the run goes on.
 #[test]
 fn failing_showing_is_left_alone(rt: HostRuntime) -> Result<(), Fail> {
     for left in 0..2 {
-        for is_log in [false, true] {
+        for way in 0..3 {
             let mut shown = FailingWriter::new(rt.alloc(), Fails::From(left));
-            let showing = if is_log {
-                Showing::Messages(&mut shown)
-            } else {
-                Showing::Progress(&mut shown)
-            };
-            let (status, out, err) = told(&rt, 1, showing)?;
-            let seen = (is_log, status, out.as_slice(), err.as_slice(), shown.calls);
-            expect_row(&rt, left, &seen, &(is_log, 3, TEXT, FAULT, left + 1));
+            let (status, out, err) = told(&rt, 1, shown_in(way, &mut shown))?;
+            let seen = (way, status, out.as_slice(), err.as_slice(), shown.calls);
+            expect_row(&rt, left, &seen, &(way, 3, TEXT, FAULT, left + 1));
         }
     }
     Ok(())
@@ -120,9 +151,23 @@ fn failing_showing_is_left_alone(rt: HostRuntime) -> Result<(), Fail> {
 // A connection that can't have this silence is a line that failed.
 #[test]
 fn refused_silence_is_a_failed_line(rt: HostRuntime) -> Result<(), Fail> {
-    let showing: Showing<Vec<u8>> = Showing::Nothing;
+    let showing = nothing();
     let (status, out, err) = told(&rt, 0, showing)?;
     let expected = (3, TEXT, b"vdcp: line failed\n".as_slice());
     expect(&rt, &(status, out.as_slice(), err.as_slice()), &expected);
+    Ok(())
+}
+
+#[test]
+fn operated_run_is_told_as_any(rt: HostRuntime) -> Result<(), Fail> {
+    let (mut out, mut err) = (Vec::new(rt.alloc()), Vec::new(rt.alloc()));
+    let showing = nothing();
+    let typed = b"bring\ntake".as_slice();
+    let status = run_operated(&rt, 1, Some(typed), showing, &mut out, &mut err)?;
+    expect(
+        &rt,
+        &(status, out.as_slice(), err.as_slice()),
+        &(3, TEXT, FAULT),
+    );
     Ok(())
 }

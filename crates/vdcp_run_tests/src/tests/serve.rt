@@ -6,7 +6,8 @@ use std::rt::Clock;
 use std::test::Fail;
 use std::time::Duration;
 use vdcp_files::NamedFile;
-use vdcp_serve::{Pace, ServeSettings, Telling, do_serve};
+use vdcp_log::Telling;
+use vdcp_serve::{Pace, ServeSettings, do_serve};
 use vdcp_testing::{FailingWriter, Fails};
 use vdcp_value::Rate;
 
@@ -91,7 +92,17 @@ fn serve_to<W: Write, L: Write + Drop>(
     };
     let mut err = Vec::new(rt.alloc());
     let net = (ready, rt.alloc());
-    let status = do_serve(&net, "127.0.0.1:0", clips, settings, telling, out, &mut err);
+    let status = do_serve(
+        &net,
+        "127.0.0.1:0",
+        clips,
+        settings,
+        telling,
+        None,
+        None,
+        out,
+        &mut err,
+    );
     (status, err)
 }
 

@@ -1,3 +1,4 @@
+//! Tests of texts that are addresses, and of others.
 use super::{AddressFault, address_of};
 use std::net::{Ipv4Addr, SocketAddrV4};
 

@@ -1,3 +1,4 @@
+//! Tests of a wire over TCP, and over connections that fail.
 use super::{Connection, StreamWire};
 use crate::duplex::Duplex;
 use crate::wire::{Came, PIECE, Wire, WireFault};
@@ -244,7 +245,7 @@ fn what_waits_is_dropped(rt: HostRuntime) -> Result<(), Fail> {
     Ok(())
 }
 
-// The drop doesn't wait where nothing waits, and the next listen does.
+// The drop doesn't wait if nothing waits, and the next listen does.
 #[test]
 fn listen_behind_a_drop_waits(rt: HostRuntime) -> Result<(), Fail> {
     let (mut peer, mut wire) = wire(&rt, 40)?;

@@ -66,7 +66,7 @@ fn run_where_there_is_room<'a>(
     Ok(refused)
 }
 
-/// What comes of a script for one clip, where each event that is refused memory happens once there is room,
+/// What comes of a script for one clip, if each event that is refused memory happens once there is room,
 /// and how many were refused.
 fn refusals(
     rt: &impl Abort,

@@ -1,4 +1,4 @@
-//! Events where they can't happen: the world goes on as if nothing had been.
+//! Events that can't happen: the world goes on as if nothing had been.
 use super::clips::{Clips, ONE, Shelf, TWO};
 use super::seen::{Counts, aired, counts_of, expect_seen, log, new_world, plain, run, run_script};
 use std::alloc::Global;

@@ -1,5 +1,0 @@
-use vdcp_files::NamedFile;
-
-pub fn file<R>(name: &str, reader: R) -> NamedFile<'_, R> {
-    NamedFile { name, reader }
-}
