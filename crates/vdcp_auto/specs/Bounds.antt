@@ -42,7 +42,7 @@ abbrev pub KeepsCommand : List Item → ℕ → Position → Type 0
 KeepsCommand list port (position.Awaiting p c) = (command_in list port p ≡ Some c) × IsWritableCommand c
 KeepsCommand list port _ = Unit {0}
 
--- the same for a controller as callers see it, where items gives a source's list
+-- the same for a controller as callers see it, if items gives a source's list
 
 abbrev pub IsPhaseIn : {S : Type 0} → (S → List Item) → View S → Phase → Type 0
 IsPhaseIn items view p = IsPhaseOf (length (items view.source)) p

@@ -10,7 +10,7 @@ use Rattle.vdcp_auto.specs.Plan.{Plan}
 use Rattle.vdcp_auto.specs.Turn.{start, ticked, awaited, ended_by, came_to, taken, stopped, forgotten}
 
 -- the exchanges that these inputs end. Before something comes, or silence, the controller is
--- ticked; where it has ended the course is over
+-- ticked; if it has ended the course is over
 abbrev pub course_from : Plan → State → List Input → List Exchange
 course_from plan state [] = []
 course_from plan state (input.Take ∷ inputs) = course_from plan (taken state) inputs

@@ -22,15 +22,15 @@ pub record IsLawful (plan : Plan) (state : State) (log : List Exchange) : Type 0
   pub may_await : IfSome (awaited plan state) (λ c. May plan.mode plan.list log c)
   -- and the one that the next tick gives
   pub may_give : IfSome (given plan state) (λ c. May plan.mode plan.list log c)
-  -- a tick gives a command exactly where nothing is awaited and the controller hasn't ended
+  -- a tick gives a command exactly if nothing is awaited and the controller hasn't ended
   pub gives : is_some (given plan state) ≡ is_ready state.stage
-  -- a command is awaited exactly where the controller awaits its answer
+  -- a command is awaited exactly if the controller awaits its answer
   pub awaits : is_some (awaited plan state) ≡ is_awaiting state.stage
   -- in Halt and HaltClose a STOP was sent before the next command is
   pub is_stopped : (p : Phase) → state.stage ≡ Ready p → is_halting p ≡ true → IsTrue (list_any is_stop log)
   -- the controller's count is what the log shows to be settled
   pub is_settled : state.settled ≡ settled plan.mode log
-  -- it has ended Lost exactly where the log shows it lost, and no sooner
+  -- it has ended Lost exactly if the log shows it lost, and no sooner
   pub is_lost : (outcome_of state.stage ≡ Some Lost) ↔ IsLost plan.mode plan.limit log
   -- in confirm mode Refused(k) means that item k was cued, and limit empty statuses came since
   pub is_refused : plan.mode ≡ Confirming → (k : ℕ) → outcome_of state.stage ≡ Some (Refused k)

@@ -12,3 +12,4 @@ pub mod Table
 pub mod Turn
 pub mod Course
 pub mod Law
+pub mod Snapshots

@@ -19,7 +19,7 @@ pub record View (S : Type 0) : Type 0 where
   pub limit : ℕ
   pub state : State
 
--- what it was made with, where items gives a source's list
+-- what it was made with, if items gives a source's list
 abbrev pub plan_of : {S : Type 0} → (S → List Item) → View S → Plan
 plan_of items view =
     record { mode = view.mode; list = items view.source; port = view.port; limit = view.limit }

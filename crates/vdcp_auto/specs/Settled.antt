@@ -17,7 +17,7 @@ has_open_play log =
     option_map_or (λ e. is_play e && not (is_answered e)) (last_or None (filter tells_of_play log)) false
 
 -- the exchange, with these before it, shows one more event to be aired. An ACK to PLAY shows it in plain
--- mode only; an empty status shows it in both, where a PLAY is open
+-- mode only; an empty status shows it in both, if a PLAY is open
 abbrev pub settles : Mode → List Exchange → Exchange → Bool
 settles Plain before e = is_play e && is_acked e || is_empty_status e && has_open_play before
 settles Confirming before e = is_empty_status e && has_open_play before

@@ -6,7 +6,7 @@ use Rattle.vdcp_auto.specs.declared.phase.Position.{Position}
 use Rattle.vdcp_auto.specs.declared.phase.Position.TheVariants as position
 
 pub data Stage : Type 0 where
-  -- the next tick gives this phase's command, or STOP where the operator wants to stop
+  -- the next tick gives this phase's command, or STOP if the operator wants to stop
   Ready : Phase → Stage
   -- this phase's command was given, and its exchange hasn't ended
   Awaiting : Phase → Stage

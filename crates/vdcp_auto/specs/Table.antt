@@ -34,7 +34,7 @@ command_in list port phase.Close = Some (command.Close port)
 command_in list port phase.Halt = Some command.Stop
 command_in list port phase.HaltClose = Some (command.Close port)
 
--- the phase for event k, or Drain where there is none
+-- the phase for event k, or Drain if there is none
 abbrev pub next : List Item → ℕ → Phase
 next list k = if nat_lt k (length list) then phase.Exists k else phase.Drain
 

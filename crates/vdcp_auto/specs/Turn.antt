@@ -86,7 +86,7 @@ tick_in (Ready p) state = sent (phase_to_send state.stop p) state
 tick_in (Awaiting p) state = state
 tick_in (Ended outcome) state = state
 
--- the controller after a tick, which changes it only where it is ready
+-- the controller after a tick, which changes it only if it is ready
 abbrev pub ticked : State → State
 ticked state = tick_in state.stage state
 
@@ -204,7 +204,7 @@ stop_in (Ready p) stop = if can_stop p then true else stop
 stop_in (Awaiting p) stop = if can_stop p then true else stop
 stop_in (Ended outcome) stop = stop
 
--- the controller after the operator's stop, which counts only where can_stop says so
+-- the controller after the operator's stop, which counts only if can_stop says so
 abbrev pub stopped : State → State
 stopped state = record state { stop = stop_in state.stage state.stop }
 

@@ -1,3 +1,4 @@
+//! The controller, and what each of its calls does.
 ghost use Rattle.std.specs.Prelude.{◌≡◌, ◌↔◌, ◌<◌, ◌≤◌, ◌^◌, Some, None, IsTrue, is_some, IfSome, length};
 ghost use Rattle.vdcp_auto.specs.Plan.{plan_of};
 ghost use Rattle.vdcp_auto.specs.Turn as turns;
@@ -7,6 +8,7 @@ use crate::exchange::{Exchange, Heard};
 use crate::meaning;
 use crate::outcome::Outcome;
 use crate::phase::{Mode, Phase, Position};
+use crate::snapshot::{Snapshot, Standing};
 use crate::source::Source;
 use std::marker::Model;
 use vdcp_words::Command;
@@ -114,6 +116,49 @@ impl<S: Source> Controller<S> {
         }
     }
 
+    ghost use Rattle.vdcp_auto.specs.Snapshots.{CanStand, view_of};
+
+    /// All that the controller knows, but for its list. `of_snapshot` makes it again.
+    pub fn snapshot(&self) -> Snapshot
+        ensures seen { self.now ≡ view_of self.now.source result }
+        ensures again { CanStand (length (S.items self.now.source)) result }
+    {
+        Snapshot {
+            mode: self.mode,
+            port: self.port,
+            limit: self.limit,
+            standing: match self.position {
+                Position::Ready(phase) => Standing::Ready(phase),
+                Position::Awaiting(phase, _) => Standing::Awaiting(phase),
+                Position::Ended(outcome) => Standing::Ended(outcome),
+            },
+            take: self.take,
+            stop: self.stop,
+            unanswered: self.unanswered,
+            settled: self.settled,
+            tries: self.tries,
+        }
+    }
+
+    /// The controller of this source that stands so.
+    pub fn of_snapshot(source: S, snapshot: &Snapshot) -> Controller<S>
+        requires { CanStand (length (S.items source)) snapshot.now }
+        ensures { result ≡ view_of source snapshot.now }
+    {
+        let mut controller = Self::begun(source, snapshot.mode, snapshot.port, snapshot.limit);
+        controller.position = match snapshot.standing {
+            Standing::Ready(phase) => Position::Ready(phase),
+            Standing::Awaiting(phase) => Position::Awaiting(phase, controller.command_in(phase)),
+            Standing::Ended(outcome) => Position::Ended(outcome),
+        };
+        controller.take = snapshot.take;
+        controller.stop = snapshot.stop;
+        controller.unanswered = snapshot.unanswered;
+        controller.settled = snapshot.settled;
+        controller.tries = snapshot.tries;
+        controller
+    }
+
     /// The controller is in confirm mode.
     pub fn is_confirming(&self) -> bool
         ensures { IsTrue result ↔ (self.now.mode ≡ Mode.Confirming) }
@@ -174,7 +219,8 @@ impl<S: Source> Controller<S> {
         ensures count { result ≡ self.now.state.settled }
         ensures within { result ≤ length (S.items self.now.source) }
     {
-        self.settled
+        let Self { settled, .. } = self;
+        *settled
     }
 
     /// How the controller ended; None while it goes on.

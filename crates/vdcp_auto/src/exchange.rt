@@ -1,3 +1,4 @@
+//! Commands with what came for them, and the inputs of a rehearsal.
 ghost use Rattle.std.specs.Prelude.{◌≡◌};
 ghost use Rattle.vdcp_frame.specs.Message.{content_of};
 ghost use Rattle.vdcp_auto.specs.Heard.{heard_as};
@@ -15,7 +16,7 @@ pub enum Heard {
 }
 
 impl Heard {
-    /// Interprets a message as an answer from `unit`: the reply that it carries, or Other where it
+    /// Interprets a message as an answer from `unit`: the reply that it carries, or Other if it
     /// carries none or is framed by another unit. ACK and NAK name no unit, and count as from any.
     pub fn of_message(message: &Message, unit: u8) -> Heard
         ensures { result ≡ heard_as unit (content_of message.now) }

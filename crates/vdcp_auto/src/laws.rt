@@ -22,12 +22,12 @@ ghost use Rattle.vdcp_auto.specs.Settled.{tells_of_play, has_open_play, settles,
 /// the log of the exchanges that these calls ended holds:
 ///
 /// - the rule book allows each command of the log where it stands, and the one that is awaited now;
-/// - the next tick gives a command exactly where nothing is awaited and the controller hasn't ended,
-///   and a command is awaited exactly where the controller awaits its answer;
-/// - where the controller is ready in Halt or HaltClose, a STOP was sent before;
+/// - the next tick gives a command exactly if nothing is awaited and the controller hasn't ended,
+///   and a command is awaited exactly if the controller awaits its answer;
+/// - if the controller is ready in Halt or HaltClose, a STOP was sent before;
 /// - the controller's count of settled events is what the log shows to be settled;
-/// - the controller has ended Lost exactly where the log's last `limit` exchanges (in confirm mode,
-///   requests) have no answer, and where that was true at no earlier point of the log;
+/// - the controller has ended Lost exactly if the log's last `limit` exchanges (in confirm mode,
+///   requests) have no answer, and if that was true at no earlier point of the log;
 /// - in confirm mode, Refused(k) means that event k was cued, and since then, with nothing settled,
 ///   at least `limit` statuses had nothing cued;
 /// - Done means that every event is settled, and Missing(k) that the events before k are.
@@ -35,7 +35,7 @@ pub fn reached_is_lawful()
     ensures { (plan : Plan) (state : State) (log : List Exchange) → Reached plan state log → IsLawful plan state log }
 {}
 
-/// Where the list's items are of bytes and the port's number a byte, the command that is awaited and
+/// If the list's items are of bytes and the port's number a byte, the command that is awaited and
 /// the one that the next tick gives can be written.
 pub fn commands_can_be_written()
     ensures awaited { (plan : Plan) (state : State) → All IsItem plan.list → plan.port < 256 →
@@ -44,7 +44,7 @@ pub fn commands_can_be_written()
         IfSome (given plan state) IsWritableCommand }
 {}
 
-/// From any state, and so from a new controller's: where more inputs follow, their course is that of the
+/// From any state, and so from a new controller's: if more inputs follow, their course is that of the
 /// controller which the first ones leave; and one more input adds the exchange that it ends, if it ends
 /// one, at the end.
 pub fn courses_follow_one_another()

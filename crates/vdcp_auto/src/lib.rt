@@ -15,10 +15,13 @@ mod meaning;
 mod outcome;
 mod phase;
 mod rehearsal;
+mod snapshot;
 mod source;
 
 pub use controller::Controller;
 pub use exchange::{Exchange, Heard, Input};
 pub use outcome::Outcome;
+pub use phase::{Mode, Phase};
 pub use rehearsal::{rehearse, rehearse_confirming};
+pub use snapshot::{Snapshot, Standing};
 pub use source::Source;

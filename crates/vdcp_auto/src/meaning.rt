@@ -145,7 +145,7 @@ fn fits(command: &Command, reply: &Reply) -> bool
     }
 }
 
-/// The reply that answers the exchange, where it is answered.
+/// The reply that answers the exchange, if it is answered.
 pub fn answer_in(exchange: &Exchange) -> Option<Reply>
     ensures { result ≡ log.answer_in exchange.now }
 {

@@ -1,3 +1,4 @@
+//! The modes and the phases of a controller, and where an exchange leads.
 ghost use Rattle.std.specs.Prelude.{◌≡◌};
 
 use crate::outcome::Outcome;
@@ -92,7 +93,7 @@ impl Phase {
 /// Where a controller stands: ready to send in a phase, awaiting the answer to what it sent there, or ended.
 #[derive(Clone, Copy)]
 pub enum Position {
-    /// The next tick gives this phase's command, or STOP where the operator wants to stop.
+    /// The next tick gives this phase's command, or STOP if the operator wants to stop.
     Ready(Phase),
     /// This command of the phase was given, and its exchange hasn't ended.
     Awaiting(Phase, Command),

@@ -1,3 +1,4 @@
+//! Runs of a new controller over a list of inputs, with no line.
 ghost use Rattle.std.specs.Prelude.{◌≡◌, ◌≤◌, IfOk};
 ghost use Rattle.vdcp_auto.specs.Plan.{plan_of};
 ghost use Rattle.vdcp_auto.specs.RuleBook.{KeepsRules};
@@ -11,7 +12,7 @@ use std::alloc::{AllocError, Allocator};
 
 /// The exchanges of a new controller in plain mode to which these inputs happen, in order.
 ///
-/// The controller is ticked before each `Heard` or `Silence` where nothing is awaited; once it has
+/// The controller is ticked before each `Heard` or `Silence` if nothing is awaited; once it has
 /// ended, the rest of the inputs is left. The limit is 1 to 1,000. It fails only for want of memory.
 pub fn rehearse<S: Source + Drop, A: Allocator>(
     alloc: A,
@@ -29,7 +30,7 @@ pub fn rehearse<S: Source + Drop, A: Allocator>(
     run(alloc, Controller::new(source, port, limit), inputs)
 }
 
-/// The same in confirm mode.
+/// As `rehearse`, in confirm mode.
 pub fn rehearse_confirming<S: Source + Drop, A: Allocator>(
     alloc: A,
     source: S,

@@ -1,3 +1,4 @@
+//! The list that a controller plays, as a trait.
 ghost use Rattle.std.specs.Prelude.{◌≡◌, ◌<◌, ◌^◌, List, Some, All, length, slice_get};
 ghost use Rattle.vdcp_value.specs.Parts.{IsItem};
 ghost use Rattle.vdcp_value.specs.declared.part.Item.{Item};

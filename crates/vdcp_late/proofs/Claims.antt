@@ -1,24 +1,31 @@
 -- What may be claimed of a late channel in one mode, and how a claim has to be closed so that every event keeps it.
-use Rattle.std.proofs.Common.{◌≡◌, ℕ, ◌⊎◌, Bool, true, false, List, [], ◌∷◌, ◌++◌, Option, Some}
+use Rattle.std.proofs.Common.{◌≡◌, ℕ, ◌⊎◌, Bool, true, false, List, [], ◌∷◌, ◌++◌, length, Option, Some}
+use Rattle.std.specs.List.{list_any}
+use Rattle.std.specs.Prelude.{IfSome}
 use Rattle.vdcp_value.specs.declared.clip_id.ClipId.{ClipId}
 use Rattle.vdcp_value.specs.declared.part.Item.{Item}
 use Rattle.vdcp_value.specs.declared.timecode.Timecode.{Timecode}
 use Rattle.vdcp_words.specs.declared.reply.Reply.{Reply}
-use Rattle.vdcp_port.specs.Port.{Cued}
+use Rattle.vdcp_port.specs.Port.{Cued, empty}
 use Rattle.vdcp_auto.specs.Plan.{Plan}
 use Rattle.vdcp_auto.specs.Turn.{came_to, phase_to_send}
 use Rattle.vdcp_auto.specs.declared.exchange.Heard.{Heard}
 use Rattle.vdcp_auto.specs.declared.exchange.Heard.TheVariants as heard
+use Rattle.vdcp_auto.specs.declared.outcome.Outcome.{Outcome}
 use Rattle.vdcp_auto.specs.declared.phase.Mode.{Mode}
+use Rattle.vdcp_auto.specs.declared.phase.Mode.TheVariants.{Confirming}
 use Rattle.vdcp_auto.specs.declared.phase.Phase.{Phase}
+use Rattle.vdcp_auto.specs.declared.phase.Phase.TheVariants as phase
 use Rattle.vdcp_auto.specs.State.{Stage}
-use Rattle.vdcp_auto.specs.State.{Ready, Awaiting}
+use Rattle.vdcp_auto.specs.State.{Ready, Awaiting, Ended}
 use Rattle.vdcp_auto.specs.State.{State}
 use Rattle.vdcp_late.specs.Damage.{is_no_answer}
+use Rattle.vdcp_late.specs.Pipe.{IsPipe}
 use Rattle.vdcp_late.proofs.Closing.{Ages}
+use Rattle.vdcp_late.proofs.Endings.{Misses, settled_at}
 use Rattle.vdcp_late.proofs.Exactness.{exact_ages, exact_copied, exact_reads, exact_thins, is_exact_at}
-use Rattle.vdcp_late.proofs.Places.{Answer, Exact}
-use Rattle.vdcp_late.proofs.Standing.{Reads}
+use Rattle.vdcp_late.proofs.Places.{Answer, At, Exact, Near, misfits, pipe_of}
+use Rattle.vdcp_late.proofs.Standing.{Reads, misleads}
 use Rattle.vdcp_late.proofs.Thinning.{Thins}
 
 -- of the playlist, the catalogue, how many events are settled, whether the port is selected, its cued slot, what was
@@ -77,6 +84,21 @@ pub record Closed (mode : Mode) (S : Claim) : Type 0 where
       (aired : List Item) (ups : List Answer)
       (downs : List Phase) (stage : Stage) → is_exact_at stage ≡ true
       → S list clips settled s a aired ups downs stage → Exact list settled s a aired downs
+
+-- and it holds of what a run may begin with, and says what went to air
+pub record Covers (mode : Mode) (S : Claim) : Type 0 where
+  pub closed : Closed mode S
+  pub begins : (list : List Item) (clips : List (ClipId × Timecode)) (s : Bool) (a : Cued) (ups : List Answer)
+      (downs : List Phase) → (mode ≡ Confirming → a ≡ empty) → list_any misfits ups ≡ false
+      → list_any (misleads list clips) ups ≡ false → IsPipe mode (length list) phase.Open (pipe_of ups downs)
+      → S list clips 0 s a [] ups downs (Ready phase.Open)
+  pub near : (list : List Item) (clips : List (ClipId × Timecode)) (settled : ℕ) (s : Bool) (a : Cued)
+      (aired : List Item) (ups : List Answer) (downs : List Phase) (stage : Stage)
+      → S list clips settled s a aired ups downs stage → Near list aired settled
+  pub ends : (list : List Item) (clips : List (ClipId × Timecode)) (settled : ℕ) (s : Bool) (a : Cued)
+      (aired : List Item) (ups : List Answer) (downs : List Phase) (o : Outcome)
+      → S list clips settled s a aired ups downs (Ended o)
+      → IfSome (settled_at mode (length list) o) (At list aired settled) × Misses list clips o
 
 -- the claim, and where no event more than are settled may have aired, that none has
 pub record Exactly (S : Claim) (may : Bool) (list : List Item) (clips : List (ClipId × Timecode)) (settled : ℕ) (s : Bool)

@@ -1,5 +1,5 @@
 -- What comes to the controller, or silence, in plain mode.
-use Rattle.std.proofs.Common.{◌≡◌, ℕ, inl, inr, Bool, true, false, not, ◌||◌, List, ◌∷◌, length, Option, Some, None, refl, arith, sym, ap, subst, ◌∙◌, if◌then◌else◌}
+use Rattle.std.proofs.Common.{◌≡◌, ℕ, inl, inr, Bool, true, false, ◌||◌, List, ◌∷◌, length, Option, Some, None, refl, arith, sym, subst, if◌then◌else◌}
 use Rattle.std.specs.Option.{option_map, option_map_or}
 use Rattle.std.specs.Prelude.{slice_get}
 use Rattle.vdcp_value.specs.declared.clip_id.ClipId.{ClipId}
@@ -83,28 +83,6 @@ nak_fits command.ActiveId byte = refl
 nak_fits (command.IdRequest id) byte = refl
 nak_fits (command.IdSize id) byte = refl
 
--- what is no answer answers no command
-no_answer : (c : Command) (came : Option Heard) → is_no_answer Plain came ≡ true → answer_to c came ≡ None
-no_answer c None e = refl
-no_answer c (Some heard.Other) e = refl
-no_answer c (Some (heard.Reply (reply.Nak byte))) e =
-    by (is_refusal (reply.Nak byte)) (fits c (reply.Nak byte)) refl (nak_fits c byte)
-  where
-    by : (refuses fit : Bool) → is_refusal (reply.Nak byte) ≡ refuses → fit ≡ false
-        → (if refuses || fit then Some (reply.Nak byte) else None) ≡ None
-    by true fit r f = absurd (impossible (sym e ∙ ap not r))
-      where
-        impossible : true ≡ false → ⊥
-        impossible e = cc
-    by false true r f = cc
-    by false false r f = refl
-no_answer c (Some (heard.Reply reply.Ack)) e = cc
-no_answer c (Some (heard.Reply (reply.Opened granted))) e = cc
-no_answer c (Some (heard.Reply (reply.State groups byte))) e = cc
-no_answer c (Some (heard.Reply (reply.Active id))) e = cc
-no_answer c (Some (heard.Reply (reply.Present there))) e = cc
-no_answer c (Some (heard.Reply (reply.Size length))) e = cc
-
 -- ---- where it leads
 
 abbrev pub LeadsBy : List Item → List (ClipId × Timecode) → ℕ → Bool → Cued → List Item → List Answer → List Phase → ℕ
@@ -123,9 +101,36 @@ came_led : (list : List Item) (clips : List (ClipId × Timecode)) (port limit : 
     → command_in list port q ≡ Some c → Comes Plain ups came
     → Stands list clips state.settled s a aired ups downs (Awaiting q)
     → LeadsBy list clips state.settled s a aired ups downs limit state port counts q (answer_to c came)
-came_led list clips port limit s a aired ups downs state came q c counts is (inl none) h =
-    subst (LeadsBy list clips state.settled s a aired ups downs limit state port counts q) (sym (no_answer c came none))
-    (silent list clips state.settled s a aired ups downs q limit state.unanswered counts h.place)
+came_led list clips port limit s a aired ups downs state came q c counts is (inl none) h = by came none
+  where
+    Led : Option Reply → Type 0
+    Led o = LeadsBy list clips state.settled s a aired ups downs limit state port counts q o
+
+    nothing : Led None
+    nothing = silent list clips state.settled s a aired ups downs q limit state.unanswered counts h.place
+
+    refusal : (byte : ℕ) (b : Bool) → b ≡ true → Leads list clips state.settled s a aired ups downs
+        (if b then on_refusal (length list) q else on_reply Plain list limit state.take state.tries q (reply.Nak byte))
+    refusal byte true e = refused list clips state.settled s a aired ups downs q h.place
+    refusal byte false e = cc
+
+    nak : (byte : ℕ) (refuses fit : Bool) → is_refusal (reply.Nak byte) ≡ refuses → fit ≡ false
+        → Led (if refuses || fit then Some (reply.Nak byte) else None)
+    nak byte true fit r f = refusal byte (is_refusal (reply.Nak byte)) r
+    nak byte false true r f = cc
+    nak byte false false r f = nothing
+
+    by : (came : Option Heard) → is_no_answer Plain came ≡ true → Led (answer_to c came)
+    by None e = nothing
+    by (Some heard.Other) e = nothing
+    by (Some (heard.Reply (reply.Nak byte))) e =
+        nak byte (is_refusal (reply.Nak byte)) (fits c (reply.Nak byte)) refl (nak_fits c byte)
+    by (Some (heard.Reply reply.Ack)) e = cc
+    by (Some (heard.Reply (reply.Opened granted))) e = cc
+    by (Some (heard.Reply (reply.State groups byte))) e = cc
+    by (Some (heard.Reply (reply.Active id))) e = cc
+    by (Some (heard.Reply (reply.Present there))) e = cc
+    by (Some (heard.Reply (reply.Size length))) e = cc
 came_led list clips port limit s a aired ups downs state came q c counts is (inr (x, rest, first, e)) h =
     subst (λ (o : Option Heard). LeadsBy list clips state.settled s a aired ups downs limit state port counts q
     (answer_to c o)) (sym e)

@@ -20,15 +20,16 @@ use Rattle.vdcp_auto.specs.State.{Ready}
 use Rattle.vdcp_auto.specs.declared.phase.Transition.{Transition}
 use Rattle.vdcp_auto.specs.declared.phase.Transition.TheVariants.{Goes, Settles, Retries, Ends}
 use Rattle.vdcp_late.specs.Pipe.{stretch, Climbs, stretches, IsPipe}
-use Rattle.vdcp_late.proofs.ConfirmedPlaces.{ToSound, Sounded, Idle, Spot, full_none}
+use Rattle.vdcp_late.proofs.ConfirmedPlaces.{ToSound, Sounded, Idle, Secure, Spot, full_none}
 use Rattle.vdcp_late.proofs.ConfirmedReads.{presence_no_state}
 use Rattle.vdcp_late.proofs.ConfirmedStanding.{SpotAt, secure_in}
+use Rattle.vdcp_late.proofs.Endings.{EndedAt, knows, settles_at, silent_end}
 use Rattle.vdcp_late.proofs.Delivering.{clash}
 use Rattle.vdcp_late.proofs.Passing.{wanted, same_wanted, all_own, fitting, fits_as}
 use Rattle.vdcp_late.proofs.Pipes.{climbs_within}
-use Rattle.vdcp_late.proofs.Places.{Answer, pipe_of, plays, waits, misfits, fits_phase, is_asked, says_done, says_empty, shows_no_cue, At}
-use Rattle.vdcp_late.proofs.Safety.{no_plays, quiet}
-use Rattle.vdcp_late.proofs.Standing.{knows, differs, misleads, misleads_at}
+use Rattle.vdcp_late.proofs.Places.{Answer, pipe_of, waits, misfits, fits_phase, is_asked, says_done, says_empty, shows_no_cue, At}
+use Rattle.vdcp_late.proofs.Safety.{is_silent, none_arms_in}
+use Rattle.vdcp_late.proofs.Standing.{differs, misleads, misleads_at}
 use Rattle.vdcp_late.proofs.Stretches.{Lies, ups_climb, none_answers}
 
 -- where a turn leads
@@ -44,16 +45,13 @@ Here list settled s a aired ups downs q =
 
 -- ---- silence
 
-closes : (list : List Item) (settled : ℕ) (s : Bool) (a : Cued) (aired : List Item) (ups : List Answer)
-    (downs : List Phase)
-    → Here list settled s a aired ups downs phase.Close
-    → At list aired settled (length list) × (list_any plays downs ≡ false)
-closes list settled s a aired ups downs h = (
-  h.0,
-  no_plays Confirming (length list) (5 * length list + 1) (5 * length list + 3) ups downs
-      (quiet Confirming (length list) (length list) (5 * length list + 1) (5 * length list + 3) (omega arith)
-      (omega arith)) h.1,
-)
+-- all that aired is settled, since no PLAY is on the way
+over : (list : List Item) (settled : ℕ) (s : Bool) (a : Cued) (aired : List Item) (ups : List Answer)
+    (downs : List Phase) (k : ℕ) (q : Phase) → is_silent q ≡ true
+    → IsPipe Confirming (length list) q (pipe_of ups downs) → At list aired settled k
+    → EndedAt (Secure list settled a aired downs) list settled s a aired downs (Some k)
+over list settled s a aired ups downs k q e c h =
+    silent_end (Secure list settled a aired downs) Confirming list settled s a aired ups downs k q e c h
 
 goes_on : (list : List Item) (clips : List (ClipId × Timecode)) (settled : ℕ) (s : Bool) (a : Cued) (aired : List Item)
     (ups : List Answer) (downs : List Phase)
@@ -69,9 +67,10 @@ goes_on list clips settled s a aired ups downs (phase.Play k) h = h
 goes_on list clips settled s a aired ups downs (phase.Probe k) h = h
 goes_on list clips settled s a aired ups downs (phase.Check k) h = h
 goes_on list clips settled s a aired ups downs phase.Drain h = h
-goes_on list clips settled s a aired ups downs phase.Close h = closes list settled s a aired ups downs h
+goes_on list clips settled s a aired ups downs phase.Close h =
+    (over list settled s a aired ups downs (length list) phase.Close refl h.1 h.0, tt)
 goes_on list clips settled s a aired ups downs phase.Halt h = h
-goes_on list clips settled s a aired ups downs phase.HaltClose h = h.0
+goes_on list clips settled s a aired ups downs phase.HaltClose h = (h.0, tt)
 
 pub silent : (list : List Item) (clips : List (ClipId × Timecode)) (settled : ℕ) (s : Bool) (a : Cued)
     (aired : List Item) (ups : List Answer) (downs : List Phase)
@@ -82,14 +81,10 @@ silent list clips settled s a aired ups downs q limit unanswered counts h = by (
   where
     by : (b : Bool) → Leads list clips settled s a aired ups downs
         (if b then Ends outcome.Lost else on_no_answer Confirming q)
-    by true = secure_in list settled s a aired ups downs q h.0 h.1
+    by true = (secure_in list settled s a aired ups downs q h.0 h.1, tt)
     by false = goes_on list clips settled s a aired ups downs q h
 
 -- ---- what a reply was sent for
-
-seen_passed : (n : ℕ) (d : Phase) → Lies Confirming n 0 1 d → wanted d ≡ 2 → stretch Confirming n d ≡ 1
-seen_passed n phase.Seen l w = refl
-seen_passed n d l w = absurd (omega arith)
 
 exists_passed : (n k : ℕ) (d : Phase) → k < n → Lies Confirming n (5 * k + 1) (5 * k + 2) d → wanted d ≡ 3
     → d ≡ phase.Exists k
@@ -176,21 +171,9 @@ from_open : (list : List Item) (clips : List (ClipId × Timecode)) (settled : �
     (aired : List Item) (ups : List Answer) (downs : List Phase)
     (granted : Bool) → Here list settled s a aired ups downs phase.Open
     → Leads list clips settled s a aired ups downs (if granted then Goes phase.Select else Ends outcome.Denied)
-from_open list clips settled s a aired ups downs true h = (
-  h.0,
-  climbs_within 0 0 0 1 (stretches Confirming (length list) (pipe_of ups downs)) (omega arith)
-      (omega arith) h.1,
-)
-from_open list clips settled s a aired ups downs false h = secure_in list settled s a aired ups downs phase.Open h.0 h.1
-
-from_seen : (list : List Item) (clips : List (ClipId × Timecode)) (settled : ℕ) (s : Bool) (a : Cued)
-    (aired : List Item) (x : Answer) (ups : List Answer)
-    (downs : List Phase) → Idle list settled a aired 0 → wanted x.to ≡ 2
-    → Climbs 0 1 (stretches Confirming (length list) (pipe_of (x ∷ ups) downs))
-    → SpotAt list clips settled s a aired (x ∷ ups) downs (Ready (next list 0))
-from_seen list clips settled s a aired x ups downs h w c =
-    next_spot list clips settled s a aired (x ∷ ups) downs 0 h
-    (all_own Confirming (length list) 0 1 x ups downs (seen_passed (length list) x.to (c.0, c.1) w) c)
+from_open list clips settled s a aired ups downs true h = h
+from_open list clips settled s a aired ups downs false h =
+    (over list settled s a aired ups downs 0 phase.Open refl h.1 h.0.0, tt)
 
 from_exists : (list : List Item) (clips : List (ClipId × Timecode)) (settled : ℕ) (s : Bool) (a : Cued)
     (aired : List Item) (x : Answer) (ups : List Answer)
@@ -230,14 +213,14 @@ from_exists list clips settled s a aired x ups downs k g h b e = by b e
           (stretches Confirming (length list) (pipe_of (x ∷ ups) downs)) (omega arith) (omega arith) own,
     )
     by false e = (
-      h.0.0.0,
-      no_plays Confirming (length list) (5 * k + 1) (5 * k + 2) (x ∷ ups) downs
-          (quiet Confirming (length list) k (5 * k + 1) (5 * k + 2) (omega arith) (omega arith)) h.1,
-      h.0.1,
-      unknown (is_present x.reply) (knows clips (slice_get list k))
-          (subst (λ (p : Phase). misleads_at list clips p x.reply ≡ false) is
-          (first_of (misleads list clips x) (list_any (misleads list clips) ups) g.true_told))
-          g.asked e,
+      over list settled s a aired (x ∷ ups) downs k (phase.Exists k) refl h.1 h.0.0.0,
+      (
+        h.0.1,
+        unknown (is_present x.reply) (knows clips (slice_get list k))
+            (subst (λ (p : Phase). misleads_at list clips p x.reply ≡ false) is
+            (first_of (misleads list clips x) (list_any (misleads list clips) ups) g.true_told))
+            g.asked e,
+      ),
     )
 
 or_first : (b c : Bool) → b ≡ true → (b || c) ≡ true
@@ -278,11 +261,8 @@ lost_cue : (list : List Item) (clips : List (ClipId × Timecode)) (settled : ℕ
     (k : ℕ) (again : Bool) → Here list settled s a aired ups downs (phase.Wait k)
     → Leads list clips settled s a aired ups downs (if again then Retries k else Ends (outcome.Refused k))
 lost_cue list clips settled s a aired ups downs k true h = h
-lost_cue list clips settled s a aired ups downs k false h = (
-  h.0.at,
-  no_plays Confirming (length list) (5 * k + 2) (5 * k + 4) ups downs
-      (quiet Confirming (length list) k (5 * k + 2) (5 * k + 4) (omega arith) (omega arith)) h.1,
-)
+lost_cue list clips settled s a aired ups downs k false h =
+    (over list settled s a aired ups downs k (phase.Wait k) refl h.1 h.0.at, tt)
 
 from_wait : (list : List Item) (clips : List (ClipId × Timecode)) (settled : ℕ) (s : Bool) (a : Cued)
     (aired : List Item) (x : Answer) (ups : List Answer)
@@ -368,8 +348,11 @@ from_check : (list : List Item) (clips : List (ClipId × Timecode)) (settled : �
     → Here list settled s a aired (x ∷ ups) downs (phase.Check k)
     → Leads list clips settled s a aired (x ∷ ups) downs (if other then Ends (outcome.Foreign k) else Goes
     (next list (k + 1)))
-from_check list clips settled s a aired x ups downs k true g h =
-    secure_in list settled s a aired (x ∷ ups) downs (phase.Check k) h.0 h.1
+from_check list clips settled s a aired x ups downs k true g h = (
+  settles_at (Secure list settled a aired downs) list settled s a aired downs (k + 1) h.0.0.0
+      (inr (λ _. h.0.0.1, none_arms_in Confirming (length list) k (x ∷ ups) downs h.1)),
+  tt,
+)
 from_check list clips settled s a aired x ups downs k false g h =
     next_spot list clips settled s a aired (x ∷ ups) downs (k + 1) h.0.0
     (climbs_within (5 * k + 6) (5 * k + 6) (5 * (k + 1) + 1) (5 * (k + 1) + 1)
@@ -385,7 +368,7 @@ from_drain : (list : List Item) (clips : List (ClipId × Timecode)) (settled : �
     → Leads list clips settled s a aired ups downs
     (if strange then Ends (outcome.Strange (length list)) else (if playing then Goes phase.Drain else Goes phase.Close))
 from_drain list clips settled s a aired ups downs true playing h =
-    secure_in list settled s a aired ups downs phase.Drain h.0 h.1
+    (over list settled s a aired ups downs (length list) phase.Drain refl h.1 h.0, tt)
 from_drain list clips settled s a aired ups downs false true h = h
 from_drain list clips settled s a aired ups downs false false h = (
   h.0,
@@ -410,7 +393,7 @@ replied list clips settled s a aired x ups downs limit tries wish phase.Open g h
 replied list clips settled s a aired x ups downs limit tries wish phase.Select g h =
     ack_receipt x.reply g.asked g.no_receipt
 replied list clips settled s a aired x ups downs limit tries wish phase.Seen g h =
-    from_seen list clips settled s a aired x ups downs h.0 (wants list clips x ups phase.Seen g) h.1
+    next_spot list clips settled s a aired (x ∷ ups) downs 0 h.0 h.1
 replied list clips settled s a aired x ups downs limit tries wish (phase.Exists k) g h =
     from_exists list clips settled s a aired x ups downs k g h (is_present x.reply) refl
 replied list clips settled s a aired x ups downs limit tries wish (phase.Cue k) g h =

@@ -1,9 +1,8 @@
 -- What holds of a late channel in confirm mode, said of the phases that sent what is on the way; and that it stays so
 -- while the
 -- controller hears nothing.
-use Rattle.std.proofs.Common.{◌≡◌, ℕ, ◌+◌, ◌*◌, ◌<◌, ◌≤◌, ◌⊎◌, inl, inr, Bool, true, false, not, ◌||◌, List, [], ◌∷◌, ◌++◌, length, take, refl, arith, sym, ap, subst, ◌∙◌}
+use Rattle.std.proofs.Common.{◌≡◌, ℕ, ◌+◌, ◌*◌, ◌≤◌, ◌⊎◌, inl, inr, Bool, true, false, not, ◌||◌, List, [], ◌∷◌, ◌++◌, length, take, refl, arith, sym, ap, subst, ◌∙◌}
 use Rattle.std.specs.List.{list_any}
-use Rattle.std.specs.Prelude.{slice_get}
 use Rattle.vdcp_value.specs.declared.clip_id.ClipId.{ClipId}
 use Rattle.vdcp_value.specs.declared.part.Item.{Item}
 use Rattle.vdcp_value.specs.declared.timecode.Timecode.{Timecode}
@@ -11,7 +10,6 @@ use Rattle.vdcp_words.specs.declared.reply.Reply.{Reply}
 use Rattle.vdcp_port.specs.Port.{Cued}
 use Rattle.vdcp_auto.specs.Turn.{phase_to_send}
 use Rattle.vdcp_auto.specs.declared.outcome.Outcome.{Outcome}
-use Rattle.vdcp_auto.specs.declared.outcome.Outcome.TheVariants as outcome
 use Rattle.vdcp_auto.specs.declared.phase.Mode.TheVariants.{Confirming}
 use Rattle.vdcp_auto.specs.declared.phase.Phase.{Phase}
 use Rattle.vdcp_auto.specs.declared.phase.Phase.TheVariants as phase
@@ -20,27 +18,23 @@ use Rattle.vdcp_auto.specs.State.{Ready, Awaiting, Ended}
 use Rattle.vdcp_late.specs.Pipe.{stretch, Climbs, stretches, IsPipe}
 use Rattle.vdcp_late.proofs.Closing.{Ages, pipe_thins}
 use Rattle.vdcp_late.proofs.ConfirmedPlaces.{cues, tries, cues_other, LastOf, Owns, ToSound, Sounded, Sounding, Spent, Last, Secure, Spot}
-use Rattle.vdcp_late.proofs.ConfirmedPlaces.{none_sent, last_sent, none_copied, spot_ages, secure_ages, spot_thins, secure_thins, spot_copied, secure_copied}
+use Rattle.vdcp_late.proofs.ConfirmedPlaces.{none_sent, last_sent, spot_ages, secure_ages, spot_thins, secure_thins, spot_copied, secure_copied}
 use Rattle.vdcp_late.proofs.ConfirmedReads.{cue_free, idle_keeps, trying_keeps, sounding_keeps, secure_keeps}
 use Rattle.vdcp_late.proofs.Delivering.{at_same, airs_none, none_pushed}
+use Rattle.vdcp_late.proofs.Endings.{EndedAt, Misses, ended_ages, ended_copied, ended_reads, ended_thins, settled_at}
 use Rattle.vdcp_late.proofs.Executed.{Executed}
 use Rattle.vdcp_late.proofs.Pipes.{climbs_thins, climbs_pushed, climbs_within}
 use Rattle.vdcp_late.proofs.Places.{Answer, pipe_of, plays, misfits, At}
 use Rattle.vdcp_late.proofs.Safety.{near_at, near_of, none_plays, quiet}
-use Rattle.vdcp_late.proofs.Standing.{knows, misleads, Reads}
+use Rattle.vdcp_late.proofs.Standing.{misleads, Reads}
 use Rattle.vdcp_late.proofs.Stretches.{Lies, lies_at, downs_climb, none_within, pipe_delivered, pipe_pushed, pipe_copied}
 use Rattle.vdcp_late.proofs.Thinning.{Thins, none_thins}
 
 -- after an end
-abbrev pub SpotEnded : List Item → List (ClipId × Timecode) → ℕ → Cued → List Item → List Phase → Outcome → Type 0
-SpotEnded list clips settled a aired downs outcome.Done =
-    At list aired settled (length list) × (list_any plays downs ≡ false)
-SpotEnded list clips settled a aired downs (outcome.Missing k) =
-    At list aired settled k × (list_any plays downs ≡ false) × (k < length list) ×
-    (knows clips (slice_get list k) ≡ false)
-SpotEnded list clips settled a aired downs (outcome.Refused k) =
-    At list aired settled k × (list_any plays downs ≡ false)
-SpotEnded list clips settled a aired downs _ = Secure list settled a aired downs
+abbrev pub SpotEnded : List Item → List (ClipId × Timecode) → ℕ → Bool → Cued → List Item → List Phase → Outcome → Type 0
+SpotEnded list clips settled s a aired downs o =
+    EndedAt (Secure list settled a aired downs) list settled s a aired downs (settled_at Confirming (length list) o)
+    × Misses list clips o
 
 abbrev pub SpotAt : List Item → List (ClipId × Timecode) → ℕ → Bool → Cued → List Item → List Answer → List Phase
     → Stage → Type 0
@@ -48,7 +42,7 @@ SpotAt list clips settled s a aired ups downs (Ready q) =
     Spot list settled s a aired ups downs q × IsPipe Confirming (length list) q (pipe_of ups downs)
 SpotAt list clips settled s a aired ups downs (Awaiting q) =
     Spot list settled s a aired ups downs q × IsPipe Confirming (length list) q (pipe_of ups downs)
-SpotAt list clips settled s a aired ups downs (Ended o) = SpotEnded list clips settled a aired downs o
+SpotAt list clips settled s a aired ups downs (Ended o) = SpotEnded list clips settled s a aired downs o
 
 -- all that holds
 pub record Holds (list : List Item) (clips : List (ClipId × Timecode)) (settled : ℕ) (s : Bool) (a : Cued)
@@ -198,22 +192,6 @@ flow_thins n ups others downs left phase.Close u d c =
 flow_thins n ups others downs left phase.Halt u d c = tt
 flow_thins n ups others downs left phase.HaltClose u d c = tt
 
-ended_thins : (list : List Item) (clips : List (ClipId × Timecode)) (settled : ℕ) (a : Cued) (aired : List Item)
-    (downs left : List Phase)
-    (o : Outcome) → Thins downs left → SpotEnded list clips settled a aired downs o
-    → SpotEnded list clips settled a aired left o
-ended_thins list clips settled a aired downs left outcome.Done d h = (h.0, none_thins plays downs left d h.1)
-ended_thins list clips settled a aired downs left (outcome.Missing k) d h =
-    (h.0, none_thins plays downs left d h.1, h.2, h.3)
-ended_thins list clips settled a aired downs left outcome.Stopped d h = secure_thins list settled a aired downs left d h
-ended_thins list clips settled a aired downs left outcome.Lost d h = secure_thins list settled a aired downs left d h
-ended_thins list clips settled a aired downs left outcome.Denied d h = secure_thins list settled a aired downs left d h
-ended_thins list clips settled a aired downs left (outcome.Refused k) d h = (h.0, none_thins plays downs left d h.1)
-ended_thins list clips settled a aired downs left (outcome.Foreign k) d h =
-    secure_thins list settled a aired downs left d h
-ended_thins list clips settled a aired downs left (outcome.Strange k) d h =
-    secure_thins list settled a aired downs left d h
-
 pub holds_thins : (list : List Item) (clips : List (ClipId × Timecode)) (settled : ℕ) (s : Bool) (a : Cued)
     (aired : List Item) (ups others : List Answer)
     (downs left : List Phase) (stage : Stage) → Thins ups others → Thins downs left
@@ -236,24 +214,13 @@ holds_thins list clips settled s a aired ups others downs left stage u d h = rec
       flow_thins
           (length list) ups others downs left q u d h.1,
     )
-    by (Ended o) h = ended_thins list clips settled a aired downs left o d h
+    by (Ended o) h = (
+      ended_thins (secure_thins list settled a aired downs left d) list settled s a aired downs left
+          (settled_at Confirming (length list) o) d h.0,
+      h.1,
+    )
 
 -- ---- the port changes by itself
-
-ended_ages : (list : List Item) (clips : List (ClipId × Timecode)) (settled : ℕ) (s : Bool) (a : Cued) (t : Bool)
-    (b : Cued) (aired : List Item)
-    (downs : List Phase) (o : Outcome) → Ages s a t b
-    → SpotEnded list clips settled a aired downs o → SpotEnded list clips settled b aired downs o
-ended_ages list clips settled s a t b aired downs outcome.Done g h = h
-ended_ages list clips settled s a t b aired downs (outcome.Missing k) g h = h
-ended_ages list clips settled s a t b aired downs outcome.Stopped g h = secure_ages list settled s a t b aired downs g h
-ended_ages list clips settled s a t b aired downs outcome.Lost g h = secure_ages list settled s a t b aired downs g h
-ended_ages list clips settled s a t b aired downs outcome.Denied g h = secure_ages list settled s a t b aired downs g h
-ended_ages list clips settled s a t b aired downs (outcome.Refused k) g h = h
-ended_ages list clips settled s a t b aired downs (outcome.Foreign k) g h =
-    secure_ages list settled s a t b aired downs g h
-ended_ages list clips settled s a t b aired downs (outcome.Strange k) g h =
-    secure_ages list settled s a t b aired downs g h
 
 pub holds_ages : (list : List Item) (clips : List (ClipId × Timecode)) (settled : ℕ) (s : Bool) (a : Cued) (t : Bool)
     (b : Cued) (aired : List Item)
@@ -266,7 +233,11 @@ holds_ages list clips settled s a t b aired ups downs stage g h =
         → SpotAt list clips settled t b aired ups downs stage
     by (Ready q) h = (spot_ages list settled s a t b aired ups downs q g h.0, h.1)
     by (Awaiting q) h = (spot_ages list settled s a t b aired ups downs q g h.0, h.1)
-    by (Ended o) h = ended_ages list clips settled s a t b aired downs o g h
+    by (Ended o) h = (
+      ended_ages (secure_ages list settled s a t b aired downs g) list settled s a t b aired downs
+          (settled_at Confirming (length list) o) g h.0,
+      h.1,
+    )
 
 -- ---- the controller sends
 
@@ -325,11 +296,11 @@ own_sends : (list : List Item) (settled : ℕ) (s : Bool) (a : Cued) (aired : Li
     → Spot list settled s a aired ups (downs ++ q ∷ []) q × IsPipe Confirming (length list) q
     (pipe_of ups (downs ++ q ∷ []))
 own_sends list settled s a aired ups downs phase.Open h =
-    (h.0, pushed (length list) 0 ups downs phase.Open (omega arith) h.1)
+    (h.0, pushed (length list) 1 ups downs phase.Open (omega arith) h.1)
 own_sends list settled s a aired ups downs phase.Select h =
-    (h.0, pushed (length list) 0 ups downs phase.Select (omega arith) h.1)
+    (h.0, pushed (length list) 1 ups downs phase.Select (omega arith) h.1)
 own_sends list settled s a aired ups downs phase.Seen h =
-    (h.0, pushed (length list) 0 ups downs phase.Seen (omega arith) h.1)
+    (h.0, pushed (length list) 1 ups downs phase.Seen (omega arith) h.1)
 own_sends list settled s a aired ups downs (phase.Exists k) h =
     (h.0, pushed (length list) (5 * k + 1) ups downs (phase.Exists k) (omega arith) h.1)
 own_sends list settled s a aired ups downs (phase.Cue k) h =
@@ -386,14 +357,14 @@ spot_keeps : (list : List Item) (settled : ℕ) (s : Bool) (a : Cued) (aired : L
     → Executed list d s a r t b airs
     → Spot list settled t b (aired ++ airs) (ups ++ record { to = d; reply = r } ∷ []) downs q
 spot_keeps list settled s a aired ups d downs phase.Open r t b airs h c x =
-    let l = lies_at Confirming (length list) 0 0 ups d downs c in
-    idle_keeps list settled s a aired d 0 r t b airs (cue_free (length list) 0 0 0 (omega arith) (omega arith) d l) h x
+    let l = lies_at Confirming (length list) 1 1 ups d downs c in
+    idle_keeps list settled s a aired d 0 r t b airs (cue_free (length list) 0 1 1 (omega arith) (omega arith) d l) h x
 spot_keeps list settled s a aired ups d downs phase.Select r t b airs h c x =
-    let l = lies_at Confirming (length list) 0 1 ups d downs c in
-    idle_keeps list settled s a aired d 0 r t b airs (cue_free (length list) 0 0 1 (omega arith) (omega arith) d l) h x
+    let l = lies_at Confirming (length list) 1 1 ups d downs c in
+    idle_keeps list settled s a aired d 0 r t b airs (cue_free (length list) 0 1 1 (omega arith) (omega arith) d l) h x
 spot_keeps list settled s a aired ups d downs phase.Seen r t b airs h c x =
-    let l = lies_at Confirming (length list) 0 1 ups d downs c in
-    idle_keeps list settled s a aired d 0 r t b airs (cue_free (length list) 0 0 1 (omega arith) (omega arith) d l) h x
+    let l = lies_at Confirming (length list) 1 1 ups d downs c in
+    idle_keeps list settled s a aired d 0 r t b airs (cue_free (length list) 0 1 1 (omega arith) (omega arith) d l) h x
 spot_keeps list settled s a aired ups d downs (phase.Exists k) r t b airs h c x =
     let l = lies_at Confirming (length list) (5 * k + 1) (5 * k + 2) ups d downs c in (
       idle_keeps list settled s a aired d k r t b airs (cue_free (length list) k (5 * k + 1) (5 * k + 2) (omega arith)
@@ -433,42 +404,6 @@ spot_keeps list settled s a aired ups d downs phase.Halt r t b airs h c x =
 spot_keeps list settled s a aired ups d downs phase.HaltClose r t b airs h c x =
     secure_keeps list settled s a aired d downs r t b airs h x
 
-left_of : (x y : Bool) → (x || y) ≡ false → x ≡ false
-left_of x y e = grind arith
-
-right_of : (x y : Bool) → (x || y) ≡ false → y ≡ false
-right_of x y e = grind arith
-
-ended_keeps : (list : List Item) (clips : List (ClipId × Timecode)) (settled : ℕ) (s : Bool) (a : Cued)
-    (aired : List Item) (d : Phase) (downs : List Phase)
-    (o : Outcome) (r : Reply) (t : Bool) (b : Cued) (airs : List Item)
-    → SpotEnded list clips settled a aired (d ∷ downs) o → Executed list d s a r t b airs
-    → SpotEnded list clips settled b (aired ++ airs) downs o
-ended_keeps list clips settled s a aired d downs outcome.Done r t b airs h x = (
-  quiet_keeps list settled s a aired d (length list) r t b airs (left_of (plays d) (list_any plays downs) h.1) h.0 x,
-  right_of (plays d) (list_any plays downs) h.1,
-)
-ended_keeps list clips settled s a aired d downs (outcome.Missing k) r t b airs h x = (
-  quiet_keeps list settled s a aired d k r t b airs (left_of (plays d) (list_any plays downs) h.1) h.0 x,
-  right_of (plays d) (list_any plays downs) h.1,
-  h.2,
-  h.3,
-)
-ended_keeps list clips settled s a aired d downs outcome.Stopped r t b airs h x =
-    secure_keeps list settled s a aired d downs r t b airs h x
-ended_keeps list clips settled s a aired d downs outcome.Lost r t b airs h x =
-    secure_keeps list settled s a aired d downs r t b airs h x
-ended_keeps list clips settled s a aired d downs outcome.Denied r t b airs h x =
-    secure_keeps list settled s a aired d downs r t b airs h x
-ended_keeps list clips settled s a aired d downs (outcome.Refused k) r t b airs h x = (
-  quiet_keeps list settled s a aired d k r t b airs (left_of (plays d) (list_any plays downs) h.1) h.0 x,
-  right_of (plays d) (list_any plays downs) h.1,
-)
-ended_keeps list clips settled s a aired d downs (outcome.Foreign k) r t b airs h x =
-    secure_keeps list settled s a aired d downs r t b airs h x
-ended_keeps list clips settled s a aired d downs (outcome.Strange k) r t b airs h x =
-    secure_keeps list settled s a aired d downs r t b airs h x
-
 pub holds_reads : (list : List Item) (clips : List (ClipId × Timecode)) (settled : ℕ) (s : Bool) (a : Cued)
     (aired : List Item) (ups : List Answer) (d : Phase)
     (downs : List Phase) (stage : Stage) (r : Reply) (t : Bool) (b : Cued) (airs : List Item)
@@ -491,7 +426,11 @@ holds_reads list clips settled s a aired ups d downs stage r t b airs h x = reco
         → SpotAt list clips settled t b (aired ++ airs) (ups ++ new ∷ []) downs stage
     by (Ready q) g = (spot_keeps list settled s a aired ups d downs q r t b airs g.0 g.1 x.executed, pipe q g.1)
     by (Awaiting q) g = (spot_keeps list settled s a aired ups d downs q r t b airs g.0 g.1 x.executed, pipe q g.1)
-    by (Ended o) g = ended_keeps list clips settled s a aired d downs o r t b airs g x.executed
+    by (Ended o) g = (
+      ended_reads (λ k. secure_keeps list settled s a aired d downs r t b airs k x.executed) list settled s a aired d
+          downs (settled_at Confirming (length list) o) r t b airs x.executed g.0,
+      g.1,
+    )
 
 -- ---- the oldest command is copied in its place
 
@@ -511,19 +450,6 @@ flow_copied n ups d downs phase.Close c = pipe_copied Confirming n _ _ ups d dow
 flow_copied n ups d downs phase.Halt c = tt
 flow_copied n ups d downs phase.HaltClose c = tt
 
-ended_copied : (list : List Item) (clips : List (ClipId × Timecode)) (settled : ℕ) (a : Cued) (aired : List Item)
-    (d : Phase) (downs : List Phase)
-    (o : Outcome) → SpotEnded list clips settled a aired (d ∷ downs) o
-    → SpotEnded list clips settled a aired (d ∷ d ∷ downs) o
-ended_copied list clips settled a aired d downs outcome.Done h = (h.0, none_copied plays d downs h.1)
-ended_copied list clips settled a aired d downs (outcome.Missing k) h = (h.0, none_copied plays d downs h.1, h.2, h.3)
-ended_copied list clips settled a aired d downs outcome.Stopped h = secure_copied list settled a aired d downs h
-ended_copied list clips settled a aired d downs outcome.Lost h = secure_copied list settled a aired d downs h
-ended_copied list clips settled a aired d downs outcome.Denied h = secure_copied list settled a aired d downs h
-ended_copied list clips settled a aired d downs (outcome.Refused k) h = (h.0, none_copied plays d downs h.1)
-ended_copied list clips settled a aired d downs (outcome.Foreign k) h = secure_copied list settled a aired d downs h
-ended_copied list clips settled a aired d downs (outcome.Strange k) h = secure_copied list settled a aired d downs h
-
 pub holds_copied : (list : List Item) (clips : List (ClipId × Timecode)) (settled : ℕ) (s : Bool) (a : Cued)
     (aired : List Item) (ups : List Answer) (d : Phase)
     (downs : List Phase) (stage : Stage)
@@ -537,4 +463,8 @@ holds_copied list clips settled s a aired ups d downs stage h =
     by (Ready q) h = (spot_copied list settled s a aired ups d downs q h.0, flow_copied (length list) ups d downs q h.1)
     by (Awaiting q) h =
         (spot_copied list settled s a aired ups d downs q h.0, flow_copied (length list) ups d downs q h.1)
-    by (Ended o) h = ended_copied list clips settled a aired d downs o h
+    by (Ended o) h = (
+      ended_copied (secure_copied list settled a aired d downs) list settled s a aired d downs
+          (settled_at Confirming (length list) o) h.0,
+      h.1,
+    )

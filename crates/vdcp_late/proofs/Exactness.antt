@@ -1,5 +1,5 @@
 -- All that aired is settled, and nothing that is on the way airs: what keeps it so, and how the log shows it.
-use Rattle.std.proofs.Common.{◌≡◌, ℕ, ◌+◌, ◌⊎◌, inl, inr, Bool, true, false, not, ◌||◌, ◌&&◌, if◌then◌else◌, List, [], ◌∷◌, ◌++◌, Option, Some, None, refl, arith, sym, ap, subst, ◌∙◌}
+use Rattle.std.proofs.Common.{◌≡◌, ℕ, ◌+◌, ◌⊎◌, inl, inr, Bool, true, false, not, ◌||◌, ◌&&◌, if◌then◌else◌, List, [], ◌∷◌, ◌++◌, Option, Some, None, refl, arith, sym, ap, subst, ◌∙◌, take}
 use Rattle.std.specs.List.{list_any}
 use Rattle.std.specs.Option.{option_map_or}
 use Rattle.vdcp_value.specs.declared.part.Item.{Item}
@@ -30,6 +30,10 @@ use Rattle.vdcp_late.proofs.DeliveringPlay.{airs_nothing}
 use Rattle.vdcp_late.proofs.Executed.{Does, Executed, left_cued, put_on_air}
 use Rattle.vdcp_late.proofs.Places.{plays, arms, At, HasNone, Still, Exact}
 use Rattle.vdcp_late.proofs.Thinning.{Thins, none_thins}
+
+pub none_taken : (list : List Item) → [] ≡ take 0 list
+none_taken [] = refl
+none_taken (item ∷ list) = refl
 
 pub exact_at : (list : List Item) (settled : ℕ) (s : Bool) (a : Cued) (aired : List Item) (downs : List Phase) (k : ℕ)
     → At list aired settled k → Still s a downs → Exact list settled s a aired downs

@@ -20,7 +20,8 @@ use Rattle.vdcp_auto.specs.Table.{command_in}
 use Rattle.vdcp_auto.specs.declared.phase.Phase.{Phase}
 use Rattle.vdcp_auto.specs.declared.phase.Phase.TheVariants as phase
 use Rattle.vdcp_late.proofs.Executed.{Shows, left_cued, put_on_air}
-use Rattle.vdcp_late.proofs.Standing.{Reads, knows, differs}
+use Rattle.vdcp_late.proofs.Endings.{knows}
+use Rattle.vdcp_late.proofs.Standing.{Reads, differs}
 
 -- a row of the table does what the phase's command is to do
 abbrev pub RowReads : List Item → List (ClipId × Timecode) → Phase → PortState → Row → Type 0

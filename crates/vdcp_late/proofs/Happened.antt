@@ -1,6 +1,7 @@
 -- Late channels that events have led to, and what they keep of a channel.
 use Rattle.std.proofs.Common.{ℕ, ◌+◌, ◌≡◌, ◌<◌, ◌≤◌, Bool, true, false, All, List, [], ◌∷◌, ◌++◌, length, take, drop, take-append-drop, append_assoc, get_or, refl, sym, ap, subst, arith, ◌∙◌, if◌then◌else◌}
 use Rattle.std.proofs.lemmas.List.{take_more}
+use Rattle.std.proofs.lemmas.List.Elements.{All-nil}
 use Rattle.std.specs.Prelude.{Option, None, Some, Result, Ok, Err, OnOk, OnErr, bit_and}
 use Rattle.vdcp_value.specs.Parts.{IsItem}
 use Rattle.vdcp_value.specs.declared.part.Item.{Item}
@@ -12,7 +13,8 @@ use Rattle.vdcp_port.specs.Port.{Cued, empty, cueing, done, state_byte_of}
 use Rattle.vdcp_port.specs.Row.{Change, keeps, opens, closes, selects, cues, airs, stops}
 use Rattle.vdcp_auto.specs.Plan.{Plan}
 use Rattle.vdcp_world.specs.Channel.{Make}
-use Rattle.vdcp_late.specs.LateChannel.{LateChannel, CanStart, IsLateReached, new_late_channel, after_late_event, after_late_events, oldest}
+use Rattle.vdcp_auto.specs.declared.phase.Mode.TheVariants.{Confirming}
+use Rattle.vdcp_late.specs.LateChannel.{AnswersOnly, AsksOnly, LateChannel, CanStart, IsLateReached, new_late_channel, after_late_event, after_late_events, oldest}
 use Rattle.vdcp_late.specs.Runs.{LateInPart, late_make_of}
 use Rattle.vdcp_late.specs.declared.event.LateEvent.{LateEvent}
 use Rattle.vdcp_late.specs.declared.event.LateEvent.TheVariants as event
@@ -26,15 +28,12 @@ step_reached : (c : LateChannel) (e : LateEvent) → IsLateReached c → IsLateR
 step_reached c e r = record {
   plan = r.plan;
   port = r.port;
+  down = r.down;
+  up = r.up;
   events = r.events ++ e ∷ [];
-  some = r.some;
-  few = r.few;
-  unit_fits = r.unit_fits;
-  port_fits = r.port_fits;
-  of_bytes = r.of_bytes;
   can_start = r.can_start;
-  led =
-      ap (λ x. after_late_event x e) r.led ∙ sym (after_all (new_late_channel r.plan r.port) r.events (e ∷ []));
+  led = ap (λ x. after_late_event x e) r.led
+      ∙ sym (after_all (new_late_channel r.plan r.port r.down r.up) r.events (e ∷ []));
 }
 
 pub events_reached : (c : LateChannel) (es : List LateEvent) → IsLateReached c → IsLateReached (after_late_events c es)
@@ -47,21 +46,25 @@ pub after_step : {A E : Type 0} (result : Result A E) (old now : LateChannel) (e
 after_step (Ok a) old now e ok err r = subst IsLateReached (sym ok) (step_reached old e r)
 after_step (Err x) old now e ok err r = subst IsLateReached (sym err) r
 
-pub new_reached : (plan : Plan) (port : ClockedPort) → 1 ≤ plan.limit → plan.limit ≤ 1000 → port.state.unit ≤ 15
-    → plan.port < 256 → All IsItem plan.list → CanStart plan.mode port.state.cued
-    → IsLateReached (new_late_channel plan port)
-new_reached plan port some few unit_fits port_fits of_bytes can_start = record {
-  plan = plan;
-  port = port;
-  events = [];
+-- where nothing is on the way
+pub quiet_start : (plan : Plan) (port : ClockedPort) → 1 ≤ plan.limit → plan.limit ≤ 1000 → port.state.unit ≤ 15
+    → plan.port < 256 → All IsItem plan.list → (plan.mode ≡ Confirming → port.state.cued ≡ empty)
+    → CanStart plan port [] []
+quiet_start plan port some few unit_fits port_fits of_bytes nothing_cued = record {
   some = some;
   few = few;
   unit_fits = unit_fits;
   port_fits = port_fits;
   of_bytes = of_bytes;
-  can_start = can_start;
-  led = refl;
+  nothing_cued = nothing_cued;
+  asked = All-nil (AsksOnly plan port.state.unit);
+  answered = All-nil (AnswersOnly plan port.state.unit);
 }
+
+pub new_reached : (plan : Plan) (port : ClockedPort) (down up : List (List ℕ)) → CanStart plan port down up
+    → IsLateReached (new_late_channel plan port down up)
+new_reached plan port down up can_start =
+    record { plan = plan; port = port; down = down; up = up; events = []; can_start = can_start; led = refl }
 
 -- a port whose state byte has the bits of a cue off has nothing cued
 pub nothing_cued : (cued : Cued) (playing : Option Item) → bit_and (state_byte_of cued playing) 0x82 ≡ 0 → cued ≡ empty

@@ -1,5 +1,5 @@
 -- The headline, from what holds of the clips that went to air, and from the law of the controller.
-use Rattle.std.proofs.Common.{ℕ, zero, suc, ◌+◌, ◌≡◌, ◌<◌, ◌≤◌, Bool, false, List, [], ◌∷◌, ◌++◌, length, take, drop, refl, arith, sym, ap, subst, ◌∙◌, take-append-drop, length-append, length-drop, append-nil}
+use Rattle.std.proofs.Common.{ℕ, zero, suc, ◌+◌, ◌≡◌, ◌<◌, ◌≤◌, Bool, false, List, [], ◌∷◌, ◌++◌, length, take, drop, refl, arith, sym, ap, subst, ◌∙◌, take-append-drop, length-drop}
 use Rattle.std.proofs.Math.Seq.{take-length}
 use Rattle.std.specs.Prelude.{Option, None, Some, IsTrue, IfSome, IsSomeAnd, slice_get}
 use Rattle.vdcp_value.specs.declared.clip_id.ClipId.{ClipId}
@@ -22,22 +22,14 @@ use Rattle.vdcp_world.specs.Headline.{IsUnknownAt, AreReported}
 use Rattle.vdcp_late.specs.LateChannel.{LateChannel}
 use Rattle.vdcp_late.specs.LateHeadline.{IsLateRefused, LateMeans, LateHeadline, is_late_complete, log_so_far, reported_of}
 use Rattle.vdcp_late.proofs.Delivering.{no_item}
+use Rattle.vdcp_late.proofs.Endings.{Misses, complete_settles, knows, settled_at}
 use Rattle.vdcp_late.proofs.Places.{At, Near}
 use Rattle.vdcp_late.proofs.Safety.{taken}
-use Rattle.vdcp_late.proofs.Standing.{knows}
-
--- a refusal in confirm mode is of a cue that was tried too often
-abbrev pub RefusalHolds : Mode → List Item → List Item → ℕ → ℕ → Type 0
-RefusalHolds Plain list aired settled k = Unit {0}
-RefusalHolds Confirming list aired settled k = At list aired settled k
 
 -- what an end says of the clips that went to air
 abbrev pub EndHolds : Mode → List Item → List (ClipId × Timecode) → List Item → ℕ → Outcome → Type 0
-EndHolds mode list clips aired settled outcome.Done = At list aired settled (length list)
-EndHolds mode list clips aired settled (outcome.Missing k) =
-    At list aired settled k × (k < length list) × (knows clips (slice_get list k) ≡ false)
-EndHolds mode list clips aired settled (outcome.Refused k) = RefusalHolds mode list aired settled k
-EndHolds mode list clips aired settled _ = Unit {0}
+EndHolds mode list clips aired settled o =
+    IfSome (settled_at mode (length list) o) (At list aired settled) × Misses list clips o
 
 abbrev pub EndHoldsAt : Mode → List Item → List (ClipId × Timecode) → List Item → ℕ → Stage → Type 0
 EndHoldsAt mode list clips aired settled (Ended o) = EndHolds mode list clips aired settled o
@@ -100,7 +92,8 @@ exactly plan aired log reported k a counted = record {
 }
 
 refused_in : (mode : Mode) (plan : Plan) (aired : List Item) (log : List Exchange) (reported k : ℕ)
-    → RefusalHolds mode plan.list aired reported k → reported ≡ settled plan.mode log
+    → IfSome (settled_at mode (length plan.list) (outcome.Refused k)) (At plan.list aired reported)
+    → reported ≡ settled plan.mode log
     → (mode ≡ Confirming → IsRefused plan.list plan.limit log k)
     → IsLateRefused mode plan aired log k
 refused_in Plain plan aired log reported k h counted by_log = tt
@@ -111,22 +104,20 @@ means : (c : LateChannel) (o : Outcome) → EndHolds c.plan.mode c.plan.list c.p
     → IsLawful c.plan c.state c.log
     → outcome_of c.state.stage ≡ Some o → LateMeans c.port.clips c.plan c.aired c.log o
 means c outcome.Done h l e = (
-  h.aired_is ∙ take-length c.plan.list,
-  exactly c.plan c.aired c.log c.state.settled
-      (length c.plan.list) h l.is_settled,
+  h.0.aired_is ∙ take-length c.plan.list,
+  exactly c.plan c.aired c.log c.state.settled (length c.plan.list) h.0 l.is_settled,
 )
 means c outcome.Stopped h l e = tt
 means c outcome.Lost h l e = l.is_lost.0 e
-means c outcome.Denied h l e = tt
+means c outcome.Denied h l e = exactly c.plan c.aired c.log c.state.settled 0 h.0 l.is_settled
 means c (outcome.Missing k) h l e = (
-  unknown_at c.port.clips c.plan.list k (slice_get c.plan.list k) refl h.1 h.2,
-  exactly c.plan c.aired c.log
-      c.state.settled k h.0 l.is_settled,
+  unknown_at c.port.clips c.plan.list k (slice_get c.plan.list k) refl h.1.0 h.1.1,
+  exactly c.plan c.aired c.log c.state.settled k h.0 l.is_settled,
 )
-means c (outcome.Refused k) h l e = refused_in c.plan.mode c.plan c.aired c.log c.state.settled k h l.is_settled
+means c (outcome.Refused k) h l e = refused_in c.plan.mode c.plan c.aired c.log c.state.settled k h.0 l.is_settled
     (λ confirms. l.is_refused confirms k e)
-means c (outcome.Foreign k) h l e = tt
-means c (outcome.Strange k) h l e = tt
+means c (outcome.Foreign k) h l e = exactly c.plan c.aired c.log c.state.settled (k + 1) h.0 l.is_settled
+means c (outcome.Strange k) h l e = exactly c.plan c.aired c.log c.state.settled k h.0 l.is_settled
 
 means_at : (c : LateChannel) (stage : Stage) → c.state.stage ≡ stage
     → EndHoldsAt c.plan.mode c.plan.list c.port.clips c.aired c.state.settled stage
@@ -135,6 +126,16 @@ means_at : (c : LateChannel) (stage : Stage) → c.state.stage ≡ stage
 means_at c (Ready q) e h l = tt
 means_at c (Awaiting q) e h l = tt
 means_at c (Ended o) e h l = means c o h l (ap outcome_of e)
+
+-- all that went to air is reported
+complete_at : (c : LateChannel) (stage : Stage)
+    → EndHoldsAt c.plan.mode c.plan.list c.port.clips c.aired c.state.settled stage
+    → IfSome (outcome_of stage) (λ outcome. IsTrue (is_late_complete c.plan.mode outcome) → c.aired ≡ reported_of c)
+complete_at c (Ready q) h = tt
+complete_at c (Awaiting q) h = tt
+complete_at c (Ended o) h = λ e.
+    let (k, at) = complete_settles c.plan.mode (length c.plan.list) o e h.0 in
+    at.aired_is ∙ ap (λ (n : ℕ). take n c.plan.list) (sym at.settled_is)
 
 pub headline : (c : LateChannel) → AirsIn c
     → IsLawful c.plan c.state c.log → LateHeadline c
@@ -147,37 +148,5 @@ headline c a l = record {
   keeps_rules = l.keeps_rules;
   may_await = l.may_await;
   ended = means_at c c.state.stage refl a.end_holds l;
+  complete = complete_at c c.state.stage a.end_holds;
 }
-
--- ---- all that went to air is reported
-
-without_last : (aired front last : List Item) → aired ≡ front ++ last → length aired ≡ length front → aired ≡ front
-without_last aired front [] e same = e ∙ append-nil front
-without_last aired front (item ∷ last) e same =
-    absurd (omega (arith, ap length e, length-append front (item ∷ last), same))
-
-pub complete : (c : LateChannel) → LateHeadline c
-    → IfSome (outcome_of c.state.stage) (λ outcome. IsTrue (is_late_complete c.plan.mode outcome) → c.aired ≡
-    reported_of c)
-complete c h = by (outcome_of c.state.stage) h.ended
-  where
-    all : (k : ℕ) → AreReported c.plan c.aired c.log k → c.aired ≡ reported_of c
-    all k a = without_last c.aired (reported_of c) h.reported.0 h.reported.1
-        (a.aired_count ∙ sym (h.count ∙ h.is_settled ∙ a.reported_count))
-
-    refused : (mode : Mode) (k : ℕ) → IsLateRefused mode c.plan c.aired c.log k
-        → IsTrue (is_late_complete mode (outcome.Refused k)) → c.aired ≡ reported_of c
-    refused Plain k m e = cc
-    refused Confirming k m e = all k m.1
-
-    by : (o : Option Outcome) → IfSome o (LateMeans c.port.clips c.plan c.aired c.log)
-        → IfSome o (λ outcome. IsTrue (is_late_complete c.plan.mode outcome) → c.aired ≡ reported_of c)
-    by None m = tt
-    by (Some outcome.Done) m = λ _. all (length c.plan.list) m.1
-    by (Some (outcome.Missing k)) m = λ _. all k m.1
-    by (Some (outcome.Refused k)) m = refused c.plan.mode k m
-    by (Some outcome.Lost) m = λ e. cc
-    by (Some outcome.Stopped) m = λ e. cc
-    by (Some outcome.Denied) m = λ e. cc
-    by (Some (outcome.Foreign k)) m = λ e. cc
-    by (Some (outcome.Strange k)) m = λ e. cc

@@ -1,5 +1,5 @@
 -- Where a reply leads the controller, or silence, in plain mode.
-use Rattle.std.proofs.Common.{◌≡◌, ℕ, ◌+◌, ◌*◌, ◌<◌, ◌≤◌, ◌⊎◌, inl, inr, Bool, true, false, not, ◌||◌, ◌&&◌, List, ◌∷◌, length, take, refl, arith, ap, subst, ◌∙◌, if◌then◌else◌}
+use Rattle.std.proofs.Common.{◌≡◌, ℕ, ◌+◌, ◌*◌, ◌<◌, ◌≤◌, ◌⊎◌, inl, inr, Bool, true, false, not, ◌||◌, ◌&&◌, List, ◌∷◌, length, take, refl, arith, ap, subst, ◌∙◌, if◌then◌else◌, Some}
 use Rattle.std.specs.List.{list_any}
 use Rattle.std.specs.Prelude.{slice_get, nat_le, nat_lt}
 use Rattle.vdcp_value.specs.declared.clip_id.ClipId.{ClipId}
@@ -19,13 +19,14 @@ use Rattle.vdcp_auto.specs.declared.phase.Transition.{Transition}
 use Rattle.vdcp_auto.specs.declared.phase.Transition.TheVariants.{Goes, Settles, Ends}
 use Rattle.vdcp_late.specs.Pipe.{stretch, Climbs, stretches, IsPipe}
 use Rattle.vdcp_late.proofs.Delivering.{clash}
-use Rattle.vdcp_late.proofs.Passing.{wanted, same_wanted, first_passed, exists_passed, cue_passed, wait_passed, play_passed, probe_passed, check_passed, all_own}
+use Rattle.vdcp_late.proofs.Passing.{wanted, same_wanted, exists_passed, cue_passed, wait_passed, play_passed, probe_passed, check_passed, all_own}
 use Rattle.vdcp_late.proofs.Passing.{exists_no_ack, cue_no_state, cue_shows_none, wait_no_ack, wait_no_empty}
 use Rattle.vdcp_late.proofs.Pipes.{climbs_within}
-use Rattle.vdcp_late.proofs.Places.{Answer, pipe_of, plays, waits, misfits, fits_phase, is_asked, says_ack, says_done, says_empty, shows_no_cue}
-use Rattle.vdcp_late.proofs.Places.{At, ToAir, OnAir, Place}
-use Rattle.vdcp_late.proofs.Safety.{calm_in, no_plays, quiet}
-use Rattle.vdcp_late.proofs.Standing.{knows, differs, misleads, misleads_at, PlaceAt}
+use Rattle.vdcp_late.proofs.Places.{Answer, pipe_of, waits, misfits, fits_phase, is_asked, says_ack, says_done, says_empty, shows_no_cue}
+use Rattle.vdcp_late.proofs.Places.{At, ToAir, OnAir, Place, Safe}
+use Rattle.vdcp_late.proofs.Endings.{EndedAt, knows, settles_at, silent_end}
+use Rattle.vdcp_late.proofs.Safety.{calm_in, is_silent, none_arms_in}
+use Rattle.vdcp_late.proofs.Standing.{differs, misleads, misleads_at, PlaceAt}
 
 -- where a turn leads
 abbrev pub Leads : List Item → List (ClipId × Timecode) → ℕ → Bool → Cued → List Item → List Answer → List Phase
@@ -67,49 +68,47 @@ silent list clips settled s a aired ups downs q limit unanswered counts h = by (
   where
     by : (b : Bool) → Leads list clips settled s a aired ups downs
         (if b then Ends outcome.Lost else on_no_answer Plain q)
-    by true = calm_in list settled s a aired ups downs q h.0 h.1
+    by true = (calm_in list settled s a aired ups downs q h.0 h.1, tt)
     by false = goes_on list clips settled s a aired ups downs q h
 
 -- ---- a refusal
 
-closes : (list : List Item) (settled : ℕ) (s : Bool) (a : Cued) (aired : List Item) (ups : List Answer)
-    (downs : List Phase)
-    → Here list settled s a aired ups downs phase.Close
-    → At list aired settled (length list) × (list_any plays downs ≡ false)
-closes list settled s a aired ups downs h = (
-  h.0,
-  no_plays Plain (length list) (5 * length list + 1) (5 * length list + 3) ups downs
-      (quiet Plain (length list) (length list) (5 * length list + 1) (5 * length list + 3) (omega arith) (omega arith))
-      h.1,
-)
+-- all that aired is settled, since no PLAY is on the way
+over : (list : List Item) (settled : ℕ) (s : Bool) (a : Cued) (aired : List Item) (ups : List Answer)
+    (downs : List Phase) (k : ℕ) (q : Phase) → is_silent q ≡ true
+    → IsPipe Plain (length list) q (pipe_of ups downs) → At list aired settled k
+    → EndedAt (Safe list settled s a aired downs) list settled s a aired downs (Some k)
+over list settled s a aired ups downs k q e c h =
+    silent_end (Safe list settled s a aired downs) Plain list settled s a aired ups downs k q e c h
 
 pub refused : (list : List Item) (clips : List (ClipId × Timecode)) (settled : ℕ) (s : Bool) (a : Cued)
     (aired : List Item) (ups : List Answer) (downs : List Phase)
     (q : Phase) → Here list settled s a aired ups downs q
     → Leads list clips settled s a aired ups downs (on_refusal (length list) q)
 refused list clips settled s a aired ups downs phase.Open h =
-    calm_in list settled s a aired ups downs phase.Open h.0 h.1
+    (over list settled s a aired ups downs 0 phase.Open refl h.1 h.0, tt)
 refused list clips settled s a aired ups downs phase.Select h =
-    calm_in list settled s a aired ups downs phase.Select h.0 h.1
+    (over list settled s a aired ups downs 0 phase.Select refl h.1 h.0, tt)
 refused list clips settled s a aired ups downs phase.Seen h =
-    calm_in list settled s a aired ups downs phase.Seen h.0 h.1
+    (over list settled s a aired ups downs 0 phase.Seen refl h.1 h.0, tt)
 refused list clips settled s a aired ups downs (phase.Exists k) h =
-    calm_in list settled s a aired ups downs (phase.Exists k) h.0 h.1
+    (calm_in list settled s a aired ups downs (phase.Exists k) h.0 h.1, tt)
 refused list clips settled s a aired ups downs (phase.Cue k) h =
-    calm_in list settled s a aired ups downs (phase.Cue k) h.0 h.1
+    (calm_in list settled s a aired ups downs (phase.Cue k) h.0 h.1, tt)
 refused list clips settled s a aired ups downs (phase.Wait k) h =
-    calm_in list settled s a aired ups downs (phase.Wait k) h.0 h.1
+    (calm_in list settled s a aired ups downs (phase.Wait k) h.0 h.1, tt)
 refused list clips settled s a aired ups downs (phase.Play k) h =
-    calm_in list settled s a aired ups downs (phase.Play k) h.0 h.1
+    (calm_in list settled s a aired ups downs (phase.Play k) h.0 h.1, tt)
 refused list clips settled s a aired ups downs (phase.Probe k) h =
-    calm_in list settled s a aired ups downs (phase.Probe k) h.0 h.1
+    (calm_in list settled s a aired ups downs (phase.Probe k) h.0 h.1, tt)
 refused list clips settled s a aired ups downs (phase.Check k) h =
-    calm_in list settled s a aired ups downs (phase.Check k) h.0 h.1
+    (calm_in list settled s a aired ups downs (phase.Check k) h.0 h.1, tt)
 refused list clips settled s a aired ups downs phase.Drain h =
-    calm_in list settled s a aired ups downs phase.Drain h.0 h.1
-refused list clips settled s a aired ups downs phase.Close h = closes list settled s a aired ups downs h
+    (calm_in list settled s a aired ups downs phase.Drain h.0 h.1, tt)
+refused list clips settled s a aired ups downs phase.Close h =
+    (over list settled s a aired ups downs (length list) phase.Close refl h.1 h.0, tt)
 refused list clips settled s a aired ups downs phase.Halt h = h
-refused list clips settled s a aired ups downs phase.HaltClose h = h.0
+refused list clips settled s a aired ups downs phase.HaltClose h = (h.0, tt)
 
 -- ---- an answer
 
@@ -163,18 +162,9 @@ from_open : (list : List Item) (clips : List (ClipId × Timecode)) (settled : �
     (aired : List Item) (ups : List Answer) (downs : List Phase)
     (granted : Bool) → Here list settled s a aired ups downs phase.Open
     → Leads list clips settled s a aired ups downs (if granted then Goes phase.Select else Ends outcome.Denied)
-from_open list clips settled s a aired ups downs true h =
-    (h.0, climbs_within 0 0 0 1 (stretches Plain (length list) (pipe_of ups downs)) (omega arith) (omega arith) h.1)
-from_open list clips settled s a aired ups downs false h = calm_in list settled s a aired ups downs phase.Open h.0 h.1
-
-from_select : (list : List Item) (clips : List (ClipId × Timecode)) (settled : ℕ) (s : Bool) (a : Cued)
-    (aired : List Item) (x : Answer) (ups : List Answer)
-    (downs : List Phase) → At list aired settled 0 → (wanted x.to ≡ 1 → ⊥)
-    → Climbs 0 1 (stretches Plain (length list) (pipe_of (x ∷ ups) downs))
-    → PlaceAt list clips settled s a aired (x ∷ ups) downs (Ready (next list 0))
-from_select list clips settled s a aired x ups downs h other c =
-    next_place list clips settled s a aired (x ∷ ups) downs 0 h
-    (all_own Plain (length list) 0 1 x ups downs (first_passed (length list) x.to (c.0, c.1) other) c)
+from_open list clips settled s a aired ups downs true h = h
+from_open list clips settled s a aired ups downs false h =
+    (over list settled s a aired ups downs 0 phase.Open refl h.1 h.0, tt)
 
 from_exists : (list : List Item) (clips : List (ClipId × Timecode)) (settled : ℕ) (s : Bool) (a : Cued)
     (aired : List Item) (x : Answer) (ups : List Answer)
@@ -209,14 +199,14 @@ from_exists list clips settled s a aired x ups downs k g h b e = by b e
           (stretches Plain (length list) (pipe_of (x ∷ ups) downs)) (omega arith) (omega arith) own,
     )
     by false e = (
-      h.0.0,
-      no_plays Plain (length list) (5 * k + 1) (5 * k + 2) (x ∷ ups) downs
-          (quiet Plain (length list) k (5 * k + 1) (5 * k + 2) (omega arith) (omega arith)) h.1,
-      h.0.1,
-      unknown (is_present x.reply) (knows clips (slice_get list k))
-          (subst (λ (p : Phase). misleads_at list clips p x.reply ≡ false) is
-          (first_of (misleads list clips x) (list_any (misleads list clips) ups) g.true_told))
-          g.asked e,
+      over list settled s a aired (x ∷ ups) downs k (phase.Exists k) refl h.1 h.0.0,
+      (
+        h.0.1,
+        unknown (is_present x.reply) (knows clips (slice_get list k))
+            (subst (λ (p : Phase). misleads_at list clips p x.reply ≡ false) is
+            (first_of (misleads list clips x) (list_any (misleads list clips) ups) g.true_told))
+            g.asked e,
+      ),
     )
 
 or_first : (b c : Bool) → b ≡ true → (b || c) ≡ true
@@ -276,14 +266,17 @@ from_wait list clips settled s a aired x ups downs k limit tries take g h =
           (stretches Plain (length list) (pipe_of (x ∷ ups) downs)) (omega arith) (omega arith) own,
     )
 
+    lost : Leads list clips settled s a aired (x ∷ ups) downs (Ends (outcome.Strange k))
+    lost = (over list settled s a aired (x ∷ ups) downs k (phase.Wait k) refl h.1 h.0.at, tt)
+
     by : (done may none : Bool) → is_done x.reply ≡ done
         → Leads list clips settled s a aired (x ∷ ups) downs
         (if done && may then Goes (phase.Play k) else (if none then on_lost_cue Plain limit tries k else Goes
         (phase.Wait k)))
     by true true none e = playing e
-    by true false true e = calm_in list settled s a aired (x ∷ ups) downs (phase.Wait k) h.0 h.1
+    by true false true e = lost
     by true false false e = h
-    by false may true e = calm_in list settled s a aired (x ∷ ups) downs (phase.Wait k) h.0 h.1
+    by false may true e = lost
     by false may false e = h
 
 -- the event was aired
@@ -349,8 +342,11 @@ from_check : (list : List Item) (clips : List (ClipId × Timecode)) (settled : �
     → Here list settled s a aired (x ∷ ups) downs (phase.Check k)
     → Leads list clips settled s a aired (x ∷ ups) downs (if other then Ends (outcome.Foreign k) else Goes
     (next list (k + 1)))
-from_check list clips settled s a aired x ups downs k true g h =
-    calm_in list settled s a aired (x ∷ ups) downs (phase.Check k) h.0 h.1
+from_check list clips settled s a aired x ups downs k true g h = (
+  settles_at (Safe list settled s a aired downs) list settled s a aired downs (k + 1) h.0.at
+      (inr (h.0.has_none, none_arms_in Plain (length list) k (x ∷ ups) downs h.1)),
+  tt,
+)
 from_check list clips settled s a aired x ups downs k false g h =
     next_place list clips settled s a aired (x ∷ ups) downs (k + 1) h.0.at
     (climbs_within (5 * k + 6) (5 * k + 6) (5 * (k + 1) + 1) (5 * (k + 1) + 1)
@@ -365,7 +361,7 @@ from_drain : (list : List Item) (clips : List (ClipId × Timecode)) (settled : �
     → Leads list clips settled s a aired ups downs
     (if strange then Ends (outcome.Strange (length list)) else (if playing then Goes phase.Drain else Goes phase.Close))
 from_drain list clips settled s a aired ups downs true playing h =
-    calm_in list settled s a aired ups downs phase.Drain h.0 h.1
+    (over list settled s a aired ups downs (length list) phase.Drain refl h.1 h.0, tt)
 from_drain list clips settled s a aired ups downs false true h = h
 from_drain list clips settled s a aired ups downs false false h = (
   h.0,
@@ -381,11 +377,9 @@ pub replied : (list : List Item) (clips : List (ClipId × Timecode)) (settled : 
 replied list clips settled s a aired x ups downs limit tries take phase.Open g h =
     from_open list clips settled s a aired (x ∷ ups) downs (is_granted x.reply) h
 replied list clips settled s a aired x ups downs limit tries take phase.Select g h =
-    from_select list clips settled s a aired x ups downs h.0 (λ e. absurd
-    (omega (arith, e, wants list clips x ups phase.Select g))) h.1
+    next_place list clips settled s a aired (x ∷ ups) downs 0 h.0 h.1
 replied list clips settled s a aired x ups downs limit tries take phase.Seen g h =
-    from_select list clips settled s a aired x ups downs h.0 (λ e. absurd
-    (omega (arith, e, wants list clips x ups phase.Seen g))) h.1
+    next_place list clips settled s a aired (x ∷ ups) downs 0 h.0 h.1
 replied list clips settled s a aired x ups downs limit tries take (phase.Exists k) g h =
     from_exists list clips settled s a aired x ups downs k g h (is_present x.reply) refl
 replied list clips settled s a aired x ups downs limit tries take (phase.Cue k) g h =
@@ -402,6 +396,6 @@ replied list clips settled s a aired x ups downs limit tries take phase.Drain g 
     from_drain list clips settled s a aired (x ∷ ups) downs (is_cueing x.reply || is_done x.reply)
     (is_playing x.reply) h
 replied list clips settled s a aired x ups downs limit tries take phase.Close g h =
-    closes list settled s a aired (x ∷ ups) downs h
+    (over list settled s a aired (x ∷ ups) downs (length list) phase.Close refl h.1 h.0, tt)
 replied list clips settled s a aired x ups downs limit tries take phase.Halt g h = h
-replied list clips settled s a aired x ups downs limit tries take phase.HaltClose g h = h.0
+replied list clips settled s a aired x ups downs limit tries take phase.HaltClose g h = (h.0, tt)

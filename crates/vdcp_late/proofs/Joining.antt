@@ -20,8 +20,9 @@ use Rattle.vdcp_world.specs.Channel.{Channel, after_event, IsReached}
 use Rattle.vdcp_world.specs.declared.event.Event.{Event}
 use Rattle.vdcp_world.specs.declared.event.Event.TheVariants as was
 use Rattle.vdcp_late.specs.Damage.{is_no_answer, is_junk_up, can_become_up, with_junk}
+use Rattle.vdcp_late.proofs.Happened.{quiet_start}
 use Rattle.vdcp_late.specs.Joined.{late_of}
-use Rattle.vdcp_late.specs.LateChannel.{LateChannel, after_late_event, after_late_events, bursts_of, command_bursts, CanStart, IsLateReached}
+use Rattle.vdcp_late.specs.LateChannel.{LateChannel, after_late_event, after_late_events, bursts_of, command_bursts, IsLateReached}
 use Rattle.vdcp_late.specs.declared.event.LateEvent.{LateEvent}
 use Rattle.vdcp_late.specs.declared.event.LateEvent.TheVariants as late
 
@@ -261,16 +262,10 @@ reached_late c r =
     record {
       plan = r.plan;
       port = new_port r.clips r.unit r.plan.port r.cue_frames;
+      down = [];
+      up = [];
       events = events;
-      some = r.some;
-      few = r.few;
-      unit_fits = r.unit_fits;
-      port_fits = r.port_fits;
-      of_bytes = r.of_bytes;
-      can_start = starts r.plan.mode;
+      can_start = quiet_start r.plan (new_port r.clips r.unit r.plan.port r.cue_frames) r.some r.few r.unit_fits
+          r.port_fits r.of_bytes (λ _. refl);
       led = ap late_of r.led ∙ sym led;
     }
-  where
-    starts : (mode : Mode) → CanStart mode (new_port r.clips r.unit r.plan.port r.cue_frames).state.cued
-    starts Plain = tt
-    starts Confirming = refl

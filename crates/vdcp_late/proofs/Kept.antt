@@ -1,5 +1,5 @@
 -- What holds of a late channel over bytes, where a claim holds of what they carry.
-use Rattle.std.proofs.Common.{ℕ, ◌<◌, ◌≡◌, ◌≢◌, ◌⊎◌, inl, inr, true, false, List, [], ◌∷◌, ◌++◌, All, refl, arith, sym, ap, subst, ◌∙◌}
+use Rattle.std.proofs.Common.{ℕ, ◌<◌, ◌≡◌, ◌⊎◌, inl, inr, true, false, List, [], ◌∷◌, ◌++◌, All, refl, sym, ap, subst, ◌∙◌}
 use Rattle.std.specs.Option.{option_to_list}
 use Rattle.std.specs.Prelude.{Option, Some, IfSome}
 use Rattle.vdcp_value.specs.Parts.{IsItem}
@@ -110,20 +110,19 @@ junk_joins mode unit up ups [] h c = carries_same (IsJunkUp mode unit) (IsAnswer
 junk_joins mode unit up ups (byte ∷ bytes) h c =
     carries_pushed_junk (IsJunkUp mode unit) (IsAnswer unit) up ups (byte ∷ bytes) h c
 
-no_refusal : (mode : Mode) (byte : ℕ) → byte ≢ 0x01 → is_no_answer mode (Some (heard.Reply (reply.Nak byte))) ≡ true
-no_refusal Plain byte other = grind arith
-no_refusal Confirming byte other = refl
+nak_strays : (mode : Mode) (byte : ℕ) → is_no_answer mode (Some (heard.Reply (reply.Nak byte))) ≡ true
+nak_strays Plain byte = refl
+nak_strays Confirming byte = refl
 
 says_junk : (mode : Mode) (p : ClockedPort) (down : List ℕ) → ReadsNothing p down
     → IsJunkUp mode p.state.unit (sent_for p down)
 says_junk mode p down r = by r.says
   where
-    by : ((sent_for p down ≡ []) ⊎ ((byte : ℕ) × (byte ≢ 0x01) ×
-        (heard_in p.state.unit (sent_for p down) ≡ Some (heard.Reply (reply.Nak byte)))))
+    by : ((sent_for p down ≡ [])
+        ⊎ ((byte : ℕ) × (heard_in p.state.unit (sent_for p down) ≡ Some (heard.Reply (reply.Nak byte)))))
         → IsJunkUp mode p.state.unit (sent_for p down)
     by (inl none) = subst (λ (b : List ℕ). IsJunkUp mode p.state.unit b) (sym none) refl
-    by (inr (byte, other, hears)) =
-        subst (λ (h : Option Heard). is_no_answer mode h ≡ true) (sym hears) (no_refusal mode byte other)
+    by (inr (byte, hears)) = subst (λ (h : Option Heard). is_no_answer mode h ≡ true) (sym hears) (nak_strays mode byte)
 
 -- the channel after a delivery, of which these are left on the way down
 pub record Delivered (mode : Mode) (S : Claim) (plan : Plan) (state : State) (p : ClockedPort) (up : List (List ℕ))

@@ -61,4 +61,4 @@ controller_events c (e ∷ es) r = controller_events (after_late_event c e) es (
 pub controller_reached : (c : LateChannel) → IsLateReached c → Reached c.plan c.state c.log
 controller_reached c r =
     subst (λ (x : LateChannel). Reached x.plan x.state x.log) (sym r.led)
-    (controller_events (new_late_channel r.plan r.port) r.events (begun r.some r.few))
+    (controller_events (new_late_channel r.plan r.port r.down r.up) r.events (begun r.can_start.some r.can_start.few))

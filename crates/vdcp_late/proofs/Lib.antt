@@ -9,6 +9,8 @@ pub mod Safety
 pub mod Closing
 pub mod Standing
 pub mod Exactness
+pub mod ExactPlaces
+pub mod Endings
 pub mod Passing
 pub mod Hearing
 pub mod Executing
@@ -21,13 +23,14 @@ pub mod Coming
 pub mod Kept
 pub mod KeptEvents
 pub mod HeadlineProof
-pub mod PlainReached
+pub mod PlainCovers
 pub mod ConfirmedPlaces
 pub mod ConfirmedReads
 pub mod ConfirmedStanding
 pub mod ConfirmedHearing
 pub mod ConfirmedComing
-pub mod ConfirmedReached
+pub mod ConfirmedCovers
+pub mod Started
 pub mod LateReached
 pub mod LateController
 mod Premises

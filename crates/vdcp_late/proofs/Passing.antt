@@ -85,12 +85,6 @@ same_wanted q d r none fits asked =
 
 -- ---- what it was sent for
 
-pub first_passed : (n : ℕ) (d : Phase) → Lies Plain n 0 1 d → (wanted d ≡ 1 → ⊥) → stretch Plain n d ≡ 1
-first_passed n phase.Open l other = absurd (other refl)
-first_passed n phase.Select l other = refl
-first_passed n phase.Seen l other = refl
-first_passed n d l other = absurd (omega arith)
-
 pub exists_passed : (n k : ℕ) (d : Phase) → k < n → Lies Plain n (5 * k + 1) (5 * k + 2) d → wanted d ≡ 3
     → d ≡ phase.Exists k
 exists_passed n k (phase.Exists j) below l w = let e : j ≡ k = omega arith in ap phase.Exists e

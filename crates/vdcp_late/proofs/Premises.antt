@@ -11,9 +11,13 @@ use Rattle.vdcp_frame.specs.Message.{spelling}
 use Rattle.vdcp_words.specs.Commands.{command_message}
 use Rattle.vdcp_words.specs.declared.command.Command.{Command}
 use Rattle.vdcp_words.specs.declared.command.Command.TheVariants as command
+use Rattle.vdcp_words.specs.Replies.{reply_message}
+use Rattle.vdcp_words.specs.declared.reply.Reply.{Reply}
+use Rattle.vdcp_words.specs.declared.reply.Reply.TheVariants as reply
 use Rattle.vdcp_port.specs.Clips.{whole}
 use Rattle.vdcp_port.specs.Clock.{ClockedPort, new_port}
 use Rattle.vdcp_port.specs.Port.{done}
+use Rattle.vdcp_port.specs.declared.access.Access.TheVariants.{Selected}
 use Rattle.vdcp_auto.specs.Settled.{may_have_aired}
 use Rattle.vdcp_auto.specs.Turn.{outcome_of}
 use Rattle.vdcp_auto.specs.declared.outcome.Outcome.TheVariants.{Refused}
@@ -44,8 +48,12 @@ two_clips = (clip_1, ten_seconds) ∷ (clip_2, ten_seconds) ∷ []
 abbrev one : List Item
 one = whole clip_1 ∷ []
 
+abbrev begins_with : Mode → ClockedPort → List (List ℕ) → List (List ℕ) → LateChannel
+begins_with mode port down up =
+    new_late_channel (record { mode = mode; list = one; port = 1; limit = 3 }) port down up
+
 abbrev new : Mode → LateChannel
-new mode = new_late_channel (record { mode = mode; list = one; port = 1; limit = 3 }) (new_port two_clips 0 1 1)
+new mode = begins_with mode (new_port two_clips 0 1 1) [] []
 
 -- the bytes of a command, and of an ACK
 
@@ -183,10 +191,42 @@ with_a_cue port = record port { state = record port.state { cued = done (whole c
 -- The own cue is lost, and the status shows the other one to be done.
 nothing_may_be_cued_at_the_start :
     seen (after_late_events
-    (new_late_channel (record { mode = Confirming; list = one; port = 1; limit = 3 })
-    (with_a_cue (new_port two_clips 0 1 1)))
+    (begins_with Confirming (with_a_cue (new_port two_clips 0 1 1)) [] [])
     (to_cue_confirmed ++ Tick ∷ LoseDown 0 ∷ Timeout ∷ round ++ Tick ∷ Down ∷ [])) ≡ another_aired
 nothing_may_be_cued_at_the_start = refl
+
+-- ---- what is on the way at the start asks, or answers that
+
+abbrev answered : Reply → List ℕ
+answered r = spelling (reply_message 0 r)
+
+-- Two of these answers are heard for the run's own.
+what_was_asked_does_no_harm :
+    seen (after_late_events
+    (begins_with Plain (new_port two_clips 0 1 1) (bytes_of (command.Status 1) ∷ [])
+    (answered (reply.Opened true) ∷ an_ack ∷ []))
+    (Tick ∷ Up ∷ Tick ∷ Up ∷ Tick ∷ Down ∷ Down ∷ Down ∷ Down ∷ LoseUp 0 ∷ LoseUp 0 ∷ LoseUp 0 ∷ Up ∷ round ++ Ready
+    ∷ round ++ round)) ≡ record { aired = one; reported = 1 }
+what_was_asked_does_no_harm = refl
+
+-- The answers that an earlier run left are heard for a whole run.
+no_other_answer_may_be_left :
+    seen (after_late_events
+    (begins_with Plain (new_port two_clips 0 1 1) []
+    (answered (reply.Opened true) ∷ an_ack ∷ answered (reply.Present true) ∷ an_ack
+    ∷ answered (reply.State 1 (Some 0x80)) ∷ an_ack ∷ []))
+    (Tick ∷ Up ∷ Tick ∷ Up ∷ Tick ∷ Up ∷ Tick ∷ Up ∷ Tick ∷ Up ∷ Tick ∷ Up ∷ [])) ≡ reported_alone
+no_other_answer_may_be_left = refl
+
+abbrev selected : ClockedPort → ClockedPort
+selected port = record port { state = record port.state { access = Selected } }
+
+-- A PLAY that it left airs what was cued there before.
+no_play_may_be_left :
+    seen (after_late_events
+    (begins_with Plain (selected (with_a_cue (new_port two_clips 0 1 1))) (bytes_of command.Play ∷ []) []) (Down ∷ []))
+    ≡ another_aired
+no_play_may_be_left = refl
 
 -- ---- one controller
 

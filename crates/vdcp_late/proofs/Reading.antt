@@ -1,5 +1,5 @@
 -- What the port reads of a burst, and what is heard of its answer.
-use Rattle.std.proofs.Common.{ℕ, ◌<◌, ◌≡◌, ◌≢◌, ◌⊎◌, inl, inr, Bool, true, false, nat_eq, List, [], ◌∷◌, ◌++◌, refl, arith, ap, ◌∙◌, lit<, append-nil, if◌then◌else◌}
+use Rattle.std.proofs.Common.{ℕ, ◌<◌, ◌≡◌, ◌⊎◌, inl, inr, Bool, true, false, nat_eq, List, [], ◌∷◌, ◌++◌, refl, arith, ap, ◌∙◌, lit<, append-nil, if◌then◌else◌}
 use Rattle.std.proofs.lemmas.List.Elements.{All-cons, All-nil}
 use Rattle.std.specs.Option.{option_to_list}
 use Rattle.std.specs.Prelude.{Option, None, Some, Result, Ok}
@@ -23,8 +23,8 @@ use Rattle.vdcp_late.proofs.Below.{Below}
 pub record ReadsNothing (p : ClockedPort) (down : List ℕ) : Type 0 where
   pub stays : after_burst p down ≡ p
   pub airs : aired_for p down ≡ []
-  pub says : (sent_for p down ≡ []) ⊎ ((byte : ℕ) × (byte ≢ 0x01) ×
-      (heard_in p.state.unit (sent_for p down) ≡ Some (heard.Reply (reply.Nak byte))))
+  pub says : (sent_for p down ≡ [])
+      ⊎ ((byte : ℕ) × (heard_in p.state.unit (sent_for p down) ≡ Some (heard.Reply (reply.Nak byte))))
 
 -- the port reads a command, and does what its row says
 pub record ReadsCommand (p : ClockedPort) (down : List ℕ) (c : Command) : Type 0 where
@@ -89,14 +89,13 @@ reads_nothing below p down e = record {
 }
   where
     Says : List ℕ → Type 0
-    Says sent =
-        (sent ≡ []) ⊎ ((byte : ℕ) × (byte ≢ 0x01) × (heard_in p.state.unit sent ≡ Some (heard.Reply (reply.Nak byte))))
+    Says sent = (sent ≡ []) ⊎ ((byte : ℕ) × (heard_in p.state.unit sent ≡ Some (heard.Reply (reply.Nak byte))))
 
     says : ((sent_for p down ≡ []) ⊎ (sent_for p down ≡ 0x05 ∷ 0x04 ∷ []) ⊎ (sent_for p down ≡ 0x05 ∷ 0x80 ∷ []))
         → Says (sent_for p down)
     says (inl none) = inl none
-    says (inr (inl bad)) = inr (0x04, grind arith, ap (heard_in p.state.unit) bad)
-    says (inr (inr short)) = inr (0x80, grind arith, ap (heard_in p.state.unit) short)
+    says (inr (inl bad)) = inr (0x04, ap (heard_in p.state.unit) bad)
+    says (inr (inr short)) = inr (0x80, ap (heard_in p.state.unit) short)
 
 pub reads_command : Below → (p : ClockedPort) (down : List ℕ) (c : Command) → p.state.unit < 16 → IsWritableCommand c
     → messages_of down ≡ command_message p.state.unit c ∷ [] → ReadsCommand p down c

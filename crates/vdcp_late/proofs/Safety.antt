@@ -170,7 +170,7 @@ pub quiet : (mode : Mode) (n k : ℕ) (low high : ℕ) → 5 * k + 1 ≤ low →
 quiet mode n k low high l h (phase.Play j) lies = absurd (omega arith)
 quiet mode n k low high l h d lies = refl
 
-pub quiet_first : (mode : Mode) (n : ℕ) (d : Phase) → Lies mode n 0 1 d → plays d ≡ false
+pub quiet_first : (mode : Mode) (n : ℕ) (d : Phase) → Lies mode n 1 1 d → plays d ≡ false
 quiet_first mode n (phase.Play j) lies = absurd (omega arith)
 quiet_first mode n d lies = refl
 
@@ -237,10 +237,9 @@ is_silent _ = true
 
 pub none_plays : (mode : Mode) (n : ℕ) (ups : List Answer) (downs : List Phase) (q : Phase) → is_silent q ≡ true
     → IsPipe mode n q (pipe_of ups downs) → list_any plays downs ≡ false
-none_plays mode n ups downs phase.Open e c =
-    no_plays mode n 0 0 ups downs (λ d l. quiet_first mode n d (l.0, omega (arith, l.1))) c
-none_plays mode n ups downs phase.Select e c = no_plays mode n 0 1 ups downs (quiet_first mode n) c
-none_plays mode n ups downs phase.Seen e c = no_plays mode n 0 1 ups downs (quiet_first mode n) c
+none_plays mode n ups downs phase.Open e c = no_plays mode n 1 1 ups downs (quiet_first mode n) c
+none_plays mode n ups downs phase.Select e c = no_plays mode n 1 1 ups downs (quiet_first mode n) c
+none_plays mode n ups downs phase.Seen e c = no_plays mode n 1 1 ups downs (quiet_first mode n) c
 none_plays mode n ups downs (phase.Exists k) e c =
     no_plays mode n (5 * k + 1) (5 * k + 2) ups downs
     (quiet mode n k (5 * k + 1) (5 * k + 2) (omega arith) (omega arith)) c

@@ -1,20 +1,18 @@
 -- What holds of a late channel in plain mode, said of the phases that sent what is on the way; and that it stays so
 -- while the
 -- controller hears nothing.
-use Rattle.std.proofs.Common.{◌≡◌, ℕ, ◌+◌, ◌*◌, ◌<◌, ◌≤◌, ◌⊎◌, inl, inr, Bool, true, false, not, ◌||◌, ◌&&◌, List, [], ◌∷◌, ◌++◌, length, Option, Some, None, refl, arith, sym, ap, subst, ◌∙◌}
+use Rattle.std.proofs.Common.{◌≡◌, ℕ, ◌+◌, ◌*◌, ◌≤◌, ◌⊎◌, inl, inr, Bool, true, false, not, ◌||◌, ◌&&◌, List, [], ◌∷◌, ◌++◌, length, refl, arith, sym, ap, subst, ◌∙◌}
 use Rattle.std.specs.List.{list_any}
 use Rattle.std.specs.Prelude.{slice_get}
 use Rattle.vdcp_value.specs.declared.clip_id.ClipId.{ClipId}
 use Rattle.vdcp_value.specs.declared.part.Item.{Item}
 use Rattle.vdcp_value.specs.declared.timecode.Timecode.{Timecode}
 use Rattle.vdcp_words.specs.declared.reply.Reply.{Reply}
-use Rattle.vdcp_port.specs.Clips.{is_known}
 use Rattle.vdcp_port.specs.Port.{Cued}
 use Rattle.vdcp_auto.specs.Commands.{is_presence}
 use Rattle.vdcp_auto.specs.Replies.{is_present}
 use Rattle.vdcp_auto.specs.Turn.{phase_to_send}
 use Rattle.vdcp_auto.specs.declared.outcome.Outcome.{Outcome}
-use Rattle.vdcp_auto.specs.declared.outcome.Outcome.TheVariants as outcome
 use Rattle.vdcp_auto.specs.declared.phase.Mode.TheVariants.{Plain}
 use Rattle.vdcp_auto.specs.declared.phase.Phase.{Phase}
 use Rattle.vdcp_auto.specs.declared.phase.Phase.TheVariants as phase
@@ -24,6 +22,7 @@ use Rattle.vdcp_late.specs.Pipe.{stretch, Climbs, stretches, IsPipe}
 use Rattle.vdcp_late.proofs.Closing.{Ages, place_thins, place_ages, safe_thins, safe_ages, pipe_thins}
 use Rattle.vdcp_late.proofs.Delivering.{at_same, airs_none, none_pushed, cueing_keeps, waiting_keeps}
 use Rattle.vdcp_late.proofs.DeliveringPlay.{playing_keeps, checking_keeps}
+use Rattle.vdcp_late.proofs.Endings.{EndedAt, Misses, ended_ages, ended_copied, ended_reads, ended_thins, knows, settled_at}
 use Rattle.vdcp_late.proofs.Executed.{Executed}
 use Rattle.vdcp_late.proofs.Pipes.{climbs_thins, climbs_pushed}
 use Rattle.vdcp_late.proofs.Places.{Answer, pipe_of, plays, waits, arms, misfits}
@@ -31,11 +30,6 @@ use Rattle.vdcp_late.proofs.Places.{At, ToAir, OnAir, Playing, Unarmed, Safe, Pl
 use Rattle.vdcp_late.proofs.Safety.{safe_keeps, calm_in, quiet, quiet_first}
 use Rattle.vdcp_late.proofs.Stretches.{lies_at, pipe_delivered, pipe_pushed, pipe_copied}
 use Rattle.vdcp_late.proofs.Thinning.{Thins, none_thins, any_push}
-
--- the item's clip is in the catalogue
-abbrev pub knows : List (ClipId × Timecode) → Option Item → Bool
-knows clips None = false
-knows clips (Some item) = is_known clips item.id
 
 -- a presence that is said wrongly
 abbrev pub differs : Bool → Bool → Bool
@@ -52,12 +46,9 @@ misleads list clips a = misleads_at list clips a.to a.reply
 -- after an end
 abbrev pub PlaceEnded : List Item → List (ClipId × Timecode) → ℕ → Bool → Cued → List Item → List Phase → Outcome
     → Type 0
-PlaceEnded list clips settled s a aired downs outcome.Done =
-    At list aired settled (length list) × (list_any plays downs ≡ false)
-PlaceEnded list clips settled s a aired downs (outcome.Missing k) =
-    At list aired settled k × (list_any plays downs ≡ false) × (k < length list) ×
-    (knows clips (slice_get list k) ≡ false)
-PlaceEnded list clips settled s a aired downs _ = Safe list settled s a aired downs
+PlaceEnded list clips settled s a aired downs o =
+    EndedAt (Safe list settled s a aired downs) list settled s a aired downs (settled_at Plain (length list) o)
+    × Misses list clips o
 
 abbrev pub PlaceAt : List Item → List (ClipId × Timecode) → ℕ → Bool → Cued → List Item → List Answer → List Phase
     → Stage → Type 0
@@ -105,25 +96,6 @@ flow_thins n ups others downs left phase.Close u d c =
 flow_thins n ups others downs left phase.Halt u d c = tt
 flow_thins n ups others downs left phase.HaltClose u d c = tt
 
-ended_thins : (list : List Item) (clips : List (ClipId × Timecode)) (settled : ℕ) (s : Bool) (a : Cued)
-    (aired : List Item) (downs left : List Phase)
-    (o : Outcome) → Thins downs left
-    → PlaceEnded list clips settled s a aired downs o → PlaceEnded list clips settled s a aired left o
-ended_thins list clips settled s a aired downs left outcome.Done d h = (h.0, none_thins plays downs left d h.1)
-ended_thins list clips settled s a aired downs left (outcome.Missing k) d h =
-    (h.0, none_thins plays downs left d h.1, h.2, h.3)
-ended_thins list clips settled s a aired downs left outcome.Stopped d h =
-    safe_thins list settled s a aired downs left d h
-ended_thins list clips settled s a aired downs left outcome.Lost d h = safe_thins list settled s a aired downs left d h
-ended_thins list clips settled s a aired downs left outcome.Denied d h =
-    safe_thins list settled s a aired downs left d h
-ended_thins list clips settled s a aired downs left (outcome.Refused k) d h =
-    safe_thins list settled s a aired downs left d h
-ended_thins list clips settled s a aired downs left (outcome.Foreign k) d h =
-    safe_thins list settled s a aired downs left d h
-ended_thins list clips settled s a aired downs left (outcome.Strange k) d h =
-    safe_thins list settled s a aired downs left d h
-
 pub stands_thins : (list : List Item) (clips : List (ClipId × Timecode)) (settled : ℕ) (s : Bool) (a : Cued)
     (aired : List Item) (ups others : List Answer)
     (downs left : List Phase) (stage : Stage) → Thins ups others → Thins downs left
@@ -146,25 +118,13 @@ stands_thins list clips settled s a aired ups others downs left stage u d h = re
       flow_thins
           (length list) ups others downs left q u d h.1,
     )
-    by (Ended o) h = ended_thins list clips settled s a aired downs left o d h
+    by (Ended o) h = (
+      ended_thins (safe_thins list settled s a aired downs left d) list settled s a aired downs left
+          (settled_at Plain (length list) o) d h.0,
+      h.1,
+    )
 
 -- ---- the port changes by itself
-
-ended_ages : (list : List Item) (clips : List (ClipId × Timecode)) (settled : ℕ) (s : Bool) (a : Cued) (t : Bool)
-    (b : Cued) (aired : List Item)
-    (downs : List Phase) (o : Outcome) → Ages s a t b
-    → PlaceEnded list clips settled s a aired downs o → PlaceEnded list clips settled t b aired downs o
-ended_ages list clips settled s a t b aired downs outcome.Done g h = h
-ended_ages list clips settled s a t b aired downs (outcome.Missing k) g h = h
-ended_ages list clips settled s a t b aired downs outcome.Stopped g h = safe_ages list settled s a t b aired downs g h
-ended_ages list clips settled s a t b aired downs outcome.Lost g h = safe_ages list settled s a t b aired downs g h
-ended_ages list clips settled s a t b aired downs outcome.Denied g h = safe_ages list settled s a t b aired downs g h
-ended_ages list clips settled s a t b aired downs (outcome.Refused k) g h =
-    safe_ages list settled s a t b aired downs g h
-ended_ages list clips settled s a t b aired downs (outcome.Foreign k) g h =
-    safe_ages list settled s a t b aired downs g h
-ended_ages list clips settled s a t b aired downs (outcome.Strange k) g h =
-    safe_ages list settled s a t b aired downs g h
 
 pub stands_ages : (list : List Item) (clips : List (ClipId × Timecode)) (settled : ℕ) (s : Bool) (a : Cued) (t : Bool)
     (b : Cued) (aired : List Item)
@@ -177,7 +137,11 @@ stands_ages list clips settled s a t b aired ups downs stage g h =
         → PlaceAt list clips settled t b aired ups downs stage
     by (Ready q) h = (place_ages list settled s a t b aired ups downs q g h.0, h.1)
     by (Awaiting q) h = (place_ages list settled s a t b aired ups downs q g h.0, h.1)
-    by (Ended o) h = ended_ages list clips settled s a t b aired downs o g h
+    by (Ended o) h = (
+      ended_ages (safe_ages list settled s a t b aired downs g) list settled s a t b aired downs
+          (settled_at Plain (length list) o) g h.0,
+      h.1,
+    )
 
 -- ---- the controller sends
 
@@ -235,11 +199,11 @@ own_sends : (list : List Item) (settled : ℕ) (s : Bool) (a : Cued) (aired : Li
     → Place list settled s a aired ups (downs ++ q ∷ []) q × IsPipe Plain (length list) q
     (pipe_of ups (downs ++ q ∷ []))
 own_sends list settled s a aired ups downs phase.Open h =
-    (h.0, pushed (length list) 0 ups downs phase.Open (omega arith) h.1)
+    (h.0, pushed (length list) 1 ups downs phase.Open (omega arith) h.1)
 own_sends list settled s a aired ups downs phase.Select h =
-    (h.0, pushed (length list) 0 ups downs phase.Select (omega arith) h.1)
+    (h.0, pushed (length list) 1 ups downs phase.Select (omega arith) h.1)
 own_sends list settled s a aired ups downs phase.Seen h =
-    (h.0, pushed (length list) 0 ups downs phase.Seen (omega arith) h.1)
+    (h.0, pushed (length list) 1 ups downs phase.Seen (omega arith) h.1)
 own_sends list settled s a aired ups downs (phase.Exists k) h =
     (h.0, pushed (length list) (5 * k + 1) ups downs (phase.Exists k) (omega arith) h.1)
 own_sends list settled s a aired ups downs (phase.Cue k) h =
@@ -303,14 +267,14 @@ place_keeps : (list : List Item) (settled : ℕ) (s : Bool) (a : Cued) (aired : 
     → Executed list d s a r t b airs
     → Place list settled t b (aired ++ airs) (ups ++ record { to = d; reply = r } ∷ []) downs q
 place_keeps list settled s a aired ups d downs phase.Open r t b airs fit h c x =
-    let l = lies_at Plain (length list) 0 0 ups d downs c in
-    quiet_keeps list settled s a aired d 0 r t b airs (quiet_first Plain (length list) d (l.0, omega (arith, l.1))) h x
+    quiet_keeps list settled s a aired d 0 r t b airs (quiet_first Plain (length list) d
+    (lies_at Plain (length list) 1 1 ups d downs c)) h x
 place_keeps list settled s a aired ups d downs phase.Select r t b airs fit h c x =
     quiet_keeps list settled s a aired d 0 r t b airs (quiet_first Plain (length list) d
-    (lies_at Plain (length list) 0 1 ups d downs c)) h x
+    (lies_at Plain (length list) 1 1 ups d downs c)) h x
 place_keeps list settled s a aired ups d downs phase.Seen r t b airs fit h c x =
     quiet_keeps list settled s a aired d 0 r t b airs (quiet_first Plain (length list) d
-    (lies_at Plain (length list) 0 1 ups d downs c)) h x
+    (lies_at Plain (length list) 1 1 ups d downs c)) h x
 place_keeps list settled s a aired ups d downs (phase.Exists k) r t b airs fit h c x = (
   quiet_keeps list settled s a aired d k r t b airs
       (quiet Plain (length list) k (5 * k + 1) (5 * k + 2) (omega arith) (omega arith) d
@@ -345,40 +309,6 @@ place_keeps list settled s a aired ups d downs phase.Halt r t b airs fit h c x =
 place_keeps list settled s a aired ups d downs phase.HaltClose r t b airs fit h c x =
     safe_keeps list settled s a aired d downs r t b airs h x
 
-left_of : (x y : Bool) → (x || y) ≡ false → x ≡ false
-left_of x y e = grind arith
-
-right_of : (x y : Bool) → (x || y) ≡ false → y ≡ false
-right_of x y e = grind arith
-
-ended_keeps : (list : List Item) (clips : List (ClipId × Timecode)) (settled : ℕ) (s : Bool) (a : Cued)
-    (aired : List Item) (d : Phase) (downs : List Phase)
-    (o : Outcome) (r : Reply) (t : Bool) (b : Cued) (airs : List Item)
-    → PlaceEnded list clips settled s a aired (d ∷ downs) o → Executed list d s a r t b airs
-    → PlaceEnded list clips settled t b (aired ++ airs) downs o
-ended_keeps list clips settled s a aired d downs outcome.Done r t b airs h x = (
-  quiet_keeps list settled s a aired d (length list) r t b airs (left_of (plays d) (list_any plays downs) h.1) h.0 x,
-  right_of (plays d) (list_any plays downs) h.1,
-)
-ended_keeps list clips settled s a aired d downs (outcome.Missing k) r t b airs h x = (
-  quiet_keeps list settled s a aired d k r t b airs (left_of (plays d) (list_any plays downs) h.1) h.0 x,
-  right_of (plays d) (list_any plays downs) h.1,
-  h.2,
-  h.3,
-)
-ended_keeps list clips settled s a aired d downs outcome.Stopped r t b airs h x =
-    safe_keeps list settled s a aired d downs r t b airs h x
-ended_keeps list clips settled s a aired d downs outcome.Lost r t b airs h x =
-    safe_keeps list settled s a aired d downs r t b airs h x
-ended_keeps list clips settled s a aired d downs outcome.Denied r t b airs h x =
-    safe_keeps list settled s a aired d downs r t b airs h x
-ended_keeps list clips settled s a aired d downs (outcome.Refused k) r t b airs h x =
-    safe_keeps list settled s a aired d downs r t b airs h x
-ended_keeps list clips settled s a aired d downs (outcome.Foreign k) r t b airs h x =
-    safe_keeps list settled s a aired d downs r t b airs h x
-ended_keeps list clips settled s a aired d downs (outcome.Strange k) r t b airs h x =
-    safe_keeps list settled s a aired d downs r t b airs h x
-
 pub stands_reads : (list : List Item) (clips : List (ClipId × Timecode)) (settled : ℕ) (s : Bool) (a : Cued)
     (aired : List Item) (ups : List Answer) (d : Phase)
     (downs : List Phase) (stage : Stage) (r : Reply) (t : Bool) (b : Cued) (airs : List Item)
@@ -402,7 +332,11 @@ stands_reads list clips settled s a aired ups d downs stage r t b airs h x = rec
     by (Ready q) g = (place_keeps list settled s a aired ups d downs q r t b airs h.fit g.0 g.1 x.executed, pipe q g.1)
     by (Awaiting q) g =
         (place_keeps list settled s a aired ups d downs q r t b airs h.fit g.0 g.1 x.executed, pipe q g.1)
-    by (Ended o) g = ended_keeps list clips settled s a aired d downs o r t b airs g x.executed
+    by (Ended o) g = (
+      ended_reads (λ k. safe_keeps list settled s a aired d downs r t b airs k x.executed) list settled s a aired d downs
+          (settled_at Plain (length list) o) r t b airs x.executed g.0,
+      g.1,
+    )
 
 -- ---- the oldest command is copied in its place
 
@@ -477,19 +411,6 @@ flow_copied n ups d downs phase.Close c = pipe_copied Plain n _ _ ups d downs c
 flow_copied n ups d downs phase.Halt c = tt
 flow_copied n ups d downs phase.HaltClose c = tt
 
-ended_copied : (list : List Item) (clips : List (ClipId × Timecode)) (settled : ℕ) (s : Bool) (a : Cued)
-    (aired : List Item) (d : Phase) (downs : List Phase)
-    (o : Outcome) → PlaceEnded list clips settled s a aired (d ∷ downs) o
-    → PlaceEnded list clips settled s a aired (d ∷ d ∷ downs) o
-ended_copied list clips settled s a aired d downs outcome.Done h = (h.0, none_copied plays d downs h.1)
-ended_copied list clips settled s a aired d downs (outcome.Missing k) h = (h.0, none_copied plays d downs h.1, h.2, h.3)
-ended_copied list clips settled s a aired d downs outcome.Stopped h = safe_copied list settled s a aired d downs h
-ended_copied list clips settled s a aired d downs outcome.Lost h = safe_copied list settled s a aired d downs h
-ended_copied list clips settled s a aired d downs outcome.Denied h = safe_copied list settled s a aired d downs h
-ended_copied list clips settled s a aired d downs (outcome.Refused k) h = safe_copied list settled s a aired d downs h
-ended_copied list clips settled s a aired d downs (outcome.Foreign k) h = safe_copied list settled s a aired d downs h
-ended_copied list clips settled s a aired d downs (outcome.Strange k) h = safe_copied list settled s a aired d downs h
-
 pub stands_copied : (list : List Item) (clips : List (ClipId × Timecode)) (settled : ℕ) (s : Bool) (a : Cued)
     (aired : List Item) (ups : List Answer) (d : Phase)
     (downs : List Phase) (stage : Stage)
@@ -504,4 +425,8 @@ stands_copied list clips settled s a aired ups d downs stage h =
         (place_copied list settled s a aired ups d downs q h.0, flow_copied (length list) ups d downs q h.1)
     by (Awaiting q) h =
         (place_copied list settled s a aired ups d downs q h.0, flow_copied (length list) ups d downs q h.1)
-    by (Ended o) h = ended_copied list clips settled s a aired d downs o h
+    by (Ended o) h = (
+      ended_copied (safe_copied list settled s a aired d downs) list settled s a aired d downs
+          (settled_at Plain (length list) o) h.0,
+      h.1,
+    )

@@ -3,7 +3,7 @@ use Rattle.std.specs.Prelude.{ℕ, Bool, true, not, ◌||◌, ◌&&◌, List, in
 use Rattle.vdcp_frame.specs.Burst.{messages_of}
 use Rattle.vdcp_words.specs.declared.reply.Reply.{Reply}
 use Rattle.vdcp_auto.specs.Heard.{heard_in}
-use Rattle.vdcp_auto.specs.Replies.{is_ack, is_receipt, is_refusal}
+use Rattle.vdcp_auto.specs.Replies.{is_ack, is_receipt}
 use Rattle.vdcp_auto.specs.declared.exchange.Heard.{Heard}
 use Rattle.vdcp_auto.specs.declared.exchange.Heard.TheVariants as heard
 use Rattle.vdcp_auto.specs.declared.phase.Mode.{Mode}
@@ -18,10 +18,9 @@ can_become was bytes = is_beginning (messages_of bytes) (messages_of was)
 abbrev pub is_junk_down : List ℕ → Bool
 is_junk_down bytes = can_become [] bytes
 
--- A reply that may come though nobody sent it: in plain mode a NAK that refuses nothing, and in confirm mode any
--- receipt.
+-- A reply that may come though nobody sent it: in plain mode a NAK, and in confirm mode any receipt.
 abbrev pub is_stray : Mode → Reply → Bool
-is_stray Plain r = is_receipt r && not (is_ack r) && not (is_refusal r)
+is_stray Plain r = is_receipt r && not (is_ack r)
 is_stray Confirming r = is_receipt r
 
 -- what is heard is no answer: nothing, what isn't a reply, or such a reply

@@ -1,23 +1,25 @@
 -- A late channel: a controller and a port, with a line between them that keeps order, and what each event does
 -- to it. Each way the line is a queue of bursts, of any length, so an answer may come however late.
 use Rattle.std.specs.Option.{option_map, option_to_list}
-use Rattle.std.specs.Prelude.{ℕ, ◌≡◌, ◌≤◌, ◌<◌, List, [], ◌∷◌, ◌++◌, All, remove, Option, None}
+use Rattle.std.specs.Prelude.{ℕ, ◌≡◌, ◌⊎◌, ◌≤◌, ◌<◌, IsTrue, IsSome, List, [], ◌∷◌, ◌++◌, All, remove, Option, None}
 use Rattle.vdcp_value.specs.declared.part.Item.{Item}
 use Rattle.vdcp_value.specs.Parts.{IsItem}
+use Rattle.vdcp_frame.specs.Burst.{messages_of}
 use Rattle.vdcp_frame.specs.Message.{spelling}
 use Rattle.vdcp_words.specs.Commands.{command_message}
 use Rattle.vdcp_words.specs.declared.command.Command.{Command}
+use Rattle.vdcp_words.specs.declared.command.Command.TheVariants as command
 use Rattle.vdcp_words.specs.declared.reply.Reply.TheVariants.{Ack, Nak}
 use Rattle.vdcp_port.specs.Answers.{sent_for, aired_for, after_burst}
 use Rattle.vdcp_port.specs.Clock.{ClockedPort, new_port, after_ready, after_ended, after_frame}
-use Rattle.vdcp_port.specs.Port.{Cued, empty}
+use Rattle.vdcp_port.specs.Port.{empty}
 use Rattle.vdcp_auto.specs.Course.{logged}
 use Rattle.vdcp_auto.specs.Heard.{heard_in}
+use Rattle.vdcp_auto.specs.Log.{answer_to}
 use Rattle.vdcp_auto.specs.Plan.{Plan}
 use Rattle.vdcp_auto.specs.Turn.{start, ticked, given, came_to, ended_by, taken, stopped, forgotten}
 use Rattle.vdcp_auto.specs.declared.exchange.Exchange.{Exchange}
-use Rattle.vdcp_auto.specs.declared.phase.Mode.{Mode}
-use Rattle.vdcp_auto.specs.declared.phase.Mode.TheVariants.{Plain, Confirming}
+use Rattle.vdcp_auto.specs.declared.phase.Mode.TheVariants.{Confirming}
 use Rattle.vdcp_auto.specs.State.{State}
 use Rattle.vdcp_world.specs.Channel.{state_hearing, log_hearing, state_straying, log_straying}
 use Rattle.vdcp_late.specs.Damage.{can_become, is_junk_down, is_junk_up, can_become_up, with_damage, with_junk}
@@ -36,10 +38,10 @@ pub record LateChannel : Type 0 where
   pub aired : List Item
   pub log : List Exchange
 
--- a new controller, a port in whatever state, and nothing on the way
-abbrev pub new_late_channel : Plan → ClockedPort → LateChannel
-new_late_channel plan port =
-    record { plan = plan; state = start; port = port; down = []; up = []; aired = []; log = [] }
+-- a new controller, a port in whatever state, and these on the way
+abbrev pub new_late_channel : Plan → ClockedPort → List (List ℕ) → List (List ℕ) → LateChannel
+new_late_channel plan port down up =
+    record { plan = plan; state = start; port = port; down = down; up = up; aired = []; log = [] }
 
 -- A queue without its oldest burst, and that burst; none where the queue is empty.
 
@@ -51,7 +53,7 @@ abbrev pub oldest : List (List ℕ) → List ℕ
 oldest [] = []
 oldest (burst ∷ queue) = burst
 
--- the bytes of a command, if there is one
+-- the bytes of an optional command
 abbrev pub command_bursts : ℕ → Option Command → List (List ℕ)
 command_bursts unit command = option_to_list (option_map (λ c. spelling (command_message unit c)) command)
 
@@ -64,7 +66,7 @@ bursts_of (byte ∷ bytes) = (byte ∷ bytes) ∷ []
 abbrev pub made_anew : ClockedPort → ClockedPort
 made_anew port = new_port port.clips port.state.unit port.state.number port.cue_frames
 
--- the port reads the oldest burst on the way down, if there is one, and its answer joins the queue up
+-- the port reads the oldest burst on the way down, if any, and its answer joins the queue up
 abbrev pub delivered_down : LateChannel → LateChannel
 delivered_down c =
     record c {
@@ -73,7 +75,7 @@ delivered_down c =
       aired = c.aired ++ aired_for c.port (oldest c.down);
     }
 
--- the controller hears the oldest burst on the way up, if there is one
+-- the controller hears the oldest burst on the way up, if any
 abbrev pub delivered_up : LateChannel → LateChannel
 delivered_up c =
     record c {
@@ -133,21 +135,40 @@ abbrev pub after_late_events : LateChannel → List LateEvent → LateChannel
 after_late_events c [] = c
 after_late_events c (event ∷ events) = after_late_events (after_late_event c event) events
 
--- In plain mode the port may be in any state at the start. In confirm mode nothing is cued then.
-abbrev pub CanStart : Mode → Cued → Type 0
-CanStart Plain cued = Unit {0}
-CanStart Confirming cued = cued ≡ empty
+-- What a port may be asked before a run: as the controller itself asks before the first event. None of it cues or plays.
+abbrev pub IsQuestion : ℕ → Command → Type 0
+IsQuestion port c = (c ≡ command.Open port 1) ⊎ (c ≡ command.Select port) ⊎ (c ≡ command.Status 1)
 
--- some events lead from a new channel to this one
-pub record IsLateReached (now : LateChannel) : Type 0 where
-  pub plan : Plan
-  pub port : ClockedPort
-  pub events : List LateEvent
+-- on the way down: such a question, or nothing that is read
+abbrev pub AsksOnly : Plan → ℕ → List ℕ → Type 0
+AsksOnly plan unit burst = (messages_of burst ≡ [])
+    ⊎ ((c : Command) × IsQuestion plan.port c × (messages_of burst ≡ command_message unit c ∷ []))
+
+-- and up: an answer to one, or no answer
+abbrev pub AnswersOnly : Plan → ℕ → List ℕ → Type 0
+AnswersOnly plan unit burst = IsTrue (is_junk_up plan.mode unit burst)
+    ⊎ ((c : Command) × IsQuestion plan.port c × IsSome (answer_to c (heard_in unit burst)))
+
+-- what a run may begin with
+pub record CanStart (plan : Plan) (port : ClockedPort) (down up : List (List ℕ)) : Type 0 where
   -- the controller gives up after 1 to 1,000 unanswered exchanges
   pub some : 1 ≤ plan.limit
   pub few : plan.limit ≤ 1000
   pub unit_fits : port.state.unit ≤ 15
   pub port_fits : plan.port < 256
   pub of_bytes : All IsItem plan.list
-  pub can_start : CanStart plan.mode port.state.cued
-  pub led : now ≡ after_late_events (new_late_channel plan port) events
+  -- in plain mode the port may be in any state; in confirm mode nothing is cued
+  pub nothing_cued : plan.mode ≡ Confirming → port.state.cued ≡ empty
+  -- what is on the way has asked the port before, or answers that
+  pub asked : All (AsksOnly plan port.state.unit) down
+  pub answered : All (AnswersOnly plan port.state.unit) up
+
+-- some events lead from a new channel to this one
+pub record IsLateReached (now : LateChannel) : Type 0 where
+  pub plan : Plan
+  pub port : ClockedPort
+  pub down : List (List ℕ)
+  pub up : List (List ℕ)
+  pub events : List LateEvent
+  pub can_start : CanStart plan port down up
+  pub led : now ≡ after_late_events (new_late_channel plan port down up) events

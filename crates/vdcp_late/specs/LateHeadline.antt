@@ -1,6 +1,6 @@
 -- The headline of a line that keeps order: what holds of every channel that events have led to, however late the
 -- answers came, and whichever end was started anew.
-use Rattle.std.specs.Prelude.{ℕ, ◌≡◌, ◌≤◌, Bool, true, false, None, IfSome, List, ◌++◌, length, take}
+use Rattle.std.specs.Prelude.{ℕ, ◌+◌, ◌≡◌, ◌≤◌, Bool, true, false, None, IfSome, IsTrue, List, ◌++◌, length, take}
 use Rattle.vdcp_value.specs.declared.clip_id.ClipId.{ClipId}
 use Rattle.vdcp_value.specs.declared.part.Item.{Item}
 use Rattle.vdcp_value.specs.declared.timecode.Timecode.{Timecode}
@@ -24,25 +24,24 @@ IsLateRefused Plain plan aired log place = Unit {0}
 IsLateRefused Confirming plan aired log place =
     IsRefused plan.list plan.limit log place × AreReported plan aired log place
 
--- What it means that a controller ended so. A stale answer or a server that was started anew may end it Denied,
--- Refused, Foreign or Strange, whatever the playlist.
+-- What it means that a controller ended so. A stale answer, a forged NAK or a server that was started anew may end it
+-- Denied, Refused, Foreign or Strange, whatever the playlist.
 abbrev pub LateMeans : List (ClipId × Timecode) → Plan → List Item → List Exchange → Outcome → Type 0
 LateMeans clips plan aired log outcome.Done = (aired ≡ plan.list) × AreReported plan aired log (length plan.list)
 LateMeans clips plan aired log (outcome.Missing k) = IsUnknownAt clips plan.list k × AreReported plan aired log k
 LateMeans clips plan aired log (outcome.Refused k) = IsLateRefused plan.mode plan aired log k
 LateMeans clips plan aired log outcome.Lost = IsLost plan.mode plan.limit log
 LateMeans clips plan aired log outcome.Stopped = Unit {0}
-LateMeans clips plan aired log outcome.Denied = Unit {0}
-LateMeans clips plan aired log (outcome.Foreign k) = Unit {0}
-LateMeans clips plan aired log (outcome.Strange k) = Unit {0}
+LateMeans clips plan aired log outcome.Denied = AreReported plan aired log 0
+LateMeans clips plan aired log (outcome.Foreign k) = AreReported plan aired log (k + 1)
+LateMeans clips plan aired log (outcome.Strange k) = AreReported plan aired log k
 
 -- the outcomes after which all that went to air is reported; in plain mode a refusal may be a stale one
 abbrev pub is_late_complete : Mode → Outcome → Bool
-is_late_complete mode outcome.Done = true
-is_late_complete mode (outcome.Missing k) = true
+is_late_complete mode outcome.Lost = false
+is_late_complete mode outcome.Stopped = false
 is_late_complete Plain (outcome.Refused k) = false
-is_late_complete Confirming (outcome.Refused k) = true
-is_late_complete mode _ = false
+is_late_complete mode _ = true
 
 -- the events that are reported as aired
 abbrev pub reported_of : LateChannel → List Item
@@ -66,5 +65,7 @@ pub record LateHeadline (c : LateChannel) : Type 0 where
   -- the rule book allows each command of the log where it stands, and the one that is awaited
   pub keeps_rules : KeepsRules c.plan.mode c.plan.list c.log
   pub may_await : IfSome (awaited c.plan c.state) (λ command. May c.plan.mode c.plan.list c.log command)
-  -- and where the controller has ended
+  -- and where the controller has ended: what that means, and whether the report is complete
   pub ended : IfSome (outcome_of c.state.stage) (LateMeans c.port.clips c.plan c.aired c.log)
+  pub complete : IfSome (outcome_of c.state.stage) (λ outcome. IsTrue (is_late_complete c.plan.mode outcome)
+      → c.aired ≡ reported_of c)

@@ -7,10 +7,11 @@ use Rattle.vdcp_auto.specs.declared.phase.Phase.{Phase}
 use Rattle.vdcp_auto.specs.declared.phase.Phase.TheVariants as phase
 
 -- The stretches of a playlist of n events, in order: phases of one stretch take turns, and once an answer leads
--- from a stretch to the next one, the controller never comes back to it. In confirm mode a cue is tried again
--- from Wait, and so its two phases are one stretch.
+-- from a stretch to the next one, the controller never comes back to it. What asks about the port is one stretch, since
+-- it may have been asked before the run too. In confirm mode a cue is tried again from Wait, and so its two phases are
+-- one stretch.
 abbrev pub stretch : Mode → ℕ → Phase → ℕ
-stretch mode n phase.Open = 0
+stretch mode n phase.Open = 1
 stretch mode n phase.Select = 1
 stretch mode n phase.Seen = 1
 stretch mode n (phase.Exists k) = 5 * k + 2
@@ -25,12 +26,12 @@ stretch mode n phase.Close = 5 * n + 3
 stretch mode n phase.Halt = 5 * n + 4
 stretch mode n phase.HaltClose = 5 * n + 4
 
--- The oldest stretch of which something can be in the pipe: the one before the phase's own, and in Close, where nothing
--- can air any more, the one before that.
+-- The oldest stretch of which something can be in the pipe: the one before the phase's own, if any, and in
+-- Close, where nothing can air any more, the one before that.
 abbrev pub oldest_stretch : Mode → ℕ → Phase → ℕ
-oldest_stretch mode n phase.Open = 0
-oldest_stretch mode n phase.Select = 0
-oldest_stretch mode n phase.Seen = 0
+oldest_stretch mode n phase.Open = 1
+oldest_stretch mode n phase.Select = 1
+oldest_stretch mode n phase.Seen = 1
 oldest_stretch mode n (phase.Exists k) = 5 * k + 1
 oldest_stretch mode n (phase.Cue k) = 5 * k + 2
 oldest_stretch Plain n (phase.Wait k) = 5 * k + 3

@@ -1,4 +1,4 @@
--- Runs of a late channel: how far one goes where memory is refused, and what no event changes.
+-- Runs of a late channel: how far one goes if memory is refused, and what no event changes.
 use Rattle.std.specs.Prelude.{◌≡◌, List, ◌∷◌, ◌++◌}
 use Rattle.vdcp_world.specs.Channel.{Make}
 use Rattle.vdcp_late.specs.LateChannel.{LateChannel, after_late_events}

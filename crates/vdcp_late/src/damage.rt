@@ -1,3 +1,4 @@
+//! What a late line may make of a burst, and make up.
 ghost use Rattle.std.specs.Prelude.{◌≡◌};
 ghost use Rattle.vdcp_late.specs.Damage as damage;
 
@@ -47,7 +48,7 @@ fn is_stray<S: Source>(controller: &Controller<S>, reply: &Reply) -> bool
     ensures { result ≡ damage.is_stray controller.now.mode reply.now }
 {
     match reply {
-        Reply::Ack | Reply::Nak(0x01) => controller.is_confirming(),
+        Reply::Ack => controller.is_confirming(),
         Reply::Nak(_) => true,
         Reply::Opened(_)
         | Reply::State(_, _)

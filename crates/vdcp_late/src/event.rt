@@ -1,3 +1,4 @@
+//! What can happen on a late line and at its ends.
 use vdcp_world::Burst;
 
 /// What happens on a line that keeps order, at one of its ends, or in time. Where it can't happen, nothing
@@ -26,9 +27,8 @@ pub enum LateEvent {
     AlterUp(usize, Burst),
     /// These bytes, of which no message is read, come into the queue down at this place, or at its end.
     JunkDown(usize, Burst),
-    /// These bytes, of which no answer to a command is heard, come into the queue up at this place, or at its end:
-    /// nothing is heard of them, or what isn't a reply, or a NAK other than 01h; in confirm mode also
-    /// ACK and any NAK.
+    /// These bytes, of which no answer but a refusal is heard, come into the queue up at this place, or at its end:
+    /// nothing is heard of them, or what isn't a reply, or a NAK; in confirm mode also ACK.
     JunkUp(usize, Burst),
     /// Nothing came in time, whatever is on the way.
     Timeout,

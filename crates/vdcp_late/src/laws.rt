@@ -10,20 +10,22 @@ ghost use Rattle.vdcp_world.specs.Channel.{Channel, IsReached, after_event};
 ghost use Rattle.vdcp_world.specs.declared.event.Event.{Event};
 
 /// Whatever happened on a line that keeps order, from a new controller on: deliveries as late as they like, losses,
-/// detected damage, copies in their place, junk, time-outs at any moment, cue completions, clip ends, frames, the
-/// operator's calls, the server started anew, the automation started anew; in plain mode from a port in whatever
-/// state, and in confirm mode, with receipts from nowhere, from a port with nothing cued; with whatever playlist and
-/// catalogue:
+/// detected damage, copies in their place, junk, forged NAKs, time-outs at any moment, cue completions, clip ends,
+/// frames, the operator's calls, the server started anew, the automation started anew; in plain mode from a port in
+/// whatever state, and in confirm mode, with receipts from nowhere, from a port with nothing cued; with what asked the
+/// port before, and its answers, still on the way; with whatever playlist and catalogue:
 ///
 /// - what went to air is a beginning of the playlist, each event once and in order;
 /// - the events reported as aired are a beginning of these, shorter by one at most, and are those that the log shows
 ///   to be aired; where no PLAY stands after the last exchange that settles, the awaited one included, they are all
 ///   that went to air;
 /// - the rule book allows each command of the log where it stands, and the one that is awaited;
-/// - Done means that the whole playlist went to air and is reported; Missing(k), that event k's clip isn't in the
-///   catalogue, and in confirm mode Refused(k), that `limit` or more empty statuses came after a cue of event k,
-///   since which nothing settled; and both, that the events before k went to air and are reported; Lost, that the
-///   log shows it lost.
+/// - Done means that the whole playlist went to air and is reported; Denied, that nothing did; Missing(k), that event
+///   k's clip isn't in the catalogue, and in confirm mode Refused(k), that `limit` or more empty statuses came after a
+///   cue of event k, since which nothing settled; and both, as Strange(k), that the events before k went to air and are
+///   reported; Foreign(k), that k and those before it did and are; Lost, that the log shows it lost;
+/// - so after each of these but Lost all that went to air is reported; in plain mode not after Refused, which may be
+///   forged or stale, nor in either mode after Stopped.
 pub fn a_late_line_keeps_the_headline()
     ensures { (c : LateChannel) → IsLateReached c → LateHeadline c }
 {

@@ -11,8 +11,7 @@
 //!
 //! An event that can't happen changes nothing. `read_script` of `vdcp_world` makes `LateEvent`s of a text, too.
 //!
-//! Files: `event` (what happens), `world` (the late world), `link` (what each event does, over bytes), `queue`
-//! (bursts on the way), `damage` (what the line may make of them), `script` (the words of scripts).
+//! Files, in reading order: `event`, `world`, `link`, `queue`, `damage`, `script`, `laws`.
 #![tactic(auto)]
 
 mod damage;

@@ -1,4 +1,5 @@
-ghost use Rattle.std.specs.Prelude.{◌≡◌, ◌<◌, ◌≤◌, ◌++◌, OnOk, OnErr, vec_len, vec_capacity};
+//! What each event does to a late world, over bytes.
+ghost use Rattle.std.specs.Prelude.{◌≡◌, ◌<◌, ◌≤◌, ◌++◌, OnOk, OnErr, [], vec_len, vec_capacity};
 ghost use Rattle.vdcp_auto.specs.Course.{logged};
 ghost use Rattle.vdcp_auto.specs.Heard.{heard_in};
 ghost use Rattle.vdcp_auto.specs.Plan.{plan_of};
@@ -54,7 +55,7 @@ impl<S: Source, C: Catalogue, A: Allocator + Copy> LateLink<S, C, A> {
     /// Nothing is on the way, and nothing was aired.
     pub fn new(alloc: A, controller: Controller<S>, port: Port<C>) -> Self
         requires { controller.state ≡ turns.start }
-        ensures { result ≡ new_late_channel (plan_of S.items controller) port }
+        ensures { result ≡ new_late_channel (plan_of S.items controller) port [] [] }
     {
         LateLink {
             controller,

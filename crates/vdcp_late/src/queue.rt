@@ -1,3 +1,4 @@
+//! The queue of bursts on the way to one end.
 ghost use Rattle.std.specs.Option.{option_copied};
 ghost use Rattle.std.specs.Prelude.{ℕ, ◌≡◌, ◌<◌, [], ◌∷◌, ◌++◌, List, OnOk, OnErr, insert, remove, slice_get};
 ghost use Rattle.std.specs.VecDeque.{deque_len, deque_capacity};
@@ -38,7 +39,7 @@ impl<A: Allocator> Waiting<A> {
     }
 }
 
-/// The bytes of the oldest burst; none where nothing waits.
+/// The bytes of the oldest burst; none if nothing waits.
 pub(crate) fn oldest_of<A: Allocator>(queue: &Queue<A>) -> &[u8]
     ensures { result.now ≡ oldest queue.now.items }
 {
@@ -65,14 +66,14 @@ pub(crate) fn drop_oldest<A: Allocator>(queue: &mut Queue<A>)
     let _ = queue.pop_front();
 }
 
-/// The burst at this place is lost, if there is one.
+/// The burst at this place, if any, is lost.
 pub(crate) fn lose<A: Allocator>(queue: &mut Queue<A>, place: usize)
     ensures { queue.new.items ≡ remove queue.old.items place }
 {
     let _ = queue.remove(place);
 }
 
-/// An answer joins the queue where there is room; one of no bytes is none.
+/// An answer joins the queue if there is room; one of no bytes is none.
 pub(crate) fn join<A: Allocator>(queue: &mut Queue<A>, answer: Vec<u8, A>)
     requires { deque_len queue.old < deque_capacity queue.old }
     ensures { queue.new.items ≡ queue.old.items ++ bursts_of answer.items }
@@ -82,7 +83,7 @@ pub(crate) fn join<A: Allocator>(queue: &mut Queue<A>, answer: Vec<u8, A>)
     }
 }
 
-/// These bytes come into the queue at this place, or at its end. Where memory is refused nothing changes.
+/// These bytes come into the queue at this place, or at its end. If memory is refused nothing changes.
 pub(crate) fn put_in<A: Allocator + Copy>(
     queue: &mut Queue<A>,
     place: usize,
@@ -98,7 +99,7 @@ pub(crate) fn put_in<A: Allocator + Copy>(
     Ok(())
 }
 
-/// These bytes stand in place of the burst at this place, which there is. Where memory is refused nothing
+/// These bytes stand in place of the burst at this place, which there is. If memory is refused nothing
 /// changes.
 pub(crate) fn replace<A: Allocator + Copy>(
     queue: &mut Queue<A>,

@@ -1,3 +1,4 @@
+//! The words that scripts have for a late line.
 ghost use Rattle.std.specs.Prelude.{◌+◌, IfOk, IfSome};
 ghost use Rattle.vdcp_world.specs.Script.{WritesCount};
 

@@ -1,4 +1,5 @@
-ghost use Rattle.std.specs.Prelude.{◌≡◌, ◌≤◌, ◌++◌, List, length, take, IsTrue, IfSome, OnOk, OnErr, bit_and};
+//! The late world, and what holds of it whatever happens.
+ghost use Rattle.std.specs.Prelude.{◌≡◌, ◌≤◌, ◌++◌, [], List, length, take, IsTrue, IfSome, OnOk, OnErr, bit_and};
 ghost use Rattle.vdcp_auto.specs.RuleBook.{KeepsRules};
 ghost use Rattle.vdcp_auto.specs.Settled.{settled};
 ghost use Rattle.vdcp_auto.specs.Turn.{outcome_of};
@@ -53,7 +54,7 @@ impl<S: Source, C: Catalogue, A: Allocator + Copy> LateWorld<S, C, A> {
         requires some { 1 ≤ limit }
         requires few { limit ≤ 1000 }
         ensures new { result ≡ new_late_channel
-            (record { mode = Plain; list = S.items source; port = port.state.number; limit = limit }) port }
+            (record { mode = Plain; list = S.items source; port = port.state.number; limit = limit }) port [] [] }
         ensures headline { LateHeadline result }
     {
         a_late_line_keeps_the_headline();
@@ -71,7 +72,7 @@ impl<S: Source, C: Catalogue, A: Allocator + Copy> LateWorld<S, C, A> {
         requires some { 1 ≤ limit }
         requires few { limit ≤ 1000 }
         ensures new { result ≡ new_late_channel
-            (record { mode = Confirming; list = S.items source; port = port.state.number; limit = limit }) port }
+            (record { mode = Confirming; list = S.items source; port = port.state.number; limit = limit }) port [] [] }
         ensures headline { LateHeadline result }
     {
         a_late_line_keeps_the_headline();
@@ -120,8 +121,8 @@ impl<S: Source, C: Catalogue, A: Allocator + Copy> LateWorld<S, C, A> {
         self.link.aired()
     }
 
-    /// How many events of the playlist the controller knows to have been aired: all that went to air, or one fewer;
-    /// all once the outcome is Done or Missing, and in confirm mode Refused.
+    /// How many events of the playlist the controller knows to have been aired: all that went to air, or one fewer; all
+    /// once it has ended, but for Lost, Stopped, and in plain mode Refused.
     pub fn reported(&self) -> usize
         ensures count { result ≡ self.now.state.settled }
         ensures settled { result ≡ settled self.now.plan.mode self.now.log }

@@ -3,3 +3,4 @@ mod TextLemmas
 mod ShowLemmas
 mod MakeLemmas
 mod Examples
+mod Named

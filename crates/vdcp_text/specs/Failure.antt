@@ -4,6 +4,8 @@ use Rattle.vdcp_text.specs.Text.{line, shown_name}
 use Rattle.vdcp_text.specs.declared.failure.Failure.{Failure}
 use Rattle.vdcp_text.specs.declared.failure.Failure.TheVariants.{Hex, Word, Arguments, Text, Open, Read, Row, ScriptLine, TooManyEvents, NotText, Empty, Write, IsList, Exists, InUse, JournalRow, NotTheList, MayHaveAired, NoEvent, Memory, Writer}
 use Rattle.vdcp_text.specs.declared.failure.Failure.TheVariants.{Address, Connect, NotEmpty, Bind, LineFailed, LineClosed, Unanswered, Spent}
+use Rattle.vdcp_text.specs.declared.failure.Words.{Words}
+use Rattle.vdcp_text.specs.declared.failure.Words.TheVariants.{Plain, File, Place, Event}
 use Rattle.vdcp_text.specs.declared.failure.JournalFault.{JournalFault}
 use Rattle.vdcp_text.specs.declared.failure.JournalFault.TheVariants as journal
 use Rattle.vdcp_text.specs.declared.failure.ScriptLineFault.{ScriptLineFault}
@@ -110,6 +112,14 @@ failure_text Unanswered = codes "never answered"
 failure_text Spent = codes "spent"
 failure_text Memory = codes "memory"
 failure_text Writer = codes "write"
+
+-- the same, of the words apart
+abbrev pub words_text : Words → List ℕ
+words_text (Plain words) = words.now
+words_text (File name words) = shown_name name.now ++ words.now
+words_text (Place name place number fault) =
+    shown_name name.now ++ place.now ++ decimal number ++ codes ": " ++ fault.now
+words_text (Event before event after) = before.now ++ decimal event ++ after.now
 
 -- the line that reports a failure
 abbrev pub failure_line : Failure → List ℕ

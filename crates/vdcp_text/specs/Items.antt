@@ -8,7 +8,7 @@ use Rattle.vdcp_value.specs.declared.part.Item.{Item}
 use Rattle.vdcp_value.specs.declared.part.Part.{Part}
 use Rattle.vdcp_value.specs.declared.rate.Rate.{Rate}
 
--- the time code that four bytes write at a rate; their digits where they write none
+-- the time code that four bytes write at a rate; their digits if they write none
 abbrev pub shown_time : Rate → List ℕ → List ℕ
 shown_time rate bytes = if is_time rate bytes then label_text rate (label_of_bcd bytes) else encode_lower bytes
 

@@ -21,7 +21,7 @@ shown_char c = cond (is_control c) (codes "\\x" ++ byte_text c) (encode_utf8 c)
 abbrev pub shown_name : List ℕ → List ℕ
 shown_name name = flat_map shown_char (chars name)
 
--- data as lower-case hexadecimal digits, or a dash where there is none
+-- data as lower-case hexadecimal digits, or a dash if there is none
 abbrev pub data_text : List ℕ → List ℕ
 data_text [] = codes "-"
 data_text (byte ∷ bytes) = encode_lower (byte ∷ bytes)

@@ -1,3 +1,4 @@
+//! Exchanges as text.
 use arrayvec::ArrayString;
 use std::fmt;
 use vdcp_auto::{Exchange, Heard};
@@ -14,8 +15,8 @@ impl fmt::Display for HeardText {
 
     fn fmt<W: fmt::Write>(&self, f: &mut fmt::Formatter<W>) -> fmt::Result {
         match self.0 {
-            None => write!(f, "silence"),
-            Some(Heard::Other) => write!(f, "other"),
+            None => f.write_str("silence"),
+            Some(Heard::Other) => f.write_str("other"),
             Some(Heard::Reply(reply)) => {
                 let mut text = ArrayString::<64>::new();
                 reply.show(&mut text);

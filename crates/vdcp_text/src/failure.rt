@@ -1,3 +1,4 @@
+//! The failures of subcommands, each a line and an exit status.
 ghost use Rattle.std.specs.Io.KnownBytes.{Appends, Keeps};
 ghost use Rattle.std.specs.Prelude.{◌≡◌, ◌⊎◌, ◌<◌};
 
@@ -73,7 +74,7 @@ impl Failure<'_> {
 
     /// Reports the failure to `err` in one line and gives the exit status: 1 for refused data, for a port that isn't
     /// empty and for an event that a run can't begin with, 2 for words that aren't text and for an address that is
-    /// none, and 3 for the others. The status is also 3 where the line can't be written. `Writer` writes no line.
+    /// none, and 3 for the others. The status is also 3 if the line can't be written. `Writer` writes no line.
     pub fn report<E: io::Write>(self, err: &mut E) -> u8
         ensures status { (result ≡ status_of self.entry) ⊎ (result ≡ 3) }
         ensures told { result < 3 → Appends (E.contents err.old) (E.contents err.new) (failure_line self.entry) }
@@ -108,6 +109,63 @@ impl Failure<'_> {
     }
 }
 
+impl<'a> Failure<'a> {
+    ghost use Rattle.vdcp_text.specs.Failure.{failure_text, words_text};
+
+    fn words(self) -> Words<'a>
+        ensures { words_text result ≡ failure_text self.entry }
+    {
+        match self {
+            Failure::Hex => Words::Plain("hex"),
+            Failure::Word => Words::Plain("word"),
+            Failure::Arguments => Words::Plain("arguments"),
+            Failure::Text => Words::Plain("text"),
+            Failure::Open(name) => Words::File(name, ": cannot open"),
+            Failure::Read(name) => Words::File(name, ": read"),
+            Failure::Row(name, row, fault) => Words::Place(name, ": row ", row, fault.text()),
+            Failure::ScriptLine(name, line, fault) => {
+                Words::Place(name, ": line ", line, fault.text())
+            }
+            Failure::TooManyEvents(name) => Words::File(name, ": too many"),
+            Failure::NotText(name) => Words::File(name, ": text"),
+            Failure::Empty(name) => Words::File(name, ": empty"),
+            Failure::Write(name) => Words::File(name, ": write"),
+            Failure::IsList(name) => Words::File(name, ": exists as the list"),
+            Failure::Exists(name) => Words::File(name, ": exists"),
+            Failure::InUse(name) => Words::File(name, ": in use"),
+            Failure::JournalRow(name, row, fault) => {
+                Words::Place(name, ": row ", row, fault.text())
+            }
+            Failure::NotTheList(name) => Words::File(name, ": not the journal's list"),
+            Failure::MayHaveAired(event) => Words::Event("event ", event, " may have aired"),
+            Failure::NoEvent(event) => Words::Event("no event ", event, ""),
+            Failure::Address => Words::Plain("address"),
+            Failure::Connect => Words::Plain("cannot connect"),
+            Failure::NotEmpty => Words::Plain("port not empty"),
+            Failure::Bind => Words::Plain("cannot bind"),
+            Failure::LineFailed => Words::Plain("line failed"),
+            Failure::LineClosed => Words::Plain("line closed"),
+            Failure::Unanswered => Words::Plain("never answered"),
+            Failure::Spent => Words::Plain("spent"),
+            Failure::Memory => Words::Plain("memory"),
+            Failure::Writer => Words::Plain("write"),
+        }
+    }
+}
+
+// The words of a failure. (Told at once by each arm, they cost several times as much to prove.)
+#[derive(Clone, Copy)]
+enum Words<'a> {
+    // These.
+    Plain(&'static str),
+    // A file's name, and these.
+    File(&'a str, &'static str),
+    // A file's name, what is counted there, its number, and its fault.
+    Place(&'a str, &'static str, usize, &'static str),
+    // An event's number between these.
+    Event(&'static str, usize, &'static str),
+}
+
 impl fmt::Display for Failure<'_> {
     ghost use Rattle.std.specs.Prelude.{Some};
     ghost use Rattle.vdcp_text.specs.Failure.{failure_text};
@@ -115,44 +173,13 @@ impl fmt::Display for Failure<'_> {
     ghost output = { λ failure. Some (failure_text failure) };
 
     fn fmt<W: fmt::Write>(&self, f: &mut fmt::Formatter<W>) -> fmt::Result {
-        match *self {
-            Failure::Hex => f.write_str("hex"),
-            Failure::Word => f.write_str("word"),
-            Failure::Arguments => f.write_str("arguments"),
-            Failure::Text => f.write_str("text"),
-            Failure::Open(name) => write!(f, "{}: cannot open", NameText(name)),
-            Failure::Read(name) => write!(f, "{}: read", NameText(name)),
-            Failure::Row(name, row, fault) => write!(f, "{}: row {row}: {fault}", NameText(name)),
-            Failure::ScriptLine(name, line, fault) => write!(
-                f,
-                "{}: line {line}: {fault}",
-                NameText(name)
-            ),
-            Failure::TooManyEvents(name) => write!(f, "{}: too many", NameText(name)),
-            Failure::NotText(name) => write!(f, "{}: text", NameText(name)),
-            Failure::Empty(name) => write!(f, "{}: empty", NameText(name)),
-            Failure::Write(name) => write!(f, "{}: write", NameText(name)),
-            Failure::IsList(name) => write!(f, "{}: exists as the list", NameText(name)),
-            Failure::Exists(name) => write!(f, "{}: exists", NameText(name)),
-            Failure::InUse(name) => write!(f, "{}: in use", NameText(name)),
-            Failure::JournalRow(name, row, fault) => write!(
-                f,
-                "{}: row {row}: {fault}",
-                NameText(name)
-            ),
-            Failure::NotTheList(name) => write!(f, "{}: not the journal's list", NameText(name)),
-            Failure::MayHaveAired(event) => write!(f, "event {event} may have aired"),
-            Failure::NoEvent(event) => write!(f, "no event {event}"),
-            Failure::Address => f.write_str("address"),
-            Failure::Connect => f.write_str("cannot connect"),
-            Failure::NotEmpty => f.write_str("port not empty"),
-            Failure::Bind => f.write_str("cannot bind"),
-            Failure::LineFailed => f.write_str("line failed"),
-            Failure::LineClosed => f.write_str("line closed"),
-            Failure::Unanswered => f.write_str("never answered"),
-            Failure::Spent => f.write_str("spent"),
-            Failure::Memory => f.write_str("memory"),
-            Failure::Writer => f.write_str("write"),
+        match self.words() {
+            Words::Plain(words) => f.write_str(words),
+            Words::File(name, words) => write!(f, "{}{words}", NameText(name)),
+            Words::Place(name, place, number, fault) => {
+                write!(f, "{}{place}{number}: {fault}", NameText(name))
+            }
+            Words::Event(before, event, after) => write!(f, "{before}{event}{after}"),
         }
     }
 }
@@ -185,20 +212,19 @@ pub enum RowFault {
     Long,
 }
 
-impl fmt::Display for RowFault {
-    ghost use Rattle.std.specs.Prelude.{Some};
+impl RowFault {
     ghost use Rattle.vdcp_text.specs.Failure.{row_fault_text};
 
-    ghost output = { λ fault. Some (row_fault_text fault) };
-
-    fn fmt<W: fmt::Write>(&self, f: &mut fmt::Formatter<W>) -> fmt::Result {
+    fn text(self) -> &'static str
+        ensures { result.now ≡ row_fault_text self }
+    {
         match self {
-            RowFault::Columns => f.write_str("columns"),
-            RowFault::Id => f.write_str("id"),
-            RowFault::Time => f.write_str("time"),
-            RowFault::Twice => f.write_str("twice"),
-            RowFault::TooMany => f.write_str("too many"),
-            RowFault::Long => f.write_str("long"),
+            RowFault::Columns => "columns",
+            RowFault::Id => "id",
+            RowFault::Time => "time",
+            RowFault::Twice => "twice",
+            RowFault::TooMany => "too many",
+            RowFault::Long => "long",
         }
     }
 }
@@ -216,18 +242,17 @@ pub enum ScriptLineFault {
     Long,
 }
 
-impl fmt::Display for ScriptLineFault {
-    ghost use Rattle.std.specs.Prelude.{Some};
+impl ScriptLineFault {
     ghost use Rattle.vdcp_text.specs.Failure.{script_line_fault_text};
 
-    ghost output = { λ fault. Some (script_line_fault_text fault) };
-
-    fn fmt<W: fmt::Write>(&self, f: &mut fmt::Formatter<W>) -> fmt::Result {
+    fn text(self) -> &'static str
+        ensures { result.now ≡ script_line_fault_text self }
+    {
         match self {
-            ScriptLineFault::Word => f.write_str("word"),
-            ScriptLineFault::Number => f.write_str("number"),
-            ScriptLineFault::Hex => f.write_str("hex"),
-            ScriptLineFault::Long => f.write_str("long"),
+            ScriptLineFault::Word => "word",
+            ScriptLineFault::Number => "number",
+            ScriptLineFault::Hex => "hex",
+            ScriptLineFault::Long => "long",
         }
     }
 }
@@ -273,32 +298,31 @@ pub enum JournalFault {
     Long,
 }
 
-impl fmt::Display for JournalFault {
-    ghost use Rattle.std.specs.Prelude.{Some};
+impl JournalFault {
     ghost use Rattle.vdcp_text.specs.Failure.{journal_fault_text};
 
-    ghost output = { λ fault. Some (journal_fault_text fault) };
-
-    fn fmt<W: fmt::Write>(&self, f: &mut fmt::Formatter<W>) -> fmt::Result {
+    fn text(self) -> &'static str
+        ensures { result.now ≡ journal_fault_text self }
+    {
         match self {
-            JournalFault::Empty => f.write_str("empty"),
-            JournalFault::Columns => f.write_str("columns"),
-            JournalFault::Time => f.write_str("time"),
-            JournalFault::Word => f.write_str("word"),
-            JournalFault::Digest => f.write_str("digest"),
-            JournalFault::Mode => f.write_str("mode"),
-            JournalFault::Number => f.write_str("number"),
-            JournalFault::List => f.write_str("list"),
-            JournalFault::Unit => f.write_str("unit"),
-            JournalFault::Port => f.write_str("port"),
-            JournalFault::Limit => f.write_str("limit"),
-            JournalFault::Command => f.write_str("command"),
-            JournalFault::Reply => f.write_str("reply"),
-            JournalFault::Detail => f.write_str("detail"),
-            JournalFault::Unawaited => f.write_str("unawaited"),
-            JournalFault::Event => f.write_str("event"),
-            JournalFault::Outcome => f.write_str("outcome"),
-            JournalFault::Long => f.write_str("long"),
+            JournalFault::Empty => "empty",
+            JournalFault::Columns => "columns",
+            JournalFault::Time => "time",
+            JournalFault::Word => "word",
+            JournalFault::Digest => "digest",
+            JournalFault::Mode => "mode",
+            JournalFault::Number => "number",
+            JournalFault::List => "list",
+            JournalFault::Unit => "unit",
+            JournalFault::Port => "port",
+            JournalFault::Limit => "limit",
+            JournalFault::Command => "command",
+            JournalFault::Reply => "reply",
+            JournalFault::Detail => "detail",
+            JournalFault::Unawaited => "unawaited",
+            JournalFault::Event => "event",
+            JournalFault::Outcome => "outcome",
+            JournalFault::Long => "long",
         }
     }
 }

@@ -1,3 +1,4 @@
+//! Items as text.
 ghost use Rattle.hex.specs.Hex.{encode_lower};
 ghost use Rattle.std.specs.Prelude.{◌≡◌, IfNone, IfSome};
 ghost use Rattle.vdcp_text.specs.Items.{shown_time};
@@ -9,7 +10,7 @@ use std::fmt;
 use vdcp_value::laws::a_time_code_has_lawful_bytes;
 use vdcp_value::{Item, Rate, Timecode};
 
-// A time code of a part at a rate, or hexadecimal digits where its bytes write none.
+// A time code of a part at a rate, or hexadecimal digits if its bytes write none.
 #[derive(Clone, Copy)]
 struct TimeText {
     rate: Rate,

@@ -4,12 +4,12 @@
 //! `HexText`, `ByteText`, `DataText`, `MessageText`, `MeaningText`, `EndText`, `ItemText`, `OutcomeText`,
 //! `ExchangeText` and `NameText` are shown by `Display`, each with its exact text. A `Failure` is why a subcommand gives up:
 //! its `Display` is what standard error gets, and `Failure::report` gives the exit status. `do_show` shows a
-//! burst's reading, and `do_make` makes the bytes of a command.
+//! burst's reading, `do_make` makes the bytes of a command, and `read_command` reads one of its text.
 //!
-//! Files: `text` (bytes, messages and ends), `name` (of a file), `item`, `outcome`, `exchange` (what their names say, as text), `failure`
-//! (why a subcommand gives up, as a line and a status), `show` and `make` (a subcommand each).
+//! Files, in reading order: `text`, `name`, `item`, `outcome`, `exchange`, `failure`, `show`, `make`, `command`.
 #![tactic(auto)]
 
+mod command;
 mod exchange;
 mod failure;
 mod item;
@@ -19,6 +19,7 @@ mod outcome;
 mod show;
 mod text;
 
+pub use command::read_command;
 pub use exchange::ExchangeText;
 pub use failure::{Failure, JournalFault, RowFault, ScriptLineFault};
 pub use item::ItemText;

@@ -1,3 +1,4 @@
+//! The subcommand `make`: words become the bytes of a command.
 ghost use Rattle.std.specs.Prelude.{◌≡◌, ◌≢◌, ◌⊎◌, ◌<◌, ◌≤◌, [], ◌∷◌, ℕ, List, codes, IfOk, IfErr, OnErr, OnOk, length};
 ghost use Rattle.std.specs.Io.KnownBytes.{Appends, Keeps};
 ghost use Rattle.hex.specs.Hex.{encode_lower};
@@ -72,8 +73,8 @@ fn write_digits<W: io::Write>(out: &mut W, bytes: &[u8]) -> io::Result<()>
     out.flush()
 }
 
-// The command that the words name.
-fn command_of(word: &str, arguments: &[&str]) -> Result<Command, Failure<'static>>
+/// The command that the words name.
+pub(crate) fn command_of(word: &str, arguments: &[&str]) -> Result<Command, Failure<'static>>
     ensures ok { IfOk result (Names (words_of word.now arguments.now)) }
     ensures unnamed { OnErr result (NamesNone (words_of word.now arguments.now)) }
     ensures err { IfErr result (IsMakeFault word.now) }

@@ -1,3 +1,4 @@
+//! Outcomes as text.
 use std::fmt;
 use vdcp_auto::Outcome;
 
@@ -13,11 +14,11 @@ impl fmt::Display for OutcomeText {
 
     fn fmt<W: fmt::Write>(&self, f: &mut fmt::Formatter<W>) -> fmt::Result {
         match self.0 {
-            None => write!(f, "open"),
-            Some(Outcome::Done) => write!(f, "done"),
-            Some(Outcome::Stopped) => write!(f, "stopped"),
-            Some(Outcome::Lost) => write!(f, "lost"),
-            Some(Outcome::Denied) => write!(f, "denied"),
+            None => f.write_str("open"),
+            Some(Outcome::Done) => f.write_str("done"),
+            Some(Outcome::Stopped) => f.write_str("stopped"),
+            Some(Outcome::Lost) => f.write_str("lost"),
+            Some(Outcome::Denied) => f.write_str("denied"),
             Some(Outcome::Missing(k)) => write!(f, "missing {k}"),
             Some(Outcome::Refused(k)) => write!(f, "refused {k}"),
             Some(Outcome::Foreign(k)) => write!(f, "foreign {k}"),

@@ -1,3 +1,4 @@
+//! The subcommand `show`: a burst's reading, line by line.
 ghost use Rattle.std.specs.Prelude.{◌≡◌, ◌⊎◌, ◌<◌, IfOk, IfErr, OnErr, OnOk, IsErr, IsOkAnd};
 ghost use Rattle.std.specs.Io.KnownBytes.{Appends, Keeps};
 ghost use Rattle.hex.specs.Hex.{decode_of};
@@ -19,9 +20,9 @@ use vdcp_frame::{End, Message, Messages};
 /// Shows the burst that hexadecimal digits spell: a line for each of its messages, with `meanings`
 /// also the command or reply that it carries, and then one for its end.
 ///
-/// The status is 0 where the end is clean, and 1 where it isn't. It is also 1 where `hex` isn't an
-/// even number of hexadecimal digits, and 3 where memory was refused; `err` gets a line of either.
-/// It is 3 where a writer failed: nothing more is written to that one. `out` is flushed after the
+/// The status is 0 if the end is clean, and 1 if it isn't. It is also 1 if `hex` isn't an
+/// even number of hexadecimal digits, and 3 if memory was refused; `err` gets a line of either.
+/// It is 3 if a writer failed: nothing more is written to that one. `out` is flushed after the
 /// last line.
 pub fn do_show<A: Allocator, W: io::Write, E: io::Write>(
     alloc: A,

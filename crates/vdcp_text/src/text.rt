@@ -1,3 +1,4 @@
+//! Bytes, messages and the ends of bursts as text.
 use arrayvec::ArrayString;
 use std::{fmt, str};
 use vdcp_frame::{End, Fault, Message};
@@ -42,7 +43,7 @@ impl fmt::Display for ByteText {
     }
 }
 
-/// Data as lower-case hexadecimal digits, or a dash where there is none.
+/// Data as lower-case hexadecimal digits, or a dash if there is none.
 #[derive(Clone, Copy)]
 pub struct DataText<'a>(pub &'a [u8]);
 
@@ -54,7 +55,7 @@ impl fmt::Display for DataText<'_> {
 
     fn fmt<W: fmt::Write>(&self, f: &mut fmt::Formatter<W>) -> fmt::Result {
         match self.0 {
-            [] => write!(f, "-"),
+            [] => f.write_str("-"),
             bytes => {
                 let bytes = HexText(bytes);
                 write!(f, "{bytes}")
@@ -76,7 +77,7 @@ impl fmt::Display for MessageText<'_> {
 
     fn fmt<W: fmt::Write>(&self, f: &mut fmt::Formatter<W>) -> fmt::Result {
         match self.0 {
-            Message::Ack => write!(f, "ack"),
+            Message::Ack => f.write_str("ack"),
             Message::Nak(byte) => {
                 let byte = ByteText(byte);
                 write!(f, "nak {byte}")
@@ -96,7 +97,7 @@ impl fmt::Display for MessageText<'_> {
 }
 
 /// What a message says: ` = ` and the text of the command or reply that it carries. It is empty
-/// where it carries neither, and for ACK and NAK.
+/// if it carries neither, and for ACK and NAK.
 #[derive(Clone, Copy)]
 pub struct MeaningText<'a>(pub Message<'a>);
 
@@ -137,7 +138,7 @@ impl fmt::Display for EndText {
 
     fn fmt<W: fmt::Write>(&self, f: &mut fmt::Formatter<W>) -> fmt::Result {
         match self.0 {
-            End::Clean => write!(f, "clean"),
+            End::Clean => f.write_str("clean"),
             End::Cut(count) => write!(f, "cut {count}"),
             End::Fault(Fault::BadStart, place) => write!(f, "fault bad-start {place}"),
             End::Fault(Fault::BadCount(count), place) => {

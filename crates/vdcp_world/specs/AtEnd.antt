@@ -1,4 +1,4 @@
--- How the port is left where the controller has ended Done or Stopped.
+-- How the port is left if the controller has ended Done or Stopped.
 use Rattle.std.specs.Prelude.{◌≡◌, None}
 use Rattle.vdcp_port.specs.Port.{PortState, empty}
 use Rattle.vdcp_port.specs.declared.access.Access.TheVariants.{Closed}

@@ -15,7 +15,7 @@ pub record IsDone (c : Channel) : Type 0 where
   pub all_aired : c.aired ≡ c.plan.list
   pub all_reported : c.state.settled ≡ length c.plan.list
 
--- each item of the playlist is in the catalogue, and its part, where it has one, fits its clip
+-- each item of the playlist is in the catalogue, and its part, if it has one, fits its clip
 abbrev pub IsAllPlayable : Channel → Type 0
 IsAllPlayable c = All (λ item. IsTrue (is_playable c.port.clips item)) c.plan.list
 

@@ -28,7 +28,7 @@ use Rattle.vdcp_world.specs.declared.event.Event.TheVariants.{Tick, Down, Up, Do
 use Rattle.vdcp_world.specs.declared.event.Event.TheVariants.{Timeout, Ready, End, Frame, Take, Stop, StrayAck, StrayNak}
 
 -- The controller, with what it was made with, and the port; the bytes on the way down, to the port, and
--- up, to the controller, none where nothing is on the way; what went to air; the exchanges that ended.
+-- up, to the controller, none if nothing is on the way; what went to air; the exchanges that ended.
 -- Lists have the oldest first.
 pub record Channel : Type 0 where
   pub plan : Plan
@@ -79,7 +79,7 @@ abbrev pub log_hearing : Plan → Option Heard → State → List Exchange → L
 log_hearing plan None state log = log
 log_hearing plan (Some h) state log = logged log (ended_by plan (Some h) state)
 
--- Time-out: the controller and the log, where nothing is on the way either way, and where something is.
+-- Time-out: the controller and the log, if nothing is on the way either way, and if something is.
 
 abbrev pub state_waiting : Plan → List ℕ → List ℕ → State → State
 state_waiting plan [] [] state = came_to plan None state
@@ -116,7 +116,7 @@ can_become_up Confirming unit way bytes =
 abbrev pub altered : Bool → List ℕ → List ℕ → List ℕ
 altered can way bytes = if can then bytes else way
 
--- what an event leaves; the channel as it was, where the event can't happen
+-- what an event leaves; the channel as it was, if the event can't happen
 abbrev pub after_event : Channel → Event → Channel
 after_event c Tick =
     record c {

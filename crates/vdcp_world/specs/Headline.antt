@@ -70,5 +70,5 @@ pub record Headline (c : Channel) : Type 0 where
   -- the rule book allows each command of the log where it stands, and the one that is awaited
   pub keeps_rules : KeepsRules c.plan.mode c.plan.list c.log
   pub may_await : IfSome (awaited c.plan c.state) (λ command. May c.plan.mode c.plan.list c.log command)
-  -- and where the controller has ended
+  -- and if the controller has ended
   pub ended : IfSome (outcome_of c.state.stage) (Means c.port.clips c.plan c.aired c.log)

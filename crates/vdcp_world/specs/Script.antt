@@ -61,7 +61,7 @@ repeated_word repeated.Frame = codes "frame"
 repeated_word repeated.Round = codes "round"
 repeated_word repeated.GoodRound = codes "good"
 
--- a number that may follow a word; 1 where none does
+-- a number that may follow a word; 1 if none does
 abbrev pub Counts : Option (List ℕ) → ℕ → Type 0
 Counts None count = count ≡ 1
 Counts (Some text) count = WritesCount text count

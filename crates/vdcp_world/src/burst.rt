@@ -1,3 +1,4 @@
+//! The burst that an event puts on the way.
 ghost use Rattle.std.specs.Prelude.{◌≡◌, ◌==◌};
 ghost use Rattle.std.specs.Cmp.Lexicographic.{pointwise};
 ghost use Rattle.std.proofs.Common.{rules};

@@ -1,3 +1,4 @@
+//! What damage can make of a burst on the way.
 ghost use Rattle.std.specs.Prelude.{◌≡◌};
 ghost use Rattle.vdcp_frame.specs.Burst.{messages_of};
 ghost use Rattle.vdcp_world.specs.Beginnings.{is_beginning};

@@ -1,6 +1,7 @@
+//! What can happen on the line and at its ends.
 use crate::burst::Burst;
 
-/// What happens on the line, at one of its ends, or in time. Where it can't happen, nothing changes.
+/// What happens on the line, at one of its ends, or in time. If it can't happen, nothing changes.
 #[derive(Debug, PartialEq, Drop)]
 pub enum Event {
     /// The controller gives its next command: it is on the way down, and what was on the way either way is

@@ -1,3 +1,4 @@
+//! What a controller hears of a whole burst.
 ghost use Rattle.std.specs.Prelude.{◌≡◌};
 ghost use Rattle.vdcp_auto.specs.Heard.{heard_in, hears_receipt};
 

@@ -41,7 +41,7 @@ pub fn reached_keeps_the_headline()
 
 /// In plain mode, from whatever channel that events have led to, as long as the controller hasn't ended and
 /// awaits nothing, and no stop is wished for or was sent; and in confirm mode from a new channel:
-/// where each item of the playlist is in the catalogue, and each part fits its clip, enough good rounds
+/// if each item of the playlist is in the catalogue, and each part fits its clip, enough good rounds
 /// bring the whole playlist to air, all of it reported, and the controller to Done. In plain mode five
 /// rounds for each event that isn't reported, and four, are enough, and in confirm mode six for each event,
 /// and six; and so is any greater number. That good rounds ever come isn't said.
@@ -62,12 +62,12 @@ pub fn good_rounds_bring_all_to_air()
     vdcp_auto::laws::reached_is_lawful();
 }
 
-/// In confirm mode, from whatever channel that events have led to, where each item of the playlist is in the
+/// In confirm mode, from whatever channel that events have led to, if each item of the playlist is in the
 /// catalogue, and each part fits its clip: six good rounds for each event that isn't reported, and six, or more,
 /// bring the whole playlist to air, all of it reported, and the controller to Done,
 ///
-/// - where nothing is on the way, no stop is wished for, and the port did what the controller's stage presumes;
-/// - and where nothing is awaited, the controller hasn't ended, no stop is wished for or was sent, and neither one
+/// - if nothing is on the way, no stop is wished for, and the port did what the controller's stage presumes;
+/// - and if nothing is awaited, the controller hasn't ended, no stop is wished for or was sent, and neither one
 ///   empty status more nor one unanswered exchange more ends it.
 pub fn good_rounds_bring_the_rest_to_air()
     ensures { (c : Channel) → IsReached c → InStepEnd c }
@@ -105,8 +105,8 @@ pub fn an_end_leaves_the_port_at_rest()
     vdcp_auto::laws::a_receipt_confirms_nothing();
 }
 
-/// Whatever happened on the line from a new channel on, a PLAY cuts short a clip that is on air only where the
-/// operator took: never where he hasn't taken at all; and otherwise he has taken since the PLAY went out last that put
+/// Whatever happened on the line from a new channel on, a PLAY cuts short a clip that is on air only if the
+/// operator took: never if he hasn't taken at all; and otherwise he has taken since the PLAY went out last that put
 /// that clip on air.
 pub fn no_cut_without_a_take()
     ensures { (c : Channel) → IsReached c → NoCut c }

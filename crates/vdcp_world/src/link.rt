@@ -1,3 +1,4 @@
+//! What each event does to a world, over bytes.
 ghost use Rattle.std.specs.Prelude.{◌≡◌, ◌<◌, ◌≤◌, [], ◌++◌, OnOk, OnErr, vec_len, vec_capacity};
 ghost use Rattle.vdcp_auto.specs.Course.{logged};
 ghost use Rattle.vdcp_auto.specs.Plan.{plan_of};
@@ -114,7 +115,7 @@ impl<S: Source, C: Catalogue, A: Allocator + Copy> Link<S, C, A> {
         self.controller.outcome()
     }
 
-    /// The event happens. Where memory is refused nothing does.
+    /// The event happens. If memory is refused nothing does.
     pub fn step(&mut self, event: &Event) -> Result<(), AllocError>
         ensures step { OnOk result (self.new ≡ after_event self.old event.now) }
         ensures refused { OnErr result (self.new ≡ self.old) }
@@ -265,7 +266,7 @@ fn hear<S: Source, A: Allocator>(
     }
 }
 
-/// What is on the way down becomes these bytes, where it can.
+/// What is on the way down becomes these bytes, if it can.
 fn alter_down(down: &mut ArrayVec<u8, 1024>, bytes: &[u8])
     ensures { down.new.items ≡ altered (channel.can_become down.old.items bytes.now) down.old.items bytes.now }
 {
@@ -275,7 +276,7 @@ fn alter_down(down: &mut ArrayVec<u8, 1024>, bytes: &[u8])
     }
 }
 
-/// What is on the way up becomes these bytes, where it can.
+/// What is on the way up becomes these bytes, if it can.
 fn alter_up<S: Source>(
     controller: &Controller<S>,
     unit: u8,
@@ -291,7 +292,7 @@ fn alter_up<S: Source>(
     }
 }
 
-/// Nothing came in time, which happens where nothing is on the way either way.
+/// Nothing came in time, which happens if nothing is on the way either way.
 fn time_out<S: Source, A: Allocator>(
     controller: &mut Controller<S>,
     down: &ArrayVec<u8, 1024>,

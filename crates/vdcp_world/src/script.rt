@@ -1,3 +1,4 @@
+//! How a script is read, line by line.
 ghost use Rattle.hex.specs.Hex.{encode_lower};
 ghost use Rattle.std.specs.Prelude.{◌≡◌, ◌≤◌, ◌++◌, ◌∷◌, [], List, ℕ, codes, length, map, IfOk, IfSome, Some, None, IsSomeAnd, IsTrue, option_map, OnOk};
 ghost use Rattle.vdcp_world.specs.Rounds.{round, times};
@@ -51,7 +52,7 @@ pub trait ScriptEvent: Sized + Drop {
     fn of_event(event: Event) -> Self
         ensures { result ≡ of event };
 
-    /// The event of a line with a word of its own; `None` where it has no such word. It is asked first.
+    /// The event of a line with a word of its own; `None` if it has no such word. It is asked first.
     fn of_line(alloc: Global, line: &ScriptLine<'_>) -> Result<Option<Self>, ScriptFault>
         ensures { IfOk result (λ found. IfSome found (λ event. own event
             (worded line.now.word.now (option_map (λ text. text.now) line.now.argument)))) };
@@ -110,7 +111,7 @@ impl<'a> ScriptLine<'a> {
         })
     }
 
-    /// The number that follows the word, 1 to 10,000; 1 where none does.
+    /// The number that follows the word, 1 to 10,000; 1 if none does.
     pub fn count(&self) -> Result<u32, ScriptFault>
         ensures range { IfOk result (λ count. (1 ≤ count) × (count ≤ 10000)) }
         ensures counts { IfOk result (Counts (option_map (λ text. text.now) self.now.argument)) }
@@ -171,7 +172,7 @@ fn is_lower(byte: u8, text: &str) -> bool
 
 /// Reads a script: a line for each event, or for some rounds or frames. Lines end with a line feed, or
 /// with a carriage return and one; the last one may end with the text. Blank lines and those that begin
-/// with `#` are skipped, and words are parted by one space. `docs/PROTOCOL.md` has the words.
+/// with `#` are skipped, and words are parted by one space. `docs/FORMATS.md` has the words.
 pub fn read_script<E: ScriptEvent>(alloc: Global, text: &str) -> Result<Vec<E>, ScriptFault>
     ensures few { IfOk result (λ events. length events.items ≤ 100000) }
     ensures script { IfOk result (λ events. IsScript E.of E.own text.now events.items) }
@@ -322,7 +323,7 @@ fn push_round<E: ScriptEvent>(events: &mut Vec<E>) -> Result<(), ScriptFault>
     push(E::of_event(Event::Up), events)
 }
 
-/// Adds an event, where it isn't one too many.
+/// Adds an event, if it isn't one too many.
 #[inline(always)]
 fn push<E: ScriptEvent>(event: E, events: &mut Vec<E>) -> Result<(), ScriptFault>
     requires { length events.old.items ≤ 100000 }

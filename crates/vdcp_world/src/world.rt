@@ -1,3 +1,4 @@
+//! The world, and what holds of it whatever happens.
 ghost use Rattle.std.specs.Prelude.{ℕ, ◌≡◌, ◌≢◌, ◌+◌, ◌≤◌, ◌<◌, ◌++◌, List, Some, length, take, IsTrue, IfSome, OnOk, OnErr};
 ghost use Rattle.vdcp_auto.specs.RuleBook.{KeepsRules};
 ghost use Rattle.vdcp_auto.specs.Settled.{settled};
@@ -128,7 +129,7 @@ impl<S: Source, C: Catalogue, A: Allocator + Copy> World<S, C, A> {
         }
     }
 
-    /// The event happens; where it can't, nothing does. All memory is asked for first: where it is
+    /// The event happens; if it can't, nothing does. All memory is asked for first: if it is
     /// refused the answer is `AllocError`, and nothing has changed.
     pub fn step(&mut self, event: &Event) -> Result<(), AllocError>
         ensures step { OnOk result (self.new ≡ after_event self.old event.now) }
@@ -144,16 +145,16 @@ impl<S: Source, C: Catalogue, A: Allocator + Copy> World<S, C, A> {
     /// `AllocError`; those before it have happened, and it hasn't, nor have those after it.
     ///
     /// A good round begins with `Timeout`, `Ready` and `End`, and then comes a round: `Tick`, `Down`, `Up`.
-    /// Where each item of the playlist is in the catalogue, and each part fits its clip, a run of this many
+    /// If each item of the playlist is in the catalogue, and each part fits its clip, a run of this many
     /// good rounds that answers `Ok` leaves the controller Done, the whole playlist aired, and all of it
     /// reported:
     ///
     /// - in plain mode (`plain_end`), whatever happened before, while nothing is awaited, the controller hasn't
     ///   ended, and no stop is wished for or was sent: five for each event that isn't reported, and four, or more;
     /// - in confirm mode (`confirming_end`), of a new world: six for each event, and six, or more;
-    /// - in confirm mode of any other world, six for each event that isn't reported, and six, or more: where nothing
+    /// - in confirm mode of any other world, six for each event that isn't reported, and six, or more: if nothing
     ///   is on the way, no stop is wished for, and the port did what the controller's stage presumes (`in_step_end`);
-    ///   and where it is as in plain mode, and neither one empty status more nor one unanswered exchange more ends
+    ///   and if it is as in plain mode, and neither one empty status more nor one unanswered exchange more ends
     ///   the controller (`catch_up_end`).
     pub fn run(&mut self, events: &[Event]) -> Result<(), AllocError>
         ensures run { OnOk result (self.new ≡ after_events self.old events.now) }

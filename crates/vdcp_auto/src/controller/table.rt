@@ -203,7 +203,7 @@ impl<S: Source> Controller<S> {
         }
     }
 
-    /// The phase for event k, or Drain where there is none.
+    /// The phase for event k, or Drain if there is none.
     fn next(&self, k: usize) -> Phase
         ensures next { result ≡ table.next (S.items self.now.source) k }
         ensures within { IsPhaseIn S.items self.now result }

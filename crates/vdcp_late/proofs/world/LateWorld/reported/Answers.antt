@@ -1,4 +1,3 @@
-use Rattle.vdcp_late.proofs.HeadlineProof.{complete}
 use Rattle.vdcp_late.proofs.world.LateWorld.reported.Goals as goal
 
 pub returns-clause-settled : goal.returns-clause-settled
@@ -15,4 +14,4 @@ returns-clause-within g c =
 
 pub returns-clause-complete : goal.returns-clause-complete
 returns-clause-complete g c =
-    rw (← c.self.view_is, c.reported.ensures) (complete _ (c.a_late_line_keeps_the_headline.ensures _ c.self.invariant))
+    rw (← c.self.view_is, c.reported.ensures) (c.a_late_line_keeps_the_headline.ensures _ c.self.invariant).complete

@@ -1,0 +1,73 @@
+//! A controller's state as plain data, taken between two calls and put back later.
+ghost use Rattle.std.specs.Prelude.{◌≡◌, ◌≤◌, ◌<◌, ◌↔◌, IsTrue, IsSome, IfSome, Some, length};
+ghost use Rattle.vdcp_auto.specs.Bounds.{IsPhaseOf};
+ghost use Rattle.vdcp_auto.specs.Snapshots.{CanStand, view_of};
+
+use crate::controller::Controller;
+use crate::outcome::Outcome;
+use crate::phase::{Mode, Phase, Position};
+use crate::source::Source;
+
+/// Where a controller stands: the phase that it sends in next, or whose answer it awaits, or its end.
+#[derive(Clone, Copy, Debug, PartialEq, Eq)]
+pub enum Standing {
+    Ready(Phase),
+    Awaiting(Phase),
+    Ended(Outcome),
+}
+
+/// All that a controller knows, but for its list.
+#[derive(Clone, Copy, Debug, PartialEq, Eq)]
+pub struct Snapshot {
+    pub mode: Mode,
+    pub port: u8,
+    pub limit: u32,
+    pub standing: Standing,
+    pub take: bool,
+    pub stop: bool,
+    pub unanswered: u32,
+    pub settled: usize,
+    pub tries: u32,
+}
+
+impl Snapshot {
+    /// Whether a controller over a list of this length can stand so.
+    pub fn can_stand(&self, length: usize) -> bool
+        ensures { IsTrue result ↔ CanStand length self.now }
+    {
+        if self.limit < 1
+            || self.limit > 1000
+            || self.tries >= self.limit
+            || self.settled > length
+        {
+            return false;
+        }
+        match self.standing {
+            Standing::Ready(phase) | Standing::Awaiting(phase) => {
+                is_phase_of(length, phase) && self.unanswered < self.limit
+            }
+            Standing::Ended(_) => true,
+        }
+    }
+}
+
+// The phase's event is one of the list's.
+fn is_phase_of(length: usize, phase: Phase) -> bool
+    ensures { IsTrue result ↔ IsPhaseOf length phase }
+{
+    match phase {
+        Phase::Exists(k)
+        | Phase::Cue(k)
+        | Phase::Wait(k)
+        | Phase::Play(k)
+        | Phase::Probe(k)
+        | Phase::Check(k) => k < length,
+        Phase::Open
+        | Phase::Select
+        | Phase::Seen
+        | Phase::Drain
+        | Phase::Close
+        | Phase::Halt
+        | Phase::HaltClose => true,
+    }
+}

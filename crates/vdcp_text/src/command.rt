@@ -1,0 +1,61 @@
+//! A command of its text.
+ghost use Rattle.std.specs.Prelude.{◌≡◌, ◌∷◌, ◌++◌, ℕ, IfSome, IsSomeAnd, List, Some, length};
+ghost use Rattle.vdcp_words.specs.Commands.{IsWritableCommand};
+ghost use Rattle.vdcp_words.specs.Texts.{command_text};
+ghost use Rattle.vdcp_words.specs.declared.command.Command.{Command};
+
+use crate::make::command_of;
+use arrayvec::ArrayString;
+use vdcp_value::laws::{a_text_says_its_id, an_id_has_one_text, the_text_of_an_id_is_short};
+use vdcp_words::Command;
+
+/// The command whose text `Command::show` writes so; None if no command has this text. Its words are those of `do_make`,
+/// with one space between them, and its digits are lower-case.
+pub fn read_command(text: &[u8]) -> Option<Command>
+    ensures read { IfSome result (λ c. command_text c ≡ text.now) }
+    ensures accepts { (c : Command) → IsWritableCommand c → command_text c ≡ text.now → result ≡ Some c }
+{
+    the_text_of_an_id_is_short();
+    let text = str::from_utf8(text).ok()?;
+    let command = command_in(text)?;
+    let mut shown = ArrayString::<64>::new();
+    command.show(&mut shown);
+    if shown.as_str() == text {
+        Some(command)
+    } else {
+        None
+    }
+}
+
+// The command whose text this is; of a text that is no command's, whatever its words name.
+fn command_in(text: &str) -> Option<Command>
+    ensures { (c : Command) → IsWritableCommand c → command_text c ≡ text.now → result ≡ Some c }
+{
+    an_id_has_one_text();
+    a_text_says_its_id();
+    let Some((word, rest)) = text.split_once(' ') else {
+        return command_of(text, &[]).ok();
+    };
+    match word {
+        "open" => {
+            let (port, lock) = rest.split_once(' ')?;
+            command_of(word, &[port, lock]).ok()
+        }
+        "cue-data" => {
+            let (id, start, duration) = part_in(rest)?;
+            command_of(word, &[id, start, duration]).ok()
+        }
+        _ => command_of(word, &[rest]).ok(),
+    }
+}
+
+// An ID, which may have spaces, and two time codes of eight digits.
+fn part_in(text: &str) -> Option<(&str, &str, &str)>
+    ensures { (id start duration : List ℕ) → text.now ≡ id ++ 32 ∷ (start ++ 32 ∷ duration) →
+        length start ≡ 8 → length duration ≡ 8 →
+        IsSomeAnd result (λ p. (p.0.now ≡ id) × (p.1.now ≡ start) × (p.2.now ≡ duration)) }
+{
+    let (id, times) = text.split_at_checked(text.len().checked_sub(18)?)?;
+    let (start, duration) = times.split_at_checked(9)?;
+    Some((id, start.strip_prefix(' ')?, duration.strip_prefix(' ')?))
+}
