@@ -1,4 +1,4 @@
--- Files to read: when one is a playlist or a catalogue, and the failure where it is refused.
+-- Files to read: when one is a playlist or a catalogue, and the failure if it is refused.
 use Rattle.std.specs.Borrow.{Bor}
 use Rattle.std.specs.Prelude.{ℕ, ◌≡◌, ◌⊎◌, List, Option}
 use Rattle.vdcp_list.specs.Catalogues.{IsCatalogueFaultOf, IsCatalogueOf}
@@ -14,11 +14,11 @@ use Rattle.vdcp_value.specs.declared.part.Item.{Item}
 use Rattle.vdcp_value.specs.declared.rate.Rate.{Rate}
 use Rattle.vdcp_value.specs.declared.timecode.Timecode.{Timecode}
 
--- a file to read: its name, and its bytes where they are known
+-- a file to read: its name, and its bytes if they are known
 pub data File : Type 0 where
   file : (name : Bor (List ℕ)) (bytes : Option (List ℕ)) → File
 
--- its bytes, where they are known
+-- its bytes, if they are known
 abbrev pub bytes_of : File → Option (List ℕ)
 bytes_of (file name bytes) = bytes
 

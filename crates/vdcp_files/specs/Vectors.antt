@@ -32,7 +32,7 @@ pub data Finding : Type 0 where
   hex : Finding
   got : (reading : List ℕ) → Finding
 
--- what a burst of this reading is found to be, where another may be expected
+-- what a burst of this reading is found to be, if another may be expected
 abbrev pub finding_of_reading : List ℕ → List ℕ → Finding
 finding_of_reading reading expected = if pointwise nat_eq reading expected then right else got reading
 

@@ -1,3 +1,4 @@
+//! The subcommand `check`: which events can't be played with a catalogue's clips.
 ghost use Rattle.std.specs.Io.KnownBytes.{Appends, Keeps};
 ghost use Rattle.std.specs.Prelude.{◌≡◌, ◌≢◌, ◌⊎◌, ◌<◌, IfErr, IfOk, OnOk, false, if◌then◌else◌, length, true};
 ghost use Rattle.vdcp_files.specs.Check.{AreWhole, IsChecked, IsRefused, IsUnchecked, are_playable, check_text, event_text, events_text, fault_of};
@@ -15,11 +16,11 @@ use vdcp_value::{ClipId, Item, Rate};
 
 /// Checks a playlist against a catalogue, both with time codes at this rate. `out` gets how many
 /// events and how many clips there are, and then a line for each event whose clip the catalogue
-/// hasn't got, and for each whose part doesn't fit its clip.
+/// doesn't have, and for each whose part doesn't fit its clip.
 ///
-/// The status is 0 where there is no such event, and 1 where there is one. It is also 1 where a row
-/// is refused, and 3 where a file can't be read or memory was refused: `err` gets a line of either,
-/// and `out` nothing. The list is read first. The status is 3 where a writer failed: nothing more is
+/// The status is 0 if there is no such event, and 1 if there is one. It is also 1 if a row
+/// is refused, and 3 if a file can't be read or memory was refused: `err` gets a line of either,
+/// and `out` nothing. The list is read first. The status is 3 if a writer failed: nothing more is
 /// written to that one. `out` is flushed after the last line.
 pub fn do_check<L: io::Read + Drop, C: io::Read + Drop, W: io::Write, E: io::Write>(
     alloc: Global,
@@ -53,7 +54,7 @@ pub fn do_check<L: io::Read + Drop, C: io::Read + Drop, W: io::Write, E: io::Wri
     }
 }
 
-// The status where both files were read.
+// The status if both files were read.
 fn status_for(playable: bool) -> u8
     ensures { result ≡ (if playable then 0 else 1) }
 {
@@ -85,8 +86,9 @@ fn check<'a, L: io::Read + Drop, C: io::Read + Drop, W: io::Write>(
     write_findings(&events, &clips, clips.len(), out).map_err(|_| Failure::Writer)
 }
 
-// Writes what was found, and says whether each event can be played.
-fn write_findings<S: Source, C: Catalogue, W: io::Write>(
+/// Writes how many events and how many clips there are, and a line for each event that can't be played with these
+/// clips; then flushes, and says whether each can.
+pub fn write_findings<S: Source, C: Catalogue, W: io::Write>(
     events: &S,
     clips: &C,
     clip_count: usize,
@@ -146,7 +148,7 @@ fn write_event<W: io::Write>(
 /// Why an event can't be played.
 #[derive(Clone, Copy, Debug, PartialEq, Eq)]
 enum EventFault {
-    /// The catalogue hasn't got its clip.
+    /// The catalogue doesn't have its clip.
     Missing,
     /// Its part doesn't fit its clip.
     Outside,

@@ -4,14 +4,15 @@
 //! their readings. A file that they read is a `NamedFile`, which gives its list or its catalogue, or else the
 //! failure. Each subcommand reports a failure to standard error in one line, and gives the exit status.
 //!
-//! Files: `named_file` (a file's name with its reader, and the failure of a refused list), `check` and `vectors` (a
-//! subcommand each).
+//! Files, in reading order: `named_file`, `beside`, `check`, `vectors`.
 #![tactic(auto)]
 
+mod beside;
 mod check;
 mod named_file;
 mod vectors;
 
-pub use check::do_check;
+pub use beside::{is_same_file, keep_older};
+pub use check::{do_check, write_findings};
 pub use named_file::NamedFile;
 pub use vectors::do_vectors;

@@ -1,3 +1,4 @@
+//! A file's name with its reader, and the failure of a refused list.
 ghost use Rattle.std.specs.Prelude.{◌≡◌, ◌≢◌, IfErr, IfOk, IfSome};
 ghost use Rattle.vdcp_files.specs.Files.{IsUnread, RefusesCatalogue, RefusesList, file, file_failure};
 ghost use Rattle.vdcp_list.specs.Catalogues.{IsCatalogueOf};
@@ -23,7 +24,7 @@ pub struct NamedFile<'a, R> {
 }
 
 impl<'a, R: io::Read + Drop> NamedFile<'a, R> {
-    /// Reads the playlist in the file, with time codes at this rate. `Row` where a row is refused, `Read` where
+    /// Reads the playlist in the file, with time codes at this rate. `Row` if a row is refused, `Read` if
     /// the file can't be read, and `Memory`.
     pub fn read_list(self, alloc: Global, rate: Rate) -> Result<List, Failure<'a>>
         ensures events { IfOk result (λ events. IsListOf rate (R.remaining self.entry.reader) (items_of events)) }
@@ -36,7 +37,7 @@ impl<'a, R: io::Read + Drop> NamedFile<'a, R> {
         }
     }
 
-    /// Reads the catalogue in the file, with time codes at this rate. `Row` where a row is refused, `Read` where
+    /// Reads the catalogue in the file, with time codes at this rate. `Row` if a row is refused, `Read` if
     /// the file can't be read, and `Memory`.
     pub fn read_catalogue(self, alloc: Global, rate: Rate) -> Result<Table, Failure<'a>>
         ensures clips { IfOk result (IsCatalogueOf rate (R.remaining self.entry.reader)) }
@@ -49,8 +50,8 @@ impl<'a, R: io::Read + Drop> NamedFile<'a, R> {
         }
     }
 
-    /// Reads the file, whose lines have 64 KiB each at most. `ScriptLine` where a line has more, which isn't read to its
-    /// end; `Read` where the file can't be read, and `Memory`.
+    /// Reads the file, whose lines have 64 KiB each at most. `ScriptLine` if a line has more, which isn't read to its
+    /// end; `Read` if the file can't be read, and `Memory`.
     #[tactic(auto, using(crate::proofs::Consumed::nothing_read, crate::proofs::Consumed::reads_more, crate::proofs::Consumed::reads_none, crate::proofs::Consumed::reads_all))]
     pub fn read_lines(self, alloc: Global) -> Result<Vec<u8>, Failure<'a>>
         ensures bytes { IfOk result (λ bytes. IfSome (R.remaining self.entry.reader) (λ known. known ≡ bytes.items)) }

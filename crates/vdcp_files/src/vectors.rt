@@ -1,3 +1,4 @@
+//! The subcommand `vectors`: does each burst read as its row says?
 ghost use Rattle.csv.specs.Records.{fields_of};
 ghost use Rattle.hex.specs.Hex.{decode_of};
 ghost use Rattle.std.specs.Io.KnownBytes.{Appends, Keeps};
@@ -28,9 +29,9 @@ use vdcp_text::{EndText, Failure, MessageText, RowFault};
 /// two fields, or whose first field isn't an even number of hexadecimal digits; and then one with
 /// the number of rows.
 ///
-/// The status is 0 where all rows are right, and 1 where one isn't. It is also 1 where there are more
-/// than 10,000 rows or one is longer than 64 KiB, and 3 where the file can't be read or memory was refused: `err` gets a line of
-/// either, and `out` nothing. The status is 3 where a writer failed: nothing more is written to that
+/// The status is 0 if all rows are right, and 1 if one isn't. It is also 1 if there are more
+/// than 10,000 rows or one is longer than 64 KiB, and 3 if the file can't be read or memory was refused: `err` gets a line of
+/// either, and `out` nothing. The status is 3 if a writer failed: nothing more is written to that
 /// one. `out` is flushed after the last line.
 pub fn do_vectors<R: io::Read + Drop, W: io::Write, E: io::Write>(
     alloc: Global,
@@ -40,7 +41,7 @@ pub fn do_vectors<R: io::Read + Drop, W: io::Write, E: io::Write>(
 ) -> u8
     ensures right { result ≡ 0 → AreTested (R.remaining file.entry.reader) (W.contents out.old) (W.contents out.new) 0 }
     ensures untold { result ≡ 0 → Keeps (E.contents err.old) (E.contents err.new) }
-    // The status is 1 where a row is bad, and for a file of too many rows or of one that is too long.
+    // The status is 1 if a row is bad, and for a file of too many rows or of one that is too long.
     ensures bad { result ≡ 1 →
         (Keeps (E.contents err.old) (E.contents err.new)
         × (bad : ℕ) × (0 < bad)

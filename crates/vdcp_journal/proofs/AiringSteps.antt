@@ -11,7 +11,7 @@ use Rattle.vdcp_auto.specs.declared.exchange.Exchange.{Exchange}
 use Rattle.vdcp_auto.specs.declared.exchange.Heard.{Heard}
 use Rattle.vdcp_auto.specs.declared.phase.Mode.{Mode}
 use Rattle.vdcp_auto.specs.declared.phase.Mode.TheVariants.{Plain, Confirming}
-use Rattle.vdcp_journal.specs.Airings.{AreAirings, IsAiring, is_play_row, sends_play, settled_in}
+use Rattle.vdcp_journal.specs.Airings.{AreAirings, IsAiring, announces_after, announces_from, is_play_row, sends_play, settled_in}
 use Rattle.vdcp_journal.specs.Resume.{ended_at, exchange_with, log_from, log_of, open_after}
 use Rattle.vdcp_journal.specs.declared.airings.Airing.{Airing}
 use Rattle.vdcp_journal.specs.declared.moment.Moment.{Moment}
@@ -35,7 +35,7 @@ with_front : (came : Option Heard) (asked : Option Command) (log more : List Exc
 with_front came None log more = refl
 with_front came (Some c) log more = refl
 
-at_front : (asked : Option Command) (n : Note) (log more : List Exchange)
+pub at_front : (asked : Option Command) (n : Note) (log more : List Exchange)
     → ended_at asked n (log ++ more) ≡ ended_at asked n log ++ more
 at_front asked (note.Sent c) log more = refl
 at_front asked (note.Heard h) log more = with_front (Some h) asked log more
@@ -492,17 +492,24 @@ fits mode rows asked played airings n h = omega (arith, h.few, room asked n)
 
 -- all rows: the exchange that is open is timed out
 pub all_shown : SettledGrows → (mode : Mode) (rows : List Row) (asked : Option Command) (played : Option Moment)
-    (airings : List Airing) (event : Option ℕ) (has : Bool) (count : ℕ) → SoFar mode rows asked played airings
+    (airings : List Airing) (event : Option ℕ) (has announced : Bool) (count : ℕ) → SoFar mode rows asked played airings
     → has ≡ may_have_aired mode (ended_from None rows ++ exchange_with None asked [])
     → count ≡ settled mode (ended_from None rows ++ exchange_with None asked [])
-    → event ≡ (if has then Some count else None)
+    → event ≡ (if has || announced then Some count else None) → announced ≡ announces_from false rows
     → AreAirings mode rows airings event
-all_shown law mode rows asked played airings event has count h has_is count_is event_is =
+all_shown law mode rows asked played airings event has announced count h has_is count_is event_is announced_is =
     let log : ended_from None rows ++ exchange_with None asked [] ≡ log_of rows =
     ap (λ a. ended_from None rows ++ exchange_with None a []) h.asked_is ∙ sym (log_is None rows) in
     record {
       one_each = h.one_each ∙ sym (shown_is law mode rows);
       are = h.are;
-      besides = event_is ∙ ap₂ (λ (b : Bool) (n : ℕ). if b then Some n else None)
-          (has_is ∙ ap (may_have_aired mode) log) (count_is ∙ ap (settled mode) log);
+      besides = event_is
+          ∙ ap (λ (b : Bool). if has || b then Some count else None) announced_is
+          ∙ ap₂ (λ (b : Bool) (n : ℕ). if b || announces_from false rows then Some n else None) (has_is ∙ ap (may_have_aired mode) log) (count_is ∙ ap (settled mode) log);
     }
+
+-- what is announced after one row more
+pub announces_more : (before : Bool) (rows : List Row) (row : Row)
+    → announces_from before (rows ++ row ∷ []) ≡ announces_after (announces_from before rows) row.note
+announces_more before [] row = refl
+announces_more before (first ∷ rows) row = announces_more (announces_after before first.note) rows row

@@ -3,6 +3,7 @@ mod Digits
 mod HexTexts
 mod Messages
 mod Moments
+mod BeforePlay
 mod Commands
 mod Told
 mod Lines
@@ -12,4 +13,6 @@ mod JournalRows
 mod JournalSteps
 mod AiringSteps
 mod RunSteps
+mod StateAgain
+mod Thinning
 mod Journals

@@ -1,7 +1,9 @@
 -- When the events that a journal's rows report aired, and which event may have aired besides.
 use Rattle.std.specs.List.{list_any}
-use Rattle.std.specs.Prelude.{◌≡◌, ℕ, ◌+◌, Bool, false, IsTrue, Option, None, Some, List, [], ◌∷◌, ◌++◌, if◌then◌else◌, length, slice_get}
-use Rattle.vdcp_auto.specs.Commands.{is_play_command}
+use Rattle.std.specs.Prelude.{◌≡◌, ℕ, ◌+◌, ◌||◌, ◌&&◌, Bool, false, IsTrue, Option, None, Some, List, [], ◌∷◌, ◌++◌, if◌then◌else◌, length, slice_get}
+use Rattle.vdcp_auto.specs.Commands.{is_play_command, is_status_command}
+use Rattle.vdcp_auto.specs.Log.{hears}
+use Rattle.vdcp_auto.specs.Replies.{is_done, is_playing}
 use Rattle.vdcp_auto.specs.Settled.{may_have_aired, settled}
 use Rattle.vdcp_auto.specs.declared.phase.Mode.{Mode}
 use Rattle.vdcp_journal.specs.Resume.{log_of}
@@ -43,9 +45,28 @@ pub record IsAiring (mode : Mode) (rows : List Row) (k : ℕ) (airing : Airing) 
   pub played : airing.played ≡ play.time
   pub known : airing.known ≡ settling.time
 
+-- after a note: a state was heard with the cue done and a clip playing, and since then at the most that this has ended. It
+-- announces a PLAY, which may have gone out before its row was safe
+abbrev pub announces_after : Bool → Note → Bool
+announces_after before (note.Sent c) = is_status_command c && before
+announces_after before (note.Heard h) = hears is_done (Some h) && (hears is_playing (Some h) || before)
+announces_after before note.Silence = false
+announces_after before note.Take = false
+announces_after before note.Stop = false
+announces_after before (note.End outcome) = false
+announces_after before (note.From k) = false
+
+abbrev pub announces_from : Bool → List Row → Bool
+announces_from before [] = before
+announces_from before (row ∷ rows) = announces_from (announces_after before row.note) rows
+
+-- one event more than the rows show may have aired: by its PLAY, or one that is announced
+abbrev pub may_have_played : Mode → List Row → Bool
+may_have_played mode rows = may_have_aired mode (log_of rows) || announces_from false rows
+
 -- the event that may have aired besides, if one may: the first that isn't settled
 abbrev pub unsettled_event : Mode → List Row → Option ℕ
-unsettled_event mode rows = if may_have_aired mode (log_of rows) then Some (settled_in mode rows) else None
+unsettled_event mode rows = if may_have_played mode rows then Some (settled_in mode rows) else None
 
 -- these are the airings of the events that the rows show to be aired, and the event that may have aired besides
 pub record AreAirings (mode : Mode) (rows : List Row) (airings : List Airing) (event : Option ℕ) : Type 0 where

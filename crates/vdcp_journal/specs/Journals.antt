@@ -86,12 +86,13 @@ pub record IsBadLine (lines : List Fields) (k : ℕ) (fault : JournalRowFault) :
   pub next : slice_get lines k ≡ Some fields
   pub wrong : IsRowFault heading.unit fields fault
 
--- why lines are no journal's. Of memory and of the device lines say nothing
+-- why lines are no journal's. Of memory and of the device, and of one that is too long, lines say nothing
 abbrev pub IsLinesFault : List Fields → JournalReadFault → Type 0
 IsLinesFault lines refused.Empty = lines ≡ []
 IsLinesFault lines (refused.Heading fault) =
     (fields : Fields) × (slice_get lines 0 ≡ Some fields) × IsHeadingFault fields fault
 IsLinesFault lines (refused.Row k fault) = (before : ℕ) × (k ≡ before + 1) × IsBadLine lines before fault
+IsLinesFault lines (refused.Long k) = ⊤
 IsLinesFault lines refused.Memory = ⊤
 IsLinesFault lines refused.Device = ⊤
 

@@ -4,6 +4,7 @@ pub mod Clocks
 pub mod Rows
 pub mod Resume
 pub mod Airings
+pub mod Thinned
 pub mod Runs
 pub mod Reading
 pub mod Journals

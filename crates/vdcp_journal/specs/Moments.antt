@@ -4,7 +4,7 @@ use Rattle.std.specs.Prelude.{ℕ, Bool, true, false, ◌&&◌, ◌==◌, nat_le
 abbrev pub is_digit : ℕ → Bool
 is_digit byte = nat_le 48 byte && nat_le byte 57
 
--- a digit where the form has 0, and elsewhere what the form has
+-- a digit if the form has 0, and elsewhere what the form has
 abbrev pub fits_place : ℕ → ℕ → Bool
 fits_place place byte = if place == 48 then is_digit byte else place == byte
 

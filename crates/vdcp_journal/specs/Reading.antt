@@ -32,7 +32,7 @@ IsWritableOutcome (Refused k) = k < 2 ^ 64
 IsWritableOutcome (Foreign k) = k < 2 ^ 64
 IsWritableOutcome (Strange k) = k < 2 ^ 64
 
--- the numbers are bytes, and a state has a state byte just where its bitmap asks for one, as in each that is heard
+-- the numbers are bytes, and a state has a state byte exactly if its bitmap asks for one, as in each that is heard
 abbrev pub IsWritableNote : Note → Type 0
 IsWritableNote (note.Sent c) = IsWritableCommand c
 IsWritableNote (note.Heard (heard.Reply r)) = IsWritableReply r

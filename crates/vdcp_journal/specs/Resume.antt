@@ -77,7 +77,7 @@ abbrev pub WereLost : Plan → List Row → Type 0
 WereLost plan rows =
     (k : ℕ) (row : Row) → slice_get rows k ≡ Some row → IsTrue (is_loss row.note) → IsLostAfter plan (take k rows)
 
--- row k says that the run was lost, where it wasn't
+-- row k says that the run was lost, if it wasn't
 pub record IsFalseLoss (plan : Plan) (rows : List Row) (fault : ResumeFault) : Type 0 where
   pub k : ℕ
   pub row : Row

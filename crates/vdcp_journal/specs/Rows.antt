@@ -22,7 +22,7 @@ use Rattle.vdcp_words.specs.Texts.{command_text, reply_text}
 abbrev pub Fields : Type 0
 Fields = List (List ℕ)
 
--- how the controller ended, and the number of the event where it is of one
+-- how the controller ended, and the number of the event if it is of one
 abbrev pub outcome_fields : Outcome → Fields
 outcome_fields Done = codes "done" ∷ [] ∷ []
 outcome_fields Stopped = codes "stopped" ∷ [] ∷ []

@@ -1,6 +1,9 @@
-ghost use Rattle.std.specs.Prelude.{◌≡◌, ◌≤◌, ◌<◌, ◌+◌, ◌^◌, ◌∷◌, ◌++◌, [], IfOk, IsFalse, IsTrue, List, None, OnOk, Some, length, if◌then◌else◌};
+//! When the events aired that the rows of a run report.
+ghost use Rattle.std.specs.Prelude.{◌≡◌, ◌≤◌, ◌<◌, ◌+◌, ◌^◌, ◌∷◌, ◌++◌, ◌||◌, [], IfOk, IsFalse, IsTrue, List, None, OnOk, Some, false, length, if◌then◌else◌};
 ghost use Rattle.vdcp_auto.specs.declared.exchange.Exchange.{Exchange};
-ghost use Rattle.vdcp_journal.specs.Airings.{AreAirings, is_play_row};
+ghost use Rattle.vdcp_auto.specs.Log.{hears};
+ghost use Rattle.vdcp_auto.specs.Replies.{is_done, is_playing};
+ghost use Rattle.vdcp_journal.specs.Airings.{AreAirings, announces_after, announces_from, is_play_row};
 ghost use Rattle.vdcp_journal.specs.Resume.{ended_at, exchange_with, open_after};
 ghost use Rattle.vdcp_judge.specs.Judging.{Knows};
 
@@ -11,7 +14,7 @@ use vdcp_auto::laws::a_log_grows;
 use vdcp_auto::{Controller, Exchange, Heard, Source};
 use vdcp_judge::Judge;
 use vdcp_list::Timed;
-use vdcp_words::Command;
+use vdcp_words::{Command, Reply};
 
 /// When an event aired.
 #[derive(Clone, Copy, Debug, PartialEq, Eq)]
@@ -43,7 +46,8 @@ impl Timed for Airing {
 pub struct Airings {
     /// Those of the reported events, in order.
     pub airings: Vec<Airing>,
-    /// The event that may have aired besides: its PLAY went out, and nothing has settled it since.
+    /// The event that may have aired besides: its PLAY went out, and nothing has settled it since; or a state announces it,
+    /// since which it may have gone out without a row.
     pub unsettled: Option<usize>,
 }
 
@@ -68,7 +72,8 @@ pub fn airings_in<S: Source>(
         played = last_play(played, row);
     }
     end(&mut judge, &mut asked, None);
-    let unsettled = unsettled_event(&judge);
+    let announced = announces(rows);
+    let unsettled = unsettled_event(&judge, announced);
     Ok(Airings { airings, unsettled })
 }
 
@@ -112,7 +117,7 @@ fn end<S: Source>(judge: &mut Judge<S>, asked: &mut Option<Command>, heard: Opti
     *asked = None;
 }
 
-/// Adds an airing where more events are settled than have one.
+/// Adds an airing if more events are settled than have one.
 fn add_airing(
     airings: &mut Vec<Airing>,
     settled: usize,
@@ -141,11 +146,58 @@ fn last_play(before: Option<Moment>, row: &Row) -> Option<Moment>
     }
 }
 
-/// The event that may have aired besides those that are settled, by what a judge knows.
-fn unsettled_event<S: Source>(judge: &Judge<S>) -> Option<usize>
-    ensures { result ≡ (if judge.now.may_have_aired then Some judge.now.settled else None) }
+/// Whether the rows end with what announces a PLAY.
+fn announces(rows: &[Row]) -> bool
+    ensures { result ≡ announces_from false rows.now }
 {
-    if judge.may_have_aired() {
+    let mut announced = false;
+    for k in 0..rows.len() {
+        announced = announces_after(announced, &rows[k].note);
+    }
+    announced
+}
+
+/// Whether that is so after a note, if it was before.
+fn announces_after(before: bool, note: &Note) -> bool
+    ensures { result ≡ announces_after before note.now }
+{
+    match note {
+        Note::Sent(command) => matches!(command, Command::Status(_)) && before,
+        Note::Heard(heard) => hears_done(heard) && (hears_playing(heard) || before),
+        Note::Silence | Note::Take | Note::Stop | Note::End(_) | Note::From(_) => false,
+    }
+}
+
+// The bits of a state byte that say that the cue is done, and that a clip plays.
+const CUE_DONE: u8 = 0x80;
+
+const PLAYING: u8 = 0x04;
+
+/// Whether a state with the cue done is heard.
+fn hears_done(heard: &Heard) -> bool
+    ensures { result ≡ hears is_done (Some heard.now) }
+{
+    match heard {
+        Heard::Reply(Reply::State(_, Some(state))) => *state & CUE_DONE != 0,
+        _ => false,
+    }
+}
+
+/// Whether a state with a clip playing is heard.
+fn hears_playing(heard: &Heard) -> bool
+    ensures { result ≡ hears is_playing (Some heard.now) }
+{
+    match heard {
+        Heard::Reply(Reply::State(_, Some(state))) => *state & PLAYING != 0,
+        _ => false,
+    }
+}
+
+/// The event that may have aired besides those that are settled, by what a judge knows, or as its PLAY is announced.
+fn unsettled_event<S: Source>(judge: &Judge<S>, announced: bool) -> Option<usize>
+    ensures { result ≡ (if judge.now.may_have_aired || announced then Some judge.now.settled else None) }
+{
+    if judge.may_have_aired() || announced {
         Some(judge.settled())
     } else {
         None

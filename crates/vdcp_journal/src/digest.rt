@@ -1,3 +1,4 @@
+//! The digest of a list, by which a journal knows it again.
 ghost use Rattle.sha2.specs.Sha256.{sha256};
 ghost use Rattle.std.specs.Prelude.{◌≡◌, ◌≢◌, ◌↔◌, ℕ, Err, IfErr, IfOk, length};
 ghost use Rattle.vdcp_list.specs.Asrun.{IsUnlawful, asrun_text};
@@ -9,8 +10,8 @@ use vdcp_auto::Source;
 use vdcp_list::{WriteFault, write_asrun};
 use vdcp_value::Rate;
 
-/// The SHA-256 digest of a list: of its as-run list where all of it has aired, as `sha256sum` gives it of that file.
-/// `Time` where a part isn't lawful at the rate, and `Memory`.
+/// The SHA-256 digest of a list: of its as-run list if all of it has aired, as `sha256sum` gives it of that file.
+/// `Time` if a part isn't lawful at the rate, and `Memory`.
 pub fn digest_of<A: Allocator, S: Source>(
     alloc: A,
     source: &S,

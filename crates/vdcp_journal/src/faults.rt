@@ -1,3 +1,4 @@
+//! Why a journal can't be written, read or gone on with.
 use thiserror::Error;
 
 /// Why nothing, or not all, was written.
@@ -38,6 +39,9 @@ pub enum JournalReadFault {
     /// The row of this number isn't a note's. The heading is row 1.
     #[error("row {0} {1}")]
     Row(usize, JournalRowFault),
+    /// The row of this number has more than 64 KiB.
+    #[error("row {0} has more than 64 KiB")]
+    Long(usize),
     #[error("out of memory")]
     Memory,
     /// The reader failed.

@@ -4,19 +4,23 @@ ghost use Rattle.std.specs.Prelude.{◌≡◌, ◌≤◌, ℕ, List, take};
 ghost use Rattle.vdcp_auto.specs.Course.{Reached};
 ghost use Rattle.vdcp_auto.specs.Law.{IsLawful};
 ghost use Rattle.vdcp_auto.specs.Plan.{Plan};
+ghost use Rattle.vdcp_auto.specs.Settled.{may_have_aired};
 ghost use Rattle.vdcp_auto.specs.Turn.{start};
+ghost use Rattle.vdcp_auto.specs.declared.phase.Mode.{Mode};
+ghost use Rattle.vdcp_journal.specs.Airings.{settled_in};
 ghost use Rattle.vdcp_journal.specs.Resume.{AreTold, after_rows, log_of, timed_out};
 ghost use Rattle.vdcp_journal.specs.Reading.{AreWritable, IsWritableHeading, whole_lines};
 ghost use Rattle.vdcp_journal.specs.Rows.{journal_fields, journal_text};
+ghost use Rattle.vdcp_journal.specs.Thinned.{AreThinned};
 ghost use Rattle.vdcp_journal.specs.declared.moment.Moment.{Moment};
 ghost use Rattle.vdcp_journal.specs.declared.row.Heading.{Heading};
 ghost use Rattle.vdcp_journal.specs.declared.row.Row.{Row};
 ghost use Rattle.vdcp_list.specs.Rows.{rows_of};
 
-use vdcp_auto::laws::reached_is_lawful;
+use vdcp_auto::laws::{a_log_grows, reached_is_lawful};
 use vdcp_value::laws::an_id_has_one_text;
 
-/// Where each row tells what a new controller does, the controller that goes on is one that calls lead to,
+/// If each row tells what a new controller does, the controller that goes on is one that calls lead to,
 /// and its log is the one that the rows show. So by the law of the controller the rule book allows each
 /// command of that log where it stands, and the controller's count of settled events is what the log shows.
 pub fn what_is_told_is_lawful()
@@ -40,4 +44,19 @@ pub fn a_cut_journal_is_a_front_of_its_rows()
         ≡ take m (journal_fields time heading rows)) }
 {
     an_id_has_one_text();
+}
+
+/// Where rows leave out only what says nothing new, they tell what the controller does, make it what it was, and show as
+/// many events aired, and whether one more may have.
+pub fn a_thinned_journal_makes_the_same()
+    ensures makes { (plan : Plan) (all rows : List Row) → AreThinned all rows → AreTold plan start all →
+        after_rows plan start rows ≡ after_rows plan start all }
+    ensures told { (plan : Plan) (all rows : List Row) → AreThinned all rows → AreTold plan start all →
+        AreTold plan start rows }
+    ensures counts { (mode : Mode) (all rows : List Row) → AreThinned all rows →
+        settled_in mode rows ≡ settled_in mode all }
+    ensures airs { (mode : Mode) (all rows : List Row) → AreThinned all rows →
+        may_have_aired mode (log_of rows) ≡ may_have_aired mode (log_of all) }
+{
+    a_log_grows();
 }

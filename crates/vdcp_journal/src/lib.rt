@@ -16,8 +16,8 @@
 //!
 //! A run that was lost goes on from its journal, too: `limit_after` is the limit under which it does.
 //!
-//! Files: `moment`, `digest`, `row` (headings, rows and notes), `fields` (a note's fields), `texts` (what fields name),
-//! `write`, `read`, `faults`, `replay`, `losses`, `airings`, `runs`, `laws`.
+//! Files, in reading order: `moment`, `digest`, `row`, `fields`, `texts`, `write`, `read`, `faults`, `replay`,
+//! `losses`, `airings`, `runs`, `laws`.
 #![tactic(auto)]
 
 mod airings;

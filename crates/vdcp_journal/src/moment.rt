@@ -1,3 +1,4 @@
+//! The times of a journal's rows.
 ghost use Rattle.jiff.specs.Words.{civil_nanos};
 ghost use Rattle.std.specs.Prelude.{◌≡◌, ◌*◌, ◌/◌, IfNone, IfSome, IsFalse, IsTrue, Some, min, pos};
 ghost use Rattle.vdcp_journal.specs.Clocks.{clock_text, digit, last_millis};
@@ -20,7 +21,7 @@ impl Moment {
     ghost use Rattle.vdcp_journal.specs.declared.moment.Moment.{Moment};
     ghost use Rattle.vdcp_journal.specs.Times.{moment_text};
 
-    /// The moment of this text. None where the text isn't of that form.
+    /// The moment of this text. None if the text isn't of that form.
     pub fn parse(text: &[u8]) -> Option<Moment>
         ensures read { IfSome result (λ moment. moment_text moment ≡ text.now) }
         ensures none { IfNone result (IsFalse (is_moment text.now)) }

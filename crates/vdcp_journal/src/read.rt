@@ -1,3 +1,4 @@
+//! How a journal is read from its bytes.
 ghost use Rattle.csv.specs.Records.{fields_of};
 ghost use Rattle.std.specs.Prelude.{Bool, List, ◌≡◌, ◌≢◌, ◌≤◌, ◌<◌, ◌^◌, ◌∷◌, ◌↔◌, [], ℕ, IfErr, IfOk, IfSome, IfNone, IsTrue, Some, codes, decimal, length, slice_get, take};
 ghost use Rattle.vdcp_journal.specs.Journals.{AreLinesOf, IsFaultOfWord, IsHeading, IsHeadingFault, IsJournal, IsJournalFault, IsLinesFault, IsRow, IsRowFault};
@@ -201,10 +202,10 @@ fn fault_in(fault: ListFault) -> JournalReadFault
     requires { IsReadFault fault }
     ensures { (lines : List Fields) → IsLinesFault lines result }
 {
-    if fault == ListFault::Memory {
-        JournalReadFault::Memory
-    } else {
-        JournalReadFault::Device
+    match fault {
+        ListFault::Memory => JournalReadFault::Memory,
+        ListFault::Long(row) => JournalReadFault::Long(row),
+        _ => JournalReadFault::Device,
     }
 }
 

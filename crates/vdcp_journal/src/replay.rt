@@ -1,3 +1,4 @@
+//! How a new controller goes on from the rows of a journal.
 ghost use Rattle.std.specs.Prelude.{◌≡◌, ◌≤◌, ◌↔◌, IfErr, IfOk, IsFalse, IsTrue, OnOk, not, ◌&&◌, Some, None, if◌then◌else◌, Option, Bool};
 ghost use Rattle.vdcp_auto.specs.Law.{IsLawful};
 ghost use Rattle.vdcp_auto.specs.Log.{is_answered, is_play};
@@ -23,7 +24,7 @@ pub struct Resumed<S: Source> {
 }
 
 /// Gives a new controller the rows of a journal, in order, and then times out the exchange that is open, if
-/// one is. Where the rows have an end, the controller has that outcome.
+/// one is. If the rows have an end, the controller has that outcome.
 ///
 /// A row that isn't what the controller does there is refused: the first that isn't.
 pub fn resume<S: Source + Drop>(
@@ -55,7 +56,7 @@ pub fn resume<S: Source + Drop>(
     Ok(Resumed { controller, open })
 }
 
-/// Whether a note is what the controller does there. Where it is, the controller has done it.
+/// Whether a note is what the controller does there. If it is, the controller has done it.
 fn goes_on<S: Source>(controller: &mut Controller<S>, note: &Note) -> bool
     ensures told { IsTrue result → Tells (plan_of S.items controller.old) controller.old.state note.now }
     ensures untold { IsFalse result → ¬ Tells (plan_of S.items controller.old) controller.old.state note.now }

@@ -1,3 +1,4 @@
+//! The heading, the rows and the notes of a journal.
 use crate::moment::Moment;
 use vdcp_auto::{Heard, Outcome};
 use vdcp_words::Command;

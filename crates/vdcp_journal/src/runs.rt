@@ -1,3 +1,4 @@
+//! The runs whose rows a journal has.
 ghost use Rattle.std.specs.Prelude.{◌≡◌, ◌≤◌, All, IfOk, length, map};
 ghost use Rattle.vdcp_journal.specs.Runs.{begins_at, run_at, runs_of};
 

@@ -1,3 +1,4 @@
+//! How the heading and the rows of a journal are written.
 ghost use Rattle.csv.specs.Writing.{default_writer};
 ghost use Rattle.std.specs.Io.KnownBytes.{Appends, Keeps};
 ghost use Rattle.std.specs.Prelude.{◌≡◌, ◌≤◌, ◌∷◌, [], IfErr, IfOk, OnErr, OnOk, map};
@@ -149,7 +150,7 @@ fn write_out<W: Write>(writer: &mut W, text: &[u8]) -> Result<(), JournalWriteFa
     }
 }
 
-/// Writes a text. What a failure leaves is told by `write` alone, and not by `write_all`.
+/// Writes a text. `write` alone says what a failure leaves; `write_all` doesn't.
 fn write_text<W: Write>(writer: &mut W, text: &[u8]) -> Result<(), JournalWriteFault>
     ensures ok { OnOk result (Appends (W.contents writer.old) (W.contents writer.new) text.now) }
     ensures device { IfErr result (λ fault. fault ≡ Device) }

@@ -2,3 +2,4 @@ pub mod Chains
 pub mod Losses
 pub mod OpenedAgain
 pub mod Shown
+mod Disking

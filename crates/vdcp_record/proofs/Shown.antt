@@ -4,19 +4,20 @@ use Rattle.std.proofs.lemmas.List.{length-drop, map-append, take_more}
 use Rattle.std.specs.Prelude.{Option, None, Some, IfSome, if◌then◌else◌}
 use Rattle.vdcp_auto.specs.Law.{IsLawful}
 use Rattle.vdcp_auto.specs.Plan.{Plan}
-use Rattle.vdcp_auto.specs.Settled.{may_have_aired}
 use Rattle.vdcp_auto.specs.State.{State}
 use Rattle.vdcp_auto.specs.declared.phase.Mode.{Mode}
 use Rattle.vdcp_files.specs.Mode.{mode_of}
-use Rattle.vdcp_journal.specs.Airings.{AreAirings, settled_in}
+use Rattle.vdcp_journal.specs.Airings.{AreAirings, may_have_played, settled_in}
+use Rattle.vdcp_journal.specs.Journals.{IsJournal}
 use Rattle.vdcp_journal.specs.Resume.{WereLost, log_of}
 use Rattle.vdcp_journal.specs.Runs.{Run, run_at}
 use Rattle.vdcp_journal.specs.declared.airings.Airing.{Airing}
+use Rattle.vdcp_journal.specs.declared.read.Journal.{Journal}
 use Rattle.vdcp_journal.specs.declared.row.Heading.{Heading}
 use Rattle.vdcp_journal.specs.declared.row.Row.{Row}
 use Rattle.vdcp_journal.specs.declared.runs.JournalRun.{JournalRun}
 use Rattle.vdcp_record.specs.Resuming.{IsResumed, plan_begun, plan_of_run}
-use Rattle.vdcp_record.specs.Showing.{ShowRuns, ShowsRun, event_told, reported_text}
+use Rattle.vdcp_record.specs.Showing.{ShowRuns, ShowsRun, open_text, reported_text}
 use Rattle.vdcp_record.specs.declared.asrun.AsrunSettings.{AsrunSettings}
 use Rattle.vdcp_value.specs.declared.part.Item.{Item}
 
@@ -70,7 +71,7 @@ unsettled_counts_in items heading run plan state reported airings event resumed 
     let left : length plan.list ≡ length items - run.from =
     ap (λ (p : Plan). length p.list) resumed.plan_is ∙ length-drop run.from items in
     subst (λ (o : Option ℕ). IfSome o (λ k. run.from + k < 2 ^ 64)) (sym are.besides)
-    (unsettled_counts (may_have_aired plan.mode (log_of run.rows)) run.from (settled_in plan.mode run.rows)
+    (unsettled_counts (may_have_played plan.mode run.rows) run.from (settled_in plan.mode run.rows)
     (omega (arith, settled_is, count, within, left, listed, few)))
 
 -- it is of rows that are these
@@ -83,12 +84,20 @@ pub event_counts : (items : List Item) (heading : Heading) (rows rows' : List Ro
 event_counts items heading rows rows' run plan state reported airings event same resumed are count within listed few =
     unsettled_counts_in items heading (run_at rows' run) plan state reported airings event resumed are count within listed few
 
+-- each event that is reported has its times
+pub one_each : (items : List Item) (heading : Heading) (run : Run) (plan : Plan) (state : State) (reported : ℕ)
+    (airings : List Airing) (event : Option ℕ) → IsResumed (plan_of_run heading items run) run.rows plan state
+    → AreAirings plan.mode run.rows airings event → reported ≡ state.settled → length airings ≡ reported
+one_each items heading run plan state reported airings event resumed are count =
+    are.one_each ∙ ap (λ (m : Mode). settled_in m run.rows) (ap (λ (p : Plan). p.mode) resumed.plan_is)
+    ∙ sym resumed.lawful.is_settled ∙ sym count
+
 run_shows_so : (settings : AsrunSettings) (items : List Item) (heading : Heading) (run : Run) (plan : Plan) (state : State)
     (reported : ℕ) (airings : List Airing) (event : Option ℕ)
     → IsResumed (plan_of_run heading items run) run.rows plan state → AreAirings plan.mode run.rows airings event
     → reported ≡ state.settled → run.from ≤ length items → WereLost (plan_begun heading items run) run.rows
     → ShowsRun settings items heading run (reported_text settings items run.from reported airings)
-    (event_told settings run.from event)
+    (open_text run.from event)
 run_shows_so settings items heading run plan state reported airings event resumed are count listed lost = record {
   within = listed;
   lost = lost;
@@ -110,9 +119,15 @@ pub run_shows : (settings : AsrunSettings) (items : List Item) (heading : Headin
     → AreAirings plan.mode (run_at rows' run).rows airings event → reported ≡ state.settled → run.from ≤ length items
     → WereLost (plan_begun heading items (run_at rows' run)) (run_at rows' run).rows
     → ShowsRun settings items heading (run_at rows run) (reported_text settings items run.from reported airings)
-    (event_told settings run.from event)
+    (open_text run.from event)
 run_shows settings items heading rows rows' run plan state reported airings event same resumed are count listed lost =
     subst (λ (xs : List Row). ShowsRun settings items heading (run_at xs run)
-    (reported_text settings items run.from reported airings) (event_told settings run.from event)) same
+    (reported_text settings items run.from reported airings) (open_text run.from event)) same
     (run_shows_so settings items heading (run_at rows' run) plan state reported airings event resumed are count listed
     lost)
+
+-- a journal that is read is that of the file's bytes, where these are known
+pub journal_of_file : (known : Option (List ℕ)) (bytes : List ℕ) (journal : Journal) → IfSome known (λ b. b ≡ bytes)
+    → IsJournal bytes journal → IfSome known (λ b. IsJournal b journal)
+journal_of_file None bytes journal same read = tt
+journal_of_file (Some known) bytes journal same read = subst (λ b. IsJournal b journal) (sym same) read

@@ -1,4 +1,5 @@
 pub mod Named
+pub mod Disks
 pub mod Recording
 pub mod Recorded
 pub mod Resuming

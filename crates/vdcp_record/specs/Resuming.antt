@@ -3,13 +3,12 @@ use Rattle.std.specs.Borrow.{Bor}
 use Rattle.std.specs.Prelude.{ℕ, ◌≡◌, ◌≢◌, ◌⊎◌, ◌+◌, ◌≤◌, ◌<◌, Bool, IsFalse, IsTrue, List, [], ◌∷◌, ◌++◌, Option, None, Some, drop, length, slice_get, take}
 use Rattle.vdcp_auto.specs.Law.{IsLawful}
 use Rattle.vdcp_auto.specs.Plan.{Plan}
-use Rattle.vdcp_auto.specs.Settled.{may_have_aired}
 use Rattle.vdcp_auto.specs.State.{State}
-use Rattle.vdcp_auto.specs.Turn.{outcome_of, start}
+use Rattle.vdcp_auto.specs.Turn.{awaited, outcome_of, start}
 use Rattle.vdcp_auto.specs.declared.outcome.Outcome.{Outcome}
 use Rattle.vdcp_auto.specs.declared.outcome.Outcome.TheVariants.{Done, Stopped}
 use Rattle.vdcp_files.specs.Mode.{mode_of}
-use Rattle.vdcp_journal.specs.Airings.{settled_in}
+use Rattle.vdcp_journal.specs.Airings.{may_have_played, settled_in}
 use Rattle.vdcp_journal.specs.Journals.{IsJournal, IsJournalFault}
 use Rattle.vdcp_journal.specs.Resume.{AreTold, IsFalseLoss, IsLostAfter, IsResumeFault, WereLost, after_rows, is_loss, log_of, plan_after, timed_out}
 use Rattle.vdcp_journal.specs.Runs.{Run, runs_of}
@@ -28,6 +27,7 @@ use Rattle.vdcp_text.specs.declared.failure.Failure.TheVariants as failures
 use Rattle.vdcp_text.specs.declared.failure.JournalFault.{JournalFault}
 use Rattle.vdcp_text.specs.declared.failure.JournalFault.TheVariants as fault
 use Rattle.vdcp_value.specs.declared.part.Item.{Item}
+use Rattle.vdcp_words.specs.declared.command.Command.{Command}
 
 -- the plan of a controller that plays these items, by a journal's heading
 abbrev pub plan_in : Heading → List Item → Plan
@@ -49,6 +49,10 @@ plan_of_run heading items run = plan_after (plan_begun heading items run) run.ro
 -- where a controller is after the rows, with the open exchange timed out
 abbrev pub state_after : Plan → List Row → State
 state_after plan rows = timed_out plan (after_rows plan start rows)
+
+-- the command whose exchange is open after them
+abbrev pub open_after : Plan → List Row → Option Command
+open_after plan rows = awaited plan (after_rows plan start rows)
 
 -- each row tells what a new controller of this plan does, and the one with this plan and state goes on from there. So its
 -- log is the one that the rows show, with all that holds of a controller and its log
@@ -81,6 +85,7 @@ abbrev pub read_failure : Bor (List ℕ) → JournalReadFault → Failure
 read_failure name unread.Empty = failures.JournalRow name 1 fault.Empty
 read_failure name (unread.Heading wrong) = failures.JournalRow name 1 (row_fault wrong)
 read_failure name (unread.Row row wrong) = failures.JournalRow name row (row_fault wrong)
+read_failure name (unread.Long row) = failures.JournalRow name row fault.Long
 read_failure name unread.Memory = failures.Memory
 read_failure name unread.Device = failures.Read name
 
@@ -155,10 +160,15 @@ pub record IsReplayed (items : List Item) (wanted : Heading) (bytes : List ℕ) 
   pub resumes : IsResumed (plan_of_run wanted items run) run.rows plan state
   pub whole_is : whole ≡ journal.whole
 
+-- why the journal of this name isn't read: a row is too long, or the file can't be read
+abbrev pub IsUnread : Bor (List ℕ) → Failure → Type 0
+IsUnread name failure = ((row : ℕ) × (failure ≡ failures.JournalRow name row fault.Long))
+    ⊎ ((failure ≡ failures.Read name) ⊎ (failure ≡ failures.Memory))
+
 -- why nothing goes on from the journal of this name: its file can't be had, read or written, or it is refused
 pub data IsUnresumed (items : List Item) (name : Bor (List ℕ)) (wanted : Heading) (failure : Failure) : Type 0 where
   no_file : IsUnopened name failure → IsUnresumed items name wanted failure
-  failed : failure ≡ failures.Read name → IsUnresumed items name wanted failure
+  not_read : IsUnread name failure → IsUnresumed items name wanted failure
   kept : IsUnwritten name failure → IsUnresumed items name wanted failure
   bad : (bytes : List ℕ) → IsRefused items name wanted bytes failure → IsUnresumed items name wanted failure
 
@@ -170,7 +180,7 @@ next_event heading run = run.from + settled_in (mode_of heading.confirming) run.
 
 -- that event may have aired
 abbrev pub next_may_have_aired : Heading → Run → Bool
-next_may_have_aired heading run = may_have_aired (mode_of heading.confirming) (log_of run.rows)
+next_may_have_aired heading run = may_have_played (mode_of heading.confirming) run.rows
 
 -- the event with which a controller begins after a run: the one that the operator says, or else the first that the run
 -- doesn't report, which can't have aired

@@ -27,7 +27,7 @@ use Rattle.vdcp_text.specs.declared.failure.Failure.{Failure}
 use Rattle.vdcp_value.specs.declared.part.Item.{Item}
 use Rattle.vdcp_value.specs.declared.rate.Rate.{Rate}
 
--- the digest of a list: of its as-run list, where all of it has aired
+-- the digest of a list: of its as-run list, if all of it has aired
 abbrev pub digest_of : Rate → List Item → List ℕ
 digest_of rate items = sha256 (asrun_text rate items (length items))
 
@@ -48,12 +48,9 @@ abbrev pub open_text : ℕ → Option ℕ → List ℕ
 open_text from None = []
 open_text from (Some k) = codes "vdcp: event " ++ decimal (from + k) ++ line (codes " may have aired")
 
-abbrev pub event_told : AsrunSettings → ℕ → Option ℕ → List ℕ
-event_told settings from event = if settings.may_have_aired then open_text from event else []
-
 -- a run of a journal of these items shows this text, and this is told of it: its rows are those of a controller of the
 -- items from its first event on, and the text is the rows of what that one reports; its count is what the log of the
--- rows shows. The event that may have aired besides is told, if that is wanted
+-- rows shows. The event that may have aired besides is told
 pub record ShowsRun (settings : AsrunSettings) (items : List Item) (heading : Heading) (run : Run)
     (text told : List ℕ) : Type 0 where
   pub within : run.from ≤ length items
@@ -66,7 +63,7 @@ pub record ShowsRun (settings : AsrunSettings) (items : List Item) (heading : He
   pub are_airings : AreAirings (mode_of heading.confirming) run.rows airings may_have_aired
   pub text_is : text ≡ reported_text settings items run.from
       (state_after (plan_of_run heading items run) run.rows).settled airings
-  pub told_is : told ≡ event_told settings run.from may_have_aired
+  pub told_is : told ≡ open_text run.from may_have_aired
 
 -- the texts of these runs are one after another this text, and what is told of them is this
 abbrev pub ShowRuns : AsrunSettings → List Item → Heading → List Run → List ℕ → List ℕ → Type 0
@@ -88,10 +85,10 @@ pub record IsAsrunOf (rate : Rate) (items : List Item) (text : List ℕ) : Type 
   pub read : Journal
   pub is_journal : IsJournal bytes read
   pub told : List ℕ
-  pub shows : ShowsRows (record { rate = rate; times = false; may_have_aired = false }) items read.heading
+  pub shows : ShowsRows (record { rate = rate; times = false }) items read.heading
       read.rows.items (Some []) (Some text) told
 
--- a journal with this heading is of these items: of those of a playlist, where one is given. Where none is they are any of
+-- a journal with this heading is of these items: of those of a playlist, if one is given. If none is they are any of
 -- whose controllers the rows are: by the rule book each PLAY is of the item that was cued last, so the rows alone say what
 -- was played
 abbrev pub AreItemsOf : AsrunSettings → Option File → Heading → List Item → Type 0
@@ -99,7 +96,7 @@ AreItemsOf settings None heading items = Unit {0}
 AreItemsOf settings (Some list) heading items =
     IsListOf settings.rate (bytes_of list) items × (heading.digest ≡ digest_of settings.rate items)
 
--- the files are a playlist, if there is one, and a journal of it, and a writer gained the as-run list that this shows
+-- the files are an optional playlist and a journal of it, and a writer gained the as-run list that this shows
 pub record IsShown (settings : AsrunSettings) (list : Option File) (journal : File) (old new : Option (List ℕ))
     (told : List ℕ) : Type 0 where
   pub items : List Item

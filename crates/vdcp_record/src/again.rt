@@ -1,8 +1,10 @@
+//! How a new run begins in a journal that has others.
 ghost use Rattle.std.specs.Prelude.{◌≡◌, ◌⊎◌, ◌≤◌, ◌<◌, ◌+◌, ◌↔◌, Bool, None, Some, IfErr, IfOk, IfSome, IsFalse, IsSome, IsTrue, OnErr, OnOk, drop, length};
 ghost use Rattle.vdcp_auto.specs.Plan.{plan_of};
 ghost use Rattle.vdcp_auto.specs.Turn.{outcome_of};
 ghost use Rattle.vdcp_journal.specs.Runs.{run_at};
 ghost use Rattle.vdcp_list.specs.Rests.{items_left};
+ghost use Rattle.vdcp_record.specs.Recording.{NotesFrom};
 ghost use Rattle.vdcp_record.specs.Resuming.{BeginsAfter, IsNoBeginning, IsOpenedAgain, IsOver, IsResumed, IsUnopenedAgain, next_event, next_may_have_aired, plan_of_run};
 ghost use Rattle.vdcp_text.specs.declared.failure.Failure.TheVariants as failures;
 
@@ -36,6 +38,9 @@ pub fn begin_again<'a, 'r, 's, R: Files<File = File> + Clock + AllocGlobal, S: S
     ensures opened { IfOk result (λ r. IsOpenedAgain (S.items source.now) wanted.now word r.controller.source.from
         (plan_of (items_left (λ s. S.items s.now)) r.controller) r.controller.state) }
     ensures goes_on { IfOk result (λ r. IsSome r.recorder ↔ (outcome_of r.controller.state.stage ≡ None)) }
+    ensures unit { IfOk result (λ r. IfSome r.recorder (λ recorder. recorder.unit ≡ wanted.now.unit)) }
+    ensures name { IfOk result (λ r. IfSome r.recorder (λ recorder. recorder.name ≡ name.entry)) }
+    ensures from { IfOk result (λ r. IfSome r.recorder (λ recorder. NotesFrom (Some r.controller.source.from) recorder.pending)) }
     ensures unopened { IfErr result (IsUnopenedAgain (S.items source.now) name.entry wanted.now word) }
 {
     let (file, bytes) = read_file(rt, name, wanted)?;
@@ -47,7 +52,7 @@ pub fn begin_again<'a, 'r, 's, R: Files<File = File> + Clock + AllocGlobal, S: S
     let event = beginning(rt.alloc(), wanted, source, word, &replayed)?;
     cut(name, &file, replayed.whole, bytes.len())?;
     let mut recorder = Recorder::after(rt, name, wanted.unit, file, Pending::Nothing);
-    recorder.note_from(event);
+    recorder.note_from(Some(event));
     let rest = Rest::new(source, event);
     let controller = controller_of(rest, wanted);
     Ok(Resumption {

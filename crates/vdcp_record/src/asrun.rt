@@ -1,16 +1,16 @@
+//! The subcommand `asrun`: the as-run list that a journal shows.
 ghost use Rattle.std.specs.Io.KnownBytes.{Appends, Keeps};
 ghost use Rattle.std.specs.Option.{option_map};
 ghost use Rattle.std.specs.Prelude.{◌≡◌, ◌≢◌, ◌⊎◌, ◌≤◌, ◌<◌, ◌+◌, ◌^◌, ◌++◌, ℕ, List, [], None, Some, IfErr, IfOk, IfSome, OnOk, length};
 ghost use Rattle.vdcp_files.specs.Files.{file};
 ghost use Rattle.vdcp_journal.specs.Journals.{IsJournal};
 ghost use Rattle.vdcp_journal.specs.Runs.{run_at, runs_of};
-ghost use Rattle.vdcp_record.specs.Showing.{IsAsrunOf, IsShown, IsShownAndTold, IsToldOnly, ShowRuns, ShowsRows, ShowsRun, digest_of, event_told, heading_text, reported_text};
+ghost use Rattle.vdcp_record.specs.Showing.{IsAsrunOf, IsShown, IsShownAndTold, IsToldOnly, ShowRuns, ShowsRows, ShowsRun, digest_of, heading_text, open_text, reported_text};
 ghost use Rattle.vdcp_text.specs.Failure.{status_of};
 ghost use Rattle.vdcp_text.specs.declared.failure.Failure.TheVariants as failures;
 
 use crate::named::named_events;
-use crate::reading::{journal_in, run_resumed};
-use crate::resume::read_to_end;
+use crate::reading::{journal_in, read_rows, run_resumed};
 use std::alloc::Global;
 use std::fs::File;
 use std::io::{self, ErrorKind, Write};
@@ -29,8 +29,6 @@ pub struct AsrunSettings {
     pub rate: Rate,
     /// The list says of each event when it aired.
     pub times: bool,
-    /// The events that may have aired though they aren't reported are told.
-    pub may_have_aired: bool,
 }
 
 /// Prints the as-run list that a journal shows: run by run, the events that a controller given the run's rows reports, and
@@ -39,8 +37,8 @@ pub struct AsrunSettings {
 ///
 /// The status is 0 where it is printed, 1 where a row of the list or of the journal is refused, or the list isn't the
 /// journal's, and 3 where a file can't be read, memory was refused or a writer failed. The list is read first. Where it
-/// isn't 0, `err` gets one line, unless it was a writer that failed. Where it is 0, `err` gets a line for each event that
-/// is to be told.
+/// isn't 0, `err` gets one line, unless it was a writer that failed. Where it is 0, `err` gets a line for each run whose
+/// next event may have aired.
 pub fn do_asrun<J: io::Read + Drop, L: io::Read + Drop, W: io::Write, E: io::Write>(
     alloc: Global,
     journal: NamedFile<'_, J>,
@@ -74,19 +72,13 @@ pub fn asrun_of_journal<'a, R: Files + AllocGlobal, S: Source>(
     ensures { IfOk result (λ text. IsAsrunOf rate (S.items events.now) text.items) }
 {
     let alloc = rt.alloc();
-    let mut file = match File::open(rt, name) {
+    let reader = match File::open(rt, name) {
         Ok(file) => file,
         Err(error) if error.kind() == ErrorKind::OutOfMemory => return Err(Failure::Memory),
         Err(_) => return Err(Failure::Open(name)),
     };
-    let mut bytes = Vec::new(alloc);
-    read_to_end(name, &mut file, &mut bytes)?;
-    let journal = journal_in(alloc, name, bytes.as_slice())?;
-    let settings = AsrunSettings {
-        rate,
-        times: false,
-        may_have_aired: false,
-    };
+    let journal = journal_of(alloc, NamedFile { name, reader })?;
+    let settings = AsrunSettings { rate, times: false };
     let mut text = Vec::new(alloc);
     match print_rows(alloc, name, &journal, events, settings, &mut text) {
         Ok(_) => Ok(text),
@@ -174,12 +166,12 @@ fn journal_of<'a, J: io::Read + Drop>(
     alloc: Global,
     journal: NamedFile<'a, J>,
 ) -> Result<Journal, Failure<'a>>
-    ensures journal { IfOk result (λ read. IfSome (J.remaining journal.entry.reader) (λ bytes. IsJournal bytes read)) }
+    ensures journal { IfOk result (λ read. (bytes : List ℕ) × IsJournal bytes read
+        × IfSome (J.remaining journal.entry.reader) (λ known. known ≡ bytes)) }
     ensures statuses { IfErr result (λ f. (status_of f ≢ 2) × (f ≢ failures.Writer)) }
 {
-    let NamedFile { name, mut reader } = journal;
-    let mut bytes = Vec::new(alloc);
-    read_to_end(name, &mut reader, &mut bytes)?;
+    let NamedFile { name, reader } = journal;
+    let bytes = read_rows(alloc, name, reader)?;
     journal_in(alloc, name, bytes.as_slice())
 }
 
@@ -306,7 +298,7 @@ fn add_run<'a, S: Source>(
     let airings = found.airings.as_slice();
     let text = &mut shown.text;
     add_reported(alloc, events, run.from, reported, airings, settings, text)?;
-    add_event(settings, run.from, found.unsettled, &mut shown.told)
+    add_event(run.from, found.unsettled, &mut shown.told)
 }
 
 // Adds the rows of the events that a run reports.
@@ -338,26 +330,19 @@ fn add_reported<'a, S: Source>(
     }
 }
 
-// Adds what is told of the event that may have aired, if there is one and that is wanted.
-fn add_event<'a>(
-    settings: AsrunSettings,
-    from: usize,
-    event: Option<usize>,
-    told: &mut Vec<u8>,
-) -> Result<(), Failure<'a>>
+// Adds what is told of the event that may have aired, if there is one.
+fn add_event<'a>(from: usize, event: Option<usize>, told: &mut Vec<u8>) -> Result<(), Failure<'a>>
     requires { IfSome event (λ k. from + k < 2 ^ 64) }
-    ensures told { OnOk result (told.new.items ≡ told.old.items ++ event_told settings from event) }
+    ensures told { OnOk result (told.new.items ≡ told.old.items ++ open_text from event) }
     ensures memory { IfErr result (λ f. f ≡ failures.Memory) }
 {
-    match event {
-        Some(k) if settings.may_have_aired => {
-            let event = from + k;
-            match writeln!(told, "vdcp: event {event} may have aired") {
-                Ok(()) => Ok(()),
-                Err(_) => Err(Failure::Memory),
-            }
-        }
-        _ => Ok(()),
+    let Some(k) = event else {
+        return Ok(());
+    };
+    let event = from + k;
+    match writeln!(told, "vdcp: event {event} may have aired") {
+        Ok(()) => Ok(()),
+        Err(_) => Err(Failure::Memory),
     }
 }
 

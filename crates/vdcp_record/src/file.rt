@@ -1,49 +1,15 @@
+//! A journal's file: it is made, opened and locked.
 ghost use Rattle.std.specs.Prelude.{◌≡◌, ◌⊎◌, IfErr};
 ghost use Rattle.vdcp_record.specs.Recording.{IsUnopened};
 ghost use Rattle.vdcp_text.specs.declared.failure.Failure.TheVariants as failures;
 
 use std::fs::{self, File, OpenOptions, TryLockError};
-use std::io::{self, ErrorKind, Write};
+use std::io::{self, ErrorKind};
 use std::path::Path;
 use std::rt::Files;
-use thiserror::Error;
 use vdcp_text::Failure;
 
-/// A file failed.
-#[derive(Clone, Copy, Debug, PartialEq, Eq, Error)]
-#[error("the file failed")]
-pub struct AppendFault;
-
-/// A file that grows.
-pub trait JournalFile {
-    ghost use Rattle.std.specs.Io.KnownBytes.{Appends};
-    ghost use Rattle.std.specs.Prelude.{ℕ, List, None, OnErr, OnOk, Option};
-    ghost use Rattle.vdcp_journal.specs.Rows.{AppendsBeginning};
-
-    /// The bytes that are safe, also when the power fails, if it tells that.
-    ghost safe: { Self → Option (List ℕ) } = { λ _. None };
-
-    /// Appends bytes and makes them safe. Where it fails, a beginning of them may be there.
-    fn append(&mut self, bytes: &[u8]) -> Result<(), AppendFault>
-        ensures all { OnOk result (Appends (safe self.old) (safe self.new) bytes.now) }
-        ensures beginning { OnErr result (AppendsBeginning (safe self.old) (safe self.new) bytes.now) };
-}
-
-impl JournalFile for File {
-    fn append(&mut self, bytes: &[u8]) -> Result<(), AppendFault> {
-        match write_safely(self, bytes) {
-            Ok(()) => Ok(()),
-            Err(_) => Err(AppendFault),
-        }
-    }
-}
-
-fn write_safely(file: &mut File, bytes: &[u8]) -> io::Result<()> {
-    file.write_all(bytes)?;
-    file.sync_data()
-}
-
-/// Makes the file of this name, which mustn't exist, and locks it. Where it can't be locked there is none.
+/// Makes the file of this name, which mustn't exist, and locks it. If it can't be locked there is none.
 pub(crate) fn make<'a, R: Files<File = File>>(rt: &R, name: &'a str) -> Result<File, Failure<'a>>
     ensures { IfErr result (λ failure. (failure ≡ failures.Exists name.entry) ⊎ IsUnopened name.entry failure) }
 {
@@ -73,7 +39,7 @@ pub(crate) fn open<'a, R: Files<File = File>>(rt: &R, name: &'a str) -> Result<F
     }
 }
 
-// Only one run has the lock, and it ends with the run, also where that is killed.
+// Only one run has the lock, and it ends with the run, also if that is killed.
 fn locked<'a>(file: File, name: &'a str) -> Result<File, Failure<'a>>
     ensures { IfErr result (IsUnopened name.entry) }
 {
@@ -94,7 +60,7 @@ fn not_opened<'a>(error: &io::Error, name: &'a str) -> Failure<'a>
     }
 }
 
-/// Makes it safe that the file has its name, where the system can say that of a folder.
+/// Makes it safe that the file has its name, if the system can say that of a folder.
 pub(crate) fn sync_folder<R: Files<File = File>>(rt: &R, name: &str) {
     let folder = match Path::new(name).parent() {
         Some(folder) if !folder.as_str().is_empty() => folder,

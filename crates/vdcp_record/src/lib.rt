@@ -1,20 +1,19 @@
 //! The files of journals: one is begun, written while an automation plays a list, and read again.
 //!
 //! `begin_journal` makes a journal's file and gives a `Recorder`, which keeps each command there before it goes out: its
-//! `run` and `run_prompt` run an automation, and `finish` writes what is left. `resume_journal` makes the controller of
+//! `run` runs an automation, and `finish` writes what is left. `resume_journal` makes the controller of
 //! a journal's last run anew, and a `Recorder` that appends to it; `replay` makes the controller of bytes alone.
 //! `begin_again` begins a new controller after that run. `do_asrun` prints the as-run list that a journal shows, as its
-//! `AsrunSettings` say, and `asrun_of_journal` gives it. Each failure is told in one line.
+//! `AsrunSettings` say, and `asrun_of_journal` gives it. Each failure is reported in one line.
 //!
-//! Files: `file` (a file whose bytes are safe once it says so; it is made, opened and locked), `pending` and `recorder`
-//! (what is still to be written; the rows), `begin`, `reading` (a journal's bytes against what is wanted), `mending` (what a
-//! killed run left undone), `resume`, `again`, `named` (the events that a journal's own rows name), `asrun` (the
-//! subcommand).
+//! Files, in reading order: `disk`, `file`, `pending`, `recorder`, `begin`, `reading`, `mending`, `resume`, `again`, `named`,
+//! `asrun`.
 #![tactic(auto)]
 
 mod again;
 mod asrun;
 mod begin;
+mod disk;
 mod file;
 mod mending;
 mod named;
@@ -26,7 +25,7 @@ mod resume;
 pub use again::begin_again;
 pub use asrun::{AsrunSettings, asrun_of_journal, do_asrun};
 pub use begin::begin_journal;
-pub use file::{AppendFault, JournalFile};
+pub use disk::{Disk, append_safely};
 pub use pending::RecordFault;
 pub use reading::{Replayed, replay};
 pub use recorder::Recorder;

@@ -1,3 +1,4 @@
+//! A journal's bytes, held against what is wanted.
 ghost use Rattle.std.specs.Prelude.{◌≡◌, ◌↔◌, ◌+◌, ◌<◌, ◌≤◌, length, IfErr, IfOk, IfNone, IfSome, IsFalse, IsTrue, OnOk};
 ghost use Rattle.vdcp_auto.specs.Plan.{plan_of};
 ghost use Rattle.vdcp_auto.specs.Turn.{new_controller, start};
@@ -6,14 +7,16 @@ ghost use Rattle.vdcp_journal.specs.Journals.{IsJournal, IsJournalFault};
 ghost use Rattle.vdcp_journal.specs.Resume.{IsFalseLoss, IsLostAfter, IsResumeFault, WereLost, limit_after, losses};
 ghost use Rattle.vdcp_journal.specs.Runs.{run_at};
 ghost use Rattle.vdcp_list.specs.Rests.{items_left};
-ghost use Rattle.vdcp_record.specs.Resuming.{Differs, IsLastRun, IsRefused, IsReplayed, IsResumed, IsRunRefused, TellsLoss, place_of, plan_begun, plan_in, plan_of_run, read_failure, row_fault, untold_failure};
+ghost use Rattle.vdcp_record.specs.Resuming.{Differs, IsLastRun, IsRefused, IsReplayed, IsResumed, IsRunRefused, IsUnread, TellsLoss, open_after, place_of, plan_begun, plan_in, plan_of_run, read_failure, row_fault, untold_failure};
 ghost use Rattle.vdcp_journal.specs.declared.faults.JournalReadFault.{JournalReadFault};
 ghost use Rattle.vdcp_journal.specs.declared.faults.ResumeFault.{ResumeFault};
 ghost use Rattle.vdcp_text.specs.declared.failure.JournalFault.{JournalFault};
 ghost use Rattle.vdcp_text.specs.declared.failure.Failure.TheVariants as failures;
 
 use std::alloc::{AllocError, Global};
+use std::io;
 use vdcp_auto::{Controller, Source};
+use vdcp_files::NamedFile;
 use vdcp_journal::{
     Heading, Journal, JournalReadFault, JournalRowFault, JournalRun, Note, ResumeFault, Resumed,
     Row, are_lost, is_loss, limit_after, read_journal, resume, runs_in,
@@ -51,6 +54,8 @@ pub fn replay<'a, S: Source + Drop>(
     ensures replayed { IfOk result (λ r. IsReplayed (S.items source) wanted.now bytes.now (run_at r.rows.items r.run)
         (plan_of (items_left S.items) r.controller) r.controller.state r.whole) }
     ensures from { IfOk result (λ r. r.controller.source.from ≡ r.run.from) }
+    ensures open { IfOk result (λ r. r.«open» ≡ open_after (plan_of_run wanted.now (S.items source)
+        (run_at r.rows.items r.run)) (run_at r.rows.items r.run).rows) }
     ensures begin { IfOk result (λ r. r.run.begin ≤ r.run.«end») }
     ensures within { IfOk result (λ r. r.run.«end» ≤ length r.rows.items) }
     ensures refused { IfErr result (IsRefused (S.items source) name.entry wanted.now bytes.now) }
@@ -99,6 +104,8 @@ pub(crate) fn run_resumed<'a, S: Source + Drop>(
         (run_at rows.now run).rows) }
     ensures resumed { IfOk result (λ r. IsResumed (plan_of_run heading.now (S.items source) (run_at rows.now run))
         (run_at rows.now run).rows (plan_of (items_left S.items) r.controller) r.controller.state) }
+    ensures open { IfOk result (λ r. r.«open» ≡ open_after (plan_of_run heading.now (S.items source)
+        (run_at rows.now run)) (run_at rows.now run).rows) }
     ensures refused { IfErr result (IsRunRefused (S.items source) name.entry heading.now (run_at rows.now run)) }
 {
     if run.from > source.len() {
@@ -191,6 +198,26 @@ pub(crate) fn controller_of<S: Source>(events: S, heading: &Heading) -> Controll
     }
 }
 
+/// Reads the journal of this name, whose rows have 64 KiB each at most. `JournalRow` where a row has more, which isn't
+/// read to its end; `Read` where it can't be read, and `Memory`.
+pub(crate) fn read_rows<'a, I: io::Read + Drop>(
+    alloc: Global,
+    name: &'a str,
+    reader: I,
+) -> Result<Vec<u8>, Failure<'a>>
+    ensures bytes { IfOk result (λ bytes. IfSome (I.remaining reader) (λ known. known ≡ bytes.items)) }
+    ensures unread { IfErr result (IsUnread name.entry) }
+{
+    let file = NamedFile { name, reader };
+    match file.read_lines(alloc) {
+        Ok(bytes) => Ok(bytes),
+        Err(Failure::ScriptLine(name, row, _)) => {
+            Err(Failure::JournalRow(name, row, JournalFault::Long))
+        }
+        Err(failure) => Err(failure),
+    }
+}
+
 /// The journal of this name that these bytes are.
 pub(crate) fn journal_in<'a>(
     alloc: Global,
@@ -214,6 +241,7 @@ fn read_failure<'a>(name: &'a str, fault: JournalReadFault) -> Failure<'a>
         JournalReadFault::Empty => Failure::JournalRow(name, 1, JournalFault::Empty),
         JournalReadFault::Heading(fault) => Failure::JournalRow(name, 1, row_fault(fault)),
         JournalReadFault::Row(row, fault) => Failure::JournalRow(name, row, row_fault(fault)),
+        JournalReadFault::Long(row) => Failure::JournalRow(name, row, JournalFault::Long),
         JournalReadFault::Memory => Failure::Memory,
         JournalReadFault::Device => Failure::Read(name),
     }
@@ -275,6 +303,8 @@ fn resumed<'a, S: Source + Drop>(
     ensures resumed { IfOk result (λ r. IsResumed (plan_of S.items controller) (run_at rows.now run).rows
         (plan_of S.items r.controller) r.controller.state) }
     ensures source { IfOk result (λ r. r.controller.source ≡ controller.source) }
+    ensures open { IfOk result (λ r. r.«open»
+        ≡ open_after (plan_of S.items controller) (run_at rows.now run).rows) }
     ensures untold { IfErr result (λ failure. (wrong : ResumeFault)
         × IsResumeFault (plan_of S.items controller) start (run_at rows.now run).rows wrong
         × (failure ≡ untold_failure name.entry run.begin wrong)) }

@@ -1,33 +1,39 @@
+//! The recorder of a run, which writes the rows.
 ghost use Rattle.std.specs.Io.KnownBytes.{Appends};
 ghost use Rattle.std.specs.Option.{option_to_list};
-ghost use Rattle.std.specs.Prelude.{◌≡◌, ◌≢◌, ◌≤◌, ◌∷◌, [], ◌++◌, Err, IfErr, IfOk, OnErr, OnOk};
+ghost use Rattle.std.specs.Prelude.{◌≡◌, ◌≢◌, ◌≤◌, ◌∷◌, [], ◌++◌, Err, IfErr, IfOk, IsFalse, IsTrue, OnErr, OnOk, false, true};
 ghost use Rattle.vdcp_journal.specs.Rows.{AppendsBeginning, fields_text, heading_fields, rows_text};
 ghost use Rattle.vdcp_journal.specs.declared.moment.Moment.{Moment};
-ghost use Rattle.vdcp_journal.specs.declared.row.Note.TheVariants.{From, Sent, Take};
-ghost use Rattle.vdcp_drive.specs.KeptLeaves.{KeptLeaves};
-ghost use Rattle.vdcp_drive.specs.PromptKept.{PromptKeptLeaves};
-ghost use Rattle.vdcp_record.specs.Recorded.{HoldsNoCommand, RecordsPromptRun, RecordsRun, commands_of_note};
-ghost use Rattle.vdcp_record.specs.Recording.{Adds, AddsBeginning, IsUnwritten, Recording, end_note, ended, outcome_rows, rows_left};
-ghost use Rattle.vdcp_record.specs.declared.pending.Pending.TheVariants.{End, Failed, Nothing};
+ghost use Rattle.vdcp_auto.specs.Plan.{plan_of};
+ghost use Rattle.vdcp_drive.specs.Auto.{auto_of};
+ghost use Rattle.vdcp_drive.specs.Leaves.{RunLeaves};
+ghost use Rattle.vdcp_journal.specs.Thinned.{asks_state};
+ghost use Rattle.vdcp_record.specs.Recorded.{IsNoAct, IsRecorded, KeepsRow, Loses, LosesRow, MayHold, Notes, call_note};
+ghost use Rattle.vdcp_record.specs.Recording.{Adds, AddsBeginning, IsSynced, IsUnwritten, MakesBeginning, MakesSafe, NotesFrom, Recording, after_row, end_note, ended, is_announced, outcome_rows, rows_due, rows_left, with_play};
+ghost use Rattle.vdcp_record.specs.declared.pending.Pending.TheVariants.{Failed, Nothing};
 ghost use Rattle.vdcp_record.specs.declared.pending.RecordFault.{RecordFault};
 
-use crate::file::{AppendFault, JournalFile};
-use crate::pending::{Pending, RecordFault};
+use crate::disk::{Disk, append_safely};
+use crate::pending::{Pending, RecordFault, add_row};
 use std::alloc::Global;
 use std::marker::Model;
 use std::rt::Clock;
 use vdcp_auto::{Heard, Outcome, Source};
-use vdcp_drive::{AutoDriver, Keep, KeepFault, KeptFault, PromptDriver, Ran, Watch, Wire};
-use vdcp_journal::{Heading, Moment, Note, Row, write_heading, write_row};
+use vdcp_drive::{Call, Driver, Ear, Keep, KeepFault, KeptFault, Pace, Ran, Watch, Wire, laws};
+use vdcp_journal::{Heading, Moment, Note, Row, write_heading};
 use vdcp_text::Failure;
 use vdcp_words::Command;
 
 /// Writes a journal's rows, that of each command before it goes out.
 ///
-/// What ended an exchange is written with the next command, and made safe with it, in one. After a failure nothing
-/// more is written.
+/// What ended an exchange is made safe before the next command goes out, in one with the row of that command. The row of
+/// a command that asks for the state is held back: it is written before the next command goes out, with what was heard,
+/// or left out where the same was asked and heard just before and is asked again. So a clip that plays on writes nothing.
+/// Where a state with the cue done, while a clip plays, stands last in the file, it announces a PLAY: that goes out at
+/// once, and its row is written before the next command.
+/// After a failure nothing more is written.
 #[derive(Drop)]
-pub struct Recorder<'a, 'r, R, F> {
+pub struct Recorder<'a, 'r, R, F: Disk> {
     rt: &'r R,
     name: &'a str,
     unit: u8,
@@ -35,19 +41,20 @@ pub struct Recorder<'a, 'r, R, F> {
     pending: Pending,
 }
 
-impl<'a, 'r, R, F> Model for Recorder<'a, 'r, R, F> {
+impl<'a, 'r, R, F: Disk> Model for Recorder<'a, 'r, R, F> {
     ghost use Rattle.std.specs.Prelude.{◌≤◌};
-    ghost use Rattle.vdcp_record.specs.Recorded.{HoldsNoCommand};
-    ghost use Rattle.vdcp_record.specs.Recording.{Recording};
+    ghost use Rattle.vdcp_record.specs.Recorded.{MayHold};
+    ghost use Rattle.vdcp_record.specs.Recording.{IsSynced, Recording};
 
     ghost Value = { Recording F };
 
     ghost view = { λ r. record { name = r.name; unit = r.unit; file = r.file; pending = r.pending } };
 
-    ghost invariant = { λ r. (r.unit ≤ 15) × HoldsNoCommand r.pending };
+    ghost invariant = { λ r. (r.unit ≤ 15) × MayHold r.pending
+        × IsSynced r.pending (F.safe r.file) (F.written r.file) };
 }
 
-impl<'a, 'r, R: Clock + AllocGlobal, F: JournalFile + Drop> Recorder<'a, 'r, R, F> {
+impl<'a, 'r, R: Clock + AllocGlobal, F: Disk + Drop> Recorder<'a, 'r, R, F> {
     /// Begins a journal in an empty file: writes the first row.
     pub fn begin(
         rt: &'r R,
@@ -56,7 +63,7 @@ impl<'a, 'r, R: Clock + AllocGlobal, F: JournalFile + Drop> Recorder<'a, 'r, R, 
         mut file: F,
     ) -> Result<Recorder<'a, 'r, R, F>, Failure<'a>>
         requires { heading.now.unit ≤ 15 }
-        ensures begun { IfOk result (λ r. (time : Moment) × Appends (F.safe file) (F.safe r.file)
+        ensures begun { IfOk result (λ r. (time : Moment) × Appends (F.written file) (F.safe r.file)
             (fields_text (heading_fields time heading.now))) }
         ensures new { IfOk result (λ r. r ≡ record
             { name = name.entry; unit = heading.now.unit; file = r.file; pending = Nothing }) }
@@ -68,7 +75,7 @@ impl<'a, 'r, R: Clock + AllocGlobal, F: JournalFile + Drop> Recorder<'a, 'r, R, 
         }
     }
 
-    /// Goes on with a journal, of the server at this unit, in a file that has all but what is pending.
+    /// Goes on with a journal, of the server at this unit, in a file that has all but what is pending, and safe.
     pub(crate) fn after(
         rt: &'r R,
         name: &'a str,
@@ -77,7 +84,8 @@ impl<'a, 'r, R: Clock + AllocGlobal, F: JournalFile + Drop> Recorder<'a, 'r, R, 
         pending: Pending,
     ) -> Recorder<'a, 'r, R, F>
         requires unit { unit ≤ 15 }
-        requires ends { HoldsNoCommand pending }
+        requires ends { MayHold pending }
+        requires synced { F.safe file ≡ F.written file }
         ensures { result ≡ record { name = name.entry; unit = unit; file = file; pending = pending } }
     {
         Recorder {
@@ -89,43 +97,65 @@ impl<'a, 'r, R: Clock + AllocGlobal, F: JournalFile + Drop> Recorder<'a, 'r, R, 
         }
     }
 
-    /// Writes what is pending, and the row of a command that is going out.
-    pub fn keep(&mut self, command: &Command) -> Result<(), RecordFault>
-        ensures kept { OnOk result ((time : Moment) × Adds F.safe self.old self.new
-            (record { time = time; note = Sent command.now } ∷ [])) }
-        ensures rest { OnOk result (self.new ≡ record self.old { file = self.new.file; pending = Nothing }) }
-        ensures torn { OnErr result ((time : Moment) × AddsBeginning F.safe self.old self.new
-            (record { time = time; note = Sent command.now } ∷ [])) }
-        ensures failed { IfErr result (λ fault. self.new ≡ record self.old
-            { file = self.new.file; pending = Failed fault }) }
-        ensures stays { (fault : RecordFault) → self.old.pending ≡ Failed fault →
-            (result ≡ Err fault) × (self.new ≡ self.old) }
+    /// The journal's name.
+    pub fn name(&self) -> &'a str
+        ensures { result ≡ self.now.name }
     {
-        let time = now(self.rt);
-        self.write(Some(Row {
-            time,
-            note: Note::Sent(*command),
-        }))
+        self.name
     }
 
-    /// Writes what is pending, and the row of a take that is going to be given.
-    pub fn keep_take(&mut self) -> Result<(), RecordFault>
-        ensures kept { OnOk result ((time : Moment) × Adds F.safe self.old self.new
-            (record { time = time; note = Take } ∷ [])) }
-        ensures rest { OnOk result (self.new ≡ record self.old { file = self.new.file; pending = Nothing }) }
-        ensures torn { OnErr result ((time : Moment) × AddsBeginning F.safe self.old self.new
-            (record { time = time; note = Take } ∷ [])) }
+    /// Makes safe what is due before a command goes out, or a call is given: all that is pending but what says nothing
+    /// new, and its own row, which is held back where it asks for the state. A PLAY that is announced waits for nothing.
+    pub fn keep(&mut self, note: Note) -> Result<(), RecordFault>
+        ensures kept { OnOk result (KeepsRow F.safe note self.old self.new) }
+        ensures torn { OnErr result (LosesRow F.safe note self.old self.new) }
         ensures failed { IfErr result (λ fault. self.new ≡ record self.old
             { file = self.new.file; pending = Failed fault }) }
         ensures stays { (fault : RecordFault) → self.old.pending ≡ Failed fault →
             (result ≡ Err fault) × (self.new ≡ self.old) }
     {
-        let time = now(self.rt);
-        let take = Row {
-            time,
-            note: Note::Take,
-        };
-        self.write(Some(take))
+        let row = row_now(self.rt, note);
+        if asks_state(&row.note) {
+            return self.hold(row);
+        }
+        if self.hold_play(row) {
+            return Ok(());
+        }
+        self.write(Some(row))
+    }
+
+    // Holds back the row of a PLAY, with all that is pending, if it is announced.
+    fn hold_play(&mut self, row: Row) -> bool
+        ensures held { IsTrue result → (is_announced self.old.pending row.note ≡ true)
+            × (self.new ≡ record self.old { pending = with_play self.old.pending row }) }
+        ensures unannounced { IsFalse result → (is_announced self.old.pending row.note ≡ false) × (self.new ≡ self.old) }
+    {
+        match self.pending.with_play(row) {
+            Some(held) => {
+                self.pending = held;
+                true
+            }
+            None => false,
+        }
+    }
+
+    // Holds back the row of a command that asks for the state, and makes what is pending safe unless it says nothing new.
+    fn hold(&mut self, row: Row) -> Result<(), RecordFault>
+        requires { IsTrue (asks_state row.note) }
+        ensures kept { OnOk result (MakesSafe F.safe self.old self.new (rows_due self.old.pending row)
+            × (self.new ≡ record self.old { file = self.new.file; pending = after_row self.old.pending row })) }
+        ensures torn { OnErr result (MakesBeginning F.safe self.old self.new (rows_due self.old.pending row)) }
+        ensures failed { IfErr result (λ fault. self.new ≡ record self.old
+            { file = self.new.file; pending = Failed fault }) }
+        ensures stays { (fault : RecordFault) → self.old.pending ≡ Failed fault →
+            (result ≡ Err fault) × (self.new ≡ self.old) }
+    {
+        let last = self.pending.seen_last();
+        if !self.pending.says_nothing_new(row.note) {
+            self.write(None)?;
+        }
+        self.pending = Pending::Asked(last, row);
+        Ok(())
     }
 
     /// Notes what ended an exchange, in place of what was pending.
@@ -140,20 +170,23 @@ impl<'a, 'r, R: Clock + AllocGlobal, F: JournalFile + Drop> Recorder<'a, 'r, R, 
         });
     }
 
-    /// Notes the event that the run begins with. It is written with the first command.
-    pub fn note_from(&mut self, event: usize)
-        ensures { (time : Moment) × (self.new ≡ record self.old
-            { pending = ended self.old.pending (record { time = time; note = From event }) }) }
+    /// Notes the event that the run begins with, if it is said. It is written with the first command.
+    pub(crate) fn note_from(&mut self, event: Option<usize>)
+        requires { self.old.pending ≡ Nothing }
+        ensures noted { NotesFrom event self.new.pending }
+        ensures rest { self.new ≡ record self.old { pending = self.new.pending } }
     {
-        let time = now(self.rt);
-        self.note_row(Row {
-            time,
-            note: Note::From(event),
-        });
+        if let Some(event) = event {
+            let time = now(self.rt);
+            self.note_row(Row {
+                time,
+                note: Note::From(event),
+            });
+        }
     }
 
     fn note_row(&mut self, row: Row)
-        requires { commands_of_note row.note ≡ [] }
+        requires { IsNoAct row }
         ensures { self.new ≡ record self.old { pending = ended self.old.pending row } }
     {
         self.pending = self.pending.ended(row);
@@ -175,34 +208,25 @@ impl<'a, 'r, R: Clock + AllocGlobal, F: JournalFile + Drop> Recorder<'a, 'r, R, 
         Ok(())
     }
 
-    /// Runs an automation that hears its answers once the line is silent, and keeps each of its commands before it
-    /// goes out. At each moment the rows that are safe have every command of which a byte went out.
-    pub fn run<S: Source, W: Wire, V: Watch<S>>(
+    /// Runs an automation, and keeps each of its commands before it goes out. At each moment the rows that are safe have
+    /// every command of which a byte went out, but for those that ask for the state, and a PLAY that they announce.
+    pub fn run<S: Source, E: Ear, W: Wire, V: Watch<S>, P: Pace<S>>(
         &mut self,
-        driver: &mut AutoDriver<S, W>,
+        driver: &mut Driver<S, E, W>,
         listens: u64,
-        watcher: &mut V,
+        watch: &mut V,
+        pace: &mut P,
     ) -> Result<Ran, KeptFault>
-        ensures leaves { KeptLeaves S.items W.told W.failures listens driver.old driver.new result }
-        ensures recorded { RecordsRun S.items W.told W.failures F.safe driver.old driver.new result self.old self.new }
+        ensures leaves { RunLeaves S.items (record
+            { does = W.does; adds = Notes F.safe; loses = Loses F.safe; sees = V.sees }) E.fold W.failures listens
+            driver.old driver.new self.old self.new watch.old watch.new result }
+        ensures recorded { W.failures driver.old.wire ≡ 0 → IsRecorded F.safe W.told E.fold
+            (plan_of S.items driver.old.controller) driver.old.unit (auto_of driver.old) (auto_of driver.new)
+            driver.old.wire driver.new.wire result self.old self.new }
     {
         let _ = &self.pending;
-        driver.run_kept(listens, watcher, self)
-    }
-
-    /// As `run`, of an automation that hears each answer at once.
-    pub fn run_prompt<S: Source, W: Wire, V: Watch<S>>(
-        &mut self,
-        prompt: &mut PromptDriver<S, W>,
-        listens: u64,
-        watcher: &mut V,
-    ) -> Result<Ran, KeptFault>
-        ensures leaves { PromptKeptLeaves S.items W.told W.failures listens prompt.old prompt.new result }
-        ensures recorded { RecordsPromptRun S.items W.told W.failures F.safe prompt.old prompt.new result self.old
-            self.new }
-    {
-        let _ = &self.pending;
-        prompt.run_kept(listens, watcher, self)
+        laws::what_a_run_keeps::<S, E, W, V, Self>();
+        driver.run_with(listens, watch, self, pace)
     }
 
     // Writes what is pending, and then a row, if there is one.
@@ -215,8 +239,13 @@ impl<'a, 'r, R: Clock + AllocGlobal, F: JournalFile + Drop> Recorder<'a, 'r, R, 
         ensures stays { (fault : RecordFault) → self.old.pending ≡ Failed fault →
             (result ≡ Err fault) × (self.new ≡ self.old) }
     {
-        let first = self.pending.row()?;
-        match write_rows(self.rt.alloc(), self.unit, first, last, &mut self.file) {
+        match write_rows(
+            self.rt.alloc(),
+            self.unit,
+            self.pending,
+            last,
+            &mut self.file,
+        ) {
             Ok(()) => {
                 self.pending = Pending::Nothing;
                 Ok(())
@@ -229,15 +258,19 @@ impl<'a, 'r, R: Clock + AllocGlobal, F: JournalFile + Drop> Recorder<'a, 'r, R, 
     }
 }
 
-impl<R: Clock + AllocGlobal, F: JournalFile + Drop> Keep for Recorder<'_, '_, R, F> {
-    ghost use Rattle.vdcp_record.specs.Recorded.{Loses, Notes};
+impl<R: Clock + AllocGlobal, F: Disk + Drop> Keep for Recorder<'_, '_, R, F> {
+    ghost use Rattle.vdcp_record.specs.Recorded.{KeepsRow, Loses, LosesRow, Notes, call_note};
 
     ghost adds = { Notes F.safe };
 
     ghost loses = { Loses F.safe };
 
+    ghost calls = { λ call. KeepsRow F.safe (call_note call) };
+
+    ghost misses = { λ call. LosesRow F.safe (call_note call) };
+
     fn keep_sent(&mut self, command: &Command) -> Result<(), KeepFault> {
-        match self.keep(command) {
+        match self.keep(Note::Sent(*command)) {
             Ok(()) => Ok(()),
             Err(_) => Err(KeepFault),
         }
@@ -245,6 +278,13 @@ impl<R: Clock + AllocGlobal, F: JournalFile + Drop> Keep for Recorder<'_, '_, R,
 
     fn note_end(&mut self, heard: Option<Heard>) {
         self.note(heard);
+    }
+
+    fn keep_call(&mut self, call: Call) -> Result<(), KeepFault> {
+        match self.keep(note_of_call(call)) {
+            Ok(()) => Ok(()),
+            Err(_) => Err(KeepFault),
+        }
     }
 }
 
@@ -258,6 +298,23 @@ fn outcome_row(time: Moment, outcome: Option<Outcome>) -> Option<Row>
             note: Note::End(outcome),
         }),
         None => None,
+    }
+}
+
+// Whether the state is asked for.
+fn asks_state(note: &Note) -> bool
+    ensures { result ≡ asks_state note.now }
+{
+    matches!(note, Note::Sent(Command::Status(_)))
+}
+
+// The note of a call.
+fn note_of_call(call: Call) -> Note
+    ensures { result ≡ call_note call }
+{
+    match call {
+        Call::Take => Note::Take,
+        Call::Stop => Note::Stop,
     }
 }
 
@@ -291,17 +348,21 @@ fn now<R: Clock>(rt: &R) -> Moment {
 }
 
 // Writes the first row.
-fn write_first<F: JournalFile>(
+fn write_first<F: Disk>(
     alloc: Global,
     time: &Moment,
     heading: &Heading,
     file: &mut F,
 ) -> Result<(), RecordFault>
-    ensures { OnOk result (Appends (F.safe file.old) (F.safe file.new)
+    ensures first { OnOk result (Appends (F.written file.old) (F.safe file.new)
         (fields_text (heading_fields time.now heading.now))) }
+    ensures synced { OnOk result (F.safe file.new ≡ F.written file.new) }
 {
     let text = first_text(alloc, time, heading)?;
-    append(file, text.as_slice())
+    match append_safely(file, text.as_slice()) {
+        Ok(()) => Ok(()),
+        Err(_) => Err(RecordFault::Device),
+    }
 }
 
 /// The text of the first row of a journal that is begun now.
@@ -325,61 +386,56 @@ fn first_text(alloc: Global, time: &Moment, heading: &Heading) -> Result<Vec<u8>
     }
 }
 
-// Writes up to two rows in one.
-fn write_rows<F: JournalFile>(
+// Writes what is left, and then a row, if there is one, in one.
+fn write_rows<F: Disk>(
     alloc: Global,
     unit: u8,
-    first: Option<Row>,
+    left: Pending,
     last: Option<Row>,
     file: &mut F,
 ) -> Result<(), RecordFault>
-    requires { unit ≤ 15 }
+    requires unit { unit ≤ 15 }
+    requires synced { IsSynced left (F.safe file.old) (F.written file.old) }
     ensures all { OnOk result (Appends (F.safe file.old) (F.safe file.new)
-        (rows_text unit (option_to_list first ++ option_to_list last))) }
+        (rows_text unit (rows_left left ++ option_to_list last))) }
+    ensures synced { OnOk result (F.safe file.new ≡ F.written file.new) }
     ensures beginning { OnErr result (AppendsBeginning (F.safe file.old) (F.safe file.new)
-        (rows_text unit (option_to_list first ++ option_to_list last))) }
+        (rows_text unit (rows_left left ++ option_to_list last))) }
+    ensures refused { (fault : RecordFault) → left ≡ Failed fault → (result ≡ Err fault) × (file.new ≡ file.old) }
 {
-    let text = text_of(alloc, unit, first, last)?;
+    let text = text_of(alloc, unit, left, last)?;
     append(file, text.as_slice())
 }
 
-/// The text of up to two rows.
-pub(crate) fn text_of(
+// The text of what is left, and of a row after it, if there is one.
+fn text_of(
     alloc: Global,
     unit: u8,
-    first: Option<Row>,
+    left: Pending,
     last: Option<Row>,
 ) -> Result<Vec<u8>, RecordFault>
     requires { unit ≤ 15 }
-    ensures { IfOk result (λ text. text.items
-        ≡ rows_text unit (option_to_list first ++ option_to_list last)) }
+    ensures text { IfOk result (λ text. text.items ≡ rows_text unit (rows_left left ++ option_to_list last)) }
+    ensures refused { (fault : RecordFault) → left ≡ Failed fault → result ≡ Err fault }
 {
     let mut text = Vec::new(alloc);
-    add_row(alloc, unit, first, &mut text)?;
+    left.add_to(alloc, unit, &mut text)?;
     add_row(alloc, unit, last, &mut text)?;
     Ok(text)
 }
 
-// Adds a row's text, if there is a row.
-fn add_row(alloc: Global, unit: u8, row: Option<Row>, text: &mut Vec<u8>) -> Result<(), RecordFault>
-    requires { unit ≤ 15 }
-    ensures { OnOk result (text.new.items ≡ text.old.items ++ rows_text unit (option_to_list row)) }
-{
-    let Some(row) = row else {
-        return Ok(());
-    };
-    match write_row(alloc, unit, &row, text) {
-        Ok(()) => Ok(()),
-        Err(_) => Err(RecordFault::Memory),
-    }
-}
-
-fn append<F: JournalFile>(file: &mut F, bytes: &[u8]) -> Result<(), RecordFault>
+// Appends bytes, if there are any, and makes them safe.
+fn append<F: Disk>(file: &mut F, bytes: &[u8]) -> Result<(), RecordFault>
+    requires { F.safe file.old ≡ F.written file.old }
     ensures all { OnOk result (Appends (F.safe file.old) (F.safe file.new) bytes.now) }
+    ensures synced { OnOk result (F.safe file.new ≡ F.written file.new) }
     ensures beginning { OnErr result (AppendsBeginning (F.safe file.old) (F.safe file.new) bytes.now) }
 {
-    match file.append(bytes) {
+    if bytes.is_empty() {
+        return Ok(());
+    }
+    match append_safely(file, bytes) {
         Ok(()) => Ok(()),
-        Err(AppendFault) => Err(RecordFault::Device),
+        Err(_) => Err(RecordFault::Device),
     }
 }

@@ -1,20 +1,19 @@
-ghost use Rattle.std.specs.Prelude.{◌≡◌, ◌⊎◌, ◌≤◌, ◌↔◌, ◌++◌, ℕ, List, IfErr, IfOk, IfSome, IsSome, None, OnOk, Some, if◌then◌else◌, nat_lt};
+//! How the last run of a journal's file goes on.
+ghost use Rattle.std.specs.Prelude.{◌≡◌, ◌⊎◌, ◌≤◌, ◌↔◌, ℕ, List, IfErr, IfOk, IfSome, IsSome, None, Some, if◌then◌else◌, nat_lt};
 ghost use Rattle.vdcp_auto.specs.Plan.{plan_of};
 ghost use Rattle.vdcp_auto.specs.Turn.{outcome_of};
 ghost use Rattle.vdcp_journal.specs.Runs.{Run};
 ghost use Rattle.vdcp_list.specs.Rests.{items_left};
-ghost use Rattle.vdcp_record.specs.Recorded.{HoldsNoCommand};
+ghost use Rattle.vdcp_record.specs.Recorded.{MayHold};
 ghost use Rattle.vdcp_record.specs.Recording.{IsTimedOut, IsUnopened, IsUnwritten};
-ghost use Rattle.vdcp_record.specs.Resuming.{IsReplayed, IsUnresumed};
-ghost use Rattle.vdcp_text.specs.declared.failure.Failure.TheVariants as failures;
+ghost use Rattle.vdcp_record.specs.Resuming.{IsReplayed, IsUnread, IsUnresumed, open_after, plan_of_run};
 
 use crate::file::open;
-use crate::mending::{mend_heading, mend_loss};
+use crate::mending::{mend_end, mend_heading};
 use crate::pending::Pending;
-use crate::reading::{Replayed, has_end, replay};
+use crate::reading::{Replayed, has_end, read_rows, replay};
 use crate::recorder::{Recorder, row_now};
 use std::fs::{File, OpenFile};
-use std::io::{ErrorKind, Read};
 use std::rt::{Clock, Files};
 use vdcp_auto::{Controller, Source};
 use vdcp_journal::{Heading, Note};
@@ -47,13 +46,16 @@ pub fn resume_journal<'a, 'r, R: Files<File = File> + Clock + AllocGlobal, S: So
     ensures resumed { IfOk result (λ r. (bytes : List ℕ) × (run : Run) × (whole : ℕ)
         × IsReplayed (S.items source) wanted.now bytes run (plan_of (items_left S.items) r.controller)
         r.controller.state whole
-        × (r.controller.source.from ≡ run.from)) }
+        × (r.controller.source.from ≡ run.from)
+        × IfSome r.recorder (λ recorder. IsTimedOut (open_after (plan_of_run wanted.now (S.items source) run) run.rows)
+        recorder.pending)) }
     ensures goes_on { IfOk result (λ r. IsSome r.recorder ↔ (outcome_of r.controller.state.stage ≡ None)) }
     ensures unit { IfOk result (λ r. IfSome r.recorder (λ recorder. recorder.unit ≡ wanted.now.unit)) }
+    ensures name { IfOk result (λ r. IfSome r.recorder (λ recorder. recorder.name ≡ name.entry)) }
     ensures unresumed { IfErr result (IsUnresumed (S.items source) name.entry wanted.now) }
 {
     let (mut file, mut bytes) = read_file(rt, name, wanted)?;
-    mend_loss(rt, name, wanted, &source, &mut file, &mut bytes)?;
+    mend_end(rt, name, wanted, &source, &mut file, &mut bytes)?;
     let replayed = replay(rt.alloc(), name, bytes.as_slice(), wanted, source)?;
     cut(name, &file, replayed.whole, bytes.len())?;
     go_on(rt, name, wanted.unit, file, replayed)
@@ -66,29 +68,12 @@ pub(crate) fn read_file<'a, R: Files<File = File> + Clock + AllocGlobal>(
     wanted: &Heading,
 ) -> Result<(File, Vec<u8>), Failure<'a>>
     ensures { IfErr result (λ failure. IsUnopened name.entry failure
-        ⊎ ((failure ≡ failures.Read name.entry) ⊎ IsUnwritten name.entry failure)) }
+        ⊎ (IsUnread name.entry failure ⊎ IsUnwritten name.entry failure)) }
 {
     let mut file = open(rt, name)?;
-    let mut bytes = Vec::new(rt.alloc());
-    read_to_end(name, &mut file, &mut bytes)?;
+    let mut bytes = read_rows(rt.alloc(), name, &mut file)?;
     mend_heading(rt, name, wanted, &mut file, &mut bytes)?;
     Ok((file, bytes))
-}
-
-/// Reads what a reader has left.
-pub(crate) fn read_to_end<'a, I: Read>(
-    name: &'a str,
-    reader: &mut I,
-    bytes: &mut Vec<u8>,
-) -> Result<(), Failure<'a>>
-    ensures bytes { OnOk result (IfSome (I.remaining reader.old) (λ more. bytes.new.items ≡ bytes.old.items ++ more)) }
-    ensures unread { IfErr result (λ failure. (failure ≡ failures.Read name.entry) ⊎ (failure ≡ failures.Memory)) }
-{
-    match reader.read_to_end(bytes) {
-        Ok(_) => Ok(()),
-        Err(error) if error.kind() == ErrorKind::OutOfMemory => Err(Failure::Memory),
-        Err(_) => Err(Failure::Read(name)),
-    }
 }
 
 /// Cuts a file off after its whole rows, if it has more than these.
@@ -132,6 +117,7 @@ pub(crate) fn go_on<'a, 'r, R: Files<File = File> + Clock + AllocGlobal, S: Sour
     ensures controller { IfOk result (λ r. r.controller ≡ replayed.controller) }
     ensures goes_on { IfOk result (λ r. IsSome r.recorder ↔ (outcome_of r.controller.state.stage ≡ None)) }
     ensures unit { IfOk result (λ r. IfSome r.recorder (λ recorder. recorder.unit ≡ unit)) }
+    ensures name { IfOk result (λ r. IfSome r.recorder (λ recorder. recorder.name ≡ name.entry)) }
     ensures pending { IfOk result (λ r. IfSome r.recorder (λ recorder. IsTimedOut replayed.«open» recorder.pending)) }
     ensures unwritten { IfErr result (IsUnwritten name.entry) }
 {
@@ -160,7 +146,7 @@ pub(crate) fn go_on<'a, 'r, R: Files<File = File> + Clock + AllocGlobal, S: Sour
 // What is still to be written where this command's exchange was timed out, if one was.
 fn pending_after<R: Clock>(rt: &R, open: Option<Command>) -> Pending
     ensures pending { IsTimedOut «open» result }
-    ensures ends { HoldsNoCommand result }
+    ensures ends { MayHold result }
 {
     match open {
         Some(_) => Pending::End(row_now(rt, Note::Silence)),

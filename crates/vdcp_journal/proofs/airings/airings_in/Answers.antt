@@ -1,10 +1,10 @@
-use Rattle.std.proofs.Common.{◌≡◌, ◌+◌, ◌<◌, ◌^◌, [], ◌∷◌, ◌++◌, List, None, length, take, sym, ap, subst, ◌∙◌, arith}
+use Rattle.std.proofs.Common.{◌≡◌, ◌+◌, ◌<◌, ◌^◌, [], ◌∷◌, ◌++◌, List, None, false, length, take, sym, ap, subst, ◌∙◌, arith}
 use Rattle.std.proofs.lemmas.List.{length-take, take_all, take_more}
 use Rattle.vdcp_auto.specs.Settled.{may_have_aired, settled}
 use Rattle.vdcp_auto.specs.declared.exchange.Exchange.{Exchange}
 use Rattle.vdcp_journal.proofs.AiringSteps.{SoFar, all_shown, ended_from, fits, log_on, one_row_more}
 use Rattle.vdcp_journal.proofs.airings.airings_in.Goals as goal
-use Rattle.vdcp_journal.specs.Airings.{AreAirings}
+use Rattle.vdcp_journal.specs.Airings.{AreAirings, announces_from}
 use Rattle.vdcp_journal.specs.Resume.{ended_at, exchange_with}
 use Rattle.vdcp_journal.specs.declared.row.Row.{Row}
 use Rattle.vdcp_judge.specs.Judging.{Knows}
@@ -68,11 +68,13 @@ returns g c =
     let few : length log + length (exchange_with None c.loop-k.asked []) < 2 ^ 64 =
     omega (arith, here.so_far.few, length-take k all) in
     let knows = c.end.ensures.knows log few here.knows in
-    let shown = all_shown c.a_log_grows.ensures.settled mode front c.loop-k.asked c.loop-k.played
-    c.loop-k.airings.items c.unsettled_event-unsettled.result c.end.new.judge.may_have_aired c.end.new.judge.settled
-    here.so_far (knows.airing ∙ ap (λ m. may_have_aired m last) c.end.ensures.mode)
-    (knows.settled ∙ ap (λ m. settled m last) c.end.ensures.mode) c.unsettled_event-unsettled.ensures in
     let whole : front ≡ all = take_all k all (omega arith) in
+    let shown = all_shown c.a_log_grows.ensures.settled mode front c.loop-k.asked c.loop-k.played
+    c.loop-k.airings.items c.unsettled_event-unsettled.result c.end.new.judge.may_have_aired c.announces-announced.result
+    c.end.new.judge.settled
+    here.so_far (knows.airing ∙ ap (λ m. may_have_aired m last) c.end.ensures.mode)
+    (knows.settled ∙ ap (λ m. settled m last) c.end.ensures.mode) c.unsettled_event-unsettled.ensures
+    (c.announces-announced.ensures ∙ ap (announces_from false) (sym whole)) in
     subst (λ rows. AreAirings c.args.controller.now.mode rows c.loop-k.airings.items c.unsettled_event-unsettled.result) whole
     (subst (λ m. AreAirings m front c.loop-k.airings.items c.unsettled_event-unsettled.result)
     (here.mode ∙ c.judge_of-judge.ensures.mode) shown)

@@ -1,8 +1,9 @@
-use Rattle.std.proofs.Common.{refl}
+use Rattle.std.proofs.Common.{ap, refl}
 use Rattle.std.proofs.lemmas.Result.{IfOk-weaker, err_from_is_err_and}
 use Rattle.vdcp_journal.specs.Runs.{run_at}
 use Rattle.vdcp_record.proofs.OpenedAgain.{not_begun}
 use Rattle.vdcp_record.proofs.again.begin_again.Goals as goal
+use Rattle.vdcp_record.specs.Recording.{Recording}
 use Rattle.vdcp_record.specs.Resuming.{bad, begins, is_over, unresumed}
 
 pub returns-in_err-replayed-clause-unopened : goal.returns-in_err-replayed-clause-unopened
@@ -28,3 +29,8 @@ returns-clause-opened g c =
     rw (c.controller_of-controller.ensures, c.new-rest.ensures)
     (begins c.as_slice.result.now (run_at c.in_ok-replayed.replayed.rows.items c.in_ok-replayed.replayed.run) _ _ _
     c.in_ok-replayed.ensures.replayed c.in_ok-event.ensures.listed c.in_ok-event.ensures.begins refl refl)
+
+pub returns-clause-from : goal.returns-clause-from
+returns-clause-from g c =
+    rw (c.controller_of-controller.ensures, c.new-rest.ensures)
+    c.note_from.ensures.noted

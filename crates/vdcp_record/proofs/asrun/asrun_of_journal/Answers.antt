@@ -7,11 +7,11 @@ use Rattle.vdcp_record.specs.declared.asrun.AsrunSettings.{AsrunSettings}
 pub returns-in-Ok-print_rows : goal.returns-in-Ok-print_rows
 returns-in-Ok-print_rows g c =
     let journal = c.in_ok-journal.journal in
-    let settings : AsrunSettings = record { rate = c.args.rate; times = false; may_have_aired = false } in
+    let settings : AsrunSettings = record { rate = c.args.rate; times = false } in
     record {
-      bytes = _;
+      bytes = c.in_ok-journal.ensures.journal.0;
       read = journal;
-      is_journal = c.in_ok-journal.ensures.journal;
+      is_journal = c.in_ok-journal.ensures.journal.1;
       told = c.in-Ok-print_rows.field-0.items;
       shows = subst (λ (empty : List ℕ). ShowsRows settings (g.S.Source.items c.args.events.now) journal.heading
           journal.rows.items (Some empty) (Some c.print_rows.new.out.items) c.in-Ok-print_rows.field-0.items)

@@ -1,10 +1,12 @@
 use Rattle.std.proofs.Common.{subst}
 use Rattle.vdcp_record.proofs.Chains.{run_is_recorded}
 use Rattle.vdcp_record.proofs.recorder.Recorder.run.Goals as goal
-use Rattle.vdcp_record.specs.Recorded.{HoldsNoCommand}
+use Rattle.vdcp_record.specs.Recorded.{MayHold}
 use Rattle.vdcp_record.specs.Recording.{Recording}
 
 pub returns-clause-recorded : goal.returns-clause-recorded
-returns-clause-recorded g c =
-    run_is_recorded g.F.JournalFile.safe _ _ _ _ _ _ _ _ c.args.self.now c.run_kept.new.keep
-    (subst (λ (r : Recording _). HoldsNoCommand r.pending) c.self.view_is c.self.invariant.1) c.run_kept.ensures.keeps
+returns-clause-recorded g c works =
+    run_is_recorded g.F.Disk.safe g.W.Wire.told g.E.Ear.fold _ _ _ _ _ _ c.run_with.result c.args.self.now
+    c.run_with.new.keep
+    (subst (λ (r : Recording _). MayHold r.pending) c.self.view_is c.self.invariant.1)
+    (c.what_a_run_keeps.ensures _ _ _ _ _ _ _ c.run_with.result (c.run_with.ensures.leaves.runs works))
