@@ -2,6 +2,7 @@
 use Rattle.std.proofs.Common.{ℕ, ◌≡◌, ◌≤◌, ◌<◌, ◌+◌, ◌*◌, List, [], ◌∷◌, ◌++◌, Bool, true, false, map, length, refl, sym, ap, ap₂, subst, ◌∙◌, append_assoc, append-nil, length-append, arith}
 use Rattle.std.specs.Prelude.{Option, Some, None, nat_eq, nat_lt, if◌then◌else◌}
 use Rattle.std.proofs.lemmas.Bool.{eqb-true, ltb-true}
+use Rattle.std.proofs.lemmas.Grind.{flat_map-append}
 use Rattle.std.proofs.lemmas.List.{map-append}
 use Rattle.std.proofs.lemmas.List.Elements.{All-append, All-nil}
 use Rattle.vdcp_frame.specs.Burst.{messages_of}
@@ -11,13 +12,13 @@ use Rattle.vdcp_frame.specs.Reader.{Follows}
 use Rattle.vdcp_auto.specs.Heard.{heard_first, heard_in}
 use Rattle.vdcp_auto.specs.declared.exchange.Heard.{Heard}
 use Rattle.vdcp_drive.specs.Bursts.{ended_bursts, open_burst}
-use Rattle.vdcp_drive.specs.Driven.{bytes_of, starts_of}
-use Rattle.vdcp_drive.specs.Hearing.{HasHeard, heard_by_then, command_bytes}
+use Rattle.vdcp_drive.specs.Steps.{command_bytes}
+use Rattle.vdcp_drive.specs.Traces.{bytes_of, starts_behind}
 use Rattle.vdcp_auto.specs.declared.exchange.Heard.TheVariants as heard
 use Rattle.vdcp_words.specs.declared.command.Command.{Command}
 use Rattle.vdcp_words.specs.declared.reply.Reply.{Reply}
 use Rattle.vdcp_words.specs.declared.reply.Reply.TheVariants as reply
-use Rattle.vdcp_drive.specs.Vacancy.{heard_of, IsBetween, HearsBurst, BreaksBurst, vacancy_of, led_by, led_on, unless_led, asking_after, asking_from}
+use Rattle.vdcp_drive.specs.Vacancy.{HasHeard, heard_by_then, heard_of, IsBetween, HearsBurst, BreaksBurst, vacancy_of, led_by, led_on, unless_led, asking_after, asking_from}
 use Rattle.vdcp_drive.specs.Vacancy.{asked_from, asked_now, asking_by, questions_by, commands_asked, first_asking, question_command, HasSaid, IsSaid, CameTo, HasAsked, IsPartlyAsked}
 use Rattle.vdcp_drive.specs.declared.vacancy.Asking.{Asking}
 use Rattle.vdcp_drive.specs.declared.vacancy.Asking.TheVariants.{Asks, Over}
@@ -26,12 +27,45 @@ use Rattle.vdcp_drive.specs.declared.vacancy.Question.TheVariants as question
 use Rattle.vdcp_drive.specs.declared.vacancy.Vacancy.{Vacancy}
 use Rattle.vdcp_drive.specs.declared.vacancy.Vacancy.TheVariants as vacancy
 use Rattle.vdcp_drive.specs.declared.vacancy.Burst.TheVariants as burst
-use Rattle.vdcp_wire.specs.Wires.{Arrival, bytes, silence, close, Told, IfTold, SendsFront, adds_came, adds_drop, adds_sent, has_closed, nothing_told}
+use Rattle.vdcp_wire.specs.Wires.{Arrival, bytes, silence, close, Told, IfTold, SendsFront, adds_came, adds_drop, adds_sent, came_with, has_closed, nothing_told}
 use Rattle.vdcp_wire.specs.WireLaws.{closed_bytes, closed_silence, closed_close}
 use Rattle.vdcp_drive.proofs.Below.{Read, Fed}
 use Rattle.vdcp_drive.proofs.Cutting.{ended_bytes, open_bytes, ended_silence, open_silence, ended_close}
-use Rattle.vdcp_drive.proofs.Driving.{tells_more, bytes_push, starts_of_push}
 use Rattle.vdcp_drive.proofs.Listening.{heard_more}
+
+-- Places of commands.
+
+pub starts_push : (unit n : ℕ) (commands : List Command) (c : Command)
+    → starts_behind unit n (commands ++ c ∷ []) ≡ starts_behind unit n commands ++ (n + length (bytes_of unit commands))
+    ∷ []
+starts_push unit n [] c = ap (λ (m : ℕ). m ∷ []) (omega arith)
+starts_push unit n (d ∷ commands) c =
+    ap (λ (l : List ℕ). n ∷ l) (starts_push unit (n + length (command_bytes unit d)) commands c
+    ∙ ap (λ (m : ℕ). starts_behind unit (n + length (command_bytes unit d)) commands ++ m ∷ []) (omega (
+      arith,
+      length-append (command_bytes unit d)
+          (bytes_of unit commands),
+    )))
+
+pub starts_of_push : (unit : ℕ) (commands : List Command) (c : Command)
+    → starts_behind unit 0 (commands ++ c ∷ []) ≡ starts_behind unit 0 commands ++ length (bytes_of unit commands) ∷ []
+starts_of_push unit commands c =
+    starts_push unit 0 commands c ∙ ap (λ (m : ℕ). starts_behind unit 0 commands ++ m ∷ []) (omega arith)
+
+pub bytes_push : (unit : ℕ) (commands : List Command) (c : Command)
+    → bytes_of unit (commands ++ c ∷ []) ≡ bytes_of unit commands ++ command_bytes unit c
+bytes_push unit commands c = flat_map-append (command_bytes unit) commands (c ∷ [])
+    ∙ ap (λ (l : List ℕ). bytes_of unit commands ++ l) (append-nil (command_bytes unit c))
+
+-- what came, with one more arrival after no close
+came_open : (came : List Arrival) (a : Arrival) → has_closed came ≡ false → came_with came a ≡ came ++ a ∷ []
+came_open came a h = rw h refl
+
+pub tells_more : (t : Told) (a : Arrival) (told told' : Option Told) → told ≡ Some t → has_closed t.came ≡ false
+    → told' ≡ adds_came a told
+    → told' ≡ Some (record { sent = t.sent; came = t.came ++ a ∷ []; drops = t.drops })
+tells_more t a told told' is h e = e ∙ ap (adds_came a) is
+    ∙ ap (λ (c : List Arrival). Some (record { sent = t.sent; came = c; drops = t.drops })) (came_open t.came a h)
 
 -- ---- one burst
 
@@ -357,7 +391,7 @@ commands_heard port limit hs =
 pub record AsksAt (unit port limit listens left : ℕ) (q : Question) (n : ℕ) (u : Told) : Type 0 where
   pub asking_is : asking_by unit limit u.came ≡ Asks q n
   pub sent_is : u.sent ≡ bytes_of unit (ended_commands unit port limit u.came)
-  pub drops_are : u.drops ≡ starts_of unit (ended_commands unit port limit u.came)
+  pub drops_are : u.drops ≡ starts_behind unit 0 (ended_commands unit port limit u.came)
   pub between : IsBetween u.came
   pub listened : length u.came + left ≡ listens
   pub few : length (ended_questions unit limit u.came) ≤ room limit q + n
@@ -367,7 +401,7 @@ pub record AsksAt (unit port limit listens left : ℕ) (q : Question) (n : ℕ) 
 pub record AskedAt (unit port limit listens left : ℕ) (q : Question) (n : ℕ) (u : Told) : Type 0 where
   pub asking_is : asking_by unit limit u.came ≡ Asks q n
   pub sent_is : u.sent ≡ bytes_of unit (commands_asked unit port limit u.came)
-  pub drops_are : u.drops ≡ starts_of unit (commands_asked unit port limit u.came)
+  pub drops_are : u.drops ≡ starts_behind unit 0 (commands_asked unit port limit u.came)
   pub between : IsBetween u.came
   pub listened : length u.came + left ≡ listens
   pub few : length (ended_questions unit limit u.came) ≤ room limit q + n
@@ -406,7 +440,7 @@ asked_so unit port limit listens left q n u told told₁ told₂ is h drops send
             ∙ ap (bytes_of unit) (sym more);
         drops_are = ap₂ (λ (l : List ℕ) (m : ℕ). l ++ m ∷ []) h.drops_are (ap length h.sent_is)
             ∙ sym (starts_of_push unit before c)
-            ∙ ap (starts_of unit) (sym more);
+            ∙ ap (starts_behind unit 0) (sym more);
         between = h.between;
         listened = h.listened;
         few = h.few;
@@ -467,7 +501,7 @@ partly_heard unit port limit listens left q n u told' h (v, is, b) = (
 record AfterBurst (unit port limit listens left : ℕ) (next : Asking) (v : Told) : Type 0 where
   pub asking_is : asking_by unit limit v.came ≡ next
   pub sent_is : v.sent ≡ bytes_of unit (ended_commands unit port limit v.came)
-  pub drops_are : v.drops ≡ starts_of unit (ended_commands unit port limit v.came)
+  pub drops_are : v.drops ≡ starts_behind unit 0 (ended_commands unit port limit v.came)
   pub between : IsBetween v.came
   pub listened : length v.came + left ≡ listens
   pub holds : HoldsOn limit (heard_of unit v.came) (length (ended_questions unit limit v.came)) next
@@ -492,7 +526,7 @@ after_burst unit port limit listens left left' q n h u v less a b =
           ∙ ap (asking_from limit (h ∷ [])) a.asking_is;
       sent_is = b.sent_stays ∙ a.sent_is ∙ ap (λ (qs : List Question). bytes_of unit (map (question_command port) qs))
           (sym asked_is);
-      drops_are = b.drops_stay ∙ a.drops_are ∙ ap (λ (qs : List Question). starts_of unit
+      drops_are = b.drops_stay ∙ a.drops_are ∙ ap (λ (qs : List Question). starts_behind unit 0
           (map (question_command port) qs)) (sym asked_is);
       between = b.adds.0;
       listened = b.listened ∙ a.listened;
@@ -537,7 +571,7 @@ asks_out unit port limit listens left left' q n h answer u told' less a (v, is, 
       is,
       record {
         sent_is = e.sent_is ∙ ap (λ (qs : List Question). bytes_of unit (map (question_command port) qs)) all;
-        drops_are = e.drops_are ∙ ap (λ (qs : List Question). starts_of unit (map (question_command port) qs)) all;
+        drops_are = e.drops_are ∙ ap (λ (qs : List Question). starts_behind unit 0 (map (question_command port) qs)) all;
         answer_is = subst (λ (x : Asking). CameTo x v.came left' answer) (sym e.asking_is) refl;
         said = e.holds.1;
         few = subst (λ (qs : List Question). length qs ≤ 3 * limit) all e.holds.0;
@@ -555,7 +589,7 @@ stops : (unit port limit listens left left' : ℕ) (q : Question) (n : ℕ) (ans
 stops unit port limit listens left left' q n answer u v less a sent drops same listened came said = record {
   sent_is = sent ∙ a.sent_is ∙ ap (λ (hs : List (Option Heard)). bytes_of unit (commands_heard port limit hs))
       (sym same);
-  drops_are = drops ∙ a.drops_are ∙ ap (λ (hs : List (Option Heard)). starts_of unit (commands_heard port limit hs))
+  drops_are = drops ∙ a.drops_are ∙ ap (λ (hs : List (Option Heard)). starts_behind unit 0 (commands_heard port limit hs))
       (sym same);
   answer_is = subst (λ (x : Asking). CameTo x v.came left' answer)
       (sym (ap (λ (hs : List (Option Heard)). asking_from limit hs first_asking) same ∙ a.asking_is)) came;

@@ -1,9 +1,9 @@
 -- The messages that bytes complete, one byte after another, by what a reader gives for them.
-use Rattle.std.proofs.Common.{ℕ, ◌≡◌, ◌-◌, ◌<◌, ◌≤◌, List, [], ◌∷◌, ◌++◌, length, take, map, refl, sym, ap, ap₂, subst, ◌∙◌}
+use Rattle.std.proofs.Common.{ℕ, ◌≡◌, ◌-◌, ◌<◌, ◌≤◌, get_or, List, [], ◌∷◌, ◌++◌, length, take, map, refl, sym, ap, ap₂, subst, ◌∙◌}
 use Rattle.std.proofs.Common.{append_assoc, append-nil, length-append, arith}
 use Rattle.std.proofs.Math.Seq.{take-append_seam}
 use Rattle.std.proofs.lemmas.List.{length-take-le}
-use Rattle.std.proofs.lemmas.List.Elements.{All-append, All-take}
+use Rattle.std.proofs.lemmas.List.Elements.{All-append, All-take, All-from_get_or}
 use Rattle.std.specs.Prelude.{Option, Some, None}
 use Rattle.vdcp_frame.specs.Burst.{messages_of, end_of}
 use Rattle.vdcp_frame.specs.Head.{IsWrong}
@@ -15,7 +15,8 @@ use Rattle.vdcp_frame.specs.declared.message.Fault.{Fault}
 use Rattle.vdcp_frame.specs.declared.message.Fault.TheVariants.{BadStart, BadCount, BadSum, Long}
 use Rattle.vdcp_auto.specs.Heard.{heard_as}
 use Rattle.vdcp_auto.specs.declared.exchange.Heard.{Heard}
-use Rattle.vdcp_drive.specs.PromptReading.{Held, holds, skips, held_with, held_after_byte, completed_by, held_after, completed, IsReader, HasRead}
+use Rattle.vdcp_drive.specs.HearingLaws.{completed_both, held_both}
+use Rattle.vdcp_drive.specs.Reading.{Held, holds, skips, held_with, held_after, completed, IsReader, HasRead}
 
 -- vdcp_frame::laws: no_spelling_begins_another, one_spelling, what_is_spelt_is_bytes, a_spelling_is_its_message,
 -- what_is_followed_is_read, one_reading
@@ -81,18 +82,6 @@ reads_unfinished law xs u =
     (sym same.0, ap₂ (held_with xs) (sym same.0) (sym same.1) ∙ r.2)
 
 -- Bytes one after another.
-
-pub completed_both : (at : Held) (xs ys : List ℕ) → completed at (xs ++ ys)
-    ≡ completed at xs ++ completed (held_after at xs) ys
-completed_both at [] ys = refl
-completed_both at (x ∷ xs) ys =
-    ap (λ (l : List Content). completed_by at x ++ l) (completed_both (held_after_byte at x) xs ys)
-    ∙ sym (append_assoc (completed_by at x) (completed (held_after_byte at x) xs)
-    (completed (held_after (held_after_byte at x) xs) ys))
-
-pub held_both : (at : Held) (xs ys : List ℕ) → held_after at (xs ++ ys) ≡ held_after (held_after at xs) ys
-held_both at [] ys = refl
-held_both at (x ∷ xs) ys = held_both (held_after_byte at x) xs ys
 
 -- bytes complete nothing and are held, where they finish no message
 record AreHeld (held xs : List ℕ) : Type 0 where
@@ -315,3 +304,6 @@ completes_all law (m ∷ ms) xs rest s u =
       ap (held_after (holds [])) parts ∙ held_both (holds []) first after ∙ ap (λ (at : Held). held_after at after) c.1
           ∙ r.1,
     )
+
+pub fitting : (piece : List ℕ) → ((i : ℕ) → get_or piece i 0 < 256) → AreOctets piece
+fitting piece h = All-from_get_or (λ b. b < 256) piece 0 (λ i _. h i)

@@ -1,15 +1,17 @@
 -- What the definitions say of the worked rows: of the port's answers and of the automation's commands.
-use Rattle.std.proofs.Common.{◌≡◌, ℕ, List, [], ◌∷◌, ◌++◌, map, refl}
-use Rattle.vdcp_auto.specs.Course.{course_from}
+use Rattle.std.proofs.Common.{◌≡◌, ℕ, List, [], ◌∷◌, ◌++◌, refl}
 use Rattle.vdcp_auto.specs.Plan.{Plan}
-use Rattle.vdcp_auto.specs.State.{State}
-use Rattle.vdcp_auto.specs.Turn.{stopped}
+use Rattle.vdcp_auto.specs.Turn.{start, stopped}
 use Rattle.vdcp_auto.specs.declared.phase.Mode.{Mode}
 use Rattle.vdcp_auto.specs.declared.phase.Mode.TheVariants.{Plain, Confirming}
 use Rattle.vdcp_port.specs.Clock.{ClockedPort, new_port}
 use Rattle.vdcp_drive.specs.Bursts.{ended_bursts, open_burst, finished_bursts}
-use Rattle.vdcp_drive.specs.Driven.{state_after, commands_by, bytes_of, starts_of}
-use Rattle.vdcp_drive.specs.RunOn.{inputs_since}
+use Rattle.vdcp_drive.specs.Auto.{Auto, after}
+use Rattle.vdcp_drive.specs.Courses.{new_auto}
+use Rattle.vdcp_drive.specs.Hearing.{Burst, at_once, at_silences}
+use Rattle.vdcp_drive.specs.Reading.{Held, holds, skips, completed, held_after}
+use Rattle.vdcp_drive.specs.Steps.{opening, steps_of}
+use Rattle.vdcp_drive.specs.Traces.{acts_in, drops_in, sent_in}
 use Rattle.vdcp_drive.specs.Served.{served, after_bursts}
 use Rattle.vdcp_wire.specs.Wires.{Arrival, bytes, silence, close}
 
@@ -74,17 +76,25 @@ abbrev answers : List Arrival
 answers = bytes granted_bytes ∷ silence ∷ bytes (0x04 ∷ []) ∷ silence ∷ bytes idle_bytes ∷ silence ∷ bytes (0x04 ∷ [])
     ∷ silence ∷ []
 
-empty_playlist_is_played : bytes_of 0 (commands_by (plan Plain) 0 answers (state_after (plan Plain) 0 answers))
-    ≡ open_bytes ++ select_bytes ++ status_bytes ++ close_bytes
+-- a new automation, what it has sent for all that came, and how many bytes had gone out before each drop
+
+abbrev new_at_once : Auto Held
+new_at_once = record { ear = holds []; state = start }
+
+abbrev sent : Mode → List Arrival → List ℕ
+sent mode came = sent_in (acts_in (steps_of at_silences (plan mode) 0 new_auto came))
+
+abbrev dropped : Mode → List Arrival → List ℕ
+dropped mode came = drops_in 0 (acts_in (steps_of at_silences (plan mode) 0 new_auto came))
+
+empty_playlist_is_played : sent Plain answers ≡ open_bytes ++ select_bytes ++ status_bytes ++ close_bytes
 empty_playlist_is_played = refl
 
-each_command_has_a_drop : starts_of 0 (commands_by (plan Plain) 0 answers (state_after (plan Plain) 0 answers))
-    ≡ 0 ∷ 7 ∷ 13 ∷ 19 ∷ []
+each_command_has_a_drop : dropped Plain answers ≡ 0 ∷ 7 ∷ 13 ∷ 19 ∷ []
 each_command_has_a_drop = refl
 
 -- in confirm mode the three answers after SELECT end nothing, and SELECT is still awaited
-receipts_confirm_nothing : bytes_of 0 (commands_by (plan Confirming) 0 answers
-    (state_after (plan Confirming) 0 answers)) ≡ open_bytes ++ select_bytes
+receipts_confirm_nothing : sent Confirming answers ≡ open_bytes ++ select_bytes
 receipts_confirm_nothing = refl
 
 -- the commands that only a receipt answers end at a silence
@@ -92,30 +102,62 @@ abbrev confirmed : List Arrival
 confirmed = bytes granted_bytes ∷ silence ∷ silence ∷ bytes idle_bytes ∷ silence ∷ bytes idle_bytes ∷ silence ∷ silence
     ∷ []
 
-empty_playlist_is_confirmed : bytes_of 0 (commands_by (plan Confirming) 0 confirmed
-    (state_after (plan Confirming) 0 confirmed))
+empty_playlist_is_confirmed : sent Confirming confirmed
     ≡ open_bytes ++ select_bytes ++ status_bytes ++ status_bytes ++ close_bytes
 empty_playlist_is_confirmed = refl
 
 -- a close inside a message is a time-out: nothing is awaited then, and OPEN was sent
-abbrev cut_off : List Arrival
-cut_off = bytes (0x02 ∷ 0x03 ∷ 0x30 ∷ []) ∷ close ∷ []
-
-close_is_a_time_out : bytes_of 0 (commands_by (plan Plain) 0 cut_off (state_after (plan Plain) 0 cut_off)) ≡ open_bytes
+close_is_a_time_out : sent Plain (bytes (0x02 ∷ 0x03 ∷ 0x30 ∷ []) ∷ close ∷ []) ≡ open_bytes
 close_is_a_time_out = refl
 
 -- the operator stops after a run that ended inside the answer to OPEN: the next one hears the rest of it, and then
 -- sends STOP and CLOSE
-abbrev begun : List Arrival
-begun = bytes (0x02 ∷ 0x03 ∷ 0x30 ∷ []) ∷ []
-
-abbrev stopped_then : State
-stopped_then = stopped (state_after (plan Plain) 0 begun)
+abbrev begun : Auto Burst
+begun = after at_silences (plan Plain) 0 new_auto (bytes (0x02 ∷ 0x03 ∷ 0x30 ∷ []) ∷ [])
 
 abbrev since : List Arrival
 since = bytes (0x81 ∷ 0x01 ∷ 0x4E ∷ []) ∷ silence ∷ bytes (0x04 ∷ []) ∷ silence ∷ bytes (0x04 ∷ []) ∷ silence ∷ []
 
-stop_goes_out_after_a_torn_answer : bytes_of 0 (map (λ e. e.command)
-    (course_from (plan Plain) stopped_then (inputs_since 0 begun since)))
-    ≡ open_bytes ++ (0x02 ∷ 0x02 ∷ 0x10 ∷ 0x00 ∷ 0xF0 ∷ []) ++ close_bytes
+stop_goes_out_after_a_torn_answer : sent_in (acts_in (steps_of at_silences (plan Plain) 0
+    (record begun { state = stopped begun.state }) since))
+    ≡ (0x02 ∷ 0x02 ∷ 0x10 ∷ 0x00 ∷ 0xF0 ∷ []) ++ close_bytes
 stop_goes_out_after_a_torn_answer = refl
+
+-- An automation that hears at once: what it has sent when it goes on after all that came.
+
+abbrev sent_after : Mode → List Arrival → List ℕ
+sent_after mode came = sent_in (acts_in (steps_of at_once (plan mode) 0 new_at_once came
+    ++ opening at_once (plan mode) 0 (after at_once (plan mode) 0 new_at_once came)))
+
+-- no silence is needed
+answers_are_heard_at_once : sent_after Plain
+    (bytes granted_bytes ∷ bytes (0x04 ∷ []) ∷ bytes idle_bytes ∷ bytes (0x04 ∷ []) ∷ [])
+    ≡ open_bytes ++ select_bytes ++ status_bytes ++ close_bytes
+answers_are_heard_at_once = refl
+
+-- GRANTED that a silence tears answers the second OPEN
+torn_answer_is_read_on : sent_after Plain
+    (bytes (0x02 ∷ 0x03 ∷ 0x30 ∷ []) ∷ silence ∷ bytes (0x81 ∷ 0x01 ∷ 0x4E ∷ []) ∷ [])
+    ≡ open_bytes ++ open_bytes ++ select_bytes
+torn_answer_is_read_on = refl
+
+-- ACK came ahead of its time
+second_message_answers_nothing : sent_after Plain (bytes (granted_bytes ++ 0x04 ∷ []) ∷ []) ≡ open_bytes ++ select_bytes
+second_message_answers_nothing = refl
+
+-- after a fault nothing is read until a silence
+nothing_is_read_after_a_fault : completed (holds []) (0x03 ∷ granted_bytes) ≡ []
+nothing_is_read_after_a_fault = refl
+
+all_is_skipped_after_a_fault : held_after (holds []) (0x03 ∷ granted_bytes) ≡ skips
+all_is_skipped_after_a_fault = refl
+
+reading_begins_anew_at_a_silence : sent_after Plain (bytes (0x03 ∷ granted_bytes) ∷ silence ∷ bytes granted_bytes ∷ [])
+    ≡ open_bytes ++ open_bytes ++ select_bytes
+reading_begins_anew_at_a_silence = refl
+
+-- in confirm mode an ACK is heard and confirms nothing, and the state after it in the same piece is heard too
+receipt_and_state_are_heard : sent_after Confirming
+    (bytes granted_bytes ∷ silence ∷ bytes (0x04 ∷ idle_bytes) ∷ [])
+    ≡ open_bytes ++ select_bytes ++ status_bytes ++ status_bytes
+receipt_and_state_are_heard = refl

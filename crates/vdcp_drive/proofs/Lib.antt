@@ -1,19 +1,21 @@
 mod Examples
-mod PromptExamples
 pub mod Below
 pub mod Cutting
-pub mod Taking
-pub mod Standing
-pub mod Airing
 pub mod Listening
-pub mod Driving
-pub mod RunningOn
 pub mod Asking
-pub mod Reaching
-pub mod Watching
-pub mod Keeping
-pub mod Leaving
+pub mod Chains
+pub mod Taking
+pub mod Running
+pub mod Sending
 pub mod Completing
-pub mod Prompting
-pub mod Prompted
-pub mod PromptKeeping
+pub mod Tracing
+pub mod Safety
+pub mod Telling
+pub mod Firsts
+pub mod Coursing
+pub mod Reaching
+pub mod Breaking
+pub mod Keeping
+pub mod Operating
+pub mod Serving
+pub mod Served

@@ -7,7 +7,7 @@ use Rattle.vdcp_frame.specs.Progress.{Progress}
 use Rattle.vdcp_frame.specs.Reader.{Answer}
 use Rattle.vdcp_auto.specs.Heard.{heard_first}
 use Rattle.vdcp_auto.specs.declared.exchange.Heard.{Heard}
-use Rattle.vdcp_drive.specs.Hearing.{HasHeard, heard_by_then}
+use Rattle.vdcp_drive.specs.Vacancy.{HasHeard, heard_by_then}
 use Rattle.vdcp_drive.proofs.Taking.{follows_both, follows_on}
 
 -- no message more

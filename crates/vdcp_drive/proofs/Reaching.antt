@@ -1,50 +1,133 @@
--- The logs with which a controller's states are reached, while a driver calls it.
-use Rattle.std.proofs.Common.{◌≡◌, List, [], ◌∷◌, ◌++◌, refl, sym, subst, append_assoc, append-nil}
-use Rattle.std.specs.Prelude.{Option, Some, None}
-use Rattle.vdcp_auto.specs.Course.{Call, Tick, Receive, Reached, called, after_call, ended_by_call, logged}
+-- A run leads to states that calls of a controller lead to.
+use Rattle.std.proofs.Common.{ℕ, zero, suc, ◌≡◌, ◌≤◌, List, [], ◌∷◌, ◌++◌, refl, sym, subst, ◌∙◌, append_assoc, append-nil, arith}
+use Rattle.std.specs.Option.{option_to_list}
+use Rattle.std.specs.Prelude.{◌↔◌, Option, Some, None, Result, Ok, Err, IfOk, IsErr, IsSome}
+use Rattle.vdcp_words.specs.declared.command.Command.{Command}
+use Rattle.vdcp_auto.specs.Course.{Reached, Tick, Receive, called, logged}
 use Rattle.vdcp_auto.specs.Plan.{Plan}
-use Rattle.vdcp_auto.specs.Turn.{ticked, came_to}
+use Rattle.vdcp_auto.specs.State.{State}
+use Rattle.vdcp_auto.specs.Turn.{given, outcome_of, ticked, came_to, ended_by}
+use Rattle.vdcp_auto.specs.declared.outcome.Outcome.{Outcome}
 use Rattle.vdcp_auto.specs.declared.exchange.Exchange.{Exchange}
 use Rattle.vdcp_auto.specs.declared.exchange.Heard.{Heard}
-use Rattle.vdcp_auto.specs.State.{State}
-use Rattle.vdcp_drive.specs.Driven.{IsReachedFrom}
+use Rattle.vdcp_wire.specs.Wires.{Arrival}
+use Rattle.vdcp_drive.specs.Auto.{Auto, IsReachedFrom, after, ended, gives, listens, log_of, receives}
+use Rattle.vdcp_drive.specs.Ears.{Fold, inputs}
+use Rattle.vdcp_drive.specs.Leaves.{Ending, by_itself, in_keep, in_drop, in_send, in_listen, HasRun, RunsTo}
+use Rattle.vdcp_drive.specs.Steps.{Rules, Step, World}
+use Rattle.vdcp_drive.specs.declared.keep.KeptFault.{KeptFault}
+use Rattle.vdcp_drive.specs.declared.keep.KeptFault.TheVariants as fault
+use Rattle.vdcp_drive.specs.declared.line.Ran.{Ran}
+use Rattle.vdcp_drive.specs.declared.line.Ran.TheVariants as ran
 
--- where nothing is called
-pub stays_there : (plan : Plan) (before after : State) → after ≡ before → IsReachedFrom plan before after
-stays_there plan before after is log reached = (
-  [],
-  subst (λ (l : List Exchange). Reached plan after l) (sym (append-nil log))
-      (subst (λ (s : State). Reached plan s log) (sym is) reached),
-)
+logged_so : (log : List Exchange) (o : Option Exchange) → logged log o ≡ log ++ option_to_list o
+logged_so log None = sym (append-nil log)
+logged_so log (Some e) = refl
 
--- what a log gained by one call
-logged_behind : (log : List Exchange) (ended : Option Exchange)
-    → (since : List Exchange) × (logged log ended ≡ log ++ since)
-logged_behind log None = ([], sym (append-nil log))
-logged_behind log (Some e) = (e ∷ [], refl)
+receives_reached : (plan : Plan) (hs : List (Option Heard)) (s : State) (log : List Exchange) → Reached plan s log
+    → Reached plan (receives plan hs s) (log ++ ended plan hs s)
+receives_reached plan [] s log h = subst (Reached plan s) (sym (append-nil log)) h
+receives_reached plan (x ∷ hs) s log h =
+    let s' : State = came_to plan x s in
+    let one : List Exchange = option_to_list (ended_by plan x s) in
+    let next : Reached plan s' (log ++ one) =
+    subst (Reached plan s') (logged_so log (ended_by plan x s)) (called h (Receive x)) in
+    subst (Reached plan (receives plan hs s')) (append_assoc log one (ended plan hs s'))
+    (receives_reached plan hs s' (log ++ one) next)
 
--- by one call
-pub goes_by_call : (plan : Plan) (call : Call) (before after : State) → after ≡ after_call plan call before
-    → IsReachedFrom plan before after
-goes_by_call plan call before after is log reached =
-    let more = logged_behind log (ended_by_call plan call before) in (
-      more.0,
-      subst (λ (s : State). Reached plan s (log ++ more.0)) (sym is)
-          (subst (λ (l : List Exchange). Reached plan (after_call plan call before) l) more.1 (called reached call)),
-    )
+pub run_reached : {E : Type 0} (fold : Fold E) (plan : Plan) (unit : ℕ) (a : Auto E) (came : List Arrival)
+    (log : List Exchange) → Reached plan a.state log
+    → Reached plan (after fold plan unit a came).state (log ++ log_of fold plan unit a came)
+run_reached fold plan unit a [] log h = subst (Reached plan a.state) (sym (append-nil log)) h
+run_reached {E} fold plan unit a (what ∷ later) log h =
+    let b : Auto E = listens fold plan unit what (gives a) in
+    let es : List Exchange = ended plan (inputs fold unit what a.ear) (ticked a.state) in
+    subst (Reached plan (after fold plan unit b later).state) (append_assoc log es (log_of fold plan unit b later))
+    (run_reached fold plan unit b later (log ++ es)
+    (receives_reached plan (inputs fold unit what a.ear) (ticked a.state) log (called h Tick)))
 
--- and then further, where the plan is the same
-pub goes_further : (plan plan' : Plan) (before between after : State) → plan' ≡ plan → IsReachedFrom plan before between
-    → IsReachedFrom plan' between after
-    → IsReachedFrom plan before after
-goes_further plan plan' before between after same first then log reached =
-    let a = first log reached in
-    let b = subst (λ (p : Plan). IsReachedFrom p between after) same then (log ++ a.0) a.1 in
-    (a.0 ++ b.0, subst (λ (l : List Exchange). Reached plan after l) (append_assoc log a.0 b.0) b.1)
+given_led : (plan : Plan) (s t : State) → IsReachedFrom plan s t → IsReachedFrom plan s (ticked t)
+given_led plan s t led = λ log reached. let r = led log reached in (r.0, called r.1 Tick)
 
-pub goes_by_tick : (plan : Plan) (before after : State) → after ≡ ticked before → IsReachedFrom plan before after
-goes_by_tick plan before after is = goes_by_call plan Tick before after is
+-- Where a run led, of any automation and over any wire.
+pub record Led (plan : Plan) (state state' : State) (answer : Result Ran KeptFault) : Type 0 where
+  pub reached : IsReachedFrom plan state state'
+  pub ended_so : IfOk answer (λ r. (r ≡ ran.Ended) ↔ IsSome (outcome_of state'.stage))
+  pub unkept : answer ≡ Err fault.Unkept → IsSome (given plan state')
 
-pub goes_by_what_came : (plan : Plan) (came : Option Heard) (before after : State) → after ≡ came_to plan came before
-    → IsReachedFrom plan before after
-goes_by_what_came plan came before after is = goes_by_call plan (Receive came) before after is
+ended_by_run : (r : Ran) (o : Option Outcome) (count : ℕ) (came : List Arrival) → RunsTo r o count came
+    → (r ≡ ran.Ended) ↔ IsSome o
+ended_by_run ran.Ended o count came to = (λ _. to.0, λ _. refl)
+ended_by_run ran.Closed None count came to = (λ is. cc, λ some. cc)
+ended_by_run ran.Closed (Some o) count came to = let none = to.0 in cc
+ended_by_run ran.Spent None count came to = (λ is. cc, λ some. cc)
+ended_by_run ran.Spent (Some o) count came to = let none = to.0 in cc
+
+-- where the wire failed
+failed_led : (plan : Plan) (state state' : State) (answer : Result Ran KeptFault) → answer ≡ Err fault.Device
+    → IsReachedFrom plan state state' → Led plan state state' answer
+failed_led plan state state' answer is reached = record {
+  reached = reached;
+  ended_so = subst (λ (x : Result Ran KeptFault). IfOk x (λ r. (r ≡ ran.Ended) ↔ IsSome (outcome_of state'.stage)))
+      (sym is) tt;
+  unkept = λ other. let clash : ◌≡◌ {A = Result Ran KeptFault} (Err fault.Device) (Err fault.Unkept) = sym is ∙ other in cc;
+}
+
+ends_led : {E : Type 0} (fold : Fold E) (plan : Plan) (unit count : ℕ) (came : List Arrival) (a b : Auto E)
+    (answer : Result Ran KeptFault) (more : List Step) (a' : Auto E)
+    → IsReachedFrom plan a.state b.state → Ending fold plan unit count came b answer more a'
+    → Led plan a.state a'.state answer
+ends_led {E} fold plan unit count came a b answer more a' led (by_itself r is to none left) = record {
+  reached = subst (λ (x : Auto E). IsReachedFrom plan a.state x.state) (sym left) led;
+  ended_so = subst (λ (x : Auto E). IfOk answer (λ r. (r ≡ ran.Ended) ↔ IsSome (outcome_of x.state.stage))) (sym left)
+      (subst (λ (x : Result Ran KeptFault). IfOk x (λ r. (r ≡ ran.Ended) ↔ IsSome (outcome_of b.state.stage))) (sym is)
+      (ended_by_run r (outcome_of b.state.stage) count came to));
+  unkept = λ other. let clash : ◌≡◌ {A = Result Ran KeptFault} (Ok r) (Err fault.Unkept) = sym is ∙ other in cc;
+}
+ends_led {E} fold plan unit count came a b answer more a' led (in_keep c is gives_it are left) = record {
+  reached = subst (λ (x : Auto E). IsReachedFrom plan a.state x.state) (sym left) led;
+  ended_so = subst (λ (x : Result Ran KeptFault). IfOk x (λ r. (r ≡ ran.Ended) ↔ IsSome (outcome_of a'.state.stage)))
+      (sym is) tt;
+  unkept = λ _. subst (λ (x : Auto E). IsSome (given plan x.state)) (sym left)
+      (subst (λ (o : Option Command). IsSome o) (sym gives_it) refl);
+}
+ends_led {E} fold plan unit count came a b answer more a' led (in_drop c is first gives_it are left) =
+    failed_led plan a.state a'.state answer is
+    (subst (λ (x : Auto E). IsReachedFrom plan a.state x.state) (sym left) led)
+ends_led {E} fold plan unit count came a b answer more a' led (in_send c front rest is gives_it parts are left) =
+    failed_led plan a.state a'.state answer is
+    (subst (λ (x : Auto E). IsReachedFrom plan a.state x.state) (sym left) (given_led plan a.state b.state led))
+ends_led {E} fold plan unit count came a b answer more a' led (in_listen is are left) =
+    failed_led plan a.state a'.state answer is
+    (subst (λ (x : Auto E). IsReachedFrom plan a.state x.state) (sym left) (given_led plan a.state b.state led))
+
+pub led_by : {E W K V : Type 0} (rules : Rules W K V) (fold : Fold E) (plan : Plan) (unit count : ℕ) (a a' : Auto E)
+    (world world' : World W K V) (answer : Result Ran KeptFault)
+    → HasRun rules fold plan unit count a a' world world' answer → Led plan a.state a'.state answer
+led_by rules fold plan unit count a a' world world' answer h =
+    ends_led fold plan unit count h.came a (after fold plan unit a h.came) answer h.more a'
+    (λ log reached. (log_of fold plan unit a h.came, run_reached fold plan unit a h.came log reached)) h.ending
+
+-- where the wire had failed before all stays
+stays_led : (plan : Plan) (state state' : State) (answer : Result Ran KeptFault) → IsErr answer → state' ≡ state
+    → ¬ (answer ≡ Err fault.Unkept) → Led plan state state' answer
+stays_led plan state state' (Ok r) is same other = cc
+stays_led plan state state' (Err f) is same other = record {
+  reached = λ log reached. (
+    [],
+    subst (λ (s : State). Reached plan s (log ++ [])) (sym same)
+        (subst (Reached plan state) (sym (append-nil log)) reached),
+  );
+  ended_so = tt;
+  unkept = λ unkept. absurd (other unkept);
+}
+
+pub led_so : (plan : Plan) (n m : ℕ) (state state' : State) (answer : Result Ran KeptFault) → n ≤ 1
+    → (n ≡ 0 → Led plan state state' answer)
+    → (n ≡ 1 → IsErr answer × (state' ≡ state) × (m ≡ n)) → (answer ≡ Err fault.Unkept → m ≡ 0)
+    → Led plan state state' answer
+led_so plan zero m state state' answer few works stays unkept = works refl
+led_so plan (suc zero) m state state' answer few works stays unkept =
+    let s = stays refl in
+    stays_led plan state state' answer s.0 s.1 (λ is. absurd (omega (arith, s.2, unkept is)))
+led_so plan (suc (suc n)) m state state' answer few works stays unkept = absurd (omega (arith, few))

@@ -1,84 +1,100 @@
 -- What a server took of a burst, by one call of next after another.
-use Rattle.std.proofs.Common.{ℕ, ◌≡◌, ◌<◌, get_or, List, [], ◌∷◌, ◌++◌, take, drop, refl, sym, ap, ap₂, subst, ◌∙◌, append_assoc, append-nil}
-use Rattle.std.proofs.lemmas.List.{take-append-drop}
-use Rattle.std.proofs.lemmas.List.Elements.{All-from_get_or}
-use Rattle.std.specs.Prelude.{Option, Some, None, Result, Ok, Err, OnErr}
+use Rattle.std.proofs.Common.{ℕ, ◌≡◌, ◌<◌, ◌≤◌, ◌+◌, get_or, List, [], ◌∷◌, ◌++◌, take, drop, length, refl, sym, ap, ap₂, subst, ◌∙◌, append_assoc, append-nil, arith, length-append}
+use Rattle.std.proofs.Math.Seq.{drop-append_seam}
+use Rattle.std.proofs.lemmas.Grind.{common_steps}
+use Rattle.std.proofs.lemmas.List.{length-take, map-append, take-append-drop}
+use Rattle.std.proofs.lemmas.List.Elements.{All-append, All-drop, All-from_get_or}
+use Rattle.std.specs.Prelude.{Option, Some, Result, Ok, Err, OnErr, min}
 use Rattle.vdcp_value.specs.declared.part.Item.{Item}
+use Rattle.vdcp_frame.specs.Burst.{messages_of, end_of}
 use Rattle.vdcp_frame.specs.Message.{Content, AreOctets}
 use Rattle.vdcp_frame.specs.Pieces.{ReadsOn, with_message}
 use Rattle.vdcp_frame.specs.Progress.{Progress}
 use Rattle.vdcp_frame.specs.Reader.{Answer, message, Follows}
-use Rattle.vdcp_port.specs.Answers.{after_messages, aired_on_way, bytes_for, bytes_for_all, items_for}
-use Rattle.vdcp_port.specs.Clock.{ClockedPort, after_message}
-use Rattle.vdcp_drive.specs.Serving.{HasTaken, HasBroken, last_aired}
-use Rattle.vdcp_wire.specs.Wires.{Told, adds_sent, SendsFront}
-use Rattle.vdcp_drive.proofs.Below.{InOrder, Alone}
+use Rattle.vdcp_frame.specs.Reading.{Reads, ReadsShort, burst_limit}
+use Rattle.vdcp_words.specs.declared.reply.Reply.{Reply}
+use Rattle.vdcp_port.specs.Answers.{after_messages, aired_on_way, answers_to, bytes_for, reply_bytes}
+use Rattle.vdcp_port.specs.Clock.{ClockedPort}
+use Rattle.vdcp_wire.specs.Acts.{Act, sends, OfFront}
+use Rattle.vdcp_drive.specs.ServeLeaves.{HasBroken, HasTaken}
+use Rattle.vdcp_drive.specs.Serving.{HasRead, Service, completed, last_aired, sending}
+use Rattle.vdcp_drive.specs.Steps.{Chain}
+use Rattle.vdcp_drive.proofs.Below.{Grows, InOrder, Read}
+use Rattle.vdcp_drive.proofs.Chains.{chain_both}
 
--- Wires.
+-- Messages.
 
-pub adds_nothing : (told : Option Told) → adds_sent [] told ≡ told
-adds_nothing None = refl
-adds_nothing (Some t) = ap (λ (l : List ℕ). Some (record { sent = l; came = t.came; drops = t.drops }))
-    (append-nil t.sent)
+pub completed_so : (burst piece : List ℕ) (ns : List Content) → messages_of (burst ++ piece) ≡ messages_of burst ++ ns
+    → completed burst piece ≡ ns
+completed_so burst piece ns is =
+    ap (drop (length (messages_of burst))) is ∙ drop-append_seam (messages_of burst) ns
 
-pub adds_both : (xs ys : List ℕ) (told : Option Told) → adds_sent ys (adds_sent xs told) ≡ adds_sent (xs ++ ys) told
-adds_both xs ys None = refl
-adds_both xs ys (Some t) = ap (λ (l : List ℕ). Some (record { sent = l; came = t.came; drops = t.drops }))
-    (append_assoc t.sent xs ys)
+front_within : (whole rest bytes : List ℕ) → take burst_limit bytes ≡ whole ++ rest → length whole ≤ burst_limit
+front_within whole rest bytes is =
+    let n : length (take burst_limit bytes) ≡ length whole + length rest =
+    ap length is ∙ length-append whole rest in
+    let m : length (take burst_limit bytes) ≡ min burst_limit (length bytes) = length-take burst_limit bytes in
+    let few : min burst_limit (length bytes) ≤ burst_limit = grind (arith, common_steps) in omega (arith, n, m, few)
+
+-- more bytes complete more messages
+pub messages_grow : (law : Grows) (burst piece : List ℕ) → AreOctets burst → AreOctets (burst ++ piece)
+    → messages_of (burst ++ piece) ≡ messages_of burst ++ completed burst piece
+messages_grow law burst piece fits both =
+    let r : Reads burst (messages_of burst) (end_of burst) = law.some burst fits in
+    let f : ReadsShort (take burst_limit burst) (messages_of burst) r.short = r.front in
+    let more : List ℕ = f.remainder ++ (drop burst_limit burst ++ piece) in
+    let same : burst ++ piece ≡ f.whole ++ more =
+    ap (λ (l : List ℕ). l ++ piece) (sym (take-append-drop burst_limit burst))
+    ∙ append_assoc (take burst_limit burst) (drop burst_limit burst) piece
+    ∙ ap (λ (l : List ℕ). l ++ (drop burst_limit burst ++ piece)) f.parts
+    ∙ append_assoc f.whole f.remainder (drop burst_limit burst ++ piece) in
+    let o = law.first (messages_of burst) (messages_of (burst ++ piece)) f.whole more (end_of (burst ++ piece)) f.spelt
+    (front_within f.whole f.remainder burst f.parts)
+    (subst (λ (l : List ℕ). Reads l (messages_of (burst ++ piece)) (end_of (burst ++ piece))) same
+    (law.some (burst ++ piece) both)) in
+    o.1 ∙ ap (λ (l : List Content). messages_of burst ++ l) (sym (completed_so burst piece o.0 o.1))
+
+pub completed_both : (law : Grows) (burst xs ys : List ℕ) → AreOctets burst → AreOctets (burst ++ xs)
+    → AreOctets ((burst ++ xs) ++ ys) → completed burst (xs ++ ys) ≡ completed burst xs ++ completed (burst ++ xs) ys
+completed_both law burst xs ys a b c =
+    completed_so burst (xs ++ ys) (completed burst xs ++ completed (burst ++ xs) ys)
+    (ap messages_of (sym (append_assoc burst xs ys))
+    ∙ messages_grow law (burst ++ xs) ys b c
+    ∙ ap (λ (l : List Content). l ++ completed (burst ++ xs) ys) (messages_grow law burst xs a b)
+    ∙ append_assoc (messages_of burst) (completed burst xs) (completed (burst ++ xs) ys))
+
+completed_none : (burst : List ℕ) → completed burst [] ≡ []
+completed_none burst =
+    completed_so burst [] [] (ap messages_of (append-nil burst) ∙ sym (append-nil (messages_of burst)))
+
+-- Items and replies.
 
 pub last_of_both : (o : Option Item) (xs ys : List Item) → last_aired (last_aired o xs) ys ≡ last_aired o (xs ++ ys)
 last_of_both o [] ys = refl
 last_of_both o (x ∷ xs) ys = last_of_both (Some x) xs ys
 
-aired_both : (law : InOrder) (port₀ port₁ : ClockedPort) (ms ns : List Content) (o₀ o₁ o₂ : Option Item)
-    → port₁ ≡ after_messages port₀ ms
-    → o₁ ≡ last_aired o₀ (aired_on_way port₀ ms) → o₂ ≡ last_aired o₁ (aired_on_way port₁ ns)
-    → o₂ ≡ last_aired o₀ (aired_on_way port₀ (ms ++ ns))
-aired_both law port₀ port₁ ms ns o₀ o₁ o₂ p a b =
-    b ∙ ap₂ (λ (o : Option Item) (q : ClockedPort). last_aired o (aired_on_way q ns)) a p
-    ∙ last_of_both o₀ (aired_on_way port₀ ms) (aired_on_way (after_messages port₀ ms) ns)
-    ∙ ap (last_aired o₀) (sym (law.aired port₀ ms ns))
+aired_both : (law : InOrder) (port : ClockedPort) (ms ns : List Content) (o : Option Item)
+    → last_aired (last_aired o (aired_on_way port ms)) (aired_on_way (after_messages port ms) ns)
+    ≡ last_aired o (aired_on_way port (ms ++ ns))
+aired_both law port ms ns o =
+    last_of_both o (aired_on_way port ms) (aired_on_way (after_messages port ms) ns)
+    ∙ ap (last_aired o) (sym (law.aired port ms ns))
 
--- One call of next gave this answer, and left the reader so; its message, if it has one, is answered.
+pub sending_both : (unit : ℕ) (xs ys : List Reply) → sending unit (xs ++ ys) ≡ sending unit xs ++ sending unit ys
+sending_both unit xs ys = map-append (λ (reply : Reply). sends (reply_bytes unit reply)) xs ys
 
-taken_by : (port : ClockedPort) (reader : Progress) (aired : Option Item) (told : Option Told) (piece left : List ℕ)
-    (answer : Answer) (port' : ClockedPort) (reader' : Progress) (aired' : Option Item) (told' : Option Told)
-    → (r : ReadsOn reader piece answer left reader')
-    → port' ≡ after_messages port (with_message answer [])
-    → aired' ≡ last_aired aired (aired_on_way port (with_message answer []))
-    → told' ≡ adds_sent (bytes_for_all port (with_message answer [])) told
-    → HasTaken port reader aired told (take r.count piece) port' reader' aired' told'
-taken_by port reader aired told piece left answer port' reader' aired' told' r leaves puts sends = record {
-  messages = with_message answer [];
-  follows = r.follows;
-  leaves = leaves;
-  airs = puts;
-  sends = sends;
-}
+answering_both : (law : InOrder) (port : ClockedPort) (ms ns : List Content)
+    → sending port.state.unit (answers_to port ms)
+    ++ sending (after_messages port ms).state.unit (answers_to (after_messages port ms) ns)
+    ≡ sending port.state.unit (answers_to port (ms ++ ns))
+answering_both law port ms ns =
+    let q : ClockedPort = after_messages port ms in
+    ap (λ (n : ℕ). sending port.state.unit (answers_to port ms) ++ sending n (answers_to q ns)) (law.unit port ms)
+    ∙ sym (sending_both port.state.unit (answers_to port ms) (answers_to q ns))
+    ∙ ap (sending port.state.unit) (sym (law.answers port ms ns))
 
--- the same where the wire fails in the answer
-broken_by : (alone : Alone) (port : ClockedPort) (reader : Progress) (aired : Option Item) (told : Option Told)
-    (piece left : List ℕ) (m : Content) (port' : ClockedPort) (reader' : Progress) (aired' : Option Item)
-    (told' : Option Told)
-    → ReadsOn reader piece (message m) left reader'
-    → port' ≡ after_message port m
-    → aired' ≡ last_aired aired (items_for port m)
-    → SendsFront (bytes_for port m) told told'
-    → HasBroken port reader aired told piece port' aired' told'
-broken_by alone port reader aired told piece left m port' reader' aired' told' r leaves puts sends = record {
-  front = take r.count piece;
-  rest = drop r.count piece;
-  parts = sym (take-append-drop r.count piece);
-  messages = [];
-  last = m;
-  then = reader';
-  follows = r.follows;
-  leaves = leaves;
-  airs = puts ∙ ap (last_aired aired) (sym (alone.aired port m));
-  sends = subst (λ (t : Option Told). SendsFront (bytes_for port m) t told') (sym (adds_nothing told)) sends;
-}
+-- The part of a piece that is read, and the part that is left.
 
--- the part of a piece that is read, and the part that is left
 pub parts_on : (piece front rest left : List ℕ) (count : ℕ) → piece ≡ front ++ rest → left ≡ drop count rest
     → piece ≡ (front ++ take count rest) ++ left
 parts_on piece front rest left count parts leaves =
@@ -93,33 +109,11 @@ read_whole piece front rest left count parts leaves none =
     sym (append-nil (front ++ take count rest)) ∙ ap (λ (b : List ℕ). (front ++ take count rest) ++ b) (sym none)
     ∙ sym (parts_on piece front rest left count parts leaves)
 
--- Calls after calls.
-
 pub follows_on : (burst : List ℕ) (ms : List Content) (reader : Progress) → Follows burst ms reader
     → Follows (burst ++ []) (ms ++ []) reader
 follows_on burst ms reader f =
     subst (λ (b : List ℕ). Follows b (ms ++ []) reader) (sym (append-nil burst))
     (subst (λ (l : List Content). Follows burst l reader) (sym (append-nil ms)) f)
-
-pub taken_none : (port : ClockedPort) (reader : Progress) (aired : Option Item) (told : Option Told)
-    → HasTaken port reader aired told [] port reader aired told
-taken_none port reader aired told = record {
-  messages = [];
-  follows = λ burst ms f. follows_on burst ms reader f;
-  leaves = refl;
-  airs = refl;
-  sends = sym (adds_nothing told);
-}
-
--- what is told after bytes for some messages and then for others
-told_both : (law : InOrder) (port₀ port₁ : ClockedPort) (ms ns : List Content) (told₀ told₁ : Option Told)
-    → port₁ ≡ after_messages port₀ ms
-    → told₁ ≡ adds_sent (bytes_for_all port₀ ms) told₀
-    → adds_sent (bytes_for_all port₁ ns) told₁ ≡ adds_sent (bytes_for_all port₀ (ms ++ ns)) told₀
-told_both law port₀ port₁ ms ns told₀ told₁ p t =
-    ap₂ (λ (q : ClockedPort) (x : Option Told). adds_sent (bytes_for_all q ns) x) p t
-    ∙ adds_both (bytes_for_all port₀ ms) (bytes_for_all (after_messages port₀ ms) ns) told₀
-    ∙ ap (λ (l : List ℕ). adds_sent l told₀) (sym (law.sent port₀ ms ns))
 
 pub follows_both : (burst front piece : List ℕ) (ms ns os : List Content) (reader : Progress)
     → Follows ((burst ++ front) ++ piece) ((ms ++ ns) ++ os) reader
@@ -128,85 +122,117 @@ follows_both burst front piece ms ns os reader f =
     subst (λ (l : List ℕ). Follows l (ms ++ (ns ++ os)) reader) (append_assoc burst front piece)
     (subst (λ (l : List Content). Follows ((burst ++ front) ++ piece) l reader) (append_assoc ms ns os) f)
 
-pub taken_further : (law : InOrder) (port₀ port₁ port₂ : ClockedPort) (reader₀ reader₁ reader₂ : Progress)
-    (aired₀ aired₁ aired₂ : Option Item) (told₀
-    told₁ told₂ : Option Told) (front piece : List ℕ)
-    → HasTaken port₀ reader₀ aired₀ told₀ front port₁ reader₁ aired₁ told₁
-    → HasTaken port₁ reader₁ aired₁ told₁ piece port₂ reader₂ aired₂ told₂
-    → HasTaken port₀ reader₀ aired₀ told₀ (front ++ piece) port₂ reader₂ aired₂ told₂
-taken_further law port₀ port₁ port₂ reader₀ reader₁ reader₂ aired₀ aired₁ aired₂ told₀ told₁ told₂ front piece a b =
+-- Calls after calls.
+
+pub taken_none : {W : Type 0} (does : Act → W → W → Type 0) (s : Service) (reader : Progress) (aired : Option Item)
+    (wire : W) → HasRead s.burst reader → HasTaken does s aired wire [] s.port reader aired wire
+taken_none does s reader aired wire h =
+    let none : completed s.burst [] ≡ [] = completed_none s.burst in
     record {
-      messages = a.messages ++ b.messages;
-      follows = λ burst ms f. follows_both burst front piece ms a.messages b.messages reader₂
-          (b.follows (burst ++ front) (ms ++ a.messages) (a.follows burst ms f));
-      leaves = b.leaves ∙ ap (λ (p : ClockedPort). after_messages p b.messages) a.leaves
-          ∙ sym (law.next port₀ a.messages b.messages);
-      airs = aired_both law port₀ port₁ a.messages b.messages aired₀ aired₁ aired₂ a.leaves a.airs b.airs;
-      sends = b.sends ∙ told_both law port₀ port₁ a.messages b.messages told₀ told₁ a.leaves a.sends;
+      has_read = subst (λ (b : List ℕ). HasRead b reader) (sym (append-nil s.burst)) h;
+      port_is = sym (ap (after_messages s.port) none);
+      aired_is = sym (ap (λ (l : List Content). last_aired aired (aired_on_way s.port l)) none);
+      sent = subst (λ (l : List Content). Chain does (sending s.port.state.unit (answers_to s.port l)) wire wire)
+          (sym none) refl;
     }
 
-pub broken_further : (law : InOrder) (port₀ port₁ port₂ : ClockedPort) (reader₀ reader₁ : Progress)
-    (aired₀ aired₁ aired₂ : Option Item) (told₀ told₁ told₂
-    : Option Told) (front piece : List ℕ)
-    → HasTaken port₀ reader₀ aired₀ told₀ front port₁ reader₁ aired₁ told₁
-    → HasBroken port₁ reader₁ aired₁ told₁ piece port₂ aired₂ told₂
-    → HasBroken port₀ reader₀ aired₀ told₀ (front ++ piece) port₂ aired₂ told₂
-broken_further law port₀ port₁ port₂ reader₀ reader₁ aired₀ aired₁ aired₂ told₀ told₁ told₂ front piece a b = record {
-  front = front ++ b.front;
-  rest = b.rest;
-  parts = ap (λ (l : List ℕ). front ++ l) b.parts ∙ sym (append_assoc front b.front b.rest);
-  messages = a.messages ++ b.messages;
-  last = b.last;
-  then = b.then;
-  follows = λ burst ms f. subst (λ (l : List Content). Follows (burst ++ (front ++ b.front)) (ms ++ l) b.then) (sym
-      (append_assoc a.messages b.messages
-      (b.last ∷ [])))
-      (follows_both burst front b.front ms a.messages (b.messages ++ b.last ∷ []) b.then
-      (b.follows (burst ++ front) (ms ++ a.messages) (a.follows burst ms f)));
-  leaves = b.leaves ∙ ap (λ (p : ClockedPort). after_messages p (b.messages ++ b.last ∷ [])) a.leaves
-      ∙ sym (law.next port₀ a.messages (b.messages ++ b.last ∷ []))
-      ∙ ap (after_messages port₀) (sym (append_assoc a.messages b.messages (b.last ∷ [])));
-  airs = aired_both law port₀ port₁ a.messages (b.messages ++ b.last ∷ []) aired₀ aired₁ aired₂ a.leaves a.airs b.airs
-      ∙ ap (λ (l : List Content). last_aired aired₀ (aired_on_way port₀ l)) (sym (append_assoc a.messages b.messages
-      (b.last ∷ [])));
-  sends = subst (λ (t : Option Told). SendsFront (bytes_for (after_messages port₀
-      (a.messages ++ b.messages)) b.last) t told₂)
-      (told_both law port₀ port₁ a.messages b.messages told₀ told₁ a.leaves a.sends)
-      (subst (λ (p : ClockedPort). SendsFront (bytes_for p b.last) (adds_sent
-      (bytes_for_all port₁ b.messages) told₁) told₂)
-      (ap (λ (p : ClockedPort). after_messages p b.messages) a.leaves
-      ∙ sym (law.next port₀ a.messages b.messages)) b.sends);
-}
+-- bytes after these that complete these messages
+record Further (s : Service) (front piece : List ℕ) (ns : List Content) (reader : Progress) : Type 0 where
+  all : completed s.burst (front ++ piece) ≡ completed s.burst front ++ ns
+  has_read : HasRead (s.burst ++ (front ++ piece)) reader
 
--- One call of next after others.
+further : (read : Read) (grows : Grows) (s : Service) (front piece : List ℕ) (reader reader' : Progress)
+    (ns : List Content) → AreOctets s.burst → AreOctets piece → HasRead (s.burst ++ front) reader
+    → Follows ((s.burst ++ front) ++ piece) (messages_of (s.burst ++ front) ++ ns) reader'
+    → Further s front piece ns reader'
+further read grows s front piece reader reader' ns begun fits h f =
+    let b : List ℕ = s.burst ++ front in
+    let octets : AreOctets (b ++ piece) = All-append (λ x. x < 256) b piece h.octets fits in
+    let same : messages_of b ++ ns ≡ messages_of (b ++ piece) =
+    read.messages (b ++ piece) (messages_of b ++ ns) reader' octets f in
+    let whole : HasRead (b ++ piece) reader' =
+    record { octets = octets; follows = subst (λ (l : List Content). Follows (b ++ piece) l reader') same f } in
+    record {
+      all = completed_both grows s.burst front piece begun h.octets octets
+          ∙ ap (λ (l : List Content). completed s.burst front ++ l) (completed_so b piece ns (sym same));
+      has_read = subst (λ (l : List ℕ). HasRead l reader') (append_assoc s.burst front piece) whole;
+    }
 
-pub taken_on : (law : InOrder) (port₀ port₁ port₂ : ClockedPort) (reader₀ reader₁ reader₂ : Progress)
-    (aired₀ aired₁ aired₂ : Option Item) (told₀ told₁ told₂ : Option Told) (front rest left : List ℕ) (answer : Answer)
-    → HasTaken port₀ reader₀ aired₀ told₀ front port₁ reader₁ aired₁ told₁
-    → (r : ReadsOn reader₁ rest answer left reader₂)
+pub taken_on : {W : Type 0} (does : Act → W → W → Type 0) (law : InOrder) (read : Read) (grows : Grows) (s : Service)
+    (port₁ port₂ : ClockedPort) (reader₁ reader₂ : Progress) (aired₀ aired₁ aired₂ : Option Item) (wire₀ wire₁ wire₂ : W)
+    (front rest left : List ℕ) (answer : Answer) → AreOctets s.burst
+    → HasTaken does s aired₀ wire₀ front port₁ reader₁ aired₁ wire₁
+    → (r : ReadsOn reader₁ rest answer left reader₂) → AreOctets (take r.count rest)
     → port₂ ≡ after_messages port₁ (with_message answer [])
     → aired₂ ≡ last_aired aired₁ (aired_on_way port₁ (with_message answer []))
-    → told₂ ≡ adds_sent (bytes_for_all port₁ (with_message answer [])) told₁
-    → HasTaken port₀ reader₀ aired₀ told₀ (front ++ take r.count rest) port₂ reader₂ aired₂ told₂
-taken_on law port₀ port₁ port₂ reader₀ reader₁ reader₂ aired₀ aired₁ aired₂ told₀ told₁ told₂ front rest left answer
-    a r leaves puts sends =
-    taken_further law port₀ port₁ port₂ reader₀ reader₁ reader₂ aired₀ aired₁ aired₂ told₀ told₁ told₂ front
-    (take r.count rest) a
-    (taken_by port₁ reader₁ aired₁ told₁ rest left answer port₂ reader₂ aired₂ told₂ r leaves puts sends)
+    → Chain does (sending port₁.state.unit (answers_to port₁ (with_message answer []))) wire₁ wire₂
+    → HasTaken does s aired₀ wire₀ (front ++ take r.count rest) port₂ reader₂ aired₂ wire₂
+taken_on {W} does law read grows s port₁ port₂ reader₁ reader₂ aired₀ aired₁ aired₂ wire₀ wire₁ wire₂ front rest left
+    answer begun a r fits leaves puts sent =
+    let ns : List Content = with_message answer [] in
+    let piece : List ℕ = take r.count rest in
+    let c : List Content = completed s.burst front in
+    let q : ClockedPort = after_messages s.port c in
+    let m : Further s front piece ns reader₂ = further read grows s front piece reader₁ reader₂ ns begun fits a.has_read
+    (r.follows (s.burst ++ front) (messages_of (s.burst ++ front)) a.has_read.follows) in
+    record {
+      has_read = m.has_read;
+      port_is = leaves ∙ ap (λ (p : ClockedPort). after_messages p ns) a.port_is ∙ sym (law.next s.port c ns)
+          ∙ ap (after_messages s.port) (sym m.all);
+      aired_is = puts
+          ∙ ap₂ (λ (o : Option Item) (p : ClockedPort). last_aired o (aired_on_way p ns)) a.aired_is a.port_is
+          ∙ aired_both law s.port c ns aired₀
+          ∙ ap (λ (l : List Content). last_aired aired₀ (aired_on_way s.port l)) (sym m.all);
+      sent = subst (λ (l : List Content). Chain does (sending s.port.state.unit (answers_to s.port l)) wire₀ wire₂)
+          (sym m.all)
+          (subst (λ (l : List Act). Chain does l wire₀ wire₂) (answering_both law s.port c ns)
+          (chain_both does (sending s.port.state.unit (answers_to s.port c)) (sending q.state.unit (answers_to q ns))
+          wire₀ wire₁ wire₂ a.sent
+          (subst (λ (p : ClockedPort). Chain does (sending p.state.unit (answers_to p ns)) wire₁ wire₂) a.port_is
+          sent)));
+    }
 
 -- the wire fails in the answer
-pub broken_on : (law : InOrder) (alone : Alone) (port₀ port₁ port₂ : ClockedPort) (reader₀ reader₁ reader₂ : Progress)
-    (aired₀ aired₁ aired₂ : Option Item) (told₀ told₁ told₂ : Option Told) (front rest left : List ℕ) (m : Content)
-    → HasTaken port₀ reader₀ aired₀ told₀ front port₁ reader₁ aired₁ told₁
-    → ReadsOn reader₁ rest (message m) left reader₂
-    → port₂ ≡ after_message port₁ m
-    → aired₂ ≡ last_aired aired₁ (items_for port₁ m)
-    → SendsFront (bytes_for port₁ m) told₁ told₂
-    → HasBroken port₀ reader₀ aired₀ told₀ (front ++ rest) port₂ aired₂ told₂
-broken_on law alone port₀ port₁ port₂ reader₀ reader₁ reader₂ aired₀ aired₁ aired₂ told₀ told₁ told₂ front rest left m
-    a r leaves puts sends =
-    broken_further law port₀ port₁ port₂ reader₀ reader₁ aired₀ aired₁ aired₂ told₀ told₁ told₂ front rest a
-    (broken_by alone port₁ reader₁ aired₁ told₁ rest left m port₂ reader₂ aired₂ told₂ r leaves puts sends)
+pub broken_on : {W : Type 0} (does : Act → W → W → Type 0) (law : InOrder) (read : Read) (grows : Grows) (s : Service)
+    (port₁ port₂ : ClockedPort) (reader₁ reader₂ : Progress) (aired₀ aired₁ aired₂ : Option Item) (wire₀ wire₁ wire₂ : W)
+    (front rest left : List ℕ) (m : Content) → AreOctets s.burst
+    → HasTaken does s aired₀ wire₀ front port₁ reader₁ aired₁ wire₁
+    → (r : ReadsOn reader₁ rest (message m) left reader₂) → AreOctets (take r.count rest) → AreOctets left
+    → port₂ ≡ after_messages port₁ (m ∷ [])
+    → aired₂ ≡ last_aired aired₁ (aired_on_way port₁ (m ∷ []))
+    → OfFront (bytes_for port₁ m) (λ b. does (sends b) wire₁ wire₂)
+    → HasBroken does s aired₀ wire₀ (front ++ rest) port₂ aired₂ wire₂
+broken_on {W} does law read grows s port₁ port₂ reader₁ reader₂ aired₀ aired₁ aired₂ wire₀ wire₁ wire₂ front rest left m
+    begun a r fits fits_left leaves puts sent =
+    let ns : List Content = m ∷ [] in
+    let piece : List ℕ = take r.count rest in
+    let c : List Content = completed s.burst front in
+    let w : Further s front piece ns reader₂ = further read grows s front piece reader₁ reader₂ ns begun fits a.has_read
+    (r.follows (s.burst ++ front) (messages_of (s.burst ++ front)) a.has_read.follows) in
+    let b : List ℕ = s.burst ++ (front ++ piece) in
+    let others : List Content = completed b left in
+    let parts : front ++ rest ≡ (front ++ piece) ++ left =
+    parts_on (front ++ rest) front rest left r.count refl r.leaves in
+    let octets : AreOctets (b ++ left) = All-append (λ x. x < 256) b left w.has_read.octets fits_left in
+    record {
+      before = c;
+      last = m;
+      others = others;
+      messages = ap (completed s.burst) parts
+          ∙ completed_both grows s.burst (front ++ piece) left begun w.has_read.octets octets
+          ∙ ap (λ (l : List Content). l ++ others) w.all ∙ append_assoc c ns others;
+      port_is = leaves ∙ ap (λ (p : ClockedPort). after_messages p ns) a.port_is ∙ sym (law.next s.port c ns);
+      aired_is = puts
+          ∙ ap₂ (λ (o : Option Item) (p : ClockedPort). last_aired o (aired_on_way p ns)) a.aired_is a.port_is
+          ∙ aired_both law s.port c ns aired₀;
+      sent = record {
+        front = sent.front;
+        rest = sent.rest;
+        parts = ap (λ (p : ClockedPort). bytes_for p m) (sym a.port_is) ∙ sent.parts;
+        is_so = chain_both does (sending s.port.state.unit (answers_to s.port c)) (sends sent.front ∷ []) wire₀ wire₁ wire₂
+            a.sent (wire₂, sent.is_so, refl);
+      };
+    }
 
 pub on_err_of : {T E P : Type 0} (r : Result T E) → P → OnErr r P
 on_err_of (Ok x) p = tt
@@ -214,3 +240,8 @@ on_err_of (Err e) p = p
 
 pub fitting : (piece : List ℕ) → ((i : ℕ) → get_or piece i 0 < 256) → AreOctets piece
 fitting piece h = All-from_get_or (λ b. b < 256) piece 0 (λ i _. h i)
+
+pub behind : (piece front rest : List ℕ) → piece ≡ front ++ rest → AreOctets piece → AreOctets rest
+behind piece front rest is h =
+    subst AreOctets (ap (drop (length front)) is ∙ drop-append_seam front rest)
+    (All-drop (λ b. b < 256) (length front) piece h)

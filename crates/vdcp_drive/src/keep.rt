@@ -2,9 +2,10 @@
 ghost use Rattle.std.specs.Prelude.{◌≡◌, OnErr, OnOk};
 ghost use Rattle.vdcp_auto.specs.Plan.{plan_of};
 ghost use Rattle.vdcp_auto.specs.Turn as turns;
-ghost use Rattle.vdcp_drive.specs.Keeping.{HasLostGiven, Keeps, given_notes, notes_once_ended};
+ghost use Rattle.vdcp_drive.specs.Leaves.{Misses};
+ghost use Rattle.vdcp_drive.specs.Steps.{Chain, given_notes};
 
-use crate::line::DriveFault;
+use crate::operator::Call;
 use thiserror::Error;
 use vdcp_auto::{Controller, Heard, Source};
 use vdcp_words::Command;
@@ -30,8 +31,8 @@ pub struct KeepFault;
 pub enum KeptFault {
     /// The wire failed, in this call or an earlier one: the driver sends nothing any more.
     #[error("the line failed")]
-    Drive(DriveFault),
-    /// The next command couldn't be kept: nothing of it was sent.
+    Device,
+    /// The next command couldn't be kept, and nothing of it was sent; or a call couldn't, and it wasn't given.
     #[error("the command isn't kept")]
     Unkept,
 }
@@ -39,9 +40,10 @@ pub enum KeptFault {
 /// Keeps the exchanges of an automation, so that they outlast it.
 pub trait Keep {
     ghost use Rattle.std.specs.Prelude.{OnErr, OnOk, ⊤};
-    ghost use Rattle.vdcp_drive.specs.Keeping.{end_of};
+    ghost use Rattle.vdcp_drive.specs.Steps.{end_of};
     ghost use Rattle.vdcp_drive.specs.declared.keep.Kept.{Kept};
     ghost use Rattle.vdcp_drive.specs.declared.keep.Kept.TheVariants as kept;
+    ghost use Rattle.vdcp_drive.specs.declared.operator.Call.{Call};
     ghost use Rattle.vdcp_words.specs.declared.command.Command.{Command};
 
     /// From one of its states to the next it notes this, if it tells that.
@@ -49,6 +51,12 @@ pub trait Keep {
 
     /// From one of its states to the next it fails to keep this command.
     ghost loses: { Command → Self → Self → Type 0 } = { λ _ _ _. ⊤ };
+
+    /// From one of its states to the next it keeps this call, if it tells that.
+    ghost calls: { Call → Self → Self → Type 0 } = { λ _ _ _. ⊤ };
+
+    /// From one of its states to the next it fails to keep this call.
+    ghost misses: { Call → Self → Self → Type 0 } = { λ _ _ _. ⊤ };
 
     /// Whether it can fail.
     ghost can_fail: { Type 0 } = { ⊤ };
@@ -64,6 +72,12 @@ pub trait Keep {
     /// command is.
     fn note_end(&mut self, heard: Option<Heard>)
         ensures { adds (end_of heard) self.old self.new };
+
+    /// It is given a call before the controller is, and makes it safe, with all that it noted before.
+    fn keep_call(&mut self, call: Call) -> Result<(), KeepFault>
+        ensures called { OnOk result (calls call self.old self.new) }
+        ensures missed { OnErr result (misses call self.old self.new) }
+        ensures call_fails { OnErr result can_fail };
 }
 
 /// Keeps nothing.
@@ -78,6 +92,10 @@ impl Keep for Unkept {
     }
 
     fn note_end(&mut self, _heard: Option<Heard>) {}
+
+    fn keep_call(&mut self, _call: Call) -> Result<(), KeepFault> {
+        Ok(())
+    }
 }
 
 /// Has the command kept that goes out next, if one does.
@@ -85,27 +103,14 @@ pub(crate) fn keep_next<S: Source, K: Keep>(
     controller: &Controller<S>,
     keep: &mut K,
 ) -> Result<(), KeepFault>
-    ensures kept { OnOk result (Keeps K.adds (given_notes (turns.given (plan_of S.items controller.now)
+    ensures kept { OnOk result (Chain K.adds (given_notes (turns.given (plan_of S.items controller.now)
         controller.now.state)) keep.old keep.new) }
-    ensures lost { OnErr result (HasLostGiven K.loses (turns.given (plan_of S.items controller.now)
+    ensures lost { OnErr result (Misses K.loses (turns.given (plan_of S.items controller.now)
         controller.now.state) keep.old keep.new) }
     ensures fails { OnErr result K.can_fail }
 {
     match controller.to_send() {
         Some(command) => keep.keep_sent(&command),
         None => Ok(()),
-    }
-}
-
-/// Has the end of the exchange noted, if it has ended.
-pub(crate) fn note_if_ended<S: Source, K: Keep>(
-    controller: &Controller<S>,
-    heard: Option<Heard>,
-    keep: &mut K,
-)
-    ensures { Keeps K.adds (notes_once_ended (turns.is_awaiting controller.now.state.stage) heard) keep.old keep.new }
-{
-    if !controller.awaiting() {
-        keep.note_end(heard);
     }
 }

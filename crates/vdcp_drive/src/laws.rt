@@ -1,61 +1,164 @@
-//! The laws of the definitions that the contracts of this crate cite. The functions do nothing: their
-//! contracts are the laws, and a caller whose proof needs one calls it.
+//! The laws of the definitions that the contracts of this crate cite. The functions do nothing.
 ghost use Rattle.std.specs.Option.{option_to_list};
-ghost use Rattle.std.specs.Prelude.{◌≡◌, ◌≤◌, ℕ, false, List, [], ◌∷◌, ◌++◌, Option, None};
-ghost use Rattle.vdcp_frame.specs.Message.{Content};
-ghost use Rattle.vdcp_frame.specs.Progress.{Progress, reading};
-ghost use Rattle.vdcp_frame.specs.Reading.{SpellsAll, IsUnfinished};
-ghost use Rattle.vdcp_auto.specs.Course.{course};
+ghost use Rattle.std.specs.Prelude.{◌≡◌, ◌≤◌, ℕ, All, List, [], ◌∷◌, ◌++◌, Result, Ok, Err, false, None, Some, map};
+ghost use Rattle.std.specs.Io.KnownBytes.{Appends};
+ghost use Rattle.vdcp_auto.specs.Course.{Reached, course};
 ghost use Rattle.vdcp_auto.specs.Law.{IsLawful};
-ghost use Rattle.vdcp_auto.specs.Plan.{Plan};
 ghost use Rattle.vdcp_auto.specs.State.{State};
-ghost use Rattle.vdcp_auto.specs.Turn.{given, start};
+ghost use Rattle.vdcp_auto.specs.declared.exchange.Exchange.{Exchange};
+ghost use Rattle.vdcp_auto.specs.Plan.{Plan};
+ghost use Rattle.vdcp_auto.specs.Turn.{awaited};
+ghost use Rattle.vdcp_wire.specs.Wires.{Arrival, IfTold, Told, bytes, close, has_closed, nothing_told, silence};
+ghost use Rattle.vdcp_drive.specs.Auto.{Auto, after, log_of};
+ghost use Rattle.vdcp_drive.specs.Courses.{HasCourse, HasCourseBroken, inputs_of, new_auto};
+ghost use Rattle.vdcp_drive.specs.Hearing.{Burst, at_silences};
+ghost use Rattle.vdcp_wire.specs.Streams.{StreamDoes, Streamed};
+ghost use Rattle.vdcp_drive.specs.Tells.{BreaksOn, RunsOn, told_after_all};
+ghost use Rattle.vdcp_frame.specs.Message.{Content};
+ghost use Rattle.vdcp_frame.specs.Progress.{Progress};
+ghost use Rattle.vdcp_port.specs.Clock.{ClockedPort};
+ghost use Rattle.vdcp_value.specs.declared.part.Item.{Item};
+ghost use Rattle.vdcp_wire.specs.Acts.{Act};
+ghost use Rattle.vdcp_frame.specs.Reading.{SpellsAll, IsUnfinished};
 ghost use Rattle.vdcp_drive.specs.Bursts.{ended_bursts, open_burst};
-ghost use Rattle.vdcp_drive.specs.Driven.{HasRun, HasRunBroken, inputs_of};
-ghost use Rattle.vdcp_drive.specs.Prompt.{HasRunPrompt, HasRunPromptBroken, Prompt, commands_in, gives, listens, prompted};
-ghost use Rattle.vdcp_drive.specs.PromptReading.{Held, holds, completed, held_after};
-ghost use Rattle.vdcp_drive.specs.RunOn.{HasRunOn, StandsIn};
-ghost use Rattle.vdcp_wire.specs.Wires.{Arrival, Told, bytes, close, has_closed, nothing_told, silence};
+ghost use Rattle.vdcp_drive.specs.Keeping.{KeepsRun};
+ghost use Rattle.vdcp_drive.specs.Leaves.{AreOctetsIn, HasRun};
+ghost use Rattle.vdcp_drive.specs.Reading.{Held, holds, completed, held_after};
+ghost use Rattle.vdcp_drive.specs.ServeLeaves.{ServeEnding};
+ghost use Rattle.vdcp_drive.specs.Served.{IsOpen, items_served, served, stands_at};
+ghost use Rattle.vdcp_drive.specs.Serving.{Look, Service, acts_of, items_in, left_by, looks_of};
+ghost use Rattle.vdcp_drive.specs.Safe.{AreSafe, IsCut};
+ghost use Rattle.vdcp_drive.specs.Steps.{Chain, Happens, Step, World, steps_of};
+ghost use Rattle.vdcp_drive.specs.Traces.{acts_in, kept_in, sent_in, came_in, commands_kept, bytes_of, kept_of, awaited_notes, until_close};
+ghost use Rattle.vdcp_drive.specs.Watching.{tells_airing};
+ghost use Rattle.vdcp_drive.specs.declared.keep.KeptFault.{KeptFault};
+ghost use Rattle.vdcp_drive.specs.declared.line.DriveFault.{DriveFault};
+ghost use Rattle.vdcp_drive.specs.declared.line.Ran.{Ran};
 
-use vdcp_auto::laws as courses;
+use crate::ear::Ear;
+use crate::keep::Keep;
+use crate::watch::{Watch, WatchPort};
+use vdcp_auto::{Source, laws as courses};
 use vdcp_frame::laws as bursts;
+use vdcp_port::{Catalogue, laws as answers};
+use vdcp_wire::Wire;
 
-/// What holds of every controller and its log holds of the controller that a run leaves and of the
-/// course of what came: its count of settled events is what the course shows to be settled, the rule
-/// book allows each command that was sent, and the rest; also where the wire failed.
+/// What a run of a new automation that hears at silences adds to a fresh wire is the course of its bursts: the commands
+/// that were sent are those of the exchanges of the course, and then the one that is awaited, each after a drop.
+pub fn a_new_run_is_a_course()
+    ensures run { (plan : Plan) (unit count : ℕ) (a' : Auto Burst) (r : Ran) (u : Told) →
+        RunsOn at_silences plan unit count new_auto a' r nothing_told u → HasCourse plan unit u a'.state }
+    // also where the wire failed
+    ensures broken { (plan : Plan) (unit : ℕ) (a' : Auto Burst) (u : Told) →
+        BreaksOn at_silences plan unit new_auto a' nothing_told u → HasCourseBroken plan unit u a'.state }
+{
+    bursts::no_spelling_begins_another();
+    bursts::one_spelling();
+    bursts::what_is_spelt_is_bytes();
+    bursts::a_spelling_is_its_message();
+    bursts::what_is_followed_is_read();
+    bursts::one_reading();
+}
+
+/// What holds of every controller and its log holds of the controller that such a run leaves and of the course of what
+/// came: its count of settled events is what the course shows to be settled, the rule book allows each command that was
+/// sent, and the rest; also where the wire failed. (Of other automations: `a_run_is_reached`.)
 pub fn a_run_is_lawful()
     ensures run { (plan : Plan) (unit : ℕ) (told : Told) (state : State) → 1 ≤ plan.limit → plan.limit ≤ 1000 →
-        HasRun plan unit told state → IsLawful plan state (course plan (inputs_of unit told.came)) }
+        HasCourse plan unit told state → IsLawful plan state (course plan (inputs_of unit told.came)) }
     ensures broken { (plan : Plan) (unit : ℕ) (told : Told) (state : State) → 1 ≤ plan.limit → plan.limit ≤ 1000 →
-        HasRunBroken plan unit told state → IsLawful plan state (course plan (inputs_of unit told.came)) }
+        HasCourseBroken plan unit told state → IsLawful plan state (course plan (inputs_of unit told.came)) }
 {
     courses::a_course_is_reached();
     courses::reached_is_lawful();
 }
 
-/// The same of an automation that hears at once, and of the log of the exchanges that what came shows to have
-/// ended: each by a message that was heard, a silence or the close.
-pub fn a_prompt_run_is_lawful()
-    ensures run { (plan : Plan) (unit : ℕ) (told : Told) (state : State) (reader : Option Progress) (passed : ℕ) →
-        1 ≤ plan.limit → plan.limit ≤ 1000 → HasRunPrompt plan unit told state reader passed →
-        IsLawful plan state (prompted plan unit told.came).log }
-    ensures broken { (plan : Plan) (unit : ℕ) (told : Told) (state : State) (reader : Option Progress) (passed : ℕ) →
-        1 ≤ plan.limit → plan.limit ≤ 1000 → HasRunPromptBroken plan unit told state reader passed →
-        IsLawful plan state (prompted plan unit told.came).log }
-{
-    courses::reached_is_lawful();
-}
+/// At each moment of a run, also in a send, what went out is commands whose row was safe before, and a beginning of one.
+pub fn what_goes_out_is_kept<S: Source, E: Ear, W: Wire, V: Watch<S>, K: Keep>()
+    ensures { (plan : Plan) (unit count : ℕ) (a a' : Auto E) (old new : World W K V) (answer : Result Ran KeptFault) →
+        (h : HasRun (record { does = W.does; adds = K.adds; loses = K.loses; sees = V.sees }) E.fold plan unit count
+        a a' old new answer) → (some : List Step) → IsCut some (steps_of E.fold plan unit a h.came ++ h.more) →
+        AreSafe unit None some }
+{}
 
-/// What runs that go on have in common with the first one: each automation has run on from where it is, with nothing
-/// since; a new one stands in what its wire tells; and one that has run on since it was new has run.
-pub fn runs_go_on_from_here()
-    ensures here { (plan : Plan) (unit : ℕ) (state : State) (told : Told) → HasRunOn plan unit state told told state }
-    ensures new { (unit : ℕ) → StandsIn unit nothing_told (reading 0 []) None }
-    ensures run { (plan : Plan) (unit : ℕ) (told : Told) (state : State) →
-        HasRunOn plan unit start nothing_told told state → HasRun plan unit told state }
-{
-    bursts::what_is_fed_is_followed();
-}
+/// What a run keeps, whatever its automation, its answer and the state of its wire were.
+pub fn what_a_run_keeps<S: Source, E: Ear, W: Wire, V: Watch<S>, K: Keep>()
+    ensures { (plan : Plan) (unit count : ℕ) (a a' : Auto E) (old new : World W K V) (answer : Result Ran KeptFault) →
+        HasRun (record { does = W.does; adds = K.adds; loses = K.loses; sees = V.sees }) E.fold plan unit count
+        a a' old new answer →
+        KeepsRun K.adds K.loses W.told E.fold plan unit a a' old.wire new.wire answer old.keep new.keep }
+{}
+
+/// A run has moments: between any two of its steps all that it runs on was in some state, to which its first steps led.
+pub fn a_run_has_moments<S: Source, E: Ear, W: Wire, V: Watch<S>, K: Keep>()
+    ensures { (plan : Plan) (unit count : ℕ) (a a' : Auto E) (old new : World W K V) (answer : Result Ran KeptFault) →
+        (h : HasRun (record { does = W.does; adds = K.adds; loses = K.loses; sees = V.sees }) E.fold plan unit count
+        a a' old new answer) → (some later : List Step) → steps_of E.fold plan unit a h.came ++ h.more ≡ some ++ later →
+        (moment : World W K V)
+        × Happens (record { does = W.does; adds = K.adds; loses = K.loses; sees = V.sees }) some old moment
+        × Happens (record { does = W.does; adds = K.adds; loses = K.loses; sees = V.sees }) later moment new }
+{}
+
+/// What the steps of a run come to, from any automation. Take the row of the command that was awaited before the run, if
+/// there was one, and then the rows of the run: these are the rows of the exchanges that ended in the run and of the
+/// command that is awaited after it. The bytes that went out are those of the commands in the run's rows, and what came
+/// is what the steps brought.
+pub fn steps_are_exchanges<E: Ear>()
+    ensures rows { (plan : Plan) (unit : ℕ) (a : Auto E) (came : List Arrival) →
+        awaited_notes plan a.state ++ kept_in (steps_of E.fold plan unit a came)
+        ≡ kept_of (log_of E.fold plan unit a came) ++ awaited_notes plan (after E.fold plan unit a came).state }
+    ensures commands { (plan : Plan) (unit : ℕ) (a : Auto E) (came : List Arrival) →
+        option_to_list (awaited plan a.state) ++ commands_kept (kept_in (steps_of E.fold plan unit a came))
+        ≡ map (λ e. e.command) (log_of E.fold plan unit a came)
+        ++ option_to_list (awaited plan (after E.fold plan unit a came).state) }
+    ensures bytes { (plan : Plan) (unit : ℕ) (a : Auto E) (came : List Arrival) →
+        sent_in (acts_in (steps_of E.fold plan unit a came))
+        ≡ bytes_of unit (commands_kept (kept_in (steps_of E.fold plan unit a came))) }
+    ensures came { (plan : Plan) (unit : ℕ) (a : Auto E) (came : List Arrival) →
+        came_in (acts_in (steps_of E.fold plan unit a came)) ≡ came }
+{}
+
+/// A run leads where calls of a controller lead, and its exchanges go on with the log; so all that holds of a controller
+/// and its log holds after each run.
+pub fn a_run_is_reached<E: Ear>()
+    ensures { (plan : Plan) (unit : ℕ) (a : Auto E) (came : List Arrival) (log : List Exchange) →
+        Reached plan a.state log →
+        Reached plan (after E.fold plan unit a came).state (log ++ log_of E.fold plan unit a came) }
+{}
+
+/// A run that goes on where another left is one run.
+pub fn runs_go_on<E: Ear>()
+    ensures after { (plan : Plan) (unit : ℕ) (a : Auto E) (xs ys : List Arrival) →
+        after E.fold plan unit a (xs ++ ys) ≡ after E.fold plan unit (after E.fold plan unit a xs) ys }
+    ensures steps { (plan : Plan) (unit : ℕ) (a : Auto E) (xs ys : List Arrival) →
+        steps_of E.fold plan unit a (xs ++ ys)
+        ≡ steps_of E.fold plan unit a xs ++ steps_of E.fold plan unit (after E.fold plan unit a xs) ys }
+{}
+
+/// What a wire tells after a run, whatever its answer, is what happened on it.
+pub fn a_wire_tells_what_happened<S: Source, E: Ear, W: Wire, V: Watch<S>, K: Keep>()
+    ensures { (plan : Plan) (unit count : ℕ) (a a' : Auto E) (old new : World W K V) (answer : Result Ran KeptFault) →
+        (h : HasRun (record { does = W.does; adds = K.adds; loses = K.loses; sees = V.sees }) E.fold plan unit count
+        a a' old new answer) → (t : Told) → W.told old.wire ≡ Some t →
+        W.told new.wire ≡ Some (told_after_all (acts_in (steps_of E.fold plan unit a h.came ++ h.more)) t) }
+{}
+
+/// A stream whose bytes are known has gained, after a run that came to an answer, just the bytes of the commands that the
+/// keep has.
+pub fn a_stream_carries_a_run<S: Source, E: Ear, V: Watch<S>, K: Keep>()
+    ensures { (plan : Plan) (unit count : ℕ) (a a' : Auto E) (old new : World Streamed K V) (r : Ran) →
+        (h : HasRun (record { does = StreamDoes; adds = K.adds; loses = K.loses; sees = V.sees }) E.fold plan unit
+        count a a' old new (Ok r)) → Appends old.wire.written new.wire.written
+        (bytes_of unit (commands_kept (kept_in (steps_of E.fold plan unit a h.came)))) }
+{}
+
+/// The same for a run in which the wire failed: what it tells then.
+pub fn a_broken_run_tells<S: Source, E: Ear, W: Wire, V: Watch<S>, K: Keep>()
+    ensures { (plan : Plan) (unit count : ℕ) (a a' : Auto E) (old new : World W K V) (t : Told) →
+        HasRun (record { does = W.does; adds = K.adds; loses = K.loses; sees = V.sees }) E.fold plan unit count a a'
+        old new (Err KeptFault.Device) → W.told old.wire ≡ Some t → has_closed t.came ≡ false →
+        IfTold (W.told new.wire) (λ u. BreaksOn E.fold plan unit a a' t u) }
+{}
 
 /// An automation that hears at once completes just the messages that the bytes spell, and holds what has begun
 /// since; and it doesn't matter into which pieces the bytes are cut.
@@ -77,14 +180,6 @@ pub fn what_is_spelt_is_completed()
     bursts::one_reading();
 }
 
-/// What an automation that hears at once has sent: a tick adds the command that it gives, and a listen nothing.
-pub fn a_tick_sends_its_command()
-    ensures tick { (plan : Plan) (p : Prompt) →
-        commands_in plan (gives p) ≡ commands_in plan p ++ option_to_list (given plan p.state) }
-    ensures listen { (plan : Plan) (unit : ℕ) (a : Arrival) (p : Prompt) →
-        commands_in plan (listens plan unit a p) ≡ commands_in plan p }
-{}
-
 /// What one arrival more makes of the bursts that came: bytes are added to the open one, a silence ends it, and a close
 /// ends none.
 pub fn bursts_grow()
@@ -97,4 +192,68 @@ pub fn bursts_grow()
     ensures close { (came : List Arrival) →
         (ended_bursts (came ++ close ∷ []) ≡ ended_bursts came)
         × (open_burst (came ++ close ∷ []) ≡ open_burst came) }
+{}
+
+/// What the turns of a server come to that has served what came before: the bytes that go out and the items that go to
+/// air are those that are served for all that came, and this leaves it so. It drops nothing.
+pub fn turns_are_served()
+    ensures sent { (p : ClockedPort) (before came : List Arrival) → IsOpen before → All AreOctetsIn came →
+        until_close came ≡ came →
+        served p (before ++ came) ≡ served p before ++ sent_in (acts_of (stands_at p before) came) }
+    ensures items { (p : ClockedPort) (before came : List Arrival) → IsOpen before → All AreOctetsIn came →
+        until_close came ≡ came →
+        items_served p (before ++ came) ≡ items_served p before ++ items_in (looks_of (stands_at p before) came) }
+    ensures left { (p : ClockedPort) (before came : List Arrival) → IsOpen before → All AreOctetsIn came →
+        until_close came ≡ came → left_by (stands_at p before) came ≡ stands_at p (before ++ came) }
+    ensures came { (s : Service) (came : List Arrival) → came_in (acts_of s came) ≡ came }
+{
+    bursts::one_reading();
+    bursts::written_is_read();
+    answers::messages_after_messages();
+    answers::the_unit_stays();
+    answers::a_burst_airs_at_most_the_cued_item();
+}
+
+/// At each moment of a server's turns, also in an answer that the wire cuts short, what went out is a beginning of what is
+/// served for what had come by then; and the items that its watcher was lent are a beginning of those that went to air.
+pub fn what_goes_out_is_served()
+    ensures sent { (p : ClockedPort) (before came : List Arrival) (count : ℕ) (answer : Result Ran DriveFault)
+        (done : List Act) (seen : List Look) (port : ClockedPort) (reader : Progress) → IsOpen before →
+        All AreOctetsIn came → until_close came ≡ came →
+        ServeEnding count came (left_by (stands_at p before) came) answer done seen port reader →
+        (some behind : List Act) → acts_of (stands_at p before) came ++ done ≡ some ++ behind → (rest : List ℕ)
+        × (served p (before ++ came_in some) ≡ served p before ++ (sent_in some ++ rest)) }
+    ensures items { (p : ClockedPort) (before came : List Arrival) (count : ℕ) (answer : Result Ran DriveFault)
+        (done : List Act) (seen : List Look) (port : ClockedPort) (reader : Progress) → IsOpen before →
+        All AreOctetsIn came → until_close came ≡ came →
+        ServeEnding count came (left_by (stands_at p before) came) answer done seen port reader → (rest : List Item)
+        × (items_served p (before ++ came_in (acts_of (stands_at p before) came ++ done)) ≡ items_served p before
+        ++ (items_in (looks_of (stands_at p before) came ++ seen) ++ rest)) }
+{
+    bursts::one_reading();
+    bursts::written_is_read();
+    answers::messages_after_messages();
+    answers::the_unit_stays();
+    answers::a_burst_airs_at_most_the_cued_item();
+}
+
+/// Turns that go on where others left a server are one.
+pub fn servers_go_on()
+    ensures left { (s : Service) (xs ys : List Arrival) → left_by s (xs ++ ys) ≡ left_by (left_by s xs) ys }
+    ensures acts { (s : Service) (xs ys : List Arrival) →
+        acts_of s (xs ++ ys) ≡ acts_of s xs ++ acts_of (left_by s xs) ys }
+    ensures looks { (s : Service) (xs ys : List Arrival) →
+        looks_of s (xs ++ ys) ≡ looks_of s xs ++ looks_of (left_by s xs) ys }
+{}
+
+/// What a wire tells after some acts, and the watcher of a server after some looks, is what happened.
+pub fn what_happened_is_told<C: Catalogue, W: Wire, V: WatchPort<C>>()
+    ensures wire { (acts : List Act) (old new : W) (t : Told) → Chain W.does acts old new → W.told old ≡ Some t →
+        W.told new ≡ Some (told_after_all acts t) }
+    ensures watcher { (looks : List Look) (old new : V) (items : List Item) →
+        Chain (λ look. tells_airing V.watched look.aired) looks old new → V.watched old ≡ Some items →
+        V.watched new ≡ Some (items ++ items_in looks) }
+    // A stream whose bytes are known has gained just the bytes that went out.
+    ensures stream { (acts : List Act) (old new : Streamed) → Chain StreamDoes acts old new →
+        Appends old.written new.written (sent_in acts) }
 {}

@@ -1,9 +1,9 @@
 //! Both ends of a playout channel over a wire: the server with its port, and the automation with its
 //! controller.
 //!
-//! The caller hands a driver a `Wire`, which carries bytes: a `StreamWire` over a connection, a `ScriptWire` in
-//! memory, or one of its own. The drivers decide nothing themselves: the port says what to answer, the controller
-//! what to send. They take no memory. Of a burst they keep what a `Reader` keeps, and `AutoDriver` its first message.
+//! The caller hands an end a `Wire`, which carries bytes: a `StreamWire` over a connection, a `ScriptWire` in
+//! memory, or one of its own. The ends decide nothing themselves: the port says what to answer, the controller
+//! what to send. They take no memory. Of a burst they keep what a `Reader` keeps, and `AtSilences` its first message.
 //!
 //! A server, turn by turn (`serve` does the same in one call):
 //!
@@ -28,32 +28,42 @@
 //! auto.controller().outcome(), auto.controller().settled()
 //! ```
 //!
-//! `PromptDriver` has the same calls, for a line that keeps order: it hears each answer as soon as it has come, and a
-//! silence is a time-out alone.
+//! `AutoDriver` is a `Driver` whose ear hears `AtSilences`; that of `PromptDriver` hears `AtOnce`, for a line that
+//! keeps order: each answer as soon as it has come, and a silence is a time-out alone.
 //!
 //! `ask_port` asks a port whether something is cued or plays there, which has to be known before a run in confirm mode.
 //!
-//! `serve_watched` and `run_watched` lend each item that airs, and the controller, to an observer. `run_kept` also has
-//! a `Keep` keep each command before it goes out, and what ended its exchange.
+//! `serve` lends the port after each turn, with the item that aired, to an observer (`WatchPort`). `run_with` lends the
+//! controller to one (`Watch`), has each command kept before it goes out, and what ended its exchange (`Keep`), and waits
+//! between commands (`Pace`); `run_operated` asks an operator too (`Operator`), whose calls are kept before they are given.
 //!
-//! Files: `server`, `automation` and `prompt` (the drivers), `line` (results of a turn or listen), `watch` (observers),
-//! `keep` (what is kept of the exchanges), `vacancy` (the questions to a port), `laws`.
+//! Files, in reading order: `server`, `driver`, `automation`, `ear`, `at_silences`, `at_once`, `scanner`, `line`,
+//! `watch`, `keep`, `operator`, `vacancy`, `laws`.
 #![tactic(auto)]
 
+mod at_once;
+mod at_silences;
 mod automation;
+mod driver;
+mod ear;
 mod keep;
 pub mod laws;
 mod line;
-mod prompt;
+mod operator;
+mod scanner;
 mod server;
 mod vacancy;
 mod watch;
 
-pub use automation::AutoDriver;
+pub use at_once::AtOnce;
+pub use at_silences::AtSilences;
+pub use automation::{AutoDriver, PromptDriver};
+pub use driver::Driver;
+pub use ear::Ear;
 pub use keep::{Keep, KeepFault, Kept, KeptFault, Unkept};
 pub use line::{DriveFault, Line, Ran};
-pub use prompt::PromptDriver;
+pub use operator::{Call, Operator};
 pub use server::Server;
 pub use vacancy::{Vacancy, ask_port};
 pub use vdcp_wire::{Came, Entry, PIECE, ScriptWire, StreamWire, Wire, WireFault};
-pub use watch::{Unwatched, Watch, WatchAir};
+pub use watch::{Pace, Unpaced, Unwatched, Watch, WatchPort};

@@ -1,3 +1,4 @@
+//! What listens and runs come to, and why a driver gives up.
 use thiserror::Error;
 
 /// What one listen brought to a driver.

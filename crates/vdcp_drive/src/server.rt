@@ -1,18 +1,20 @@
+//! The server's end: it listens, and answers what comes.
 ghost use Rattle.std.specs.Option.{option_to_list};
-ghost use Rattle.std.specs.Prelude.{◌≡◌, ◌≢◌, ◌<◌, ◌≤◌, ◌↔◌, ◌⊎◌, ◌++◌, [], ◌∷◌, List, ℕ, length, take, OnOk, OnErr, IfOk, IsErr, Some, None};
+ghost use Rattle.std.specs.Prelude.{◌≡◌, ◌≢◌, ◌≤◌, [], List, ℕ, IfOk, OnOk, OnErr, IsErr, None};
 ghost use Rattle.vdcp_frame.specs.Message.{content_of, AreOctets};
 ghost use Rattle.vdcp_frame.specs.Progress.{reading};
+ghost use Rattle.vdcp_frame.specs.Reader.{ended_of};
+ghost use Rattle.vdcp_port.specs.Answers as answered;
 ghost use Rattle.vdcp_port.specs.Answers.{answer_bytes, bytes_for, items_for};
-ghost use Rattle.vdcp_port.specs.Clock.{ClockedPort, after_message};
-ghost use Rattle.vdcp_drive.specs.Lines.{line_of};
-ghost use Rattle.vdcp_drive.specs.ServeLeaves.{ServeLeaves};
-ghost use Rattle.vdcp_drive.specs.Served.{IsNewServer, IsServed, IsPartlySent, HasBrokenOff, HasWatched, HasPartlyWatched, items_served};
-ghost use Rattle.vdcp_drive.specs.Serving.{HasTaken, HasBroken, HasEnded, HasEndBroken, Serves, Breaks, last_aired};
-ghost use Rattle.vdcp_drive.specs.Watching.{adds_aired};
-ghost use Rattle.vdcp_wire.specs.Wires.{Arrival, Told, IfTold, MayCome, adds_sent, adds_came, SendsFront};
+ghost use Rattle.vdcp_port.specs.Clock.{after_frame, after_message, answer_to};
+ghost use Rattle.vdcp_drive.specs.ServeLeaves.{HasBroken, HasTaken, HasTurned, ServeLeaves};
+ghost use Rattle.vdcp_drive.specs.Serving.{HasRead, last_aired, sending};
+ghost use Rattle.vdcp_drive.specs.Steps.{Chain};
+ghost use Rattle.vdcp_drive.specs.Watching.{tells_airing};
+ghost use Rattle.vdcp_wire.specs.Acts.{OfFront, sends};
 
 use crate::line::{DriveFault, Line, Ran};
-use crate::watch::{Unwatched, WatchAir};
+use crate::watch::WatchPort;
 use std::marker::Model;
 use vdcp_frame::{Got, Message, Reader, laws as bursts};
 use vdcp_port::{Catalogue, Port, laws as answers, reply_at_end};
@@ -92,44 +94,19 @@ impl<C: Catalogue, W: Wire> Server<C, W> {
         self.aired
     }
 
-    /// Takes this many turns, or fewer if the other end closes. `Device` if the wire fails or has failed
-    /// before.
-    pub fn serve(&mut self, turns: u64) -> Result<Ran, DriveFault>
-        ensures leaves { ServeLeaves W.told W.failures turns self.old self.new result }
+    /// Takes this many turns, or fewer if the other end closes. After each `watcher` is lent the port, with the item that
+    /// the turn put to air. `Device` if the wire fails or has failed before.
+    pub fn serve<V: WatchPort<C>>(&mut self, turns: u64, watcher: &mut V) -> Result<Ran, DriveFault>
+        ensures leaves { ServeLeaves W.does (λ looks. Chain (λ look. tells_airing V.watched look.aired) looks watcher.old
+            watcher.new) W.failures turns self.old self.new result }
     {
-        self.serve_watched(turns, &mut Unwatched)
-    }
-
-    /// As `serve`, and lends `watcher` each item put to air, after its turn.
-    pub fn serve_watched<V: WatchAir>(
-        &mut self,
-        turns: u64,
-        watcher: &mut V,
-    ) -> Result<Ran, DriveFault>
-        ensures leaves { ServeLeaves W.told W.failures turns self.old self.new result }
-        // A watcher that tells what it watched was lent what went to air, each item once and in order.
-        ensures watched { IsNewServer W.told self.old → (items : List Item) → V.watched watcher.old ≡ Some items →
-            OnOk result
-            (IfTold (W.told self.new.wire) (λ u. V.watched watcher.new ≡ Some
-            (items ++ items_served self.old.port u.came))) }
-        ensures watched_since { (start : ClockedPort) (t : Told) (items : List Item) → W.told self.old.wire ≡ Some t →
-            IsServed start t self.old.port self.old.reader → V.watched watcher.old ≡ Some items →
-            OnOk result (IfTold (W.told self.new.wire) (λ u. HasWatched start t u items (V.watched watcher.new))) }
-        ensures watched_first { (start : ClockedPort) (t : Told) (items : List Item) → W.told self.old.wire ≡ Some t →
-            IsServed start t self.old.port self.old.reader → W.failures self.old.wire ≡ 0 →
-            V.watched watcher.old ≡ Some items →
-            OnErr result (IfTold (W.told self.new.wire) (λ u. HasPartlyWatched start t u items self.new.aired
-            (V.watched watcher.new))) }
-        ensures unwatched { W.failures self.old.wire ≡ 1 → watcher.new ≡ watcher.old }
-    {
-        bursts::what_is_fed_is_followed();
         if self.failed {
             return Err(DriveFault::Device);
         }
         let mut made = 0;
         'turns: while made < turns {
             let line = self.turn();
-            lend(&self.aired, watcher);
+            watcher.look(&self.port, self.aired);
             if let Line::Closed = line? {
                 return Ok(Ran::Closed);
             }
@@ -140,49 +117,13 @@ impl<C: Catalogue, W: Wire> Server<C, W> {
 
     /// Listens once on the wire, and answers what came. `Device` if the wire fails or has failed before.
     pub fn turn(&mut self) -> Result<Line, DriveFault>
-        // Of any server.
-        ensures serves { IfOk result (λ line. (a : Arrival) × (line ≡ line_of a) × MayCome a (W.told self.old.wire)
-            × Serves a self.old.port self.old.reader (adds_came a (W.told self.old.wire)) self.new.port
-            self.new.reader self.new.aired (W.told self.new.wire)) }
-        ensures breaks { W.failures self.old.wire ≡ 0 → OnErr result (
-            ((W.told self.new.wire ≡ W.told self.old.wire) × (self.new.port ≡ self.old.port) × (self.new.aired ≡ None))
-            ⊎ ((a : Arrival) × MayCome a (W.told self.old.wire)
-            × Breaks a self.old.port self.old.reader (adds_came a (W.told self.old.wire)) self.new.port self.new.aired
-            (W.told self.new.wire))) }
-        // Of a server that began with this port, and has served what its wire tells that came.
-        ensures served { (start : ClockedPort) (t : Told) → W.told self.old.wire ≡ Some t →
-            IsServed start t self.old.port self.old.reader →
-            OnOk result (IfTold (W.told self.new.wire) (λ u. IsServed start u self.new.port self.new.reader)) }
-        ensures broken_off { (start : ClockedPort) (t : Told) → W.told self.old.wire ≡ Some t →
-            IsServed start t self.old.port self.old.reader →
-            W.failures self.old.wire ≡ 0 →
-            OnErr result (IfTold (W.told self.new.wire) (λ u. HasBrokenOff start u self.new.port
-            × IsPartlySent start u)) }
-        // What goes to air: what went to air before, and then the item of this turn, if it put one there.
-        ensures airs { (start : ClockedPort) (t : Told) → W.told self.old.wire ≡ Some t →
-            IsServed start t self.old.port self.old.reader →
-            OnOk result (IfTold (W.told self.new.wire) (λ u. items_served start u.came ≡ items_served start t.came
-            ++ option_to_list self.new.aired)) }
-        ensures airs_first { (start : ClockedPort) (t : Told) → W.told self.old.wire ≡ Some t →
-            IsServed start t self.old.port self.old.reader →
-            W.failures self.old.wire ≡ 0 → OnErr result (IfTold (W.told self.new.wire) (λ u. (others : List Item) ×
-            (items_served start u.came ≡ (items_served start t.came ++ option_to_list self.new.aired) ++ others))) }
-        // A server drops nothing that waits.
-        ensures drops { (t : Told) → W.told self.old.wire ≡ Some t →
-            IfTold (W.told self.new.wire) (λ u. u.drops ≡ t.drops) }
+        ensures serves { W.failures self.old.wire ≡ 0 → (burst : List ℕ) → HasRead burst self.old.reader →
+            HasTurned W.does (record { port = self.old.port; burst = burst }) self.old.wire result self.new.port
+            self.new.reader self.new.aired self.new.wire }
         ensures works { OnOk result (W.failures self.new.wire ≡ 0) }
         ensures device { OnErr result (W.failures self.new.wire ≡ 1) }
         ensures stays { W.failures self.old.wire ≡ 1 → IsErr result × (self.new ≡ self.old) }
     {
-        bursts::one_reading();
-        bursts::what_is_fed_is_followed();
-        bursts::what_is_followed_is_read();
-        answers::messages_after_messages();
-        answers::one_alone();
-        answers::a_burst_is_answered_as_it_ended();
-        answers::one_answer_to_the_end();
-        answers::the_unit_stays();
-        answers::a_burst_airs_at_most_the_cued_item();
         if self.failed {
             return Err(DriveFault::Device);
         }
@@ -201,15 +142,6 @@ impl<C: Catalogue, W: Wire> Server<C, W> {
     }
 }
 
-// Lends the watcher the item that a turn put to air, if it put one there.
-fn lend<V: WatchAir>(aired: &Option<Item>, watcher: &mut V)
-    ensures { V.watched watcher.new ≡ adds_aired aired.now (V.watched watcher.old) }
-{
-    if let Some(item) = aired {
-        watcher.aired(item);
-    }
-}
-
 // Listens once, and answers what came.
 fn hear<C: Catalogue, W: Wire>(
     reader: &mut Reader,
@@ -218,15 +150,16 @@ fn hear<C: Catalogue, W: Wire>(
     wire: &mut W,
 ) -> Result<Line, WireFault>
     requires { W.failures wire.old ≡ 0 }
-    ensures serves { IfOk result (λ line. (a : Arrival) × (line ≡ line_of a) × MayCome a (W.told wire.old)
-        × Serves a port.old reader.old (adds_came a (W.told wire.old)) port.new reader.new aired.new
-        (W.told wire.new)) }
-    ensures breaks { OnErr result (((W.told wire.new ≡ W.told wire.old) × (port.new ≡ port.old) × (aired.new ≡ None))
-        ⊎ ((a : Arrival) × MayCome a (W.told wire.old)
-        × Breaks a port.old reader.old (adds_came a (W.told wire.old)) port.new aired.new (W.told wire.new))) }
+    ensures serves { (burst : List ℕ) → HasRead burst reader.old →
+        HasTurned W.does (record { port = port.old; burst = burst }) wire.old result port.new reader.new aired.new
+        wire.new }
     ensures works { OnOk result (W.failures wire.new ≡ 0) }
     ensures failed { OnErr result (W.failures wire.new ≡ 1) }
 {
+    bursts::what_is_fed_is_followed();
+    bursts::what_is_followed_is_read();
+    bursts::one_reading();
+    answers::one_answer_to_the_end();
     *aired = None;
     let mut buffer = [0; PIECE];
     match wire.listen(&mut buffer)? {
@@ -251,15 +184,20 @@ fn take_piece<C: Catalogue, W: Wire>(
     piece: &[u8],
 ) -> Result<(), WireFault>
     requires { W.failures wire.old ≡ 0 }
-    ensures taken { OnOk result (HasTaken port.old reader.old aired.old (W.told wire.old) piece.now port.new
-        reader.new aired.new (W.told wire.new)) }
-    ensures broken { OnErr result (HasBroken port.old reader.old aired.old (W.told wire.old) piece.now port.new
-        aired.new (W.told wire.new)) }
+    ensures taken { (burst : List ℕ) → HasRead burst reader.old → OnOk result (HasTaken W.does
+        (record { port = port.old; burst = burst }) aired.old wire.old piece.now port.new reader.new aired.new
+        wire.new) }
+    ensures broken { (burst : List ℕ) → HasRead burst reader.old → OnErr result (HasBroken W.does
+        (record { port = port.old; burst = burst }) aired.old wire.old piece.now port.new aired.new wire.new) }
     ensures fits { AreOctets piece.now }
     ensures works { OnOk result (W.failures wire.new ≡ 0) }
     ensures failed { OnErr result (W.failures wire.new ≡ 1) }
 {
+    bursts::written_is_read();
+    bursts::what_is_followed_is_read();
+    bursts::one_reading();
     answers::messages_after_messages();
+    answers::the_unit_stays();
     answers::one_alone();
     let mut rest = piece;
     'piece: loop {
@@ -279,10 +217,10 @@ fn answer<C: Catalogue, W: Wire>(
     message: &Message,
 ) -> Result<(), WireFault>
     requires { W.failures wire.old ≡ 0 }
-    ensures sent { OnOk result (W.told wire.new ≡ adds_sent (bytes_for port.old (content_of message.now))
-        (W.told wire.old)) }
-    ensures front { OnErr result (SendsFront (bytes_for port.old (content_of message.now)) (W.told wire.old)
-        (W.told wire.new)) }
+    ensures sent { OnOk result (Chain W.does (sending port.old.state.unit
+        (option_to_list (answer_to port.old (content_of message.now)))) wire.old wire.new) }
+    ensures front { OnErr result (OfFront (bytes_for port.old (content_of message.now)) (λ front.
+        W.does (sends front) wire.old wire.new)) }
     ensures next { port.new ≡ after_message port.old (content_of message.now) }
     ensures airs { aired.new ≡ last_aired aired.old (items_for port.old (content_of message.now)) }
     ensures works { OnOk result (W.failures wire.new ≡ 0) }
@@ -303,8 +241,14 @@ fn end_burst<C: Catalogue, W: Wire>(
     wire: &mut W,
 ) -> Result<(), WireFault>
     requires { W.failures wire.old ≡ 0 }
-    ensures ends { OnOk result (HasEnded port.old reader.old (W.told wire.old) port.new reader.new (W.told wire.new)) }
-    ensures broken { OnErr result (HasEndBroken port.old reader.old (W.told wire.old) port.new (W.told wire.new)) }
+    ensures sent { OnOk result (Chain W.does (sending port.old.state.unit
+        (option_to_list (answered.reply_at_end (ended_of reader.old)))) wire.old wire.new) }
+    ensures front { OnErr result (OfFront (answer_bytes port.old.state.unit
+        (option_to_list (answered.reply_at_end (ended_of reader.old)))) (λ front.
+        W.does (sends front) wire.old wire.new)) }
+    ensures next { OnOk result (port.new ≡ after_frame port.old) }
+    ensures unended { OnErr result (port.new ≡ port.old) }
+    ensures restarts { reader.new ≡ reading 0 [] }
     ensures works { OnOk result (W.failures wire.new ≡ 0) }
     ensures failed { OnErr result (W.failures wire.new ≡ 1) }
 {
@@ -317,10 +261,9 @@ fn end_burst<C: Catalogue, W: Wire>(
 fn send_reply<W: Wire>(reply: Option<Reply>, unit: u8, wire: &mut W) -> Result<(), WireFault>
     requires unit { unit ≤ 15 }
     requires works { W.failures wire.old ≡ 0 }
-    ensures sent { OnOk result (W.told wire.new ≡ adds_sent (answer_bytes unit (option_to_list reply))
-        (W.told wire.old)) }
-    ensures front { OnErr result (SendsFront (answer_bytes unit (option_to_list reply)) (W.told wire.old)
-        (W.told wire.new)) }
+    ensures sent { OnOk result (Chain W.does (sending unit (option_to_list reply)) wire.old wire.new) }
+    ensures front { OnErr result (OfFront (answer_bytes unit (option_to_list reply)) (λ front.
+        W.does (sends front) wire.old wire.new)) }
     ensures works { OnOk result (W.failures wire.new ≡ 0) }
     ensures failed { OnErr result (W.failures wire.new ≡ 1) }
 {

@@ -1,11 +1,13 @@
-ghost use Rattle.std.specs.Prelude.{◌≡◌, ◌≤◌, ◌<◌, IfOk, OnOk, OnErr, Some};
+//! The questions to a port: is anything cued or playing there?
+ghost use Rattle.std.specs.Prelude.{◌≡◌, ◌≤◌, ◌<◌, ◌∷◌, [], IfOk, OnOk, OnErr, Some};
+ghost use Rattle.vdcp_frame.specs.Message.{content_of, AreOctets};
+ghost use Rattle.vdcp_drive.specs.Steps.{command_bytes};
 ghost use Rattle.vdcp_drive.specs.Vacancy.{question_command, vacancy_of, led_on, asking_after, HasAsked, IsPartlyAsked};
-ghost use Rattle.vdcp_drive.specs.Vacancy.{IsBetween, HearsBurst, BreaksBurst, Lowers};
-ghost use Rattle.vdcp_wire.specs.Wires.{IfTold, Told, nothing_told};
+ghost use Rattle.vdcp_drive.specs.Vacancy.{HasHeard, IsBetween, HearsBurst, BreaksBurst, Lowers, heard_by_then};
+ghost use Rattle.vdcp_wire.specs.Wires.{IfTold, SendsFront, Told, adds_sent, nothing_told};
 
-use crate::automation::{send_command, take_piece};
 use vdcp_auto::Heard;
-use vdcp_frame::{Reader, laws as bursts};
+use vdcp_frame::{Got, Message, Reader, laws as bursts};
 use vdcp_wire::{Came, PIECE, Wire, WireFault};
 use vdcp_words::{Command, Reply};
 
@@ -179,4 +181,40 @@ fn hear_burst<W: Wire>(unit: u8, left: &mut u32, wire: &mut W) -> Result<Burst, 
         }
     }
     Ok(Burst::Spent)
+}
+
+// Sends the bytes of a command.
+fn send_command<W: Wire>(command: &Command, unit: u8, wire: &mut W) -> Result<(), WireFault>
+    requires unit { unit ≤ 15 }
+    requires works { W.failures wire.old ≡ 0 }
+    ensures sent { OnOk result (W.told wire.new ≡ adds_sent (command_bytes unit command.now) (W.told wire.old)) }
+    ensures front { OnErr result (SendsFront (command_bytes unit command.now) (W.told wire.old) (W.told wire.new)) }
+    ensures works { OnOk result (W.failures wire.new ≡ 0) }
+    ensures failed { OnErr result (W.failures wire.new ≡ 1) }
+{
+    wire.send(command.encode(unit).as_slice())
+}
+
+// Takes bytes of a burst, and keeps what is heard first.
+fn take_piece(unit: u8, reader: &mut Reader, heard: &mut Option<Heard>, piece: &[u8])
+    ensures heard { HasHeard unit reader.old heard.old piece.now reader.new heard.new }
+    ensures fits { AreOctets piece.now }
+{
+    let mut rest = piece;
+    'piece: loop {
+        match reader.next(&mut rest) {
+            Got::Message(message) => keep_first(&message, unit, heard),
+            Got::Fault(_, _) => {}
+            Got::More => return,
+        }
+    }
+}
+
+// Keeps what is heard in a message, unless one was heard before.
+fn keep_first(message: &Message, unit: u8, heard: &mut Option<Heard>)
+    ensures { heard.new ≡ heard_by_then unit heard.old (content_of message.now ∷ []) }
+{
+    if heard.is_none() {
+        *heard = Some(Heard::of_message(message, unit));
+    }
 }

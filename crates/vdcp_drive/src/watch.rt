@@ -1,32 +1,33 @@
+//! Observers of an automation and of a port, and the pace of commands.
 use vdcp_auto::{Controller, Source};
+use vdcp_port::{Catalogue, Port};
 use vdcp_value::Item;
 
 /// Watches an automation run.
 pub trait Watch<S: Source> {
-    ghost use Rattle.std.specs.Prelude.{◌≡◌, List, Option, None};
+    ghost use Rattle.std.specs.Prelude.{⊤};
     ghost use Rattle.vdcp_auto.specs.State.{State};
-    ghost use Rattle.vdcp_drive.specs.Watching.{adds_watched};
 
-    /// The states of the controllers that it was lent, in order, if it tells them.
-    ghost watched: { Self → Option (List State) } = { λ _. None };
+    /// From one of its states to the next it is lent a controller in this state, if it tells that.
+    ghost sees: { State → Self → Self → Type 0 } = { λ _ _ _. ⊤ };
 
     /// It is lent the controller before each listen.
     fn look(&mut self, controller: &Controller<S>)
-        ensures { watched self.new ≡ adds_watched controller.now.state (watched self.old) };
+        ensures { sees controller.now.state self.old self.new };
 }
 
-/// Watches what a server puts to air.
-pub trait WatchAir {
+/// Watches a server's port.
+pub trait WatchPort<C: Catalogue> {
     ghost use Rattle.std.specs.Prelude.{◌≡◌, List, Option, None};
     ghost use Rattle.vdcp_value.specs.declared.part.Item.{Item};
-    ghost use Rattle.vdcp_drive.specs.Watching.{adds_watched};
+    ghost use Rattle.vdcp_drive.specs.Watching.{adds_aired};
 
     /// The items that it was lent, in order, if it tells them.
     ghost watched: { Self → Option (List Item) } = { λ _. None };
 
-    /// It is lent the item after each turn that put one to air.
-    fn aired(&mut self, item: &Item)
-        ensures { watched self.new ≡ adds_watched item.now (watched self.old) };
+    /// It is lent the port after each turn, with the item that the turn put to air, if it put one there.
+    fn look(&mut self, port: &Port<C>, aired: Option<Item>)
+        ensures { watched self.new ≡ adds_aired aired (watched self.old) };
 }
 
 /// Watches nothing.
@@ -37,6 +38,20 @@ impl<S: Source> Watch<S> for Unwatched {
     fn look(&mut self, _controller: &Controller<S>) {}
 }
 
-impl WatchAir for Unwatched {
-    fn aired(&mut self, _item: &Item) {}
+impl<C: Catalogue> WatchPort<C> for Unwatched {
+    fn look(&mut self, _port: &Port<C>, _aired: Option<Item>) {}
+}
+
+/// Sets the pace of an automation's commands.
+pub trait Pace<S: Source> {
+    /// It is lent the controller, and may wait, before the next command is kept and goes out.
+    fn wait(&mut self, controller: &Controller<S>);
+}
+
+/// Waits for nothing.
+#[derive(Drop)]
+pub struct Unpaced;
+
+impl<S: Source> Pace<S> for Unpaced {
+    fn wait(&mut self, _controller: &Controller<S>) {}
 }

@@ -1,13 +1,13 @@
-use Rattle.std.proofs.Common.{Bool, true, false, List, sym, subst}
+use Rattle.std.proofs.Common.{◌≡◌, ◌⊎◌, Bool, true, false, inl, inr, List, sym, subst}
 use Rattle.std.specs.Prelude.{if◌then◌else◌}
 use Rattle.vdcp_auto.specs.Course.{course, Reached, called, Tick}
 use Rattle.vdcp_auto.specs.Law.{IsLawful}
 use Rattle.vdcp_auto.specs.Plan.{Plan}
-use Rattle.vdcp_auto.specs.Turn.{ticked}
+use Rattle.vdcp_auto.specs.Turn.{start, ticked}
 use Rattle.vdcp_auto.specs.declared.exchange.Exchange.{Exchange}
 use Rattle.vdcp_auto.specs.State.{State}
 use Rattle.vdcp_drive.specs.Bursts.{is_within_burst}
-use Rattle.vdcp_drive.specs.Driven.{in_drop, in_send, in_listen, inputs_of}
+use Rattle.vdcp_drive.specs.Courses.{inputs_of, left_behind}
 use Rattle.vdcp_drive.proofs.laws.a_run_is_lawful.Goals as goal
 
 -- also where its next command was given since
@@ -25,17 +25,13 @@ returns-clause-run c plan unit told state some few h =
     some few)))
 
 pub returns-clause-broken : goal.returns-clause-broken
-returns-clause-broken c plan unit told state some few (in_drop b) =
+returns-clause-broken c plan unit told state some few h =
     let log : List Exchange = course plan (inputs_of unit told.came) in
-    subst (λ (s : State). IsLawful plan s log) (sym b.state_is)
-    (c.reached_is_lawful.ensures plan _ log (c.a_course_is_reached.ensures plan (inputs_of unit told.came) some few))
-returns-clause-broken c plan unit told state some few (in_send b) =
-    let log : List Exchange = course plan (inputs_of unit told.came) in
-    subst (λ (s : State). IsLawful plan s log) (sym b.state_is)
-    (c.reached_is_lawful.ensures plan _ log (given_since plan _ log true
-    (c.a_course_is_reached.ensures plan (inputs_of unit told.came) some few)))
-returns-clause-broken c plan unit told state some few (in_listen b) =
-    let log : List Exchange = course plan (inputs_of unit told.came) in
-    subst (λ (s : State). IsLawful plan s log) (sym b.state_is)
-    (c.reached_is_lawful.ensures plan _ log (given_since plan _ log true
-    (c.a_course_is_reached.ensures plan (inputs_of unit told.came) some few)))
+    let left : State = left_behind plan start (inputs_of unit told.came) told.came in
+    let reached : Reached plan left log = given_since plan _ log (is_within_burst told.came)
+    (c.a_course_is_reached.ensures plan (inputs_of unit told.came) some few) in
+    c.reached_is_lawful.ensures plan state log (by reached h.state_is) where
+      by : {left : State} {log : List Exchange} → Reached plan left log → (state ≡ left) ⊎ (state ≡ ticked left)
+          → Reached plan state log
+      by {left} {log} r (inl is) = subst (λ (s : State). Reached plan s log) (sym is) r
+      by {left} {log} r (inr is) = subst (λ (s : State). Reached plan s log) (sym is) (called r Tick)

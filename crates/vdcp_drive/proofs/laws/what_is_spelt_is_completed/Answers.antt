@@ -1,4 +1,5 @@
-use Rattle.vdcp_drive.proofs.Completing.{Spelt, completes_all, completed_both, held_both}
+use Rattle.vdcp_drive.specs.HearingLaws.{completed_both, held_both}
+use Rattle.vdcp_drive.proofs.Completing.{Spelt, completes_all}
 use Rattle.vdcp_drive.proofs.laws.what_is_spelt_is_completed.Goals as goal
 
 pub returns-clause-messages : goal.returns-clause-messages

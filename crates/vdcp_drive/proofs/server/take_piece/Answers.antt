@@ -1,13 +1,18 @@
 -- One call of next after another.
-use Rattle.std.proofs.Common.{ℕ, ◌++◌, List, [], take, refl, sym, ap, subst, ◌∙◌, arith}
+use Rattle.std.proofs.Common.{ℕ, ◌<◌, ◌++◌, List, [], take, refl, sym, ap, subst, ◌∙◌, arith, append-nil}
+use Rattle.std.proofs.lemmas.List.Elements.{All-drop, All-take}
+use Rattle.std.specs.Option.{option_to_list}
 use Rattle.vdcp_value.specs.declared.part.Item.{Item}
-use Rattle.vdcp_frame.specs.Message.{Content, content_of}
+use Rattle.vdcp_words.specs.declared.reply.Reply.{Reply}
+use Rattle.vdcp_frame.specs.Message.{AreOctets, Content, content_of}
 use Rattle.vdcp_frame.specs.Pieces.{ReadsOn}
 use Rattle.vdcp_frame.specs.Reader.{Answer, answer_of, message, more, wrong}
-use Rattle.vdcp_drive.specs.Serving.{HasTaken, HasBroken, last_aired}
-use Rattle.vdcp_wire.specs.Wires.{adds_sent}
-use Rattle.vdcp_drive.proofs.Below.{Alone, InOrder}
-use Rattle.vdcp_drive.proofs.Taking.{adds_nothing, broken_on, fitting, on_err_of, parts_on, read_whole, taken_none, taken_on}
+use Rattle.vdcp_port.specs.Clock.{answer_to}
+use Rattle.vdcp_drive.specs.ServeLeaves.{HasTaken, HasBroken}
+use Rattle.vdcp_drive.specs.Serving.{Service, last_aired, sending}
+use Rattle.vdcp_drive.specs.Steps.{Chain}
+use Rattle.vdcp_drive.proofs.Below.{Grows, InOrder, Read}
+use Rattle.vdcp_drive.proofs.Taking.{behind, broken_on, fitting, on_err_of, parts_on, read_whole, taken_none, taken_on}
 use Rattle.vdcp_drive.proofs.server.take_piece.Goals as goal
 
 pub piece-init : goal.piece-init
@@ -15,17 +20,27 @@ piece-init g c = (
   c.requires,
   [],
   refl,
-  taken_none c.args.port.now c.args.reader.now c.args.aired.now (g.W.Wire.told c.args.wire.now),
+  λ burst h. taken_none g.W.Wire.does (record { port = c.args.port.now; burst = burst }) c.args.reader.now
+      c.args.aired.now c.args.wire.now h,
 )
 
 pub piece-preserved-in-Continue-1 : goal.piece-preserved-in-Continue-1
 piece-preserved-in-Continue-1 g c =
     let law : InOrder = record {
+      answers = c.messages_after_messages.ensures.answers;
       sent = c.messages_after_messages.ensures.sent;
       aired = c.messages_after_messages.ensures.aired;
       next = c.messages_after_messages.ensures.next;
+      unit = c.the_unit_stays.ensures.messages;
     } in
-    let told = g.W.Wire.told in
+    let read : Read = record {
+      some = c.one_reading.ensures.some;
+      read = c.what_is_followed_is_read.ensures.read;
+      messages = c.what_is_followed_is_read.ensures.messages;
+      further = c.what_is_followed_is_read.ensures.further;
+    } in
+    let grows : Grows = record { some = c.one_reading.ensures.some; first = c.written_is_read.ensures.first } in
+    let does = g.W.Wire.does in
     let m : Content = content_of c.in-Message.message in
     let i = c.piece.invariant in
     let s = c.args in
@@ -37,26 +52,36 @@ piece-preserved-in-Continue-1 g c =
     let r : ReadsOn p.reader rest (message m) left new =
     subst (λ (a : Answer). ReadsOn p.reader rest a left new) (ap answer_of c.in-Message.is)
     c.next.follows.holds-at-none in
+    let fits : AreOctets rest = behind s.piece.now i.1 rest i.2 (fitting s.piece.now (λ j. omega (arith, c.type_inv.piece j))) in
     let answers = c.in_ok-answer-in-Message.ensures in (
       answers.works,
       i.1 ++ take r.count rest,
       parts_on s.piece.now i.1 rest left r.count i.2 r.leaves,
-      taken_on law s.port.now p.port t.port s.reader.now p.reader new s.aired.now p.aired t.aired (told s.wire.now)
-          (told p.wire) (told t.wire) i.1 rest left (message m) i.3 r answers.next
-          (answers.airs ∙ ap (λ (items : List Item). last_aired p.aired items)
-          (sym (c.one_alone.ensures.aired p.port m)))
-          (answers.sent ∙ ap (λ (b : List ℕ). adds_sent b (told p.wire)) (sym (c.one_alone.ensures.sent p.port m))),
+      λ burst h. taken_on does law read grows (record { port = s.port.now; burst = burst }) p.port t.port p.reader new
+          s.aired.now p.aired t.aired s.wire.now p.wire t.wire i.1 rest left (message m) h.octets (i.3 burst h) r
+          (All-take (λ b. b < 256) r.count rest fits) answers.next
+          (answers.airs ∙ ap (λ (items : List Item). last_aired p.aired items) (sym (c.one_alone.ensures.aired p.port m)))
+          (subst (λ (l : List Reply). Chain does (sending p.port.state.unit l) p.wire t.wire)
+          (sym (append-nil (option_to_list (answer_to p.port m)))) answers.sent),
     )
 
 pub returns-in_err-answer-in-Message-clause-broken : goal.returns-in_err-answer-in-Message-clause-broken
-returns-in_err-answer-in-Message-clause-broken g c =
+returns-in_err-answer-in-Message-clause-broken g c burst h =
     let law : InOrder = record {
+      answers = c.messages_after_messages.ensures.answers;
       sent = c.messages_after_messages.ensures.sent;
       aired = c.messages_after_messages.ensures.aired;
       next = c.messages_after_messages.ensures.next;
+      unit = c.the_unit_stays.ensures.messages;
     } in
-    let alone : Alone = record { sent = c.one_alone.ensures.sent; aired = c.one_alone.ensures.aired } in
-    let told = g.W.Wire.told in
+    let read : Read = record {
+      some = c.one_reading.ensures.some;
+      read = c.what_is_followed_is_read.ensures.read;
+      messages = c.what_is_followed_is_read.ensures.messages;
+      further = c.what_is_followed_is_read.ensures.further;
+    } in
+    let grows : Grows = record { some = c.one_reading.ensures.some; first = c.written_is_read.ensures.first } in
+    let does = g.W.Wire.does in
     let m : Content = content_of c.in-Message.message in
     let i = c.piece.invariant in
     let s = c.args in
@@ -68,12 +93,16 @@ returns-in_err-answer-in-Message-clause-broken g c =
     let r : ReadsOn p.reader rest (message m) left new =
     subst (λ (a : Answer). ReadsOn p.reader rest a left new) (ap answer_of c.in-Message.is)
     c.next.follows.holds-at-none in
+    let fits : AreOctets rest = behind s.piece.now i.1 rest i.2 (fitting s.piece.now (λ j. omega (arith, c.type_inv.piece j))) in
     let answers = c.in_err-answer-in-Message.ensures in
+    let at : Service = record { port = s.port.now; burst = burst } in
     on_err_of c.from_residual.result
-    (subst (λ (b : List ℕ). HasBroken s.port.now s.reader.now s.aired.now (told s.wire.now) b t.port t.aired
-    (told t.wire)) (sym i.2)
-    (broken_on law alone s.port.now p.port t.port s.reader.now p.reader new s.aired.now p.aired t.aired
-    (told s.wire.now) (told p.wire) (told t.wire) i.1 rest left m i.3 r answers.next answers.airs answers.front))
+    (subst (λ (b : List ℕ). HasBroken does at s.aired.now s.wire.now b t.port t.aired t.wire) (sym i.2)
+    (broken_on does law read grows at p.port t.port p.reader new s.aired.now p.aired t.aired s.wire.now p.wire t.wire i.1
+    rest left m h.octets (i.3 burst h) r (All-take (λ b. b < 256) r.count rest fits)
+    (subst AreOctets (sym r.leaves) (All-drop (λ b. b < 256) r.count rest fits)) answers.next
+    (answers.airs ∙ ap (λ (items : List Item). last_aired p.aired items) (sym (c.one_alone.ensures.aired p.port m)))
+    answers.front))
 
 pub returns-in_err-answer-in-Message-clause-fits : goal.returns-in_err-answer-in-Message-clause-fits
 returns-in_err-answer-in-Message-clause-fits g c = fitting c.args.piece.now (λ i. omega (arith, c.type_inv.piece i))
@@ -81,11 +110,19 @@ returns-in_err-answer-in-Message-clause-fits g c = fitting c.args.piece.now (λ 
 pub piece-preserved : goal.piece-preserved
 piece-preserved g c =
     let law : InOrder = record {
+      answers = c.messages_after_messages.ensures.answers;
       sent = c.messages_after_messages.ensures.sent;
       aired = c.messages_after_messages.ensures.aired;
       next = c.messages_after_messages.ensures.next;
+      unit = c.the_unit_stays.ensures.messages;
     } in
-    let told = g.W.Wire.told in
+    let read : Read = record {
+      some = c.one_reading.ensures.some;
+      read = c.what_is_followed_is_read.ensures.read;
+      messages = c.what_is_followed_is_read.ensures.messages;
+      further = c.what_is_followed_is_read.ensures.further;
+    } in
+    let grows : Grows = record { some = c.one_reading.ensures.some; first = c.written_is_read.ensures.first } in
     let fault : Answer = wrong c.in-Fault.field-0 c.in-Fault.field-1 in
     let i = c.piece.invariant in
     let s = c.args in
@@ -95,22 +132,33 @@ piece-preserved g c =
     let new = c.next.follows.lender-at-none in
     let r : ReadsOn p.reader rest fault left new =
     subst (λ (a : Answer). ReadsOn p.reader rest a left new) (ap answer_of c.in-Fault.is)
-    c.next.follows.holds-at-none in (
+    c.next.follows.holds-at-none in
+    let fits : AreOctets rest = behind s.piece.now i.1 rest i.2 (fitting s.piece.now (λ j. omega (arith, c.type_inv.piece j))) in (
       i.0,
       i.1 ++ take r.count rest,
       parts_on s.piece.now i.1 rest left r.count i.2 r.leaves,
-      taken_on law s.port.now p.port p.port s.reader.now p.reader new s.aired.now p.aired p.aired (told s.wire.now)
-          (told p.wire) (told p.wire) i.1 rest left fault i.3 r refl refl (sym (adds_nothing (told p.wire))),
+      λ burst h. taken_on g.W.Wire.does law read grows (record { port = s.port.now; burst = burst }) p.port p.port
+          p.reader new s.aired.now p.aired p.aired s.wire.now p.wire p.wire i.1 rest left fault h.octets (i.3 burst h) r
+          (All-take (λ b. b < 256) r.count rest fits) refl refl refl,
     )
 
 pub returns-in-More-clause-taken : goal.returns-in-More-clause-taken
-returns-in-More-clause-taken g c =
+returns-in-More-clause-taken g c burst h =
     let law : InOrder = record {
+      answers = c.messages_after_messages.ensures.answers;
       sent = c.messages_after_messages.ensures.sent;
       aired = c.messages_after_messages.ensures.aired;
       next = c.messages_after_messages.ensures.next;
+      unit = c.the_unit_stays.ensures.messages;
     } in
-    let told = g.W.Wire.told in
+    let read : Read = record {
+      some = c.one_reading.ensures.some;
+      read = c.what_is_followed_is_read.ensures.read;
+      messages = c.what_is_followed_is_read.ensures.messages;
+      further = c.what_is_followed_is_read.ensures.further;
+    } in
+    let grows : Grows = record { some = c.one_reading.ensures.some; first = c.written_is_read.ensures.first } in
+    let does = g.W.Wire.does in
     let i = c.piece.invariant in
     let s = c.args in
     let p = c.piece in
@@ -120,11 +168,12 @@ returns-in-More-clause-taken g c =
     let r : ReadsOn p.reader rest more left new =
     subst (λ (a : Answer). ReadsOn p.reader rest a left new) (ap answer_of c.in-More.is)
     c.next.follows.holds-at-none in
-    subst (λ (b : List ℕ). HasTaken s.port.now s.reader.now s.aired.now (told s.wire.now) b p.port new p.aired
-    (told p.wire))
+    let fits : AreOctets rest = behind s.piece.now i.1 rest i.2 (fitting s.piece.now (λ j. omega (arith, c.type_inv.piece j))) in
+    let at : Service = record { port = s.port.now; burst = burst } in
+    subst (λ (b : List ℕ). HasTaken does at s.aired.now s.wire.now b p.port new p.aired p.wire)
     (read_whole s.piece.now i.1 rest left r.count i.2 r.leaves c.in-More.ensures.shorter)
-    (taken_on law s.port.now p.port p.port s.reader.now p.reader new s.aired.now p.aired p.aired (told s.wire.now)
-    (told p.wire) (told p.wire) i.1 rest left more i.3 r refl refl (sym (adds_nothing (told p.wire))))
+    (taken_on does law read grows at p.port p.port p.reader new s.aired.now p.aired p.aired s.wire.now p.wire p.wire i.1
+    rest left more h.octets (i.3 burst h) r (All-take (λ b. b < 256) r.count rest fits) refl refl refl)
 
 pub returns-in-More-clause-fits : goal.returns-in-More-clause-fits
 returns-in-More-clause-fits g c = fitting c.args.piece.now (λ i. omega (arith, c.type_inv.piece i))

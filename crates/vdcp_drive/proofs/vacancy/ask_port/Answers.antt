@@ -1,6 +1,6 @@
 use Rattle.std.proofs.Common.{arith, ap, sym, subst, ◌∙◌}
 use Rattle.vdcp_words.specs.declared.command.Command.{Command}
-use Rattle.vdcp_drive.specs.Hearing.{command_bytes}
+use Rattle.vdcp_drive.specs.Steps.{command_bytes}
 use Rattle.vdcp_drive.specs.Vacancy.{HearsBurst}
 use Rattle.vdcp_drive.specs.declared.vacancy.Burst.{Burst}
 use Rattle.vdcp_drive.proofs.Asking.{asks_first, asked_so, partly_dropped, partly_sent, partly_heard, asks_on, asks_out}

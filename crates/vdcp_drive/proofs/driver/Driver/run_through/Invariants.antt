@@ -1,0 +1,24 @@
+use Rattle.std.proofs.Common.{◌-◌, ◌≡◌, ◌≤◌, false}
+use Rattle.vdcp_auto.specs.Plan.{plan_of}
+use Rattle.vdcp_drive.specs.Auto.{auto_of}
+use Rattle.vdcp_drive.proofs.Chains.{at}
+use Rattle.vdcp_drive.proofs.Running.{Stands}
+use Rattle.vdcp_drive.proofs.driver.Driver.run_through.Given as goal
+
+abbrev pub invariant-listens : goal.invariant-listens
+invariant-listens g l = record {
+  within : l.made ≤ l.listens;
+  works : g.W.Wire.failures l.self.wire ≡ 0;
+  controller : l.self.controller ≡ record l.fn.self.controller { state = l.self.controller.state };
+  unit : l.self.unit ≡ l.fn.self.unit;
+  stands : Stands (record {
+    does = g.W.Wire.does;
+    adds = g.K.Keep.adds;
+    loses = g.K.Keep.loses;
+    sees = g.V.Watch.sees;
+  }) g.E.Ear.fold (plan_of g.S.Source.items l.fn.self.controller) l.fn.self.unit l.made (auto_of l.fn.self)
+      (auto_of l.self) (at l.fn.self.wire l.fn.keep l.fn.watch) (at l.self.wire l.keep l.watch) false;
+}
+
+abbrev pub decreases-listens : goal.decreases-listens
+decreases-listens g l = l.listens - l.made

@@ -1,0 +1,140 @@
+-- What the calls of a driver leave, whatever it was before.
+use Rattle.std.specs.Prelude.{ℕ, ◌≡◌, ◌≤◌, Bool, true, false, List, [], ◌∷◌, ◌++◌, length, map, All, Option, None, Some, Result, Ok, Err, ◌↔◌, IfOk, IsErr, OnOk, IsSome, IsNone, IsTrue, is_some}
+use Rattle.vdcp_words.specs.declared.command.Command.{Command}
+use Rattle.vdcp_frame.specs.Message.{AreOctets}
+use Rattle.vdcp_auto.specs.Plan.{Plan, plan_of}
+use Rattle.vdcp_value.specs.declared.part.Item.{Item}
+use Rattle.vdcp_auto.specs.State.{State}
+use Rattle.vdcp_auto.specs.Turn.{given, ticked, outcome_of}
+use Rattle.vdcp_auto.specs.declared.outcome.Outcome.{Outcome}
+use Rattle.vdcp_wire.specs.Wires.{Arrival, bytes, silence, close, has_closed}
+use Rattle.vdcp_wire.specs.Acts.{Act, sends, brings, fails}
+use Rattle.vdcp_drive.specs.Auto.{Auto, Driving, IsReachedFrom, auto_of, after, ended, gives, receives}
+use Rattle.vdcp_drive.specs.Ears.{Fold, inputs, ear_after}
+use Rattle.vdcp_drive.specs.Lines.{line_of}
+use Rattle.vdcp_drive.specs.Steps.{Chain, Step, acts, keeps, misses, looks, Rules, World, Happens, command_bytes, dropping, sending, ended_notes, opening, steps_of}
+use Rattle.vdcp_drive.specs.Traces.{until_close}
+use Rattle.vdcp_drive.specs.declared.keep.Kept.{Kept}
+use Rattle.vdcp_drive.specs.declared.keep.Kept.TheVariants as row
+use Rattle.vdcp_drive.specs.declared.keep.KeptFault.{KeptFault}
+use Rattle.vdcp_drive.specs.declared.keep.KeptFault.TheVariants as fault
+use Rattle.vdcp_drive.specs.declared.line.Line.{Line}
+use Rattle.vdcp_drive.specs.declared.line.Ran.{Ran}
+use Rattle.vdcp_drive.specs.declared.line.Ran.TheVariants as ran
+
+-- The next command goes out.
+
+-- where it fails: in the drop, or in the send
+pub data HasSendBroken {W : Type 0} (does : Act → W → W → Type 0) (first : Bool) (plan : Plan) (unit : ℕ)
+    (state state' : State) (wire wire' : W) : Type 0 where
+  in_drop : (c : Command) → given plan state ≡ Some c → first ≡ true → state' ≡ state → does fails wire wire'
+      → HasSendBroken does first plan unit state state' wire wire'
+  in_send : (c : Command) (front rest : List ℕ) → given plan state ≡ Some c → state' ≡ ticked state
+      → command_bytes unit c ≡ front ++ rest → Chain does (dropping first ++ sends front ∷ []) wire wire'
+      → HasSendBroken does first plan unit state state' wire wire'
+
+abbrev pub HasSent : {W E : Type 0} → (Act → W → W → Type 0) → Bool → Plan → ℕ → State → State → W → W
+    → Result Bool E → Type 0
+HasSent does first plan unit state state' wire wire' (Ok is_sent) = (is_sent ≡ is_some (given plan state))
+    × (state' ≡ ticked state) × Chain does (sending first unit (given plan state)) wire wire'
+HasSent does first plan unit state state' wire wire' (Err e) = HasSendBroken does first plan unit state state' wire wire'
+
+-- A listen.
+
+-- its bytes are bytes
+abbrev pub AreOctetsIn : Arrival → Type 0
+AreOctetsIn (bytes piece) = AreOctets piece
+AreOctetsIn silence = Unit {0}
+AreOctetsIn close = Unit {0}
+
+-- it brought this, which was heard, and of which more holds
+pub record Hears {W E : Type 0} (does : Act → W → W → Type 0) (fold : Fold E) (plan : Plan) (unit : ℕ)
+    (also : Arrival → Type 0) (l : Line) (state : State) (ear : E) (wire : W) (state' : State) (ear' : E) (wire' : W) :
+    Type 0 where
+  pub what : Arrival
+  pub octets : AreOctetsIn what
+  pub line_is : l ≡ line_of what
+  pub brought : does (brings what) wire wire'
+  pub state_is : state' ≡ receives plan (inputs fold unit what ear) state
+  pub ear_is : ear' ≡ ear_after fold unit what ear
+  pub more : also what
+
+abbrev pub HasListened : {W E F : Type 0} → (Act → W → W → Type 0) → Fold E → Plan → ℕ → (Arrival → Type 0)
+    → State → E → W → State → E → W → Result Line F → Type 0
+HasListened does fold plan unit also state ear wire state' ear' wire' (Ok l) =
+    Hears does fold plan unit also l state ear wire state' ear' wire'
+HasListened does fold plan unit also state ear wire state' ear' wire' (Err e) = (state' ≡ state) × (ear' ≡ ear)
+    × does fails wire wire'
+
+-- what is noted of what a controller in this state heard of an arrival
+abbrev pub Notes : {E K : Type 0} → (Kept → K → K → Type 0) → Fold E → Plan → ℕ → State → E → K → K → Arrival → Type 0
+Notes adds fold plan unit state ear keep keep' what =
+    Chain adds (ended_notes (ended plan (inputs fold unit what ear) state)) keep keep'
+
+-- bytes were heard, and what they ended noted
+pub record HearsPiece {E K : Type 0} (fold : Fold E) (adds : Kept → K → K → Type 0) (plan : Plan) (unit : ℕ)
+    (piece : List ℕ) (state : State) (ear : E) (keep : K) (state' : State) (ear' : E) (keep' : K) : Type 0 where
+  pub state_is : state' ≡ receives plan (map Some (fold.hears unit piece ear)) state
+  pub ear_is : ear' ≡ fold.takes unit piece ear
+  pub noted : Chain adds (ended_notes (ended plan (map Some (fold.hears unit piece ear)) state)) keep keep'
+
+-- the command that is given couldn't be kept
+abbrev pub Misses : {K : Type 0} → (Command → K → K → Type 0) → Option Command → K → K → Type 0
+Misses loses None old new = ⊥
+Misses loses (Some c) old new = loses c old new
+
+-- A run.
+
+-- what a run of this many listens answers, by how the controller has ended, if it has, and by what came
+abbrev pub RunsTo : Ran → Option Outcome → ℕ → List Arrival → Type 0
+RunsTo ran.Ended outcome count came = IsSome outcome × (length came ≤ count)
+RunsTo ran.Closed outcome count came = IsNone outcome × IsTrue (has_closed came) × (length came ≤ count)
+RunsTo ran.Spent outcome count came = IsNone outcome × (has_closed came ≡ false) × (length came ≡ count)
+
+-- where a run ended: with what answer, what its last steps were, and what it left
+pub data Ending {E : Type 0} (fold : Fold E) (plan : Plan) (unit count : ℕ) (came : List Arrival) (a : Auto E)
+    (answer : Result Ran KeptFault) (more : List Step) (a' : Auto E) : Type 0 where
+  -- by itself
+  by_itself : (r : Ran) → answer ≡ Ok r → RunsTo r (outcome_of a.state.stage) count came → more ≡ [] → a' ≡ a
+      → Ending fold plan unit count came a answer more a'
+  -- the next command couldn't be kept, and none of it was sent
+  in_keep : (c : Command) → answer ≡ Err fault.Unkept → given plan a.state ≡ Some c → more ≡ misses c ∷ [] → a' ≡ a
+      → Ending fold plan unit count came a answer more a'
+  -- the wire failed: in the drop before the next command, in its send, or in the listen
+  in_drop : (c : Command) → answer ≡ Err fault.Device → fold.drops ≡ true → given plan a.state ≡ Some c
+      → more ≡ keeps (row.Sent c) ∷ acts fails ∷ [] → a' ≡ a → Ending fold plan unit count came a answer more a'
+  in_send : (c : Command) (front rest : List ℕ) → answer ≡ Err fault.Device → given plan a.state ≡ Some c
+      → command_bytes unit c ≡ front ++ rest
+      → more ≡ keeps (row.Sent c) ∷ map acts (dropping fold.drops ++ sends front ∷ []) → a' ≡ gives a
+      → Ending fold plan unit count came a answer more a'
+  in_listen : answer ≡ Err fault.Device → more ≡ opening fold plan unit a ++ looks (ticked a.state) ∷ acts fails ∷ []
+      → a' ≡ gives a → Ending fold plan unit count came a answer more a'
+
+-- a run of at most so many listens gave this answer
+pub record HasRun {E W K V : Type 0} (rules : Rules W K V) (fold : Fold E) (plan : Plan) (unit count : ℕ) (a a' : Auto E)
+    (world world' : World W K V) (answer : Result Ran KeptFault) : Type 0 where
+  pub came : List Arrival
+  pub octets : All AreOctetsIn came
+  pub closes_last : until_close came ≡ came
+  pub more : List Step
+  pub happened : Happens rules (steps_of fold plan unit a came ++ more) world world'
+  pub ending : Ending fold plan unit count came (after fold plan unit a came) answer more a'
+
+-- what a run of at most so many listens leaves of a driver, and of what keeps and watches, with this answer
+pub record RunLeaves {S E W K V : Type 0} (items : S → List Item) (rules : Rules W K V) (fold : Fold E)
+    (failures : W → ℕ) (listens : ℕ) (old new : Driving S E W) (keep keep' : K) (watch watch' : V)
+    (answer : Result Ran KeptFault) : Type 0 where
+  pub runs : failures old.wire ≡ 0 → HasRun rules fold (plan_of items old.controller) old.unit listens
+      (auto_of old) (auto_of new) (record { wire = old.wire; keep = keep; watch = watch })
+      (record { wire = new.wire; keep = keep'; watch = watch' }) answer
+  -- of any automation over any wire: the controller, whose plan and unit stay
+  pub reached : IsReachedFrom (plan_of items old.controller) old.controller.state new.controller.state
+  pub ended : IfOk answer (λ r. (r ≡ ran.Ended) ↔ IsSome (outcome_of new.controller.state.stage))
+  pub unsent : answer ≡ Err fault.Unkept → IsSome (given (plan_of items old.controller) new.controller.state)
+  pub controller : new.controller ≡ record old.controller { state = new.controller.state }
+  pub unit : new.unit ≡ old.unit
+  -- the wire: it fails exactly where the answer is that, and then for good
+  pub works : OnOk answer (failures new.wire ≡ 0)
+  pub unkept : answer ≡ Err fault.Unkept → failures new.wire ≡ 0
+  pub device : answer ≡ Err fault.Device → failures new.wire ≡ 1
+  pub stays : failures old.wire ≡ 1 → IsErr answer × (new ≡ old) × (keep' ≡ keep) × (watch' ≡ watch)

@@ -1,0 +1,93 @@
+-- What happens in a run, one step after another: on the wire, with what is kept, and what is looked at.
+use Rattle.std.specs.Option.{option_to_list}
+use Rattle.std.specs.Prelude.{ℕ, ◌≡◌, Bool, true, false, List, [], ◌∷◌, ◌++◌, map, Option, None, Some}
+use Rattle.vdcp_frame.specs.Message.{spelling}
+use Rattle.vdcp_words.specs.Commands.{command_message}
+use Rattle.vdcp_words.specs.declared.command.Command.{Command}
+use Rattle.vdcp_auto.specs.Plan.{Plan}
+use Rattle.vdcp_auto.specs.State.{State}
+use Rattle.vdcp_auto.specs.Turn.{given, ticked}
+use Rattle.vdcp_auto.specs.declared.exchange.Exchange.{Exchange}
+use Rattle.vdcp_auto.specs.declared.exchange.Heard.{Heard}
+use Rattle.vdcp_wire.specs.Wires.{Arrival}
+use Rattle.vdcp_wire.specs.Acts.{Act, sends, brings, drops}
+use Rattle.vdcp_drive.specs.Auto.{Auto, ended, gives, listens}
+use Rattle.vdcp_drive.specs.Ears.{Fold, inputs}
+use Rattle.vdcp_drive.specs.declared.keep.Kept.{Kept}
+use Rattle.vdcp_drive.specs.declared.keep.Kept.TheVariants as row
+
+-- one after another
+abbrev pub Chain : {A W : Type 0} → (A → W → W → Type 0) → List A → W → W → Type 0
+Chain does [] old new = new ≡ old
+Chain {A} {W} does (one ∷ more) old new = (next : W) × does one old next × Chain does more next new
+
+pub data Step : Type 0 where
+  -- the wire does this
+  acts : Act → Step
+  -- this is kept: a command is made safe, or what ended its exchange is noted
+  keeps : Kept → Step
+  -- this command can't be kept
+  misses : Command → Step
+  -- the watcher is lent the controller in this state
+  looks : State → Step
+
+-- what a driver runs on
+pub record World (W K V : Type 0) : Type 0 where
+  pub wire : W
+  pub keep : K
+  pub watch : V
+
+-- what each of these does in a step
+pub record Rules (W K V : Type 0) : Type 1 where
+  pub does : Act → W → W → Type 0
+  pub adds : Kept → K → K → Type 0
+  pub loses : Command → K → K → Type 0
+  pub sees : State → V → V → Type 0
+
+abbrev pub Does : {W K V : Type 0} → Rules W K V → Step → World W K V → World W K V → Type 0
+Does rules (acts a) old new = rules.does a old.wire new.wire × (new ≡ record old { wire = new.wire })
+Does rules (keeps r) old new = rules.adds r old.keep new.keep × (new ≡ record old { keep = new.keep })
+Does rules (misses c) old new = rules.loses c old.keep new.keep × (new ≡ record old { keep = new.keep })
+Does rules (looks s) old new = rules.sees s old.watch new.watch × (new ≡ record old { watch = new.watch })
+
+abbrev pub Happens : {W K V : Type 0} → Rules W K V → List Step → World W K V → World W K V → Type 0
+Happens rules steps old new = Chain (Does rules) steps old new
+
+-- the bytes of a command to a unit
+abbrev pub command_bytes : ℕ → Command → List ℕ
+command_bytes unit command = spelling (command_message unit command)
+
+-- how bytes go out
+abbrev pub dropping : Bool → List Act
+dropping true = drops ∷ []
+dropping false = []
+
+abbrev pub sending : Bool → ℕ → Option Command → List Act
+sending first unit None = []
+sending first unit (Some c) = dropping first ++ sends (command_bytes unit c) ∷ []
+
+-- what is kept of a command that is given, and of exchanges that ended
+abbrev pub given_notes : Option Command → List Kept
+given_notes gives = map row.Sent (option_to_list gives)
+
+abbrev pub end_of : Option Heard → Kept
+end_of None = row.Silence
+end_of (Some h) = row.Heard h
+
+abbrev pub ended_notes : List Exchange → List Kept
+ended_notes log = map (λ e. end_of e.heard) log
+
+-- the next command: it is kept before it goes out
+abbrev pub opening : {E : Type 0} → Fold E → Plan → ℕ → Auto E → List Step
+opening fold plan unit a = map keeps (given_notes (given plan a.state))
+    ++ map acts (sending fold.drops unit (given plan a.state))
+
+-- one round: the next command, a look, a listen, and the ends of the exchanges that it ended
+abbrev pub round : {E : Type 0} → Fold E → Plan → ℕ → Arrival → Auto E → List Step
+round fold plan unit what a = opening fold plan unit a ++ looks (ticked a.state) ∷ acts (brings what)
+    ∷ map keeps (ended_notes (ended plan (inputs fold unit what a.ear) (ticked a.state)))
+
+abbrev pub steps_of : {E : Type 0} → Fold E → Plan → ℕ → Auto E → List Arrival → List Step
+steps_of fold plan unit a [] = []
+steps_of fold plan unit a (what ∷ later) =
+    round fold plan unit what a ++ steps_of fold plan unit (listens fold plan unit what (gives a)) later

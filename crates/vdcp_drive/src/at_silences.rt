@@ -1,0 +1,66 @@
+//! The ear that waits for the end of a burst.
+use crate::ear::Ear;
+use crate::scanner::Scanner;
+use std::marker::Model;
+use vdcp_auto::Heard;
+
+/// Hears the first message of a burst once a silence or the close ends it, or, if there is none in it, a time-out.
+/// What waits is dropped before a command goes out.
+#[derive(Drop)]
+pub struct AtSilences {
+    scanner: Scanner,
+    heard: Option<Heard>,
+}
+
+impl Model for AtSilences {
+    ghost use Rattle.vdcp_drive.specs.Hearing.{Burst, burst_of};
+
+    ghost Value = { Burst };
+
+    ghost view = { λ e. burst_of e.scanner e.heard };
+}
+
+impl AtSilences {
+    ghost use Rattle.std.specs.Prelude.{◌≡◌, []};
+    ghost use Rattle.vdcp_drive.specs.Hearing.{begun};
+    ghost use Rattle.vdcp_drive.specs.Reading.{holds};
+
+    /// An ear that has heard nothing.
+    pub fn new() -> Self
+        ensures { result ≡ begun (holds []) }
+    {
+        AtSilences {
+            scanner: Scanner::new(),
+            heard: None,
+        }
+    }
+}
+
+impl Ear for AtSilences {
+    ghost use Rattle.vdcp_drive.specs.Hearing.{at_silences};
+    ghost use Rattle.vdcp_drive.specs.HearingLaws.{at_silences_in_pieces};
+
+    ghost fold = { at_silences };
+
+    fn drops(&self) -> bool {
+        true
+    }
+
+    fn read(&mut self, unit: u8, piece: &[u8]) -> (usize, Option<Heard>) {
+        if self.heard.is_some() {
+            return (piece.len(), None);
+        }
+        let (taken, heard) = self.scanner.read(unit, piece);
+        self.heard = heard;
+        (taken, None)
+    }
+
+    fn rest(&mut self) -> Option<Heard> {
+        let heard = self.heard;
+        self.scanner = Scanner::new();
+        self.heard = None;
+        heard
+    }
+
+    ghost pieces = { at_silences_in_pieces };
+}

@@ -1,0 +1,409 @@
+//! The automation's end: it sends commands, and hears what comes for them.
+ghost use Rattle.std.specs.Prelude.{◌≡◌, ◌≤◌, ◌<◌, ◌↔◌, ◌∷◌, [], length, take, map, true, false, if◌then◌else◌, OnErr, OnOk, IfOk, IsErr, IsSome, Some, Err, Ok, ⊤};
+ghost use Rattle.std.specs.Option.{option_to_list};
+ghost use Rattle.vdcp_frame.specs.Message.{AreOctets};
+ghost use Rattle.vdcp_auto.specs.Plan.{plan_of};
+ghost use Rattle.vdcp_auto.specs.Turn as turns;
+ghost use Rattle.vdcp_wire.specs.Wires.{IfTold, Told, has_closed};
+ghost use Rattle.vdcp_wire.specs.Acts.{fails};
+ghost use Rattle.vdcp_drive.specs.Auto.{IsReachedFrom, auto_of, ended, receives};
+ghost use Rattle.vdcp_drive.specs.Leaves.{HasListened, HasRun, HasSent, HearsPiece, Notes, RunLeaves};
+ghost use Rattle.vdcp_drive.specs.Lines.{ran_unless_ended};
+ghost use Rattle.vdcp_drive.specs.Tells.{BreaksOn, RunsOn};
+ghost use Rattle.vdcp_drive.specs.Steps.{Chain, dropping, ended_notes};
+
+use crate::ear::Ear;
+use crate::keep::{Keep, KeepFault, KeptFault, Unkept, keep_next};
+use crate::line::{DriveFault, Line, Ran};
+use crate::watch::{Pace, Unpaced, Unwatched, Watch};
+use std::marker::Model;
+use vdcp_auto::{Controller, Heard, Source};
+use vdcp_wire::{Came, PIECE, Wire, WireFault};
+
+/// The automation's end of one playout channel, over a wire, with an ear.
+///
+/// `send` sends the next command, `listen` brings in what came for it, and `run` does both in turn.
+/// `take` and `stop` are the operator's. `controller` and `wire` only look.
+#[derive(Drop)]
+pub struct Driver<S: Source, E: Ear, W: Wire> {
+    controller: Controller<S>,
+    unit: u8,
+    ear: E,
+    wire: W,
+    failed: bool,
+}
+
+impl<S: Source, E: Ear, W: Wire> Model for Driver<S, E, W> {
+    ghost use Rattle.std.specs.Prelude.{◌≡◌, ◌≤◌, if◌then◌else◌};
+    ghost use Rattle.vdcp_drive.specs.Auto.{Driving};
+
+    ghost Value = { Driving S E W };
+
+    ghost view = { λ d. record { controller = d.controller; unit = d.unit; ear = d.ear; wire = d.wire } };
+
+    ghost invariant = { λ d. (d.unit ≤ 15) × (W.failures d.wire ≡ (if d.failed then 1 else 0)) };
+}
+
+impl<S: Source, E: Ear, W: Wire> Driver<S, E, W> {
+    /// A driver of this controller with this ear, which talks to the server at this unit address, 0 to 15.
+    pub fn with_ear(controller: Controller<S>, unit: u8, ear: E, wire: W) -> Self
+        requires unit { unit ≤ 15 }
+        requires works { W.failures wire ≡ 0 }
+        ensures { result ≡ record { controller = controller; unit = unit; ear = ear; wire = wire } }
+    {
+        Driver {
+            controller,
+            unit,
+            ear,
+            wire,
+            failed: false,
+        }
+    }
+
+    /// Its controller.
+    pub fn controller(&self) -> &Controller<S>
+        ensures { result.now ≡ self.now.controller }
+    {
+        &self.controller
+    }
+
+    /// Its wire.
+    pub fn wire(&self) -> &W
+        ensures { result.now ≡ self.now.wire }
+    {
+        &self.wire
+    }
+
+    /// The operator wants the next event though the last one still plays.
+    pub fn take(&mut self)
+        ensures { self.new ≡ record self.old {
+          controller = record
+              self.old.controller { state = turns.taken self.old.controller.state };
+        } }
+    {
+        self.controller.take();
+    }
+
+    /// The operator wants to stop.
+    pub fn stop(&mut self)
+        ensures { self.new ≡ record self.old {
+          controller = record
+              self.old.controller { state = turns.stopped self.old.controller.state };
+        } }
+    {
+        self.controller.stop();
+    }
+
+    /// Sends the next command. It answers whether there was one to send: while an answer is awaited, and once the
+    /// controller has ended, there is none, and nothing changes. `Device` if the wire fails or has failed before.
+    pub fn send(&mut self) -> Result<bool, DriveFault>
+        ensures sends { W.failures self.old.wire ≡ 0 → HasSent W.does E.fold.drops
+            (plan_of S.items self.old.controller) self.old.unit
+            self.old.controller.state self.new.controller.state self.old.wire self.new.wire result }
+        ensures controller { self.new.controller ≡ record self.old.controller { state = self.new.controller.state } }
+        ensures keeps { self.new ≡ record self.old { controller = self.new.controller; wire = self.new.wire } }
+        ensures works { OnOk result (W.failures self.new.wire ≡ 0) }
+        ensures device { OnErr result (W.failures self.new.wire ≡ 1) }
+        ensures stays { W.failures self.old.wire ≡ 1 → IsErr result × (self.new ≡ self.old) }
+    {
+        if self.failed {
+            return Err(DriveFault::Device);
+        }
+        let dropping = self.ear.drops();
+        match send_next(&mut self.controller, self.unit, dropping, &mut self.wire) {
+            Ok(is_sent) => Ok(is_sent),
+            Err(WireFault) => {
+                self.failed = true;
+                Err(DriveFault::Device)
+            }
+        }
+    }
+
+    /// Listens once on the wire, and hears what came. `Device` if the wire fails or has failed before.
+    pub fn listen(&mut self) -> Result<Line, DriveFault>
+        ensures hears { W.failures self.old.wire ≡ 0 → HasListened W.does E.fold (plan_of S.items self.old.controller)
+            self.old.unit (λ _. ⊤) self.old.controller.state self.old.ear self.old.wire
+            self.new.controller.state self.new.ear self.new.wire result }
+        ensures controller { self.new.controller ≡ record self.old.controller { state = self.new.controller.state } }
+        ensures unit { self.new.unit ≡ self.old.unit }
+        ensures works { OnOk result (W.failures self.new.wire ≡ 0) }
+        ensures device { OnErr result (W.failures self.new.wire ≡ 1) }
+        ensures stays { W.failures self.old.wire ≡ 1 → IsErr result × (self.new ≡ self.old) }
+    {
+        self.listen_noting(&mut Unkept)
+    }
+
+    // As `listen`, and has what ended an exchange noted.
+    fn listen_noting<K: Keep>(&mut self, keep: &mut K) -> Result<Line, DriveFault>
+        ensures hears { W.failures self.old.wire ≡ 0 → HasListened W.does E.fold (plan_of S.items self.old.controller)
+            self.old.unit (Notes K.adds E.fold (plan_of S.items self.old.controller) self.old.unit
+            self.old.controller.state self.old.ear keep.old keep.new)
+            self.old.controller.state self.old.ear self.old.wire
+            self.new.controller.state self.new.ear self.new.wire result }
+        ensures unnoted { OnErr result (keep.new ≡ keep.old) }
+        ensures controller { self.new.controller ≡ record self.old.controller { state = self.new.controller.state } }
+        ensures unit { self.new.unit ≡ self.old.unit }
+        ensures works { OnOk result (W.failures self.new.wire ≡ 0) }
+        ensures device { OnErr result (W.failures self.new.wire ≡ 1) }
+        ensures stays { W.failures self.old.wire ≡ 1 → IsErr result × (self.new ≡ self.old) }
+    {
+        if self.failed {
+            return Err(DriveFault::Device);
+        }
+        match hear(
+            &mut self.controller,
+            self.unit,
+            &mut self.ear,
+            &mut self.wire,
+            keep,
+        ) {
+            Ok(line) => Ok(line),
+            Err(WireFault) => {
+                self.failed = true;
+                Err(DriveFault::Device)
+            }
+        }
+    }
+
+    /// As `run_with`, where nobody watches, nothing is kept and nothing waits.
+    pub(crate) fn run_on(&mut self, listens: u64) -> Result<Ran, DriveFault>
+        ensures tells { IfOk result (λ r. (t : Told) → W.told self.old.wire ≡ Some t → has_closed t.came ≡ false →
+            IfTold (W.told self.new.wire) (λ u. RunsOn E.fold (plan_of S.items self.old.controller) self.old.unit
+            listens (auto_of self.old) (auto_of self.new) r t u)) }
+        ensures breaks { OnErr result (W.failures self.old.wire ≡ 0 → (t : Told) → W.told self.old.wire ≡ Some t →
+            has_closed t.came ≡ false → IfTold (W.told self.new.wire) (λ u. BreaksOn E.fold
+            (plan_of S.items self.old.controller) self.old.unit (auto_of self.old) (auto_of self.new) t u)) }
+        ensures reached { IsReachedFrom (plan_of S.items self.old.controller) self.old.controller.state
+            self.new.controller.state }
+        ensures ended { IfOk result (λ r. (r ≡ Ran.Ended)
+            ↔ IsSome (turns.outcome_of self.new.controller.state.stage)) }
+        ensures controller { self.new.controller ≡ record self.old.controller { state = self.new.controller.state } }
+        ensures unit { self.new.unit ≡ self.old.unit }
+        ensures works { OnOk result (W.failures self.new.wire ≡ 0) }
+        ensures device { OnErr result (W.failures self.new.wire ≡ 1) }
+        ensures stays { W.failures self.old.wire ≡ 1 → IsErr result × (self.new ≡ self.old) }
+    {
+        match self.run_with(listens, &mut Unwatched, &mut Unkept, &mut Unpaced) {
+            Ok(ran) => Ok(ran),
+            Err(KeptFault::Device) => Err(DriveFault::Device),
+            Err(KeptFault::Unkept) => unreachable!(),
+        }
+    }
+
+    /// Sends commands and hears what comes until the controller has ended, the other end has closed or this many
+    /// listens were made. It sends a command only if a listen for its answer is left. Before each command `pace`
+    /// waits and `keep` keeps it; `watch` is lent the controller before each listen.
+    /// `Device` if the wire fails or has failed before. `Unkept` if a command can't be kept: none of it is sent then,
+    /// and a later run tries again.
+    pub fn run_with<V: Watch<S>, K: Keep, P: Pace<S>>(
+        &mut self,
+        listens: u64,
+        watch: &mut V,
+        keep: &mut K,
+        pace: &mut P,
+    ) -> Result<Ran, KeptFault>
+        ensures leaves { RunLeaves S.items (record { does = W.does; adds = K.adds; loses = K.loses; sees = V.sees })
+            E.fold W.failures listens self.old self.new keep.old keep.new watch.old watch.new result }
+        ensures fails { result ≡ Err KeptFault.Unkept → K.can_fail }
+    {
+        self.run_through(listens, watch, keep, pace)
+    }
+
+    // As `run_with`, clause by clause.
+    fn run_through<V: Watch<S>, K: Keep, P: Pace<S>>(
+        &mut self,
+        listens: u64,
+        watch: &mut V,
+        keep: &mut K,
+        pace: &mut P,
+    ) -> Result<Ran, KeptFault>
+        ensures runs { W.failures self.old.wire ≡ 0 → HasRun
+            (record { does = W.does; adds = K.adds; loses = K.loses; sees = V.sees }) E.fold
+            (plan_of S.items self.old.controller) self.old.unit listens (auto_of self.old) (auto_of self.new) (record { wire = self.old.wire; keep = keep.old; watch = watch.old })
+            (record { wire = self.new.wire; keep = keep.new; watch = watch.new }) result }
+        ensures controller { self.new.controller ≡ record self.old.controller { state = self.new.controller.state } }
+        ensures unit { self.new.unit ≡ self.old.unit }
+        ensures fails { result ≡ Err KeptFault.Unkept → K.can_fail }
+        ensures works { OnOk result (W.failures self.new.wire ≡ 0) }
+        ensures unsent { result ≡ Err KeptFault.Unkept → W.failures self.new.wire ≡ 0 }
+        ensures device { result ≡ Err KeptFault.Device → W.failures self.new.wire ≡ 1 }
+        ensures stays { W.failures self.old.wire ≡ 1 → IsErr result × (self.new ≡ self.old)
+            × (keep.new ≡ keep.old) × (watch.new ≡ watch.old) }
+    {
+        if self.failed {
+            return Err(KeptFault::Device);
+        }
+        let mut made = 0;
+        'listens: while made < listens {
+            pace.wait(&self.controller);
+            if let Err(KeepFault) = keep_next(&self.controller, keep) {
+                return Err(KeptFault::Unkept);
+            }
+            if let Err(DriveFault::Device) = self.send() {
+                return Err(KeptFault::Device);
+            }
+            if !self.controller().awaiting() {
+                return Ok(Ran::Ended);
+            }
+            watch.look(&self.controller);
+            let line = match self.listen_noting(keep) {
+                Ok(line) => line,
+                Err(DriveFault::Device) => return Err(KeptFault::Device),
+            };
+            made += 1;
+            if let Line::Closed = line {
+                return Ok(self.unless_ended(Ran::Closed));
+            }
+        }
+        Ok(self.unless_ended(Ran::Spent))
+    }
+
+    // That the controller has ended goes before any other answer.
+    fn unless_ended(&self, ran: Ran) -> Ran
+        ensures { result ≡ ran_unless_ended (turns.outcome_of self.now.controller.state.stage) ran }
+    {
+        match self.controller.outcome() {
+            Some(_) => Ran::Ended,
+            None => ran,
+        }
+    }
+}
+
+// Sends the next command, if there is one. Answers whether there was one.
+fn send_next<S: Source, W: Wire>(
+    controller: &mut Controller<S>,
+    unit: u8,
+    first: bool,
+    wire: &mut W,
+) -> Result<bool, WireFault>
+    requires unit { unit ≤ 15 }
+    requires works { W.failures wire.old ≡ 0 }
+    ensures sends { HasSent W.does first (plan_of S.items controller.old) unit controller.old.state
+        controller.new.state wire.old wire.new result }
+    ensures controller { controller.new ≡ record controller.old { state = controller.new.state } }
+    ensures works { OnOk result (W.failures wire.new ≡ 0) }
+    ensures failed { OnErr result (W.failures wire.new ≡ 1) }
+{
+    if !controller.is_ready() {
+        return Ok(false);
+    }
+    drop_first(first, wire)?;
+    if let Some(command) = controller.tick() {
+        wire.send(command.encode(unit).as_slice())?;
+    }
+    Ok(true)
+}
+
+// Drops what waits, if that is to be done first.
+fn drop_first<W: Wire>(first: bool, wire: &mut W) -> Result<(), WireFault>
+    requires { W.failures wire.old ≡ 0 }
+    ensures dropped { OnOk result (Chain W.does (dropping first) wire.old wire.new) }
+    ensures nothing { OnErr result ((first ≡ true) × W.does fails wire.old wire.new) }
+    ensures works { OnOk result (W.failures wire.new ≡ 0) }
+    ensures failed { OnErr result (W.failures wire.new ≡ 1) }
+{
+    if first { wire.drop_waiting() } else { Ok(()) }
+}
+
+// Listens once, hears what came, and has the end of each exchange noted.
+fn hear<S: Source, E: Ear, W: Wire, K: Keep>(
+    controller: &mut Controller<S>,
+    unit: u8,
+    ear: &mut E,
+    wire: &mut W,
+    keep: &mut K,
+) -> Result<Line, WireFault>
+    requires { W.failures wire.old ≡ 0 }
+    ensures hears { HasListened W.does E.fold (plan_of S.items controller.old) unit
+        (Notes K.adds E.fold (plan_of S.items controller.old) unit controller.old.state ear.old
+        keep.old keep.new) controller.old.state ear.old wire.old
+        controller.new.state ear.new wire.new result }
+    ensures unnoted { OnErr result (keep.new ≡ keep.old) }
+    ensures controller { controller.new ≡ record controller.old { state = controller.new.state } }
+    ensures works { OnOk result (W.failures wire.new ≡ 0) }
+    ensures failed { OnErr result (W.failures wire.new ≡ 1) }
+{
+    let mut buffer = [0; PIECE];
+    match wire.listen(&mut buffer)? {
+        Came::Bytes(n) => {
+            hear_piece(controller, unit, ear, &buffer[..n], keep);
+            Ok(Line::More)
+        }
+        Came::Silence => {
+            receive(controller, ear.rest(), keep);
+            Ok(Line::Ended)
+        }
+        Came::Closed => {
+            receive(controller, ear.rest(), keep);
+            Ok(Line::Closed)
+        }
+    }
+}
+
+// Hears each message that is heard at once in these bytes.
+fn hear_piece<S: Source, E: Ear, K: Keep>(
+    controller: &mut Controller<S>,
+    unit: u8,
+    ear: &mut E,
+    piece: &[u8],
+    keep: &mut K,
+)
+    ensures hears { HearsPiece E.fold K.adds (plan_of S.items controller.old) unit piece.now controller.old.state
+        ear.old keep.old controller.new.state ear.new keep.new }
+    ensures octets { AreOctets piece.now }
+    ensures controller { controller.new ≡ record controller.old { state = controller.new.state } }
+{
+    let mut at = 0;
+    'piece: while at < piece.len() {
+        at += hear_some(controller, unit, ear, &piece[at..], keep);
+    }
+}
+
+// Reads up to the end of one message that is heard at once, and gives how many bytes it used up.
+fn hear_some<S: Source, E: Ear, K: Keep>(
+    controller: &mut Controller<S>,
+    unit: u8,
+    ear: &mut E,
+    piece: &[u8],
+    keep: &mut K,
+) -> usize
+    ensures within { result ≤ length piece.now }
+    ensures some { 0 < length piece.now → 0 < result }
+    ensures hears { HearsPiece E.fold K.adds (plan_of S.items controller.old) unit (take result piece.now)
+        controller.old.state ear.old keep.old controller.new.state ear.new keep.new }
+    ensures controller { controller.new ≡ record controller.old { state = controller.new.state } }
+{
+    let (taken, heard) = ear.read(unit, piece);
+    receive_if(controller, heard, keep);
+    taken
+}
+
+// The controller receives what was heard, if something was.
+fn receive_if<S: Source, K: Keep>(
+    controller: &mut Controller<S>,
+    heard: Option<Heard>,
+    keep: &mut K,
+)
+    ensures state { controller.new ≡ record controller.old {
+      state = receives (plan_of S.items controller.old) (map Some (option_to_list heard)) controller.old.state;
+    } }
+    ensures noted { Chain K.adds (ended_notes (ended (plan_of S.items controller.old) (map Some (option_to_list heard))
+        controller.old.state)) keep.old keep.new }
+{
+    if let Some(heard) = heard {
+        receive(controller, Some(heard), keep);
+    }
+}
+
+// The controller receives what came, or that nothing came in time, and the exchange that this ended is noted.
+fn receive<S: Source, K: Keep>(controller: &mut Controller<S>, came: Option<Heard>, keep: &mut K)
+    ensures state { controller.new ≡ record controller.old {
+      state = receives (plan_of S.items controller.old) (came ∷ []) controller.old.state;
+    } }
+    ensures noted { Chain K.adds (ended_notes (ended (plan_of S.items controller.old) (came ∷ [])
+        controller.old.state)) keep.old keep.new }
+{
+    if let Some(exchange) = controller.receive(came) {
+        keep.note_end(exchange.heard);
+    }
+}
