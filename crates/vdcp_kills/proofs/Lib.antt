@@ -1,2 +1,0 @@
-mod Journaled
-mod Raised

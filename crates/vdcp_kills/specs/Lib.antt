@@ -1,2 +1,0 @@
--- What the law of this crate cites.
-pub mod Kills

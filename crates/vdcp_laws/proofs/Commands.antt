@@ -1,0 +1,141 @@
+-- What an automation that hears at once awaits, after a tick, an exchange's end and a time-out.
+use Rattle.std.proofs.Common.{ℕ, ◌≡◌, List, [], ◌∷◌, ◌++◌, map, Bool, false, true, refl, sym, ap, ◌∙◌, append_assoc, append-nil}
+use Rattle.std.proofs.lemmas.List.{map-append}
+use Rattle.std.specs.Option.{option_to_list, option_map, option_map_or}
+use Rattle.std.specs.Prelude.{Option, Some, None, if◌then◌else◌}
+use Rattle.vdcp_frame.specs.Message.{Content}
+use Rattle.vdcp_words.specs.declared.command.Command.{Command}
+use Rattle.vdcp_auto.specs.Course.{logged}
+use Rattle.vdcp_auto.specs.Heard.{heard_as}
+use Rattle.vdcp_auto.specs.Plan.{Plan}
+use Rattle.vdcp_auto.specs.State.{State, Stage, Ready, Awaiting, Ended}
+use Rattle.vdcp_auto.specs.Turn as turns
+use Rattle.vdcp_auto.specs.Turn.{awaited, awaited_in, given, given_in, ticked, tick_in, came_to, ended_by, ended_in, exchange_of, is_end, transition_of, unanswered_after}
+use Rattle.vdcp_auto.specs.declared.exchange.Exchange.{Exchange}
+use Rattle.vdcp_auto.specs.declared.exchange.Heard.{Heard}
+use Rattle.vdcp_auto.specs.declared.phase.Mode.{Mode}
+use Rattle.vdcp_auto.specs.declared.phase.Mode.TheVariants.{Plain, Confirming}
+use Rattle.vdcp_auto.specs.declared.phase.Transition.{Transition}
+use Rattle.vdcp_auto.specs.declared.phase.Transition.TheVariants.{Goes, Settles, Retries, Ends}
+use Rattle.vdcp_drive.specs.Reading.{completed}
+use Rattle.vdcp_laws.specs.Automation.{Prompt, commands_in, gives, hears, hears_all, listens, prompted_from, receives}
+use Rattle.vdcp_wire.specs.Wires.{Arrival, bytes, silence, close}
+
+pub prompted_push : (plan : Plan) (unit : ℕ) (p : Prompt) (came : List Arrival) (a : Arrival)
+    → prompted_from plan unit p (came ++ a ∷ []) ≡ listens plan unit a (gives (prompted_from plan unit p came))
+prompted_push plan unit p [] a = refl
+prompted_push plan unit p (b ∷ came) a = prompted_push plan unit (listens plan unit b (gives p)) came a
+
+abbrev pub command_of : Exchange → Command
+command_of e = e.command
+
+-- A tick.
+
+abbrev pub TicksTo : Plan → State → Stage → Type 0
+TicksTo plan s stage = option_to_list (awaited plan (tick_in stage s))
+    ≡ option_to_list (awaited_in plan stage) ++ option_to_list (given_in plan s.stop stage)
+
+ticks_in : (plan : Plan) (s : State) (stage : Stage) → s.stage ≡ stage → TicksTo plan s stage
+ticks_in plan s (Ready p) is = refl
+ticks_in plan s (Awaiting p) is =
+    ap (λ (t : Stage). option_to_list (awaited_in plan t)) is
+    ∙ sym (append-nil (option_to_list (awaited_in plan (Awaiting p))))
+ticks_in plan s (Ended outcome) is = ap (λ (t : Stage). option_to_list (awaited_in plan t)) is
+
+pub ticks_state : (plan : Plan) (s : State) → TicksTo plan s s.stage
+ticks_state plan s = ticks_in plan s s.stage refl
+
+-- An exchange that ends is of the command that was awaited, and then none is.
+
+awaits_none : (plan : Plan) (transition : Transition) (n : ℕ) (s : State)
+    → awaited plan (turns.state_after transition n s) ≡ None
+awaits_none plan (Goes p) n s = refl
+awaits_none plan (Settles k) n s = refl
+awaits_none plan (Retries k) n s = refl
+awaits_none plan (Ends outcome) n s = refl
+
+abbrev pub left_by : Plan → State → Option Exchange → State
+left_by plan s ends = option_map_or (λ e. ended_in plan s.stage e s) ends s
+
+pub awaits_none_in : (plan : Plan) (stage : Stage) (e : Exchange) (s : State) → awaited_in plan stage ≡ Some e.command
+    → awaited plan (ended_in plan stage e s) ≡ None
+awaits_none_in plan (Ready p) e s h = cc
+awaits_none_in plan (Awaiting p) e s h =
+    awaits_none plan (transition_of plan s p e) (unanswered_after plan.mode e s.unanswered) s
+awaits_none_in plan (Ended outcome) e s h = cc
+
+made_of : (b : Bool) (c : Command) (h : Option Heard) (e : Exchange)
+    → (if b then Some (record { command = c; heard = h }) else None) ≡ Some e
+    → Some c ≡ Some e.command
+made_of true c h e is = ap (λ (x : Option Exchange). option_map command_of x) is
+made_of false c h e is = cc
+
+pub exchange_is : (mode : Mode) (h : Option Heard) (c : Option Command) (e : Exchange) → exchange_of mode h c ≡ Some e
+    → c ≡ Some e.command
+exchange_is mode h None e is = cc
+exchange_is mode h (Some c) e is = made_of (is_end mode c h) c h e is
+
+-- After a time-out nothing is awaited.
+
+pub ends_alone : (mode : Mode) (c : Command) → is_end mode c None ≡ true
+ends_alone Plain c = refl
+ends_alone Confirming c = refl
+
+timed_out_by : (plan : Plan) (s : State) (command : Option Command) → awaited plan s ≡ command
+    → awaited plan (came_to plan None s) ≡ None
+timed_out_by plan s None is =
+    ap (λ (c : Option Command). awaited plan (left_by plan s (exchange_of plan.mode None c))) is ∙ is
+timed_out_by plan s (Some c) is =
+    ap (λ (x : Option Command). awaited plan (left_by plan s (exchange_of plan.mode None x))) is
+    ∙ ap (λ (b : Bool). awaited plan (left_by plan s (if b then Some (record { command = c; heard = None }) else None)))
+    (ends_alone plan.mode c)
+    ∙ awaits_none_in plan s.stage (record { command = c; heard = None }) s is
+
+pub timed_out : (plan : Plan) (s : State) → awaited plan (came_to plan None s) ≡ None
+timed_out plan s = timed_out_by plan s (awaited plan s) refl
+
+-- what a message leaves, whether it was awaited or not
+pub record Comes (plan : Plan) (h : Option Heard) (p q : Prompt) : Type 0 where
+  pub state_is : q.state ≡ came_to plan h p.state
+  pub log_is : q.log ≡ logged p.log (ended_by plan h p.state)
+
+pub hears_comes : (plan : Plan) (unit : ℕ) (m : Content) (p : Prompt)
+    → Comes plan (Some (heard_as unit m)) p (hears plan unit m p)
+hears_comes plan unit m p = record { state_is = refl; log_is = refl }
+
+-- What an automation has sent: a tick adds the command that it gives, and a listen nothing.
+
+pub commands_gives : (plan : Plan) (p : Prompt)
+    → commands_in plan (gives p) ≡ commands_in plan p ++ option_to_list (given plan p.state)
+commands_gives plan p = ap (λ (l : List Command). map command_of p.log ++ l) (ticks_state plan p.state)
+    ∙ sym (append_assoc (map command_of p.log) (option_to_list (awaited plan p.state))
+    (option_to_list (given plan p.state)))
+
+commands_receives : (plan : Plan) (h : Option Heard) (p : Prompt)
+    → commands_in plan (receives plan h p) ≡ commands_in plan p
+commands_receives plan h p = by (ended_by plan h p.state) refl where
+  by : (o : Option Exchange) → ended_by plan h p.state ≡ o
+      → commands_in plan (receives plan h p) ≡ commands_in plan p
+  by None is = ap (λ (x : Option Exchange). map command_of (logged p.log x)
+      ++ option_to_list (awaited plan (left_by plan p.state x))) is
+  by (Some e) is =
+      let awaits : awaited plan p.state ≡ Some e.command = exchange_is plan.mode h (awaited plan p.state) e is in
+      ap (λ (x : Option Exchange). map command_of (logged p.log x)
+      ++ option_to_list (awaited plan (left_by plan p.state x))) is
+      ∙ ap (λ (o : Option Command). map command_of (p.log ++ e ∷ []) ++ option_to_list o)
+      (awaits_none_in plan p.state.stage e p.state awaits)
+      ∙ append-nil (map command_of (p.log ++ e ∷ []))
+      ∙ map-append command_of p.log (e ∷ [])
+      ∙ ap (λ (o : Option Command). map command_of p.log ++ option_to_list o) (sym awaits)
+
+commands_hears_all : (plan : Plan) (unit : ℕ) (ms : List Content) (p : Prompt)
+    → commands_in plan (hears_all plan unit ms p) ≡ commands_in plan p
+commands_hears_all plan unit [] p = refl
+commands_hears_all plan unit (m ∷ ms) p = commands_hears_all plan unit ms (hears plan unit m p)
+    ∙ commands_receives plan (Some (heard_as unit m)) p
+
+pub commands_listens : (plan : Plan) (unit : ℕ) (a : Arrival) (p : Prompt)
+    → commands_in plan (listens plan unit a p) ≡ commands_in plan p
+commands_listens plan unit (bytes piece) p = commands_hears_all plan unit (completed p.held piece) p
+commands_listens plan unit silence p = commands_receives plan None p
+commands_listens plan unit close p = commands_receives plan None p

@@ -1,0 +1,381 @@
+-- Two ends with their bytes, computed: a run that the laws speak of; and for three premises what happens without them.
+use Rattle.std.proofs.Common.{◌≡◌, ◌<◌, ◌+◌, ℕ, zero, suc, true, List, [], ◌∷◌, ◌++◌, max, refl, ap, arith, lit<, lit≤, take}
+use Rattle.std.proofs.lemmas.List.Elements.{All-cons, All-nil}
+use Rattle.std.specs.Simd.Lanes.{all_below}
+use Rattle.std.specs.Prelude.{None, Some}
+use Rattle.vdcp_value.specs.Timecodes.{bcd_of, frames_of}
+use Rattle.vdcp_value.specs.declared.clip_id.ClipId.{ClipId}
+use Rattle.vdcp_value.specs.declared.part.Item.{Item}
+use Rattle.vdcp_value.specs.declared.rate.Rate.TheVariants.{F25}
+use Rattle.vdcp_value.specs.declared.timecode.Timecode.{Timecode}
+use Rattle.vdcp_frame.specs.Message.{Content, AreOctets, Spells, spelling}
+use Rattle.vdcp_frame.specs.Reading.{AreMessages}
+use Rattle.vdcp_words.specs.Commands.{command_message}
+use Rattle.vdcp_words.specs.declared.command.Command.{Command}
+use Rattle.vdcp_words.specs.declared.command.Command.TheVariants as command
+use Rattle.vdcp_words.specs.declared.reply.Reply.TheVariants as reply
+use Rattle.vdcp_auto.specs.declared.exchange.Heard.TheVariants as heard
+use Rattle.vdcp_journal.specs.declared.row.Note.TheVariants as note
+use Rattle.vdcp_port.specs.Clips.{whole}
+use Rattle.vdcp_port.specs.Clock.{ClockedPort, new_port}
+use Rattle.vdcp_port.specs.Port.{done, empty}
+use Rattle.vdcp_port.specs.declared.access.Access.TheVariants.{Selected}
+use Rattle.vdcp_auto.specs.Commands.{cue_for}
+use Rattle.vdcp_auto.specs.Plan.{Plan}
+use Rattle.vdcp_auto.specs.Turn.{came_to}
+use Rattle.vdcp_auto.specs.declared.phase.Mode.TheVariants.{Plain}
+use Rattle.vdcp_wire.specs.Wires.{Arrival, bytes, silence}
+use Rattle.vdcp_drive.specs.Traces.{bytes_of}
+use Rattle.vdcp_laws.specs.Automation.{Prompt, commands_in, gives, new_prompt, prompted, prompted_from}
+use Rattle.vdcp_drive.specs.Reading.{holds}
+use Rattle.vdcp_drive.specs.Served.{items_served, served}
+use Rattle.vdcp_laws.specs.OneConnection.{HasCome, begun, up, down, waited, frame}
+use Rattle.vdcp_laws.specs.TwoEnds as ends
+use Rattle.vdcp_laws.specs.TwoEnds.{AreJoined, Ends, bytes_in, new_ends, port_now}
+use Rattle.vdcp_laws.specs.Undisturbed as undisturbed
+use Rattle.vdcp_laws.specs.Undisturbed.{AreUndisturbed, exchanged}
+
+-- a clip whose ID and the checksum of its cue end as PLAY to unit 0
+abbrev clip : ClipId
+clip = record { bytes = 0x2E ∷ 0x2E ∷ 0x2E ∷ 0x2E ∷ 0x02 ∷ 0x02 ∷ 0x10 ∷ 0x01 ∷ []; eight = refl }
+
+-- a port of unit 0 and number 1, whose cues take a frame, with that clip of this length; and the playlist of one event
+
+abbrev port : Timecode → ClockedPort
+port length = new_port ((clip, length) ∷ []) 0 1 1
+
+abbrev plan : Plan
+plan = record { mode = Plain; list = whole clip ∷ []; port = 1; limit = 3 }
+
+abbrev of_command : Command → List ℕ
+of_command c = spelling (command_message 0 c)
+
+abbrev open_bytes : List ℕ
+open_bytes = of_command (command.Open 1 1)
+
+abbrev select_bytes : List ℕ
+select_bytes = of_command (command.Select 1)
+
+abbrev exists_bytes : List ℕ
+exists_bytes = of_command (command.IdRequest clip)
+
+abbrev play_bytes : List ℕ
+play_bytes = of_command command.Play
+
+abbrev status_bytes : List ℕ
+status_bytes = of_command (command.Status 1)
+
+-- the cue in two pieces
+
+abbrev cue_front : List ℕ
+cue_front = 0x02 ∷ 0x0A ∷ 0x20 ∷ 0x24 ∷ 0x2E ∷ 0x2E ∷ 0x2E ∷ 0x2E ∷ []
+
+abbrev cue_rest : List ℕ
+cue_rest = 0x02 ∷ 0x02 ∷ 0x10 ∷ 0x01 ∷ 0xEF ∷ []
+
+abbrev granted_bytes : List ℕ
+granted_bytes = 0x02 ∷ 0x03 ∷ 0x30 ∷ 0x81 ∷ 0x01 ∷ 0x4E ∷ []
+
+abbrev present_bytes : List ℕ
+present_bytes = 0x02 ∷ 0x03 ∷ 0x30 ∷ 0x96 ∷ 0x01 ∷ 0x39 ∷ []
+
+-- the cue is done, and nothing plays
+abbrev done_bytes : List ℕ
+done_bytes = 0x02 ∷ 0x04 ∷ 0x30 ∷ 0x85 ∷ 0x01 ∷ 0x80 ∷ 0xCA ∷ []
+
+the_rest_of_the_cue_is_a_play : (of_command (command.PlayCue clip) ≡ cue_front ++ cue_rest) × (play_bytes ≡ cue_rest)
+the_rest_of_the_cue_is_a_play = (refl, refl)
+
+-- the row CLIP0001,00:55:59:20,01:10:02:02 of a playlist at 25 frames a second
+
+abbrev clip_1 : ClipId
+clip_1 = record { bytes = 0x43 ∷ 0x4C ∷ 0x49 ∷ 0x50 ∷ 0x30 ∷ 0x30 ∷ 0x30 ∷ 0x31 ∷ []; eight = refl }
+
+abbrev at : Timecode
+at = record { rate = F25; label = record { hours = 0; minutes = 55; seconds = 59; frames = 20 }; lawful = refl }
+
+abbrev lasting : Timecode
+lasting = record { rate = F25; label = record { hours = 1; minutes = 10; seconds = 2; frames = 2 }; lawful = refl }
+
+the_rest_of_a_plain_row_is_one_too :
+    of_command (cue_for clip_1 (Some (record { start = bcd_of at; duration = bcd_of lasting })))
+    ≡ (0x02 ∷ 0x12 ∷ 0x20 ∷ 0x25 ∷ clip_1.bytes ++ 0x20 ∷ 0x59 ∷ 0x55 ∷ 0x00 ∷ []) ++ play_bytes
+the_rest_of_a_plain_row_is_one_too = refl
+
+-- With the premise.
+
+octets : (list : List ℕ) → all_below 256 list ≡ true → AreOctets list
+octets [] h = All-nil (λ b. b < 256)
+octets (b ∷ more) h = All-cons (λ b. b < 256) b more (grind (arith, h)) (octets more (grind (arith, h)))
+
+-- whole messages, with one more before them
+with_message : (m : Content) (first rest : List ℕ) → Spells m first → AreMessages rest → AreMessages (first ++ rest)
+with_message m first rest s (ms, t) = (m ∷ ms, (first, rest, s, t, refl))
+
+opens : Spells (command_message 0 (command.Open 1 1)) open_bytes
+opens = record {
+  fits = record {
+    kind_fits = lit< tt;
+    unit_fits = lit< tt;
+    code_fits = lit< tt;
+    rest_fits = octets (1 ∷ 1 ∷ []) refl;
+    rest_size = lit≤ tt;
+  };
+  check = 0xCD;
+  byte = lit< tt;
+  adds_up = refl;
+  spelt = refl;
+}
+
+selects : Spells (command_message 0 (command.Select 1)) select_bytes
+selects = record {
+  fits = record {
+    kind_fits = lit< tt;
+    unit_fits = lit< tt;
+    code_fits = lit< tt;
+    rest_fits = octets (1 ∷ []) refl;
+    rest_size = lit≤ tt;
+  };
+  check = 0xBD;
+  byte = lit< tt;
+  adds_up = refl;
+  spelt = refl;
+}
+
+asks : Spells (command_message 0 (command.IdRequest clip)) exists_bytes
+asks = record {
+  fits = record {
+    kind_fits = lit< tt;
+    unit_fits = lit< tt;
+    code_fits = lit< tt;
+    rest_fits = octets clip.bytes refl;
+    rest_size = lit≤ tt;
+  };
+  check = 0xED;
+  byte = lit< tt;
+  adds_up = refl;
+  spelt = refl;
+}
+
+cues : Spells (command_message 0 (command.PlayCue clip)) (cue_front ++ cue_rest)
+cues = record {
+  fits = record {
+    kind_fits = lit< tt;
+    unit_fits = lit< tt;
+    code_fits = lit< tt;
+    rest_fits = octets clip.bytes refl;
+    rest_size = lit≤ tt;
+  };
+  check = 0xEF;
+  byte = lit< tt;
+  adds_up = refl;
+  spelt = refl;
+}
+
+-- The time is up while the answer to OPEN is half here; OPEN goes out again, and its answer is heard for the SELECT,
+-- which goes out again too. Pieces are cut amid messages. Then the event is cued, a frame passes, and it airs.
+
+abbrev late_in : List Arrival
+late_in = bytes (0x02 ∷ 0x03 ∷ []) ∷ silence ∷ bytes (0x30 ∷ 0x81 ∷ 0x01 ∷ 0x4E ∷ []) ∷ bytes (granted_bytes ++ 0x04 ∷ [])
+    ∷ bytes (0x04 ∷ []) ∷ bytes present_bytes ∷ bytes (0x04 ∷ []) ∷ bytes done_bytes ∷ bytes (0x04 ∷ []) ∷ []
+
+abbrev cut_downs : List Arrival
+cut_downs = bytes open_bytes ∷ bytes (open_bytes ++ 0x02 ∷ []) ∷ bytes (0x03 ∷ 0x20 ∷ 0x22 ∷ 0x01 ∷ 0xBD ∷ [])
+    ∷ bytes select_bytes ∷ bytes exists_bytes ∷ bytes cue_front ∷ bytes cue_rest ∷ silence ∷ bytes status_bytes
+    ∷ bytes play_bytes ∷ []
+
+-- before the frame only whole messages came
+all_whole : AreMessages (open_bytes ++ open_bytes ++ select_bytes ++ select_bytes ++ exists_bytes ++ cue_front ++ cue_rest)
+all_whole =
+    let cue : List ℕ = cue_front ++ cue_rest in
+    let one : AreMessages cue = with_message (command_message 0 (command.PlayCue clip)) cue [] cues ([], refl) in
+    let two : AreMessages (exists_bytes ++ cue) =
+    with_message (command_message 0 (command.IdRequest clip)) exists_bytes cue asks one in
+    let select : Content = command_message 0 (command.Select 1) in
+    let three : AreMessages (select_bytes ++ exists_bytes ++ cue) =
+    with_message select select_bytes (exists_bytes ++ cue) selects two in
+    let four : AreMessages (select_bytes ++ select_bytes ++ exists_bytes ++ cue) =
+    with_message select select_bytes (select_bytes ++ exists_bytes ++ cue) selects three in
+    let opening : Content = command_message 0 (command.Open 1 1) in
+    with_message opening open_bytes (open_bytes ++ select_bytes ++ select_bytes ++ exists_bytes ++ cue) opens
+    (with_message opening open_bytes (select_bytes ++ select_bytes ++ exists_bytes ++ cue) opens four)
+
+abbrev ComesTo : Timecode → List Arrival → List Arrival → Type 0
+ComesTo length ups downs = HasCome plan 0 (new_ends (port length) []) ups downs
+
+a_run : (length : Timecode) → ComesTo length late_in cut_downs
+a_run length =
+    let one : ComesTo length [] (bytes open_bytes ∷ []) = down begun open_bytes [] refl refl in
+    let two : ComesTo length (bytes (0x02 ∷ 0x03 ∷ []) ∷ []) (bytes open_bytes ∷ []) =
+    up one (0x02 ∷ 0x03 ∷ []) (0x30 ∷ 0x81 ∷ 0x01 ∷ 0x4E ∷ []) refl in
+    let late : ComesTo length (bytes (0x02 ∷ 0x03 ∷ []) ∷ silence ∷ []) (bytes open_bytes ∷ []) = waited two in
+    let three : ComesTo length (take 3 late_in) (bytes open_bytes ∷ []) = up late (0x30 ∷ 0x81 ∷ 0x01 ∷ 0x4E ∷ []) [] refl in
+    let four : ComesTo length (take 3 late_in) (take 2 cut_downs) =
+    down three (open_bytes ++ 0x02 ∷ []) (0x03 ∷ 0x20 ∷ 0x22 ∷ 0x01 ∷ 0xBD ∷ []) refl refl in
+    let five : ComesTo length (take 3 late_in) (take 3 cut_downs) =
+    down four (0x03 ∷ 0x20 ∷ 0x22 ∷ 0x01 ∷ 0xBD ∷ []) [] refl refl in
+    let six : ComesTo length (take 4 late_in) (take 3 cut_downs) = up five (granted_bytes ++ 0x04 ∷ []) [] refl in
+    let seven : ComesTo length (take 4 late_in) (take 4 cut_downs) = down six select_bytes [] refl refl in
+    let eight : ComesTo length (take 5 late_in) (take 4 cut_downs) = up seven (0x04 ∷ []) [] refl in
+    let nine : ComesTo length (take 5 late_in) (take 5 cut_downs) = down eight exists_bytes [] refl refl in
+    let ten : ComesTo length (take 6 late_in) (take 5 cut_downs) = up nine present_bytes [] refl in
+    let eleven : ComesTo length (take 6 late_in) (take 6 cut_downs) = down ten cue_front cue_rest refl refl in
+    let twelve : ComesTo length (take 6 late_in) (take 7 cut_downs) = down eleven cue_rest [] refl refl in
+    let cued : ComesTo length (take 7 late_in) (take 7 cut_downs) = up twelve (0x04 ∷ []) [] refl in
+    let done : ComesTo length (take 7 late_in) (take 8 cut_downs) = frame cued refl all_whole in
+    let asked : ComesTo length (take 7 late_in) (take 9 cut_downs) = down done status_bytes [] refl refl in
+    let shown : ComesTo length (take 8 late_in) (take 9 cut_downs) = up asked done_bytes [] refl in
+    let played : ComesTo length (take 8 late_in) cut_downs = down shown play_bytes [] refl refl in
+    up played (0x04 ∷ []) [] refl
+
+it_airs : (length : Timecode) → items_served (port length) cut_downs ≡ whole clip ∷ []
+it_airs length = refl
+
+and_is_reported : (prompted plan 0 late_in).state.settled ≡ 1
+and_is_reported = refl
+
+-- what an automation has sent once this came to it, the command that it gives next included
+abbrev sent_by : Prompt → List Arrival → List ℕ
+sent_by p ups = bytes_of 0 (commands_in plan (gives (prompted_from plan 0 p ups)))
+
+-- A frame within a command.
+
+-- The cue is sent three times, since its ACK is late, and a frame falls within the second one.
+
+abbrev torn_downs : List Arrival
+torn_downs = bytes open_bytes ∷ bytes select_bytes ∷ bytes exists_bytes ∷ bytes (cue_front ++ cue_rest) ∷ silence
+    ∷ bytes cue_front ∷ silence ∷ bytes cue_rest ∷ silence ∷ bytes (cue_front ++ cue_rest) ∷ silence
+    ∷ bytes status_bytes ∷ bytes play_bytes ∷ []
+
+abbrev late_ups : List Arrival
+late_ups = bytes granted_bytes ∷ bytes (0x04 ∷ []) ∷ bytes present_bytes ∷ silence ∷ silence
+    ∷ bytes (0x04 ∷ 0x05 ∷ 0x80 ∷ 0x04 ∷ 0x04 ∷ []) ∷ bytes done_bytes ∷ bytes (0x04 ∷ []) ∷ []
+
+-- The port when the rest of the second cue has put the event to air, where the clip has n frames.
+abbrev playing_for : Timecode → ℕ → ClockedPort
+playing_for length n = record {
+  clips = (clip, length) ∷ [];
+  cue_frames = 1;
+  state = record { unit = 0; number = 1; access = Selected; cued = empty; playing = Some (whole clip) };
+  counts = record { cue = 0; playing = max 1 n };
+}
+
+abbrev then_downs : List Arrival
+then_downs = silence ∷ bytes (cue_front ++ cue_rest) ∷ silence ∷ bytes status_bytes ∷ bytes play_bytes ∷ []
+
+abbrev sent_then : Timecode → ℕ → List ℕ
+sent_then length n =
+    granted_bytes ++ 0x04 ∷ present_bytes ++ 0x04 ∷ 0x05 ∷ 0x80 ∷ 0x04 ∷ served (playing_for length n) then_downs
+
+abbrev aired_then : Timecode → ℕ → List Item
+aired_then length n = whole clip ∷ items_served (playing_for length n) then_downs
+
+-- Each end has heard all that the other one sent, but for the command that comes next. The clip has one frame.
+torn_bytes_keep_order : (length : Timecode) → frames_of length ≡ 1
+    → (sent_by new_prompt late_ups ≡ bytes_in torn_downs ++ of_command command.ActiveId)
+    × (served (port length) torn_downs ≡ bytes_in late_ups)
+torn_bytes_keep_order length one = (refl, ap (sent_then length) one)
+
+-- and the event airs twice
+torn_command_airs_twice : (length : Timecode) → frames_of length ≡ 1
+    → items_served (port length) torn_downs ≡ whole clip ∷ whole clip ∷ []
+torn_command_airs_twice length one = ap (aired_then length) one
+
+-- A command whose row isn't safe.
+
+-- The automation puts the event to air and is killed, and its journal ends with the cue: it goes on by cueing again.
+
+abbrev first_ups : List Arrival
+first_ups = bytes granted_bytes ∷ bytes (0x04 ∷ []) ∷ bytes present_bytes ∷ bytes (0x04 ∷ []) ∷ bytes done_bytes ∷ []
+
+abbrev goes_on : Prompt
+goes_on = record {
+  held = holds [];
+  state = came_to plan None (gives (prompted plan 0 (take 3 first_ups))).state;
+  log = [];
+}
+
+both_send :
+    (sent_by new_prompt first_ups
+    ≡ open_bytes ++ select_bytes ++ exists_bytes ++ (cue_front ++ cue_rest) ++ status_bytes ++ play_bytes)
+    × (sent_by goes_on (bytes (0x04 ∷ []) ∷ bytes done_bytes ∷ [])
+    ≡ (cue_front ++ cue_rest) ++ status_bytes ++ play_bytes)
+both_send = (refl, refl)
+
+-- and the event airs twice
+unsafe_command_airs_twice : (length : Timecode) → frames_of length ≡ 1
+    → items_served (port length)
+    (bytes open_bytes ∷ bytes select_bytes ∷ bytes exists_bytes ∷ bytes (cue_front ++ cue_rest) ∷ silence
+    ∷ bytes status_bytes ∷ bytes play_bytes ∷ then_downs)
+    ≡ whole clip ∷ whole clip ∷ []
+unsafe_command_airs_twice length one = ap (aired_then length) one
+
+-- What an earlier conversation has left.
+
+-- Its answers are heard as a whole run, with nothing sent to the port: an event is reported that hasn't aired.
+old_answers_report_an_event :
+    (prompted plan 0 (bytes granted_bytes ∷ bytes (0x04 ∷ []) ∷ bytes present_bytes ∷ bytes (0x04 ∷ []) ∷ bytes done_bytes
+    ∷ bytes (0x04 ∷ []) ∷ [])).state.settled
+    ≡ 1
+old_answers_report_an_event = refl
+
+-- Its PLAY airs what is cued, which isn't the list's.
+old_play_airs_another : (length : Timecode)
+    → items_served (record (port length) {
+      state = record { unit = 0; number = 1; access = Selected; cued = done (whole clip_1); playing = None };
+    })
+    (bytes play_bytes ∷ [])
+    ≡ whole clip_1 ∷ []
+old_play_airs_another length = refl
+
+-- What was asked before a run.
+
+-- OPEN was asked, and its answer is heard for the run's own, and that to the run's own OPEN for that of SELECT.
+abbrev questions : List Command
+questions = command.Open 1 1 ∷ command.Select 1 ∷ command.Status 1 ∷ []
+
+abbrev an_asked_run : (length : Timecode) → (e : Ends) × AreJoined plan (port length) questions e
+an_asked_run length = (
+  _,
+  ends.went_on
+      (ends.went_on
+      (ends.went_on (ends.went_on (ends.went_on ends.begun (ends.came_down open_bytes (select_bytes ++ status_bytes) refl refl))
+      ends.gave)
+      (ends.came_up granted_bytes [] refl))
+      ends.gave)
+      (ends.came_down (select_bytes ++ status_bytes ++ open_bytes) select_bytes refl refl),
+)
+
+its_commands : (length : Timecode) → (an_asked_run length).0.notes
+    ≡ note.Sent (command.Open 1 1) ∷ note.Heard (heard.Reply (reply.Opened true)) ∷ note.Sent (command.Select 1) ∷ []
+its_commands length = refl
+
+-- A kill.
+
+-- The automation is killed once OPEN went out, goes on over a new connection, and opens the port again.
+abbrev a_kill : (length : Timecode) → (e : Ends) × AreJoined plan (port length) [] e
+a_kill length = (
+  _,
+  ends.went_on
+      (ends.went_on
+      (ends.went_on
+      (ends.went_on (ends.went_on (ends.went_on ends.begun ends.gave) (ends.came_down open_bytes [] refl refl)) ends.resumed)
+      ends.gave)
+      (ends.came_down open_bytes [] refl refl))
+      (ends.came_up granted_bytes [] refl),
+)
+
+its_journal : (length : Timecode) → (a_kill length).0.notes
+    ≡ note.Sent (command.Open 1 1) ∷ note.Silence ∷ note.Sent (command.Open 1 1) ∷ note.Heard
+    (heard.Reply (reply.Opened true)) ∷ []
+its_journal length = refl
+
+-- Exchanges that nothing disturbs: from wherever there are as many as one likes.
+as_many_exchanges : (n : ℕ) (e : Ends) → (later : Ends) × AreUndisturbed plan 0 n e later
+as_many_exchanges zero e = (e, undisturbed.none)
+as_many_exchanges (suc n) e =
+    let cue : ℕ = (port_now e).counts.cue in
+    let playing : ℕ = (port_now e).counts.playing in
+    let frames : ℕ = 1 + cue + playing in
+    let r = as_many_exchanges n (exchanged plan 0 frames e) in
+    (r.0, undisturbed.first frames (omega arith) (omega arith) (omega arith) r.1)

@@ -1,0 +1,719 @@
+-- The two ends, step by step, and the late channel beside them: each step is some of its events.
+use Rattle.std.proofs.Common.{ℕ, ◌≡◌, ◌<◌, ◌≤◌, ◌⊎◌, inl, inr, take, drop, take-append-drop, arith, All, false, List, [], ◌∷◌, ◌++◌, length, map, refl, sym, ap, ap₂, subst, ◌∙◌, append_assoc, append-nil, lit<}
+use Rattle.std.proofs.lemmas.Bool.{cases_lt}
+use Rattle.std.proofs.lemmas.List.{map-append}
+use Rattle.std.proofs.lemmas.List.Elements.{All-append, All-cons, All-head, All-nil, All-map, All-tail, All-weaker}
+use Rattle.std.specs.Option.{option_to_list}
+use Rattle.std.specs.Prelude.{IfSome, Option, Some, None}
+use Rattle.vdcp_value.specs.declared.part.Item.{Item}
+use Rattle.vdcp_frame.specs.Burst.{messages_of, end_of}
+use Rattle.vdcp_frame.specs.Message.{Content, nak, Fits, spelling}
+use Rattle.vdcp_frame.specs.Reading.{AreMessages, burst_limit, clean}
+use Rattle.vdcp_words.specs.Commands.{command_message, IsWritableCommand}
+use Rattle.vdcp_words.specs.Replies.{reply_message, IsWritableReply}
+use Rattle.vdcp_words.specs.declared.command.Command.{Command}
+use Rattle.vdcp_words.specs.declared.reply.Reply.{Reply}
+use Rattle.vdcp_words.specs.declared.reply.Reply.TheVariants.{Nak}
+use Rattle.vdcp_port.specs.Answers.{after_messages, aired_on_way, answer_bytes, answers_to, bytes_for_all, end_answers}
+use Rattle.vdcp_port.specs.Clock.{ClockedPort, after_frame}
+use Rattle.vdcp_auto.specs.Course.{logged}
+use Rattle.vdcp_auto.specs.Plan.{Plan}
+use Rattle.vdcp_auto.specs.State.{State}
+use Rattle.vdcp_auto.specs.Turn.{awaited, came_to, ended_by, given, stopped, taken, ticked}
+use Rattle.vdcp_auto.specs.declared.exchange.Exchange.{Exchange}
+use Rattle.vdcp_journal.specs.declared.row.Note.{Note}
+use Rattle.vdcp_journal.specs.declared.row.Note.TheVariants as note
+use Rattle.vdcp_wire.specs.Wires.{Arrival, bytes, silence, close, has_closed}
+use Rattle.vdcp_drive.specs.Bursts.{open_burst}
+use Rattle.vdcp_laws.specs.Automation.{Prompt, commands_in, gives, hears_all, listens}
+use Rattle.vdcp_drive.specs.Reading.{Held, holds, completed, held_after, held_after_silence}
+use Rattle.vdcp_drive.specs.Served.{items_served}
+use Rattle.vdcp_late.specs.LateChannel.{AsksOnly, LateChannel, IsLateReached, IsQuestion, after_late_event, after_late_events, command_bursts, made_anew, new_late_channel}
+use Rattle.vdcp_late.specs.declared.event.LateEvent.{LateEvent}
+use Rattle.vdcp_late.specs.declared.event.LateEvent.TheVariants as event
+use Rattle.vdcp_laws.specs.TwoEnds.{AreJoined, begun, went_on, gave, came_up, came_down, waited, hung_up, frame, shut, took, halted, resumed, restarted}
+use Rattle.vdcp_laws.specs.TwoEnds.{CanJoin, Ends, IsLateChannel, aired_now, bytes_in, commands_sent, connected_anew, log_now, new_ends, port_now, sent_up, notes_ended, notes_given, notes_heard, wishing, with_automation, with_down, with_up}
+use Rattle.vdcp_laws.specs.Below.{Answered, Arrived, Completed, Spelt, Written}
+use Rattle.vdcp_laws.proofs.Bytes.{clean_spelt, completes, end_past, front_small, messages_past, messages_spelt, messages_within_limit, nothing_unfinished, spelt, spelt_both, whole_spelt, within_limit}
+use Rattle.vdcp_laws.proofs.Commands.{commands_gives, commands_listens, timed_out}
+use Rattle.vdcp_laws.proofs.Queues.{ComesOn, IsOnWay, bursts_to, bytes_from, bytes_to, comes_on, delivers, downs_lost, downs_of, hears_each, logged_behind, loses_down, loses_first, loses_up, refuses, messages_from, messages_to, sends_on, ups_lost, ups_of, with_queues}
+use Rattle.vdcp_laws.proofs.Serving.{bytes_close, bytes_more, bytes_silence, clips_frame, clips_stay, serves_bytes, serves_close, serves_frame}
+
+-- the laws below, and vdcp_late::laws::a_killed_automation_goes_on
+pub record Laws : Type 0 where
+  pub spelt : Spelt
+  pub completed : Completed
+  pub arrived : Arrived
+  pub answered : Answered
+  pub written : Written
+  pub goes_on : (c : LateChannel) (events : List LateEvent) → IsLateReached c → IsLateReached (after_late_events c events)
+
+-- what came up, and the automation: it holds the beginning of the first message that hasn't wholly come
+pub record IsUp (e : Ends) (queue : List (List ℕ)) : Type 0 where
+  pub said : List Content
+  pub said_is : sent_up e ≡ spelt said
+  pub held : List ℕ
+  pub on_way : IsOnWay said e.ups held queue
+  pub held_is : e.automation.held ≡ holds held
+
+-- what came down, and the server: its open burst is some whole messages and the beginning of one
+pub record IsDown (plan : Plan) (unit : ℕ) (e : Ends) (queue : List (List ℕ)) : Type 0 where
+  pub held : List ℕ
+  pub on_way : IsOnWay (messages_to unit (commands_sent plan e)) (bytes_in e.downs) held queue
+  pub whole : List Content
+  pub fits : All Fits whole
+  pub open_is : open_burst e.downs ≡ spelt whole ++ held
+
+-- the two ends, and the channel beside them
+pub record IsBeside (plan : Plan) (start_port : ClockedPort) (e : Ends) (c : LateChannel) : Type 0 where
+  pub reached : IsLateReached c
+  pub plan_is : c.plan ≡ plan
+  pub unit_is : c.port.state.unit ≡ start_port.state.unit
+  pub clips_are : c.port.clips ≡ start_port.clips
+  pub state_is : c.state ≡ e.automation.state
+  pub log_is : c.log ≡ log_now e
+  pub port_is : c.port ≡ port_now e
+  pub aired_is : c.aired ≡ aired_now e
+  pub downwards : IsDown plan start_port.state.unit e c.down
+  pub upwards : IsUp e c.up
+
+pub record AreBeside (plan : Plan) (port : ClockedPort) (e : Ends) : Type 0 where
+  pub channel : LateChannel
+  pub beside : IsBeside plan port e channel
+
+-- The automation.
+
+pub given_fits : (law : Written) (unit : ℕ) (command : Option Command) → unit ≤ 15 → IfSome command IsWritableCommand
+    → All Fits (messages_to unit (option_to_list command))
+given_fits law unit None small writable = All-nil Fits
+given_fits law unit (Some c) small writable =
+    All-cons Fits (command_message unit c) [] (law.command unit c small writable) (All-nil Fits)
+
+-- the other end is as it was, and so are the commands
+same_down : (plan : Plan) (unit : ℕ) (e e' : Ends) (queue queue' : List (List ℕ)) → IsDown plan unit e queue
+    → e'.downs ≡ e.downs → commands_sent plan e' ≡ commands_sent plan e → queue' ≡ queue
+    → IsDown plan unit e' queue'
+same_down plan unit e e' queue queue' w downs commands same = record {
+  held = w.held;
+  on_way = subst (λ (l : List Arrival). IsOnWay (messages_to unit (commands_sent plan e')) (bytes_in l) w.held queue')
+      (sym downs)
+      (subst (λ (l : List Command). IsOnWay (messages_to unit l) (bytes_in e.downs) w.held queue') (sym commands)
+      (subst (IsOnWay (messages_to unit (commands_sent plan e)) (bytes_in e.downs) w.held) (sym same) w.on_way));
+  whole = w.whole;
+  fits = w.fits;
+  open_is = ap open_burst downs ∙ w.open_is;
+}
+
+gives_next : (law : Laws) (plan : Plan) (port : ClockedPort) (asked : List Command) (e : Ends) (c : LateChannel) (notes : List Note)
+    → CanJoin plan port asked → IsBeside plan port e c
+    → IsBeside plan port (with_automation (gives e.automation) notes e) (after_late_event c event.Tick)
+gives_next law plan port asked e c notes can b =
+    let unit : ℕ = port.state.unit in
+    let p : Prompt = e.automation in
+    let before : List Command = commands_sent plan e in
+    let more : List Command = option_to_list (given plan p.state) in
+    let w = b.downwards in
+    let sends = sends_on (messages_to unit before) (messages_to unit more) (bytes_in e.downs) w.held c.down w.on_way
+    (given_fits law.written unit (given plan p.state) can.can_start.unit_fits
+    (law.written.given plan p.state can.can_start.of_bytes can.can_start.port_fits)) in
+    let all : messages_to unit before ++ messages_to unit more ≡ messages_to unit (e.asked ++ commands_in plan (gives p)) =
+    sym (map-append (command_message unit) before more)
+    ∙ ap (messages_to unit)
+    (append_assoc e.asked (commands_in plan p) more
+    ∙ ap (λ (l : List Command). e.asked ++ l) (sym (commands_gives plan p))) in
+    let queue : c.down ++ map spelling (messages_to unit more)
+    ≡ c.down ++ command_bursts c.port.state.unit (given c.plan c.state) =
+    ap (λ (l : List (List ℕ)). c.down ++ l)
+    (sym (bursts_to unit (given plan p.state))
+    ∙ ap₂ command_bursts (sym b.unit_is) (ap₂ given (sym b.plan_is) (sym b.state_is))) in
+    record {
+      reached = law.goes_on c (event.Tick ∷ []) b.reached;
+      plan_is = b.plan_is;
+      unit_is = b.unit_is;
+      clips_are = b.clips_are;
+      state_is = ap ticked b.state_is;
+      log_is = b.log_is;
+      port_is = b.port_is;
+      aired_is = b.aired_is;
+      downwards = record {
+        held = w.held;
+        on_way = subst (λ (l : List Content). IsOnWay l (bytes_in e.downs) w.held
+            (c.down ++ command_bursts c.port.state.unit (given c.plan c.state))) all
+            (subst (IsOnWay (messages_to unit before ++ messages_to unit more) (bytes_in e.downs) w.held) queue sends);
+        whole = w.whole;
+        fits = w.fits;
+        open_is = w.open_is;
+      };
+      upwards = record {
+        said = b.upwards.said;
+        said_is = b.upwards.said_is;
+        held = b.upwards.held;
+        on_way = b.upwards.on_way;
+        held_is = b.upwards.held_is;
+      };
+    }
+
+-- a time-out
+times_out : (law : Laws) (plan : Plan) (port : ClockedPort) (e : Ends) (c : LateChannel) (a : Arrival) (notes : List Note)
+    → (b : IsBeside plan port e c)
+    → (listens plan port.state.unit a e.automation).state ≡ came_to plan None e.automation.state
+    → (listens plan port.state.unit a e.automation).log
+    ≡ logged e.automation.log (ended_by plan None e.automation.state)
+    → (listens plan port.state.unit a e.automation).held ≡ holds b.upwards.held
+    → IsBeside plan port (with_automation (listens plan port.state.unit a e.automation) notes e)
+    (after_late_event c event.Timeout)
+times_out law plan port e c a notes b state log held = record {
+  reached = law.goes_on c (event.Timeout ∷ []) b.reached;
+  plan_is = b.plan_is;
+  unit_is = b.unit_is;
+  clips_are = b.clips_are;
+  state_is = ap₂ (λ (q : Plan) (s : State). came_to q None s) b.plan_is b.state_is ∙ sym state;
+  log_is = ap₂ (λ (q : Plan) (s : State). logged c.log (ended_by q None s)) b.plan_is b.state_is
+      ∙ ap (λ (l : List Exchange). logged l (ended_by plan None e.automation.state)) b.log_is
+      ∙ logged_behind e.log_before e.automation.log (ended_by plan None e.automation.state)
+      ∙ ap (λ (l : List Exchange). e.log_before ++ l) (sym log);
+  port_is = b.port_is;
+  aired_is = b.aired_is;
+  downwards = same_down plan port.state.unit e (with_automation (listens plan port.state.unit a e.automation) notes e) c.down
+      c.down b.downwards refl
+      (ap (λ (l : List Command). e.asked ++ l) (commands_listens plan port.state.unit a e.automation)) refl;
+  upwards = record {
+    said = b.upwards.said;
+    said_is = b.upwards.said_is;
+    held = b.upwards.held;
+    on_way = b.upwards.on_way;
+    held_is = held;
+  };
+}
+
+-- bytes come up: each message that they complete is delivered
+comes_up : (law : Laws) (plan : Plan) (port : ClockedPort) (e : Ends) (piece : List ℕ) (c : LateChannel)
+    (notes : List Note) → (b : IsBeside plan port e c) → (on : ComesOn b.upwards.said e.ups b.upwards.held piece c.up)
+    → IsBeside plan port (with_up piece (with_automation (listens plan port.state.unit (bytes piece) e.automation) notes e))
+    (after_late_events c (ups_of on.new))
+comes_up law plan port e piece c notes b on =
+    let unit : ℕ = port.state.unit in
+    let p : Prompt = e.automation in
+    let d : LateChannel = after_late_events c (ups_of on.new) in
+    let reads = completes law.spelt law.completed b.upwards.held piece on.new on.held_on b.upwards.on_way.unfinished
+    on.fits on.on_way.unfinished on.reads in
+    let new : completed p.held piece ≡ on.new = ap (λ (at : Held). completed at piece) b.upwards.held_is ∙ reads.0 in
+    let h = hears_each law.spelt plan unit e.log_before on.new on.rest p c on.fits b.plan_is b.unit_is b.state_is b.log_is
+    on.queue_is in
+    record {
+      reached = law.goes_on c (ups_of on.new) b.reached;
+      plan_is = h.plan_is ∙ b.plan_is;
+      unit_is = ap (λ (q : ClockedPort). q.state.unit) h.port_is ∙ b.unit_is;
+      clips_are = ap (λ (q : ClockedPort). q.clips) h.port_is ∙ b.clips_are;
+      state_is = h.state_is ∙ ap (λ (l : List Content). (hears_all plan unit l p).state) (sym new);
+      log_is = h.log_is ∙ ap (λ (l : List Content). e.log_before ++ (hears_all plan unit l p).log) (sym new);
+      port_is = h.port_is ∙ b.port_is;
+      aired_is = h.aired_is ∙ b.aired_is;
+      downwards = same_down plan unit e (with_up piece (with_automation (listens plan unit (bytes piece) p) notes e)) c.down
+          d.down b.downwards refl
+          (ap (λ (l : List Command). e.asked ++ l) (commands_listens plan unit (bytes piece) p)) h.down_is;
+      upwards = record {
+        said = b.upwards.said;
+        said_is = b.upwards.said_is;
+        held = on.held_on;
+        on_way = subst (IsOnWay b.upwards.said (e.ups ++ piece) on.held_on) (sym h.up_is) on.on_way;
+        held_is = ap (λ (at : Held). held_after at piece) b.upwards.held_is ∙ reads.1;
+      };
+    }
+
+-- a wish of the operator, which changes neither what is awaited nor what is held
+wishes : (law : Laws) (plan : Plan) (port : ClockedPort) (e : Ends) (c : LateChannel) (wish : LateEvent)
+    (state : State) (notes : List Note) → IsBeside plan port e c
+    → after_late_event c wish ≡ record c { state = (after_late_event c wish).state }
+    → (after_late_event c wish).state ≡ state → awaited plan state ≡ awaited plan e.automation.state
+    → IsBeside plan port (with_automation (wishing state e.automation) notes e) (after_late_event c wish)
+wishes law plan port e c wish state notes b same is awaits =
+    subst (IsBeside plan port (with_automation (wishing state e.automation) notes e)) (sym same) (record {
+      reached = subst IsLateReached same (law.goes_on c (wish ∷ []) b.reached);
+      plan_is = b.plan_is;
+      unit_is = b.unit_is;
+      clips_are = b.clips_are;
+      state_is = is;
+      log_is = b.log_is;
+      port_is = b.port_is;
+      aired_is = b.aired_is;
+      downwards = same_down plan port.state.unit e (with_automation (wishing state e.automation) notes e) c.down c.down b.downwards refl
+          (ap (λ (x : Option Command). e.asked
+          ++ (map (λ (x : Exchange). x.command) e.automation.log ++ option_to_list x)) awaits) refl;
+      upwards = record {
+        said = b.upwards.said;
+        said_is = b.upwards.said_is;
+        held = b.upwards.held;
+        on_way = b.upwards.on_way;
+        held_is = b.upwards.held_is;
+      };
+    })
+
+-- The server.
+
+pub answers_fit : (written : Written) (answered : Answered) (unit : ℕ) (p : ClockedPort) (ms : List Content) → unit ≤ 15
+    → All Fits (messages_from unit (answers_to p ms))
+answers_fit written answered unit p ms small =
+    All-map Fits (reply_message unit) (answers_to p ms)
+    (All-weaker IsWritableReply (λ r. Fits (reply_message unit r)) (λ r w. written.reply unit r small w)
+    (answers_to p ms)
+    (subst (All IsWritableReply) (append-nil (answers_to p ms)) (answered.read_back p ms clean)))
+
+-- Bytes come down: the commands that they complete are delivered, as far as the server reads the burst, and the others
+-- are lost.
+read_and_lost : (law : Laws) (plan : Plan) (port : ClockedPort) (asked : List Command) (e : Ends) (piece : List ℕ) (c : LateChannel)
+    → CanJoin plan port asked → (b : IsBeside plan port e c) → has_closed e.downs ≡ false
+    → (ms new past : List Content) (held : List ℕ) (rest : List (List ℕ))
+    → messages_of (open_burst e.downs) ≡ ms → messages_of (open_burst e.downs ++ piece) ≡ ms ++ new
+    → All Fits new → All Fits past → b.downwards.held ++ piece ≡ spelt (new ++ past) ++ held
+    → c.down ≡ map spelling new ++ (map spelling past ++ rest)
+    → IsOnWay (messages_to port.state.unit (commands_sent plan e)) (bytes_in e.downs ++ piece) held rest
+    → AreBeside plan port (with_down (bytes piece) e)
+read_and_lost law plan port asked e piece c can b no_close ms new past held rest before after fits fits_past reads queue on_way =
+    let unit : ℕ = port.state.unit in
+    let downs : List Arrival = e.downs in
+    let sent : List Content = messages_to unit (commands_sent plan e) in
+    let w = b.downwards in
+    let u = b.upwards in
+    let d : LateChannel = after_late_events c (downs_of new) in
+    let r = delivers law.answered unit new (map spelling past ++ rest) c fits b.unit_is queue in
+    let loses : after_late_events d (downs_lost (map spelling past)) ≡ with_queues d rest d.up =
+    ap (λ (q : List (List ℕ)). after_late_events (with_queues d q d.up) (downs_lost (map spelling past))) r.down_is
+    ∙ loses_first (map spelling past) rest d.up d in
+    let answers : List Content = messages_from unit (answers_to c.port new) in
+    let s = serves_bytes law.answered law.arrived e.port downs piece ms new no_close before after in
+    let opens : open_burst (downs ++ bytes piece ∷ []) ≡ open_burst downs ++ piece = (law.arrived.bytes downs piece no_close).1 in
+    record {
+      channel = with_queues d rest d.up;
+      beside = record {
+        reached = subst IsLateReached loses
+            (law.goes_on d (downs_lost (map spelling past)) (law.goes_on c (downs_of new) b.reached));
+        plan_is = r.plan_is ∙ b.plan_is;
+        unit_is = ap (λ (p : ClockedPort). p.state.unit) r.port_is ∙ law.answered.unit_messages c.port new ∙ b.unit_is;
+        clips_are = ap (λ (p : ClockedPort). p.clips) r.port_is ∙ clips_stay c.port new ∙ b.clips_are;
+        state_is = r.state_is ∙ b.state_is;
+        log_is = r.log_is ∙ b.log_is;
+        port_is = r.port_is ∙ ap (λ (p : ClockedPort). after_messages p new) b.port_is ∙ sym s.left;
+        aired_is = r.aired_is
+            ∙ ap₂ (λ (l : List Item) (p : ClockedPort). l ++ aired_on_way p new) b.aired_is b.port_is
+            ∙ append_assoc e.aired_before (items_served e.port downs) (aired_on_way (port_now e) new)
+            ∙ ap (λ (l : List Item). e.aired_before ++ l) (sym s.aired);
+        downwards = record {
+          held = held;
+          on_way = subst (λ (l : List ℕ). IsOnWay sent l held rest) (sym (bytes_more downs piece)) on_way;
+          whole = w.whole ++ (new ++ past);
+          fits = All-append Fits w.whole (new ++ past) w.fits (All-append Fits new past fits fits_past);
+          open_is = opens
+              ∙ ap (λ (l : List ℕ). l ++ piece) w.open_is
+              ∙ append_assoc (spelt w.whole) w.held piece
+              ∙ ap (λ (l : List ℕ). spelt w.whole ++ l) reads
+              ∙ sym (append_assoc (spelt w.whole) (spelt (new ++ past)) held)
+              ∙ ap (λ (l : List ℕ). l ++ held) (sym (spelt_both w.whole (new ++ past)));
+        };
+        upwards = record {
+          said = u.said ++ answers;
+          said_is = s.sent
+              ∙ ap₂ (λ (l m : List ℕ). l ++ m) u.said_is
+              (ap (λ (p : ClockedPort). bytes_for_all p new) (sym b.port_is)
+              ∙ ap (λ (n : ℕ). answer_bytes n (answers_to c.port new)) b.unit_is
+              ∙ bytes_from unit (answers_to c.port new))
+              ∙ sym (spelt_both u.said answers);
+          held = u.held;
+          on_way = subst (IsOnWay (u.said ++ answers) e.ups u.held) (sym r.up_is)
+              (sends_on u.said answers e.ups u.held c.up u.on_way
+              (answers_fit law.written law.answered unit c.port new can.can_start.unit_fits));
+          held_is = u.held_is;
+        };
+      };
+    }
+
+-- a piece, of which the first part stands within the limit, and nothing is read of the second one
+comes_in_two : (law : Laws) (plan : Plan) (port : ClockedPort) (asked : List Command) (e : Ends) (front back : List ℕ) (c : LateChannel)
+    → CanJoin plan port asked → (b : IsBeside plan port e c) → has_closed e.downs ≡ false → (rest : List ℕ)
+    → spelt (messages_to port.state.unit (commands_sent plan e)) ≡ bytes_in e.downs ++ (front ++ (back ++ rest))
+    → length (open_burst e.downs) ≤ burst_limit → length (open_burst e.downs ++ front) ≤ burst_limit
+    → messages_of (open_burst e.downs ++ (front ++ back)) ≡ messages_of (open_burst e.downs ++ front)
+    → AreBeside plan port (with_down (bytes (front ++ back)) e)
+comes_in_two law plan port asked e front back c can b no_close rest is small small' same =
+    let sent : List Content = messages_to port.state.unit (commands_sent plan e) in
+    let came : List ℕ = bytes_in e.downs in
+    let w = b.downwards in
+    let one = comes_on law.spelt sent came w.held c.down w.on_way front (back ++ rest) is in
+    let two = comes_on law.spelt sent (came ++ front) one.held_on one.rest one.on_way back rest
+    (is ∙ sym (append_assoc came front (back ++ rest))) in
+    let parts : open_burst e.downs ++ front ≡ spelt (w.whole ++ one.new) ++ one.held_on =
+    ap (λ (l : List ℕ). l ++ front) w.open_is
+    ∙ append_assoc (spelt w.whole) w.held front
+    ∙ ap (λ (l : List ℕ). spelt w.whole ++ l) one.reads
+    ∙ sym (append_assoc (spelt w.whole) (spelt one.new) one.held_on)
+    ∙ ap (λ (l : List ℕ). l ++ one.held_on) (sym (spelt_both w.whole one.new)) in
+    let before : messages_of (open_burst e.downs) ≡ w.whole =
+    ap messages_of w.open_is ∙ messages_spelt law.spelt w.whole w.held w.fits w.on_way.unfinished
+    (subst (λ (l : List ℕ). length l ≤ burst_limit) w.open_is small) in
+    let after : messages_of (open_burst e.downs ++ (front ++ back)) ≡ w.whole ++ one.new =
+    same ∙ ap messages_of parts ∙ messages_spelt law.spelt (w.whole ++ one.new) one.held_on
+    (All-append Fits w.whole one.new w.fits one.fits) one.on_way.unfinished
+    (subst (λ (l : List ℕ). length l ≤ burst_limit) parts small') in
+    let reads : w.held ++ (front ++ back) ≡ spelt (one.new ++ two.new) ++ two.held_on =
+    sym (append_assoc w.held front back)
+    ∙ ap (λ (l : List ℕ). l ++ back) one.reads
+    ∙ append_assoc (spelt one.new) one.held_on back
+    ∙ ap (λ (l : List ℕ). spelt one.new ++ l) two.reads
+    ∙ sym (append_assoc (spelt one.new) (spelt two.new) two.held_on)
+    ∙ ap (λ (l : List ℕ). l ++ two.held_on) (sym (spelt_both one.new two.new)) in
+    read_and_lost law plan port asked e (front ++ back) c can b no_close w.whole one.new two.new two.held_on two.rest before after
+    one.fits two.fits reads (one.queue_is ∙ ap (λ (q : List (List ℕ)). map spelling one.new ++ q) two.queue_is)
+    (subst (λ (l : List ℕ). IsOnWay sent l two.held_on two.rest) (append_assoc came front back) two.on_way)
+
+comes_down : (law : Laws) (plan : Plan) (port : ClockedPort) (asked : List Command) (e : Ends) (piece : List ℕ) (c : LateChannel)
+    → CanJoin plan port asked → IsBeside plan port e c → has_closed e.downs ≡ false → (rest : List ℕ)
+    → spelt (messages_to port.state.unit (commands_sent plan e)) ≡ bytes_in e.downs ++ (piece ++ rest)
+    → (burst_limit < length (open_burst e.downs)) ⊎ (length (open_burst e.downs) ≤ burst_limit)
+    → AreBeside plan port (with_down (bytes piece) e)
+comes_down law plan port asked e piece c can b no_close rest is (inl past) =
+    let sent : List Content = messages_to port.state.unit (commands_sent plan e) in
+    let w = b.downwards in
+    let on = comes_on law.spelt sent (bytes_in e.downs) w.held c.down w.on_way piece rest is in
+    let ms : List Content = messages_of (open_burst e.downs) in
+    read_and_lost law plan port asked e piece c can b no_close ms [] on.new on.held_on on.rest refl
+    (messages_past (open_burst e.downs) piece (omega (arith, past)) ∙ sym (append-nil ms)) (All-nil Fits) on.fits on.reads
+    on.queue_is on.on_way
+comes_down law plan port asked e piece c can b no_close rest is (inr small) =
+    let k : ℕ = within_limit (open_burst e.downs) in
+    let both : take k piece ++ drop k piece ≡ piece = take-append-drop k piece in
+    subst (λ (l : List ℕ). AreBeside plan port (with_down (bytes l) e)) both
+    (comes_in_two law plan port asked e (take k piece) (drop k piece) c can b no_close rest
+    (is ∙ ap (λ (l : List ℕ). bytes_in e.downs ++ (l ++ rest)) (sym both)
+    ∙ ap (λ (l : List ℕ). bytes_in e.downs ++ l) (append_assoc (take k piece) (drop k piece) rest))
+    small (front_small (open_burst e.downs) piece small)
+    (ap (λ (l : List ℕ). messages_of (open_burst e.downs ++ l)) both
+    ∙ messages_within_limit (open_burst e.downs) piece small))
+
+-- A frame passes, and the end of the burst is answered: not at all, or by one NAK, which isn't an answer.
+ends_burst : (law : Laws) (plan : Plan) (port : ClockedPort) (e : Ends) (c : LateChannel) (answers : List Reply)
+    → (b : IsBeside plan port e c) → has_closed e.downs ≡ false → b.downwards.held ≡ []
+    → end_answers (end_of (open_burst e.downs)) ≡ answers → All Fits (messages_from port.state.unit answers)
+    → IsLateReached (with_queues c c.down (c.up ++ map spelling (messages_from port.state.unit answers)))
+    → AreBeside plan port (with_down silence e)
+ends_burst law plan port e c answers b no_close none ends fits reached =
+    let unit : ℕ = port.state.unit in
+    let sent : List Content = messages_to unit (commands_sent plan e) in
+    let more : List Content = messages_from unit answers in
+    let answering : LateChannel = with_queues c c.down (c.up ++ map spelling more) in
+    let w = b.downwards in
+    let u = b.upwards in
+    let s = serves_frame law.answered law.arrived e.port e.downs answers no_close ends in
+    let opens : open_burst (e.downs ++ silence ∷ []) ≡ [] = (law.arrived.silence e.downs no_close).1 in
+    record {
+      channel = after_late_event answering event.Frame;
+      beside = record {
+        reached = law.goes_on answering (event.Frame ∷ []) reached;
+        plan_is = b.plan_is;
+        unit_is = law.answered.unit_frame c.port ∙ b.unit_is;
+        clips_are = clips_frame c.port ∙ b.clips_are;
+        state_is = b.state_is;
+        log_is = b.log_is;
+        port_is = ap after_frame b.port_is ∙ sym s.left;
+        aired_is = b.aired_is ∙ ap (λ (l : List Item). e.aired_before ++ l) (sym s.aired);
+        downwards = record {
+          held = w.held;
+          on_way = subst (λ (l : List ℕ). IsOnWay sent l w.held c.down) (sym (bytes_silence e.downs)) w.on_way;
+          whole = [];
+          fits = All-nil Fits;
+          open_is = opens ∙ sym none;
+        };
+        upwards = record {
+          said = u.said ++ more;
+          said_is = s.sent
+              ∙ ap₂ (λ (l m : List ℕ). l ++ m) u.said_is
+              (ap (λ (p : ClockedPort). answer_bytes p.state.unit answers) (sym b.port_is)
+              ∙ ap (λ (n : ℕ). answer_bytes n answers) b.unit_is
+              ∙ bytes_from unit answers)
+              ∙ sym (spelt_both u.said more);
+          held = u.held;
+          on_way = sends_on u.said more e.ups u.held c.up u.on_way fits;
+          held_is = u.held_is;
+        };
+      };
+    }
+
+passes : (law : Laws) (plan : Plan) (port : ClockedPort) (e : Ends) (c : LateChannel) → IsBeside plan port e c
+    → has_closed e.downs ≡ false → AreMessages (open_burst e.downs)
+    → (burst_limit < length (open_burst e.downs)) ⊎ (length (open_burst e.downs) ≤ burst_limit)
+    → AreBeside plan port (with_down silence e)
+passes law plan port e c b no_close all (inl past) =
+    let w = b.downwards in
+    ends_burst law plan port e c (Nak 0x04 ∷ []) b no_close
+    (whole_spelt law.spelt law.completed w.whole w.held w.fits w.on_way.unfinished (subst AreMessages w.open_is all))
+    (end_past (open_burst e.downs) past) (All-cons Fits (nak 0x04) [] (lit< tt) (All-nil Fits))
+    (subst IsLateReached (refuses c) (law.goes_on c (event.JunkUp (length c.up) (0x05 ∷ 0x04 ∷ []) ∷ []) b.reached))
+passes law plan port e c b no_close all (inr small) =
+    let w = b.downwards in
+    let none : w.held ≡ [] =
+    whole_spelt law.spelt law.completed w.whole w.held w.fits w.on_way.unfinished (subst AreMessages w.open_is all) in
+    let parts : open_burst e.downs ≡ spelt w.whole ++ [] = w.open_is ∙ ap (λ (l : List ℕ). spelt w.whole ++ l) none in
+    ends_burst law plan port e c [] b no_close none
+    (ap (λ (l : List ℕ). end_answers (end_of l)) parts
+    ∙ ap end_answers (clean_spelt law.spelt w.whole w.fits (subst (λ (l : List ℕ). length l ≤ burst_limit) parts small)))
+    (All-nil Fits) (subst IsLateReached (ap (with_queues c c.down) (sym (append-nil c.up))) b.reached)
+
+-- the server's line is closed
+shuts : (law : Laws) (plan : Plan) (port : ClockedPort) (e : Ends) (c : LateChannel) → IsBeside plan port e c
+    → IsBeside plan port (with_down close e) c
+shuts law plan port e c b =
+    let sent : List Content = messages_to port.state.unit (commands_sent plan e) in
+    let w = b.downwards in
+    let u = b.upwards in
+    let s = serves_close law.arrived e.port e.downs in
+    let opens : open_burst (e.downs ++ close ∷ []) ≡ open_burst e.downs = (law.arrived.close e.downs).1 in
+    record {
+      reached = b.reached;
+      plan_is = b.plan_is;
+      unit_is = b.unit_is;
+      clips_are = b.clips_are;
+      state_is = b.state_is;
+      log_is = b.log_is;
+      port_is = b.port_is ∙ sym s.left;
+      aired_is = b.aired_is ∙ ap (λ (l : List Item). e.aired_before ++ l) (sym s.aired);
+      downwards = record {
+        held = w.held;
+        on_way = subst (λ (l : List ℕ). IsOnWay sent l w.held c.down) (sym (bytes_close e.downs)) w.on_way;
+        whole = w.whole;
+        fits = w.fits;
+        open_is = opens ∙ w.open_is;
+      };
+      upwards = record {
+        said = u.said;
+        said_is = s.sent ∙ u.said_is;
+        held = u.held;
+        on_way = u.on_way;
+        held_is = u.held_is;
+      };
+    }
+
+-- Connections.
+
+nothing_on_way : (law : Spelt) → IsOnWay [] [] [] []
+nothing_on_way law = record {
+  fits = All-nil Fits;
+  done = [];
+  left = [];
+  all_is = refl;
+  came_is = refl;
+  unfinished = nothing_unfinished law;
+  queue_is = refl;
+}
+
+-- nothing is on its way, and the automation awaits nothing
+nothing_down : (law : Spelt) (plan : Plan) (unit : ℕ) (e : Ends) → e.downs ≡ [] → commands_sent plan e ≡ []
+    → IsDown plan unit e []
+nothing_down law plan unit e none no_commands = record {
+  held = [];
+  on_way = subst (λ (l : List Arrival). IsOnWay (messages_to unit (commands_sent plan e)) (bytes_in l) [] [])
+      (sym none) (subst (λ (l : List Command). IsOnWay (messages_to unit l) [] [] []) (sym no_commands)
+      (nothing_on_way law));
+  whole = [];
+  fits = All-nil Fits;
+  open_is = ap open_burst none;
+}
+
+-- what is asked can be written, and is all that may be on its way at the start
+pub record AreAsked (plan : Plan) (unit : ℕ) (asked : List Command) : Type 0 where
+  pub fits : All Fits (messages_to unit asked)
+  pub only : All (AsksOnly plan unit) (map spelling (messages_to unit asked))
+
+writable : (port : ℕ) (c : Command) → port < 256 → IsQuestion port c → IsWritableCommand c
+writable port c small (inl is) = subst IsWritableCommand (sym is) (small, lit< tt)
+writable port c small (inr (inl is)) = subst IsWritableCommand (sym is) small
+writable port c small (inr (inr is)) = subst IsWritableCommand (sym is) (lit< tt)
+
+are_asked : (law : Laws) (plan : Plan) (unit : ℕ) (asked : List Command) → unit ≤ 15 → plan.port < 256
+    → All (IsQuestion plan.port) asked → AreAsked plan unit asked
+are_asked law plan unit [] small port only =
+    record { fits = All-nil Fits; only = All-nil (AsksOnly plan unit) }
+are_asked law plan unit (c ∷ cs) small port only =
+    let rest = are_asked law plan unit cs small port (All-tail (IsQuestion plan.port) c cs only) in
+    let q = All-head (IsQuestion plan.port) c cs only in
+    let m : Content = command_message unit c in
+    let fit : Fits m = law.written.command unit c small (writable plan.port c port q) in
+    record {
+      fits = All-cons Fits m (messages_to unit cs) fit rest.fits;
+      only = All-cons (AsksOnly plan unit) (spelling m) (map spelling (messages_to unit cs))
+          (inr (c, q, law.spelt.alone m fit)) rest.only;
+    }
+
+begins : (law : Laws) (plan : Plan) (port : ClockedPort) (asked : List Command) → CanJoin plan port asked
+    → AreBeside plan port (new_ends port asked)
+begins law plan port asked can =
+    let unit : ℕ = port.state.unit in
+    let new : Ends = new_ends port asked in
+    let sent : List Command = commands_sent plan new in
+    let q = are_asked law plan unit sent can.can_start.unit_fits can.can_start.port_fits
+    (subst (All (IsQuestion plan.port)) (sym (append-nil asked)) can.only_asks) in
+    record {
+      channel = new_late_channel plan port (map spelling (messages_to unit sent)) [];
+      beside = record {
+        reached = record {
+          plan = plan;
+          port = port;
+          down = map spelling (messages_to unit sent);
+          up = [];
+          events = [];
+          can_start = record {
+            some = can.can_start.some;
+            few = can.can_start.few;
+            unit_fits = can.can_start.unit_fits;
+            port_fits = can.can_start.port_fits;
+            of_bytes = can.can_start.of_bytes;
+            nothing_cued = can.can_start.nothing_cued;
+            asked = q.only;
+            answered = can.can_start.answered;
+          };
+          led = refl;
+        };
+        plan_is = refl;
+        unit_is = refl;
+        clips_are = refl;
+        state_is = refl;
+        log_is = refl;
+        port_is = refl;
+        aired_is = refl;
+        downwards = record {
+          held = [];
+          on_way = record {
+            fits = q.fits;
+            done = [];
+            left = messages_to unit sent;
+            all_is = refl;
+            came_is = refl;
+            unfinished = nothing_unfinished law.spelt;
+            queue_is = refl;
+          };
+          whole = [];
+          fits = All-nil Fits;
+          open_is = refl;
+        };
+        upwards = record { said = []; said_is = refl; held = []; on_way = nothing_on_way law.spelt; held_is = refl };
+      };
+    }
+
+-- the channel whose queues are lost, and whose time is up
+abbrev lost : LateChannel → LateChannel
+lost c = after_late_event (with_queues c [] []) event.Timeout
+
+lost_reached : (law : Laws) (c : LateChannel) → IsLateReached c → IsLateReached (lost c)
+lost_reached law c r =
+    law.goes_on (with_queues c [] []) (event.Timeout ∷ [])
+    (subst IsLateReached (loses_up [] c.up c)
+    (law.goes_on (with_queues c [] c.up) (ups_lost c.up)
+    (subst IsLateReached (loses_down c.down c.up c) (law.goes_on c (downs_lost c.down) r))))
+
+connects : (law : Laws) (plan : Plan) (port : ClockedPort) (e : Ends) (c d : LateChannel) (q : ClockedPort)
+    → IsBeside plan port e c → IsLateReached d → d ≡ record (lost c) { port = d.port } → d.port ≡ q
+    → d.port.state.unit ≡ port.state.unit → d.port.clips ≡ port.clips
+    → IsBeside plan port (connected_anew plan q e) d
+connects law plan port e c d q b reached same is unit clips =
+    let s : State = e.automation.state in
+    let anew : Ends = connected_anew plan q e in
+    let time : came_to c.plan None c.state ≡ came_to plan None s =
+    ap₂ (λ (m : Plan) (t : State). came_to m None t) b.plan_is b.state_is in
+    let ended : logged c.log (ended_by c.plan None c.state) ≡ log_now anew =
+    ap₂ (λ (m : Plan) (t : State). logged c.log (ended_by m None t)) b.plan_is b.state_is
+    ∙ ap (λ (l : List Exchange). logged l (ended_by plan None s)) b.log_is
+    ∙ logged_behind e.log_before e.automation.log (ended_by plan None s)
+    ∙ sym (append-nil (e.log_before ++ logged e.automation.log (ended_by plan None s))) in
+    record {
+      reached = reached;
+      plan_is = ap (λ (x : LateChannel). x.plan) same ∙ b.plan_is;
+      unit_is = unit;
+      clips_are = clips;
+      state_is = ap (λ (x : LateChannel). x.state) same ∙ time;
+      log_is = ap (λ (x : LateChannel). x.log) same ∙ ended;
+      port_is = is;
+      aired_is = ap (λ (x : LateChannel). x.aired) same ∙ b.aired_is ∙ sym (append-nil (aired_now e));
+      downwards = subst (IsDown plan port.state.unit anew) (sym (ap (λ (x : LateChannel). x.down) same))
+          (nothing_down law.spelt plan port.state.unit anew refl
+          (ap (λ (x : Option Command). option_to_list x) (timed_out plan s)));
+      upwards = subst (IsUp anew) (sym (ap (λ (x : LateChannel). x.up) same))
+          (record { said = []; said_is = refl; held = []; on_way = nothing_on_way law.spelt; held_is = refl });
+    }
+
+-- All steps.
+
+pub beside : (law : Laws) (plan : Plan) (port : ClockedPort) (asked : List Command) (e : Ends) → CanJoin plan port asked
+    → AreJoined plan port asked e → AreBeside plan port e
+beside law plan port asked _ can begun = begins law plan port asked can
+beside law plan port asked _ can (went_on {e} j gave) =
+    let r = beside law plan port asked e can j in
+    record { channel = _; beside = gives_next law plan port asked e r.channel (notes_given plan e.automation.state) can r.beside }
+beside law plan port asked _ can (went_on {e} j (came_up piece rest is)) =
+    let r = beside law plan port asked e can j in
+    let u = r.beside.upwards in
+    let on = comes_on law.spelt u.said e.ups u.held r.channel.up u.on_way piece rest (sym u.said_is ∙ is) in
+    record {
+      channel = _;
+      beside = comes_up law plan port e piece r.channel
+          (notes_heard plan port.state.unit (completed e.automation.held piece) e.automation) r.beside on;
+    }
+beside law plan port asked _ can (went_on {e} j (came_down piece rest is no_close)) =
+    let r = beside law plan port asked e can j in
+    comes_down law plan port asked e piece r.channel can r.beside no_close rest
+    (sym (bytes_to port.state.unit (commands_sent plan e)) ∙ is) (cases_lt burst_limit (length (open_burst e.downs)))
+beside law plan port asked _ can (went_on {e} j waited) =
+    let r = beside law plan port asked e can j in record {
+      channel = _;
+      beside = times_out law plan port e r.channel silence (notes_ended plan None e.automation.state) r.beside refl refl
+          (ap held_after_silence r.beside.upwards.held_is);
+    }
+beside law plan port asked _ can (went_on {e} j hung_up) =
+    let r = beside law plan port asked e can j in record {
+      channel = _;
+      beside = times_out law plan port e r.channel close (notes_ended plan None e.automation.state) r.beside refl refl
+          (ap held_after_silence r.beside.upwards.held_is);
+    }
+beside law plan port asked _ can (went_on {e} j (frame no_close all)) =
+    let r = beside law plan port asked e can j in
+    passes law plan port e r.channel r.beside no_close all (cases_lt burst_limit (length (open_burst e.downs)))
+beside law plan port asked _ can (went_on {e} j shut) =
+    let r = beside law plan port asked e can j in
+    record { channel = r.channel; beside = shuts law plan port e r.channel r.beside }
+beside law plan port asked _ can (went_on {e} j (took on)) =
+    let r = beside law plan port asked e can j in record {
+      channel = _;
+      beside = wishes law plan port e r.channel event.Take (taken e.automation.state) (note.Take ∷ []) r.beside refl
+          (ap taken r.beside.state_is) refl;
+    }
+beside law plan port asked _ can (went_on {e} j (halted on)) =
+    let r = beside law plan port asked e can j in record {
+      channel = _;
+      beside = wishes law plan port e r.channel event.Stop (stopped e.automation.state) (note.Stop ∷ []) r.beside refl
+          (ap stopped r.beside.state_is) refl;
+    }
+beside law plan port asked _ can (went_on {e} j resumed) =
+    let r = beside law plan port asked e can j in record {
+      channel = lost r.channel;
+      beside = connects law plan port e r.channel (lost r.channel) (port_now e) r.beside
+          (lost_reached law r.channel r.beside.reached) refl r.beside.port_is r.beside.unit_is r.beside.clips_are;
+    }
+beside law plan port asked _ can (went_on {e} j restarted) =
+    let r = beside law plan port asked e can j in record {
+      channel = after_late_event (lost r.channel) event.ServerAnew;
+      beside = connects law plan port e r.channel (after_late_event (lost r.channel) event.ServerAnew)
+          (made_anew (port_now e)) r.beside
+          (law.goes_on (lost r.channel) (event.ServerAnew ∷ []) (lost_reached law r.channel r.beside.reached)) refl
+          (ap made_anew r.beside.port_is) r.beside.unit_is r.beside.clips_are;
+    }
+
+pub are_late_channel : (law : Laws) (plan : Plan) (port : ClockedPort) (asked : List Command) (e : Ends) → CanJoin plan port asked
+    → AreJoined plan port asked e → IsLateChannel plan port e
+are_late_channel law plan port asked e can j =
+    let r = beside law plan port asked e can j in record {
+      channel = r.channel;
+      reached = r.beside.reached;
+      plan_is = r.beside.plan_is;
+      state_is = r.beside.state_is;
+      log_is = r.beside.log_is;
+      port_is = r.beside.port_is;
+      clips_are = r.beside.clips_are;
+      aired_is = r.beside.aired_is;
+    }

@@ -1,0 +1,305 @@
+-- What a journal's notes make of a new controller is the controller that runs.
+use Rattle.std.proofs.Common.{◌≡◌, All, Bool, true, List, [], ◌∷◌, ◌++◌, Option, None, Some, append-nil, append_assoc, refl, sym, ap, length, subst, ◌∙◌}
+use Rattle.std.specs.Option.{option_map, option_map_or, option_to_list}
+use Rattle.std.specs.Prelude.{IsSome, if◌then◌else◌, is_some}
+use Rattle.vdcp_auto.specs.Heard.{heard_in}
+use Rattle.vdcp_auto.specs.Plan.{Plan}
+use Rattle.vdcp_auto.specs.State.{Stage, Ready, Awaiting, Ended, State}
+use Rattle.vdcp_auto.specs.Turn.{awaited, came_to, ended_by, ended_in, awaited_in, exchange_of, given, given_in, is_end, start, tick_in, ticked}
+use Rattle.vdcp_auto.specs.declared.exchange.Exchange.{Exchange}
+use Rattle.vdcp_auto.specs.declared.exchange.Heard.{Heard}
+use Rattle.vdcp_auto.specs.declared.exchange.Heard.TheVariants as heard
+use Rattle.vdcp_auto.specs.declared.phase.Mode.{Mode}
+use Rattle.vdcp_auto.specs.declared.phase.Mode.TheVariants.{Plain, Confirming}
+use Rattle.vdcp_journal.specs.Resume.{AreTold, Tells, after_call_if, after_rows, call_of}
+use Rattle.vdcp_journal.specs.Thinned.{notes_in}
+use Rattle.vdcp_journal.specs.declared.row.Note.{Note}
+use Rattle.vdcp_journal.specs.declared.row.Note.TheVariants as note
+use Rattle.vdcp_journal.specs.declared.row.Row.{Row}
+use Rattle.vdcp_laws.specs.Kills.{IsRun, IsOfRun, asked_in_vain, begun, happened, killed, end_notes, heard_notes, notes_of, silence_notes, stray_notes}
+use Rattle.vdcp_late.specs.GoingOn.{IsNoTick, gone_on}
+use Rattle.vdcp_late.specs.LateChannel.{LateChannel, IsLateReached, after_late_event, after_late_events, oldest}
+use Rattle.vdcp_late.specs.declared.event.LateEvent.{LateEvent}
+use Rattle.vdcp_late.specs.declared.event.LateEvent.TheVariants as event
+use Rattle.vdcp_words.specs.declared.reply.Reply.{Reply}
+use Rattle.vdcp_words.specs.declared.reply.Reply.TheVariants.{Ack, Nak}
+use Rattle.vdcp_words.specs.declared.command.Command.{Command}
+use Rattle.vdcp_world.specs.Channel.{state_hearing, state_straying}
+
+-- the controller after the calls of some notes
+abbrev after_notes : Plan → State → List Note → State
+after_notes plan state [] = state
+after_notes plan state (note ∷ notes) = after_notes plan (after_call_if plan (call_of note) state) notes
+
+of_rows : (plan : Plan) (state : State) (rows : List Row)
+    → after_rows plan state rows ≡ after_notes plan state (notes_in rows)
+of_rows plan state [] = refl
+of_rows plan state (row ∷ rows) = of_rows plan (after_call_if plan (call_of row.note) state) rows
+
+after_more : (plan : Plan) (state : State) (notes more : List Note)
+    → after_notes plan state (notes ++ more) ≡ after_notes plan (after_notes plan state notes) more
+after_more plan state [] more = refl
+after_more plan state (note ∷ notes) more = after_more plan (after_call_if plan (call_of note) state) notes more
+
+-- what came, or a time-out
+ended : (plan : Plan) (state : State) (came : Option Heard) (by : Option Exchange) → ended_by plan came state ≡ by
+    → after_notes plan state (end_notes came by) ≡ came_to plan came state
+ended plan state came None is = ap (λ by. option_map_or (λ e. ended_in plan state.stage e state) by state) (sym is)
+ended plan state (Some h) (Some e) is = refl
+ended plan state None (Some e) is = refl
+
+heard_then : (c : LateChannel) (came : Option Heard)
+    → after_notes c.plan c.state (heard_notes c came) ≡ state_hearing c.plan came c.state
+heard_then c None = refl
+heard_then c (Some h) = ended c.plan c.state (Some h) (ended_by c.plan (Some h) c.state) refl
+
+strayed : (c : LateChannel) (mode : Mode) (receipt : Reply)
+    → after_notes c.plan c.state (stray_notes c mode receipt) ≡ state_straying mode c.plan receipt c.state
+strayed c Plain receipt = refl
+strayed c Confirming receipt = heard_then c (Some (heard.Reply receipt))
+
+ticked_then : (c : LateChannel) (command : Option Command) → given c.plan c.state ≡ command → IsSome command
+    → after_notes c.plan c.state (option_to_list (option_map (λ x. note.Sent x) command)) ≡ ticked c.state
+ticked_then c None is some = cc some
+ticked_then c (Some command) is some = refl
+
+noted : (c : LateChannel) (e : LateEvent) → IsOfRun c e
+    → after_notes c.plan c.state (notes_of c e) ≡ (after_late_event c e).state
+noted c event.Tick of_run = ticked_then c (given c.plan c.state) refl of_run
+noted c event.Down of_run = refl
+noted c event.Up of_run = heard_then c (heard_in c.port.state.unit (oldest c.up))
+noted c event.DownCopy of_run = refl
+noted c event.UpCopy of_run = heard_then c (heard_in c.port.state.unit (oldest c.up))
+noted c (event.LoseDown place) of_run = refl
+noted c (event.LoseUp place) of_run = refl
+noted c (event.AlterDown place bytes) of_run = refl
+noted c (event.AlterUp place bytes) of_run = refl
+noted c (event.JunkDown place bytes) of_run = refl
+noted c (event.JunkUp place bytes) of_run = refl
+noted c event.Timeout of_run = ended c.plan c.state None (ended_by c.plan None c.state) refl
+noted c event.Ready of_run = refl
+noted c event.End of_run = refl
+noted c event.Frame of_run = refl
+noted c event.Take of_run = refl
+noted c event.Stop of_run = refl
+noted c event.ServerAnew of_run = refl
+noted c event.AutomationAnew of_run = absurd of_run
+noted c event.StrayAck of_run = strayed c c.plan.mode Ack
+noted c (event.StrayNak byte) of_run = strayed c c.plan.mode (Nak byte)
+
+pub plan_stays : (c : LateChannel) (e : LateEvent) → (after_late_event c e).plan ≡ c.plan
+plan_stays c event.Tick = refl
+plan_stays c event.Down = refl
+plan_stays c event.Up = refl
+plan_stays c event.DownCopy = refl
+plan_stays c event.UpCopy = refl
+plan_stays c (event.LoseDown place) = refl
+plan_stays c (event.LoseUp place) = refl
+plan_stays c (event.AlterDown place bytes) = refl
+plan_stays c (event.AlterUp place bytes) = refl
+plan_stays c (event.JunkDown place bytes) = refl
+plan_stays c (event.JunkUp place bytes) = refl
+plan_stays c event.Timeout = refl
+plan_stays c event.Ready = refl
+plan_stays c event.End = refl
+plan_stays c event.Frame = refl
+plan_stays c event.Take = refl
+plan_stays c event.Stop = refl
+plan_stays c event.ServerAnew = refl
+plan_stays c event.AutomationAnew = refl
+plan_stays c event.StrayAck = refl
+plan_stays c (event.StrayNak byte) = refl
+
+pub plan_stays_in : (c : LateChannel) (events : List LateEvent) → (after_late_events c events).plan ≡ c.plan
+plan_stays_in c [] = refl
+plan_stays_in c (e ∷ events) = plan_stays_in (after_late_event c e) events ∙ plan_stays c e
+
+-- the notes of a run make its controller of a new one
+journaled : (c : LateChannel) (notes : List Note) → IsRun c notes → after_notes c.plan start notes ≡ c.state
+journaled _ _ (begun plan port down up can_start) = refl
+journaled _ _ (happened {c} {notes} run e of_run) =
+    ap (λ plan. after_notes plan start (notes ++ notes_of c e)) (plan_stays c e)
+    ∙ after_more c.plan start notes (notes_of c e)
+    ∙ ap (λ state. after_notes c.plan state (notes_of c e)) (journaled c notes run)
+    ∙ noted c e of_run
+journaled _ _ (killed {c} {notes} run since quiet) =
+    ap (λ plan. after_notes plan start (notes ++ silence_notes c)) (plan_stays_in c since)
+    ∙ after_more c.plan start notes (silence_notes c)
+    ∙ ap (λ state. after_notes c.plan state (silence_notes c)) (journaled c notes run)
+    ∙ ended c.plan c.state None (ended_by c.plan None c.state) refl
+
+-- Each of its notes tells what the controller does.
+
+abbrev AllTold : Plan → State → List Note → Type 0
+AllTold plan state [] = Unit {0}
+AllTold plan state (note ∷ notes) = Tells plan state note × AllTold plan (after_call_if plan (call_of note) state) notes
+
+rows_told : (plan : Plan) (state : State) (rows : List Row) → AllTold plan state (notes_in rows)
+    → AreTold plan state rows
+rows_told plan state [] told = tt
+rows_told plan state (row ∷ rows) told =
+    (told.0, rows_told plan (after_call_if plan (call_of row.note) state) rows told.1)
+
+told_more : (plan : Plan) (state : State) (notes more : List Note) → AllTold plan state notes
+    → AllTold plan (after_notes plan state notes) more → AllTold plan state (notes ++ more)
+told_more plan state [] more told next = next
+told_more plan state (note ∷ notes) more told next =
+    (told.0, told_more plan (after_call_if plan (call_of note) state) notes more told.1 next)
+
+end_told : (plan : Plan) (state : State) (came : Option Heard) (by : Option Exchange) → ended_by plan came state ≡ by
+    → AllTold plan state (end_notes came by)
+end_told plan state came None is = tt
+end_told plan state (Some h) (Some e) is = (ap is_some is, tt)
+end_told plan state None (Some e) is = (ap is_some is, tt)
+
+heard_told : (c : LateChannel) (came : Option Heard) → AllTold c.plan c.state (heard_notes c came)
+heard_told c None = tt
+heard_told c (Some h) = end_told c.plan c.state (Some h) (ended_by c.plan (Some h) c.state) refl
+
+stray_told : (c : LateChannel) (mode : Mode) (receipt : Reply) → AllTold c.plan c.state (stray_notes c mode receipt)
+stray_told c Plain receipt = tt
+stray_told c Confirming receipt = heard_told c (Some (heard.Reply receipt))
+
+tick_told : (c : LateChannel) (command : Option Command) → given c.plan c.state ≡ command
+    → AllTold c.plan c.state (option_to_list (option_map (λ x. note.Sent x) command))
+tick_told c None is = tt
+tick_told c (Some command) is = (is, tt)
+
+event_told : (c : LateChannel) (e : LateEvent) → IsOfRun c e → AllTold c.plan c.state (notes_of c e)
+event_told c event.Tick of_run = tick_told c (given c.plan c.state) refl
+event_told c event.Down of_run = tt
+event_told c event.Up of_run = heard_told c (heard_in c.port.state.unit (oldest c.up))
+event_told c event.DownCopy of_run = tt
+event_told c event.UpCopy of_run = heard_told c (heard_in c.port.state.unit (oldest c.up))
+event_told c (event.LoseDown place) of_run = tt
+event_told c (event.LoseUp place) of_run = tt
+event_told c (event.AlterDown place bytes) of_run = tt
+event_told c (event.AlterUp place bytes) of_run = tt
+event_told c (event.JunkDown place bytes) of_run = tt
+event_told c (event.JunkUp place bytes) of_run = tt
+event_told c event.Timeout of_run = end_told c.plan c.state None (ended_by c.plan None c.state) refl
+event_told c event.Ready of_run = tt
+event_told c event.End of_run = tt
+event_told c event.Frame of_run = tt
+event_told c event.Take of_run = (of_run, tt)
+event_told c event.Stop of_run = (of_run, tt)
+event_told c event.ServerAnew of_run = tt
+event_told c event.AutomationAnew of_run = absurd of_run
+event_told c event.StrayAck of_run = stray_told c c.plan.mode Ack
+event_told c (event.StrayNak byte) of_run = stray_told c c.plan.mode (Nak byte)
+
+-- notes that tell what the controller does after those of a run
+more_told : (c : LateChannel) (plan : Plan) (notes more : List Note) → plan ≡ c.plan → IsRun c notes
+    → AllTold c.plan start notes → AllTold c.plan c.state more → AllTold plan start (notes ++ more)
+more_told c plan notes more is run before after =
+    subst (λ (p : Plan). AllTold p start (notes ++ more)) (sym is)
+    (told_more c.plan start notes more before
+    (subst (λ (s : State). AllTold c.plan s more) (sym (journaled c notes run)) after))
+
+run_told : (c : LateChannel) (notes : List Note) → IsRun c notes → AllTold c.plan start notes
+run_told _ _ (begun plan port down up can_start) = tt
+run_told _ _ (happened {c} {notes} run e of_run) =
+    more_told c (after_late_event c e).plan notes (notes_of c e) (plan_stays c e) run (run_told c notes run)
+    (event_told c e of_run)
+run_told _ _ (killed {c} {notes} run since quiet) =
+    more_told c (after_late_events c since).plan notes (silence_notes c) (plan_stays_in c since) run
+    (run_told c notes run) (end_told c.plan c.state None (ended_by c.plan None c.state) refl)
+
+pub told : (c : LateChannel) (rows : List Row) → IsRun c (notes_in rows) → AreTold c.plan start rows
+told c rows run = rows_told c.plan start rows (run_told c (notes_in rows) run)
+
+pub rows_make : (c : LateChannel) (rows : List Row) → IsRun c (notes_in rows)
+    → after_rows c.plan start rows ≡ c.state
+rows_make c rows run = of_rows c.plan start rows ∙ journaled c (notes_in rows) run
+
+-- A command that may have gone out without its row.
+
+pub given_awaited : (plan : Plan) (stage : Stage) (s : State) (q : Command) → given_in plan s.stop stage ≡ Some q
+    → awaited plan (tick_in stage s) ≡ Some q
+given_awaited plan (Ready p) s q is = is
+given_awaited plan (Awaiting p) s q is = cc is
+given_awaited plan (Ended outcome) s q is = cc is
+
+pub none_awaited : (plan : Plan) (stage : Stage) (stop : Bool) (s : State) (q : Command) → s.stage ≡ stage
+    → given_in plan stop stage ≡ Some q → awaited plan s ≡ None
+none_awaited plan (Ready p) stop s q at is = ap (awaited_in plan) at
+none_awaited plan (Awaiting p) stop s q at is = cc is
+none_awaited plan (Ended outcome) stop s q at is = cc is
+
+silence_ends : (mode : Mode) (q : Command) → is_end mode q None ≡ true
+silence_ends Plain q = refl
+silence_ends Confirming q = refl
+
+no_silence : (c : LateChannel) → awaited c.plan c.state ≡ None → silence_notes c ≡ []
+no_silence c none = ap (λ (o : Option Command). end_notes None (exchange_of c.plan.mode None o)) none
+
+pub one_silence : (c : LateChannel) (q : Command) → awaited c.plan c.state ≡ Some q → silence_notes c ≡ note.Silence ∷ []
+one_silence c q is =
+    ap (λ (o : Option Command). end_notes None (exchange_of c.plan.mode None o)) is
+    ∙ ap (λ (b : Bool). end_notes None (if b then Some (record { command = q; heard = None }) else None))
+    (silence_ends c.plan.mode q)
+
+same_state : (plan : Plan) (s : State) → awaited plan s ≡ None → came_to plan None s ≡ s
+same_state plan s none =
+    ap (λ (o : Option Command). option_map_or (λ e. ended_in plan s.stage e s) (exchange_of plan.mode None o) s) none
+
+-- the command is given
+asked : (c : LateChannel) (notes : List Note) (q : Command) → IsRun c notes → given c.plan c.state ≡ Some q
+    → IsRun (after_late_event c event.Tick) (notes ++ note.Sent q ∷ [])
+asked c notes q run is =
+    subst (IsRun (after_late_event c event.Tick))
+    (ap (λ (o : Option Command). notes ++ option_to_list (option_map (λ x. note.Sent x) o)) is)
+    (happened run event.Tick (ap is_some is))
+
+both : (notes : List Note) (one two : Note) → (notes ++ one ∷ []) ++ two ∷ [] ≡ notes ++ (one ∷ two ∷ [])
+both notes one two = append_assoc notes (one ∷ []) (two ∷ [])
+
+pub went : (c : LateChannel) (notes : List Note) (q : Command) (since : List LateEvent) → IsRun c notes
+    → given c.plan c.state ≡ Some q → All IsNoTick since
+    → IsRun (gone_on (after_late_event c event.Tick) (after_late_events c (event.Tick ∷ since)))
+    (notes ++ (note.Sent q ∷ note.Silence ∷ []))
+went c notes q since run is quiet =
+    let d : LateChannel = after_late_event c event.Tick in
+    subst (IsRun (gone_on d (after_late_events d since)))
+    (ap (λ (l : List Note). (notes ++ note.Sent q ∷ []) ++ l)
+    (one_silence d q (given_awaited c.plan c.state.stage c.state q is))
+    ∙ both notes (note.Sent q) note.Silence)
+    (killed (asked c notes q run is) since quiet)
+
+in_vain : (c : LateChannel) (notes : List Note) (q : Command) → IsRun c notes → given c.plan c.state ≡ Some q
+    → IsRun (asked_in_vain c) (notes ++ (note.Sent q ∷ note.Silence ∷ []))
+in_vain c notes q run is =
+    let d : LateChannel = after_late_event c event.Tick in
+    let e : LateChannel = after_late_event d (event.LoseDown (length c.down)) in
+    let lost : IsRun e ((notes ++ note.Sent q ∷ []) ++ []) = happened (asked c notes q run is) (event.LoseDown (length c.down)) tt in
+    subst (IsRun (asked_in_vain c))
+    (ap (λ (l : List Note). l ++ silence_notes e) (append-nil (notes ++ note.Sent q ∷ []))
+    ∙ ap (λ (l : List Note). (notes ++ note.Sent q ∷ []) ++ l)
+    (one_silence e q (given_awaited c.plan c.state.stage c.state q is))
+    ∙ both notes (note.Sent q) note.Silence)
+    (happened lost event.Timeout tt)
+
+pub stayed : (c : LateChannel) (notes : List Note) (q : Command) (since : List LateEvent) → IsRun c notes
+    → given c.plan c.state ≡ Some q → All IsNoTick since
+    → IsRun (asked_in_vain (gone_on c (after_late_events c since))) (notes ++ (note.Sent q ∷ note.Silence ∷ []))
+stayed c notes q since run is quiet =
+    let now : LateChannel = gone_on c (after_late_events c since) in
+    let none = none_awaited c.plan c.state.stage c.state.stop c.state q refl is in
+    let on : IsRun now notes =
+    subst (IsRun now) (ap (λ (l : List Note). notes ++ l) (no_silence c none) ∙ append-nil notes)
+    (killed run since quiet) in
+    in_vain now notes q on
+    (ap (λ (p : Plan). given p now.state) (plan_stays_in c since)
+    ∙ ap (given c.plan) (same_state c.plan c.state none) ∙ is)
+
+-- and each such run is one of a late line's events
+pub run_reached : ((c : LateChannel) (events : List LateEvent) → IsLateReached c → All IsNoTick events
+    → IsLateReached (gone_on c (after_late_events c events)))
+    → ((c : LateChannel) (events : List LateEvent) → IsLateReached c → IsLateReached (after_late_events c events))
+    → (c : LateChannel) (notes : List Note) → IsRun c notes → IsLateReached c
+run_reached goes_on leads _ _ (begun plan port down up can_start) =
+    record { plan = plan; port = port; down = down; up = up; events = []; can_start = can_start; led = refl }
+run_reached goes_on leads _ _ (happened {c} {notes} run e of_run) =
+    leads c (e ∷ []) (run_reached goes_on leads c notes run)
+run_reached goes_on leads _ _ (killed {c} {notes} run since quiet) =
+    goes_on c since (run_reached goes_on leads c notes run) quiet

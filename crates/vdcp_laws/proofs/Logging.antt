@@ -1,0 +1,239 @@
+-- The log that a journal shows is the automation's, where the command that stands last was timed out.
+use Rattle.std.proofs.Common.{ℕ, ◌≡◌, Bool, List, [], ◌∷◌, ◌++◌, map, refl, sym, ap, ap₂, subst, ◌∙◌, append_assoc, append-nil, arith}
+use Rattle.std.proofs.lemmas.Grind.{common_steps}
+use Rattle.std.specs.Option.{option_map_or}
+use Rattle.std.specs.Prelude.{Option, None, Some, if◌then◌else◌}
+use Rattle.vdcp_frame.specs.Message.{Content}
+use Rattle.vdcp_words.specs.declared.command.Command.{Command}
+use Rattle.vdcp_port.specs.Clock.{ClockedPort}
+use Rattle.vdcp_auto.specs.Course.{logged}
+use Rattle.vdcp_auto.specs.Heard.{heard_as}
+use Rattle.vdcp_auto.specs.Plan.{Plan}
+use Rattle.vdcp_auto.specs.State.{State}
+use Rattle.vdcp_auto.specs.Turn.{awaited, came_to, ended_by, ended_in, exchange_of, given, stopped, taken, ticked}
+use Rattle.vdcp_auto.specs.declared.exchange.Exchange.{Exchange}
+use Rattle.vdcp_auto.specs.declared.exchange.Heard.{Heard}
+use Rattle.vdcp_journal.specs.Resume.{ended_at, exchange_with, log_from, log_of, open_after}
+use Rattle.vdcp_journal.specs.declared.row.Note.{Note}
+use Rattle.vdcp_journal.specs.declared.row.Note.TheVariants as note
+use Rattle.vdcp_journal.specs.declared.row.Row.{Row}
+use Rattle.vdcp_drive.specs.Steps.{end_of, given_notes}
+use Rattle.vdcp_laws.specs.Automation.{end_notes}
+use Rattle.vdcp_laws.specs.Automation.{Prompt, hears, hears_all}
+use Rattle.vdcp_drive.specs.Reading.{completed}
+use Rattle.vdcp_laws.specs.TwoEnds.{AreJoined, begun, went_on, gave, came_up, came_down, waited, hung_up, frame, shut, took, halted, resumed, restarted}
+use Rattle.vdcp_laws.specs.TwoEnds.{Ends, log_now, note_for, notes_ended, notes_given, notes_heard}
+use Rattle.vdcp_laws.proofs.Commands.{awaits_none_in, ends_alone, exchange_is, hears_comes}
+
+-- the command that is open after notes, and the exchanges that they end
+abbrev open_through : Option Command → List Note → Option Command
+open_through asked [] = asked
+open_through asked (n ∷ notes) = open_through (open_after asked n) notes
+
+abbrev closed_from : Option Command → List Note → List Exchange
+closed_from asked [] = []
+closed_from asked (n ∷ notes) = ended_at asked n (closed_from (open_after asked n) notes)
+
+with_last : (h : Option Heard) (asked : Option Command) (xs ys : List Exchange)
+    → exchange_with h asked (xs ++ ys) ≡ exchange_with h asked xs ++ ys
+with_last h None xs ys = refl
+with_last h (Some c) xs ys = refl
+
+ended_more : (asked : Option Command) (n : Note) (xs ys : List Exchange)
+    → ended_at asked n (xs ++ ys) ≡ ended_at asked n xs ++ ys
+ended_more asked (note.Sent c) xs ys = refl
+ended_more asked (note.Heard h) xs ys = with_last (Some h) asked xs ys
+ended_more asked note.Silence xs ys = with_last None asked xs ys
+ended_more asked note.Take xs ys = refl
+ended_more asked note.Stop xs ys = refl
+ended_more asked (note.End outcome) xs ys = refl
+ended_more asked (note.From k) xs ys = refl
+
+closed_more : (asked : Option Command) (notes more : List Note)
+    → closed_from asked (notes ++ more) ≡ closed_from asked notes ++ closed_from (open_through asked notes) more
+closed_more asked [] more = refl
+closed_more asked (n ∷ notes) more =
+    ap (ended_at asked n) (closed_more (open_after asked n) notes more)
+    ∙ ended_more asked n (closed_from (open_after asked n) notes)
+    (closed_from (open_through (open_after asked n) notes) more)
+
+open_more : (asked : Option Command) (notes more : List Note)
+    → open_through asked (notes ++ more) ≡ open_through (open_through asked notes) more
+open_more asked [] more = refl
+open_more asked (n ∷ notes) more = open_more (open_after asked n) notes more
+
+of_rows : (asked : Option Command) (rows : List Row)
+    → log_from asked rows ≡ closed_from asked (map (λ row. row.note) rows)
+    ++ exchange_with None (open_through asked (map (λ row. row.note) rows)) []
+of_rows asked [] = refl
+of_rows asked (row ∷ rows) =
+    let notes : List Note = map (λ row. row.note) rows in
+    let next : Option Command = open_after asked row.note in
+    ap (ended_at asked row.note) (of_rows next rows)
+    ∙ ended_more asked row.note (closed_from next notes) (exchange_with None (open_through next notes) [])
+
+-- One step: notes that lead from a state, with what it awaits, to another one, with the exchanges that they end.
+record Leads (plan : Plan) (state state' : State) (log log' : List Exchange) (notes : List Note) : Type 0 where
+  open_is : open_through (awaited plan state) notes ≡ awaited plan state'
+  closed_is : log' ≡ log ++ closed_from (awaited plan state) notes
+
+none_given : (plan : Plan) (s : State) → given plan s ≡ None → awaited plan (ticked s) ≡ awaited plan s
+none_given plan s h = grind (arith, common_steps)
+
+some_given : (plan : Plan) (s : State) (c : Command) → given plan s ≡ Some c → awaited plan (ticked s) ≡ Some c
+some_given plan s c h = grind (arith, common_steps)
+
+given_leads : (plan : Plan) (s : State) (log : List Exchange) (command : Option Command) → given plan s ≡ command
+    → Leads plan s (ticked s) log log (map note_for (given_notes command))
+given_leads plan s log None is = record { open_is = sym (none_given plan s is); closed_is = sym (append-nil log) }
+given_leads plan s log (Some c) is = record { open_is = sym (some_given plan s c is); closed_is = sym (append-nil log) }
+
+end_closes : (h : Option Heard) (asked : Option Command)
+    → closed_from asked (note_for (end_of h) ∷ []) ≡ exchange_with h asked []
+end_closes None asked = refl
+end_closes (Some h) asked = refl
+
+end_opens : (h : Option Heard) (asked : Option Command) → open_through asked (note_for (end_of h) ∷ []) ≡ None
+end_opens None asked = refl
+end_opens (Some h) asked = refl
+
+ended_leads : (plan : Plan) (s : State) (log : List Exchange) (h : Option Heard) (by : Option Exchange)
+    → ended_by plan h s ≡ by
+    → Leads plan s (option_map_or (λ e. ended_in plan s.stage e s) by s) log (logged log by) (map note_for (end_notes by))
+ended_leads plan s log h None is = record { open_is = refl; closed_is = sym (append-nil log) }
+ended_leads plan s log h (Some e) is =
+    let awaits : awaited plan s ≡ Some e.command = exchange_is plan.mode h (awaited plan s) e is in record {
+      open_is = end_opens e.heard (awaited plan s) ∙ sym (awaits_none_in plan s.stage e s awaits);
+      closed_is = ap (λ (l : List Exchange). log ++ l)
+          (sym (end_closes e.heard (awaited plan s) ∙ ap (λ (c : Option Command). exchange_with e.heard c []) awaits));
+    }
+
+leads_on : (plan : Plan) (s t u : State) (xs ys zs : List Exchange) (notes more : List Note) → Leads plan s t xs ys notes
+    → Leads plan t u ys zs more → Leads plan s u xs zs (notes ++ more)
+leads_on plan s t u xs ys zs notes more a b = record {
+  open_is = open_more (awaited plan s) notes more
+      ∙ ap (λ (c : Option Command). open_through c more) a.open_is ∙ b.open_is;
+  closed_is = b.closed_is ∙ ap (λ (l : List Exchange). l ++ closed_from (awaited plan t) more) a.closed_is
+      ∙ append_assoc xs (closed_from (awaited plan s) notes) (closed_from (awaited plan t) more)
+      ∙ ap (λ (l : List Exchange). xs ++ l)
+      (ap (λ (c : Option Command). closed_from (awaited plan s) notes ++ closed_from c more) (sym a.open_is)
+      ∙ sym (closed_more (awaited plan s) notes more));
+}
+
+heard_leads : (plan : Plan) (unit : ℕ) (ms : List Content) (p : Prompt)
+    → Leads plan p.state (hears_all plan unit ms p).state p.log (hears_all plan unit ms p).log
+    (notes_heard plan unit ms p)
+heard_leads plan unit [] p = record { open_is = refl; closed_is = sym (append-nil p.log) }
+heard_leads plan unit (m ∷ ms) p =
+    let h : Option Heard = Some (heard_as unit m) in
+    let q : Prompt = hears plan unit m p in
+    let r : Prompt = hears_all plan unit ms q in
+    let comes = hears_comes plan unit m p in
+    leads_on plan p.state q.state r.state p.log q.log r.log (notes_ended plan h p.state) (notes_heard plan unit ms q)
+    (subst (λ (s : State). Leads plan p.state s p.log q.log (notes_ended plan h p.state)) (sym comes.state_is)
+    (subst (λ (l : List Exchange). Leads plan p.state (came_to plan h p.state) p.log l (notes_ended plan h p.state))
+    (sym comes.log_is) (ended_leads plan p.state p.log h (ended_by plan h p.state) refl)))
+    (heard_leads plan unit ms q)
+
+-- All steps.
+
+pub record IsLogged (plan : Plan) (e : Ends) : Type 0 where
+  pub open_is : open_through None e.notes ≡ awaited plan e.automation.state
+  pub closed_is : log_now e ≡ closed_from None e.notes
+
+logs_on : (plan : Plan) (e : Ends) (state : State) (log : List Exchange) (notes : List Note) → IsLogged plan e
+    → Leads plan e.automation.state state e.automation.log log notes
+    → (open_through None (e.notes ++ notes) ≡ awaited plan state)
+    × (e.log_before ++ log ≡ closed_from None (e.notes ++ notes))
+logs_on plan e state log notes l s =
+    let was : Option Command = awaited plan e.automation.state in (
+      open_more None e.notes notes ∙ ap (λ (c : Option Command). open_through c notes) l.open_is ∙ s.open_is,
+      ap (λ (x : List Exchange). e.log_before ++ x) s.closed_is
+          ∙ sym (append_assoc e.log_before e.automation.log (closed_from was notes))
+          ∙ ap₂ (λ (x : List Exchange) (c : Option Command). x ++ closed_from c notes) l.closed_is (sym l.open_is)
+          ∙ sym (closed_more None e.notes notes),
+    )
+
+wish_leads : (plan : Plan) (s t : State) (log : List Exchange) → awaited plan t ≡ awaited plan s
+    → (Leads plan s t log log (note.Take ∷ [])) × (Leads plan s t log log (note.Stop ∷ []))
+wish_leads plan s t log is = (
+  record { open_is = sym is; closed_is = sym (append-nil log) },
+  record { open_is = sym is; closed_is = sym (append-nil log) },
+)
+
+time_leads : (plan : Plan) (p : Prompt)
+    → Leads plan p.state (came_to plan None p.state) p.log (logged p.log (ended_by plan None p.state))
+    (notes_ended plan None p.state)
+time_leads plan p = ended_leads plan p.state p.log None (ended_by plan None p.state) refl
+
+pub are_logged : (plan : Plan) (port : ClockedPort) (asked : List Command) (e : Ends) → AreJoined plan port asked e → IsLogged plan e
+are_logged plan port asked _ begun = record { open_is = refl; closed_is = refl }
+are_logged plan port asked _ (went_on {e} j gave) =
+    let p : Prompt = e.automation in
+    let l = logs_on plan e (ticked p.state) p.log (notes_given plan p.state) (are_logged plan port asked e j)
+    (given_leads plan p.state p.log (given plan p.state) refl) in
+    record { open_is = l.0; closed_is = l.1 }
+are_logged plan port asked _ (went_on {e} j (came_up piece rest is)) =
+    let p : Prompt = e.automation in
+    let ms : List Content = completed p.held piece in
+    let q : Prompt = hears_all plan port.state.unit ms p in
+    let l = logs_on plan e q.state q.log (notes_heard plan port.state.unit ms p) (are_logged plan port asked e j)
+    (heard_leads plan port.state.unit ms p) in
+    record { open_is = l.0; closed_is = l.1 }
+are_logged plan port asked _ (went_on {e} j (came_down piece rest is no_close)) =
+    let l = are_logged plan port asked e j in record { open_is = l.open_is; closed_is = l.closed_is }
+are_logged plan port asked _ (went_on {e} j waited) =
+    let p : Prompt = e.automation in
+    let l = logs_on plan e (came_to plan None p.state) (logged p.log (ended_by plan None p.state))
+    (notes_ended plan None p.state) (are_logged plan port asked e j) (time_leads plan p) in
+    record { open_is = l.0; closed_is = l.1 }
+are_logged plan port asked _ (went_on {e} j hung_up) =
+    let p : Prompt = e.automation in
+    let l = logs_on plan e (came_to plan None p.state) (logged p.log (ended_by plan None p.state))
+    (notes_ended plan None p.state) (are_logged plan port asked e j) (time_leads plan p) in
+    record { open_is = l.0; closed_is = l.1 }
+are_logged plan port asked _ (went_on {e} j (frame no_close all)) =
+    let l = are_logged plan port asked e j in record { open_is = l.open_is; closed_is = l.closed_is }
+are_logged plan port asked _ (went_on {e} j shut) =
+    let l = are_logged plan port asked e j in record { open_is = l.open_is; closed_is = l.closed_is }
+are_logged plan port asked _ (went_on {e} j (took on)) =
+    let p : Prompt = e.automation in
+    let l = logs_on plan e (taken p.state) p.log (note.Take ∷ []) (are_logged plan port asked e j)
+    (wish_leads plan p.state (taken p.state) p.log refl).0 in
+    record { open_is = l.0; closed_is = l.1 }
+are_logged plan port asked _ (went_on {e} j (halted on)) =
+    let p : Prompt = e.automation in
+    let l = logs_on plan e (stopped p.state) p.log (note.Stop ∷ []) (are_logged plan port asked e j)
+    (wish_leads plan p.state (stopped p.state) p.log refl).1 in
+    record { open_is = l.0; closed_is = l.1 }
+are_logged plan port asked _ (went_on {e} j resumed) =
+    let p : Prompt = e.automation in
+    let log : List Exchange = logged p.log (ended_by plan None p.state) in
+    let l = logs_on plan e (came_to plan None p.state) log (notes_ended plan None p.state) (are_logged plan port asked e j)
+    (time_leads plan p) in
+    record { open_is = l.0; closed_is = append-nil (e.log_before ++ log) ∙ l.1 }
+are_logged plan port asked _ (went_on {e} j restarted) =
+    let p : Prompt = e.automation in
+    let log : List Exchange = logged p.log (ended_by plan None p.state) in
+    let l = logs_on plan e (came_to plan None p.state) log (notes_ended plan None p.state) (are_logged plan port asked e j)
+    (time_leads plan p) in
+    record { open_is = l.0; closed_is = append-nil (e.log_before ++ log) ∙ l.1 }
+
+last_timed_out : (plan : Plan) (s : State) (log : List Exchange) (asked : Option Command) → awaited plan s ≡ asked
+    → log ++ exchange_with None asked [] ≡ logged log (ended_by plan None s)
+last_timed_out plan s log None is =
+    append-nil log ∙ ap (λ (c : Option Command). logged log (exchange_of plan.mode None c)) (sym is)
+last_timed_out plan s log (Some c) is =
+    ap (λ (b : Bool). logged log (if b then Some (record { command = c; heard = None }) else None))
+    (sym (ends_alone plan.mode c))
+    ∙ ap (λ (x : Option Command). logged log (exchange_of plan.mode None x)) (sym is)
+
+pub rows_show : (plan : Plan) (port : ClockedPort) (asked : List Command) (e : Ends) (rows : List Row) → AreJoined plan port asked e
+    → map (λ row. row.note) rows ≡ e.notes
+    → log_of rows ≡ logged (log_now e) (ended_by plan None e.automation.state)
+rows_show plan port asked e rows j is =
+    let l = are_logged plan port asked e j in
+    of_rows None rows
+    ∙ ap (λ (notes : List Note). closed_from None notes ++ exchange_with None (open_through None notes) []) is
+    ∙ ap₂ (λ (x : List Exchange) (c : Option Command). x ++ exchange_with None c []) (sym l.closed_is) l.open_is
+    ∙ last_timed_out plan e.automation.state (log_now e) (awaited plan e.automation.state) refl

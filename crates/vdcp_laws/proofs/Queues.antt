@@ -1,0 +1,303 @@
+-- What is on its way, as messages: a queue of the late channel has those that haven't wholly come.
+use Rattle.std.proofs.Common.{ℕ, ◌≡◌, Bool, true, length, All, List, [], ◌∷◌, ◌++◌, map, refl, sym, ap, ap₂, subst, ◌∙◌, append_assoc, append-nil}
+use Rattle.std.proofs.lemmas.List.{append_cancel_left, map-append}
+use Rattle.std.proofs.lemmas.List.Elements.{All-append, All-head, All-tail}
+use Rattle.std.proofs.lemmas.List.Folds.{flat_map-map}
+use Rattle.std.proofs.Math.Seq.{drop-length, take-length}
+use Rattle.std.specs.List.{insert}
+use Rattle.std.specs.Option.{option_to_list}
+use Rattle.std.specs.Prelude.{Option, Some, None}
+use Rattle.vdcp_value.specs.declared.part.Item.{Item}
+use Rattle.vdcp_frame.specs.Message.{Content, ack, nak, framed, Fits, spelling}
+use Rattle.vdcp_frame.specs.Reading.{IsUnfinished}
+use Rattle.vdcp_words.specs.Commands.{command_message}
+use Rattle.vdcp_words.specs.Replies.{reply_message}
+use Rattle.vdcp_words.specs.declared.command.Command.{Command}
+use Rattle.vdcp_words.specs.declared.reply.Reply.{Reply}
+use Rattle.vdcp_port.specs.Answers.{after_burst, after_messages, aired_for, aired_on_way, answer_bytes, answers_to, sent_for}
+use Rattle.vdcp_port.specs.Clock.{ClockedPort, aired_by, after_message, answer_to}
+use Rattle.vdcp_auto.specs.Course.{logged}
+use Rattle.vdcp_auto.specs.Heard.{heard_as, heard_first, heard_in}
+use Rattle.vdcp_auto.specs.Plan.{Plan}
+use Rattle.vdcp_auto.specs.State.{State}
+use Rattle.vdcp_auto.specs.Turn.{came_to, ended_by}
+use Rattle.vdcp_auto.specs.declared.exchange.Exchange.{Exchange}
+use Rattle.vdcp_auto.specs.declared.exchange.Heard.{Heard}
+use Rattle.vdcp_world.specs.Channel.{state_hearing, log_hearing}
+use Rattle.vdcp_drive.specs.Traces.{bytes_of}
+use Rattle.vdcp_laws.specs.Automation.{Prompt, hears, hears_all}
+use Rattle.vdcp_late.specs.Damage.{is_junk_up, with_junk}
+use Rattle.vdcp_auto.specs.declared.phase.Mode.{Mode}
+use Rattle.vdcp_auto.specs.declared.phase.Mode.TheVariants.{Plain, Confirming}
+use Rattle.vdcp_late.specs.LateChannel.{LateChannel, after_late_event, after_late_events, bursts_of, command_bursts, oldest, without_oldest}
+use Rattle.vdcp_late.specs.declared.event.LateEvent.{LateEvent}
+use Rattle.vdcp_late.specs.declared.event.LateEvent.TheVariants as event
+use Rattle.vdcp_laws.specs.Below.{Answered, Spelt}
+use Rattle.vdcp_laws.proofs.Bytes.{fits_front, fits_rest, front_of, spelt, spelt_both}
+use Rattle.vdcp_laws.proofs.Commands.{hears_comes}
+
+-- of all messages that were sent these bytes came: some whole messages, and what is held of the next one; the queue has
+-- the others
+pub record IsOnWay (all : List Content) (came held : List ℕ) (queue : List (List ℕ)) : Type 0 where
+  pub fits : All Fits all
+  pub done : List Content
+  pub left : List Content
+  pub all_is : all ≡ done ++ left
+  pub came_is : came ≡ spelt done ++ held
+  pub unfinished : IsUnfinished held
+  pub queue_is : queue ≡ map spelling left
+
+-- a piece more came: it completes these messages
+pub record ComesOn (all : List Content) (came held piece : List ℕ) (queue : List (List ℕ)) : Type 0 where
+  pub new : List Content
+  pub held_on : List ℕ
+  pub rest : List (List ℕ)
+  pub fits : All Fits new
+  pub reads : held ++ piece ≡ spelt new ++ held_on
+  pub queue_is : queue ≡ map spelling new ++ rest
+  pub on_way : IsOnWay all (came ++ piece) held_on rest
+
+pub comes_on : (law : Spelt) (all : List Content) (came held : List ℕ) (queue : List (List ℕ))
+    → IsOnWay all came held queue → (piece rest : List ℕ) → spelt all ≡ came ++ (piece ++ rest)
+    → ComesOn all came held piece queue
+comes_on law all came held queue w piece rest is =
+    let front : List ℕ = spelt w.done in
+    let e : front ++ ((held ++ piece) ++ rest) ≡ front ++ spelt w.left =
+    ap (λ (l : List ℕ). front ++ l) (append_assoc held piece rest)
+    ∙ sym (append_assoc front held (piece ++ rest))
+    ∙ ap (λ (l : List ℕ). l ++ (piece ++ rest)) (sym w.came_is)
+    ∙ sym is ∙ ap spelt w.all_is ∙ spelt_both w.done w.left in
+    let fits : All Fits w.left = fits_rest w.done w.left (subst (All Fits) w.all_is w.fits) in
+    let f = front_of law w.left fits (held ++ piece) rest
+    (append_cancel_left front ((held ++ piece) ++ rest) (spelt w.left) e) in
+    record {
+      new = f.done;
+      held_on = f.held;
+      rest = map spelling f.left;
+      fits = fits_front f.done f.left (subst (All Fits) f.all_is fits);
+      reads = f.front_is;
+      queue_is = w.queue_is ∙ ap (map spelling) f.all_is ∙ map-append spelling f.done f.left;
+      on_way = record {
+        fits = w.fits;
+        done = w.done ++ f.done;
+        left = f.left;
+        all_is = w.all_is ∙ ap (λ (l : List Content). w.done ++ l) f.all_is ∙ sym (append_assoc w.done f.done f.left);
+        came_is = ap (λ (l : List ℕ). l ++ piece) w.came_is
+            ∙ append_assoc front held piece
+            ∙ ap (λ (l : List ℕ). front ++ l) f.front_is
+            ∙ sym (append_assoc front (spelt f.done) f.held)
+            ∙ ap (λ (l : List ℕ). l ++ f.held) (sym (spelt_both w.done f.done));
+        unfinished = f.unfinished;
+        queue_is = refl;
+      };
+    }
+
+-- more messages are sent
+pub sends_on : (all more : List Content) (came held : List ℕ) (queue : List (List ℕ))
+    → IsOnWay all came held queue → All Fits more → IsOnWay (all ++ more) came held (queue ++ map spelling more)
+sends_on all more came held queue w fits = record {
+  fits = All-append Fits all more w.fits fits;
+  done = w.done;
+  left = w.left ++ more;
+  all_is = ap (λ (l : List Content). l ++ more) w.all_is ∙ append_assoc w.done w.left more;
+  came_is = w.came_is;
+  unfinished = w.unfinished;
+  queue_is = ap (λ (q : List (List ℕ)). q ++ map spelling more) w.queue_is ∙ sym (map-append spelling w.left more);
+}
+
+-- The commands as messages, and the answers.
+
+abbrev pub messages_to : ℕ → List Command → List Content
+messages_to unit commands = map (command_message unit) commands
+
+pub bytes_to : (unit : ℕ) (commands : List Command) → bytes_of unit commands ≡ spelt (messages_to unit commands)
+bytes_to unit commands = sym (flat_map-map spelling (command_message unit) commands)
+
+pub bursts_to : (unit : ℕ) (command : Option Command)
+    → command_bursts unit command ≡ map spelling (messages_to unit (option_to_list command))
+bursts_to unit None = refl
+bursts_to unit (Some c) = refl
+
+abbrev pub messages_from : ℕ → List Reply → List Content
+messages_from unit replies = map (reply_message unit) replies
+
+pub bytes_from : (unit : ℕ) (replies : List Reply) → answer_bytes unit replies ≡ spelt (messages_from unit replies)
+bytes_from unit replies = sym (flat_map-map spelling (reply_message unit) replies)
+
+one_burst : (m : Content) → bursts_of (spelling m ++ []) ≡ spelling m ∷ []
+one_burst ack = refl
+one_burst (nak byte) = refl
+one_burst (framed kind unit code rest) =
+    ap (λ (l : List ℕ). l ∷ []) (append-nil (spelling (framed kind unit code rest)))
+
+bursts_from : (unit : ℕ) (r : Option Reply)
+    → bursts_of (answer_bytes unit (option_to_list r)) ≡ map spelling (messages_from unit (option_to_list r))
+bursts_from unit None = refl
+bursts_from unit (Some r) = one_burst (reply_message unit r)
+
+-- Deliveries down, one after another.
+
+abbrev pub downs_of : List Content → List LateEvent
+downs_of [] = []
+downs_of (m ∷ ms) = event.Down ∷ downs_of ms
+
+pub record IsDelivered (c d : LateChannel) (unit : ℕ) (ms : List Content) (rest : List (List ℕ)) : Type 0 where
+  pub plan_is : d.plan ≡ c.plan
+  pub state_is : d.state ≡ c.state
+  pub log_is : d.log ≡ c.log
+  pub down_is : d.down ≡ rest
+  pub port_is : d.port ≡ after_messages c.port ms
+  pub up_is : d.up ≡ c.up ++ map spelling (messages_from unit (answers_to c.port ms))
+  pub aired_is : d.aired ≡ c.aired ++ aired_on_way c.port ms
+
+pub delivers : (law : Answered) (unit : ℕ) (ms : List Content) (rest : List (List ℕ)) (c : LateChannel) → All Fits ms
+    → c.port.state.unit ≡ unit → c.down ≡ map spelling ms ++ rest
+    → IsDelivered c (after_late_events c (downs_of ms)) unit ms rest
+delivers law unit [] rest c fits u is = record {
+  plan_is = refl;
+  state_is = refl;
+  log_is = refl;
+  down_is = is;
+  port_is = refl;
+  up_is = sym (append-nil c.up);
+  aired_is = sym (append-nil c.aired);
+}
+delivers law unit (m ∷ ms) rest c fits u is =
+    let d : LateChannel = after_late_event c event.Down in
+    let fit : Fits m = All-head Fits m ms fits in
+    let burst : oldest c.down ≡ spelling m = ap oldest is in
+    let answer : List Reply = option_to_list (answer_to c.port m) in
+    let later : List Reply = answers_to (after_message c.port m) ms in
+    let port : d.port ≡ after_message c.port m = ap (after_burst c.port) burst ∙ law.one_next c.port m fit in
+    let up : d.up ≡ c.up ++ map spelling (messages_from unit answer) =
+    ap (λ (b : List ℕ). c.up ++ bursts_of (sent_for c.port b)) burst
+    ∙ ap (λ (b : List ℕ). c.up ++ bursts_of b) (law.one_sent c.port m fit)
+    ∙ ap (λ (n : ℕ). c.up ++ bursts_of (answer_bytes n answer)) u
+    ∙ ap (λ (l : List (List ℕ)). c.up ++ l) (bursts_from unit (answer_to c.port m)) in
+    let aired : d.aired ≡ c.aired ++ option_to_list (aired_by c.port m) =
+    ap (λ (b : List ℕ). c.aired ++ aired_for c.port b) burst
+    ∙ ap (λ (l : List Item). c.aired ++ l) (law.one_aired c.port m fit) in
+    let r = delivers law unit ms rest d (All-tail Fits m ms fits)
+    (ap (λ (p : ClockedPort). p.state.unit) port ∙ law.unit_message c.port m ∙ u) (ap without_oldest is) in
+    record {
+      plan_is = r.plan_is;
+      state_is = r.state_is;
+      log_is = r.log_is;
+      down_is = r.down_is;
+      port_is = r.port_is ∙ ap (λ (p : ClockedPort). after_messages p ms) port;
+      up_is = r.up_is
+          ∙ ap₂ (λ (l : List (List ℕ)) (p : ClockedPort). l ++ map spelling (messages_from unit (answers_to p ms))) up port
+          ∙ append_assoc c.up (map spelling (messages_from unit answer)) (map spelling (messages_from unit later))
+          ∙ ap (λ (l : List (List ℕ)). c.up ++ l)
+          (sym (map-append spelling (messages_from unit answer) (messages_from unit later))
+          ∙ ap (map spelling) (sym (map-append (reply_message unit) answer later)));
+      aired_is = r.aired_is
+          ∙ ap₂ (λ (l : List Item) (p : ClockedPort). l ++ aired_on_way p ms) aired port
+          ∙ append_assoc c.aired (option_to_list (aired_by c.port m)) (aired_on_way (after_message c.port m) ms);
+    }
+
+-- Deliveries up, one after another.
+
+abbrev pub ups_of : List Content → List LateEvent
+ups_of [] = []
+ups_of (m ∷ ms) = event.Up ∷ ups_of ms
+
+pub logged_behind : (before log : List Exchange) (ends : Option Exchange)
+    → logged (before ++ log) ends ≡ before ++ logged log ends
+logged_behind before log None = refl
+logged_behind before log (Some e) = append_assoc before log (e ∷ [])
+
+pub record IsHeard (c d : LateChannel) (before : List Exchange) (p : Prompt) (rest : List (List ℕ)) : Type 0 where
+  pub plan_is : d.plan ≡ c.plan
+  pub port_is : d.port ≡ c.port
+  pub down_is : d.down ≡ c.down
+  pub aired_is : d.aired ≡ c.aired
+  pub up_is : d.up ≡ rest
+  pub state_is : d.state ≡ p.state
+  pub log_is : d.log ≡ before ++ p.log
+
+pub hears_each : (law : Spelt) (plan : Plan) (unit : ℕ) (before : List Exchange) (ms : List Content)
+    (rest : List (List ℕ)) (p : Prompt) (c : LateChannel) → All Fits ms → c.plan ≡ plan → c.port.state.unit ≡ unit
+    → c.state ≡ p.state → c.log ≡ before ++ p.log → c.up ≡ map spelling ms ++ rest
+    → IsHeard c (after_late_events c (ups_of ms)) before (hears_all plan unit ms p) rest
+hears_each law plan unit before [] rest p c fits same u state log is = record {
+  plan_is = refl;
+  port_is = refl;
+  down_is = refl;
+  aired_is = refl;
+  up_is = is;
+  state_is = state;
+  log_is = log;
+}
+hears_each law plan unit before (m ∷ ms) rest p c fits same u state log is =
+    let d : LateChannel = after_late_event c event.Up in
+    let h : Heard = heard_as unit m in
+    let heard : heard_in c.port.state.unit (oldest c.up) ≡ Some h =
+    ap₂ heard_in u (ap oldest is) ∙ ap (heard_first unit) (law.alone m (All-head Fits m ms fits)) in
+    let comes = hears_comes plan unit m p in
+    let r = hears_each law plan unit before ms rest (hears plan unit m p) d (All-tail Fits m ms fits) same u
+    (ap (λ (x : Option Heard). state_hearing c.plan x c.state) heard
+    ∙ ap₂ (λ (q : Plan) (s : State). came_to q (Some h) s) same state ∙ sym comes.state_is)
+    (ap (λ (x : Option Heard). log_hearing c.plan x c.state c.log) heard
+    ∙ ap₂ (λ (q : Plan) (s : State). logged c.log (ended_by q (Some h) s)) same state
+    ∙ ap (λ (l : List Exchange). logged l (ended_by plan (Some h) p.state)) log
+    ∙ logged_behind before p.log (ended_by plan (Some h) p.state)
+    ∙ ap (λ (l : List Exchange). before ++ l) (sym comes.log_is))
+    (ap without_oldest is) in
+    record {
+      plan_is = r.plan_is;
+      port_is = r.port_is;
+      down_is = r.down_is;
+      aired_is = r.aired_is;
+      up_is = r.up_is;
+      state_is = r.state_is;
+      log_is = r.log_is;
+    }
+
+-- All that is on its way is lost.
+
+abbrev pub downs_lost : List (List ℕ) → List LateEvent
+downs_lost [] = []
+downs_lost (burst ∷ queue) = event.LoseDown 0 ∷ downs_lost queue
+
+abbrev pub ups_lost : List (List ℕ) → List LateEvent
+ups_lost [] = []
+ups_lost (burst ∷ queue) = event.LoseUp 0 ∷ ups_lost queue
+
+-- the channel with these queues
+abbrev pub with_queues : LateChannel → List (List ℕ) → List (List ℕ) → LateChannel
+with_queues c down up = record c { down = down; up = up }
+
+pub loses_down : (down up : List (List ℕ)) (c : LateChannel)
+    → after_late_events (with_queues c down up) (downs_lost down) ≡ with_queues c [] up
+loses_down [] up c = refl
+loses_down (burst ∷ down) up c = loses_down down up c
+
+pub loses_up : (down up : List (List ℕ)) (c : LateChannel)
+    → after_late_events (with_queues c down up) (ups_lost up) ≡ with_queues c down []
+loses_up down [] c = refl
+loses_up down (burst ∷ up) c = loses_up down up c
+
+-- the first of what is on its way down
+pub loses_first : (lost rest up : List (List ℕ)) (c : LateChannel)
+    → after_late_events (with_queues c (lost ++ rest) up) (downs_lost lost) ≡ with_queues c rest up
+loses_first [] rest up c = refl
+loses_first (burst ∷ lost) rest up c = loses_first lost rest up c
+
+-- One more burst, which isn't an answer, comes last on its way up.
+
+insert_last : (queue : List (List ℕ)) (burst : List ℕ) → insert queue (length queue) burst ≡ queue ++ burst ∷ []
+insert_last queue burst =
+    ap₂ (λ (l m : List (List ℕ)). l ++ burst ∷ m) (take-length queue) (drop-length queue)
+
+no_answer : (mode : Mode) (unit : ℕ) → is_junk_up mode unit (0x05 ∷ 0x04 ∷ []) ≡ true
+no_answer Plain unit = refl
+no_answer Confirming unit = refl
+
+pub refuses : (c : LateChannel)
+    → after_late_event c (event.JunkUp (length c.up) (0x05 ∷ 0x04 ∷ []))
+    ≡ with_queues c c.down (c.up ++ (0x05 ∷ 0x04 ∷ []) ∷ [])
+refuses c =
+    ap (λ (b : Bool). with_queues c c.down (with_junk b (0x05 ∷ 0x04 ∷ []) (length c.up) c.up))
+    (no_answer c.plan.mode c.port.state.unit)
+    ∙ ap (with_queues c c.down) (insert_last c.up (0x05 ∷ 0x04 ∷ []))

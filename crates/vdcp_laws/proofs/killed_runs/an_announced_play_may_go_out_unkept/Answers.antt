@@ -1,0 +1,17 @@
+use Rattle.vdcp_laws.proofs.Announced.{asked, idle, shows}
+use Rattle.vdcp_laws.proofs.killed_runs.an_announced_play_may_go_out_unkept.Goals as goal
+
+pub returns-clause-unasked : goal.returns-clause-unasked
+returns-clause-unasked c = idle
+
+pub returns-clause-unheard : goal.returns-clause-unheard
+returns-clause-unheard c =
+    asked (
+      c.the_unit_stays.ensures.burst,
+      c.the_unit_stays.ensures.frame,
+      c.the_unit_stays.ensures.ready,
+      c.the_unit_stays.ensures.ended,
+    )
+
+pub returns-clause-shows : goal.returns-clause-shows
+returns-clause-shows c = shows

@@ -1,0 +1,22 @@
+use Rattle.vdcp_laws.specs.OneConnection.{ends_of}
+use Rattle.vdcp_laws.proofs.Joining.{Laws, are_late_channel}
+use Rattle.vdcp_laws.proofs.OneRun.{anew_fresh, are_joined}
+use Rattle.vdcp_laws.proofs.two_ends.two_ends_are_a_late_channel.Goals as goal
+
+pub returns : goal.returns
+returns c =
+    let law : Laws = record {
+      spelt = c.what_is_below.ensures.spelt;
+      completed = c.what_is_below.ensures.completed;
+      arrived = c.what_is_below.ensures.arrived;
+      answered = c.what_is_below.ensures.answered;
+      written = c.what_is_below.ensures.written;
+      goes_on = c.a_killed_automation_goes_on.ensures.event;
+    } in
+    record {
+      ends = are_late_channel law;
+      one = λ plan port asked e ups downs can j fresh h.
+          are_late_channel law plan port asked (ends_of plan port.state.unit e ups downs) can
+          (are_joined plan port asked e ups downs fresh j h);
+      fresh = anew_fresh;
+    }

@@ -1,0 +1,81 @@
+-- An automation that hears each message at once, with the exchanges that ended: what a driver does (`after`), one exchange
+-- after another.
+use Rattle.std.specs.Option.{option_to_list}
+use Rattle.std.specs.Prelude.{ℕ, List, [], ◌∷◌, ◌++◌, map, Option, None, Some}
+use Rattle.vdcp_frame.specs.Message.{Content}
+use Rattle.vdcp_words.specs.declared.command.Command.{Command}
+use Rattle.vdcp_auto.specs.Course.{logged}
+use Rattle.vdcp_auto.specs.Heard.{heard_as}
+use Rattle.vdcp_auto.specs.Plan.{Plan}
+use Rattle.vdcp_auto.specs.Turn.{start, awaited, ticked, came_to, ended_by}
+use Rattle.vdcp_auto.specs.declared.exchange.Exchange.{Exchange}
+use Rattle.vdcp_auto.specs.declared.exchange.Heard.{Heard}
+use Rattle.vdcp_auto.specs.State.{State}
+use Rattle.vdcp_drive.specs.Auto.{Auto}
+use Rattle.vdcp_drive.specs.Keeping.{kept_by}
+use Rattle.vdcp_drive.specs.Reading.{Held, holds, completed, held_after, held_after_silence}
+use Rattle.vdcp_drive.specs.Steps.{ended_notes}
+use Rattle.vdcp_drive.specs.declared.keep.Kept.{Kept}
+use Rattle.vdcp_wire.specs.Wires.{Arrival, bytes, silence, close}
+
+-- what is held of a message, the controller, and the exchanges that ended
+pub record Prompt : Type 0 where
+  pub held : Held
+  pub state : State
+  pub log : List Exchange
+
+abbrev pub new_prompt : Prompt
+new_prompt = record { held = holds []; state = start; log = [] }
+
+-- the next command is given, if none is awaited and it hasn't ended
+abbrev pub gives : Prompt → Prompt
+gives p = record { held = p.held; state = ticked p.state; log = p.log }
+
+-- the controller hears something, or that nothing came in time
+abbrev pub receives : Plan → Option Heard → Prompt → Prompt
+receives plan came p =
+    record {
+      held = p.held;
+      state = came_to plan came p.state;
+      log = logged p.log (ended_by plan came p.state);
+    }
+
+abbrev pub hears : Plan → ℕ → Content → Prompt → Prompt
+hears plan unit m p = receives plan (Some (heard_as unit m)) p
+
+abbrev pub hears_all : Plan → ℕ → List Content → Prompt → Prompt
+hears_all plan unit [] p = p
+hears_all plan unit (m ∷ ms) p = hears_all plan unit ms (hears plan unit m p)
+
+abbrev pub holding : Held → Prompt → Prompt
+holding held p = record { held = held; state = p.state; log = p.log }
+
+-- one listen: each message that bytes complete is heard at once, and a silence or the close is a time-out
+abbrev pub listens : Plan → ℕ → Arrival → Prompt → Prompt
+listens plan unit (bytes piece) p = holding (held_after p.held piece) (hears_all plan unit (completed p.held piece) p)
+listens plan unit silence p = holding (held_after_silence p.held) (receives plan None p)
+listens plan unit close p = holding (held_after_silence p.held) (receives plan None p)
+
+-- all that came: before each listen the next command is given
+abbrev pub prompted_from : Plan → ℕ → Prompt → List Arrival → Prompt
+prompted_from plan unit p [] = p
+prompted_from plan unit p (a ∷ later) = prompted_from plan unit (listens plan unit a (gives p)) later
+
+abbrev pub prompted : Plan → ℕ → List Arrival → Prompt
+prompted plan unit came = prompted_from plan unit new_prompt came
+
+-- the commands of the exchanges that have ended, and then the one that is awaited
+abbrev pub commands_in : Plan → Prompt → List Command
+commands_in plan p = map (λ e. e.command) p.log ++ option_to_list (awaited plan p.state)
+
+-- what is kept of these
+abbrev pub kept_in : Plan → Prompt → List Kept
+kept_in plan p = kept_by plan p.log p.state
+
+-- and of an exchange that ended, if one did
+abbrev pub end_notes : Option Exchange → List Kept
+end_notes ended = ended_notes (option_to_list ended)
+
+-- a new driver that hears at once
+abbrev pub new_at_once : Auto Held
+new_at_once = record { ear = holds []; state = start }

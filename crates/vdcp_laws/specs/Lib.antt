@@ -1,0 +1,12 @@
+-- What the clauses of this crate cite.
+pub mod Kills
+pub mod Automation
+pub mod Below
+pub mod Carried
+pub mod EndsHeadline
+pub mod OneConnection
+pub mod SeveralRuns
+pub mod TwoEnds
+pub mod Undisturbed
+pub mod AsrunLaw
+pub mod LossyEvents

@@ -1,0 +1,35 @@
+//! The laws of as-run lists: what is written for a run, beside what went to air.
+//!
+//! The functions do nothing: their contracts are the laws, and a caller whose proof needs one calls it.
+ghost use Rattle.std.specs.Prelude.{IfSome, IsTrue};
+ghost use Rattle.vdcp_auto.specs.Turn.{outcome_of};
+ghost use Rattle.vdcp_late.specs.LateChannel.{LateChannel, IsLateReached};
+ghost use Rattle.vdcp_late.specs.LateHeadline.{is_late_complete};
+ghost use Rattle.vdcp_laws.specs.AsrunLaw.{IsOfAired, IsOfAllAired};
+ghost use Rattle.vdcp_value.specs.declared.rate.Rate.{Rate};
+ghost use Rattle.vdcp_world.specs.Channel.{Channel, IsReached};
+ghost use Rattle.vdcp_world.specs.Headline.{is_complete};
+
+/// Whatever happened on a line that holds one burst each way, from a new channel on: the as-run list that
+/// `vdcp_list::write_asrun` writes for what is reported has a row for each item that went to air, in order, but for the
+/// last of them at most. Once the controller has ended Done, Missing or Refused it has one for each.
+pub fn an_asrun_list_is_of_what_aired()
+    ensures but_one { (rate : Rate) (c : Channel) → IsReached c →
+        IsOfAired rate c.plan.list c.aired c.state.settled }
+    ensures complete { (rate : Rate) (c : Channel) → IsReached c → IfSome (outcome_of c.state.stage)
+        (λ outcome. IsTrue (is_complete outcome) → IsOfAllAired rate c.plan.list c.aired c.state.settled) }
+{
+    vdcp_world::laws::reached_keeps_the_headline();
+}
+
+/// Likewise of a line that keeps order, however late, and of ends that are started anew. In plain mode a refusal may be
+/// a stale one, so that an event may have aired that isn't reported.
+pub fn an_asrun_list_of_a_late_line_is_of_what_aired()
+    ensures but_one { (rate : Rate) (c : LateChannel) → IsLateReached c →
+        IsOfAired rate c.plan.list c.aired c.state.settled }
+    ensures complete { (rate : Rate) (c : LateChannel) → IsLateReached c → IfSome (outcome_of c.state.stage)
+        (λ outcome. IsTrue (is_late_complete c.plan.mode outcome) →
+        IsOfAllAired rate c.plan.list c.aired c.state.settled) }
+{
+    vdcp_late::laws::a_late_line_keeps_the_headline();
+}

@@ -1,0 +1,78 @@
+//! The laws of runs that are killed, any number of times, and go on from their journals.
+//!
+//! The functions do nothing: their contracts are the laws, and a caller whose proof needs one calls it.
+ghost use Rattle.std.specs.Prelude.{◌≡◌, ◌≤◌, ℕ, ◌∷◌, ◌++◌, [], All, IsTrue, List, Some};
+ghost use Rattle.vdcp_auto.specs.declared.exchange.Heard.{Heard};
+ghost use Rattle.vdcp_auto.specs.Plan.{Plan};
+ghost use Rattle.vdcp_auto.specs.Turn.{given, outcome_of, start};
+ghost use Rattle.vdcp_journal.specs.Resume.{AreTold, after_rows};
+ghost use Rattle.vdcp_journal.specs.Thinned.{AreThinned, IsThinned, asks_state, hears_done, hears_free, notes_in};
+ghost use Rattle.vdcp_journal.specs.declared.row.Note.{Note};
+ghost use Rattle.vdcp_journal.specs.declared.row.Note.TheVariants as note;
+ghost use Rattle.vdcp_journal.specs.declared.row.Row.{Row};
+ghost use Rattle.vdcp_laws.specs.Kills.{Announces, IsQuiet, IsRun, MayGoOn, announced_notes, asked_in_vain, heard_twice};
+ghost use Rattle.vdcp_late.specs.GoingOn.{IsNoTick, gone_on};
+ghost use Rattle.vdcp_late.specs.LateChannel.{LateChannel, IsLateReached, after_late_event, after_late_events};
+ghost use Rattle.vdcp_late.specs.LateHeadline.{LateHeadline};
+ghost use Rattle.vdcp_late.specs.declared.event.LateEvent.{LateEvent};
+ghost use Rattle.vdcp_late.specs.declared.event.LateEvent.TheVariants.{Tick, Up};
+ghost use Rattle.vdcp_words.specs.declared.command.Command.{Command};
+ghost use Rattle.vdcp_words.specs.declared.command.Command.TheVariants.{Play};
+
+/// Whatever happens on a line that keeps order, and however often the automation is killed and goes on from its
+/// journal, if no command goes out before its row is safe: the headline holds. Each row tells what a new controller does,
+/// and also where the journal leaves out what says nothing new, its rows give that the state of the one that runs.
+pub fn a_killed_run_keeps_the_headline()
+    ensures headline { (c : LateChannel) (notes : List Note) → IsRun c notes → LateHeadline c }
+    ensures reached { (c : LateChannel) (notes : List Note) → IsRun c notes → IsLateReached c }
+    ensures told { (c : LateChannel) (all rows : List Row) → IsRun c (notes_in all) → AreThinned all rows →
+        AreTold c.plan start rows }
+    ensures journal { (c : LateChannel) (all rows : List Row) → IsRun c (notes_in all) → AreThinned all rows →
+        after_rows c.plan start rows ≡ c.state }
+{
+    vdcp_late::laws::a_late_line_keeps_the_headline();
+    vdcp_late::laws::a_killed_automation_goes_on();
+    vdcp_journal::laws::a_thinned_journal_makes_the_same();
+}
+
+/// A command may have gone out before its row was safe, if it is the one that a controller of the safe rows gives next: one
+/// that asks for the state, or a PLAY. Whether it did or not, going on takes it for sent and timed out: a line could have
+/// had it so.
+pub fn what_asks_may_go_out_unkept()
+    ensures went { (c : LateChannel) (notes : List Note) (asks : Command) (since : List LateEvent) → IsRun c notes →
+        given c.plan c.state ≡ Some asks → All IsNoTick since →
+        IsRun (gone_on (after_late_event c Tick) (after_late_events c (Tick ∷ since)))
+        (notes ++ (note.Sent asks ∷ note.Silence ∷ [])) }
+    ensures stayed { (c : LateChannel) (notes : List Note) (asks : Command) (since : List LateEvent) → IsRun c notes →
+        given c.plan c.state ≡ Some asks → All IsNoTick since →
+        IsRun (asked_in_vain (gone_on c (after_late_events c since))) (notes ++ (note.Sent asks ∷ note.Silence ∷ [])) }
+{}
+
+/// Where the state that came last announced a PLAY, that may have gone out before its row was safe: the state was asked
+/// once more, its answer heard, and PLAY given. If it wasn't, going on may take it for given and lost all the same, whether
+/// nothing was given since that state (`unasked`) or the state was asked (`unheard`): a line could have had it so, on which
+/// the same state came once more, as a copy, after a take. And either way the rows may tell of any state that lets a PLAY go
+/// out (`shows`).
+pub fn an_announced_play_may_go_out_unkept()
+    ensures unasked { (c : LateChannel) (notes : List Note) (h : Heard) (asks : Command) (since : List LateEvent) →
+        IsRun c notes → Announces c h asks → All IsNoTick since →
+        IsRun (gone_on (heard_twice h c) (after_late_events c (Up ∷ since))) (notes ++ announced_notes h asks) }
+    ensures unheard { (c : LateChannel) (notes : List Note) (h : Heard) (asks : Command) (quiet since : List LateEvent) →
+        IsRun c notes → Announces c h asks → All IsQuiet quiet → All IsNoTick since →
+        IsRun (gone_on (heard_twice h c) (after_late_events c (Up ∷ (quiet ++ (Tick ∷ since)))))
+        (notes ++ announced_notes h asks) }
+    ensures shows { (notes : List Note) (h : Heard) (free : Note) (asks : Command) → IsTrue (asks_state (note.Sent asks)) →
+        IsTrue (hears_done (note.Heard h)) → IsTrue (hears_free free) →
+        IsThinned (notes ++ announced_notes h asks)
+        (notes ++ (note.Heard h ∷ note.Sent asks ∷ free ∷ note.Sent Play ∷ note.Silence ∷ [])) }
+{
+    vdcp_port::laws::the_unit_stays();
+}
+
+/// What a run did that was lost, or goes on, each controller with a greater limit would have done: its rows tell what that
+/// one does. So it may go on as that one, of whose log and of whose line the laws say the same.
+pub fn a_lost_run_may_go_on()
+    ensures { (plan : Plan) (limit : ℕ) (rows : List Row) → plan.limit ≤ limit → AreTold plan start rows →
+        MayGoOn (outcome_of (after_rows plan start rows).stage) →
+        AreTold (record plan { limit = limit }) start rows }
+{}

@@ -1,0 +1,27 @@
+//! The laws over controller, port, journal and line together. They run nothing: each function's contract is its law.
+//!
+//! Begin with `two_ends_keep_the_headline`.
+//!
+//! Files: `two_ends` (both ends over two streams of bytes), `killed_runs` (runs that go on from their journals), `asrun_lists`
+//! (as-run lists beside what went to air), `lossy_lines` (what `vdcp lossy` does, as events of a line).
+#![tactic(auto)]
+
+mod asrun_lists;
+mod killed_runs;
+mod lossy_lines;
+mod two_ends;
+
+pub use asrun_lists::{
+    an_asrun_list_is_of_what_aired, an_asrun_list_of_a_late_line_is_of_what_aired,
+};
+pub use killed_runs::{
+    a_killed_run_keeps_the_headline, a_lost_run_may_go_on, an_announced_play_may_go_out_unkept,
+    what_asks_may_go_out_unkept,
+};
+pub use lossy_lines::what_is_done_is_events;
+pub use two_ends::{
+    a_carried_run_keeps_the_headline, a_journal_makes_the_automation, a_kill_loses_what_came_since,
+    nothing_airs_after_a_complete_end, several_runs_air_a_beginning, two_ends_are_a_late_channel,
+    two_ends_keep_the_headline, undisturbed_ends_play_the_list, what_is_carried_has_come,
+    whole_messages_are_never_torn,
+};

@@ -1,0 +1,243 @@
+//! The laws of both ends over two streams of bytes that keep order, one connection after another.
+//!
+//! The functions do nothing: their contracts are the laws, and a caller whose proof needs one calls it.
+ghost use Rattle.std.specs.Prelude.{ℕ, ◌≡◌, ◌≤◌, ◌⊎◌, ◌++◌, [], false, All, List, length, IsTrue, Option, None, Some, Result, map};
+ghost use Rattle.vdcp_value.specs.declared.part.Item.{Item};
+ghost use Rattle.vdcp_frame.specs.Reading.{AreMessages};
+ghost use Rattle.vdcp_words.specs.declared.command.Command.{Command};
+ghost use Rattle.vdcp_port.specs.Clock.{ClockedPort};
+ghost use Rattle.vdcp_auto.specs.Course.{logged};
+ghost use Rattle.vdcp_auto.specs.Plan.{Plan};
+ghost use Rattle.vdcp_auto.specs.Settled.{may_have_aired};
+ghost use Rattle.vdcp_auto.specs.State.{State};
+ghost use Rattle.vdcp_auto.specs.Turn.{ended_by, outcome_of, start, ticked};
+ghost use Rattle.vdcp_auto.specs.declared.outcome.Outcome.{Outcome};
+ghost use Rattle.vdcp_journal.specs.Airings.{settled_in};
+ghost use Rattle.vdcp_journal.specs.Resume.{AreTold, after_rows, log_of};
+ghost use Rattle.vdcp_journal.specs.declared.row.Row.{Row};
+ghost use Rattle.vdcp_wire.specs.Acts.{Act};
+ghost use Rattle.vdcp_wire.specs.Wires.{Arrival};
+ghost use Rattle.vdcp_drive.specs.Auto as auto;
+ghost use Rattle.vdcp_drive.specs.Auto.{Auto, after};
+ghost use Rattle.vdcp_drive.specs.Bursts.{open_burst};
+ghost use Rattle.vdcp_drive.specs.Hearing.{at_once};
+ghost use Rattle.vdcp_drive.specs.Keeping.{kept_by};
+ghost use Rattle.vdcp_drive.specs.Leaves.{HasRun};
+ghost use Rattle.vdcp_drive.specs.Reading.{Held};
+ghost use Rattle.vdcp_drive.specs.Steps.{Chain, World, steps_of};
+ghost use Rattle.vdcp_drive.specs.Traces.{acts_in, came_in};
+ghost use Rattle.vdcp_drive.specs.declared.keep.KeptFault.{KeptFault};
+ghost use Rattle.vdcp_drive.specs.declared.line.Ran.{Ran};
+ghost use Rattle.vdcp_drive.specs.declared.line.DriveFault.{DriveFault};
+ghost use Rattle.vdcp_drive.specs.ServeLeaves.{HasServed};
+ghost use Rattle.vdcp_drive.specs.Served.{IsOpen, items_served, stands_at};
+ghost use Rattle.vdcp_drive.specs.Serving.{Serving, acts_of};
+ghost use Rattle.vdcp_drive.specs.Watching.{tells_airing};
+ghost use Rattle.vdcp_late.specs.LateHeadline.{is_late_complete};
+ghost use Rattle.vdcp_laws.specs.Automation.{gives};
+ghost use Rattle.vdcp_laws.specs.Below.{Answered, Arrived, Completed, Spelt, Written};
+ghost use Rattle.vdcp_laws.specs.Carried.{AreCarried, driver_of};
+ghost use Rattle.vdcp_laws.specs.EndsHeadline.{EndsHeadline};
+ghost use Rattle.vdcp_laws.specs.OneConnection.{ComesWhole, HasCome, IsFresh, ends_of};
+ghost use Rattle.vdcp_laws.specs.SeveralRuns.{HaveAired};
+ghost use Rattle.vdcp_laws.specs.TwoEnds.{AreJoined, AreLed, CanJoin, Ends, IsLateChannel, IsSince, aired_now, connected_anew, log_now, new_ends, note_for, notes_given, port_now, with_automation, with_kept};
+ghost use Rattle.vdcp_laws.specs.Undisturbed.{AreUndisturbed, CanPlay, IsDone, most_exchanges};
+
+use vdcp_auto::Source;
+use vdcp_drive::{Keep, Watch, WatchPort};
+use vdcp_port::Catalogue;
+use vdcp_wire::Wire;
+
+/// An automation that hears at once and a server, joined by two streams of bytes that keep order, are a late channel: in
+/// whatever pieces and however late the bytes come, with time-outs at any moment, after questions to the port whose
+/// bytes and answers may still be on their way, and over one connection after another, where the automation was killed
+/// and went on, or the server was started anew.
+pub fn two_ends_are_a_late_channel()
+    ensures ends { (plan : Plan) (port : ClockedPort) (asked : List Command) (e : Ends) → CanJoin plan port asked →
+        AreJoined plan port asked e → IsLateChannel plan port e }
+    // of one connection, by what came to either end since the automation began there
+    ensures one { (plan : Plan) (port : ClockedPort) (asked : List Command) (e : Ends) (ups downs : List Arrival) →
+        CanJoin plan port asked → AreJoined plan port asked e → IsFresh plan e →
+        HasCome plan port.state.unit e ups downs → IsLateChannel plan port (ends_of plan port.state.unit e ups downs) }
+    // as each one that follows another has just begun
+    ensures fresh { (plan : Plan) (port : ClockedPort) (e : Ends) → IsFresh plan (connected_anew plan port e) }
+{
+    what_is_below();
+    vdcp_late::laws::a_killed_automation_goes_on();
+}
+
+/// So the headline holds of the two ends: what went to air at the server is a beginning of the playlist, each event once
+/// and in order; the events that the automation takes for aired are a beginning of these, shorter by one at most; its end
+/// means what it says; and after a complete one they are the same.
+pub fn two_ends_keep_the_headline()
+    ensures ends { (plan : Plan) (port : ClockedPort) (asked : List Command) (e : Ends) → CanJoin plan port asked →
+        AreJoined plan port asked e → EndsHeadline plan port.clips e.automation.state (log_now e) (aired_now e) }
+{
+    two_ends_are_a_late_channel();
+    vdcp_late::laws::a_late_line_keeps_the_headline();
+}
+
+/// Of a driver and a server, new or gone on, whatever ends their runs, what came to either by any act of their wires is of
+/// what the other one has sent, if to each comes, in order, a beginning of the bytes that were sent by then.
+pub fn what_is_carried_has_come<
+    S: Source,
+    A: Wire,
+    V: Watch<S>,
+    K: Keep,
+    C: Catalogue,
+    B: Wire,
+    P: WatchPort<C>,
+>()
+    ensures come { (plan : Plan) (unit count turns : ℕ) (e : Ends) (a' : Auto Held) (old new : World A K V)
+        (answer : Result Ran KeptFault) (server server' : Serving B) (watch watch' : P) (result : Result Ran DriveFault) →
+        IsFresh plan e → IsOpen e.downs →
+        (run : HasRun (record { does = A.does; adds = K.adds; loses = K.loses; sees = V.sees }) at_once plan unit count
+        (driver_of e.automation) a' old new answer) →
+        (serving : HasServed B.does (λ looks. Chain (λ look. tells_airing P.watched look.aired) looks watch watch') turns
+        (stands_at e.port e.downs) server server' result) → (autos servers behind left : List Act) →
+        acts_in (steps_of at_once plan unit (driver_of e.automation) run.came ++ run.more) ≡ autos ++ behind →
+        acts_of (stands_at e.port e.downs) serving.came ++ serving.done ≡ servers ++ left →
+        AreCarried unit e autos servers → HasCome plan unit e (came_in autos) (came_in servers) }
+    // so steps lead there, and from there on
+    ensures joined { (plan : Plan) (port : ClockedPort) (asked : List Command) (e : Ends) (ups downs : List Arrival) →
+        IsFresh plan e → AreJoined plan port asked e → HasCome plan port.state.unit e ups downs →
+        AreJoined plan port asked (ends_of plan port.state.unit e ups downs) }
+{
+    vdcp_drive::laws::what_goes_out_is_served();
+}
+
+/// So the headline holds of a driver and a server, however their runs end, whose wires' acts are carried so: of new ones,
+/// and of a driver that goes on from its journal over a new connection, with what went to air before.
+pub fn a_carried_run_keeps_the_headline<
+    S: Source,
+    A: Wire,
+    V: Watch<S>,
+    K: Keep,
+    C: Catalogue,
+    B: Wire,
+    P: WatchPort<C>,
+>()
+    ensures { (plan : Plan) (port : ClockedPort) (asked : List Command) (e : Ends) (count turns : ℕ) (a' : Auto Held)
+        (old new : World A K V) (answer : Result Ran KeptFault) (server server' : Serving B) (watch watch' : P)
+        (result : Result Ran DriveFault) → CanJoin plan port asked → AreJoined plan port asked e → IsFresh plan e →
+        IsOpen e.downs →
+        (run : HasRun (record { does = A.does; adds = K.adds; loses = K.loses; sees = V.sees }) at_once plan
+        port.state.unit count (driver_of e.automation) a' old new answer) →
+        (serving : HasServed B.does (λ looks. Chain (λ look. tells_airing P.watched look.aired) looks watch watch') turns
+        (stands_at e.port e.downs) server server' result) →
+        AreCarried port.state.unit e
+        (acts_in (steps_of at_once plan port.state.unit (driver_of e.automation) run.came ++ run.more))
+        (acts_of (stands_at e.port e.downs) serving.came ++ serving.done) →
+        EndsHeadline plan port.clips a'.state
+        (e.log_before ++ auto.log_of at_once plan port.state.unit (driver_of e.automation) run.came)
+        (e.aired_before ++ items_served e.port
+        (e.downs ++ came_in (acts_of (stands_at e.port e.downs) serving.came ++ serving.done))) }
+{
+    two_ends_are_a_late_channel();
+    vdcp_late::laws::a_late_line_keeps_the_headline();
+    vdcp_drive::laws::what_goes_out_is_served();
+}
+
+/// A line that hands on whole messages alone tears none: whatever came by it, a frame may pass.
+pub fn whole_messages_are_never_torn()
+    ensures { (came : List Arrival) → All ComesWhole came → AreMessages (open_burst came) }
+{}
+
+/// Once the automation has ended so that all that went to air is reported, nothing more airs, whatever is still on its way.
+pub fn nothing_airs_after_a_complete_end()
+    ensures { (plan : Plan) (port : ClockedPort) (asked : List Command) (e later : Ends) (outcome : Outcome) →
+        CanJoin plan port asked → AreJoined plan port asked e → outcome_of e.automation.state.stage ≡ Some outcome →
+        IsTrue (is_late_complete plan.mode outcome) → AreLed plan port.state.unit e later →
+        aired_now later ≡ aired_now e }
+{
+    two_ends_are_a_late_channel();
+    vdcp_late::laws::a_late_line_keeps_the_headline();
+}
+
+/// What aired over several runs of a list, each of which begins with the number of all that aired before, is a beginning
+/// of that list.
+pub fn several_runs_air_a_beginning()
+    ensures list { (list aired : List Item) → HaveAired list aired → (more : List Item) × (list ≡ aired ++ more) }
+    // that number is what a run's journal settles, where it shows that no event more may have aired
+    ensures next { (plan : Plan) (port : ClockedPort) (asked : List Command) (e : Ends) (rows : List Row) →
+        CanJoin plan port asked → AreJoined plan port asked e → map (λ row. row.note) rows ≡ e.notes →
+        may_have_aired plan.mode (log_of rows) ≡ false → length (aired_now e) ≡ settled_in plan.mode rows }
+{
+    two_ends_are_a_late_channel();
+    vdcp_late::laws::a_late_line_keeps_the_headline();
+}
+
+/// Exchanges that nothing disturbs bring a list to its end, from two new ends: in plain mode five for each event, and
+/// four, or more; in confirm mode six, and six. They are among what may come of the two ends.
+pub fn undisturbed_ends_play_the_list()
+    ensures { (plan : Plan) (port : ClockedPort) (n : ℕ) (e : Ends) → CanPlay plan port →
+        most_exchanges plan.mode (length plan.list) ≤ n → AreUndisturbed plan port.state.unit n (new_ends port []) e →
+        AreJoined plan port [] e × IsDone plan e }
+{
+    what_is_below();
+    vdcp_port::laws::a_command_is_answered();
+    vdcp_port::laws::a_command_has_its_own_row();
+    vdcp_port::laws::what_a_port_holds();
+    vdcp_world::laws::good_rounds_bring_all_to_air();
+}
+
+/// An automation that is killed goes on as it was when the last of what is safe in its journal was noted, if it gave no
+/// command since. What came to it since is lost, and the server is as it is now; so this is among what may come of the
+/// two ends, and a new connection may follow. Its next command may be taken for given, too, as one that may have gone out
+/// without its row.
+pub fn a_kill_loses_what_came_since()
+    ensures joined { (plan : Plan) (port : ClockedPort) (asked : List Command) (kept now : Ends) →
+        AreJoined plan port asked kept → IsSince plan port.state.unit kept now → AreJoined plan port asked (with_kept kept now) }
+    ensures gives { (plan : Plan) (port : ClockedPort) (asked : List Command) (kept now : Ends) →
+        AreJoined plan port asked kept → IsSince plan port.state.unit kept now → AreJoined plan port asked
+        (with_automation (gives kept.automation) (notes_given plan kept.automation.state) (with_kept kept now)) }
+    ensures port { (plan : Plan) (port : ClockedPort) (asked : List Command) (kept now : Ends) →
+        AreJoined plan port asked kept → IsSince plan port.state.unit kept now → port_now (with_kept kept now) ≡ port_now now }
+    ensures aired { (plan : Plan) (port : ClockedPort) (asked : List Command) (kept now : Ends) →
+        AreJoined plan port asked kept → IsSince plan port.state.unit kept now → aired_now (with_kept kept now) ≡ aired_now now }
+{}
+
+/// The rows of a journal that has these notes make the automation's controller of a new one, each tells what the
+/// controller does there, and the log that they show is the automation's, with the command that is awaited timed out.
+pub fn a_journal_makes_the_automation()
+    ensures makes { (plan : Plan) (port : ClockedPort) (asked : List Command) (e : Ends) (rows : List Row) →
+        CanJoin plan port asked → AreJoined plan port asked e → map (λ row. row.note) rows ≡ e.notes →
+        after_rows plan start rows ≡ e.automation.state }
+    ensures told { (plan : Plan) (port : ClockedPort) (asked : List Command) (e : Ends) (rows : List Row) →
+        CanJoin plan port asked → AreJoined plan port asked e → map (λ row. row.note) rows ≡ e.notes →
+        AreTold plan start rows }
+    ensures shows { (plan : Plan) (port : ClockedPort) (asked : List Command) (e : Ends) (rows : List Row) →
+        AreJoined plan port asked e → map (λ row. row.note) rows ≡ e.notes →
+        log_of rows ≡ logged (log_now e) (ended_by plan None e.automation.state) }
+    // and what a driver's run keeps (`notes_of`), with its next command given, are the notes that it adds to the journal
+    ensures kept { (plan : Plan) (unit : ℕ) (e : Ends) (came downs : List Arrival) → IsFresh plan e →
+        (ends_of plan unit e came downs).notes ≡ e.notes ++ map note_for
+        (kept_by plan (auto.log_of at_once plan unit (driver_of e.automation) came)
+        (ticked (after at_once plan unit (driver_of e.automation) came).state)) }
+{
+    vdcp_auto::laws::reached_is_lawful();
+}
+
+/// What the laws of the crates below say of bytes and messages.
+fn what_is_below()
+    ensures spelt { Spelt }
+    ensures completed { Completed }
+    ensures arrived { Arrived }
+    ensures answered { Answered }
+    ensures written { Written }
+{
+    vdcp_frame::laws::no_spelling_begins_another();
+    vdcp_frame::laws::one_spelling();
+    vdcp_frame::laws::what_is_spelt_is_bytes();
+    vdcp_frame::laws::a_spelling_is_its_message();
+    vdcp_frame::laws::what_is_followed_is_read();
+    vdcp_words::laws::command_is_read_first();
+    vdcp_words::laws::reply_is_read_first();
+    vdcp_port::laws::messages_after_messages();
+    vdcp_port::laws::the_unit_stays();
+    vdcp_port::laws::a_burst_of_one_message();
+    vdcp_port::laws::answers_are_read_back();
+    vdcp_auto::laws::commands_can_be_written();
+    vdcp_drive::laws::what_is_spelt_is_completed();
+    vdcp_drive::laws::bursts_grow();
+}
