@@ -1,8 +1,0 @@
--- The pieces so far, and those of what is left, are all that are added.
-use Rattle.std.proofs.Common.{◌≡◌, ◌++◌, drop}
-use Rattle.vdcp_capture.specs.Forms.{numbered}
-use Rattle.vdcp_capture.proofs.capture.add.Given as goal
-
-abbrev pub invariant-loop-k : goal.invariant-loop-k
-invariant-loop-k l =
-    l.pieces.items ++ numbered l.number (drop l.k l.said) ≡ l.initial.pieces.items ++ numbered l.number l.said

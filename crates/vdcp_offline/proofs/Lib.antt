@@ -1,0 +1,4 @@
+mod JudgeLoops
+mod SimNumbered
+mod SimRan
+mod SimRefusals

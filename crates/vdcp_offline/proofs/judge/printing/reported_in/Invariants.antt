@@ -1,0 +1,10 @@
+-- Those counted so far, and those of what is left, are all.
+use Rattle.std.proofs.Common.{◌≡◌, ◌+◌, ◌≤◌, drop}
+use Rattle.vdcp_offline.specs.Findings.{reported_in}
+use Rattle.vdcp_offline.proofs.judge.printing.reported_in.Given as goal
+
+abbrev pub invariant-loop-k : goal.invariant-loop-k
+invariant-loop-k l = record {
+  few : l.count ≤ l.k;
+  count : l.count + reported_in (drop l.k l.findings) ≡ reported_in l.findings;
+}

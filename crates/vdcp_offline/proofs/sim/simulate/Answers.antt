@@ -1,0 +1,20 @@
+use Rattle.std.proofs.Common.{inl, inr}
+use Rattle.std.proofs.lemmas.Result.{err_from_is_err_and}
+use Rattle.vdcp_offline.proofs.SimNumbered.{kept}
+use Rattle.vdcp_offline.proofs.sim.simulate.Goals as goal
+use Rattle.vdcp_offline.specs.Sim.{no_files}
+use Rattle.vdcp_list.specs.List.{items_of}
+
+pub returns-in_err-events-clause-unsimulated : goal.returns-in_err-events-clause-unsimulated
+returns-in_err-events-clause-unsimulated g c =
+    let p = err_from_is_err_and c.from_residual.result c.from_residual.ensures.1 in
+    rw (p.1, p.2) (no_files (inl c.in_err-events.ensures.refused) (kept (g.W.Write.contents c.args.out.now)))
+
+pub returns-in_err-clips-clause-unsimulated : goal.returns-in_err-clips-clause-unsimulated
+returns-in_err-clips-clause-unsimulated g c =
+    let p = err_from_is_err_and c.from_residual-in_err-clips.result c.from_residual-in_err-clips.ensures.1 in
+    rw (p.1, p.2) (no_files (inr (
+      (items_of c.in_ok-events.events, c.in_ok-events.ensures.events),
+      c.in_err-clips.ensures.refused,
+    ))
+    (kept (g.W.Write.contents c.args.out.now)))

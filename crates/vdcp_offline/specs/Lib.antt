@@ -1,0 +1,5 @@
+-- What the clauses of this crate cite.
+pub mod Findings
+pub mod Judged
+pub mod Rows
+pub mod Sim

@@ -1,0 +1,56 @@
+-- What the rows of a capture say.
+use Rattle.hex.specs.Hex.{decode_of}
+use Rattle.std.specs.List.{enumerate_from}
+use Rattle.std.specs.Prelude.{ℕ, ◌≡◌, ◌+◌, ⊤, List, [], ◌∷◌, ◌++◌, codes, map, Ok, Option, None, Some}
+use Rattle.std.specs.Str.Lines.{lines}
+use Rattle.vdcp_offline.specs.declared.judge.capture.Piece.{Piece}
+use Rattle.vdcp_judge.specs.Captures.{captured_in}
+use Rattle.vdcp_judge.specs.declared.burst.Way.{Way}
+use Rattle.vdcp_judge.specs.declared.burst.Way.TheVariants.{Down, Up}
+use Rattle.vdcp_judge.specs.declared.capture.Captured.{Captured}
+use Rattle.vdcp_judge.specs.declared.capture.Captured.TheVariants.{Silence}
+
+abbrev pub way_text : Way → List ℕ
+way_text Down = codes "down"
+way_text Up = codes "up"
+
+-- a time, a way and a burst's digits
+abbrev pub row_text : List ℕ → Way → List ℕ → List ℕ
+row_text time way digits = time ++ 0x2C ∷ (way_text way ++ 0x2C ∷ digits)
+
+-- what a burst says; one of no bytes stands for a silence
+abbrev pub said_by : ℕ → Way → List ℕ → List Captured
+said_by unit way [] = Silence ∷ []
+said_by unit way (byte ∷ more) = captured_in unit way (byte ∷ more)
+
+-- what a line says, of a port with this unit
+pub data Says (unit : ℕ) (text : List ℕ) : List Captured → Type 0 where
+  blank : text ≡ [] → Says unit text []
+  row : (time : List ℕ) (way : Way) (digits burst : List ℕ) → text ≡ row_text time way digits
+      → decode_of digits ≡ Ok burst → Says unit text (said_by unit way burst)
+
+-- what was captured, with the number of its line
+abbrev pub numbered : ℕ → List Captured → List Piece
+numbered number said = map (λ c. record { line = number; captured = c }) said
+
+-- pieces, and then those that the line of this number says
+pub record SaysMore (unit number : ℕ) (text : List ℕ) (pieces more : List Piece) : Type 0 where
+  pub said : List Captured
+  pub more_are : more ≡ pieces ++ numbered number said
+  pub says : Says unit text said
+
+-- the pieces of lines, one after another; before a line stand as many as its place says
+pub data SayAll (unit : ℕ) : List (ℕ × List ℕ) → List Piece → Type 0 where
+  no_line : SayAll unit [] []
+  one_more : (before : List (ℕ × List ℕ)) (pieces : List Piece) (place : ℕ) (text : List ℕ) (more : List Piece)
+      → SayAll unit before pieces → SaysMore unit (place + 1) text pieces more
+      → SayAll unit (before ++ (place, text) ∷ []) more
+
+-- the text is a capture of these pieces
+abbrev pub IsCapture : ℕ → List ℕ → List Piece → Type 0
+IsCapture unit text pieces = SayAll unit (enumerate_from 0 (lines text)) pieces
+
+-- a file is, if its bytes are known
+abbrev pub IsCaptureOf : ℕ → Option (List ℕ) → List Piece → Type 0
+IsCaptureOf unit None pieces = ⊤
+IsCaptureOf unit (Some text) pieces = IsCapture unit text pieces

@@ -1,0 +1,102 @@
+//! The subcommand `judge`: a capture is held against the rule book.
+//!
+//! `do_judge` reads a playlist and a capture, each a `NamedFile`, and prints which commands weren't allowed where they
+//! stand, and which events the exchanges show to be aired. Of the capture it takes nothing but its bytes, so it judges
+//! any automation. It reports a failure to standard error in one line, and gives the exit status.
+//!
+//! Files, in reading order: `settings`, `capture`, `findings`, `printing`.
+ghost use Rattle.std.specs.Io.KnownBytes.{Appends, Keeps};
+ghost use Rattle.std.specs.Prelude.{ℕ, ◌≡◌, ◌≢◌, ◌⊎◌, ◌<◌, IfErr, IfOk, OnOk};
+ghost use Rattle.vdcp_offline.specs.Judged.{AreWhole, IsJudged, IsToldOnly};
+ghost use Rattle.vdcp_files.specs.Files.{file};
+ghost use Rattle.vdcp_text.specs.Failure.{status_of};
+ghost use Rattle.vdcp_text.specs.declared.failure.Failure.TheVariants as failures;
+
+use crate::judge::capture::read_capture;
+use crate::judge::findings::{find, has_message};
+use crate::judge::printing::{forbidden_in, report};
+use std::alloc::Global;
+use std::io;
+use vdcp_files::NamedFile;
+use vdcp_text::Failure;
+
+mod capture;
+mod findings;
+mod printing;
+mod settings;
+
+pub use settings::JudgeSettings;
+
+/// Holds the exchanges that a capture shows against the rule book, for an automation that plays this list. `out` gets
+/// a line for each command that wasn't allowed where it stands, one for each event that the exchanges show to be
+/// aired, and then how many exchanges there are, how many commands were forbidden, and how many events are reported.
+///
+/// The status is 0 if no command was forbidden, and 1 if one was. It is also 1 if a row of the list or the
+/// capture is refused, or the capture has no message, and 3 if a file can't be read or memory was refused: `err` gets a line of either, and
+/// `out` nothing. The list is read first. The status is 3 if a writer failed: nothing more is written to that one.
+/// `out` is flushed after the last line.
+pub fn do_judge<L: io::Read + Drop, C: io::Read + Drop, W: io::Write, E: io::Write>(
+    alloc: Global,
+    list: NamedFile<'_, L>,
+    capture: NamedFile<'_, C>,
+    settings: JudgeSettings,
+    out: &mut W,
+    err: &mut E,
+) -> u8
+    ensures judged { result ≡ 0 → IsJudged settings (file list.entry.name (L.remaining list.entry.reader))
+        (C.remaining capture.entry.reader) (W.contents out.old) (W.contents out.new) 0 }
+    ensures untold { result ≡ 0 → Keeps (E.contents err.old) (E.contents err.new) }
+    // The status is 1 if a command was forbidden, and for a row or a capture that is refused.
+    ensures others { result ≡ 1 →
+        ((forbidden : ℕ) × (0 < forbidden)
+        × IsJudged settings (file list.entry.name (L.remaining list.entry.reader))
+        (C.remaining capture.entry.reader) (W.contents out.old) (W.contents out.new) forbidden
+        × Keeps (E.contents err.old) (E.contents err.new))
+        ⊎ IsToldOnly (W.contents out.old) (W.contents out.new) (E.contents err.old) (E.contents err.new) }
+    ensures silent { Keeps (W.contents out.old) (W.contents out.new)
+        ⊎ AreWhole settings (file list.entry.name (L.remaining list.entry.reader)) (C.remaining capture.entry.reader) }
+    ensures statuses { (result < 2) ⊎ (result ≡ 3) }
+{
+    match judge(alloc, list, capture, settings, out) {
+        Ok(0) => 0,
+        Ok(_) => 1,
+        Err(failure) => failure.report(err),
+    }
+}
+
+/// Judges a capture, writes what was found, and says how many commands were forbidden.
+fn judge<'a, L: io::Read + Drop, C: io::Read + Drop, W: io::Write>(
+    alloc: Global,
+    list: NamedFile<'a, L>,
+    capture: NamedFile<'a, C>,
+    settings: JudgeSettings,
+    out: &mut W,
+) -> Result<usize, Failure<'a>>
+    ensures judged { IfOk result (IsJudged settings (file list.entry.name (L.remaining list.entry.reader))
+        (C.remaining capture.entry.reader) (W.contents out.old) (W.contents out.new)) }
+    ensures untold { IfErr result (λ f. f ≢ failures.Writer → Keeps (W.contents out.old) (W.contents out.new)) }
+    ensures silent { Keeps (W.contents out.old) (W.contents out.new)
+        ⊎ AreWhole settings (file list.entry.name (L.remaining list.entry.reader)) (C.remaining capture.entry.reader) }
+    ensures statuses { IfErr result (λ f. status_of f ≢ 2) }
+{
+    let events = list.read_list(alloc, settings.rate)?;
+    let name = capture.name;
+    let pieces = read_capture(alloc, capture, settings.unit)?;
+    if !has_message(pieces.as_slice()) {
+        return Err(Failure::Empty(name));
+    }
+    let findings = find(alloc, &events, settings.confirming, pieces.as_slice())?;
+    let text = report(alloc, settings.rate, &events, findings.as_slice())?;
+    match write(text.as_bytes(), out) {
+        Ok(()) => Ok(forbidden_in(findings.as_slice())),
+        Err(_) => Err(Failure::Writer),
+    }
+}
+
+/// Writes bytes, and flushes the writer.
+fn write<W: io::Write>(bytes: &[u8], out: &mut W) -> io::Result<()>
+    ensures { OnOk result (Appends (W.contents out.old) (W.contents out.new) bytes.now) }
+{
+    out.write_all(bytes)?;
+    out.flush()
+}

@@ -1,0 +1,13 @@
+//! What `judge` is told of a capture.
+use vdcp_value::Rate;
+
+/// What was captured.
+#[derive(Clone, Copy, Debug, PartialEq, Eq)]
+pub struct JudgeSettings {
+    /// The unit address of the port, 0 to 15.
+    pub unit: u8,
+    /// The frame rate of the list's time codes.
+    pub rate: Rate,
+    /// The automation is in confirm mode.
+    pub confirming: bool,
+}

@@ -1,0 +1,320 @@
+//! The subcommand `sim`: a script is run, and what came of it printed.
+//!
+//! `do_sim` reads a playlist, a catalogue and a script, each a `NamedFile`, brings the script's events into a new
+//! world, and prints what went to air and what was reported of it. It reports a failure to standard error in one line,
+//! and gives the exit status.
+ghost use Rattle.std.specs.Io.KnownBytes.{Appends, Keeps};
+ghost use Rattle.std.specs.Prelude.{◌≡◌, ◌≢◌, ◌⊎◌, ◌<◌, ◌≤◌, IfErr, OnOk, false, true};
+ghost use Rattle.vdcp_files.specs.Check.{AreWhole, IsRefused};
+ghost use Rattle.vdcp_files.specs.Files.{file};
+ghost use Rattle.vdcp_late.specs.Joined.{late_of};
+ghost use Rattle.vdcp_offline.specs.Sim.{IsRun, IsRunFailure, IsScriptRefused, IsSimulated, IsUnsimulated};
+ghost use Rattle.vdcp_offline.specs.Sim.{aired_line, aired_text, channel_of, end_text, exchange_line, run_text, trace_text};
+ghost use Rattle.vdcp_text.specs.Failure.{status_of};
+
+use crate::sim::script::read_events;
+use std::alloc::Global;
+use std::io;
+use vdcp_auto::{Exchange, Outcome, Source};
+use vdcp_files::NamedFile;
+use vdcp_late::LateWorld;
+use vdcp_port::{Catalogue, Port};
+use vdcp_text::{ExchangeText, Failure, ItemText, OutcomeText};
+use vdcp_value::{Item, Rate};
+use vdcp_world::World;
+
+mod script;
+
+/// What a channel is made with, and what is printed of it.
+#[derive(Clone, Copy, Debug, PartialEq, Eq)]
+pub struct SimSettings {
+    /// The unit address of both ends, 0 to 15.
+    pub unit: u8,
+    /// The port's number.
+    pub port: u8,
+    /// Unanswered exchanges in a row after which the controller gives up, 1 to 1,000.
+    pub limit: u32,
+    /// The length of a cue in frames, 1 to 1,000.
+    pub cue_frames: u32,
+    /// The controller is in confirm mode, and receipts may come from nowhere.
+    pub confirm: bool,
+    /// The line keeps order, and bursts wait in it however long; else it holds one burst each way.
+    pub late: bool,
+    /// The frame rate of time codes.
+    pub rate: Rate,
+    /// Each exchange is printed too.
+    pub trace: bool,
+}
+
+/// Runs a script of events in a new world, in which the controller plays the list through a port that has
+/// the clips of the catalogue. `out` gets, with `trace`, a line for each exchange that ended, then one for
+/// each item that went to air, and then how many events are reported, how many exchanges ended, and how the
+/// controller ended.
+///
+/// The status is 0 whatever came of the events. It is 1 if a row or the script is refused, and 3 if a
+/// file can't be read or memory was refused: `err` gets a line of either, and `out` nothing. The list is
+/// read first, and then the catalogue. The status is 3 if a writer failed: nothing more is written to
+/// that one. `out` is flushed after the last line.
+pub fn do_sim<
+    L: io::Read + Drop,
+    C: io::Read + Drop,
+    R: io::Read + Drop,
+    W: io::Write,
+    E: io::Write,
+>(
+    alloc: Global,
+    list: NamedFile<'_, L>,
+    catalogue: NamedFile<'_, C>,
+    script: NamedFile<'_, R>,
+    settings: SimSettings,
+    out: &mut W,
+    err: &mut E,
+) -> u8
+    requires unit { settings.unit ≤ 15 }
+    requires some { 1 ≤ settings.limit }
+    requires few { settings.limit ≤ 1000 }
+    requires some_frames { 1 ≤ settings.cue_frames }
+    requires few_frames { settings.cue_frames ≤ 1000 }
+    ensures simulated { result ≡ 0 →
+        IsSimulated settings (file list.entry.name (L.remaining list.entry.reader))
+        (file catalogue.entry.name (C.remaining catalogue.entry.reader)) (R.remaining script.entry.reader)
+        (W.contents out.old) (W.contents out.new) }
+    ensures untold { result ≡ 0 → Keeps (E.contents err.old) (E.contents err.new) }
+    // The status is 1 for a row that is refused, and for a line or the whole of the script.
+    ensures others { result ≡ 1 →
+        IsRefused settings.rate (file list.entry.name (L.remaining list.entry.reader))
+        (file catalogue.entry.name (C.remaining catalogue.entry.reader))
+        (W.contents out.old) (W.contents out.new) (E.contents err.old) (E.contents err.new)
+        ⊎ IsScriptRefused settings.rate (file list.entry.name (L.remaining list.entry.reader))
+        (file catalogue.entry.name (C.remaining catalogue.entry.reader))
+        script.entry.name (W.contents out.old) (W.contents out.new) (E.contents err.old) (E.contents err.new) }
+    ensures silent { Keeps (W.contents out.old) (W.contents out.new)
+        ⊎ AreWhole settings.rate (file list.entry.name (L.remaining list.entry.reader))
+        (file catalogue.entry.name (C.remaining catalogue.entry.reader)) }
+    ensures statuses { (result < 2) ⊎ (result ≡ 3) }
+{
+    match simulate(alloc, list, catalogue, script, settings, out) {
+        Ok(()) => 0,
+        Err(failure) => failure.report(err),
+    }
+}
+
+// Reads the playlist and the catalogue, runs the script, and writes what came of it.
+fn simulate<'a, L: io::Read + Drop, C: io::Read + Drop, R: io::Read + Drop, W: io::Write>(
+    alloc: Global,
+    list: NamedFile<'a, L>,
+    catalogue: NamedFile<'a, C>,
+    script: NamedFile<'a, R>,
+    settings: SimSettings,
+    out: &mut W,
+) -> Result<(), Failure<'a>>
+    requires unit { settings.unit ≤ 15 }
+    requires some { 1 ≤ settings.limit }
+    requires few { settings.limit ≤ 1000 }
+    requires some_frames { 1 ≤ settings.cue_frames }
+    requires few_frames { settings.cue_frames ≤ 1000 }
+    ensures simulated { OnOk result
+        (IsSimulated settings (file list.entry.name (L.remaining list.entry.reader))
+        (file catalogue.entry.name (C.remaining catalogue.entry.reader)) (R.remaining script.entry.reader)
+        (W.contents out.old) (W.contents out.new)) }
+    ensures unsimulated { IfErr result
+        (IsUnsimulated settings.rate (file list.entry.name (L.remaining list.entry.reader))
+        (file catalogue.entry.name (C.remaining catalogue.entry.reader))
+        script.entry.name (W.contents out.old) (W.contents out.new)) }
+    ensures silent { Keeps (W.contents out.old) (W.contents out.new)
+        ⊎ AreWhole settings.rate (file list.entry.name (L.remaining list.entry.reader))
+        (file catalogue.entry.name (C.remaining catalogue.entry.reader)) }
+    ensures statuses { IfErr result (λ e. status_of e ≢ 2) }
+{
+    let events = list.read_list(alloc, settings.rate)?;
+    let clips = catalogue.read_catalogue(alloc, settings.rate)?;
+    if settings.late {
+        run_late(alloc, events, clips, script, settings, out)
+    } else {
+        run_in_time(alloc, events, clips, script, settings, out)
+    }
+}
+
+// Runs the script on a line that holds one burst each way, and writes what came of it.
+fn run_in_time<'a, S: Source + Drop, C: Catalogue + Drop, R: io::Read + Drop, W: io::Write>(
+    alloc: Global,
+    source: S,
+    catalogue: C,
+    script: NamedFile<'a, R>,
+    settings: SimSettings,
+    out: &mut W,
+) -> Result<(), Failure<'a>>
+    requires in_time { settings.late ≡ false }
+    requires unit { settings.unit ≤ 15 }
+    requires some { 1 ≤ settings.limit }
+    requires few { settings.limit ≤ 1000 }
+    requires some_frames { 1 ≤ settings.cue_frames }
+    requires few_frames { settings.cue_frames ≤ 1000 }
+    ensures ran { OnOk result (IsRun settings (S.items source) (C.clips catalogue) (R.remaining script.entry.reader)
+        (W.contents out.old) (W.contents out.new)) }
+    ensures failed { IfErr result (IsRunFailure script.entry.name (W.contents out.old) (W.contents out.new)) }
+    ensures statuses { IfErr result (λ e. status_of e ≢ 2) }
+{
+    let events = read_events(alloc, script)?;
+    let mut world = new_world(alloc, source, catalogue, settings);
+    world.run(events.as_slice())?;
+    let (log, aired) = (world.log(), world.aired());
+    write_run(log, aired, world.reported(), world.outcome(), settings, out).map_err(
+        |_| Failure::Writer,
+    )
+}
+
+// Runs the script on a line that keeps order, and writes what came of it.
+fn run_late<'a, S: Source + Drop, C: Catalogue + Drop, R: io::Read + Drop, W: io::Write>(
+    alloc: Global,
+    source: S,
+    catalogue: C,
+    script: NamedFile<'a, R>,
+    settings: SimSettings,
+    out: &mut W,
+) -> Result<(), Failure<'a>>
+    requires late { settings.late ≡ true }
+    requires unit { settings.unit ≤ 15 }
+    requires some { 1 ≤ settings.limit }
+    requires few { settings.limit ≤ 1000 }
+    requires some_frames { 1 ≤ settings.cue_frames }
+    requires few_frames { settings.cue_frames ≤ 1000 }
+    ensures ran { OnOk result (IsRun settings (S.items source) (C.clips catalogue) (R.remaining script.entry.reader)
+        (W.contents out.old) (W.contents out.new)) }
+    ensures failed { IfErr result (IsRunFailure script.entry.name (W.contents out.old) (W.contents out.new)) }
+    ensures statuses { IfErr result (λ e. status_of e ≢ 2) }
+{
+    let events = read_events(alloc, script)?;
+    let mut world = new_late_world(alloc, source, catalogue, settings);
+    world.run(events.as_slice())?;
+    let (log, aired) = (world.log(), world.aired());
+    write_run(log, aired, world.reported(), world.outcome(), settings, out).map_err(
+        |_| Failure::Writer,
+    )
+}
+
+// The new world of a playlist and a catalogue.
+fn new_world<S: Source, C: Catalogue>(
+    alloc: Global,
+    source: S,
+    catalogue: C,
+    settings: SimSettings,
+) -> World<S, C, Global>
+    requires unit { settings.unit ≤ 15 }
+    requires some { 1 ≤ settings.limit }
+    requires few { settings.limit ≤ 1000 }
+    requires some_frames { 1 ≤ settings.cue_frames }
+    requires few_frames { settings.cue_frames ≤ 1000 }
+    ensures { result ≡ channel_of settings (S.items source) (C.clips catalogue) }
+{
+    let SimSettings {
+        unit,
+        port,
+        limit,
+        cue_frames,
+        ..
+    } = settings;
+    if settings.confirm {
+        World::confirming(alloc, source, catalogue, unit, port, limit, cue_frames)
+    } else {
+        World::with_clock(alloc, source, catalogue, unit, port, limit, cue_frames)
+    }
+}
+
+// The new late world of a playlist and a catalogue.
+fn new_late_world<S: Source, C: Catalogue>(
+    alloc: Global,
+    source: S,
+    catalogue: C,
+    settings: SimSettings,
+) -> LateWorld<S, C, Global>
+    requires unit { settings.unit ≤ 15 }
+    requires some { 1 ≤ settings.limit }
+    requires few { settings.limit ≤ 1000 }
+    requires some_frames { 1 ≤ settings.cue_frames }
+    requires few_frames { settings.cue_frames ≤ 1000 }
+    ensures { result ≡ late_of (channel_of settings (S.items source) (C.clips catalogue)) }
+{
+    let SimSettings {
+        unit,
+        port,
+        limit,
+        cue_frames,
+        ..
+    } = settings;
+    let port = Port::with_clock(catalogue, unit, port, cue_frames);
+    if settings.confirm {
+        LateWorld::confirming(alloc, source, port, limit)
+    } else {
+        LateWorld::new(alloc, source, port, limit)
+    }
+}
+
+// Writes what came of a run.
+fn write_run<W: io::Write>(
+    log: &[Exchange],
+    aired: &[Item],
+    reported: usize,
+    outcome: Option<Outcome>,
+    settings: SimSettings,
+    out: &mut W,
+) -> io::Result<()>
+    ensures { OnOk result (Appends (W.contents out.old) (W.contents out.new)
+        (run_text settings.trace settings.rate log.now aired.now reported outcome)) }
+{
+    if settings.trace {
+        write_log(log, out)?;
+    }
+    write_aired(aired, settings.rate, out)?;
+    write_end(reported, log.len(), outcome, out)?;
+    out.flush()
+}
+
+// Writes a line for each exchange.
+fn write_log<W: io::Write>(log: &[Exchange], out: &mut W) -> io::Result<()>
+    ensures { OnOk result (Appends (W.contents out.old) (W.contents out.new) (trace_text true log.now)) }
+{
+    for (k, exchange) in log.iter().enumerate() {
+        write_exchange(k + 1, *exchange, out)?;
+    }
+    Ok(())
+}
+
+fn write_exchange<W: io::Write>(number: usize, exchange: Exchange, out: &mut W) -> io::Result<()>
+    ensures { OnOk result (Appends (W.contents out.old) (W.contents out.new) (exchange_line number exchange)) }
+{
+    let exchange = ExchangeText(exchange);
+    writeln!(out, "{number} {exchange}")
+}
+
+// Writes a line for each item that went to air.
+fn write_aired<W: io::Write>(aired: &[Item], rate: Rate, out: &mut W) -> io::Result<()>
+    ensures { OnOk result (Appends (W.contents out.old) (W.contents out.new) (aired_text rate aired.now)) }
+{
+    for (k, item) in aired.iter().enumerate() {
+        write_item(k, *item, rate, out)?;
+    }
+    Ok(())
+}
+
+fn write_item<W: io::Write>(k: usize, item: Item, rate: Rate, out: &mut W) -> io::Result<()>
+    ensures { OnOk result (Appends (W.contents out.old) (W.contents out.new) (aired_line rate k item)) }
+{
+    let item = ItemText { rate, item };
+    writeln!(out, "aired {k} {item}")
+}
+
+// Writes the counts, and how the controller ended.
+fn write_end<W: io::Write>(
+    reported: usize,
+    exchanges: usize,
+    outcome: Option<Outcome>,
+    out: &mut W,
+) -> io::Result<()>
+    ensures { OnOk result (Appends (W.contents out.old) (W.contents out.new) (end_text reported exchanges outcome)) }
+{
+    let outcome = OutcomeText(outcome);
+    writeln!(out, "reported {reported}")?;
+    writeln!(out, "exchanges {exchanges}")?;
+    writeln!(out, "outcome {outcome}")
+}

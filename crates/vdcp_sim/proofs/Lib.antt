@@ -1,4 +1,0 @@
-mod AsrunRows
-mod Numbered
-mod Ran
-mod Refusals

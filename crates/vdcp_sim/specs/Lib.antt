@@ -1,2 +1,0 @@
-pub mod AsrunLaw
-pub mod Sim
