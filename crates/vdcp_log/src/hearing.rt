@@ -1,7 +1,7 @@
 /// When what comes is heard.
 #[derive(Clone, Copy, Debug, PartialEq, Eq)]
 pub enum Hearing {
-    /// Once the line is silent. What comes late is dropped, and where it is torn its rest may be heard as an answer.
+    /// Once the line is silent. What comes late is dropped, and if it is torn its rest may be heard as an answer.
     AtSilences,
     /// As soon as it is whole, on a line that keeps order. The port is asked for its state again after this many
     /// milliseconds at the earliest.

@@ -1,3 +1,4 @@
+//! A writer of whole lines that never blocks.
 use crate::screen::write_at_once;
 use arrayvec::{ArrayString, ArrayVec};
 use std::fmt::Write;
@@ -6,12 +7,12 @@ use std::io;
 /// Most bytes that are held of a line.
 const MOST_BYTES: usize = 1024;
 
-/// Lines that never wait for who reads them. Each goes to the writer once it has ended, or has more than 1,023 bytes.
-/// Where the writer takes nothing (`WouldBlock`), the line that is going out goes on later, and each further one is
+/// Lines that never wait for their reader. Each goes to the writer once it has ended, or has more than 1,023 bytes.
+/// If the writer takes nothing (`WouldBlock`), the line that is going out goes on later, and each further one is
 /// dropped meanwhile; the next line that goes out is then `dropped` and how many. (Of a longer line the rest is left
 /// out then.)
 ///
-/// Err where the writer fails.
+/// Err if the writer fails.
 #[derive(Drop)]
 pub struct Lines<W: io::Write> {
     writer: W,
@@ -71,7 +72,7 @@ impl<W: io::Write> Lines<W> {
         self.dropped = 0;
     }
 
-    // Holds the bytes; those of a long line go out before. Where these would wait, the line ends with them.
+    // Holds the bytes; those of a long line go out before. If these would wait, the line ends with them.
     fn hold(&mut self, bytes: &[u8]) -> io::Result<Stage> {
         for byte in bytes {
             if self.line.remaining_capacity() <= 1 {

@@ -1,25 +1,50 @@
+//! The log, and the wire and the watcher that write to it.
 ghost use Rattle.std.specs.Prelude.{◌≡◌};
 
 use crate::hearing::Hearing;
 use crate::lines::Lines;
+use crate::row::Row;
 use std::cell::Cell;
 use std::io::Write;
 use std::{fmt, io};
-use vdcp_drive::WatchAir;
+use vdcp_drive::WatchPort;
 use vdcp_frame::{End, Ended, Got, Message, Reader};
+use vdcp_port::{Catalogue, Port};
 use vdcp_text::{EndText, ItemText, MeaningText, MessageText};
 use vdcp_value::{Item, Rate};
 use vdcp_wire::{Came, PIECE, Wire, WireFault};
 
-/// The lines of a log, as `Lines` writes them. They go to its writer, until that fails: from then on no line goes
-/// there, and nothing else comes of the failure, since what is logged goes on without its log.
+/// What is told for people while a channel is up, and where.
+#[derive(Drop)]
+pub enum Telling<L> {
+    Nothing,
+    /// Each fault of a line that a server outlives.
+    Faults(L),
+    /// Each message, item that goes to air and connection, too.
+    All(L),
+}
+
+/// At which end of a line it is listened to.
+#[derive(Clone, Copy, Debug, PartialEq, Eq)]
+pub enum Side {
+    /// The automation's: commands go out.
+    Automation,
+    /// The server's: commands come in.
+    Server,
+}
+
+/// What is told of a channel: a log, whose lines are for people, and a capture, whose rows `judge` reads. Either goes to
+/// its writer, as `Lines` writes it, until that fails: from then on nothing goes there, and nothing else comes of the
+/// failure, since the channel goes on without its log.
 ///
-/// The writer is in a cell, since a wire and what watches over the other end of it share one log.
+/// The writers are in cells, since a wire and what watches over the other end of it share one log.
 #[derive(Drop)]
 pub struct Log<L: io::Write> {
-    // None once it has failed.
+    // None if nothing goes there, or no more.
     lines: Cell<Option<Lines<L>>>,
+    rows: Cell<Option<Lines<L>>>,
     scope: Scope,
+    pub(crate) side: Side,
 }
 
 /// Which lines go to a log.
@@ -31,20 +56,18 @@ enum Scope {
 }
 
 impl<L: io::Write + Drop> Log<L> {
-    /// A log with this writer.
-    pub fn new(writer: L) -> Self {
-        Log::with_scope(writer, Scope::All)
-    }
-
-    /// A log of faults alone.
-    pub fn of_faults(writer: L) -> Self {
-        Log::with_scope(writer, Scope::Faults)
-    }
-
-    fn with_scope(writer: L, scope: Scope) -> Self {
+    /// A log that tells this, with this writer of a capture, of a line that is listened to at this side.
+    pub fn new(telling: Telling<L>, capture: Option<L>, side: Side) -> Self {
+        let (scope, lines) = match telling {
+            Telling::Nothing => (Scope::Faults, None),
+            Telling::Faults(writer) => (Scope::Faults, Some(Lines::new(writer))),
+            Telling::All(writer) => (Scope::All, Some(Lines::new(writer))),
+        };
         Log {
+            lines: Cell::new(lines),
+            rows: Cell::new(capture.map(|writer| Lines::new(writer))),
             scope,
-            lines: Cell::new(Some(Lines::new(writer))),
+            side,
         }
     }
 
@@ -57,20 +80,40 @@ impl<L: io::Write + Drop> Log<L> {
 
     /// Adds the line of a fault.
     pub fn tell_fault<T: fmt::Display>(&self, line: &T) {
-        let Some(mut lines) = self.lines.replace(None) else {
-            return;
-        };
-        if writeln!(lines, "{line}").is_ok() {
-            let _ = self.lines.replace(Some(lines));
-        }
+        write_to(&self.lines, &format_args!("{line}\n"));
+    }
+
+    /// Adds a part of a row.
+    pub(crate) fn capture<T: fmt::Display>(&self, part: &T) {
+        write_to(&self.rows, part);
+    }
+}
+
+// Writes to what is in the cell, and leaves that out if it fails.
+fn write_to<L: io::Write + Drop, T: fmt::Display>(cell: &Cell<Option<Lines<L>>>, text: &T) {
+    let Some(mut lines) = cell.replace(None) else {
+        return;
+    };
+    if write!(lines, "{text}").is_ok() {
+        let _ = cell.replace(Some(lines));
     }
 }
 
 /// Which way a message goes, as a line of a log shows it at its front.
 #[derive(Clone, Copy, Debug, PartialEq, Eq)]
-enum Direction {
+pub enum Direction {
     In,
     Out,
+}
+
+impl Direction {
+    /// As a row of a capture names it.
+    pub fn way(self, side: Side) -> &'static str {
+        match (self, side) {
+            (Direction::In, Side::Server) | (Direction::Out, Side::Automation) => "down",
+            (Direction::In, Side::Automation) | (Direction::Out, Side::Server) => "up",
+        }
+    }
 }
 
 impl fmt::Display for Direction {
@@ -82,11 +125,13 @@ impl fmt::Display for Direction {
     }
 }
 
-/// A wire that logs each message that came by another wire or went out there, and each end of a burst that
-/// isn't clean: the lines of the burst's reading with words, but for `clean`.
+/// A wire that tells what came by another wire or went out there: to a log each message, and each end of a burst that
+/// isn't clean, which are the lines of the burst's reading with words, but for `clean`; to a capture all bytes, and each
+/// silence after which an automation waits no longer.
 ///
 /// What comes is read as it is heard. Where that is at once, reading begins anew after each message, so a burst may have
-/// any length, and what a silence has torn is read on.
+/// any length, and what a silence has torn is read on. A row of a capture has the bytes of one message as it was heard, or
+/// all those up to a silence that can't be read.
 #[derive(Drop)]
 pub struct Logged<'a, W: Wire, L: io::Write> {
     /// The wire below.
@@ -95,6 +140,9 @@ pub struct Logged<'a, W: Wire, L: io::Write> {
     hearing: Hearing,
     // none after a fault, until a silence
     came: Option<Reader>,
+    row: Row,
+    // Whether something went out after the last silence.
+    awaits: bool,
 }
 
 impl<'a, W: Wire, L: io::Write + Drop> Logged<'a, W, L> {
@@ -107,6 +155,8 @@ impl<'a, W: Wire, L: io::Write + Drop> Logged<'a, W, L> {
             log,
             hearing,
             came: Some(Reader::new()),
+            row: Row::new(Direction::In),
+            awaits: false,
         }
     }
 
@@ -128,15 +178,12 @@ impl<W: Wire, L: io::Write + Drop> Wire for Logged<'_, W, L> {
 
     fn send(&mut self, bytes: &[u8]) -> Result<(), WireFault> {
         self.wire.send(bytes)?;
+        self.awaits = true;
+        self.row.part(self.log);
         let mut sent = Some(Reader::new());
-        tell_piece(
-            self.log,
-            Direction::Out,
-            Hearing::AtSilences,
-            &mut sent,
-            bytes,
-        );
-        tell_end(self.log, Direction::Out, &mut sent);
+        let mut row = Row::new(Direction::Out);
+        tell_piece(self.log, Hearing::AtSilences, &mut sent, &mut row, bytes);
+        tell_end(self.log, &mut sent, &mut row);
         Ok(())
     }
 
@@ -145,10 +192,14 @@ impl<W: Wire, L: io::Write + Drop> Wire for Logged<'_, W, L> {
         match came {
             Came::Bytes(n) => {
                 let piece = &buffer[..n];
-                tell_piece(self.log, Direction::In, self.hearing, &mut self.came, piece)
+                tell_piece(self.log, self.hearing, &mut self.came, &mut self.row, piece)
             }
-            Came::Silence if self.reads_on() => {}
-            Came::Silence | Came::Closed => tell_end(self.log, Direction::In, &mut self.came),
+            Came::Silence if self.reads_on() => tell_silence(self.log, &mut self.awaits),
+            Came::Silence => {
+                tell_end(self.log, &mut self.came, &mut self.row);
+                tell_silence(self.log, &mut self.awaits);
+            }
+            Came::Closed => tell_end(self.log, &mut self.came, &mut self.row),
         }
         Ok(came)
     }
@@ -181,42 +232,54 @@ impl<'a, L: io::Write + Drop> AirLog<'a, L> {
     }
 }
 
-impl<L: io::Write + Drop> WatchAir for AirLog<'_, L> {
-    fn aired(&mut self, item: &Item) {
+impl<C: Catalogue, L: io::Write + Drop> WatchPort<C> for AirLog<'_, L> {
+    fn look(&mut self, _port: &Port<C>, aired: Option<Item>) {
+        let Some(item) = aired else {
+            return;
+        };
         let number = self.aired;
         let item = ItemText {
             rate: self.rate,
-            item: *item,
+            item,
         };
         self.log.tell(&format_args!("aired {number} {item}"));
         self.aired = self.aired.saturating_add(1);
     }
 }
 
-// Tells the messages that a piece of a burst completes, and a fault that it shows, after which nothing is read.
+// Tells a piece of a burst: the messages that it completes, and a fault that it shows, after which nothing is read.
 fn tell_piece<L: io::Write + Drop>(
     log: &Log<L>,
-    direction: Direction,
     hearing: Hearing,
     reader: &mut Option<Reader>,
+    row: &mut Row,
     piece: &[u8],
 ) {
     let mut rest = piece;
     'piece: while let Some(begun) = reader {
+        let before = rest;
         match begun.next(&mut rest) {
             Got::Message(message) => {
-                tell_message(log, direction, message);
+                tell_message(log, row.direction, message);
+                row.add(log, &before[..before.len() - rest.len()]);
+                row.end(log);
                 if let Hearing::AtOnce(_) = hearing {
                     begun.silence();
                 }
             }
             Got::Fault(fault, place) => {
-                tell_burst_fault(log, direction, End::Fault(fault, place));
+                tell_burst_fault(log, row.direction, End::Fault(fault, place));
+                row.add(log, before);
                 *reader = None;
+                return;
             }
-            Got::More => return,
+            Got::More => {
+                row.add(log, before);
+                return;
+            }
         }
     }
+    row.add(log, rest);
 }
 
 fn tell_message<L: io::Write + Drop>(log: &Log<L>, direction: Direction, message: Message<'_>) {
@@ -226,18 +289,27 @@ fn tell_message<L: io::Write + Drop>(log: &Log<L>, direction: Direction, message
 }
 
 // The burst ends: tells where it was cut.
-fn tell_end<L: io::Write + Drop>(log: &Log<L>, direction: Direction, reader: &mut Option<Reader>) {
+fn tell_end<L: io::Write + Drop>(log: &Log<L>, reader: &mut Option<Reader>, row: &mut Row) {
     let ended = match reader {
         Some(begun) => begun.silence(),
         None => Ended::AfterFault,
     };
     if let Ended::Cut(count) = ended {
-        tell_burst_fault(log, direction, End::Cut(count));
+        tell_burst_fault(log, row.direction, End::Cut(count));
     }
     *reader = Some(Reader::new());
+    row.end(log);
 }
 
 fn tell_burst_fault<L: io::Write + Drop>(log: &Log<L>, direction: Direction, end: End) {
     let end = EndText(end);
     log.tell(&format_args!("{direction} {end}"));
+}
+
+// A capture has the silence after which an automation waits no longer. (A server's silences don't say that.)
+fn tell_silence<L: io::Write + Drop>(log: &Log<L>, awaits: &mut bool) {
+    if *awaits && log.side == Side::Automation {
+        log.capture(&",up,\n");
+    }
+    *awaits = false;
 }

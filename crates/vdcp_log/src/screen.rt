@@ -1,3 +1,4 @@
+//! A writer to a pipe or a terminal that never blocks.
 ghost use Rattle.std.specs.Io.KnownBytes.{Appends};
 ghost use Rattle.std.specs.Prelude.{◌≤◌, length, take, IfOk};
 
@@ -12,12 +13,12 @@ use std::time::Duration;
 /// Most bytes that go out at once: a pipe or a terminal that takes any takes as many.
 const PIECE: usize = 255;
 
-/// A terminal, or what stands in its place, that never makes its writer wait: where a pipe or a terminal takes nothing,
+/// A terminal, or what stands in its place, that never makes its writer wait: if a pipe or a terminal takes nothing,
 /// since nobody reads there, a write is refused with `WouldBlock`. (A file always takes what is written.)
 #[derive(Drop)]
 pub struct Screen<W> {
     writer: W,
-    // None where no write waits.
+    // None if no write waits.
     room: Option<Room>,
 }
 
@@ -37,7 +38,7 @@ impl<W: Write + AsRawFd> Screen<W> {
 }
 
 impl Room {
-    // Err where the system doesn't watch the descriptor, as that of a file.
+    // Err if the system doesn't watch the descriptor, as that of a file.
     fn of<R: Net + AllocGlobal>(rt: &R, writer: RawFd) -> io::Result<Room> {
         let poll = Poll::new(rt)?;
         let events = Events::with_capacity(rt.alloc(), 1)?;
@@ -74,7 +75,7 @@ impl<W: Write + AsRawFd> Write for Screen<W> {
 }
 
 /// Writes as many of the bytes as the writer takes, up to one that would wait, and says how many. A write that was
-/// interrupted is made again. Err where the writer fails.
+/// interrupted is made again. Err if the writer fails.
 pub fn write_at_once<W: Write>(writer: &mut W, bytes: &[u8]) -> io::Result<usize>
     ensures within { IfOk result (λ n. n ≤ length bytes.now) }
     ensures beginning { IfOk result (λ n. Appends (W.contents writer.old) (W.contents writer.new) (take n bytes.now)) }

@@ -1,4 +1,3 @@
-mod Goings
 mod Sending
 mod Uncarried
 mod Reading

@@ -10,7 +10,7 @@ use Rattle.vdcp_lossy.specs.declared.doing.Doing.{Doing}
 use Rattle.vdcp_lossy.specs.declared.doing.Way.{Way}
 use Rattle.vdcp_lossy.specs.declared.doing.Way.TheVariants as way
 
--- the bytes that went out, where a wire tells them
+-- the bytes that went out, if a wire tells them
 abbrev pub sent_by : Option Told → Option (List ℕ)
 sent_by None = None
 sent_by (Some told) = Some told.sent

@@ -67,7 +67,7 @@ CanBe w came (doing.Cut count) = (0 < count) × (count < length came) × (can_be
 CanBe w came (doing.Damaged bytes) = can_become came bytes.items ≡ true
 CanBe w came (doing.Forged r) = CanBeForged w r
 
--- what dice with these chances can throw: nothing that has no chance, and nothing else where the chance is 100
+-- what dice with these chances can throw: nothing that has no chance, and nothing else if the chance is 100
 abbrev pub CanBeThrown : Chances → Throw → Type 0
 CanBeThrown chances throw.Through = (chances.lose < 100) × (chances.copy < 100) × (chances.cut < 100)
     × (chances.damage < 100)

@@ -1,7 +1,6 @@
 -- What the clauses of this crate cite.
 pub mod Brought
 pub mod Doings
-pub mod Events
 pub mod Carried
 pub mod Texts
 pub mod Printed

@@ -62,7 +62,7 @@ counts_text t =
 
 -- ---- what befell bursts
 
--- what was done with a command that came, or with an answer; or which receipt was forged where none came
+-- what was done with a command that came, or with an answer; or which receipt was forged if none came
 pub data Fate : Type 0 where
   of_command : (d : Doing) (came : List ℕ) → Fate
   of_answer : (d : Doing) (came : List ℕ) → Fate
@@ -74,7 +74,7 @@ with_fate (of_command d came) t = with_doing d (with_command t)
 with_fate (of_answer d came) t = with_doing d (with_answer t)
 with_fate (of_nothing r) t = with_doing (doing.Forged r) t
 
--- its line, where so much was counted before: a command has the next number, and what comes up has its command's
+-- its line, if so much was counted before: a command has the next number, and what comes up has its command's
 abbrev pub fate_line : Fate → Tally → List ℕ
 fate_line (of_command d came) t = burst_line (with_command t).commands way.Down d came
 fate_line (of_answer d came) t = burst_line t.commands way.Up d came

@@ -24,18 +24,18 @@ doing_text (doing.Cut count) = codes "cut " ++ decimal count
 doing_text (doing.Damaged bytes) = codes "damaged"
 doing_text (doing.Forged r) = codes "forged " ++ message_text (receipt_message r) ++ codes " in place of"
 
--- the parts of a reading: each message with what it says, and the end where it isn't clean
+-- the parts of a reading: each message with what it says, and the end if it isn't clean
 abbrev pub parts_of : List Content → End → List (List ℕ)
 parts_of ms clean = map (shown_text true) ms
 parts_of ms (cut count) = map (shown_text true) ms ++ end_text (cut count) ∷ []
 parts_of ms (fault which place) = map (shown_text true) ms ++ end_text (fault which place) ∷ []
 
--- joined by `; `, and `nothing` where there is none
+-- joined by `; `, and `nothing` if there is none
 abbrev pub joined_parts : List (List ℕ) → List ℕ
 joined_parts [] = codes "nothing"
 joined_parts (part ∷ parts) = part ++ flat_map (λ p. codes "; " ++ p) parts
 
--- what an end adds to the messages' parts, after what stands between: a clean one adds nothing, but where there is no
+-- what an end adds to the messages' parts, after what stands between: a clean one adds nothing, but if there is no
 -- part at all it is `nothing`
 abbrev pub last_text : End → List ℕ → List ℕ
 last_text clean [] = codes "nothing"

@@ -1,3 +1,4 @@
+//! How bursts are carried both ways, exchange by exchange.
 ghost use Rattle.std.specs.Io.KnownBytes.{Appends, Keeps};
 ghost use Rattle.std.specs.Prelude.{◌≡◌, ◌⊎◌, ◌<◌, ◌≤◌, IfOk, OnOk, length};
 ghost use Rattle.vdcp_frame.specs.Message.{spelling};
@@ -108,7 +109,7 @@ fn ask<R: Clock, S: Wire, W: io::Write>(
     }
 }
 
-// Takes the answer to a command, sends its copy, and takes the answer to that. Where it is too late for a copy by
+// Takes the answer to a command, sends its copy, and takes the answer to that. If it is too late for a copy by
 // then, the first answer is too.
 fn ask_twice<R: Clock, S: Wire>(
     session: &mut Session<R>,

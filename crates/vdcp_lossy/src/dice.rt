@@ -1,3 +1,4 @@
+//! Throws that a seed and the number of a burst decide.
 ghost use Rattle.std.specs.Prelude.{◌≡◌, ◌<◌, ◌≤◌, true, false};
 
 use rand_core::{Rng, SeedableRng};

@@ -1,3 +1,4 @@
+//! What can be done with a burst, and how that is thrown.
 ghost use Rattle.std.specs.Prelude.{◌≡◌, ◌≢◌, ◌⊎◌, ◌<◌, ◌≤◌, ◌∷◌, List, length, true, IfSome};
 ghost use Rattle.vdcp_frame.specs.Burst.{messages_of};
 ghost use Rattle.vdcp_frame.specs.Message.{Content, content_of};
@@ -45,7 +46,7 @@ pub enum Doing {
     Lost,
     /// It is lost since its exchange has taken too long.
     Late,
-    /// It goes on twice; a command once, where it is too late for the copy.
+    /// It goes on twice; a command once, if it is too late for the copy.
     Copied,
     /// Only this many of its first bytes go on.
     Cut(usize),
@@ -126,7 +127,7 @@ impl Doing {
         }
     }
 
-    /// What comes where no answer does: a receipt, if one is forged.
+    /// The forged receipt, if any, for a command that gets no answer.
     pub fn of_nothing(dice: &mut Dice, chances: &Chances) -> Option<Doing>
         ensures chance { IfSome result (HasChance chances.now) }
         ensures forged { IfSome result IsForged }
@@ -138,7 +139,7 @@ impl Doing {
     }
 }
 
-// Two copies go up as one burst, of which the first message is heard: so they are made where there is one.
+// Two copies go up as one burst, of which the first message is heard: so they are made if there is one.
 fn copied(way: Way, came: &[u8]) -> Doing
     ensures kind { (result ≡ Doing.Through) ⊎ (result ≡ Doing.Copied) }
     ensures can { CanBe way came.now result }

@@ -5,15 +5,12 @@
 //! the two; what befalls each is thrown by a generator that `seed` starts. It tells standard error of a failure in
 //! one line, and gives the exit status.
 //!
-//! Files: `lossy` (the subcommand), `dice` and `doing` (throws by a seed; what is done with a burst), `session` and
-//! `carry` (listening, and what came so far; bursts are carried both ways), `text` and `tally` (what is printed of a
-//! burst; the counts), `laws` (what is done with a burst is events of a channel).
+//! Files, in reading order: `lossy`, `dice`, `doing`, `session`, `carry`, `text`, `tally`.
 #![tactic(auto)]
 
 mod carry;
 mod dice;
 mod doing;
-pub mod laws;
 mod lossy;
 mod session;
 mod tally;

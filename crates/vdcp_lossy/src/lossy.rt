@@ -1,3 +1,4 @@
+//! The subcommand `lossy`: it joins an automation and a server.
 ghost use Rattle.std.specs.Io.KnownBytes.{Appends, Keeps};
 ghost use Rattle.std.specs.Prelude.{◌≡◌, ◌⊎◌, ◌++◌, IfErr, OnOk};
 ghost use Rattle.vdcp_lossy.specs.Lossy.{IsUncarried};
@@ -13,6 +14,7 @@ use std::io;
 use std::net::{Net, SocketAddr, SocketAddrV4};
 use std::rt::Clock;
 use std::time::Duration;
+use vdcp_log::{Hearing, Log, Logged, Side, Telling};
 use vdcp_text::Failure;
 use vdcp_wire::{AcceptFault, StreamWire, accept_one, address_of};
 
@@ -35,16 +37,18 @@ pub struct LossySettings {
 /// Carries bursts between the first automation that connects to `address` and the server at `server`, each an
 /// IPv4 address, a colon and a TCP port; for `address` 0 is one that the system chooses. `out` gets a line
 /// with the address that is listened at, one for each burst, which says what was done with it, one that says
-/// whether either end has `closed` or the turns are `spent`, and nine counts. Each line is flushed at once.
+/// whether either end has `closed` or the turns are `spent`, and nine counts. Each line is flushed at once. The writer of
+/// a capture gets rows of what came from the automation and went to it, as `judge` reads them, until it fails.
 ///
-/// The status is 0 where it came to that end. It is 2 where `address` or `server` isn't an address, and 3 where
+/// The status is 0 if it came to that end. It is 2 if `address` or `server` isn't an address, and 3 if
 /// `address` can't be listened at, nobody takes the connection to the server, or the line failed; `err` gets a line
-/// of these. The status is 3 where `out` failed, to which nothing more is written.
-pub fn do_lossy<R: Net + Clock, W: io::Write, E: io::Write>(
+/// of these. The status is 3 if `out` failed, to which nothing more is written.
+pub fn do_lossy<R: Net + Clock, L: io::Write + Drop, W: io::Write, E: io::Write>(
     rt: &R,
     address: &str,
     server: &str,
     settings: LossySettings,
+    capture: Option<L>,
     out: &mut W,
     err: &mut E,
 ) -> u8
@@ -58,18 +62,20 @@ pub fn do_lossy<R: Net + Clock, W: io::Write, E: io::Write>(
         → ((result ≡ 2) ⊎ (result ≡ 3)) × Keeps (W.contents out.old) (W.contents out.new) }
     ensures statuses { (result ≡ 0) ⊎ (result ≡ 2) ⊎ (result ≡ 3) }
 {
-    match lossy(rt, address, server, settings, out) {
+    let log = Log::new(Telling::Nothing, capture, Side::Server);
+    match lossy(rt, address, server, settings, log, out) {
         Ok(()) => 0,
         Err(failure) => failure.report(err),
     }
 }
 
 // Reads the two addresses, and carries bursts between them.
-fn lossy<R: Net + Clock, W: io::Write>(
+fn lossy<R: Net + Clock, L: io::Write + Drop, W: io::Write>(
     rt: &R,
     address: &str,
     server: &str,
     settings: LossySettings,
+    log: Log<L>,
     out: &mut W,
 ) -> Result<(), Failure<'static>>
     ensures printed { OnOk result (IsPrinted (W.contents out.old) (W.contents out.new)) }
@@ -82,16 +88,17 @@ fn lossy<R: Net + Clock, W: io::Write>(
     let Ok(server) = address_of(server) else {
         return Err(Failure::Address);
     };
-    carry_between(rt, address, server, settings, out)
+    carry_between(rt, address, server, settings, &log, out)
 }
 
 // Takes an automation, connects to the server, and carries bursts between the two. A connection that refuses to
 // be a wire is a line that failed.
-fn carry_between<R: Net + Clock, W: io::Write>(
+fn carry_between<R: Net + Clock, L: io::Write + Drop, W: io::Write>(
     rt: &R,
     address: SocketAddrV4,
     server: SocketAddrV4,
     settings: LossySettings,
+    log: &Log<L>,
     out: &mut W,
 ) -> Result<(), Failure<'static>>
     ensures printed { OnOk result (IsPrinted (W.contents out.old) (W.contents out.new)) }
@@ -106,9 +113,10 @@ fn carry_between<R: Net + Clock, W: io::Write>(
         return Err(Failure::Connect);
     };
     let silence = Duration::from_millis(u64::from(settings.silence));
-    let Ok(mut automation) = StreamWire::new(near, silence) else {
+    let Ok(automation) = StreamWire::new(near, silence) else {
         return Err(Failure::LineFailed);
     };
+    let mut automation = Logged::new(automation, log, Hearing::AtSilences);
     let Ok(mut server) = StreamWire::new(far, silence) else {
         return Err(Failure::LineFailed);
     };

@@ -1,3 +1,4 @@
+//! The state of a line while it is run, and why it ends.
 ghost use Rattle.std.specs.Io.KnownBytes.{Keeps};
 ghost use Rattle.std.specs.Prelude.{◌≡◌, ◌<◌, ◌≤◌, OnOk, IfOk, IfSome, length};
 ghost use Rattle.vdcp_wire.specs.Wires.{FitsBuffer, adds_came, arrival_of};
@@ -162,7 +163,7 @@ impl<'a, R: Clock> Session<'a, R> {
         Ok(Doing::of_burst(&mut dice, &self.settings.chances, way, burst.as_slice()))
     }
 
-    /// What comes where no answer does to a command that came then: a receipt, if one is forged.
+    /// The forged receipt, if any, for a command that came then and got no answer.
     pub fn forged(&self, began: Instant) -> Result<Option<Doing>, CarryFault>
         ensures chance { IfOk result (λ forged. IfSome forged (HasChance self.now.settings.chances)) }
         ensures forged { IfOk result (λ forged. IfSome forged IsForged) }

@@ -1,3 +1,4 @@
+//! The counts of bursts, and their lines.
 ghost use Rattle.std.specs.Io.KnownBytes.{Appends};
 ghost use Rattle.std.specs.Prelude.{◌≡◌, OnOk};
 ghost use Rattle.vdcp_lossy.specs.Printed.{counts_text, no_counts, one_more, with_answer, with_command, with_doing};

@@ -1,3 +1,4 @@
+//! Tests of bursts that are carried, of their lines and of the dice.
 ghost use Rattle.std.specs.Prelude.{◌≡◌, false, IfOk};
 
 use crate::carry::carry;
@@ -39,7 +40,7 @@ const NONE: Chances = Chances {
 /// Each burst is copied.
 const COPIES: Chances = Chances { copy: 100, ..NONE };
 
-/// Each answer is forged, and where none comes one is made.
+/// Each answer is forged, and if none comes one is made.
 const FORGED: Chances = Chances { forge: 100, ..NONE };
 
 /// A clock that has gone on by this many milliseconds at each reading.
@@ -61,7 +62,7 @@ impl Clock for Ticking {
     }
 }
 
-/// What comes on a wire: stale bytes, where there are any, and then these bursts, each with a silence after it; an
+/// What comes on a wire: stale bytes, if there are any, and then these bursts, each with a silence after it; an
 /// empty burst is a silence alone.
 fn entries_of(
     alloc: Global,
@@ -276,7 +277,7 @@ fn each_row_is_carried_as_it_says(rt: HostRuntime) -> Result<(), Fail> {
     Ok(())
 }
 
-/// How carrying ends where this call of one wire fails.
+/// How carrying ends if this call of one wire fails.
 fn end_of_failed_call<R: Clock>(
     clock: &R,
     alloc: Global,

@@ -1,3 +1,4 @@
+//! The line that is printed of a burst.
 ghost use Rattle.std.specs.Io.KnownBytes.{Appends};
 ghost use Rattle.std.specs.Prelude.{OnOk};
 ghost use Rattle.vdcp_frame.specs.Walk.{end_seen};
@@ -25,8 +26,8 @@ pub fn write_burst_line<W: io::Write>(
     out.flush()
 }
 
-/// Writes a burst's reading in one line: its messages with what they say, and its end where that isn't clean. It is
-/// `nothing` where there is no byte.
+/// Writes a burst's reading in one line: its messages with what they say, and its end if that isn't clean. It is
+/// `nothing` if there is no byte.
 pub fn write_reading<W: io::Write>(burst: &[u8], out: &mut W) -> io::Result<()>
     ensures { OnOk result (Appends (W.contents out.old) (W.contents out.new) (reading_line burst.now)) }
 {

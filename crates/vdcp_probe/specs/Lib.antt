@@ -2,3 +2,4 @@ pub mod Asks
 pub mod Following
 pub mod Walks
 pub mod Told
+pub mod Inventory

@@ -1,3 +1,4 @@
+//! How one burst is sent, and what comes for it collected.
 ghost use Rattle.std.specs.Prelude.{◌≡◌, IfOk, OnOk};
 ghost use Rattle.vdcp_wire.specs.Wires.{FitsBuffer};
 
@@ -9,7 +10,7 @@ use vdcp_wire::{Came, PIECE, Wire};
 const MOST_LISTENS: u32 = 1_000;
 
 /// Drops what waits on the wire, sends a burst, and gives what comes until the line is silent. `LineFailed`, and
-/// `LineClosed` where the other end has closed; `Spent` where after 1,000 listens bytes still come; `Memory`.
+/// `LineClosed` if the other end has closed; `Spent` if after 1,000 listens bytes still come; `Memory`.
 pub fn ask<W: Wire>(alloc: Global, burst: &[u8], wire: &mut W) -> Result<Vec<u8>, Failure<'static>>
     requires { W.failures wire.old ≡ 0 }
     ensures works { OnOk result (W.failures wire.new ≡ 0) }

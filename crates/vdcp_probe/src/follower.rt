@@ -1,3 +1,4 @@
+//! The port that a server is held against, and its answers.
 ghost use Rattle.std.specs.Prelude.{◌≡◌, ◌≢◌, ◌≤◌, IfOk, IfSome, IfNone, OnOk, true, false};
 ghost use Rattle.vdcp_port.specs.Clock.{ClockedPort};
 ghost use Rattle.vdcp_port.specs.Port.{state_byte};

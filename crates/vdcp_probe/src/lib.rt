@@ -1,18 +1,18 @@
-//! The subcommand `probe`: does a server's port keep the port's table, on which as-run lists rest?
+//! The subcommands `probe` and `ask`: does a server's port keep the port's table, on which as-run lists rest, and does it
+//! have the clips of a list?
 //!
 //! `do_probe` puts rows of the table to a server over TCP, `probe_rows` over any `Wire`. `rows` gives the rows of the
 //! program. A `Row` brings the port to a `Start`, and then takes its `Step`s. Each burst that a step sends is
 //! also given to a port of `vdcp_port`, and `hold_answer` holds what comes against what that may answer, whatever got
 //! done or ended by itself before the burst.
 //!
-//! Files: `row` (what a row is made of), `table` (the rows), `naming` (what steps send), `asking` (a burst goes out, and
-//! what comes for it), `follower` (the port that a server is held against, and its answers), `walk` (a row, step by
-//! step), `reading` (a difference as text), `report` (the lines of rows, and their counts), `settings`, `probe` (the
-//! subcommand).
+//! Files, in reading order: `row`, `table`, `naming`, `asking`, `follower`, `walk`, `reading`, `report`, `settings`,
+//! `probe`, `inventory`.
 #![tactic(auto)]
 
 mod asking;
 mod follower;
+mod inventory;
 mod naming;
 mod probe;
 mod reading;
@@ -23,6 +23,7 @@ mod table;
 mod walk;
 
 pub use follower::{Meanwhile, Turn};
+pub use inventory::{AskSettings, do_ask};
 pub use naming::Naming;
 pub use probe::{do_probe, probe_rows};
 pub use report::Told;

@@ -1,3 +1,4 @@
+//! The bytes that the steps of a row send.
 ghost use Rattle.std.specs.Prelude.{◌≡◌, ◌≤◌, ◌%◌, ◌++◌, OnOk, length, min, take};
 ghost use Rattle.vdcp_frame.specs.Message.{framed, spelling};
 ghost use Rattle.vdcp_probe.specs.Asks.{ask_bytes, clip_of, command_for, cut, damaged, number_of, other_number, other_unit, step_bytes};

@@ -1,3 +1,4 @@
+//! The subcommand `probe`: rows are put to a server, one after another.
 ghost use Rattle.std.specs.Io.KnownBytes.{Appends};
 ghost use Rattle.std.specs.List.{flat_map};
 ghost use Rattle.std.specs.Prelude.{◌≡◌, ◌==◌, ◌≤◌, ◌∷◌, ◌++◌, [], ℕ, IfOk, List, OnOk, Option, if◌then◌else◌};
@@ -69,9 +70,9 @@ impl ProbeFault<'_> {
 /// what its port plays. `out` gets a line for each row, as soon as it is known, and at last one with how many rows
 /// were put, how many were kept, how many differ, and how many of these can falsify an as-run list.
 ///
-/// The status is 0 where no row differs, and 1 where one does, where a row of the catalogue is refused, and where
-/// it has fewer than two clips. It is 2 where the port may not be stopped, and where the address is none, which is
-/// tested next; and 3 where the catalogue can't be read, memory was refused, nobody takes the connection, it is closed
+/// The status is 0 if no row differs, and 1 if one does, if a row of the catalogue is refused, and if
+/// it has fewer than two clips. It is 2 if the port may not be stopped, and if the address is none, which is
+/// tested next; and 3 if the catalogue can't be read, memory was refused, nobody takes the connection, it is closed
 /// or fails, nothing is ever answered, an answer doesn't end, or a writer failed. For each of these but the last `err` gets a line.
 pub fn do_probe<R: Net + AllocGlobal, C: io::Read + Drop, W: io::Write, E: io::Write>(
     rt: &R,
@@ -91,7 +92,7 @@ pub fn do_probe<R: Net + AllocGlobal, C: io::Read + Drop, W: io::Write, E: io::W
     }
 }
 
-// The status where all rows were put.
+// The status if all rows were put.
 fn status_for(told: &[Told]) -> u8
     ensures { result ≡ (if differing_in told.now == 0 then 0 else 1) }
 {
@@ -165,7 +166,7 @@ fn probe_connected<T: io::Read + io::Write + OpenStream + Drop, C: Catalogue, W:
 }
 
 /// Asks a server over a wire for its state until it answers, and puts those of the rows that `settings.only` has to it.
-/// Writes what is found of each, and then the counts. `Unanswered` where nothing came. Of the settings nothing else counts: the port is asked as `naming` says, and is stopped.
+/// Writes what is found of each, and then the counts. `Unanswered` if nothing came. Of the settings nothing else counts: the port is asked as `naming` says, and is stopped.
 pub fn probe_rows<C: Catalogue, T: Wire, W: io::Write>(
     alloc: Global,
     clips: &C,

@@ -1,3 +1,4 @@
+//! The text of a difference.
 use std::alloc::{AllocError, Global};
 use std::fmt::Write;
 use vdcp_frame::Messages;

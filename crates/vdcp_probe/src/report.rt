@@ -1,3 +1,4 @@
+//! The lines that are printed of rows, and the counts.
 ghost use Rattle.std.specs.Io.KnownBytes.{Appends};
 ghost use Rattle.std.specs.Prelude.{◌≡◌, ◌≤◌, OnOk, length};
 ghost use Rattle.vdcp_probe.specs.Told.{counts_text, differing_in, harm_text, told_text, unsafe_in};
@@ -12,7 +13,7 @@ pub struct Told {
     pub differs: Option<String>,
 }
 
-/// Writes the line of a row, and where it differs and can falsify a list, a second one that says how.
+/// Writes the line of a row, and if it differs and can falsify a list, a second one that says how.
 pub fn write_told<W: io::Write>(told: &Told, out: &mut W) -> io::Result<()>
     ensures { OnOk result (Appends (W.contents out.old) (W.contents out.new) (told_text told.now)) }
 {

@@ -42,7 +42,7 @@ pub enum Step {
     Elsewhere(Ask),
     /// A command to the port's unit, without its last byte.
     Cut(Ask),
-    /// The same with a wrong last byte, which is its checksum.
+    /// A command with a wrong last byte, which is its checksum.
     Damaged(Ask),
     /// A framed message to the port's unit, of this type, 0 to 15, this code, and these data, 253 bytes at most.
     Framed(u8, u8, &'static [u8]),

@@ -1,3 +1,4 @@
+//! What a server is probed with, and which rows are put.
 use crate::row::Group;
 use vdcp_value::Rate;
 

@@ -1,3 +1,4 @@
+//! How a row is put to a server, step by step.
 ghost use Rattle.std.specs.Prelude.{◌≡◌, ◌≤◌, IfOk, IsSome, None, OnOk};
 ghost use Rattle.vdcp_probe.specs.Following.{IsForeseen, IsUnforeseen, followed};
 ghost use Rattle.vdcp_probe.specs.Walks.{is_reached};
@@ -71,7 +72,7 @@ fn steps_to(start: Start) -> &'static [Step] {
     }
 }
 
-/// Puts a row to a server whose port has these clips. Where what comes for a burst is none of what the port that got
+/// Puts a row to a server whose port has these clips. If what comes for a burst is none of what the port that got
 /// the same bursts may answer, the row is over, and the answer says what was sent, what came, and what may come.
 pub fn walk_row<C: Catalogue, W: Wire>(
     alloc: Global,

@@ -1,27 +1,43 @@
--- How a line ended, by what the driver's run answered.
-use Rattle.std.proofs.Common.{◌≡◌, ◌⊎◌, ℕ, inl, inr, refl, sym, ◌∙◌, subst}
-use Rattle.std.specs.Prelude.{◌↔◌, IsSome, None, Option, Result, Ok, Err, Some}
+-- The end of a run, by what its driver answered and the state that its controller reached.
+use Rattle.std.proofs.Common.{◌≡◌, ◌⊎◌, ◌+◌, ◌≤◌, ◌++◌, [], ℕ, List, ap, arith, inl, inr, refl, sym, ◌∙◌, subst}
+use Rattle.std.proofs.lemmas.List.{append-nil}
+use Rattle.std.specs.Io.KnownBytes.{Appends, Keeps}
+use Rattle.std.specs.Prelude.{◌↔◌, Bool, IfOk, IsSome, None, OnOk, Option, Result, Ok, Err, Some}
+use Rattle.std.specs.Result.{result_unwrap_or}
+use Rattle.vdcp_auto.specs.Course.{Reached}
+use Rattle.vdcp_auto.specs.Plan.{Plan, View, plan_of}
+use Rattle.vdcp_auto.specs.State.{Ready, Awaiting, Ended, Stage}
+use Rattle.vdcp_auto.specs.Turn.{given_in, outcome_of}
+use Rattle.vdcp_auto.specs.declared.exchange.Exchange.{Exchange}
 use Rattle.vdcp_auto.specs.declared.outcome.Outcome.{Outcome}
+use Rattle.vdcp_drive.specs.Auto.{IsReachedFrom}
 use Rattle.vdcp_drive.specs.declared.keep.KeptFault.{KeptFault}
 use Rattle.vdcp_drive.specs.declared.keep.KeptFault.TheVariants as fault
 use Rattle.vdcp_drive.specs.declared.line.Ran.{Ran}
 use Rattle.vdcp_drive.specs.declared.line.Ran.TheVariants as ran
-use Rattle.vdcp_run.specs.Run.{line_end_of, outcome_in_list}
-use Rattle.vdcp_run.specs.declared.run.LineEnd.{LineEnd}
-use Rattle.vdcp_run.specs.declared.run.LineEnd.TheVariants as line_end
+use Rattle.vdcp_list.specs.Rests.{FromEvent, items_left}
+use Rattle.vdcp_run.specs.Ends.{line_end_of, outcome_in_list}
+use Rattle.vdcp_files.specs.Files.{File}
+use Rattle.vdcp_run.specs.Run.{ComesTo, IsEndBy, IsEndOf, IsPlayed, IsRun, end_text, fault_text, faults_text, line_failure, outcome_status, run_status, status_unless, told_outcome}
+use Rattle.vdcp_run.specs.declared.run_end.LineEnd.{LineEnd}
+use Rattle.vdcp_run.specs.declared.run_end.LineEnd.TheVariants as line_end
+use Rattle.vdcp_run.specs.declared.run_end.RunEnd.{RunEnd}
+use Rattle.vdcp_run.specs.declared.settings.RunSettings.{RunSettings}
+use Rattle.vdcp_text.specs.declared.failure.Failure.{Failure}
+use Rattle.vdcp_value.specs.declared.part.Item.{Item}
 
 -- the run answered Ended exactly where the controller has ended, and no command was kept back once it has
 abbrev pub EndedWith : Result Ran KeptFault → Option Outcome → Type 0
 EndedWith (Ok a) outcome = (a ≡ ran.Ended) ↔ IsSome outcome
-EndedWith (Err (fault.Drive f)) outcome = Unit {0}
+EndedWith (Err fault.Device) outcome = Unit {0}
 EndedWith (Err fault.Unkept) outcome = ¬ IsSome outcome
 
 -- so it is with the number that the event of the outcome has in the list
-pub ends_in_list : (answer : Result Ran KeptFault) (from : ℕ) (outcome : Option Outcome) → EndedWith answer outcome
+ends_in_list : (answer : Result Ran KeptFault) (from : ℕ) (outcome : Option Outcome) → EndedWith answer outcome
     → EndedWith answer (outcome_in_list from outcome)
 ends_in_list (Ok a) from None h = h
 ends_in_list (Ok a) from (Some outcome) h = h
-ends_in_list (Err (fault.Drive f)) from outcome h = tt
+ends_in_list (Err fault.Device) from outcome h = tt
 ends_in_list (Err fault.Unkept) from None h = h
 ends_in_list (Err fault.Unkept) from (Some outcome) h = h
 
@@ -31,7 +47,7 @@ ends_unneeded : (answer : Result Ran KeptFault) (outcome : Option Outcome) → E
 ends_unneeded (Ok ran.Ended) outcome h is = h.0 refl
 ends_unneeded (Ok ran.Closed) outcome h is = cc
 ends_unneeded (Ok ran.Spent) outcome h is = cc
-ends_unneeded (Err (fault.Drive f)) outcome h is = cc
+ends_unneeded (Err fault.Device) outcome h is = cc
 ends_unneeded (Err fault.Unkept) outcome h is = cc
 
 ended_needs_none : (answer : Result Ran KeptFault) (outcome : Option Outcome) → EndedWith answer outcome
@@ -40,18 +56,90 @@ ended_needs_none : (answer : Result Ran KeptFault) (outcome : Option Outcome) �
 ended_needs_none (Ok ran.Ended) outcome h ended = inl refl
 ended_needs_none (Ok ran.Closed) outcome h ended = let is = h.1 ended in cc
 ended_needs_none (Ok ran.Spent) outcome h ended = let is = h.1 ended in cc
-ended_needs_none (Err (fault.Drive f)) outcome h ended = inr refl
+ended_needs_none (Err fault.Device) outcome h ended = inr refl
 ended_needs_none (Err fault.Unkept) outcome h ended = absurd (h ended)
 
 -- a line that isn't needed is one whose controller has ended
-pub unneeded_ended : (end : LineEnd) (answer : Result Ran KeptFault) (outcome : Option Outcome)
+unneeded_ended : (end : LineEnd) (answer : Result Ran KeptFault) (outcome : Option Outcome)
     → end ≡ line_end_of answer → EndedWith answer outcome
     → end ≡ line_end.Unneeded → IsSome outcome
 unneeded_ended end answer outcome is h unneeded = ends_unneeded answer outcome h (sym is ∙ unneeded)
 
-pub ended_unneeded : (end : LineEnd) (answer : Result Ran KeptFault) (outcome : Option Outcome)
+ended_unneeded : (end : LineEnd) (answer : Result Ran KeptFault) (outcome : Option Outcome)
     → end ≡ line_end_of answer → EndedWith answer outcome
     → IsSome outcome → (end ≡ line_end.Unneeded) ⊎ (end ≡ line_end.Failed)
 ended_unneeded end answer outcome is h ended =
     subst (λ (e : LineEnd). (e ≡ line_end.Unneeded) ⊎ (e ≡ line_end.Failed)) (sym is)
     (ended_needs_none answer outcome h ended)
+
+-- who gives a command hasn't ended
+pub gives_none : (plan : Plan) (stop : Bool) (stage : Stage) → IsSome (given_in plan stop stage)
+    → ¬ IsSome (outcome_of stage)
+gives_none plan stop (Ready p) gives = λ some. cc
+gives_none plan stop (Awaiting p) gives = λ some. cc
+gives_none plan stop (Ended outcome) gives = λ some. cc
+
+-- the controller of a run was led from one state to the next, with which the driver's answer fits
+is_end_so : {S : Type 0} (items : S → List Item) (controller old new : View S) (answer : Result Ran KeptFault)
+    (end : RunEnd) (log : List Exchange)
+    → old ≡ controller → IsReachedFrom (plan_of items old) old.state new.state
+    → EndedWith answer (outcome_of new.state.stage) → end.line ≡ line_end_of answer
+    → end.outcome ≡ outcome_in_list end.from (outcome_of new.state.stage) → end.reported ≡ end.from + new.state.settled
+    → (end.line ≡ line_end.Unkept → IsSome end.unkept)
+    → Reached (plan_of items controller) controller.state log → IsEndOf (plan_of items controller) end
+is_end_so {S} items controller old new answer end log same led ended line outcome reported kept reached =
+    let further = subst (λ (v : View S). IsReachedFrom (plan_of items v) v.state new.state) same led log reached in
+    let ends = subst (λ (o : Option Outcome). EndedWith answer o) (sym outcome)
+    (ends_in_list answer end.from (outcome_of new.state.stage) ended) in
+    record {
+      log = log ++ further.0;
+      state = new.state;
+      reached = further.1;
+      outcome_is = outcome;
+      reported_is = reported;
+      unneeded = unneeded_ended end.line answer end.outcome line ends;
+      ended = ended_unneeded end.line answer end.outcome line ends;
+      told = kept;
+    }
+
+-- the controller of the rest of a list stays the same, but for its state
+pub comes_so : {S : Type 0} (items : S → List Item) (controller old new : View (FromEvent S))
+    (answer : Result Ran KeptFault) (end : RunEnd)
+    → old ≡ controller → new ≡ record old { state = new.state }
+    → IsReachedFrom (plan_of (items_left items) old) old.state new.state
+    → EndedWith answer (outcome_of new.state.stage) → end.line ≡ line_end_of answer → IsEndBy new end
+    → (end.line ≡ line_end.Unkept → IsSome end.unkept) → ComesTo items controller end
+comes_so {S} items controller old new answer end same stays led ended line by kept = record {
+  from_is = by.from_is ∙ ap (λ (v : View (FromEvent S)). v.source.from) stays
+      ∙ ap (λ (v : View (FromEvent S)). v.source.from) same;
+  ends = λ log. is_end_so (items_left items) controller old new answer end log same led ended line by.outcome_is
+      by.reported_is kept;
+}
+
+-- ---- what is told where nothing failed
+
+silent_by : (n : ℕ) → n ≤ 2 → (unwritten unkept line : Option Failure) (rest : ℕ)
+    → status_unless unwritten (status_unless unkept (status_unless line rest)) ≡ n
+    → fault_text unwritten ++ fault_text unkept ++ fault_text line ≡ []
+silent_by n low None None None rest is = refl
+silent_by n low None None (Some failure) rest is = absurd (omega (arith, low, is))
+silent_by n low None (Some failure) line rest is = absurd (omega (arith, low, is))
+silent_by n low (Some failure) unkept line rest is = absurd (omega (arith, low, is))
+
+keeps_by : (old new : Option (List ℕ)) (text : List ℕ) → text ≡ [] → Appends old new text → Keeps old new
+keeps_by None new text is h = tt
+keeps_by (Some xs) None text is h = absurd h
+keeps_by (Some xs) (Some ys) text is h = h ∙ (ap (λ (t : List ℕ). xs ++ t) is ∙ append-nil xs)
+
+-- a run that was played and told with another status than 3 failed in nothing
+pub told_with : {E : Type 0} (n : ℕ) → n ≤ 2 → (settings : RunSettings) (list : File) (end : RunEnd) (told : Result ℕ E)
+    (out out' err err' : Option (List ℕ)) → IsPlayed settings list end
+    → OnOk told (Appends out out' (end_text end)) → OnOk told (Appends err err' (faults_text end))
+    → IfOk told (λ status. status ≡ run_status end) → result_unwrap_or told 3 ≡ n
+    → IsRun settings list out out' n × Keeps err err'
+told_with n low settings list end (Ok status) out out' err err' played lines faults is one = (
+  record { end = end; played = played; gained = lines; status_is = sym one ∙ is },
+  keeps_by err err' (faults_text end) (silent_by n low end.unwritten end.unkept (line_failure end.line)
+      (outcome_status (told_outcome end.line end.outcome)) (sym is ∙ one)) faults,
+)
+told_with n low settings list end (Err e) out out' err err' played lines faults is one = absurd (omega (arith, low, one))

@@ -1,5 +1,5 @@
+mod Begun
+mod Driven
 mod Ends
-mod Reached
-mod PromptEnds
 mod Unplayed
-mod Takes
+pub mod Seen

@@ -1,7 +1,7 @@
 -- Of the reasons why a list isn't played, only an address that is none has status 2, and only a refused row status 1.
 use Rattle.std.proofs.Common.{◌≡◌, ◌≢◌, ◌⊎◌, refl, ℕ, ◌<◌, List, inl, inr, sym, ap, subst, ◌∙◌, arith, Bor}
 use Rattle.std.specs.Io.KnownBytes.{Appends, Keeps}
-use Rattle.std.specs.Prelude.{Bool, true, false, if◌then◌else◌, IfErr, Option, None, Some, Result, Ok, Err}
+use Rattle.std.specs.Prelude.{Bool, true, false, if◌then◌else◌, Option, None, Some}
 use Rattle.vdcp_list.specs.declared.faults.ListFault.{ListFault}
 use Rattle.vdcp_list.specs.declared.faults.ListFault.TheVariants as lists
 use Rattle.vdcp_journal.specs.declared.faults.JournalReadFault.{JournalReadFault}
@@ -18,13 +18,12 @@ use Rattle.vdcp_value.specs.declared.part.Item.{Item}
 use Rattle.vdcp_text.specs.declared.failure.Failure.{Failure}
 use Rattle.vdcp_text.specs.declared.failure.Failure.TheVariants.{Address}
 use Rattle.vdcp_text.specs.declared.failure.Failure.TheVariants as failures
-use Rattle.vdcp_files.specs.Files.{File, bytes_of, file, file_failure}
-use Rattle.vdcp_list.specs.Playlists.{IsListOf}
+use Rattle.vdcp_files.specs.Files.{File, file, file_failure}
 use Rattle.vdcp_wire.specs.Address.{IsAddress}
-use Rattle.vdcp_run.specs.Run.{IsEventRefused, IsJournalRefused, IsListRefused, IsNoEvent, IsNotBegun, IsOverList, IsPlaceRefused, IsRunRefused, IsUnkept, IsUnkeptOf, IsUnplayed, heading_for, is_of_other_list, name_of_file, no_address, no_event, no_journal, no_list, no_place, not_connected, not_empty, told_of_list}
-use Rattle.vdcp_run.specs.declared.keeping.RunJournal.{RunJournal}
-use Rattle.vdcp_run.specs.declared.keeping.RunJournal.TheVariants as journals
-use Rattle.vdcp_run.specs.declared.run.RunSettings.{RunSettings}
+use Rattle.vdcp_run.specs.Run.{IsEventRefused, IsJournalRefused, IsListRefused, IsNoEvent, IsNotBegun, IsOverList, IsPlaceRefused, IsRunRefused, IsUnkept, IsUnplayed, heading_for, is_of_other_list, name_of_file, no_address, no_event, no_journal, no_list, no_place, not_connected, not_empty, told_of_list}
+use Rattle.vdcp_run.specs.declared.settings.RunJournal.{RunJournal}
+use Rattle.vdcp_run.specs.declared.settings.RunJournal.TheVariants as journals
+use Rattle.vdcp_run.specs.declared.settings.RunSettings.{RunSettings}
 
 list_status : (name : Bor (List ℕ)) (fault : ListFault) → status_of (file_failure name fault) ≢ 2
 list_status name (lists.Columns row) e = omega (arith, e)
@@ -92,6 +91,7 @@ read_status : (name : Bor (List ℕ)) (failure : Failure) (wrong : JournalReadFa
 read_status name failure refused.Empty e = inl (ap status_of e)
 read_status name failure (refused.Heading wrong) e = inl (ap status_of e)
 read_status name failure (refused.Row row wrong) e = inl (ap status_of e)
+read_status name failure (refused.Long row) e = inl (ap status_of e)
 read_status name failure refused.Memory e = inr (ap status_of e)
 read_status name failure refused.Device e = inr (ap status_of e)
 
@@ -118,7 +118,9 @@ refused_status items name wanted bytes failure (resuming.no_memory e) = inr (ap 
 unresumed_status : (items : List Item) (name : Bor (List ℕ)) (wanted : Heading) (failure : Failure)
     → IsUnresumed items name wanted failure → one_or_three failure
 unresumed_status items name wanted failure (resuming.no_file h) = unopened_status name failure h
-unresumed_status items name wanted failure (resuming.failed e) = inr (ap status_of e)
+unresumed_status items name wanted failure (resuming.not_read (inl (row, e))) = inl (ap status_of e)
+unresumed_status items name wanted failure (resuming.not_read (inr (inl e))) = inr (ap status_of e)
+unresumed_status items name wanted failure (resuming.not_read (inr (inr e))) = inr (ap status_of e)
 unresumed_status items name wanted failure (resuming.kept h) = rows_unwritten_status name failure h
 unresumed_status items name wanted failure (resuming.bad bytes h) = refused_status items name wanted bytes failure h
 
@@ -238,42 +240,3 @@ told_with_1 settings text list failure status out err err' (not_empty some whole
   told = subst (λ (f : Failure). Appends err err' (failure_line f)) e (told (omega (arith, one)));
   silent = keeps_itself out;
 })))
-
--- as it is told
-pub told_unkept : (settings : RunSettings) (list : Bor (List ℕ)) (items : List Item) (journal : RunJournal)
-    (failure told : Failure) → told ≡ told_of_list list failure
-    → IsUnkept settings items (Some journal) failure ⊎ ((failure ≡ failures.Connect) ⊎ (failure ≡ failures.NotEmpty))
-    → IsUnkeptOf settings list items journal told ⊎ ((told ≡ failures.Connect) ⊎ (told ≡ failures.NotEmpty))
-told_unkept settings list items journal failure told is (inl refused) = inl (failure, refused, is)
-told_unkept settings list items journal failure told is (inr (inl e)) = inr (inl (is ∙ ap (told_of_list list) e))
-told_unkept settings list items journal failure told is (inr (inr e)) = inr (inr (is ∙ ap (told_of_list list) e))
-
--- a list with a journal, where it isn't played
-pub unplayed_with : {A : Type 0} (settings : RunSettings) (text : List ℕ) (list : File) (items : List Item)
-    (journal : RunJournal) (result : Result A Failure)
-    → IsAddress text → IsListOf settings.rate (bytes_of list) items → settings.journal ≡ Some journal
-    → IfErr result (λ failure. IsUnkeptOf settings (name_of_file list) items journal failure
-    ⊎ ((failure ≡ failures.Connect) ⊎ (failure ≡ failures.NotEmpty)))
-    → IfErr result (IsUnplayed settings text list)
-unplayed_with settings text list items journal (Ok a) some lists is h = tt
-unplayed_with settings text list items journal (Err failure) some lists is (inl (unkept, refused, e)) =
-    no_journal some items lists unkept
-    (subst (λ (j : Option RunJournal). IsUnkept settings items j unkept) (sym is) refused) e
-unplayed_with settings text list items journal (Err failure) some lists is (inr (inl e)) =
-    not_connected some (items, lists) e
-unplayed_with settings text list items journal (Err failure) some lists is (inr (inr e)) =
-    not_empty some (items, lists) e
-
--- a journal that is refused, of a run that is made with these settings
-pub unresumed_as : (settings : RunSettings) (items : List Item) (name : Bor (List ℕ)) (heading : Heading)
-    (failure : Failure) → heading ≡ heading_for settings items → IsUnresumed items name heading failure
-    → IsUnkept settings items (Some (journals.Older name)) failure
-unresumed_as settings items name heading failure of h =
-    inr (inl (subst (λ (w : Heading). IsUnresumed items name w failure) of h))
-
-pub unopened_as : (settings : RunSettings) (items : List Item) (name : Bor (List ℕ)) (heading : Heading)
-    (failure : Failure) → heading ≡ heading_for settings items
-    → IsUnopenedAgain items name heading settings.from failure
-    → IsUnkept settings items (Some (journals.Again name)) failure
-unopened_as settings items name heading failure of h =
-    inr (inl (subst (λ (w : Heading). IsUnopenedAgain items name w settings.from failure) of h))

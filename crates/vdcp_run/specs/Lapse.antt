@@ -1,5 +1,5 @@
--- A silence that comes by the clock, where bytes keep coming.
-use Rattle.std.specs.Prelude.{ℕ, suc, zero, ◌≡◌, ◌-◌, Bool, true, false, nat_le}
+-- A silence that comes by the clock, if bytes keep coming.
+use Rattle.std.specs.Prelude.{ℕ, suc, zero, ◌≡◌, ◌⊎◌, ◌-◌, Bool, true, false, nat_le}
 use Rattle.vdcp_wire.specs.Acts.{Act, sends, brings, drops, fails}
 use Rattle.vdcp_wire.specs.Wires.{silence}
 use Rattle.vdcp_wire.specs.declared.wire.Came.{Came}
@@ -7,7 +7,7 @@ use Rattle.vdcp_wire.specs.declared.wire.Came.TheVariants as brings
 use Rattle.vdcp_run.specs.declared.lapsing.Since.{Since}
 use Rattle.vdcp_run.specs.declared.lapsing.Since.TheVariants as since
 
--- whether a silence's time has passed since the last command was sent, and bytes came since. (Where none came, the wire
+-- whether a silence's time has passed since the last command was sent, and bytes came since. (If none came, the wire
 -- tells silences itself)
 abbrev pub has_lapsed : Since → (time sent now : ℕ) → Bool
 has_lapsed since.Nothing time sent now = false
@@ -27,3 +27,10 @@ Lapses does true since' (brings what) old new = (what ≡ silence) × (new ≡ o
 Lapses does false since' (brings what) old new = does (brings what) old new
 Lapses does lapsed since' drops old new = does drops old new
 Lapses does lapsed since' fails old new = does fails old new
+
+-- a wire does this, or a silence comes by the clock, and leaves it as it is
+abbrev pub MayLapse : {W : Type 0} → (Act → W → W → Type 0) → Act → W → W → Type 0
+MayLapse does (sends bytes) old new = does (sends bytes) old new
+MayLapse does (brings what) old new = does (brings what) old new ⊎ ((what ≡ silence) × (new ≡ old))
+MayLapse does drops old new = does drops old new
+MayLapse does fails old new = does fails old new

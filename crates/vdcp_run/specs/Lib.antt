@@ -1,3 +1,5 @@
-pub mod BackToBack
+pub mod Ends
 pub mod Lapse
+pub mod Session
 pub mod Run
+pub mod Advice

@@ -1,11 +1,13 @@
 -- How a run ends: what it tells then, and its exit status.
 use Rattle.std.specs.Borrow.{Bor}
 use Rattle.std.specs.Io.KnownBytes.{Appends, Keeps}
-use Rattle.std.specs.Prelude.{ℕ, zero, suc, ◌≡◌, ◌⊎◌, ◌+◌, ◌-◌, ◌^◌, ◌<◌, ◌≤◌, min, Bool, true, false, List, [], ◌++◌, codes, decimal, drop, length, take, Option, None, Some, option_map, IsSome, Result, Ok, Err, if◌then◌else◌}
+use Rattle.std.specs.declared.fs.File.{File as StdFile}
+use Rattle.std.specs.Prelude.{ℕ, ◌≡◌, ◌⊎◌, ◌+◌, ◌<◌, ◌≤◌, Bool, true, false, List, [], ◌++◌, codes, decimal, drop, length, take, Option, None, Some, option_map, unwrap_or, IfSome, IsSome, if◌then◌else◌}
 use Rattle.vdcp_value.specs.declared.part.Item.{Item}
 use Rattle.vdcp_value.specs.declared.rate.Rate.{Rate}
 use Rattle.vdcp_auto.specs.Course.{Reached}
 use Rattle.vdcp_auto.specs.Plan.{Plan, View, plan_of}
+use Rattle.vdcp_auto.specs.Turn as turns
 use Rattle.vdcp_auto.specs.Turn.{outcome_of}
 use Rattle.vdcp_auto.specs.declared.exchange.Exchange.{Exchange}
 use Rattle.vdcp_auto.specs.declared.outcome.Outcome.{Outcome}
@@ -23,28 +25,19 @@ use Rattle.vdcp_journal.specs.Runs.{Run}
 use Rattle.vdcp_list.specs.Asrun.{events_text, has_part}
 use Rattle.vdcp_list.specs.Playlists.{IsListOf}
 use Rattle.vdcp_list.specs.Rests.{FromEvent, items_left}
-use Rattle.vdcp_record.specs.Recording.{IsUnbegun}
-use Rattle.vdcp_record.specs.Resuming.{IsOpenedAgain, IsReplayed, IsUnopenedAgain, IsUnresumed}
+use Rattle.vdcp_record.specs.Recording.{IsTimedOut, IsUnbegun, NotesFrom, Recording}
+use Rattle.vdcp_record.specs.Resuming.{IsOpenedAgain, IsReplayed, IsUnopenedAgain, IsUnresumed, open_after, plan_of_run}
 use Rattle.vdcp_record.specs.Showing.{IsAsrunOf, digest_of}
 use Rattle.vdcp_text.specs.Outcome.{outcome_text}
-use Rattle.vdcp_drive.specs.declared.keep.KeptFault.{KeptFault}
-use Rattle.vdcp_drive.specs.declared.keep.KeptFault.TheVariants as fault
-use Rattle.vdcp_drive.specs.declared.line.Ran.{Ran}
-use Rattle.vdcp_drive.specs.declared.line.Ran.TheVariants as ran
-use Rattle.vdcp_drive.specs.declared.vacancy.Vacancy.{Vacancy}
-use Rattle.vdcp_drive.specs.declared.vacancy.Vacancy.TheVariants as vacancy
 use Rattle.vdcp_wire.specs.Address.{IsAddress}
-use Rattle.vdcp_wire.specs.declared.wire.WireFault.{WireFault}
-use Rattle.vdcp_run.specs.declared.keeping.Keeping.{Keeping}
-use Rattle.vdcp_run.specs.declared.keeping.Keeping.TheVariants as keeping
-use Rattle.vdcp_run.specs.declared.keeping.RunJournal.{RunJournal}
-use Rattle.vdcp_run.specs.declared.keeping.RunJournal.TheVariants as journals
-use Rattle.vdcp_run.specs.declared.run.LineEnd.{LineEnd}
-use Rattle.vdcp_run.specs.declared.run.LineEnd.TheVariants as line_end
-use Rattle.vdcp_run.specs.declared.run.RunEnd.{RunEnd}
-use Rattle.vdcp_run.specs.declared.run.RunSettings.{RunSettings}
-use Rattle.vdcp_words.specs.declared.command.Command.{Command}
-use Rattle.vdcp_words.specs.declared.command.Command.TheVariants.{Open}
+use Rattle.vdcp_run.specs.Ends.{outcome_in_list}
+use Rattle.vdcp_run.specs.Session.{HasSession, Start}
+use Rattle.vdcp_run.specs.declared.settings.RunJournal.{RunJournal}
+use Rattle.vdcp_run.specs.declared.settings.RunJournal.TheVariants as journals
+use Rattle.vdcp_run.specs.declared.run_end.LineEnd.{LineEnd}
+use Rattle.vdcp_run.specs.declared.run_end.LineEnd.TheVariants as line_end
+use Rattle.vdcp_run.specs.declared.run_end.RunEnd.{RunEnd}
+use Rattle.vdcp_run.specs.declared.settings.RunSettings.{RunSettings}
 
 -- what the controller is made with for these items
 abbrev pub plan_for : RunSettings → List Item → Plan
@@ -55,40 +48,16 @@ plan_for settings items = record {
   limit = settings.limit;
 }
 
--- ---- numbers in the whole list, of a controller that plays the rest of it from an event on
-
 -- the event that a new controller begins with: the one that is said, or else the list's first
 abbrev pub first_event : Option ℕ → ℕ
-first_event None = 0
-first_event (Some event) = event
+first_event from = unwrap_or from 0
 
--- the event that is this many after the one that the controller began with; no number is above the largest
-abbrev pub event_in_list : (from k : ℕ) → ℕ
-event_in_list from k = min (from + k) (2 ^ 64 - 1)
-
-abbrev pub outcome_with : ℕ → Outcome → Outcome
-outcome_with from Done = Done
-outcome_with from Stopped = Stopped
-outcome_with from Lost = Lost
-outcome_with from Denied = Denied
-outcome_with from (Missing k) = Missing (event_in_list from k)
-outcome_with from (Refused k) = Refused (event_in_list from k)
-outcome_with from (Foreign k) = Foreign (event_in_list from k)
-outcome_with from (Strange k) = Strange (event_in_list from k)
-
--- how a controller ended that began with this event, if it has ended
-abbrev pub outcome_in_list : ℕ → Option Outcome → Option Outcome
-outcome_in_list from outcome = option_map (outcome_with from) outcome
+-- the new controller of a list
+abbrev pub new_controller : {S : Type 0} → RunSettings → S → View (FromEvent S)
+new_controller settings source = turns.new_controller (record { source = source; from = first_event settings.from })
+    (mode_of settings.confirm) settings.port settings.limit
 
 -- ---- how the line ended
-
--- by what the driver's run answered
-abbrev pub line_end_of : Result Ran KeptFault → LineEnd
-line_end_of (Ok ran.Ended) = line_end.Unneeded
-line_end_of (Ok ran.Closed) = line_end.Closed
-line_end_of (Ok ran.Spent) = line_end.Spent
-line_end_of (Err (fault.Drive f)) = line_end.Failed
-line_end_of (Err fault.Unkept) = line_end.Unkept
 
 -- the failure to report of the line itself; a journal that failed is reported by its own
 abbrev pub line_failure : LineEnd → Option Failure
@@ -99,16 +68,6 @@ line_failure line_end.Failed = Some failures.LineFailed
 line_failure line_end.Unkept = None
 line_failure line_end.Occupied = Some failures.NotEmpty
 line_failure line_end.Unanswered = None
-
--- of a list that isn't begun, by what the port was found to be
-abbrev pub unbegun_line : Result Vacancy WireFault → LineEnd
-unbegun_line (Ok vacancy.Unanswered) = line_end.Unanswered
-unbegun_line (Ok vacancy.Closed) = line_end.Closed
-unbegun_line (Ok vacancy.Spent) = line_end.Spent
-unbegun_line (Ok vacancy.Vacant) = line_end.Occupied
-unbegun_line (Ok (vacancy.Occupied state)) = line_end.Occupied
-unbegun_line (Ok vacancy.Denied) = line_end.Occupied
-unbegun_line (Err fault) = line_end.Failed
 
 -- ---- the as-run file
 
@@ -164,10 +123,9 @@ name_of (journals.New name) = name
 name_of (journals.Older name) = name
 name_of (journals.Again name) = name
 
--- its name, where there is one
-abbrev pub journal_in : {J : Type 0} → Keeping J → Option (Bor (List ℕ))
-journal_in keeping.Nothing = None
-journal_in (keeping.Journal name journal) = Some name
+-- that of the journal that a recorder writes, where there is one
+abbrev pub journal_of : {F : Type 0} → Option (Recording F) → Option (Bor (List ℕ))
+journal_of recorder = option_map (λ r. r.name) recorder
 
 -- what a journal of these items is of
 abbrev pub heading_for : RunSettings → List Item → Heading
@@ -199,12 +157,6 @@ abbrev pub MayBeUnkept : Option (Bor (List ℕ)) → Option Failure → Type 0
 MayBeUnkept name None = Unit {0}
 MayBeUnkept None (Some failure) = ⊥
 MayBeUnkept (Some name) (Some failure) = (failure ≡ failures.Write name) ⊎ (failure ≡ failures.Memory)
-
--- the next command is OPEN
-abbrev pub IsOpening : Option Command → Type 0
-IsOpening None = ⊥
-IsOpening (Some (Open port mode)) = Unit {0}
-IsOpening (Some command) = ⊥
 
 -- ---- what is printed and reported
 
@@ -271,49 +223,83 @@ pub record IsEndOf (plan : Plan) (end : RunEnd) : Type 0 where
   -- a command that couldn't be kept is told
   pub told : end.line ≡ line_end.Unkept → IsSome end.unkept
 
+-- the event that a run began with, its outcome and the first event that isn't reported are this controller's, with the
+-- numbers of the whole list
+pub record IsEndBy {S : Type 0} (controller : View (FromEvent S)) (end : RunEnd) : Type 0 where
+  pub from_is : end.from ≡ controller.source.from
+  pub outcome_is : end.outcome ≡ outcome_in_list end.from (outcome_of controller.state.stage)
+  pub reported_is : end.reported ≡ end.from + controller.state.settled
+
 -- this is the end of a controller that plays the rest of a list: whatever its log is, from there it came to this end
 pub record ComesTo {S : Type 0} (items : S → List Item) (controller : View (FromEvent S)) (end : RunEnd) : Type 0 where
   pub from_is : end.from ≡ controller.source.from
   pub ends : (log : List Exchange) → Reached (plan_of (items_left items) controller) controller.state log
       → IsEndOf (plan_of (items_left items) controller) end
 
--- the last run of some journal of these items, which is made with these settings, began with this event, and this is the
--- plan under which it goes on
-pub record GoesOnFrom (settings : RunSettings) (items : List Item) (from : ℕ) (plan : Plan) : Type 0 where
+-- so ends a run, with these settings and the journal of this name, if it has one, of this controller
+pub record EndsRun {S : Type 0} (settings : RunSettings) (kept : Option (Bor (List ℕ))) (items : S → List Item)
+    (controller : View (FromEvent S)) (end : RunEnd) : Type 0 where
+  pub comes : ComesTo items controller end
+  pub unwritten : MayBeUnwritten settings.asrun settings.journal end.unwritten
+  pub unkept : MayBeUnkept kept end.unkept
+
+-- A run begins so, with this recorder, if its controller hasn't ended: where the last run of some journal of these items
+-- goes on, which is made with these settings, that nothing came is still to be written, if an exchange was open
+pub record GoesOn {F : Type 0} (settings : RunSettings) (items : List Item) (start : Start) (recorder : Option (Recording F))
+    : Type 0 where
   pub bytes : List ℕ
   pub run : Run
-  pub state : State
   pub whole : ℕ
-  pub replayed : IsReplayed items (heading_for settings items) bytes run plan state whole
-  pub from_is : from ≡ run.from
+  pub replayed : IsReplayed items (heading_for settings items) bytes run start.plan start.state whole
+  pub from_is : start.from ≡ run.from
+  pub left : IfSome recorder
+      (λ r. IsTimedOut (open_after (plan_of_run (heading_for settings items) items run) run.rows) r.pending)
 
--- what goes on where a journal of these items is opened again, which is made with these settings, began with this event,
--- and this is its plan
-pub record BeginsAgainFrom (settings : RunSettings) (items : List Item) (from : ℕ) (plan : Plan) : Type 0 where
-  pub state : State
-  pub opened : IsOpenedAgain items (heading_for settings items) settings.from from plan state
+-- where that is opened again, the event with which it begins
+pub record BeginsAgain {F : Type 0} (settings : RunSettings) (items : List Item) (start : Start)
+    (recorder : Option (Recording F)) : Type 0 where
+  pub opened : IsOpenedAgain items (heading_for settings items) settings.from start.from start.plan start.state
+  pub left : IfSome recorder (λ r. NotesFrom (Some start.from) r.pending)
 
--- a new controller of these items begins with this event, by this plan
-abbrev pub BeginsNew : RunSettings → List Item → ℕ → Plan → Type 0
-BeginsNew settings items from plan =
-    (from ≡ first_event settings.from) × (plan ≡ plan_for settings (drop from items))
+-- a new controller of these items, with the event that is said, or else the first one
+abbrev pub BeginsNew : RunSettings → List Item → Start → Type 0
+BeginsNew settings items begun = (begun.from ≡ first_event settings.from)
+    × (begun.plan ≡ plan_for settings (drop (first_event settings.from) items)) × (begun.state ≡ turns.start)
 
--- the event that the controller of a run of these items began with, and its plan, by the journal that it has, if it has one
-abbrev pub BeginsAt : RunSettings → List Item → Option RunJournal → ℕ → Plan → Type 0
-BeginsAt settings items None from plan = BeginsNew settings items from plan
-BeginsAt settings items (Some (journals.New name)) from plan = BeginsNew settings items from plan
-BeginsAt settings items (Some (journals.Older name)) from plan = GoesOnFrom settings items from plan
-BeginsAt settings items (Some (journals.Again name)) from plan = BeginsAgainFrom settings items from plan
+-- by the journal that the run has, if it has one
+abbrev pub BeginsBy : {F : Type 0} → RunSettings → List Item → Option RunJournal → Start → Option (Recording F) → Type 0
+BeginsBy settings items None begun recorder = BeginsNew settings items begun
+BeginsBy settings items (Some (journals.New name)) begun recorder =
+    BeginsNew settings items begun × IfSome recorder (λ r. NotesFrom settings.from r.pending)
+BeginsBy settings items (Some (journals.Older name)) begun recorder = GoesOn settings items begun recorder
+BeginsBy settings items (Some (journals.Again name)) begun recorder = BeginsAgain settings items begun recorder
 
--- this is the end of a controller that plays these items from one on, by the journal that the run has, if it has one
+-- so, with a controller that some calls led there, and that plays from an event of them on
+pub record IsBegun {F : Type 0} (settings : RunSettings) (items : List Item) (journal : Option RunJournal) (start : Start)
+    (recorder : Option (Recording F)) : Type 0 where
+  pub begins : BeginsBy settings items journal start recorder
+  pub within : start.from ≤ length items
+  pub log : List Exchange
+  pub reached : Reached start.plan start.state log
+
+-- what keeps the exchanges of a run at this unit whose controller is in this state: the recorder of its journal, if it has
+-- one, unless it has ended
+abbrev pub HasRecorder : {F : Type 0} → ℕ → Option RunJournal → State → Option (Recording F) → Type 0
+HasRecorder unit None state recorder = recorder ≡ None
+HasRecorder unit (Some journal) state None = IsSome (outcome_of state.stage)
+HasRecorder unit (Some journal) state (Some recorder) = (recorder.name ≡ name_of journal) × (recorder.unit ≡ unit)
+
+-- this is the end of a controller that plays these items from one on, by the journal that the run has, if it has one: a
+-- session played it, and kept its exchanges in that journal
 pub record IsRunOf (settings : RunSettings) (items : List Item) (journal : Option RunJournal) (end : RunEnd)
     : Type 0 where
-  pub from : ℕ
-  pub plan : Plan
-  pub begins : BeginsAt settings items journal from plan
-  pub within : from ≤ length items
-  pub ends : IsEndOf plan end
-  pub from_is : end.from ≡ from
+  pub start : Start
+  pub recorder : Option (Recording StdFile)
+  pub begun : IsBegun settings items journal start recorder
+  pub kept : HasRecorder settings.unit journal start.state recorder
+  pub session : HasSession (λ file. None) settings start recorder end
+  pub ends : IsEndOf start.plan end
+  pub from_is : end.from ≡ start.from
 
 -- the file is a playlist, and this is the end of a controller that plays it, from an event on
 pub record IsPlayed (settings : RunSettings) (list : File) (end : RunEnd) : Type 0 where
@@ -343,11 +329,6 @@ is_of_other_list _ = false
 -- what is told of that, and of any other failure: that the list of this name isn't the journal's
 abbrev pub told_of_list : Bor (List ℕ) → Failure → Failure
 told_of_list list failure = if is_of_other_list failure then failures.NotTheList list else failure
-
--- why a run of the list of this name isn't begun with a journal, as it is told
-abbrev pub IsUnkeptOf : RunSettings → Bor (List ℕ) → List Item → RunJournal → Failure → Type 0
-IsUnkeptOf settings list items journal failure =
-    (unkept : Failure) × IsUnkept settings items (Some journal) unkept × (failure ≡ told_of_list list unkept)
 
 -- why a list isn't played: the text is no address, or else the list isn't read, or else it has no event to begin with, or
 -- else the as-run file is the list, or else the journal can't be kept, or else nobody takes the connection, or else

@@ -1,17 +1,18 @@
+//! How the as-run file of a run is made.
 ghost use Rattle.std.specs.Io.KnownBytes.{Appends};
 ghost use Rattle.std.specs.Prelude.{◌≡◌, IfErr, IfOk, OnOk};
 ghost use Rattle.vdcp_run.specs.Run.{IsListed, IsUnlisted, IsUnwritten, MayBeUnwritten, reported_text};
 
-use crate::keeping::RunJournal;
 use crate::place::{Place, make_beside, not_made};
-use crate::run::RunSettings;
+use crate::settings::{RunJournal, RunSettings};
 use std::fs::{self, File, OpenFile};
 use std::io::{self, ErrorKind};
 use std::path::Path;
 use std::rt::Files;
 use vdcp_auto::{Controller, Source};
+use vdcp_files::keep_older;
 use vdcp_list::{Rest, write_events};
-use vdcp_record::asrun_of_journal;
+use vdcp_record::{Disk, append_safely, asrun_of_journal};
 use vdcp_text::Failure;
 use vdcp_value::Rate;
 
@@ -116,18 +117,32 @@ fn save_beside<'a, R: Files + AllocGlobal>(
 ) -> Result<(), Failure<'a>>
     ensures { IfErr result (IsUnwritten name.entry) }
 {
-    let (mut file, beside) = match make_beside(rt, whole) {
+    let (file, beside) = match make_beside(rt, whole) {
         Ok(made) => made,
         Err(error) => return Err(not_made(&error, name)),
     };
-    let saved = match write_to(name, &mut file, text) {
-        Ok(()) => put_in_place(rt, name, &file, beside.as_str(), whole),
-        Err(failure) => Err(failure),
-    };
+    let saved = fill(rt, name, file, beside.as_str(), whole, text);
     if saved.is_err() {
         let _ = fs::remove_file(rt, beside.as_str());
     }
     saved
+}
+
+// Writes the text to a new file, which gets the whole name once that is safe.
+fn fill<'a, R: Files + AllocGlobal, D: Disk + OpenFile + Drop>(
+    rt: &R,
+    name: &'a str,
+    mut file: D,
+    beside: &str,
+    whole: &str,
+    text: &[u8],
+) -> Result<(), Failure<'a>>
+    ensures { IfErr result (IsUnwritten name.entry) }
+{
+    match append_safely(&mut file, text) {
+        Ok(()) => put_in_place(rt, name, &file, beside, whole),
+        Err(_) => Err(Failure::Write(name)),
+    }
 }
 
 // Writes the text to a file, which has the name for the fault.
@@ -141,15 +156,16 @@ fn write_to<'a, W: io::Write>(name: &'a str, file: &mut W, text: &[u8]) -> Resul
     Ok(())
 }
 
-// Gives a file that is written the whole name, once its bytes are on the disk. It may be written by whom the older one
-// might, which is kept beside.
-fn put_in_place<'a, R: Files + AllocGlobal>(
+// Gives a file that is written, and safe, the whole name. It may be written by whom the older one might, which is kept
+// beside.
+fn put_in_place<'a, R: Files + AllocGlobal, D: Disk + OpenFile>(
     rt: &R,
     name: &'a str,
-    file: &R::File,
+    file: &D,
     beside: &str,
     whole: &str,
 ) -> Result<(), Failure<'a>>
+    requires { D.safe file.now ≡ D.written file.now }
     ensures { IfErr result (IsUnwritten name.entry) }
 {
     match take_name(rt, file, beside, whole) {
@@ -159,13 +175,12 @@ fn put_in_place<'a, R: Files + AllocGlobal>(
     }
 }
 
-fn take_name<R: Files + AllocGlobal>(
+fn take_name<R: Files + AllocGlobal, D: OpenFile>(
     rt: &R,
-    file: &R::File,
+    file: &D,
     beside: &str,
     whole: &str,
 ) -> io::Result<()> {
-    file.sync_all()?;
     let mut kept = None;
     if let Ok(older) = fs::metadata(rt, whole) {
         let _ = file.set_permissions(older.permissions());
@@ -184,21 +199,4 @@ fn take_name<R: Files + AllocGlobal>(
         }
     }
     Ok(())
-}
-
-// Keeps a file as `NAME.~N~`, too, by the first N from 1 that no file has, and gives that name.
-fn keep_older<R: Files + AllocGlobal>(rt: &R, name: &str) -> io::Result<Option<String>> {
-    for number in 1..u32::MAX {
-        let kept = format!(in rt.alloc(); "{name}.~{number}~")?;
-        match fs::hard_link(rt, name, kept.as_str()) {
-            Ok(()) => return Ok(Some(kept)),
-            Err(error) if error.kind() == ErrorKind::AlreadyExists => {}
-            Err(_) => {
-                // (where a file can't have two names it changes its own, which for a moment no file has)
-                fs::rename(rt, name, kept.as_str())?;
-                return Ok(None);
-            }
-        }
-    }
-    Err(io::Error::from(ErrorKind::AlreadyExists))
 }

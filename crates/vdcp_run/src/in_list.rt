@@ -1,6 +1,6 @@
-//! The numbers of events in the whole list, where a controller plays the rest of it from an event on.
+//! The numbers of events in the whole list, if a controller plays the rest of it from an event on.
 ghost use Rattle.std.specs.Prelude.{◌≡◌, ◌+◌};
-ghost use Rattle.vdcp_run.specs.Run.{event_in_list, outcome_in_list};
+ghost use Rattle.vdcp_run.specs.Ends.{event_in_list, outcome_in_list};
 
 use vdcp_auto::{Controller, Outcome, Source};
 use vdcp_list::Rest;

@@ -1,3 +1,4 @@
+//! A wire that tells silences by the clock.
 ghost use Rattle.std.specs.Prelude.{◌≡◌, ◌≤◌, ◌*◌, IfOk, OnErr, OnOk};
 ghost use Rattle.vdcp_wire.specs.Acts.{brings, fails};
 ghost use Rattle.vdcp_wire.specs.Wires.{arrival_of, FitsBuffer};
@@ -14,11 +15,11 @@ enum Since {
     Bytes,
 }
 
-/// A wire whose silences can't be held up. It answers those of the wire below; and where bytes keep coming, but as much
+/// A wire whose silences can't be held up. It answers those of the wire below; and if bytes keep coming, but as much
 /// time as a silence takes has passed since the last command went out, it answers a silence too, before it listens
 /// again. Nothing that comes is lost by that.
 ///
-/// As the wire below is silent after that time itself where nothing comes, a silence is answered before twice that time
+/// As the wire below is silent after that time itself if nothing comes, a silence is answered before twice that time
 /// has passed, whatever comes, while the caller listens.
 #[derive(Drop)]
 pub struct Lapsing<'a, R: Clock, W: Wire> {

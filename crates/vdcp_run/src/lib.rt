@@ -3,23 +3,26 @@
 //! `do_run` connects to an address and plays a list through the port of the server there. Each fault has a line on
 //! standard error, and the exit status is given.
 //!
-//! Files: `run`, `asrun` (the as-run file) and `place` (how it comes to be), `in_list` (the numbers of events in the
-//! whole list), `progress` (the line of a terminal that shows how far a run is), `polling` (how soon the state is asked
-//! again), `back_to_back` (when the next event is taken), `lapsing` (a silence that comes by the clock), `stopwatch`
-//! (which both read), `keeping` (the journal of a run).
+//! Files, in reading order: `settings`, `run`, `begin`, `session`, `asking`, `run_end`, `advice`, `asrun`, `place`, `in_list`,
+//! `progress`, `polling`, `lapsing`, `waiting`, `stopwatch`.
 #![tactic(auto)]
 
+mod advice;
+mod asking;
 mod asrun;
-mod back_to_back;
+mod begin;
 mod in_list;
-mod keeping;
 mod lapsing;
 mod place;
 mod polling;
 mod progress;
 mod run;
+mod run_end;
+mod session;
+mod settings;
 mod stopwatch;
+mod waiting;
 
-pub use keeping::RunJournal;
-pub use place::test_apart;
-pub use run::{RunSettings, Showing, do_run};
+pub use advice::Advice;
+pub use run::do_run;
+pub use settings::{RunJournal, RunSettings, Showing, Shown};

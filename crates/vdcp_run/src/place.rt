@@ -1,10 +1,11 @@
+//! The name of the as-run file, and whether a list can come there.
 ghost use Rattle.std.specs.Prelude.{IfErr};
 ghost use Rattle.vdcp_run.specs.Run.{IsOverList, IsPlaceRefused, IsUnwritten};
 
 use std::fs::{self, File, OpenFile, OpenOptions};
 use std::io::{self, ErrorKind};
-use std::os::unix::fs::MetadataExt;
 use std::rt::Files;
+use vdcp_files::is_same_file;
 use vdcp_text::Failure;
 
 /// How many names are tried for a file beside another one.
@@ -22,7 +23,7 @@ pub enum Place {
 }
 
 impl Place {
-    /// How a list can come into the file of this name. Err where it can't: the name is a folder's, say, or its file
+    /// How a list can come into the file of this name. Err if it can't: the name is a folder's, say, or its file
     /// isn't to be written.
     pub fn of<R: Files + AllocGlobal>(rt: &R, name: &str) -> io::Result<Place> {
         match fs::metadata(rt, name) {
@@ -117,14 +118,6 @@ pub fn make_beside<R: Files + AllocGlobal>(rt: &R, name: &str) -> io::Result<(R:
         }
     }
     Err(io::Error::from(ErrorKind::AlreadyExists))
-}
-
-// Both names are those of one file, by another path or a link.
-fn is_same_file<R: Files>(rt: &R, name: &str, other: &str) -> bool {
-    let (Ok(file), Ok(other)) = (fs::metadata(rt, name), fs::metadata(rt, other)) else {
-        return false;
-    };
-    file.is_file() && file.dev() == other.dev() && file.ino() == other.ino()
 }
 
 // Makes a file where the list is to be written, and removes it.

@@ -1,3 +1,4 @@
+//! The progress line, and what draws it during a run.
 ghost use Rattle.std.specs.Prelude.{◌≡◌};
 
 use crate::in_list::reported_in_list;
@@ -7,7 +8,7 @@ use std::fmt::{self, Write};
 use std::io;
 use std::rt::Clock;
 use std::time::{Duration, Instant};
-use vdcp_auto::{Controller, Source};
+use vdcp_auto::{Controller, Phase, Source, Standing};
 use vdcp_drive::Watch;
 use vdcp_list::Rest;
 use vdcp_log::write_at_once;
@@ -15,7 +16,7 @@ use vdcp_value::ClipId;
 use vdcp_wire::{Came, PIECE, Wire, WireFault};
 use vdcp_words::Command;
 
-/// Where nothing changed, the line is drawn again no sooner than after this time, in milliseconds.
+/// If nothing changed, the line is drawn again no sooner than after this time, in milliseconds.
 const REDRAWN_AFTER: u128 = 100;
 
 /// The columns of a line at most, so that no terminal breaks it in two.
@@ -28,9 +29,9 @@ const PATIENCE: u64 = 1_000;
 /// Puts the cursor at the front of its line, and erases that.
 const ERASE: &'static str = "\r\x1b[K";
 
-/// A line of a terminal that shows how far a run is: the event at hand, the command whose answer is awaited, for how long
-/// nothing was answered, where that is long, how many events are reported (with the numbers of the whole list), and the
-/// time so far. It is drawn again where something changed, and ten times a second at most where nothing did.
+/// A line of a terminal that shows how far a run is: the item on air, as far as answers show, and for how long; the event
+/// that is next, the command whose answer is awaited, for how long nothing was answered, if that is long, how many events
+/// are reported (with the numbers of the whole list), and the time so far. It is drawn again if something changed, and ten times a second at most if nothing did.
 ///
 /// A `ShownWire` draws it before each listen, and `Glances` says what is seen of the controller; before it has said
 /// anything the port is asked whether it is empty. They share the line, so its parts are in cells.
@@ -42,6 +43,8 @@ pub struct Progress<'a, R: Clock, V: io::Write> {
     terminal: Cell<Option<V>>,
     work: Cell<Work>,
     wait: Cell<Wait>,
+    // How many events are reported, and since when; None if they were when the run began.
+    reported: Cell<Option<(usize, Option<Instant>)>>,
     drawing: Cell<Drawing>,
 }
 
@@ -52,6 +55,8 @@ enum Work {
     Questions,
     /// A controller awaits an answer.
     List {
+        /// The clip on air, if one is: that of the last event that is reported.
+        on_air: Option<ClipId>,
         /// The event that is reported next, if one is left.
         event: Option<ClipId>,
         command: Command,
@@ -77,6 +82,8 @@ enum Wait {
 #[derive(Clone, Copy, PartialEq, Eq)]
 struct Glance {
     work: Work,
+    /// For how many seconds the last event has been reported, if that is known.
+    reported: Option<u64>,
     /// For how many seconds nothing was answered, if that is long.
     unanswered: Option<u64>,
 }
@@ -103,6 +110,7 @@ impl<'a, R: Clock, V: io::Write + Drop> Progress<'a, R, V> {
             terminal: Cell::new(Some(terminal)),
             work: Cell::new(Work::Questions),
             wait: Cell::new(Wait::Nothing),
+            reported: Cell::new(None),
             drawing: Cell::new(Drawing::Blank),
         }
     }
@@ -148,6 +156,7 @@ impl<'a, R: Clock, V: io::Write + Drop> Progress<'a, R, V> {
         let now = Instant::now(self.clock)?;
         let glance = Glance {
             work: self.work.get(),
+            reported: self.reported_for(now),
             unanswered: self.unanswered(now),
         };
         let Some(begun) = begun_before(self.drawing.get(), &glance, now) else {
@@ -160,6 +169,24 @@ impl<'a, R: Clock, V: io::Write + Drop> Progress<'a, R, V> {
             drawn: now,
         });
         Ok(())
+    }
+
+    // So many events are reported now.
+    fn note_reported(&self, reported: usize) {
+        match self.reported.get() {
+            None => self.reported.set(Some((reported, None))),
+            Some((last, _)) if last == reported => {}
+            Some(_) => {
+                let now = Instant::now(self.clock).ok();
+                self.reported.set(Some((reported, now)));
+            }
+        }
+    }
+
+    // For how many seconds the last event has been reported, if that is known.
+    fn reported_for(&self, now: Instant) -> Option<u64> {
+        let (_, since) = self.reported.get()?;
+        Some(now.duration_since(since?).as_secs())
     }
 
     // For how many seconds nothing was answered, if that is long.
@@ -188,7 +215,7 @@ fn draw<V: io::Write>(glance: &Glance, seconds: u64, terminal: &mut V) -> io::Re
     terminal.flush()
 }
 
-// When the run began whose line is to be drawn now; None where it isn't to be drawn.
+// When the run began whose line is to be drawn now; None if it isn't to be drawn.
 fn begun_before(drawing: Drawing, glance: &Glance, now: Instant) -> Option<Instant> {
     match drawing {
         Drawing::Blank => Some(now),
@@ -261,9 +288,10 @@ impl<'a, R: Clock, V: io::Write> Glances<'a, R, V> {
     }
 }
 
-impl<S: Source, R: Clock, V: io::Write> Watch<Rest<S>> for Glances<'_, R, V> {
+impl<S: Source, R: Clock, V: io::Write + Drop> Watch<Rest<S>> for Glances<'_, R, V> {
     fn look(&mut self, controller: &Controller<Rest<S>>) {
         if let Some(command) = controller.awaited() {
+            self.progress.note_reported(reported_in_list(controller));
             self.progress.work.set(Work::of(controller, command));
         }
     }
@@ -279,7 +307,13 @@ impl Work {
         } else {
             None
         };
+        let on_air = if settled > 0 && shows_clip(controller.snapshot().standing) {
+            Some(rest.at(settled - 1).id)
+        } else {
+            None
+        };
         Work::List {
+            on_air,
             event,
             command,
             reported: reported_in_list(controller),
@@ -288,7 +322,22 @@ impl Work {
     }
 }
 
-// Shows the event that is reported next, the command, for how long nothing was answered, and how many events are
+// Whether the clip of the last event that is reported is on air while the controller stands so: it is followed by no PLAY,
+// STOP or CLOSE.
+fn shows_clip(standing: Standing) -> bool {
+    let (Standing::Ready(phase) | Standing::Awaiting(phase)) = standing else {
+        return false;
+    };
+    match phase {
+        Phase::Open | Phase::Select | Phase::Seen => false,
+        Phase::Exists(_) | Phase::Cue(_) | Phase::Wait(_) => true,
+        Phase::Play(_) | Phase::Probe(_) => false,
+        Phase::Check(_) | Phase::Drain => true,
+        Phase::Close | Phase::Halt | Phase::HaltClose => false,
+    }
+}
+
+// Shows what is on air and for how long, the event that is reported next, the command, for how long nothing was answered, and how many events are
 // reported.
 impl fmt::Display for Glance {
     fn fmt<W: fmt::Write>(&self, f: &mut fmt::Formatter<W>) -> fmt::Result {
@@ -298,16 +347,24 @@ impl fmt::Display for Glance {
                 write_unanswered(self.unanswered, f)
             }
             Work::List {
+                on_air,
                 event,
                 command,
                 reported,
                 events,
             } => {
+                if let Some(id) = on_air {
+                    write_event("on air", reported.saturating_sub(1), id, f)?;
+                    if let Some(seconds) = self.reported {
+                        write!(f, " ")?;
+                        write_time(seconds, f)?;
+                    }
+                    write!(f, "; ")?;
+                }
                 if let Some(id) = event {
-                    let mut text = ArrayString::<18>::new();
-                    id.show(&mut text);
-                    let id = text.as_str();
-                    write!(f, "event {reported} {id}: ")?;
+                    let word = if on_air.is_some() { "next" } else { "event" };
+                    write_event(word, reported, id, f)?;
+                    write!(f, ": ")?;
                 }
                 let mut text = ArrayString::<64>::new();
                 command.show(&mut text);
@@ -318,6 +375,14 @@ impl fmt::Display for Glance {
             }
         }
     }
+}
+
+// Writes an event's number and its clip, after a word.
+fn write_event<W: fmt::Write>(word: &str, number: usize, id: ClipId, f: &mut W) -> fmt::Result {
+    let mut text = ArrayString::<18>::new();
+    id.show(&mut text);
+    let id = text.as_str();
+    write!(f, "{word} {number} {id}")
 }
 
 fn write_unanswered<W: fmt::Write>(seconds: Option<u64>, f: &mut W) -> fmt::Result {

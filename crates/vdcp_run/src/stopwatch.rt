@@ -1,7 +1,7 @@
+//! A clock that neither fails nor goes back.
 ghost use Rattle.std.specs.Prelude.{◌≡◌, ◌≤◌, ◌*◌};
 
 use std::rt::Clock;
-use std::time::Duration;
 
 /// Reads a clock in nanoseconds, which never go back. A clock that can't be read stands still.
 #[derive(Drop)]
@@ -29,19 +29,6 @@ impl<'a, R: Clock> Stopwatch<'a, R> {
             self.now = self.now.max(nanoseconds);
         }
         self.now
-    }
-
-    /// Sleeps until then, and gives the time.
-    pub fn sleep_until(&mut self, time: u64) -> u64
-        ensures now { result ≡ self.new.now }
-        ensures later { self.old.now ≤ self.new.now }
-        ensures clock { self.new ≡ record self.old { now = self.new.now } }
-    {
-        let left = time.saturating_sub(self.read());
-        if 0 < left {
-            self.clock.sleep(Duration::from_nanos(left));
-        }
-        self.read()
     }
 }
 

@@ -1,4 +1,6 @@
 mod Ends
+mod Holding
 mod Kept
 mod Pacing
+pub mod Showing
 mod Unserved

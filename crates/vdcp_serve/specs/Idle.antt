@@ -1,4 +1,4 @@
--- A line that is given up where nothing comes for too long.
+-- A line that is given up if nothing comes for too long.
 use Rattle.std.specs.Int.{div_ceil}
 use Rattle.std.specs.Prelude.{ℕ, ◌≡◌, ◌*◌, Bool, true, false, Option, None, Some, max, nat_le}
 use Rattle.vdcp_value.specs.Labels.{frames_per_second}
@@ -28,7 +28,7 @@ abbrev pub has_given_up : Patience → Bool
 has_given_up (patience.Waits silences) = false
 has_given_up patience.GaveUp = true
 
--- what the wire below tells, and then that the other end has closed, where the line was given up
+-- what the wire below tells, and then that the other end has closed, if the line was given up
 abbrev pub told_with : Patience → Option Told → Option Told
 told_with (patience.Waits silences) told = told
 told_with patience.GaveUp told = adds_came close told
@@ -45,7 +45,7 @@ abbrev pub gives_up : Option ℕ → Patience → Bool
 gives_up most (patience.Waits silences) = are_too_many most silences
 gives_up most patience.GaveUp = true
 
--- what a listen brings: the close where it gives up, while the wire below stays, or else what that brings
+-- what a listen brings: the close if it gives up, while the wire below stays, or else what that brings
 abbrev pub IdlingBrings : {W : Type 0} → (Act → W → W → Type 0) → (gives_up : Bool) → Arrival → Idling W → Idling W → Type 0
 IdlingBrings does true what old new = (what ≡ close) × (new.wire ≡ old.wire) × (new.patience ≡ patience.GaveUp)
 IdlingBrings does false what old new =

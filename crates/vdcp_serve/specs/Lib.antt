@@ -3,3 +3,5 @@ pub mod IdleLaws
 pub mod Pace
 pub mod Stay
 pub mod Serve
+pub mod Held
+pub mod Panel

@@ -29,7 +29,7 @@ PrintsEnd ends.Closed out out' = Appends out out' (line (codes "closed"))
 PrintsEnd ends.Idle out out' = Appends out out' (line (codes "idle"))
 PrintsEnd ends.Spent out out' = Appends out out' (line (codes "spent"))
 
--- the turns of a server answered so, and what a writer gained of it: where the wire works the line of how they ended,
+-- the turns of a server answered so, and what a writer gained of it: if the wire works the line of how they ended,
 -- unless the writer failed, and else nothing
 abbrev pub EndsAs : {A : Type 0} → Result Ran DriveFault → Bool → Result A Failure → Option (List ℕ) → Option (List ℕ)
     → Type 0
@@ -38,7 +38,7 @@ EndsAs (Ok ran) has_given_up (Err failure) out out' = failure ≡ failures.Write
 EndsAs (Err fault) has_given_up (Ok done) out out' = ⊥
 EndsAs (Err fault) has_given_up (Err failure) out out' = (failure ≡ failures.LineFailed) × Keeps out out'
 
--- a server that stays ends where its turns are spent, and nowhere else
+-- a server that stays ends when its turns are spent, and for no other reason
 abbrev pub MayEnd : ServeSettings → ServeEnd → Type 0
 MayEnd settings ends.Closed = settings.stay ≡ false
 MayEnd settings ends.Idle = settings.stay ≡ false

@@ -1,5 +1,5 @@
 -- A port that is kept from one connection to the next.
-use Rattle.std.specs.Prelude.{ℕ, suc, ◌≡◌, ◌-◌, [], Option, Result, Ok, Err}
+use Rattle.std.specs.Prelude.{ℕ, suc, ◌≡◌, ◌-◌, ⊤, [], Result, Ok, Err}
 use Rattle.vdcp_frame.specs.Progress.{reading}
 use Rattle.vdcp_port.specs.Clock.{ClockedPort, after_frame}
 use Rattle.vdcp_drive.specs.ServeLeaves.{ServeLeaves}
@@ -7,7 +7,7 @@ use Rattle.vdcp_drive.specs.Serving.{Serving}
 use Rattle.vdcp_drive.specs.declared.line.DriveFault.{DriveFault}
 use Rattle.vdcp_drive.specs.declared.line.Ran.{Ran}
 use Rattle.vdcp_drive.specs.declared.line.Ran.TheVariants as ran
-use Rattle.vdcp_wire.specs.Wires.{Told}
+use Rattle.vdcp_wire.specs.Acts.{Act}
 
 -- a server over a line that was just taken: its port is the one that was kept, and no burst has begun
 pub record IsTakenWith {W : Type 0} (failures : W → ℕ) (port : ClockedPort) (s : Serving W) : Type 0 where
@@ -15,7 +15,7 @@ pub record IsTakenWith {W : Type 0} (failures : W → ℕ) (port : ClockedPort) 
   pub at_start : s.reader ≡ reading 0 []
   pub works : failures s.wire ≡ 0
 
--- the turns that are left of these, where the server answered so and listened this often
+-- the turns that are left of these, if the server answered so and listened this often
 abbrev pub left_after : Result Ran DriveFault → ℕ → ℕ → ℕ
 left_after (Ok ran.Ended) left made = left - made
 left_after (Ok ran.Closed) left made = left - made
@@ -24,14 +24,14 @@ left_after (Err fault) left made = left - made
 
 -- what becomes of a port in these turns: a port, and how many turns are left. Each wait for a connection is a turn, in
 -- which a frame passes if nobody comes. Over each line that is taken a server goes on with the port as it is
-pub data IsKept {W : Type 0} (told : W → Option Told) (failures made : W → ℕ) (port : ClockedPort) (turns : ℕ) :
+pub data IsKept {W : Type 0} (does : Act → W → W → Type 0) (failures made : W → ℕ) (port : ClockedPort) (turns : ℕ) :
     ClockedPort → ℕ → Type 0 where
-  at_first : IsKept told failures made port turns port turns
-  nobody_came : {now : ClockedPort} {left : ℕ} → IsKept told failures made port turns now (suc left)
-      → IsKept told failures made port turns (after_frame now) left
-  no_line_came : {now : ClockedPort} {left : ℕ} → IsKept told failures made port turns now (suc left)
-      → IsKept told failures made port turns now left
-  served : {now : ClockedPort} {left : ℕ} → IsKept told failures made port turns now (suc left)
+  at_first : IsKept does failures made port turns port turns
+  nobody_came : {now : ClockedPort} {left : ℕ} → IsKept does failures made port turns now (suc left)
+      → IsKept does failures made port turns (after_frame now) left
+  no_line_came : {now : ClockedPort} {left : ℕ} → IsKept does failures made port turns now (suc left)
+      → IsKept does failures made port turns now left
+  served : {now : ClockedPort} {left : ℕ} → IsKept does failures made port turns now (suc left)
       → (old new : Serving W) → (answer : Result Ran DriveFault)
-      → IsTakenWith failures now old → ServeLeaves told failures left old new answer
-      → IsKept told failures made port turns new.port (left_after answer left (made new.wire))
+      → IsTakenWith failures now old → ServeLeaves does (λ _. ⊤) failures left old new answer
+      → IsKept does failures made port turns new.port (left_after answer left (made new.wire))

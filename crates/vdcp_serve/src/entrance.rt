@@ -1,3 +1,4 @@
+//! How one connection after another is taken, and made a line.
 ghost use Rattle.std.specs.Prelude.{◌≡◌, IfOk};
 ghost use Rattle.vdcp_wire.specs.Streams.{failures_of};
 
@@ -8,7 +9,7 @@ use mio::unix::SourceFd;
 use mio::{Events, Interest, Poll, Token};
 use std::alloc::Global;
 use std::io;
-use std::net::{Net, OpenListener};
+use std::net::{Net, OpenListener, SocketAddr};
 use std::os::fd::AsRawFd;
 use std::rt::Clock;
 use std::time::{Duration, Instant};
@@ -24,6 +25,8 @@ pub struct Entrance<'a, R: Net + Clock, L: io::Write> {
     events: Events<Global>,
     settings: ServeSettings,
     log: &'a Log<L>,
+    // Where the last connection leads.
+    from: Option<SocketAddr>,
 }
 
 impl<'a, R: Net + AllocGlobal + Clock, L: io::Write + Drop> Entrance<'a, R, L> {
@@ -48,13 +51,17 @@ impl<'a, R: Net + AllocGlobal + Clock, L: io::Write + Drop> Entrance<'a, R, L> {
             events,
             settings,
             log,
+            from: None,
         })
     }
 
-    // Takes a connection that waits. (Where none can be taken now, none has come.)
-    fn take(&self) -> Option<R::Stream> {
+    // Takes a connection that waits. (If none can be taken now, none has come.)
+    fn take(&mut self) -> Option<R::Stream> {
         match self.listener.accept() {
-            Ok((stream, _)) => Some(stream),
+            Ok((stream, from)) => {
+                self.from = Some(from);
+                Some(stream)
+            }
             Err(_) => None,
         }
     }
@@ -83,9 +90,13 @@ impl<'a, R: Net + AllocGlobal + Clock, L: io::Write + Drop> Connections<
             Err(_) => Ok(Coming::Failed),
         }
     }
+
+    fn from(&self) -> Option<SocketAddr> {
+        self.from
+    }
 }
 
-/// The line over a connection. Err where that refuses to be one.
+/// The line over a connection. Err if that refuses to be one.
 pub fn line_over<R: Clock, S: Duplex + Drop>(
     rt: &R,
     stream: S,

@@ -1,3 +1,4 @@
+//! A line that is given up once it was idle too long.
 ghost use Rattle.std.specs.Prelude.{◌≡◌};
 ghost use Rattle.vdcp_serve.specs.Idle.{are_too_many, has_given_up};
 
@@ -14,15 +15,15 @@ enum Patience {
 
 /// A wire that may drop bytes, and knows when some came.
 pub trait Hears: Wire {
-    /// When bytes came last, also such as it dropped, in nanoseconds since its start; 0 where it drops none.
+    /// When bytes came last, also such as it dropped, in nanoseconds since its start; 0 if it drops none.
     fn heard(&self) -> u64;
 }
 
-/// A wire that gives its line up where nothing comes for too long: it answers then that the other end has closed.
+/// A wire that gives its line up if nothing comes for too long: it answers then that the other end has closed.
 #[derive(Drop)]
 pub struct Idling<W: Hears> {
     wire: W,
-    // How many silences one after another are too many; None where no number is.
+    // How many silences one after another are too many; None if no number is.
     most: Option<u64>,
     patience: Patience,
     listens: u64,

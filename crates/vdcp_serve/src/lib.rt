@@ -3,15 +3,19 @@
 //! `do_serve` waits for one automation at an address, or for one after another, and serves it with a new port. Each
 //! fault has a line on standard error, and the exit status is given.
 //!
-//! Files: `serve`, `stay` (a port that is kept from one connection to the next), `entrance` (who takes these), `idling`
-//! (a line that is given up), `paced` (frames by the clock).
+//! Files, in reading order: `serve`, `stay`, `entrance`, `idling`, `paced`, `held`, `watcher`, `panel`, `page`.
 #![tactic(auto)]
 
 mod entrance;
+mod held;
 mod idling;
 mod paced;
+mod page;
+mod panel;
 mod serve;
 mod stay;
+mod watcher;
 
 pub use paced::Pace;
-pub use serve::{ServeSettings, Telling, do_serve};
+pub use panel::open_panel;
+pub use serve::{ServeSettings, do_serve};

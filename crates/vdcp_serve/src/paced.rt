@@ -1,21 +1,22 @@
+//! Frames that pass by the clock, or at silences.
 ghost use Rattle.std.specs.Duration.{as_nanos};
-ghost use Rattle.std.specs.Prelude.{◌≡◌, ◌≢◌, ◌≤◌, ◌*◌, ◌-◌, length, false, true, IfOk, OnErr, OnOk};
-ghost use Rattle.vdcp_frame.specs.Reader.{answer_of};
+ghost use Rattle.std.specs.Prelude.{◌≡◌, ◌≢◌, ◌≤◌, ◌+◌, ◌*◌, ◌-◌, [], length, take, false, true, IfOk, OnErr, OnOk};
 ghost use Rattle.vdcp_value.specs.Labels.{frames_per_second};
 ghost use Rattle.vdcp_wire.specs.Acts.{brings, fails};
 ghost use Rattle.vdcp_wire.specs.Wires.{arrival_of, FitsBuffer};
-ghost use Rattle.vdcp_serve.specs.Pace.{after_silence, before_bytes, burst_after, frames_in, is_over, is_silent, passed, BringsBelow, CountsFrames, HasPassed, PacedBrings};
+ghost use Rattle.vdcp_serve.specs.Held.{most_held};
+ghost use Rattle.vdcp_serve.specs.Pace.{after_silence, frames_in, is_over, is_silent, taking, BringsBelow, CountsFrames, HandsOn, HasFetched, HasPassed, PacedBrings};
 
+use crate::held::{Handed, Held};
 use crate::idling::Hears;
 use std::io;
 use std::rt::Clock;
 use std::time::{Duration, Instant};
-use vdcp_frame::{Got, Reader};
 use vdcp_log::Logged;
 use vdcp_value::Rate;
 use vdcp_wire::{Came, PIECE, Wire, WireFault};
 
-// How long a line waits for bytes where frames pass by the clock, in milliseconds.
+// How long a line waits for bytes if frames pass by the clock, in milliseconds.
 const TICK: u64 = 5;
 
 /// When frames pass.
@@ -28,7 +29,7 @@ pub enum Pace {
 }
 
 impl Pace {
-    /// How long a line waits for bytes, where a silence of this many milliseconds ends a burst.
+    /// How long a line waits for bytes, if a silence of this many milliseconds ends a burst.
     pub fn wait(self, silence: u32) -> Duration {
         match self {
             Pace::Silences => Duration::from_millis(u64::from(silence)),
@@ -63,13 +64,11 @@ pub fn frames_in_second(rate: Rate) -> u64
     }
 }
 
-/// How far a burst is.
+/// How what comes reads.
 #[derive(Clone, Copy, Debug, PartialEq, Eq)]
 enum Burst {
-    /// Between two messages, or before the first one.
-    Between,
-    /// Within a message.
-    Within,
+    /// As messages, so far.
+    Sound,
     /// After a fault, before a silence was answered.
     Faulty,
     /// After a fault, and a silence was answered.
@@ -77,8 +76,8 @@ enum Burst {
 }
 
 /// A wire whose silences are frames. By the clock, it answers a silence for each frame that is over, whatever comes
-/// meanwhile, and none else. A frame that is over within a message waits until the message is whole or the line is
-/// silent for as long as ends a burst. After a fault what comes before the line is silent is dropped.
+/// meanwhile, and none else. It holds a message back until that is whole, through silences too, and hands on one at a
+/// time: so no frame passes within a message. After a fault what comes before the line is silent is dropped.
 ///
 /// A clock that can't be read stands still.
 #[derive(Drop)]
@@ -93,7 +92,8 @@ pub struct Paced<'a, R: Clock, W: Wire> {
     heard: u64,
     frames: u128,
     burst: Burst,
-    reader: Reader,
+    // What came and isn't handed on yet.
+    held: Held,
 }
 
 impl<'a, R: Clock, W: Wire> Paced<'a, R, W> {
@@ -104,6 +104,8 @@ impl<'a, R: Clock, W: Wire> Paced<'a, R, W> {
         ensures pace { result.pace ≡ pace }
         ensures silence { result.silence ≡ silence * 1000000 }
         ensures frames { result.frames ≡ 0 }
+        ensures burst { result.burst ≡ Burst.Sound }
+        ensures held { result.held ≡ [] }
     {
         Paced {
             wire,
@@ -114,8 +116,8 @@ impl<'a, R: Clock, W: Wire> Paced<'a, R, W> {
             now: 0,
             heard: 0,
             frames: 0,
-            burst: Burst::Between,
-            reader: Reader::new(),
+            burst: Burst::Sound,
+            held: Held::new(),
         }
     }
 
@@ -137,77 +139,64 @@ impl<'a, R: Clock, W: Wire> Paced<'a, R, W> {
         self.silence <= self.now.saturating_sub(self.heard)
     }
 
-    // Whether the burst is over, and no silence was answered yet.
+    // Whether a burst at fault is over, and no silence was answered yet.
     fn is_over(&self) -> bool
         ensures { result ≡ is_over self.entry.now.burst (is_silent self.entry.now.silence self.entry.now.now self.entry.now.heard) }
     {
         match self.burst {
-            Burst::Between | Burst::Skipped => false,
-            Burst::Within | Burst::Faulty => self.is_silent(),
+            Burst::Sound | Burst::Skipped => false,
+            Burst::Faulty => self.is_silent(),
         }
     }
 
     // Lets a frame pass if one is over, and answers whether it did.
     fn pass_frame(&mut self, rate: Rate) -> bool
         ensures passes { result ≡ true → HasPassed rate self.new.now self.old.frames self.new.frames }
+        ensures keeps { self.new ≡ record self.old { frames = self.new.frames; burst = self.new.burst } }
         ensures burst { result ≡ true → self.new.burst ≡ after_silence self.old.burst
             (is_silent self.old.silence self.old.now self.old.heard) }
         ensures stays { result ≡ false → self.new ≡ self.old }
-        ensures none_over { result ≡ false → ¬ (self.old.burst ≡ Burst.Within)
-            → frames_in rate self.old.now ≤ self.old.frames }
-        ensures wire { self.new.wire ≡ self.old.wire }
-        ensures now { self.new.now ≡ self.old.now }
-        ensures pace { self.new.pace ≡ self.old.pace }
+        ensures none_over { result ≡ false → frames_in rate self.old.now ≤ self.old.frames }
     {
-        if let Burst::Within = self.burst
-            && !self.is_silent()
-        {
-            return false;
-        }
         if frames_in(rate, self.now) <= self.frames {
             return false;
         }
         self.frames += 1;
-        self.end_burst();
+        self.burst = match self.burst {
+            Burst::Faulty | Burst::Skipped if !self.is_silent() => Burst::Skipped,
+            Burst::Sound | Burst::Faulty | Burst::Skipped => Burst::Sound,
+        };
         true
     }
 
-    // A silence is answered.
-    fn end_burst(&mut self)
-        ensures { self.new ≡ record self.old {
-          burst = after_silence self.old.burst (is_silent self.old.silence self.old.now self.old.heard);
-          reader = self.new.reader;
-        } }
-    {
-        self.reader.silence();
-        self.burst = match self.burst {
-            Burst::Faulty | Burst::Skipped if !self.is_silent() => Burst::Skipped,
-            Burst::Between | Burst::Within | Burst::Faulty | Burst::Skipped => Burst::Between,
-        };
-    }
-
-    // Takes bytes that came, and answers how many of them are passed on: all, or none after a fault.
-    fn take(&mut self, piece: &[u8]) -> usize
-        ensures passes { result ≡ passed
-            (before_bytes self.old.burst (is_silent self.old.silence self.old.now self.old.heard)) (length piece.now) }
-        ensures within { result ≤ length piece.now }
-        ensures keeps { self.new ≡ record self.old {
-          burst = self.new.burst;
-          reader = self.new.reader;
-          heard = self.old.now;
-        } }
+    // Takes bytes that came: after a fault none.
+    fn take(&mut self, piece: &[u8])
+        requires room { length self.old.held + length piece.now ≤ most_held }
+        ensures { self.new ≡ taking piece.now self.old }
     {
         if let Burst::Skipped = self.burst
             && self.is_silent()
         {
-            self.burst = Burst::Between;
+            self.burst = Burst::Sound;
+        }
+        if let Burst::Sound = self.burst {
+            self.held.add(piece);
         }
         self.heard = self.now;
-        match self.burst {
-            Burst::Faulty | Burst::Skipped => 0,
-            Burst::Between | Burst::Within => {
-                self.burst = read_on(&mut self.reader, self.burst, piece);
-                piece.len()
+    }
+
+    // Hands on what is whole of what is held, or shows a fault, and answers how many bytes that are.
+    fn hand_on(&mut self, buffer: &mut [u8; PIECE]) -> usize
+        ensures hands { HandsOn self.old.held (take result buffer.new) self.new.held self.old.burst self.new.burst }
+        ensures keeps { self.new ≡ record self.old { held = self.new.held; burst = self.new.burst } }
+        ensures within { result ≤ 512 }
+    {
+        match self.held.hand_on(buffer) {
+            Handed::Nothing => 0,
+            Handed::Message(size) => size,
+            Handed::Fault(count) => {
+                self.burst = Burst::Faulty;
+                count
             }
         }
     }
@@ -223,7 +212,7 @@ impl<'a, R: Clock, W: Wire> Paced<'a, R, W> {
         ensures fails { OnErr result (W.does fails self.old.wire self.new.wire) }
         ensures counts { (rate : Rate) → self.old.pace ≡ Pace.Clock rate
             → self.old.frames ≤ frames_in rate self.old.now →
-            IfOk result (λ came. CountsFrames rate self.old.burst came self.old.frames self.new.frames self.new.now) }
+            IfOk result (λ came. CountsFrames rate came self.old.frames self.new.frames self.new.now) }
     {
         let Pace::Clock(rate) = self.pace else {
             return self.wire.listen(buffer);
@@ -239,7 +228,7 @@ impl<'a, R: Clock, W: Wire> Paced<'a, R, W> {
         self.listen_below(buffer)
     }
 
-    // Listens to the wire below, whose silence is none here.
+    // Listens, unless the line is silent after a fault.
     fn listen_below(&mut self, buffer: &mut [u8; PIECE]) -> Result<Came, WireFault>
         requires line { W.failures self.old.wire ≡ 0 }
         requires listens { is_over self.old.burst (is_silent self.old.silence self.old.now self.old.heard) ≡ false }
@@ -252,35 +241,34 @@ impl<'a, R: Clock, W: Wire> Paced<'a, R, W> {
         ensures works { OnOk result (W.failures self.new.wire ≡ 0) }
         ensures failed { OnErr result (W.failures self.new.wire ≡ 1) }
     {
+        if !self.fetch(buffer)? {
+            return Ok(Came::Closed);
+        }
+        Ok(Came::Bytes(self.hand_on(buffer)))
+    }
+
+    // Listens to the wire below, unless something can be handed on without that, and answers whether it is open. Its
+    // silence is none here.
+    fn fetch(&mut self, buffer: &mut [u8; PIECE]) -> Result<bool, WireFault>
+        requires { W.failures self.old.wire ≡ 0 }
+        ensures fetched { IfOk result (λ is_open. HasFetched W.does is_open self.old self.new) }
+        ensures fails { OnErr result (W.does fails self.old.wire self.new.wire) }
+        ensures frames { self.new.frames ≡ self.old.frames }
+        ensures now { self.new.now ≡ self.old.now }
+        ensures works { OnOk result (W.failures self.new.wire ≡ 0) }
+        ensures failed { OnErr result (W.failures self.new.wire ≡ 1) }
+    {
+        if !self.held.needs_more() {
+            return Ok(true);
+        }
         match self.wire.listen(buffer)? {
-            Came::Bytes(n) => Ok(Came::Bytes(self.take(&buffer[..n]))),
-            Came::Silence => Ok(Came::Bytes(0)),
-            Came::Closed => Ok(Came::Closed),
+            Came::Bytes(n) => {
+                self.take(&buffer[..n]);
+                Ok(true)
+            }
+            Came::Silence => Ok(true),
+            Came::Closed => Ok(false),
         }
-    }
-}
-
-// How far a burst is after more bytes.
-fn read_on(reader: &mut Reader, burst: Burst, piece: &[u8]) -> Burst {
-    let mut burst = burst;
-    let mut rest = piece;
-    'piece: while !rest.is_empty() {
-        burst = burst_after(reader.next(&mut rest));
-        if let Burst::Faulty = burst {
-            return burst;
-        }
-    }
-    burst
-}
-
-// How far a burst is after what its reader gave.
-fn burst_after(got: Got<'_>) -> Burst
-    ensures { result ≡ burst_after (answer_of got.entry) }
-{
-    match got {
-        Got::Message(_) => Burst::Between,
-        Got::More => Burst::Within,
-        Got::Fault(_, _) => Burst::Faulty,
     }
 }
 

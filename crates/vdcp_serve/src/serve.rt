@@ -1,9 +1,10 @@
+//! The subcommand `serve`, its settings, and how it ends.
 ghost use Rattle.std.specs.Io.KnownBytes.{Appends, Keeps};
-ghost use Rattle.std.specs.Prelude.{◌≡◌, ◌≢◌, ◌⊎◌, ◌≤◌, IfErr, OnOk, Result, false, true};
+ghost use Rattle.std.specs.Prelude.{◌≡◌, ◌≢◌, ◌⊎◌, ◌≤◌, IfErr, OnOk, Result, false, true, ⊤};
 ghost use Rattle.vdcp_drive.specs.ServeLeaves.{ServeLeaves};
 ghost use Rattle.vdcp_files.specs.Files.{IsWholeCatalogue, file};
 ghost use Rattle.vdcp_wire.specs.Address.{IsAddress};
-ghost use Rattle.vdcp_serve.specs.Idle.{has_given_up, idle_frames, idle_silences, idling_failures, idling_told};
+ghost use Rattle.vdcp_serve.specs.Idle.{IdlingDoes, has_given_up, idle_frames, idle_silences, idling_failures};
 ghost use Rattle.vdcp_serve.specs.Serve.{EndsAs, IsCatalogueRefused, IsServedThere, IsUnheard, IsUnserved, PrintsEnd};
 ghost use Rattle.vdcp_serve.specs.Serve.{end_of};
 ghost use Rattle.vdcp_port.specs.Clock.{new_port};
@@ -12,13 +13,16 @@ ghost use Rattle.vdcp_text.specs.Failure.{failure_line};
 use crate::entrance::{Entrance, line_over};
 use crate::idling::{Hears, Idling};
 use crate::paced::{Pace, frames_in_second};
+use crate::panel::PortPanel;
 use crate::stay::stay;
+use crate::watcher::Watcher;
 use std::io::{self, ErrorKind};
 use std::net::{Net, SocketAddrV4};
 use std::rt::Clock;
-use vdcp_drive::{DriveFault, Ran, Server, WatchAir};
+use vdcp_drive::{DriveFault, Ran, Server, WatchPort};
 use vdcp_files::NamedFile;
-use vdcp_log::{AirLog, Hearing, Log, Logged};
+use vdcp_log::{AirLog, Hearing, Log, Logged, Side, Telling};
+use vdcp_panel::Panel;
 use vdcp_port::{Catalogue, Port};
 use vdcp_text::Failure;
 use vdcp_value::Rate;
@@ -46,24 +50,6 @@ pub struct ServeSettings {
     /// For how many seconds nothing may come by a connection, nor go out where something is to, 1 to 86,400; None: as
     /// long as nobody closes it, but what is to go out fails after ten seconds.
     pub idle: Option<u32>,
-}
-
-/// What is told while a channel is served, and where.
-#[derive(Drop)]
-pub enum Telling<L> {
-    /// Each message, item that goes to air and connection, and each fault of a line that a server outlives.
-    All(L),
-    /// Each fault of a line that a server outlives.
-    Faults(L),
-}
-
-impl<L: io::Write + Drop> Telling<L> {
-    fn log(self) -> Log<L> {
-        match self {
-            Telling::All(writer) => Log::new(writer),
-            Telling::Faults(writer) => Log::of_faults(writer),
-        }
-    }
 }
 
 /// How the turns of a server ended.
@@ -108,7 +94,8 @@ impl ServeEnd {
 /// Where all is told, the writer gets a line for each message that came (`<-`) and went out (`->`), with the words
 /// that it has, one for each burst that is at fault or cut, and one for each item that goes to air (`aired` and its
 /// number from 0); and from a server that stays one for each connection that is `taken`, and `closed` or `idle`. Its
-/// fault line goes there too where a line fails. Where this writer fails, the lines end there.
+/// fault line goes there too where a line fails. The writer of a capture gets rows of what came and went out, as `judge`
+/// reads them. Where either writer fails, it gets no more.
 ///
 /// The status is 0 where the connection was served to its end, and where a server that stays has spent its turns. It
 /// is 2 where `address` isn't one, 1 where a row of the catalogue is refused, and 3 where the catalogue can't be read,
@@ -127,6 +114,8 @@ pub fn do_serve<
     catalogue: NamedFile<'_, C>,
     settings: ServeSettings,
     telling: Telling<L>,
+    capture: Option<L>,
+    panel: Option<Panel>,
     out: &mut W,
     err: &mut E,
 ) -> u8
@@ -150,7 +139,8 @@ pub fn do_serve<
         ⊎ IsWholeCatalogue settings.rate (file catalogue.entry.name (C.remaining catalogue.entry.reader)) }
     ensures statuses { result ≤ 3 }
 {
-    match serve(rt, address, catalogue, settings, telling, out) {
+    let log = Log::new(telling, capture, Side::Server);
+    match serve(rt, address, catalogue, settings, log, panel, out) {
         Ok(()) => 0,
         Err(failure) => failure.report(err),
     }
@@ -162,7 +152,8 @@ fn serve<'a, R: Net + AllocGlobal + Clock, C: io::Read + Drop, L: io::Write + Dr
     address: &str,
     catalogue: NamedFile<'a, C>,
     settings: ServeSettings,
-    telling: Telling<L>,
+    log: Log<L>,
+    panel: Option<Panel>,
     out: &mut W,
 ) -> Result<(), Failure<'a>>
     requires unit { settings.unit ≤ 15 }
@@ -181,7 +172,7 @@ fn serve<'a, R: Net + AllocGlobal + Clock, C: io::Read + Drop, L: io::Write + Dr
     };
     let clips = catalogue.read_catalogue(rt.alloc(), settings.rate)?;
     let port = new_port(clips, settings);
-    serve_port(rt, address, port, settings, &telling.log(), out)
+    serve_port(rt, address, port, settings, &log, panel, out)
 }
 
 // The new port of a catalogue.
@@ -213,13 +204,14 @@ fn serve_port<R: Net + AllocGlobal + Clock, C: Catalogue + Drop, L: io::Write + 
     port: Port<C>,
     settings: ServeSettings,
     log: &Log<L>,
+    panel: Option<Panel>,
     out: &mut W,
 ) -> Result<(), Failure<'static>>
     ensures served { OnOk result (IsServedThere settings (W.contents out.old) (W.contents out.new)) }
     ensures unheard { IfErr result (IsUnheard (W.contents out.old) (W.contents out.new)) }
 {
     if settings.stay {
-        serve_each(rt, address, port, settings, log, out)
+        serve_each(rt, address, port, settings, log, panel, out)
     } else {
         serve_first(rt, address, port, settings, log, out)
     }
@@ -261,6 +253,7 @@ fn serve_each<R: Net + AllocGlobal + Clock, C: Catalogue + Drop, L: io::Write + 
     port: Port<C>,
     settings: ServeSettings,
     log: &Log<L>,
+    panel: Option<Panel>,
     out: &mut W,
 ) -> Result<(), Failure<'static>>
     ensures served { OnOk result (IsServedThere settings (W.contents out.old) (W.contents out.new)) }
@@ -277,7 +270,10 @@ fn serve_each<R: Net + AllocGlobal + Clock, C: Catalogue + Drop, L: io::Write + 
         Err(_) => return Err(Failure::Bind),
     };
     let turns = u64::from(settings.turns);
-    let mut watcher = AirLog::new(log, settings.rate);
+    let Ok(panel) = port_panel(rt, panel, settings.rate) else {
+        return Err(Failure::Memory);
+    };
+    let mut watcher = Watcher::new(log, settings.rate, panel);
     let kept = stay(
         port,
         &mut entrance,
@@ -292,6 +288,18 @@ fn serve_each<R: Net + AllocGlobal + Clock, C: Catalogue + Drop, L: io::Write + 
     match write_end(ServeEnd::Spent, out) {
         Ok(()) => Ok(()),
         Err(_) => Err(Failure::Writer),
+    }
+}
+
+// The panel, if there is one, as it shows a port.
+fn port_panel<R: AllocGlobal + Clock>(
+    rt: &R,
+    panel: Option<Panel>,
+    rate: Rate,
+) -> io::Result<Option<PortPanel<'_, R>>> {
+    match panel {
+        Some(panel) => Ok(Some(PortPanel::new(rt, panel, rate)?)),
+        None => Ok(None),
     }
 }
 
@@ -322,7 +330,7 @@ fn serve_line<'f, C: Catalogue + Drop, S: Hears + Drop, L: io::Write + Drop, W: 
 }
 
 // Makes at most this many turns of a server, and prints how they ended.
-fn serve_turns<'f, C: Catalogue, S: Hears, V: WatchAir, W: io::Write>(
+fn serve_turns<'f, C: Catalogue, S: Hears, V: WatchPort<C>, W: io::Write>(
     server: &mut Server<C, Idling<S>>,
     turns: u32,
     watcher: &mut V,
@@ -330,10 +338,10 @@ fn serve_turns<'f, C: Catalogue, S: Hears, V: WatchAir, W: io::Write>(
 ) -> Result<(), Failure<'f>>
     // What the server's turns left and answered, and what is printed of that.
     ensures leaves { (ran : Result Ran DriveFault) ×
-        ServeLeaves (idling_told S.told) (idling_failures S.failures) turns server.old server.new ran
+        ServeLeaves (IdlingDoes S.does) (λ _. ⊤) (idling_failures S.failures) turns server.old server.new ran
         × EndsAs ran (has_given_up server.new.wire.patience) result (W.contents out.old) (W.contents out.new) }
 {
-    match server.serve_watched(u64::from(turns), watcher) {
+    match server.serve(u64::from(turns), watcher) {
         Ok(ran) => {
             let end = ServeEnd::of_turns(ran, server.wire().has_given_up());
             write_end(end, out).map_err(|_| Failure::Writer)

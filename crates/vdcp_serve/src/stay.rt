@@ -1,14 +1,18 @@
-ghost use Rattle.std.specs.Prelude.{◌≡◌, IfOk, Result};
+//! A port that is kept from one connection to the next.
+ghost use Rattle.std.specs.Prelude.{◌≡◌, ⊤, IfOk, Result};
 ghost use Rattle.vdcp_drive.specs.ServeLeaves.{ServeLeaves};
 ghost use Rattle.vdcp_drive.specs.Serving.{Serving};
-ghost use Rattle.vdcp_serve.specs.Idle.{idling_failures, idling_told};
+ghost use Rattle.vdcp_serve.specs.Idle.{IdlingDoes, idling_failures};
 ghost use Rattle.vdcp_serve.specs.Stay.{IsKept, IsTakenWith, left_after};
 ghost use Rattle.vdcp_serve.specs.declared.idling.Idling.{Idling};
 
 use crate::idling::{Hears, Idling};
+use crate::watcher::Watcher;
 use std::io;
-use vdcp_drive::{DriveFault, Ran, Server};
-use vdcp_log::{AirLog, Log};
+use std::net::SocketAddr;
+use std::rt::Clock;
+use vdcp_drive::{DriveFault, Ran, Server, WatchPort};
+use vdcp_log::Log;
 use vdcp_port::{Catalogue, Port};
 use vdcp_text::Failure;
 use vdcp_wire::{Wire, WireFault};
@@ -20,7 +24,7 @@ pub enum Coming<W> {
     Nobody,
     /// Somebody came, and the line failed at once.
     Failed,
-    /// A line to who came.
+    /// The new connection.
     Line(W),
 }
 
@@ -31,21 +35,30 @@ pub trait Connections<W: Wire> {
     /// Waits for the next line, no longer than a silence or, by the clock, a frame lasts.
     fn wait(&mut self) -> Result<Coming<W>, WireFault>
         ensures works { IfOk result (λ coming. (line : W) → coming ≡ Coming.Line line → W.failures line ≡ 0) };
+
+    /// Where the last line leads, if that is known.
+    fn from(&self) -> Option<SocketAddr>;
 }
 
 /// Serves a port over one line after another, for this many turns in all, each a wait for a line, for bytes or for a
-/// silence. While there is no line a frame passes at each silence. A line ends where the other end closes it, where it
-/// is given up after `most` silences one after another, and where it fails; the port stays as it is. The log is told of
-/// each. Err where nobody can be waited for.
-pub fn stay<C: Catalogue + Drop, W: Hears + Drop, D: Connections<W>, L: io::Write + Drop>(
+/// silence. While there is no line a frame passes at each silence. A line ends if the other end closes it, if it
+/// is given up after `most` silences one after another, and if it fails; the port stays as it is. The log is told of
+/// each. Err if nobody can be waited for.
+pub fn stay<
+    C: Catalogue + Drop,
+    W: Hears + Drop,
+    D: Connections<W>,
+    R: Clock + AllocGlobal,
+    L: io::Write + Drop,
+>(
     port: Port<C>,
     connections: &mut D,
     turns: u64,
     most: Option<u64>,
     log: &Log<L>,
-    watcher: &mut AirLog<'_, L>,
+    watcher: &mut Watcher<'_, R, L>,
 ) -> Result<Port<C>, WireFault>
-    ensures kept { IfOk result (λ kept. IsKept (idling_told W.told) (idling_failures W.failures) (λ w. w.listens)
+    ensures kept { IfOk result (λ kept. IsKept (IdlingDoes W.does) (idling_failures W.failures) (λ w. w.listens)
         port turns kept 0) }
 {
     let mut port = port;
@@ -55,14 +68,17 @@ pub fn stay<C: Catalogue + Drop, W: Hears + Drop, D: Connections<W>, L: io::Writ
         match connections.wait()? {
             Coming::Nobody => {
                 port.frame();
+                watcher.look(&port, None);
             }
             Coming::Failed => tell_failed(log),
             Coming::Line(line) => {
                 log.tell(&"taken");
+                watcher.connected(connections.from());
                 let server = Server::new(port, Idling::new(line, most));
                 let (kept, rest) = serve_one(server, left, log, watcher);
                 port = kept;
                 left = rest;
+                watcher.connected(None);
             }
         }
     }
@@ -70,24 +86,24 @@ pub fn stay<C: Catalogue + Drop, W: Hears + Drop, D: Connections<W>, L: io::Writ
 }
 
 // Serves over one line for at most the turns that are left: the port then, and the turns that are left then.
-fn serve_one<C: Catalogue + Drop, W: Hears + Drop, L: io::Write + Drop>(
+fn serve_one<C: Catalogue + Drop, W: Hears + Drop, R: Clock + AllocGlobal, L: io::Write + Drop>(
     server: Server<C, Idling<W>>,
     left: u64,
     log: &Log<L>,
-    watcher: &mut AirLog<'_, L>,
+    watcher: &mut Watcher<'_, R, L>,
 ) -> (Port<C>, u64)
     ensures { (new : Serving (Idling W)) × (answer : Result Ran DriveFault) ×
-        ServeLeaves (idling_told W.told) (idling_failures W.failures) left server new answer
+        ServeLeaves (IdlingDoes W.does) (λ _. ⊤) (idling_failures W.failures) left server new answer
         × (result.0 ≡ new.port) × (result.1 ≡ left_after answer left new.wire.listens) }
 {
     let mut server = server;
-    let answer = server.serve_watched(left, watcher);
+    let answer = server.serve(left, watcher);
     tell_end(answer, server.wire().has_given_up(), log);
     let (port, line) = server.into_parts();
     (port, left_after(answer, left, line.listens()))
 }
 
-// The turns that are left of these, where a server answered so and listened this often.
+// The turns that are left of these, if a server answered so and listened this often.
 fn left_after(answer: Result<Ran, DriveFault>, left: u64, made: u64) -> u64
     ensures { result ≡ left_after answer left made }
 {

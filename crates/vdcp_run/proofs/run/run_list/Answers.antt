@@ -1,14 +1,8 @@
-use Rattle.std.proofs.lemmas.Result.{err_from_is_err_and}
+use Rattle.std.proofs.lemmas.Result.{IfOk-weaker, err_from_is_err_and}
 use Rattle.vdcp_list.specs.List.{items_of}
-use Rattle.vdcp_run.proofs.Unplayed.{unplayed_with}
+use Rattle.vdcp_run.proofs.Begun.{both, is_run, unkept_so}
 use Rattle.vdcp_run.proofs.run.run_list.Goals as goal
-use Rattle.vdcp_run.specs.Run.{no_event}
-
-pub returns-in-Some-clause-unplayed : goal.returns-in-Some-clause-unplayed
-returns-in-Some-clause-unplayed g c =
-    unplayed_with c.args.settings _ _ (items_of c.in_ok-events.events) c.in-Some.journal
-    c.play_listed.result (c.in-Ok.address, c.in-Ok.ensures.address) c.in_ok-events.ensures.events c.in-Some.is
-    c.play_listed.ensures.refused
+use Rattle.vdcp_run.specs.Run.{no_event, no_journal}
 
 pub returns-in_err-test_event-clause-unplayed : goal.returns-in_err-test_event-clause-unplayed
 returns-in_err-test_event-clause-unplayed g c =
@@ -17,3 +11,23 @@ returns-in_err-test_event-clause-unplayed g c =
     rw (p.1, p.2)
     (no_event (c.in-Ok.address, c.in-Ok.ensures.address) (items_of c.in_ok-events.events) c.in_ok-events.ensures.events
     c.in_err-test_event.ensures.missing)
+
+pub returns-in-Err-clause-unplayed : goal.returns-in-Err-clause-unplayed
+returns-in-Err-clause-unplayed g c =
+    no_journal (c.in-Ok.address, c.in-Ok.ensures.address) (items_of c.in_ok-events.events)
+    c.in_ok-events.ensures.events c.in-Err.failure c.in-Err.ensures.refused c.told_of_list.ensures
+
+pub returns-clause-played : goal.returns-clause-played
+returns-clause-played g c =
+    let items = items_of c.in_ok-events.events in
+    let begun = c.in-Ok-begin.begun in
+    let done = both c.play_at-end.result _ _ c.play_at-end.ensures.session c.play_at-end.ensures.end in
+    IfOk-weaker c.play_at-end.result _ _ (λ end e. record {
+      items = items;
+      lists = c.in_ok-events.ensures.events;
+      runs = is_run (λ list. items_of list.now) items c.args.settings begun.controller begun.recorder end
+          c.in-Ok-begin.ensures.begun c.in-Ok-begin.ensures.kept e.0 e.1.comes;
+      unwritten = e.1.unwritten;
+      unkept = unkept_so c.args.settings.unit c.args.settings.journal begun.controller.state begun.recorder end.unkept
+          c.in-Ok-begin.ensures.kept e.1.unkept;
+    }) done

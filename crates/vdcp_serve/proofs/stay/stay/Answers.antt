@@ -1,7 +1,8 @@
-use Rattle.std.proofs.Common.{◌≡◌, ◌-◌, suc, ap, ◌∙◌, arith}
+use Rattle.std.proofs.Common.{ℕ, ◌≡◌, ◌-◌, suc, ap, subst, ◌∙◌, arith}
 use Rattle.vdcp_serve.proofs.Kept.{kept_alone, kept_lineless, kept_over}
 use Rattle.vdcp_serve.proofs.stay.stay.Goals as goal
-use Rattle.vdcp_serve.specs.Stay.{at_first}
+use Rattle.vdcp_serve.specs.Idle.{IdlingDoes, idling_failures}
+use Rattle.vdcp_serve.specs.Stay.{IsKept, at_first}
 use Rattle.vdcp_serve.specs.declared.idling.Idling.{Idling}
 
 pub turns-init : goal.turns-init
@@ -29,3 +30,11 @@ turns-preserved g c =
     rw (e.3, e.4) (kept_over c.turns.port c.turns.left (c.turns.left - 1) one c.turns.invariant c.new-server.result e.0
     e.1
     (record { port_is = c.new-server.ensures.port; at_start = c.new-server.ensures.reader; works = works }) e.2)
+
+pub returns : goal.returns
+returns g c =
+    let none : c.turns.left ≡ 0 = omega (arith, c.turns-test.false) in
+    record {
+      kept = subst (λ (n : ℕ). IsKept (IdlingDoes g.W.Wire.does) (idling_failures g.W.Wire.failures) (λ w. w.listens) c.args.port
+          c.args.turns c.turns.port n) none c.turns.invariant;
+    }

@@ -1,10 +1,10 @@
-use Rattle.vdcp_serve.specs.Idle.{idling_failures, idling_told}
+use Rattle.vdcp_serve.specs.Idle.{IdlingDoes, idling_failures}
 use Rattle.vdcp_serve.specs.Stay.{IsKept}
 use Rattle.vdcp_serve.proofs.stay.stay.Given as goal
 
 abbrev pub invariant-turns : goal.invariant-turns
 invariant-turns g l =
-    IsKept (idling_told g.W.Wire.told) (idling_failures g.W.Wire.failures) (λ w. w.listens) l.fn.port l.fn.turns l.port
+    IsKept (IdlingDoes g.W.Wire.does) (idling_failures g.W.Wire.failures) (λ w. w.listens) l.fn.port l.fn.turns l.port
     l.left
 
 abbrev pub decreases-turns : goal.decreases-turns

@@ -1,0 +1,84 @@
+-- What the page of a run is told.
+use Rattle.std.specs.Prelude.{ℕ, ◌≡◌, ◌+◌, ◌-◌, ◌^◌, min, List, codes, map, Option, None, Some}
+use Rattle.serde_json.specs.Data.{Data, array, boolean, member, no_members, null, number, object, string, unsigned}
+use Rattle.serde_json.specs.View.{items_of}
+use Rattle.serde_json.specs.Written.{compact_text}
+use Rattle.vdcp_auto.specs.Plan.{View}
+use Rattle.vdcp_auto.specs.Snapshots.{view_of}
+use Rattle.vdcp_auto.specs.declared.phase.Phase.{Phase}
+use Rattle.vdcp_auto.specs.declared.phase.Phase.TheVariants as phase
+use Rattle.vdcp_auto.specs.declared.snapshot.Standing.{Standing}
+use Rattle.vdcp_auto.specs.declared.snapshot.Standing.TheVariants as standing
+use Rattle.vdcp_list.specs.Rests.{FromEvent}
+use Rattle.vdcp_operator.specs.declared.seen.EventSeen.{EventSeen}
+use Rattle.vdcp_operator.specs.declared.seen.RunSeen.{RunSeen}
+use Rattle.vdcp_panel.specs.Seen.{ServesSome}
+use Rattle.vdcp_panel.specs.declared.call.Call.{Call}
+use Rattle.vdcp_panel.specs.declared.panel.Names.{Names}
+use Rattle.vdcp_text.specs.Items.{item_text}
+use Rattle.vdcp_text.specs.Outcome.{outcome_text}
+use Rattle.vdcp_value.specs.declared.rate.Rate.{Rate}
+
+abbrev pub phase_text : Phase → List ℕ
+phase_text phase.Open = codes "opening"
+phase_text phase.Select = codes "opening"
+phase_text phase.Seen = codes "opening"
+phase_text (phase.Exists k) = codes "asking"
+phase_text (phase.Cue k) = codes "cueing"
+phase_text (phase.Wait k) = codes "waiting"
+phase_text (phase.Play k) = codes "starting"
+phase_text (phase.Probe k) = codes "starting"
+phase_text (phase.Check k) = codes "checking"
+phase_text phase.Drain = codes "ending"
+phase_text phase.Close = codes "closing"
+phase_text phase.Halt = codes "stopping"
+phase_text phase.HaltClose = codes "stopping"
+
+abbrev pub stage_text : Standing → List ℕ
+stage_text (standing.Ready p) = phase_text p
+stage_text (standing.Awaiting p) = phase_text p
+stage_text (standing.Ended outcome) = codes "ended"
+
+abbrev pub time_data : Option ℕ → Data
+time_data None = null
+time_data (Some time) = number (unsigned time)
+
+abbrev pub row_data : Rate → EventSeen → Data
+row_data rate e =
+    object (member (codes "at") (time_data e.at)
+    (member (codes "item") (string (item_text rate e.item))
+    (member (codes "number") (number (unsigned e.number)) no_members)))
+
+abbrev pub seen_data : RunSeen → Data
+seen_data v =
+    object (member (codes "commands") (number (unsigned v.commands))
+    (member (codes "event") (number (unsigned v.event))
+    (member (codes "events") (number (unsigned v.events))
+    (member (codes "outcome") (string (outcome_text v.outcome))
+    (member (codes "rows") (array (items_of (map (row_data v.rate) v.rows.now)))
+    (member (codes "stage") (string (stage_text v.snapshot.standing))
+    (member (codes "start") (time_data v.start)
+    (member (codes "stop") (boolean v.snapshot.stop)
+    (member (codes "take") (boolean v.snapshot.take)
+    (member (codes "unanswered") (number (unsigned v.snapshot.unanswered)) no_members))))))))))
+
+abbrev pub page_bytes : RunSeen → List ℕ
+page_bytes v = v.page.now
+
+-- the state is the text of that
+abbrev pub state_bytes : RunSeen → List ℕ
+state_bytes v = compact_text (seen_data v)
+
+abbrev pub about : RunSeen → Option ℕ
+about v = Some v.event
+
+-- the first event that isn't reported, by its number in the list; no number is above the largest
+abbrev pub event_of : {S : Type 0} → View (FromEvent S) → ℕ
+event_of c = min (c.source.from + c.state.settled) (2 ^ 64 - 1)
+
+-- who asked was answered by the controller as it is, and a call that is held is about the event that is next
+pub record ShowsRun {S : Type 0} (c : View (FromEvent S)) (names : Names) (calls calls' : List Call) : Type 0 where
+  pub view : RunSeen
+  pub all : c ≡ view_of c.source view.snapshot
+  pub event : view.event ≡ event_of c
+  pub served : ServesSome page_bytes state_bytes about names view calls calls'

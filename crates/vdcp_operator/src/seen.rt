@@ -1,0 +1,152 @@
+//! What the page of a run is told.
+ghost use Rattle.std.specs.Prelude.{◌≡◌, IfOk, map};
+ghost use Rattle.serde_json.specs.Data.{array, boolean, string};
+ghost use Rattle.serde_json.specs.View.{items_of, view};
+ghost use Rattle.vdcp_text.specs.Outcome.{outcome_text};
+ghost use Rattle.vdcp_operator.specs.Seen.{row_data, seen_data, stage_text, time_data};
+
+use serde_json::{Value, json};
+use std::alloc::{AllocError, Global};
+use vdcp_auto::{Outcome, Phase, Snapshot, Standing};
+use vdcp_panel::View;
+use vdcp_text::{ItemText, OutcomeText};
+use vdcp_value::{Item, Rate};
+
+/// An event of a list.
+#[derive(Clone, Copy, Debug)]
+pub struct EventSeen {
+    /// Its number, from 0.
+    pub number: u64,
+    pub item: Item,
+    /// When it was seen to have gone to air, in milliseconds since 1970, if it was.
+    pub at: Option<u64>,
+}
+
+/// What is to be seen of a run.
+#[derive(Clone, Copy)]
+pub struct RunSeen<'a> {
+    pub page: &'static str,
+    pub rate: Rate,
+    /// All that the controller knows.
+    pub snapshot: Snapshot,
+    /// How it ended, if it has, with the number that the event has in the list.
+    pub outcome: Option<Outcome>,
+    /// The first event that isn't reported, by its number in the list: a call is about it.
+    pub event: u64,
+    /// How many events the list has.
+    pub events: u64,
+    /// Those round that event.
+    pub rows: &'a [EventSeen],
+    /// How many commands went out.
+    pub commands: u64,
+    /// When the first event goes to air, in milliseconds since 1970, if that is waited for.
+    pub start: Option<u64>,
+}
+
+impl View for RunSeen<'_> {
+    ghost use Rattle.vdcp_operator.specs.Seen.{about, page_bytes, state_bytes};
+
+    ghost page_bytes = { page_bytes };
+
+    ghost state_bytes = { state_bytes };
+
+    ghost about = { about };
+
+    fn page(&self) -> &'static str {
+        self.page
+    }
+
+    #[tactic(auto, using(crate::proofs::Showing::seen_whole))]
+    fn state(&self, alloc: Global) -> Result<String, AllocError> {
+        self.value(alloc)?.to_string(alloc)
+    }
+
+    fn event(&self) -> Option<u64> {
+        Some(self.event)
+    }
+}
+
+impl RunSeen<'_> {
+    fn value(&self, alloc: Global) -> Result<Value, AllocError>
+        ensures { IfOk result (λ v. view v ≡ seen_data self.now) }
+    {
+        json!(in alloc; {
+            "commands": self.commands,
+            "event": self.event,
+            "events": self.events,
+            "outcome": outcome_of(alloc, self.outcome)?,
+            "rows": rows_of(alloc, self.rate, self.rows)?,
+            "stage": stage_text(self.snapshot.standing),
+            "start": time_or_null(self.start),
+            "stop": flag(self.snapshot.stop),
+            "take": flag(self.snapshot.take),
+            "unanswered": self.snapshot.unanswered
+        })
+    }
+}
+
+fn outcome_of(alloc: Global, outcome: Option<Outcome>) -> Result<Value, AllocError>
+    ensures { IfOk result (λ v. view v ≡ string (outcome_text outcome)) }
+{
+    let text = OutcomeText(outcome);
+    let text = format!(in alloc; "{text}")?;
+    Value::try_from_str(alloc, text.as_str())
+}
+
+fn flag(is: bool) -> Value
+    ensures { view result ≡ boolean is }
+{
+    Value::Bool(is)
+}
+
+// What a controller does that stands so.
+fn stage_text(standing: Standing) -> &'static str
+    ensures { result.now ≡ stage_text standing }
+{
+    let (Standing::Ready(phase) | Standing::Awaiting(phase)) = standing else {
+        return "ended";
+    };
+    match phase {
+        Phase::Open | Phase::Select | Phase::Seen => "opening",
+        Phase::Exists(_) => "asking",
+        Phase::Cue(_) => "cueing",
+        Phase::Wait(_) => "waiting",
+        Phase::Play(_) | Phase::Probe(_) => "starting",
+        Phase::Check(_) => "checking",
+        Phase::Drain => "ending",
+        Phase::Close => "closing",
+        Phase::Halt | Phase::HaltClose => "stopping",
+    }
+}
+
+fn time_or_null(time: Option<u64>) -> Value
+    ensures { view result ≡ time_data time }
+{
+    match time {
+        Some(time) => Value::from(time),
+        None => Value::Null,
+    }
+}
+
+fn rows_of(alloc: Global, rate: Rate, events: &[EventSeen]) -> Result<Value, AllocError>
+    ensures { IfOk result (λ v. view v ≡ array (items_of (map (row_data rate) events.now))) }
+{
+    let mut rows = Vec::new(alloc);
+    for k in 0..events.len() {
+        let row = row_of(alloc, rate, &events[k])?;
+        rows.push(row)?;
+    }
+    Ok(Value::Array(rows))
+}
+
+fn row_of(alloc: Global, rate: Rate, event: &EventSeen) -> Result<Value, AllocError>
+    ensures { IfOk result (λ v. view v ≡ row_data rate event.now) }
+{
+    let text = ItemText {
+        rate,
+        item: event.item,
+    };
+    let item = format!(in alloc; "{text}")?;
+    let at = time_or_null(event.at);
+    json!(in alloc; {"at": at, "item": item.as_str(), "number": event.number})
+}

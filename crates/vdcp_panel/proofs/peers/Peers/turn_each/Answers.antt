@@ -1,0 +1,34 @@
+use Rattle.std.proofs.Common.{◌≡◌, ◌≤◌, ◌-◌, ◌∙◌, ap, drop, length, take, refl, sym, subst, add-one, arith, rules}
+use Rattle.std.proofs.lemmas.List.{length-drop, length-set, take_all}
+use Rattle.std.specs.Prelude.{slice_set}
+use Rattle.vdcp_panel.proofs.Turning.{one_more, wait_still}
+use Rattle.vdcp_panel.proofs.peers.Peers.turn_each.Goals as goal
+use Rattle.vdcp_panel.specs.Turned.{HaveTurned}
+
+pub turns-preserved : goal.turns-preserved
+turns-preserved g c =
+    let i = c.turns.invariant in
+    let olds = c.args.self.now.peers.items in
+    let nows = c.turns.self.peers.items in
+    record {
+      within = rw (length-set nows c.turns.k c.turn.new.self) (omega (arith, c.turns-test.true));
+      turned =
+          rw (add-one c.turns.k)
+          (one_more g.S.Service.answers c.args.service.now c.turns.service c.turn.new.service olds nows c.turns.k
+          c.index_mut.result.now c.turn.new.self (omega (arith, c.turns-test.true)) i.waits c.index_mut.ensures.value
+          i.turned c.turn.ensures);
+      waits = wait_still olds nows c.turns.k c.turn.new.self i.waits;
+    }
+
+pub returns : goal.returns
+returns g c =
+    let i = c.turns.invariant in
+    let olds = c.args.self.now.peers.items in
+    let nows = c.turns.self.peers.items in
+    let k = c.turns.k in
+    let all : length nows ≤ k = omega (arith, c.turns-test.false, i.within) in
+    let rest : length nows - k ≡ length olds - k = sym (length-drop k nows) ∙ ap length i.waits ∙ length-drop k olds in
+    let same : length olds ≤ k = omega (arith, all, rest) in
+    subst (λ ps. HaveTurned g.S.Service.answers c.args.service.now ps nows c.turns.service) (take_all k olds same)
+    (subst (λ qs. HaveTurned g.S.Service.answers c.args.service.now (take k olds) qs c.turns.service)
+    (take_all k nows all) i.turned)

@@ -1,0 +1,5 @@
+pub mod Asked
+pub mod Wishes
+pub mod Answered
+pub mod Turned
+pub mod Seen

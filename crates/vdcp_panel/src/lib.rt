@@ -1,0 +1,33 @@
+//! A page in a browser over a loop that runs for something else: it shows a state, follows it, and may take calls.
+//!
+//! The loop calls `Panel::serve_some` at any moment, with what is to be seen then. That does what can be done without
+//! waiting, bounded in each call, and returns; so nobody who asks can hold the loop up.
+//!
+//! ```text
+//! let mut panel = Panel::bind(&rt, address)?;
+//! loop {
+//!     ..
+//!     panel.serve_some(&rt, &view, &mut calls);
+//!     // `calls` are what was asked, in order
+//! }
+//! ```
+//!
+//! Files, in reading order: `view`, `call`, `gate`, `wish`, `desk`, `peer`, `peers`, `panel`.
+#![tactic(auto)]
+
+mod call;
+mod desk;
+mod gate;
+mod panel;
+mod peer;
+mod peers;
+mod view;
+mod wish;
+
+pub use call::{Call, Calls, MOST_CALLS};
+pub use desk::Desk;
+pub use gate::{Gate, Name};
+pub use panel::{Names, Panel, loopback_address};
+pub use peer::Peer;
+pub use peers::{MOST_PEERS, Peers};
+pub use view::View;

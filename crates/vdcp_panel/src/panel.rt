@@ -1,0 +1,237 @@
+//! The panel: it listens, and serves those that ask, without waiting.
+ghost use Rattle.std.specs.Prelude.{◌≡◌, string_bytes};
+ghost use Rattle.vdcp_panel.specs.Seen.{IsGateOf, ServesSome};
+
+use crate::call::Calls;
+use crate::desk::Desk;
+use crate::gate::{Gate, Name};
+use crate::peers::{MOST_PEERS, Peers};
+use crate::view::View;
+use mio::net::{TcpListener, TcpStream};
+use mio::{Events, Interest, Poll, Token};
+use std::alloc::Global;
+use std::fmt::Write;
+use std::hash::RandomState;
+use std::net::{Net, SocketAddr, SocketAddrV4};
+use std::random::RandomSource;
+use std::rt::Clock;
+use std::time::{Duration, Instant};
+use std::{io, mem};
+
+/// Most connections that one call takes.
+const MOST_NEW: usize = 2;
+
+/// How many times as long as a call took the next ones do nothing: so a panel has a twentieth of the time at most.
+const REST: u64 = 19;
+
+/// How many bytes of chance a token has.
+const TOKEN: usize = 16;
+
+/// A listener and its connections.
+#[derive(Drop)]
+pub struct Panel {
+    alloc: Global,
+    listener: TcpListener,
+    peers: Peers<TcpStream>,
+    poll: Poll,
+    events: Events<Global>,
+    /// The texts that requests are held against.
+    pub names: Names,
+    // The last call did something, so that there may be more to do.
+    is_busy: bool,
+    began: Instant,
+    // Before this, in nanoseconds since then, nothing is done, and at that time, in milliseconds, something is to be.
+    next: u64,
+    due: u64,
+}
+
+/// The texts of a gate.
+#[derive(Drop)]
+pub struct Names {
+    pub address: String,
+    pub address_origin: String,
+    pub local: String,
+    pub local_origin: String,
+    pub token: String,
+}
+
+impl Panel {
+    /// Listens at this address, and makes the token of its calls.
+    pub fn bind<R: Net + AllocGlobal + RandomSource + Clock>(
+        rt: &R,
+        address: SocketAddrV4,
+    ) -> io::Result<Panel> {
+        let mut listener = TcpListener::bind(rt, SocketAddr::V4(address))?;
+        let poll = Poll::new(rt)?;
+        let events = Events::with_capacity(rt.alloc(), MOST_PEERS)?;
+        poll.registry()
+            .register(&mut listener, Token(0), Interest::READABLE)?;
+        let keys = RandomState::new(rt)?;
+        let names = Names::new(rt, listener.local_addr()?)?;
+        Ok(Panel {
+            alloc: rt.alloc(),
+            listener,
+            peers: Peers::new(rt.alloc(), keys)?,
+            poll,
+            events,
+            names,
+            is_busy: true,
+            began: Instant::now(rt)?,
+            next: 0,
+            due: u64::MAX,
+        })
+    }
+
+    /// Where it listens, as `127.0.0.1:8080`.
+    pub fn address(&self) -> &str
+        ensures { result.now ≡ string_bytes self.now.names.address }
+    {
+        self.names.address.as_str()
+    }
+
+    /// What a request to make a call has to have.
+    pub fn token(&self) -> &str
+        ensures { result.now ≡ string_bytes self.now.names.token }
+    {
+        self.names.token.as_str()
+    }
+
+    /// Does what can be done without waiting, where this is to be seen: takes two connections at most, and of each one
+    /// makes a write, a read, an answer and a write. The calls gain those that were asked for. After a call that took some
+    /// time nothing is done for nineteen times as long. (By a clock that can't be read no time passes.)
+    pub fn serve_some<R: Clock, V: View>(&mut self, clock: &R, view: &V, calls: &mut Calls)
+        ensures { ServesSome V.page_bytes V.state_bytes V.about self.old.names view.now calls.old.items calls.new.items }
+    {
+        let began = self.nanoseconds(clock);
+        let now = began / 1_000_000;
+        if began < self.next || !self.has_work(now) {
+            return;
+        }
+        let took = self.take_some(now);
+        let held = mem::replace(calls, Calls::new());
+        let mut desk = desk_over(self.alloc, &self.names, view, held);
+        self.peers.turn_each(&mut desk, now);
+        *calls = desk.calls;
+        self.peers.drop_gone();
+        self.is_busy = took || self.peers.are_busy();
+        self.due = self.peers.due();
+        let ended = self.nanoseconds(clock);
+        self.next = ended.saturating_add(ended.saturating_sub(began).saturating_mul(REST));
+    }
+
+    // Since it was bound.
+    fn nanoseconds<R: Clock>(&self, clock: &R) -> u64 {
+        match self.began.elapsed(clock) {
+            Ok(time) => u64::try_from(time.as_nanos()).unwrap_or(u64::MAX),
+            Err(_) => 0,
+        }
+    }
+
+    // Whether there may be something to do.
+    fn has_work(&mut self, now: u64) -> bool
+        ensures { self.new.names ≡ self.old.names }
+    {
+        self.is_busy || self.due <= now || self.has_news()
+    }
+
+    // Whether the system tells of a change since it was asked last.
+    fn has_news(&mut self) -> bool
+        ensures { self.new.names ≡ self.old.names }
+    {
+        match self.poll.poll(&mut self.events, Some(Duration::ZERO)) {
+            Ok(()) => !self.events.is_empty(),
+            Err(_) => true,
+        }
+    }
+
+    // Takes connections that wait, and says whether there was one.
+    fn take_some(&mut self, now: u64) -> bool
+        ensures { self.new.names ≡ self.old.names }
+    {
+        let mut took = false;
+        'news: for _ in 0..MOST_NEW {
+            let Ok((stream, _)) = self.listener.accept() else {
+                return took;
+            };
+            took = true;
+            self.take(stream, now);
+        }
+        took
+    }
+
+    // Takes a connection, unless the system refuses to watch it.
+    fn take(&mut self, stream: TcpStream, now: u64)
+        ensures { self.new.names ≡ self.old.names }
+    {
+        let mut stream = stream;
+        let interest = Interest::READABLE | Interest::WRITABLE;
+        let registry = self.poll.registry();
+        if registry.register(&mut stream, Token(1), interest).is_ok() {
+            let _ = stream.set_nodelay(true);
+            self.peers.add(stream, now);
+        }
+    }
+}
+
+impl Names {
+    fn new<R: AllocGlobal + RandomSource>(rt: &R, address: SocketAddr) -> io::Result<Names> {
+        let alloc = rt.alloc();
+        let port = address.port();
+        Ok(Names {
+            address: format!(in alloc; "{address}")?,
+            address_origin: format!(in alloc; "http://{address}")?,
+            local: format!(in alloc; "localhost:{port}")?,
+            local_origin: format!(in alloc; "http://localhost:{port}")?,
+            token: token(rt)?,
+        })
+    }
+
+    fn gate(&self) -> Gate<'_>
+        ensures { IsGateOf self.now result }
+    {
+        Gate {
+            address: Name {
+                host: self.address.as_str(),
+                origin: self.address_origin.as_str(),
+            },
+            local: Name {
+                host: self.local.as_str(),
+                origin: self.local_origin.as_str(),
+            },
+            token: self.token.as_str(),
+        }
+    }
+}
+
+fn desk_over<'a, V: View>(alloc: Global, names: &'a Names, view: &'a V, calls: Calls) -> Desk<'a, V>
+    ensures gate { IsGateOf names.now result.gate }
+    ensures view { result.view.now ≡ view.now }
+    ensures calls { result.calls ≡ calls }
+{
+    let gate = names.gate();
+    Desk {
+        alloc,
+        gate,
+        view,
+        calls,
+    }
+}
+
+// A text that nobody guesses.
+fn token<R: AllocGlobal + RandomSource>(rt: &R) -> io::Result<String> {
+    let mut bytes = [0; TOKEN];
+    rt.fill_bytes(&mut bytes)?;
+    let mut text = String::new(rt.alloc());
+    for byte in bytes.as_slice() {
+        write!(text, "{byte:02x}")?;
+    }
+    Ok(text)
+}
+
+/// The address that a text writes, an IPv4 address, a colon and a TCP port, if it is one that this machine alone reaches.
+pub fn loopback_address(text: &str) -> Option<SocketAddrV4> {
+    match SocketAddrV4::parse_ascii(text.as_bytes()) {
+        Ok(address) if address.ip().is_loopback() => Some(address),
+        Ok(_) | Err(_) => None,
+    }
+}

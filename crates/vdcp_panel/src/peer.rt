@@ -1,0 +1,165 @@
+//! One connection, and what is done in its turn.
+ghost use Rattle.std.specs.Prelude.{◌≡◌};
+ghost use Rattle.http_server.specs.Connection.{history};
+ghost use Rattle.http_server.specs.Exchange.{Calls};
+ghost use Rattle.vdcp_panel.specs.Turned.{calls_at};
+
+use http_server::{Connection, Service};
+use std::io::{self, ErrorKind, Read, Write};
+
+/// For how long a request may be under way and its answer wait to be taken, and for how long none may come, in
+/// milliseconds.
+const PATIENCE: u64 = 10_000;
+
+/// A connection.
+#[derive(Drop)]
+pub struct Peer<T: Read + Write> {
+    /// What HTTP makes of it.
+    pub connection: Connection,
+    stream: T,
+    // Each request that came was answered, and the answers went out.
+    is_rested: bool,
+    stay: Stay,
+    // A read or a write of the last turn would have waited: only then is the next change reported.
+    is_blocked: bool,
+    // When the last answer was made, and when bytes moved last, in milliseconds.
+    answered: u64,
+    active: u64,
+}
+
+/// What becomes of a connection.
+#[derive(Clone, Copy, Debug, PartialEq, Eq)]
+enum Stay {
+    Active,
+    Waiting,
+    Gone,
+}
+
+impl<T: Read + Write> Peer<T> {
+    /// A connection that was taken then.
+    pub fn new(stream: T, connection: Connection, now: u64) -> Self
+        ensures { result.connection ≡ connection }
+    {
+        Peer {
+            connection,
+            stream,
+            is_rested: true,
+            stay: Stay::Active,
+            is_blocked: false,
+            answered: now,
+            active: now,
+        }
+    }
+
+    /// When bytes moved last, in milliseconds.
+    pub fn active(&self) -> u64 {
+        self.active
+    }
+
+    /// When it is given up, in milliseconds, if no answer is made before.
+    pub fn due(&self) -> u64 {
+        self.answered.saturating_add(PATIENCE)
+    }
+
+    /// Whether there may be more to do at once.
+    pub fn is_busy(&self) -> bool {
+        !self.is_blocked && !self.is_gone()
+    }
+
+    /// Whether it is to be closed.
+    pub fn is_gone(&self) -> bool {
+        self.stay == Stay::Gone
+    }
+
+    /// Does what can be done now: a write, a read, a request and a write.
+    pub fn turn<S: Service>(&mut self, service: &mut S, now: u64)
+        ensures { Calls S.answers service.old service.new (calls_at self.old) (calls_at self.new) }
+    {
+        self.stay = self.step(service, now);
+        if let Stay::Active = self.stay {
+            self.active = now;
+        }
+        if self.due() <= now {
+            self.stay = Stay::Gone;
+        }
+    }
+
+    // Writes, reads, answers and writes. It reads only where every request that came was answered.
+    fn step<S: Service>(&mut self, service: &mut S, now: u64) -> Stay
+        ensures { Calls S.answers service.old service.new (calls_at self.old) (calls_at self.new) }
+    {
+        self.is_blocked = false;
+        let wrote = self.write();
+        let read = self.read();
+        self.answer(service, read == Stay::Active, now);
+        let wrote = wrote.and(self.write());
+        if self.connection.is_done() {
+            return Stay::Gone;
+        }
+        read.and(wrote)
+    }
+
+    // Answers what came, where something did or is left.
+    #[tactic(auto, using(crate::proofs::Gained::no_calls))]
+    fn answer<S: Service>(&mut self, service: &mut S, has_come: bool, now: u64)
+        ensures { Calls S.answers service.old service.new (calls_at self.old) (calls_at self.new) }
+    {
+        if self.is_rested && !has_come {
+            return;
+        }
+        let was_pending = self.connection.wants_write();
+        self.connection.advance(service);
+        self.is_rested = !self.connection.wants_write();
+        if !was_pending && !self.is_rested {
+            self.answered = now;
+        }
+    }
+
+    // Writes once, where something is pending.
+    fn write(&mut self) -> Stay
+        ensures { calls_at self.new ≡ calls_at self.old }
+    {
+        if !self.connection.wants_write() {
+            return Stay::Waiting;
+        }
+        match self.connection.write_to(&mut self.stream) {
+            Ok(0) => Stay::Gone,
+            Ok(_) => Stay::Active,
+            Err(error) => self.wait(&error),
+        }
+    }
+
+    // Reads once, where all that came was answered.
+    fn read(&mut self) -> Stay
+        ensures { calls_at self.new ≡ calls_at self.old }
+    {
+        if !self.is_rested || !self.connection.wants_read() {
+            return Stay::Waiting;
+        }
+        match self.connection.read_from(&mut self.stream) {
+            Ok(_) => Stay::Active,
+            Err(error) => self.wait(&error),
+        }
+    }
+
+    // What comes of an error of a read or a write: one that says to wait is none.
+    fn wait(&mut self, error: &io::Error) -> Stay
+        ensures { self.new.connection ≡ self.old.connection }
+    {
+        self.is_blocked = error.kind() == ErrorKind::WouldBlock;
+        match error.kind() {
+            ErrorKind::WouldBlock | ErrorKind::Interrupted => Stay::Waiting,
+            _ => Stay::Gone,
+        }
+    }
+}
+
+impl Stay {
+    fn and(self, other: Stay) -> Stay {
+        match (self, other) {
+            (Stay::Gone, _) | (_, Stay::Gone) => Stay::Gone,
+            (Stay::Active, _) | (_, Stay::Active) => Stay::Active,
+            (Stay::Waiting, Stay::Waiting) => Stay::Waiting,
+        }
+    }
+}

@@ -1,0 +1,123 @@
+//! What a request wants, by its method, its path and its headers.
+ghost use Rattle.std.specs.Prelude.{◌≡◌, ◌&&◌, ℕ, List, None, Some, false, if◌then◌else◌};
+ghost use Rattle.vdcp_panel.specs.Asked.{called, has_token, is_about, is_let_in, place_of, shown, verb_of};
+ghost use Rattle.vdcp_panel.specs.Wishes.{shown_by, wish_call};
+
+use crate::call::Call;
+use crate::gate::{Gate, is_text};
+use bytes::Bytes;
+use http::Request;
+use itoa::Buffer;
+
+/// What a method does.
+#[derive(Clone, Copy, Debug, PartialEq, Eq)]
+pub enum Verb {
+    Read,
+    Post,
+    Other,
+}
+
+/// Where a path leads.
+#[derive(Clone, Copy, Debug, PartialEq, Eq)]
+pub enum Place {
+    Page,
+    State,
+    Call(Call),
+    Nowhere,
+}
+
+/// What a request gets.
+#[derive(Clone, Copy, Debug, PartialEq, Eq)]
+pub enum Wish {
+    Page,
+    State,
+    Call(Call),
+    /// It isn't let in, or has no token.
+    Forbidden,
+    NotFound,
+    NotAllowed,
+    /// It is about another event.
+    Conflict,
+}
+
+impl Verb {
+    fn of(method: &str) -> Verb
+        ensures { result ≡ verb_of method.now }
+    {
+        if method == "GET" || method == "HEAD" {
+            Verb::Read
+        } else if method == "POST" {
+            Verb::Post
+        } else {
+            Verb::Other
+        }
+    }
+}
+
+impl Place {
+    fn of(path: &str) -> Place
+        ensures { result ≡ place_of path.now }
+    {
+        if path == "/" {
+            Place::Page
+        } else if path == "/state" {
+            Place::State
+        } else if path == "/take" {
+            Place::Call(Call::Take)
+        } else if path == "/stop" {
+            Place::Call(Call::Stop)
+        } else {
+            Place::Nowhere
+        }
+    }
+}
+
+impl Wish {
+    /// What a request gets where a call is about this event.
+    pub fn of(gate: &Gate<'_>, event: Option<u64>, request: &Request<Bytes>) -> Wish
+        ensures call { wish_call result ≡ called gate.now event request.now }
+        ensures shows { (page state : List ℕ) → shown_by page state result ≡ shown gate.now page state request.now }
+        ensures outside { is_let_in gate.now request.now ≡ false → result ≡ Wish.Forbidden }
+    {
+        if !gate.lets_in(request) {
+            return Wish::Forbidden;
+        }
+        let verb = Verb::of(request.method().as_str());
+        match (Place::of(request.uri().path()), verb) {
+            (Place::Page, Verb::Read) => Wish::Page,
+            (Place::State, Verb::Read) => Wish::State,
+            (Place::Call(call), Verb::Post) => wish_to(call, gate, event, request),
+            (Place::Nowhere, _) => Wish::NotFound,
+            (Place::Page | Place::State | Place::Call(_), _) => Wish::NotAllowed,
+        }
+    }
+}
+
+// What a request to make this call gets.
+fn wish_to(call: Call, gate: &Gate<'_>, event: Option<u64>, request: &Request<Bytes>) -> Wish
+    ensures call { wish_call result
+        ≡ (if has_token gate.now request.now && is_about event request.now then Some call else None) }
+    ensures shows { (page state : List ℕ) → shown_by page state result ≡ None }
+{
+    if event.is_none() {
+        return Wish::NotFound;
+    }
+    if !gate.has_token(request) {
+        return Wish::Forbidden;
+    }
+    if !is_about(event, request) {
+        return Wish::Conflict;
+    }
+    Wish::Call(call)
+}
+
+// Whether a request names this event.
+fn is_about(event: Option<u64>, request: &Request<Bytes>) -> bool
+    ensures { result ≡ is_about event request.now }
+{
+    let Some(event) = event else {
+        return false;
+    };
+    let mut buffer = Buffer::new();
+    is_text(request.headers().get("x-panel-event"), buffer.format(event))
+}

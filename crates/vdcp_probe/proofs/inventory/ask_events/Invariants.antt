@@ -1,0 +1,6 @@
+-- The wire hasn't failed.
+use Rattle.std.proofs.Common.{◌≡◌}
+use Rattle.vdcp_probe.proofs.inventory.ask_events.Given as goal
+
+abbrev pub invariant-loop-k : goal.invariant-loop-k
+invariant-loop-k g l = g.T.Wire.failures l.wire ≡ 0

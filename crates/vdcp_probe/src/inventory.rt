@@ -1,0 +1,229 @@
+//! The subcommand `ask`: does a server have the clips of a list?
+ghost use Rattle.std.specs.Io.KnownBytes.{Keeps};
+ghost use Rattle.std.specs.Prelude.{◌≡◌, ◌≤◌, IfOk, OnOk, length, true};
+ghost use Rattle.vdcp_files.specs.Files.{file};
+ghost use Rattle.vdcp_list.specs.List.{items_of};
+ghost use Rattle.vdcp_probe.specs.Inventory.{IsAsked, IsCheckedBy};
+
+use crate::asking::ask;
+use std::alloc::Global;
+use std::io;
+use std::net::{Net, OpenStream, SocketAddr};
+use std::time::Duration;
+use vdcp_auto::{Heard, Source};
+use vdcp_files::{NamedFile, write_findings};
+use vdcp_frame::Messages;
+use vdcp_list::{List, Table};
+use vdcp_text::{Failure, ItemText};
+use vdcp_value::{ClipId, Item, Rate, Timecode};
+use vdcp_wire::{StreamWire, Wire, address_of};
+use vdcp_words::{Command, Reply};
+
+/// How often a server that doesn't answer is asked.
+const MOST_ASKS: u32 = 3;
+
+/// What a server is asked with.
+#[derive(Clone, Copy, Debug, PartialEq, Eq)]
+pub struct AskSettings {
+    /// The server's unit address, 0 to 15.
+    pub unit: u8,
+    /// The frame rate of time codes.
+    pub rate: Rate,
+    /// How long the line has to be silent for an answer to have ended, in milliseconds, 1 to 60,000.
+    pub silence: u32,
+}
+
+/// Why a server isn't asked to the end.
+#[derive(Clone, Copy, Debug, PartialEq, Eq)]
+enum AskFault<'a> {
+    /// What it says of this clip says neither that it has it nor that it hasn't, or gives no length.
+    Answer(Rate, ClipId),
+    Failed(Failure<'a>),
+}
+
+impl<'a> From<Failure<'a>> for AskFault<'a> {
+    fn from(failure: Failure<'a>) -> Self {
+        AskFault::Failed(failure)
+    }
+}
+
+impl AskFault<'_> {
+    // Reports it to `err` in one line, and gives the status.
+    fn report<E: io::Write>(self, err: &mut E) -> u8
+        ensures { result ≤ 3 }
+    {
+        match self {
+            AskFault::Failed(failure) => failure.report(err),
+            AskFault::Answer(rate, id) => {
+                let item = Item { id, part: None };
+                let _ = writeln!(err, "vdcp: {}: answer", ItemText { rate, item });
+                3
+            }
+        }
+    }
+}
+
+/// Asks the server at `address`, an IPv4 address, a colon and a TCP port, whether it has each clip of a playlist, and how
+/// long it is. `out` gets how many events there are and how many of their clips the server has, and then the lines that
+/// `do_check` writes of events that can't be played. Only ID REQUEST and ID SIZE REQUEST go out, each clip's once, and
+/// again where nothing comes: the port needn't be open, and stays as it is.
+///
+/// The status is 0 where each event can be played, and 1 where one can't, and where a row of the list is refused. It is 2
+/// where the address is none, which is tested first; and 3 where the list can't be read, memory was refused, nobody takes
+/// the connection, it is closed or fails, a clip's answer never comes, doesn't end, or says neither yes nor no, or a
+/// writer failed. For each of these but the last `err` gets a line.
+pub fn do_ask<R: Net + AllocGlobal, L: io::Read + Drop, W: io::Write, E: io::Write>(
+    rt: &R,
+    address: &str,
+    list: NamedFile<'_, L>,
+    settings: AskSettings,
+    out: &mut W,
+    err: &mut E,
+) -> u8
+    requires { settings.unit ≤ 15 }
+    ensures playable { result ≡ 0 → IsAsked settings.rate (file list.entry.name (L.remaining list.entry.reader))
+        (W.contents out.old) (W.contents out.new) true }
+    ensures untold { result ≡ 0 → Keeps (E.contents err.old) (E.contents err.new) }
+    ensures statuses { result ≤ 3 }
+{
+    match ask_at(rt, address, list, settings, out) {
+        Ok(true) => 0,
+        Ok(false) => 1,
+        Err(fault) => fault.report(err).max(1),
+    }
+}
+
+// Reads the list, asks for its clips, writes what was found, and says whether each event can be played.
+fn ask_at<'a, R: Net + AllocGlobal, L: io::Read + Drop, W: io::Write>(
+    rt: &R,
+    address: &str,
+    list: NamedFile<'a, L>,
+    settings: AskSettings,
+    out: &mut W,
+) -> Result<bool, AskFault<'a>>
+    requires { settings.unit ≤ 15 }
+    ensures { IfOk result (IsAsked settings.rate (file list.entry.name (L.remaining list.entry.reader))
+        (W.contents out.old) (W.contents out.new)) }
+{
+    let Ok(address) = address_of(address) else {
+        return Err(AskFault::Failed(Failure::Address));
+    };
+    let events = list.read_list(rt.alloc(), settings.rate)?;
+    let Ok(stream) = rt.connect(SocketAddr::V4(address)) else {
+        return Err(AskFault::Failed(Failure::Connect));
+    };
+    ask_connected(rt.alloc(), &events, stream, settings, out)
+}
+
+fn ask_connected<'a, T: io::Read + io::Write + OpenStream + Drop, W: io::Write>(
+    alloc: Global,
+    events: &List,
+    stream: T,
+    settings: AskSettings,
+    out: &mut W,
+) -> Result<bool, AskFault<'a>>
+    requires { settings.unit ≤ 15 }
+    ensures { IfOk result (IsCheckedBy (items_of events.now) (W.contents out.old) (W.contents out.new)) }
+{
+    let silence = Duration::from_millis(u64::from(settings.silence));
+    match StreamWire::new(stream, silence) {
+        Ok(mut wire) => ask_events(alloc, events, settings, &mut wire, out),
+        Err(_) => Err(AskFault::Failed(Failure::LineFailed)),
+    }
+}
+
+// Asks over a wire for the clips of all events, and writes what was found.
+fn ask_events<'a, S: Source, T: Wire, W: io::Write>(
+    alloc: Global,
+    events: &S,
+    settings: AskSettings,
+    wire: &mut T,
+    out: &mut W,
+) -> Result<bool, AskFault<'a>>
+    requires unit { settings.unit ≤ 15 }
+    requires works { T.failures wire.old ≡ 0 }
+    ensures { IfOk result (IsCheckedBy (S.items events.now) (W.contents out.old) (W.contents out.new)) }
+{
+    let mut clips = Table::new(alloc);
+    for k in 0..events.len() {
+        let id = events.at(k).id;
+        if is_first(events, k, id)
+            && let Some(length) = length_at(alloc, id, settings, wire)?
+        {
+            if clips.add(id, length).is_err() {
+                return Err(AskFault::Failed(Failure::Memory));
+            }
+        }
+    }
+    match write_findings(events, &clips, clips.len(), out) {
+        Ok(playable) => Ok(playable),
+        Err(_) => Err(AskFault::Failed(Failure::Writer)),
+    }
+}
+
+// Whether no event before this one has this ID.
+fn is_first<S: Source>(events: &S, k: usize, id: ClipId) -> bool
+    requires { k ≤ length (S.items events.now) }
+{
+    for before in 0..k {
+        if events.at(before).id == id {
+            return false;
+        }
+    }
+    true
+}
+
+// How long a clip is, by what the server says; None where it hasn't got it.
+fn length_at<'a, T: Wire>(
+    alloc: Global,
+    id: ClipId,
+    settings: AskSettings,
+    wire: &mut T,
+) -> Result<Option<Timecode>, AskFault<'a>>
+    requires unit { settings.unit ≤ 15 }
+    requires works { T.failures wire.old ≡ 0 }
+    ensures works { OnOk result (T.failures wire.new ≡ 0) }
+{
+    match reply_to(alloc, Command::IdRequest(id), settings.unit, wire)? {
+        Some(Reply::Present(false)) => return Ok(None),
+        Some(Reply::Present(true)) => {}
+        _ => return Err(AskFault::Answer(settings.rate, id)),
+    }
+    match reply_to(alloc, Command::IdSize(id), settings.unit, wire)? {
+        Some(Reply::Size(bytes)) => match Timecode::from_bcd(settings.rate, bytes) {
+            Ok(length) => Ok(Some(length)),
+            Err(_) => Err(AskFault::Answer(settings.rate, id)),
+        },
+        _ => Err(AskFault::Answer(settings.rate, id)),
+    }
+}
+
+// The first reply that comes to a command, if what comes begins with one. The command goes out until something comes.
+fn reply_to<T: Wire>(
+    alloc: Global,
+    command: Command,
+    unit: u8,
+    wire: &mut T,
+) -> Result<Option<Reply>, Failure<'static>>
+    requires unit { unit ≤ 15 }
+    requires works { T.failures wire.old ≡ 0 }
+    ensures works { OnOk result (T.failures wire.new ≡ 0) }
+{
+    let burst = command.encode(unit);
+    'asks: for _ in 0..MOST_ASKS {
+        let came = ask(alloc, &burst, wire)?;
+        if !came.is_empty() {
+            return Ok(first_reply(came.as_slice(), unit));
+        }
+    }
+    Err(Failure::Unanswered)
+}
+
+// The reply of a unit that a burst begins with, if it begins with one.
+fn first_reply(came: &[u8], unit: u8) -> Option<Reply> {
+    let message = Messages::of(came).next()?;
+    match Heard::of_message(&message, unit) {
+        Heard::Reply(reply) => Some(reply),
+        Heard::Other => None,
+    }
+}

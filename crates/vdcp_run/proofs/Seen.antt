@@ -1,0 +1,239 @@
+-- A session over a wire, seen at the wire below.
+use Rattle.std.proofs.Common.{◌≡◌, ◌∙◌, ℕ, List, [], ◌∷◌, ◌++◌, ap, inl, inr, sym, subst}
+use Rattle.std.specs.Prelude.{Bool, true, false, IfOk, OnErr, None, Some, Option, Result, Ok, Err}
+use Rattle.vdcp_auto.specs.Plan.{Plan}
+use Rattle.vdcp_auto.specs.State.{State}
+use Rattle.vdcp_drive.specs.Auto.{Auto}
+use Rattle.vdcp_drive.specs.Ears.{Fold}
+use Rattle.vdcp_drive.specs.Hearing as ears
+use Rattle.vdcp_drive.specs.Leaves.{HasRun}
+use Rattle.vdcp_drive.specs.Reading.{holds}
+use Rattle.vdcp_drive.specs.Steps.{Chain, Does, Happens, Rules, Step, World, acts, keeps, looks, misses, steps_of}
+use Rattle.vdcp_drive.specs.Vacancy.{HasAsked}
+use Rattle.vdcp_drive.specs.declared.keep.Kept.{Kept}
+use Rattle.vdcp_drive.specs.declared.keep.KeptFault.{KeptFault}
+use Rattle.vdcp_drive.specs.declared.line.Ran.{Ran}
+use Rattle.vdcp_drive.specs.declared.line.Ran.TheVariants as ran
+use Rattle.vdcp_drive.specs.declared.operator.Call.{Call}
+use Rattle.vdcp_drive.specs.declared.vacancy.Vacancy.{Vacancy}
+use Rattle.vdcp_log.specs.declared.hearing.Hearing.{Hearing}
+use Rattle.vdcp_log.specs.declared.hearing.Hearing.TheVariants as hears
+use Rattle.vdcp_record.specs.Recording.{Recording}
+use Rattle.vdcp_run.specs.Lapse.{Lapses, MayLapse}
+use Rattle.vdcp_run.specs.Session.{HasPlayed, HasSession, HasTried, IsAsked, IsGiven, LastRound, Parts, Playing, Plays, Rounds, Runs, RunsBy, Start, TriesOver, does_by, ended, missed, no_wire, over, played, rules_of, run_over, spent, told_by, tried, unbegun, unseen}
+use Rattle.vdcp_run.specs.declared.lapsing.Since.{Since}
+use Rattle.vdcp_run.specs.declared.run_end.LineEnd.TheVariants as line_end
+use Rattle.vdcp_run.specs.declared.run_end.RunEnd.{RunEnd}
+use Rattle.vdcp_run.specs.declared.settings.RunSettings.{RunSettings}
+use Rattle.vdcp_wire.specs.Acts.{Act, sends, brings, drops, fails}
+use Rattle.vdcp_wire.specs.Streams.{StreamDoes, Streamed}
+use Rattle.vdcp_wire.specs.Wires.{IfTold, Told}
+use Rattle.vdcp_wire.specs.declared.stream.Connection.TheVariants as connection
+use Rattle.vdcp_wire.specs.declared.wire.WireFault.{WireFault}
+use Rattle.vdcp_words.specs.declared.command.Command.{Command}
+
+abbrev pub seen : {W W' K K' V V' : Type 0} → (W → W') → (K → K') → (V → V') → World W K V → World W' K' V'
+seen w k v world = record { wire = w world.wire; keep = k world.keep; watch = v world.watch }
+
+-- what each of its parts does is seen
+pub record Shows {W W' K K' V V' : Type 0} (rules : Rules W K V) (rules' : Rules W' K' V') (w : W → W') (k : K → K')
+    (v : V → V') : Type 0 where
+  pub does : (a : Act) (old new : W) → rules.does a old new → rules'.does a (w old) (w new)
+  pub adds : (r : Kept) (old new : K) → rules.adds r old new → rules'.adds r (k old) (k new)
+  pub loses : (c : Command) (old new : K) → rules.loses c old new → rules'.loses c (k old) (k new)
+  pub sees : (s : State) (old new : V) → rules.sees s old new → rules'.sees s (v old) (v new)
+
+step_seen : {W W' K K' V V' : Type 0} (rules : Rules W K V) (rules' : Rules W' K' V') (w : W → W') (k : K → K') (v : V → V')
+    → Shows rules rules' w k v → (s : Step) (old new : World W K V) → Does rules s old new
+    → Does rules' s (seen w k v old) (seen w k v new)
+step_seen rules rules' w k v shows (acts a) old new h = (shows.does a old.wire new.wire h.0, ap (seen w k v) h.1)
+step_seen rules rules' w k v shows (keeps r) old new h = (shows.adds r old.keep new.keep h.0, ap (seen w k v) h.1)
+step_seen rules rules' w k v shows (misses c) old new h = (shows.loses c old.keep new.keep h.0, ap (seen w k v) h.1)
+step_seen rules rules' w k v shows (looks s) old new h = (shows.sees s old.watch new.watch h.0, ap (seen w k v) h.1)
+
+happens_seen : {W W' K K' V V' : Type 0} (rules : Rules W K V) (rules' : Rules W' K' V') (w : W → W') (k : K → K')
+    (v : V → V') → Shows rules rules' w k v → (steps : List Step) (old new : World W K V) → Happens rules steps old new
+    → Happens rules' steps (seen w k v old) (seen w k v new)
+happens_seen rules rules' w k v shows [] old new h = ap (seen w k v) h
+happens_seen rules rules' w k v shows (s ∷ later) old new h = (
+  seen w k v h.0,
+  step_seen rules rules' w k v shows s old h.0 h.1,
+  happens_seen rules rules' w k v shows later h.0 new h.2,
+)
+
+pub run_seen : {E W W' K K' V V' : Type 0} (rules : Rules W K V) (rules' : Rules W' K' V') (w : W → W') (k : K → K')
+    (v : V → V') → Shows rules rules' w k v → (fold : Fold E) (plan : Plan) (unit count : ℕ) (a a' : Auto E)
+    (old new : World W K V) (answer : Result Ran KeptFault) → HasRun rules fold plan unit count a a' old new answer
+    → HasRun rules' fold plan unit count a a' (seen w k v old) (seen w k v new) answer
+run_seen rules rules' w k v shows fold plan unit count a a' old new answer h = record {
+  came = h.came;
+  octets = h.octets;
+  closes_last = h.closes_last;
+  more = h.more;
+  happened = happens_seen rules rules' w k v shows (steps_of fold plan unit a h.came ++ h.more) old new h.happened;
+  ending = h.ending;
+}
+
+-- a run, which keeps the same journal, is seen at the wire below and by another watcher
+module _ {E W W' V V' F : Type 0} (parts : Parts E W F V) (does' : Act → W' → W' → Type 0)
+    (sees' : State → V' → V' → Type 0) (w : W → W') (v : V → V')
+    (acting : (a : Act) (old new : W) → parts.does a old new → does' a (w old) (w new))
+    (looking : (s : State) (old new : V) → parts.sees s old new → sees' s (v old) (v new)) where
+  abbrev there : Parts E W' F V'
+  there = record {
+    does = does';
+    safe = parts.safe;
+    sees = sees';
+    fold = parts.fold;
+    plan = parts.plan;
+    unit = parts.unit;
+  }
+
+  abbrev below : Playing E W F V → Playing E W' F V'
+  below p = record { auto = p.auto; world = seen w (λ keep. keep) v p.world }
+
+  runs_seen : (count : ℕ) (answer : Result Ran KeptFault) (old new : Playing E W F V) → Runs parts count answer old new
+      → Runs there count answer (below old) (below new)
+  runs_seen count answer old new h = run_seen (rules_of parts.does parts.safe parts.sees)
+      (rules_of does' parts.safe sees') w (λ keep. keep) v (record {
+        does = acting;
+        adds = λ r old new h. h;
+        loses = λ c old new h. h;
+        sees = looking;
+      }) parts.fold parts.plan parts.unit count old.auto new.auto old.world new.world answer h
+
+  given_seen : (said : Option Call) (old new : Playing E W F V) → IsGiven parts.safe said old new
+      → IsGiven parts.safe said (below old) (below new)
+  given_seen None old new h = ap below h
+  given_seen (Some call) old new h = (h.0, ap below h.1)
+
+  rounds_seen : (said : List (Option Call)) (old new : Playing E W F V) → Chain (Rounds parts) said old new
+      → Chain (Rounds there) said (below old) (below new)
+  rounds_seen [] old new h = ap below h
+  rounds_seen (one ∷ more) old new (next, (asked, given, runs), rest) = (
+    below next,
+    (below asked, given_seen one old asked given, runs_seen 1 (Ok ran.Spent) asked next runs),
+    rounds_seen more next new rest,
+  )
+
+  last_seen : (left : ℕ) (answer : Result Ran KeptFault) (old new : Playing E W F V) → LastRound parts left answer old new
+      → LastRound there left answer (below old) (below new)
+  last_seen left answer old new (spent none runs) = spent none (runs_seen 0 answer old new runs)
+  last_seen left answer old new (ended is_over runs) = ended is_over (runs_seen left answer old new runs)
+  last_seen left answer old new (run_over said asked some given goes_on runs) =
+      run_over said (below asked) some (given_seen said old asked given) goes_on (runs_seen 1 answer asked new runs)
+  last_seen left answer old new (missed call some is lost stays) = missed call some is lost (ap below stays)
+
+  run_by_seen : (operated : Bool) (count : ℕ) (answer : Result Ran KeptFault) (old new : Playing E W F V)
+      → RunsBy operated parts count answer old new → RunsBy operated there count answer (below old) (below new)
+  run_by_seen false count answer old new h = runs_seen count answer old new h
+  run_by_seen true count answer old new h = record {
+    said = h.said;
+    left = h.left;
+    few = h.few;
+    then = below h.then;
+    rounds = rounds_seen h.said old h.then h.rounds;
+    last = last_seen h.left answer h.then new h.last;
+  }
+
+plays_seen : {E W W' V V' F : Type 0} (operated : Bool) (does : Act → W → W → Type 0) (does' : Act → W' → W' → Type 0)
+    (safe : F → Option (List ℕ)) (sees : State → V → V → Type 0) (sees' : State → V' → V' → Type 0) (w : W → W') (v : V → V')
+    → ((a : Act) (old new : W) → does a old new → does' a (w old) (w new))
+    → ((s : State) (old new : V) → sees s old new → sees' s (v old) (v new))
+    → (fold : Fold E) (ear : E) (unit listens : ℕ) (start : Start) (world : World W (Option (Recording F)) V) (watch : V)
+    (end : RunEnd) → Plays operated does safe sees fold ear unit listens start world watch end
+    → Plays operated does' safe sees' fold ear unit listens start (seen w (λ keep. keep) v world) (v watch) end
+plays_seen operated does does' safe sees sees' w v acting looking fold ear unit listens start world watch end plays = record {
+  ran = plays.ran;
+  left = record { auto = plays.left.auto; world = seen w (λ keep. keep) v plays.left.world };
+  runs = run_by_seen (record { does = does; safe = safe; sees = sees; fold = fold; plan = start.plan; unit = unit }) does'
+      sees' w v acting looking operated listens plays.ran
+      (record { auto = record { ear = ear; state = start.state }; world = world }) plays.left plays.runs;
+  watch_is = ap v plays.watch_is;
+  line_is = plays.line_is;
+  outcome_is = plays.outcome_is;
+  reported_is = plays.reported_is;
+  closed = plays.closed;
+}
+
+played_seen : {W W' V V' F : Type 0} (operated : Bool) (hearing : Hearing) (does : Act → W → W → Type 0)
+    (does' : Act → W' → W' → Type 0) (safe : F → Option (List ℕ)) (sees : State → V → V → Type 0)
+    (sees' : State → V' → V' → Type 0) (w : W → W') (v : V → V')
+    → ((a : Act) (old new : W) → does a old new → does' a (w old) (w new))
+    → ((s : State) (old new : V) → sees s old new → sees' s (v old) (v new))
+    → (unit listens : ℕ) (start : Start) (world : World W (Option (Recording F)) V) (watch : V) (end : RunEnd)
+    → HasPlayed operated hearing does safe sees unit listens start world watch end
+    → HasPlayed operated hearing does' safe sees' unit listens start (seen w (λ keep. keep) v world) (v watch) end
+played_seen operated hears.AtSilences does does' safe sees sees' w v acting looking unit listens start world watch end plays =
+    plays_seen operated does does' safe sees sees' w v acting looking ears.at_silences (ears.begun (holds [])) unit listens
+    start world watch end plays
+played_seen operated (hears.AtOnce poll) does does' safe sees sees' w v acting looking unit listens start world watch end
+    plays = plays_seen operated does does' safe sees sees' w v acting looking ears.at_once (holds []) unit listens start world
+    watch end plays
+
+asked_seen : {W W' : Type 0} (told : W → Option Told) (told' : W' → Option Told) (w : W → W')
+    → ((x : W) → told' (w x) ≡ told x) → (settings : RunSettings) (start : Start) (wire wire' : W) (left : ℕ)
+    (answer : Result Vacancy WireFault) → IsAsked told settings start wire wire' left answer
+    → IsAsked told' settings start (w wire) (w wire') left answer
+asked_seen {W} {W'} told told' w same settings start wire wire' left answer asked = record {
+  unasked = λ no. let a = asked.unasked no in (a.0, ap w a.1, a.2);
+  opened = λ no. let a = asked.opened no in (a.0, ap w a.1, a.2);
+  asks = λ yes opens fresh. subst (λ (t : Option Told). IfOk answer (λ a. IfTold t (λ u.
+      HasAsked settings.unit settings.port settings.limit settings.listens left u a))) (sym (same wire'))
+      (asked.asks yes opens (sym (same wire) ∙ fresh));
+}
+
+pub tries_seen : {W W' V V' F : Type 0} (told : W → Option Told) (told' : W' → Option Told) (does : Act → W → W → Type 0)
+    (does' : Act → W' → W' → Type 0) (safe : F → Option (List ℕ)) (sees : State → V → V → Type 0)
+    (sees' : State → V' → V' → Type 0) (w : W → W') (v : V → V') → ((x : W) → told' (w x) ≡ told x)
+    → ((a : Act) (old new : W) → does a old new → does' a (w old) (w new))
+    → ((s : State) (old new : V) → sees s old new → sees' s (v old) (v new))
+    → (settings : RunSettings) (start : Start) (world : World W (Option (Recording F)) V) (watch : V) (end : RunEnd)
+    → HasTried told does safe sees settings start world watch end
+    → HasTried told' does' safe sees' settings start (seen w (λ keep. keep) v world) (v watch) end
+tries_seen told told' does does' safe sees sees' w v same acting looking settings start world watch end
+    (played answer wire left asked may plays) = played answer (w wire) left
+    (asked_seen told told' w same settings start world.wire wire left answer asked) may
+    (played_seen settings.operated settings.hearing does does' safe sees sees' w v acting looking settings.unit left start
+    (record world { wire = wire }) watch end plays)
+tries_seen told told' does does' safe sees sees' w v same acting looking settings start world watch end
+    (unbegun answer wire left asked may line) = unbegun answer (w wire) left
+    (asked_seen told told' w same settings start world.wire wire left answer asked) may line
+
+-- ---- a silence by the clock
+
+pub lapses_so : {W : Type 0} (does : Act → W → W → Type 0) (lapsed : Bool) (since : Since) (act : Act) (old new : W)
+    → Lapses does lapsed since act old new → MayLapse does act old new
+lapses_so does lapsed since (sends bytes) old new h = h.0
+lapses_so does true since (brings what) old new h = inr h
+lapses_so does false since (brings what) old new h = inl h
+lapses_so does lapsed since drops old new h = h
+lapses_so does lapsed since fails old new h = h
+
+pub tries_at_silences : {W F : Type 0} (told : W → Option Told) (does : Act → W → W → Type 0) (safe : F → Option (List ℕ))
+    (settings : RunSettings) (start : Start) (wire : W) (recorder : Option (Recording F)) (end : RunEnd)
+    → settings.hearing ≡ hears.AtSilences
+    → HasTried told does safe unseen settings start (over wire recorder) tt end
+    → TriesOver told does safe settings start wire recorder end
+tries_at_silences told does safe settings start wire recorder end is tries =
+    subst (λ (h : Hearing). HasTried (told_by h told) (does_by h does) safe unseen settings start (over wire recorder) tt end)
+    (sym is) tries
+
+pub tries_at_once : {W F : Type 0} (told : W → Option Told) (does : Act → W → W → Type 0) (safe : F → Option (List ℕ))
+    (settings : RunSettings) (start : Start) (wire : W) (recorder : Option (Recording F)) (end : RunEnd) (poll : ℕ)
+    → settings.hearing ≡ hears.AtOnce poll
+    → HasTried (λ w. None) (MayLapse does) safe unseen settings start (over wire recorder) tt end
+    → TriesOver told does safe settings start wire recorder end
+tries_at_once told does safe settings start wire recorder end poll is tries =
+    subst (λ (h : Hearing). HasTried (told_by h told) (does_by h does) safe unseen settings start (over wire recorder) tt end)
+    (sym is) tries
+
+-- ---- a connection, which is a wire or none
+
+pub session_so : {F E : Type 0} (safe : F → Option (List ℕ)) (settings : RunSettings) (start : Start)
+    (recorder : Option (Recording F)) (end : RunEnd) (wire : Result Streamed E)
+    → IfOk wire (λ w. w.connection ≡ connection.Open)
+    → IfOk wire (λ w. TriesOver (λ u. None) StreamDoes safe settings start w recorder end)
+    → OnErr wire (end.line ≡ line_end.Failed) → HasSession safe settings start recorder end
+session_so safe settings start recorder end (Ok wire) is_open tries failed = tried wire is_open tries
+session_so safe settings start recorder end (Err e) is_open tries failed = no_wire failed

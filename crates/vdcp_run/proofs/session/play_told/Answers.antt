@@ -1,0 +1,21 @@
+use Rattle.std.proofs.Common.{◌∙◌, ap, refl, subst}
+use Rattle.vdcp_run.proofs.Seen.{tries_seen}
+use Rattle.vdcp_run.proofs.session.play_told.Goals as goal
+use Rattle.vdcp_run.specs.Session.{HasTried, over, start_of, unseen}
+
+pub returns-in-Progress-clause-session : goal.returns-in-Progress-clause-session
+returns-in-Progress-clause-session g c =
+    let start = start_of g.S.Source.items c.args.controller in
+    subst (λ w. HasTried g.W.Wire.told g.W.Wire.does g.F.Disk.safe unseen c.args.settings start
+    (over w c.args.recorder) tt c.play_asked-end.result) (ap (λ w. w.wire) c.new-wire.ensures ∙ c.new-logged.ensures)
+    (tries_seen _ g.W.Wire.told _ g.W.Wire.does g.F.Disk.safe _ unseen (λ w. w.wire.wire) (λ v. tt) (λ w. refl)
+    (λ a old new h. h) (λ s old new h. tt) c.args.settings start _ _ c.play_asked-end.result
+    c.play_asked-end.ensures.session)
+
+pub returns-in-Lines-clause-session : goal.returns-in-Lines-clause-session
+returns-in-Lines-clause-session g c =
+    let start = start_of g.S.Source.items c.args.controller in
+    subst (λ w. HasTried g.W.Wire.told g.W.Wire.does g.F.Disk.safe unseen c.args.settings start
+    (over w c.args.recorder) tt c.play_asked.result) c.new-wire-in-Lines.ensures
+    (tries_seen _ g.W.Wire.told _ g.W.Wire.does g.F.Disk.safe _ unseen (λ w. w.wire) (λ v. tt) (λ w. refl)
+    (λ a old new h. h) (λ s old new h. tt) c.args.settings start _ _ c.play_asked.result c.play_asked.ensures.session)

@@ -1,0 +1,133 @@
+//! What a run begins with: its controller, and the recorder of its journal.
+ghost use Rattle.std.specs.Prelude.{◌≡◌, ◌⊎◌, ◌≤◌, IfErr, IfOk, IfSome, IsSome, Some, length};
+ghost use Rattle.vdcp_record.specs.Recording.{IsUnbegun, NotesFrom};
+ghost use Rattle.vdcp_run.specs.Run.{HasRecorder, IsBegun, IsPlaceRefused, IsUnkept, first_event, heading_for, new_controller};
+ghost use Rattle.vdcp_run.specs.Session.{start_of};
+
+use crate::place::{test_apart, test_place};
+use crate::settings::{RunJournal, RunSettings};
+use std::fs::{self, File};
+use std::rt::{Clock, Files};
+use vdcp_auto::{Controller, Source};
+use vdcp_journal::{Heading, digest_of};
+use vdcp_list::Rest;
+use vdcp_record::{Resumption, begin_again, begin_journal, resume_journal};
+use vdcp_text::Failure;
+
+/// The controller of a run, and the recorder of its journal, if it has one and its controller hasn't ended there. The
+/// as-run list of a run with a journal has to have its place. Where it is refused no new journal is left.
+pub fn begin<'a, 'r, 's, R: Files<File = File> + Clock + AllocGlobal, S: Source>(
+    rt: &'r R,
+    source: &'s S,
+    settings: RunSettings<'a>,
+) -> Result<Resumption<'a, 'r, R, &'s S>, Failure<'a>>
+    requires unit { settings.unit ≤ 15 }
+    requires some { 1 ≤ settings.limit }
+    requires few { settings.limit ≤ 1000 }
+    requires listed { first_event settings.from ≤ length (S.items source.now) }
+    ensures begun { IfOk result (λ r. IsBegun settings.entry (S.items source.now) settings.entry.journal
+        (start_of (λ s. S.items s.now) r.controller) r.recorder) }
+    ensures kept { IfOk result (λ r. HasRecorder settings.entry.unit settings.entry.journal r.controller.state r.recorder) }
+    ensures refused { IfErr result (IsUnkept settings.entry (S.items source.now) settings.entry.journal) }
+{
+    match settings.journal {
+        None => Ok(Resumption {
+            controller: new_controller(source, settings),
+            recorder: None,
+        }),
+        Some(journal) => begin_kept(rt, source, journal, settings),
+    }
+}
+
+// With a journal.
+fn begin_kept<'a, 'r, 's, R: Files<File = File> + Clock + AllocGlobal, S: Source>(
+    rt: &'r R,
+    source: &'s S,
+    journal: RunJournal<'a>,
+    settings: RunSettings<'a>,
+) -> Result<Resumption<'a, 'r, R, &'s S>, Failure<'a>>
+    requires unit { settings.unit ≤ 15 }
+    requires some { 1 ≤ settings.limit }
+    requires few { settings.limit ≤ 1000 }
+    requires listed { first_event settings.from ≤ length (S.items source.now) }
+    ensures begun { IfOk result (λ r. IsBegun settings.entry (S.items source.now) (Some journal.entry)
+        (start_of (λ s. S.items s.now) r.controller) r.recorder) }
+    ensures kept { IfOk result (λ r. HasRecorder settings.entry.unit (Some journal.entry) r.controller.state r.recorder) }
+    ensures refused { IfErr result (IsUnkept settings.entry (S.items source.now) (Some journal.entry)) }
+{
+    test_place(rt, settings.asrun, journal.name())?;
+    let heading = heading_of(rt, source, settings)?;
+    match journal {
+        RunJournal::New(name) => begin_new(rt, name, &heading, source, settings),
+        RunJournal::Older(name) => resume_journal(rt, name, &heading, source),
+        RunJournal::Again(name) => begin_again(rt, name, &heading, source, settings.from),
+    }
+}
+
+// With a new journal of this name, which is removed if the as-run list would take its place.
+fn begin_new<'a, 'r, 's, R: Files<File = File> + Clock + AllocGlobal, S: Source>(
+    rt: &'r R,
+    name: &'a str,
+    heading: &Heading,
+    source: &'s S,
+    settings: RunSettings<'a>,
+) -> Result<Resumption<'a, 'r, R, &'s S>, Failure<'a>>
+    requires unit { heading.now.unit ≤ 15 }
+    requires some { 1 ≤ settings.limit }
+    requires few { settings.limit ≤ 1000 }
+    requires listed { first_event settings.from ≤ length (S.items source.now) }
+    ensures controller { IfOk result (λ r. r.controller ≡ new_controller settings.entry source.entry) }
+    ensures recorder { IfOk result (λ r. IfSome r.recorder
+        (λ recorder. (recorder.name ≡ name.entry) × (recorder.unit ≡ heading.now.unit))) }
+    ensures from { IfOk result (λ r. IfSome r.recorder (λ recorder. NotesFrom settings.entry.from recorder.pending)) }
+    ensures kept { IfOk result (λ r. IsSome r.recorder) }
+    ensures refused { IfErr result (λ failure. IsUnbegun name.entry failure
+        ⊎ IsPlaceRefused settings.entry.asrun failure) }
+{
+    let recorder = begin_journal(rt, name, heading, settings.from)?;
+    if let Err(failure) = test_apart(rt, settings.asrun, name) {
+        let _ = fs::remove_file(rt, name);
+        return Err(failure);
+    }
+    Ok(Resumption {
+        controller: new_controller(source, settings),
+        recorder: Some(recorder),
+    })
+}
+
+// The new controller of a list.
+fn new_controller<S: Source>(source: S, settings: RunSettings<'_>) -> Controller<Rest<S>>
+    requires some { 1 ≤ settings.limit }
+    requires few { settings.limit ≤ 1000 }
+    requires listed { first_event settings.from ≤ length (S.items source) }
+    ensures { result ≡ new_controller settings.entry source }
+{
+    let rest = Rest::new(source, settings.from.unwrap_or(0));
+    if settings.confirm {
+        Controller::confirming(rest, settings.port, settings.limit)
+    } else {
+        Controller::new(rest, settings.port, settings.limit)
+    }
+}
+
+// What a journal of a run is of.
+fn heading_of<'a, R: AllocGlobal, S: Source>(
+    rt: &R,
+    source: &S,
+    settings: RunSettings<'_>,
+) -> Result<Heading, Failure<'a>>
+    ensures heading { IfOk result (λ heading. heading ≡ heading_for settings.entry (S.items source.now)) }
+    ensures refused { IfErr result (λ failure. failure ≡ Failure.Memory) }
+{
+    // (each part of a list was read at the rate at which it is written)
+    let Ok(digest) = digest_of(rt.alloc(), source, settings.rate) else {
+        return Err(Failure::Memory);
+    };
+    Ok(Heading {
+        digest,
+        confirming: settings.confirm,
+        unit: settings.unit,
+        port: settings.port,
+        limit: settings.limit,
+    })
+}

@@ -1,0 +1,217 @@
+//! How a run ended, what is told of that, and its exit status.
+ghost use Rattle.std.specs.Io.KnownBytes.{Appends};
+ghost use Rattle.std.specs.Prelude.{◌≡◌, ◌≢◌, IfOk, IsSome, None, OnOk};
+ghost use Rattle.vdcp_run.specs.Ends.{line_end_of};
+ghost use Rattle.vdcp_run.specs.Run.{IsEndBy, MayBeUnwritten, end_text, fault_text, faults_text, line_failure, run_status, told_outcome};
+
+use crate::asrun::save_asrun;
+use crate::in_list::{outcome_in_list, reported_in_list};
+use crate::settings::RunSettings;
+use std::io;
+use std::rt::Files;
+use vdcp_auto::{Controller, Outcome, Source};
+use vdcp_drive::{KeptFault, Ran};
+use vdcp_list::Rest;
+use vdcp_text::{Failure, OutcomeText};
+
+/// How the line ended.
+#[derive(Clone, Copy, Debug, PartialEq, Eq)]
+pub enum LineEnd {
+    /// The controller has ended, and needs it no more.
+    Unneeded,
+    /// The other end closed it.
+    Closed,
+    /// All listens were made.
+    Spent,
+    /// It failed.
+    Failed,
+    /// The next command couldn't be kept, and wasn't sent.
+    Unkept,
+    /// The port has something cued or plays something, and the list wasn't begun.
+    Occupied,
+    /// The port didn't answer what it was asked, and the list wasn't begun.
+    Unanswered,
+}
+
+impl LineEnd {
+    /// By what the driver's run answered.
+    pub fn of_run(ran: Result<Ran, KeptFault>) -> LineEnd
+        ensures { result ≡ line_end_of ran }
+    {
+        match ran {
+            Ok(Ran::Ended) => LineEnd::Unneeded,
+            Ok(Ran::Closed) => LineEnd::Closed,
+            Ok(Ran::Spent) => LineEnd::Spent,
+            Err(KeptFault::Device) => LineEnd::Failed,
+            Err(KeptFault::Unkept) => LineEnd::Unkept,
+        }
+    }
+
+    // The failure to report of the line itself.
+    fn failure(self) -> Option<Failure<'static>>
+        ensures { result ≡ line_failure self }
+    {
+        match self {
+            // (that of the journal is reported, and that nothing was answered is the outcome)
+            LineEnd::Unneeded | LineEnd::Unkept | LineEnd::Unanswered => None,
+            LineEnd::Closed => Some(Failure::LineClosed),
+            LineEnd::Spent => Some(Failure::Spent),
+            LineEnd::Failed => Some(Failure::LineFailed),
+            LineEnd::Occupied => Some(Failure::NotEmpty),
+        }
+    }
+}
+
+/// How a run ended.
+#[derive(Clone, Copy, Debug, PartialEq, Eq)]
+pub struct RunEnd<'a> {
+    /// The event of the list that the controller began with.
+    pub from: usize,
+    /// How the controller ended, with the number that its event has in the list; None where it would go on.
+    pub outcome: Option<Outcome>,
+    /// The first event of the list that isn't reported, by its number: how many are, counted from the list's first.
+    pub reported: usize,
+    pub line: LineEnd,
+    /// Why writing the as-run list failed, if it did.
+    pub unwritten: Option<Failure<'a>>,
+    /// Why keeping the journal failed, if it did.
+    pub unkept: Option<Failure<'a>>,
+}
+
+impl RunEnd<'_> {
+    /// Tells `out` what came of the run, then `err` what failed, and gives the exit status.
+    pub fn tell<W: io::Write, E: io::Write>(self, out: &mut W, err: &mut E) -> io::Result<u8>
+        ensures lines { OnOk result (Appends (W.contents out.old) (W.contents out.new) (end_text self.entry)) }
+        ensures faults { OnOk result (Appends (E.contents err.old) (E.contents err.new) (faults_text self.entry)) }
+        ensures status { IfOk result (λ status. status ≡ run_status self.entry) }
+    {
+        let written = self.write_lines(out);
+        // (also where `out` failed)
+        self.write_faults(err)?;
+        written?;
+        Ok(self.status())
+    }
+
+    // Writes how many events are reported, and how the controller ended.
+    fn write_lines<W: io::Write>(&self, out: &mut W) -> io::Result<()>
+        ensures { OnOk result (Appends (W.contents out.old) (W.contents out.new) (end_text self.now)) }
+    {
+        let reported = self.reported;
+        let outcome = OutcomeText(self.told_outcome());
+        writeln!(out, "reported {reported}")?;
+        writeln!(out, "outcome {outcome}")?;
+        out.flush()
+    }
+
+    /// How the run is told to have ended: a port that didn't answer its questions is lost.
+    pub fn told_outcome(&self) -> Option<Outcome>
+        ensures { result ≡ told_outcome self.now.line self.now.outcome }
+    {
+        match self.line {
+            LineEnd::Unanswered => Some(Outcome::Lost),
+            LineEnd::Unneeded
+            | LineEnd::Closed
+            | LineEnd::Spent
+            | LineEnd::Failed
+            | LineEnd::Unkept
+            | LineEnd::Occupied => self.outcome,
+        }
+    }
+
+    // Writes the fault lines of the as-run file, the journal and the line, of which there are any.
+    fn write_faults<E: io::Write>(&self, err: &mut E) -> io::Result<()>
+        ensures { OnOk result (Appends (E.contents err.old) (E.contents err.new) (faults_text self.now)) }
+    {
+        write_fault(self.unwritten, err)?;
+        write_fault(self.unkept, err)?;
+        write_fault(self.line.failure(), err)
+    }
+
+    // The exit status: the outcome's where nothing failed.
+    fn status(&self) -> u8
+        ensures { result ≡ run_status self.now }
+    {
+        if self.unwritten.is_some() || self.unkept.is_some() || self.line.failure().is_some() {
+            return 3;
+        }
+        match self.told_outcome() {
+            Some(Outcome::Done | Outcome::Stopped) => 0,
+            Some(Outcome::Denied | Outcome::Missing(_) | Outcome::Refused(_)) => 1,
+            Some(Outcome::Foreign(_) | Outcome::Strange(_)) => 1,
+            Some(Outcome::Lost) | None => 3,
+        }
+    }
+}
+
+// Writes the fault line of a failure, if there is one.
+fn write_fault<E: io::Write>(failure: Option<Failure<'_>>, err: &mut E) -> io::Result<()>
+    ensures { OnOk result (Appends (E.contents err.old) (E.contents err.new) (fault_text failure.entry)) }
+{
+    match failure {
+        Some(failure) => writeln!(err, "vdcp: {failure}"),
+        None => Ok(()),
+    }
+}
+
+/// How a run has ended whose list wasn't begun. That its controller has ended goes before that. Where the port isn't
+/// empty no as-run list is written.
+pub fn unbegun<'a, R: Files + AllocGlobal, S: Source>(
+    rt: &R,
+    controller: &Controller<Rest<S>>,
+    line: LineEnd,
+    settings: RunSettings<'a>,
+) -> RunEnd<'a>
+    requires begun { line ≢ LineEnd.Unneeded }
+    requires kept { line ≢ LineEnd.Unkept }
+    ensures of_controller { IsEndBy controller.now result }
+    ensures line { result.outcome ≡ None → result.line ≡ line }
+    ensures unneeded { result.line ≡ LineEnd.Unneeded → IsSome result.outcome }
+    ensures ended { IsSome result.outcome → result.line ≡ LineEnd.Unneeded }
+    ensures told { result.line ≢ LineEnd.Unkept }
+    ensures unwritten { MayBeUnwritten settings.entry.asrun settings.entry.journal result.unwritten }
+    ensures kept { result.unkept ≡ None }
+{
+    if controller.outcome().is_some() {
+        return ended(rt, controller, LineEnd::Unneeded, settings);
+    }
+    if line == LineEnd::Occupied {
+        return end_of(controller, line);
+    }
+    ended(rt, controller, line, settings)
+}
+
+/// How a run has ended, by its controller and its line. The as-run list is written.
+pub fn ended<'a, R: Files + AllocGlobal, S: Source>(
+    rt: &R,
+    controller: &Controller<Rest<S>>,
+    line: LineEnd,
+    settings: RunSettings<'a>,
+) -> RunEnd<'a>
+    ensures of_controller { IsEndBy controller.now result }
+    ensures line { result.line ≡ line }
+    ensures unwritten { MayBeUnwritten settings.entry.asrun settings.entry.journal result.unwritten }
+    ensures kept { result.unkept ≡ None }
+{
+    RunEnd {
+        unwritten: save_asrun(rt, controller, settings),
+        ..end_of(controller, line)
+    }
+}
+
+// The same, where no as-run list is wanted.
+fn end_of<'a, S: Source>(controller: &Controller<Rest<S>>, line: LineEnd) -> RunEnd<'a>
+    ensures of_controller { IsEndBy controller.now result }
+    ensures line { result.line ≡ line }
+    ensures written { result.unwritten ≡ None }
+    ensures kept { result.unkept ≡ None }
+{
+    let from = controller.source().from();
+    RunEnd {
+        from,
+        outcome: outcome_in_list(from, controller.outcome()),
+        reported: reported_in_list(controller),
+        line,
+        unwritten: None,
+        unkept: None,
+    }
+}

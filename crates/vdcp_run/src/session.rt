@@ -1,0 +1,445 @@
+//! One session: a list is played over a connection, and what came of it.
+ghost use Rattle.std.specs.Prelude.{◌≡◌, ◌⊎◌, ◌≤◌, IfErr, IfOk, IsSome, None, OnErr, Option, Result, Some};
+ghost use Rattle.vdcp_auto.specs.Plan.{plan_of};
+ghost use Rattle.vdcp_auto.specs.Turn.{outcome_of};
+ghost use Rattle.vdcp_drive.specs.Auto.{auto_of};
+ghost use Rattle.vdcp_drive.specs.Leaves.{RunLeaves};
+ghost use Rattle.vdcp_list.specs.Rests.{items_left};
+ghost use Rattle.vdcp_record.specs.Recording.{Recording};
+ghost use Rattle.vdcp_run.specs.Ends.{line_end_of};
+ghost use Rattle.vdcp_run.specs.Run.{ComesTo, EndsRun, IsEndBy, MayBeUnkept, MayBeUnwritten, journal_of};
+ghost use Rattle.vdcp_run.specs.Session.{HasOperated, HasPlayed, HasSession, HasTried, IsClosed, TriesOver, over, rules_of, start_of, unseen};
+
+use crate::asking::{may_begin, unbegun_line, vacancy_for};
+use crate::lapsing::Lapsing;
+use crate::polling::Polling;
+use crate::progress::{Glances, Progress, ShownWire};
+use crate::run_end::{LineEnd, RunEnd, ended, unbegun};
+use crate::settings::{RunSettings, Showing, Shown};
+use crate::waiting::await_clip;
+use std::fs::File;
+use std::io;
+use std::net::{Net, SocketAddr, SocketAddrV4};
+use std::rt::{Clock, Files};
+use std::time::Duration;
+use vdcp_auto::{Controller, Outcome, Source};
+use vdcp_drive::{
+    AutoDriver, Driver, Ear, KeptFault, Pace, PromptDriver, Ran, Unkept, Unpaced, Unwatched, Watch,
+};
+use vdcp_list::Rest;
+use vdcp_log::{Hearing, Log, Logged, Side, Telling};
+use vdcp_operator::Hand;
+use vdcp_record::{Disk, Recorder, Resumption};
+use vdcp_text::Failure;
+use vdcp_wire::{StreamWire, Wire};
+
+/// How long a connection may take to come about, in seconds.
+const CONNECTING: u64 = 5;
+
+/// Connects, and plays a list with what its run begins with. Where the controller has ended already nothing is sent.
+/// `Connect` where nobody takes the connection in time, and `NotEmpty` where the port is asked and isn't empty.
+pub fn play_at<
+    'a,
+    R: Net + Files<File = File> + Clock + AllocGlobal,
+    S: Source + Copy,
+    V: io::Write + Drop,
+    I: io::Read + Drop,
+    O: io::Write,
+>(
+    rt: &R,
+    address: SocketAddrV4,
+    begun: Resumption<'a, '_, R, S>,
+    settings: RunSettings<'a>,
+    showing: Showing<V>,
+    hand: &mut Hand<'_, R, I, O>,
+) -> Result<RunEnd<'a>, Failure<'a>>
+    requires unit { settings.unit ≤ 15 }
+    requires some { 1 ≤ settings.limit }
+    ensures session { IfOk result (HasSession (λ _. None) settings.entry (start_of S.items begun.entry.controller)
+        begun.entry.recorder) }
+    ensures end { IfOk result (EndsRun settings.entry (journal_of begun.entry.recorder) S.items begun.entry.controller) }
+    ensures refused { IfErr result (λ failure. (failure ≡ Failure.Connect) ⊎ (failure ≡ Failure.NotEmpty)) }
+{
+    let Resumption {
+        controller,
+        recorder,
+    } = begun;
+    if controller.outcome().is_some() {
+        return Ok(ended(rt, &controller, LineEnd::Unneeded, settings));
+    }
+    hand.await_lead(&controller);
+    let within = Duration::from_secs(CONNECTING);
+    let Ok(stream) = rt.connect_timeout(SocketAddr::V4(address), within) else {
+        return Err(Failure::Connect);
+    };
+    await_clip(rt, &stream, &controller, settings);
+    let silence = Duration::from_millis(u64::from(settings.silence));
+    let wire = StreamWire::new(stream, silence);
+    let end = play_over(rt, controller, recorder, wire, settings, showing, hand);
+    match end.line {
+        LineEnd::Occupied => Err(Failure::NotEmpty),
+        _ => Ok(end),
+    }
+}
+
+// Plays a list over the wire of a connection, on which time-outs come by the clock where answers are heard at once. One
+// that refuses to be a wire is a line that failed.
+fn play_over<
+    'a,
+    R: Files + Clock + AllocGlobal,
+    S: Source + Copy,
+    W: Wire + Drop,
+    V: io::Write + Drop,
+    F: Disk + Drop,
+    I: io::Read + Drop,
+    O: io::Write,
+>(
+    rt: &R,
+    controller: Controller<Rest<S>>,
+    recorder: Option<Recorder<'a, '_, R, F>>,
+    wire: io::Result<W>,
+    settings: RunSettings<'a>,
+    showing: Showing<V>,
+    hand: &mut Hand<'_, R, I, O>,
+) -> RunEnd<'a>
+    requires unit { settings.unit ≤ 15 }
+    requires some { 1 ≤ settings.limit }
+    requires works { IfOk wire (λ w. W.failures w ≡ 0) }
+    ensures failed { OnErr wire (result.line ≡ LineEnd.Failed) }
+    ensures session { IfOk wire (λ w. TriesOver W.told W.does F.safe settings.entry
+        (start_of S.items controller) w recorder.entry result) }
+    ensures end { EndsRun settings.entry (journal_of recorder.entry) S.items controller result }
+{
+    match wire {
+        Ok(wire) => match settings.hearing {
+            Hearing::AtSilences => play_shown(
+                rt, controller, recorder, wire, settings, showing, hand,
+            ),
+            Hearing::AtOnce(_) => {
+                let wire = Lapsing::new(wire, rt, settings.silence);
+                play_shown(rt, controller, recorder, wire, settings, showing, hand)
+            }
+        },
+        Err(_) => ended(rt, &controller, LineEnd::Failed, settings),
+    }
+}
+
+// Plays a list over a wire, and shows what is to be shown meanwhile, and captures what is to be, if anything is.
+fn play_shown<
+    'a,
+    R: Files + Clock + AllocGlobal,
+    S: Source + Copy,
+    W: Wire + Drop,
+    V: io::Write + Drop,
+    F: Disk + Drop,
+    I: io::Read + Drop,
+    O: io::Write,
+>(
+    rt: &R,
+    controller: Controller<Rest<S>>,
+    recorder: Option<Recorder<'a, '_, R, F>>,
+    wire: W,
+    settings: RunSettings<'a>,
+    showing: Showing<V>,
+    hand: &mut Hand<'_, R, I, O>,
+) -> RunEnd<'a>
+    requires unit { settings.unit ≤ 15 }
+    requires some { 1 ≤ settings.limit }
+    requires works { W.failures wire ≡ 0 }
+    ensures session { HasTried W.told W.does F.safe unseen settings.entry (start_of S.items controller)
+        (over wire recorder.entry) tt result }
+    ensures end { EndsRun settings.entry (journal_of recorder.entry) S.items controller result }
+{
+    match showing {
+        Showing {
+            shown: Shown::Lines(Telling::Nothing),
+            capture: None,
+        } => play_asked(
+            rt,
+            controller,
+            recorder,
+            wire,
+            &mut Unwatched,
+            settings,
+            hand,
+        ),
+        showing => play_told(rt, controller, recorder, wire, settings, showing, hand),
+    }
+}
+
+// Plays a list over a wire whose messages are read on the way.
+fn play_told<
+    'a,
+    R: Files + Clock + AllocGlobal,
+    S: Source + Copy,
+    W: Wire + Drop,
+    V: io::Write + Drop,
+    F: Disk + Drop,
+    I: io::Read + Drop,
+    O: io::Write,
+>(
+    rt: &R,
+    controller: Controller<Rest<S>>,
+    recorder: Option<Recorder<'a, '_, R, F>>,
+    wire: W,
+    settings: RunSettings<'a>,
+    showing: Showing<V>,
+    hand: &mut Hand<'_, R, I, O>,
+) -> RunEnd<'a>
+    requires unit { settings.unit ≤ 15 }
+    requires some { 1 ≤ settings.limit }
+    requires works { W.failures wire ≡ 0 }
+    ensures session { HasTried W.told W.does F.safe unseen settings.entry (start_of S.items controller)
+        (over wire recorder.entry) tt result }
+    ensures end { EndsRun settings.entry (journal_of recorder.entry) S.items controller result }
+{
+    let Showing { shown, capture } = showing;
+    match shown {
+        Shown::Progress(terminal) => {
+            let log = Log::new(Telling::Nothing, capture, Side::Automation);
+            let logged = Logged::new(wire, &log, settings.hearing);
+            let progress = Progress::new(rt, terminal, settings.silence);
+            let wire = ShownWire::new(logged, &progress);
+            let end = play_asked(
+                rt,
+                controller,
+                recorder,
+                wire,
+                &mut Glances::new(&progress),
+                settings,
+                hand,
+            );
+            progress.clear();
+            end
+        }
+        Shown::Lines(telling) => {
+            let log = Log::new(telling, capture, Side::Automation);
+            let wire = Logged::new(wire, &log, settings.hearing);
+            play_asked(
+                rt,
+                controller,
+                recorder,
+                wire,
+                &mut Unwatched,
+                settings,
+                hand,
+            )
+        }
+    }
+}
+
+// Plays a list over a wire. If it is to be asked, the port is asked first, and the list is begun only if nothing is cued
+// there and nothing plays.
+fn play_asked<
+    'a,
+    R: Files + Clock + AllocGlobal,
+    S: Source + Copy,
+    W: Wire + Drop,
+    V: Watch<Rest<S>>,
+    F: Disk + Drop,
+    I: io::Read + Drop,
+    O: io::Write,
+>(
+    rt: &R,
+    controller: Controller<Rest<S>>,
+    recorder: Option<Recorder<'a, '_, R, F>>,
+    mut wire: W,
+    watcher: &mut V,
+    settings: RunSettings<'a>,
+    hand: &mut Hand<'_, R, I, O>,
+) -> RunEnd<'a>
+    requires unit { settings.unit ≤ 15 }
+    requires some { 1 ≤ settings.limit }
+    requires works { W.failures wire ≡ 0 }
+    ensures session { HasTried W.told W.does F.safe V.sees settings.entry (start_of S.items controller)
+        (record { wire = wire; keep = recorder.entry; watch = watcher.old }) watcher.new result }
+    ensures end { EndsRun settings.entry (journal_of recorder.entry) S.items controller result }
+{
+    let mut left = settings.listens;
+    let asked = vacancy_for(&controller, settings, &mut left, &mut wire);
+    if !may_begin(asked) {
+        return unbegun(rt, &controller, unbegun_line(asked), settings);
+    }
+    let rest = RunSettings {
+        listens: left,
+        ..settings
+    };
+    play(rt, controller, recorder, wire, watcher, rest, hand)
+}
+
+// Plays a list over a wire, through whose port it may be played.
+fn play<
+    'a,
+    R: Files + Clock + AllocGlobal,
+    S: Source + Copy,
+    W: Wire + Drop,
+    V: Watch<Rest<S>>,
+    F: Disk + Drop,
+    I: io::Read + Drop,
+    O: io::Write,
+>(
+    rt: &R,
+    controller: Controller<Rest<S>>,
+    recorder: Option<Recorder<'a, '_, R, F>>,
+    wire: W,
+    watcher: &mut V,
+    settings: RunSettings<'a>,
+    hand: &mut Hand<'_, R, I, O>,
+) -> RunEnd<'a>
+    requires unit { settings.unit ≤ 15 }
+    requires works { W.failures wire ≡ 0 }
+    ensures session { HasPlayed settings.entry.operated settings.entry.hearing W.does F.safe V.sees settings.entry.unit
+        settings.entry.listens (start_of S.items controller)
+        (record { wire = wire; keep = recorder.entry; watch = watcher.old }) watcher.new result }
+    ensures end { EndsRun settings.entry (journal_of recorder.entry) S.items controller result }
+{
+    match settings.hearing {
+        Hearing::AtSilences => {
+            let mut driver = AutoDriver::new(controller, settings.unit, wire);
+            if settings.operated {
+                return play_operated(rt, &mut driver, watcher, recorder, settings, hand);
+            }
+            play_driven(rt, &mut driver, &mut Unpaced, watcher, recorder, settings)
+        }
+        Hearing::AtOnce(poll) => {
+            let mut driver = PromptDriver::new(controller, settings.unit, wire);
+            if settings.operated {
+                return play_operated(rt, &mut driver, watcher, recorder, settings, hand);
+            }
+            let mut pace = Polling::new(rt, poll);
+            play_driven(rt, &mut driver, &mut pace, watcher, recorder, settings)
+        }
+    }
+}
+
+// Runs an automation, and ends its journal.
+fn play_driven<
+    'a,
+    R: Files + Clock + AllocGlobal,
+    S: Source,
+    E: Ear,
+    W: Wire,
+    P: Pace<Rest<S>>,
+    V: Watch<Rest<S>>,
+    F: Disk + Drop,
+>(
+    rt: &R,
+    driver: &mut Driver<Rest<S>, E, W>,
+    pace: &mut P,
+    watcher: &mut V,
+    recorder: Option<Recorder<'a, '_, R, F>>,
+    settings: RunSettings<'a>,
+) -> RunEnd<'a>
+    requires unit { driver.old.unit ≡ settings.unit }
+    // What the driver's run left and answered, which is how the line ended: it kept this very journal, which was ended then.
+    ensures leaves { (ran : Result Ran KeptFault) × (left : Option (Recording F)) × (result.line ≡ line_end_of ran)
+        × RunLeaves (items_left S.items) (rules_of W.does F.safe V.sees) E.fold W.failures settings.entry.listens
+        driver.old driver.new recorder.entry left watcher.old watcher.new ran
+        × IsClosed F.safe (outcome_of driver.new.controller.state.stage) result.unkept left }
+    ensures of_controller { IsEndBy driver.new.controller result }
+    ensures unwritten { MayBeUnwritten settings.entry.asrun settings.entry.journal result.unwritten }
+    ensures unkept { MayBeUnkept (journal_of recorder.entry) result.unkept }
+    ensures told { result.line ≡ LineEnd.Unkept → IsSome result.unkept }
+{
+    let listens = u64::from(settings.listens);
+    match recorder {
+        None => {
+            let ran = driver.run_with(listens, watcher, &mut Unkept, pace);
+            ended(rt, driver.controller(), LineEnd::of_run(ran), settings)
+        }
+        Some(mut recorder) => {
+            let name = recorder.name();
+            let line = LineEnd::of_run(recorder.run(driver, listens, watcher, pace));
+            let unkept = close(name, &mut recorder, driver.controller().outcome(), line);
+            RunEnd {
+                unkept,
+                ..ended(rt, driver.controller(), line, settings)
+            }
+        }
+    }
+}
+
+// As `play_driven`, where an operator has a hand, which shows the end too.
+fn play_operated<
+    'a,
+    R: Files + Clock + AllocGlobal,
+    S: Source,
+    E: Ear,
+    W: Wire,
+    V: Watch<Rest<S>>,
+    F: Disk + Drop,
+    I: io::Read + Drop,
+    O: io::Write,
+>(
+    rt: &R,
+    driver: &mut Driver<Rest<S>, E, W>,
+    watcher: &mut V,
+    recorder: Option<Recorder<'a, '_, R, F>>,
+    settings: RunSettings<'a>,
+    hand: &mut Hand<'_, R, I, O>,
+) -> RunEnd<'a>
+    requires works { W.failures driver.old.wire ≡ 0 }
+    // What the run left and answered: each command and each call was safe in the journal, if there is one, before it went out
+    // or was given. Then the journal was ended.
+    ensures operated { (ran : Result Ran KeptFault) × (left : Option (Recording F)) × (result.line ≡ line_end_of ran)
+        × HasOperated (record {
+          does = W.does;
+          safe = F.safe;
+          sees = V.sees;
+          fold = E.fold;
+          plan = plan_of (items_left S.items) driver.old.controller;
+          unit = driver.old.unit;
+        }) settings.entry.listens ran (record {
+          auto = auto_of driver.old;
+          world = record { wire = driver.old.wire; keep = recorder.entry; watch = watcher.old };
+        }) (record {
+          auto = auto_of driver.new;
+          world = record { wire = driver.new.wire; keep = left; watch = watcher.new };
+        })
+        × IsClosed F.safe (outcome_of driver.new.controller.state.stage) result.unkept left }
+    ensures controller { driver.new.controller ≡ record driver.old.controller { state = driver.new.controller.state } }
+    ensures of_controller { IsEndBy driver.new.controller result }
+    ensures comes { ComesTo S.items driver.old.controller result }
+    ensures unwritten { MayBeUnwritten settings.entry.asrun settings.entry.journal result.unwritten }
+    ensures unkept { MayBeUnkept (journal_of recorder.entry) result.unkept }
+{
+    let listens = u64::from(settings.listens);
+    match recorder {
+        None => {
+            let ran = driver.run_operated(listens, watcher, &mut Unkept, hand);
+            let end = ended(rt, driver.controller(), LineEnd::of_run(ran), settings);
+            hand.show_end(driver.controller(), end.outcome);
+            end
+        }
+        Some(mut recorder) => {
+            let name = recorder.name();
+            let ran = driver.run_operated(listens, watcher, &mut recorder, hand);
+            let line = LineEnd::of_run(ran);
+            let outcome = driver.controller().outcome();
+            let unkept = close(name, &mut recorder, outcome, line);
+            let end = ended(rt, driver.controller(), line, settings);
+            hand.show_end(driver.controller(), end.outcome);
+            RunEnd { unkept, ..end }
+        }
+    }
+}
+
+// Ends the journal of this name, with how its controller has ended, if it has. It says why the journal isn't whole, if it
+// isn't.
+fn close<'a, R: Clock + AllocGlobal, F: Disk + Drop>(
+    name: &'a str,
+    recorder: &mut Recorder<'a, '_, R, F>,
+    outcome: Option<Outcome>,
+    line: LineEnd,
+) -> Option<Failure<'a>>
+    ensures closed { IsClosed F.safe outcome result (Some recorder.old) }
+    ensures unkept { MayBeUnkept (Some name.entry) result }
+    ensures told { line ≡ LineEnd.Unkept → IsSome result }
+{
+    match recorder.finish(outcome) {
+        Err(Failure::Memory) => Some(Failure::Memory),
+        Err(_) => Some(Failure::Write(name)),
+        Ok(()) if line == LineEnd::Unkept => Some(Failure::Write(name)),
+        Ok(()) => None,
+    }
+}

@@ -1,0 +1,80 @@
+//! What a run is made with, and what is shown of it.
+ghost use Rattle.std.specs.Prelude.{◌≡◌};
+ghost use Rattle.vdcp_run.specs.Run.{name_of};
+
+use vdcp_log::{Hearing, Telling};
+use vdcp_value::Rate;
+
+/// What a list is played with.
+#[derive(Clone, Copy, Debug)]
+pub struct RunSettings<'a> {
+    /// The server's unit address, 0 to 15.
+    pub unit: u8,
+    /// The port's number.
+    pub port: u8,
+    /// How many unanswered exchanges in a row make the controller give up, 1 to 1,000.
+    pub limit: u32,
+    /// The controller is in confirm mode.
+    pub confirm: bool,
+    /// The port is asked first whether it is empty, and the list is begun only if it is.
+    pub ask: bool,
+    /// The frame rate of time codes.
+    pub rate: Rate,
+    /// How long the line has to be silent for an answer to be missing, in milliseconds, 1 to 60,000. It has to be
+    /// longer than the server waits for the end of a command.
+    pub silence: u32,
+    /// When answers are heard.
+    pub hearing: Hearing,
+    /// The most listens that are made.
+    pub listens: u32,
+    /// An operator has a hand in it: calls are typed, a page takes them, or a start is waited for.
+    pub operated: bool,
+    /// The event of the list that a new controller begins with, if it is said; else it is the first one, 0.
+    pub from: Option<usize>,
+    /// The file that is made for the as-run list, if one is wanted.
+    pub asrun: Option<&'a str>,
+    /// The journal, if one is kept.
+    pub journal: Option<RunJournal<'a>>,
+}
+
+/// The journal of a run, by the name of its file.
+#[derive(Clone, Copy, Debug, PartialEq, Eq)]
+pub enum RunJournal<'a> {
+    /// A new one, whose file is made.
+    New(&'a str),
+    /// The one whose last run goes on.
+    Older(&'a str),
+    /// The one after whose last run a new controller begins, since the server was lost.
+    Again(&'a str),
+}
+
+impl<'a> RunJournal<'a> {
+    /// The name of its file.
+    pub fn name(self) -> &'a str
+        ensures { result ≡ name_of self.entry }
+    {
+        match self {
+            RunJournal::New(name) => name,
+            RunJournal::Older(name) => name,
+            RunJournal::Again(name) => name,
+        }
+    }
+}
+
+/// What is shown while a list is played, and captured of its line, and the writers that it goes to. Where one of them
+/// fails, it gets no more, and nothing else comes of that.
+#[derive(Drop)]
+pub struct Showing<V> {
+    pub shown: Shown<V>,
+    /// Gets rows of what came and went out, as `judge` reads them.
+    pub capture: Option<V>,
+}
+
+/// What is shown while a list is played.
+#[derive(Drop)]
+pub enum Shown<V> {
+    /// How far the run is, in one line of a terminal, which is drawn again and again.
+    Progress(V),
+    /// A line for each message that came (`<-`) and went out (`->`), with the words that it has, if all is told.
+    Lines(Telling<V>),
+}

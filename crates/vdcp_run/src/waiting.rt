@@ -1,0 +1,75 @@
+//! A run that goes on after a PLAY that may have been lost lets the clip before end.
+ghost use Rattle.std.specs.Prelude.{◌≤◌};
+
+use crate::lapsing::Lapsing;
+use crate::polling::Polling;
+use crate::settings::RunSettings;
+use std::net::{Net, OpenStream};
+use std::rt::Clock;
+use std::time::Duration;
+use vdcp_auto::{Controller, Heard, Phase, Snapshot, Source, Standing};
+use vdcp_drive::{AutoDriver, Call, Keep, KeepFault, PromptDriver, Unpaced, Unwatched};
+use vdcp_list::Rest;
+use vdcp_log::Hearing;
+use vdcp_wire::StreamWire;
+use vdcp_words::Command;
+
+/// Where the controller asks whether its PLAY was lost, and would send it again at once: asks the state over this stream
+/// until no clip plays before one that is cued. Where the stream fails, or the other end closes it, that shows later.
+pub fn await_clip<R: Net + Clock + AllocGlobal, S: Source>(
+    rt: &R,
+    stream: &R::Stream,
+    controller: &Controller<Rest<S>>,
+    settings: RunSettings<'_>,
+)
+    requires { settings.unit ≤ 15 }
+{
+    let snapshot = controller.snapshot();
+    let Standing::Ready(Phase::Probe(event)) = snapshot.standing else {
+        return;
+    };
+    let waits = Snapshot {
+        standing: Standing::Ready(Phase::Wait(event)),
+        ..snapshot
+    };
+    let waiting = Controller::of_snapshot(controller.source(), &waits);
+    let Ok(stream) = stream.try_clone() else {
+        return;
+    };
+    let silence = Duration::from_millis(u64::from(settings.silence));
+    let Ok(wire) = StreamWire::new(stream, silence) else {
+        return;
+    };
+    let listens = u64::from(settings.listens);
+    let _ = match settings.hearing {
+        Hearing::AtSilences => {
+            let mut driver = AutoDriver::new(waiting, settings.unit, wire);
+            driver.run_with(listens, &mut Unwatched, &mut OnlyAsks, &mut Unpaced)
+        }
+        Hearing::AtOnce(poll) => {
+            let wire = Lapsing::new(wire, rt, settings.silence);
+            let mut driver = PromptDriver::new(waiting, settings.unit, wire);
+            let mut pace = Polling::new(rt, poll);
+            driver.run_with(listens, &mut Unwatched, &mut OnlyAsks, &mut pace)
+        }
+    };
+}
+
+// Lets no command go out but one that asks for the state.
+#[derive(Drop)]
+struct OnlyAsks;
+
+impl Keep for OnlyAsks {
+    fn keep_sent(&mut self, command: &Command) -> Result<(), KeepFault> {
+        match command {
+            Command::Status(_) => Ok(()),
+            _ => Err(KeepFault),
+        }
+    }
+
+    fn note_end(&mut self, _heard: Option<Heard>) {}
+
+    fn keep_call(&mut self, _call: Call) -> Result<(), KeepFault> {
+        Err(KeepFault)
+    }
+}

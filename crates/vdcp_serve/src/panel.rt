@@ -1,0 +1,253 @@
+//! How the page of a port is opened, and what it is told.
+ghost use Rattle.std.specs.Prelude.{◌≡◌, ◌≤◌, IfErr, IfOk, map, string_bytes};
+ghost use Rattle.serde_json.specs.Data.{array};
+ghost use Rattle.serde_json.specs.View.{items_of, view};
+ghost use Rattle.vdcp_text.specs.Items.{item_text};
+ghost use Rattle.vdcp_serve.specs.Panel.{ShowsPort, access_text, airing_data, from_data, seen_data, slot_data};
+
+use crate::paced::frames_in_second;
+use crate::page::PAGE;
+use serde_json::{Value, json};
+use std::alloc::{AllocError, Global};
+use std::io;
+use std::net::{Net, SocketAddr};
+use std::random::RandomSource;
+use std::rt::Clock;
+use std::time::SystemTime;
+use vdcp_panel::{Calls, Panel, View, loopback_address};
+use vdcp_port::{Access, Catalogue, Clip, Kept, Port};
+use vdcp_text::ItemText;
+use vdcp_value::{Item, Rate};
+
+/// How many of the items that went to air last are shown.
+const MOST_AIRED: usize = 50;
+
+/// An item that went to air.
+#[derive(Clone, Copy, Debug)]
+pub struct Airing {
+    /// Its number, from 0.
+    pub number: u64,
+    pub item: Item,
+    /// When, in milliseconds since 1970.
+    pub at: u64,
+}
+
+/// What is to be seen of a port.
+#[derive(Clone, Copy)]
+pub struct PortView<'a> {
+    pub page: &'static str,
+    pub rate: Rate,
+    pub kept: Kept,
+    /// The state byte.
+    pub state: u8,
+    /// The items that went to air last, in order.
+    pub aired: &'a [Airing],
+    /// Who is connected.
+    pub from: &'a Option<String>,
+}
+
+/// Opens the page of a port at this address: an IPv4 address of this machine alone, a colon and a TCP port (0: the system
+/// chooses one). `err` gets the page's address. If the page can't be opened, `err` gets the reason, and the error is the
+/// status: 2 if the text is no such address, 3 if it can't be listened at or the writer failed.
+pub fn open_panel<R: Net + AllocGlobal + RandomSource + Clock, E: io::Write>(
+    rt: &R,
+    text: &str,
+    err: &mut E,
+) -> Result<Panel, u8>
+    ensures { IfErr result (λ status. (2 ≤ status) × (status ≤ 3)) }
+{
+    let Some(address) = loopback_address(text) else {
+        return Err(told(writeln!(err, "vdcp: panel address"), 2));
+    };
+    let Ok(panel) = Panel::bind(rt, address) else {
+        return Err(told(writeln!(err, "vdcp: panel: cannot bind"), 3));
+    };
+    match writeln!(err, "panel http://{}/", panel.address()) {
+        Ok(()) => Ok(panel),
+        Err(_) => Err(3),
+    }
+}
+
+// The status, or 3 where its line wasn't told.
+fn told(line: io::Result<()>, status: u8) -> u8
+    requires { (2 ≤ status) × (status ≤ 3) }
+    ensures { (2 ≤ result) × (result ≤ 3) }
+{
+    match line {
+        Ok(()) => status,
+        Err(_) => 3,
+    }
+}
+
+/// A panel that shows a port.
+#[derive(Drop)]
+pub struct PortPanel<'a, R: Clock> {
+    alloc: Global,
+    panel: Panel,
+    clock: &'a R,
+    rate: Rate,
+    aired: Vec<Airing>,
+    count: u64,
+    from: Option<String>,
+}
+
+impl<'a, R: Clock + AllocGlobal> PortPanel<'a, R> {
+    /// A panel of a port that has put nothing to air yet.
+    pub fn new(rt: &'a R, panel: Panel, rate: Rate) -> io::Result<Self> {
+        Ok(PortPanel {
+            alloc: rt.alloc(),
+            panel,
+            clock: rt,
+            rate,
+            aired: Vec::with_capacity(rt.alloc(), MOST_AIRED)?,
+            count: 0,
+            from: None,
+        })
+    }
+
+    /// From here the port is driven now, or nobody drives it.
+    pub fn connected(&mut self, from: Option<SocketAddr>) {
+        self.from = match from {
+            Some(address) => format!(in self.alloc; "{address}").ok(),
+            None => None,
+        };
+    }
+
+    /// This went to air.
+    pub fn note(&mut self, item: Item) {
+        if self.aired.len() >= MOST_AIRED {
+            self.aired.remove(0);
+        }
+        let number = self.count;
+        self.count = self.count.saturating_add(1);
+        let at = self.time_of_day();
+        let _ = self.aired.push(Airing { number, item, at });
+    }
+
+    /// Answers who asks, by the port as it is now.
+    pub fn show<C: Catalogue>(&mut self, port: &Port<C>)
+        ensures { ShowsPort self.old.rate port.now self.old.aired.items self.old.from self.old.panel.names }
+    {
+        let seen = PortView {
+            page: PAGE,
+            rate: self.rate,
+            kept: port.kept(),
+            state: port.status_byte(),
+            aired: self.aired.as_slice(),
+            from: &self.from,
+        };
+        let mut calls = Calls::new();
+        self.panel.serve_some(self.clock, &seen, &mut calls);
+    }
+
+    // Milliseconds since 1970, or 0 where the clock can't be read.
+    fn time_of_day(&self) -> u64 {
+        let Ok(now) = SystemTime::now(self.clock) else {
+            return 0;
+        };
+        match now.duration_since(SystemTime::UNIX_EPOCH) {
+            Ok(time) => u64::try_from(time.as_millis()).unwrap_or(u64::MAX),
+            Err(_) => 0,
+        }
+    }
+}
+
+impl View for PortView<'_> {
+    ghost use Rattle.std.specs.Prelude.{None};
+    ghost use Rattle.vdcp_serve.specs.Panel.{page_bytes, state_bytes};
+
+    ghost page_bytes = { page_bytes };
+
+    ghost state_bytes = { state_bytes };
+
+    ghost about = { λ _. None };
+
+    fn page(&self) -> &'static str {
+        self.page
+    }
+
+    #[tactic(auto, using(crate::proofs::Showing::seen_whole))]
+    fn state(&self, alloc: Global) -> Result<String, AllocError> {
+        self.value(alloc)?.to_string(alloc)
+    }
+
+    fn event(&self) -> Option<u64> {
+        None
+    }
+}
+
+impl PortView<'_> {
+    fn value(&self, alloc: Global) -> Result<Value, AllocError>
+        ensures { IfOk result (λ v. view v ≡ seen_data self.now) }
+    {
+        let aired = rows_of(alloc, self.rate, self.aired)?;
+        let cued = slot(alloc, self.rate, &self.kept.cued)?;
+        let playing = slot(alloc, self.rate, &self.kept.playing)?;
+        let from = text_or_null(alloc, self.from)?;
+        json!(in alloc; {
+            "access": access_text(self.kept.access),
+            "aired": aired,
+            "cued": cued,
+            "from": from,
+            "number": self.kept.number,
+            "playing": playing,
+            "rate": frames_in_second(self.rate),
+            "state": self.state,
+            "unit": self.kept.unit
+        })
+    }
+}
+
+fn access_text(access: Access) -> &'static str
+    ensures { result.now ≡ access_text access }
+{
+    match access {
+        Access::Closed => "closed",
+        Access::Open => "open",
+        Access::Selected => "selected",
+    }
+}
+
+fn text_or_null(alloc: Global, text: &Option<String>) -> Result<Value, AllocError>
+    ensures { IfOk result (λ v. view v ≡ from_data text.now) }
+{
+    match text {
+        Some(text) => Value::try_from_str(alloc, text.as_str()),
+        None => Ok(Value::Null),
+    }
+}
+
+fn slot(alloc: Global, rate: Rate, clip: &Option<Clip>) -> Result<Value, AllocError>
+    ensures { IfOk result (λ v. view v ≡ slot_data rate clip.now) }
+{
+    let Some(clip) = clip else {
+        return Ok(Value::Null);
+    };
+    let item = text_of(alloc, rate, clip.item)?;
+    json!(in alloc; {"item": item.as_str(), "left": clip.left})
+}
+
+fn rows_of(alloc: Global, rate: Rate, aired: &[Airing]) -> Result<Value, AllocError>
+    ensures { IfOk result (λ v. view v ≡ array (items_of (map (airing_data rate) aired.now))) }
+{
+    let mut rows = Vec::new(alloc);
+    for k in 0..aired.len() {
+        let row = row_of(alloc, rate, &aired[k])?;
+        rows.push(row)?;
+    }
+    Ok(Value::Array(rows))
+}
+
+fn row_of(alloc: Global, rate: Rate, airing: &Airing) -> Result<Value, AllocError>
+    ensures { IfOk result (λ v. view v ≡ airing_data rate airing.now) }
+{
+    let item = text_of(alloc, rate, airing.item)?;
+    json!(in alloc; {"at": airing.at, "item": item.as_str(), "number": airing.number})
+}
+
+fn text_of(alloc: Global, rate: Rate, item: Item) -> Result<String, AllocError>
+    ensures { IfOk result (λ text. string_bytes text ≡ item_text rate item) }
+{
+    let item = ItemText { rate, item };
+    format!(in alloc; "{item}")
+}
