@@ -1,3 +1,4 @@
+//! How a file that an argument names is opened.
 ghost use Rattle.clap.specs.Matches.{first_value, found_of};
 ghost use Rattle.std.specs.Prelude.{◌≡◌, ◌⊎◌, ◌++◌, ℕ, List, Some, IfOk, IfErr, codes};
 ghost use Rattle.vdcp_text.specs.Failure.{failure_text};
@@ -7,13 +8,14 @@ ghost use Rattle.vdcp_text.specs.declared.failure.Failure.TheVariants as failure
 use clap::ArgMatches;
 use std::fs::File;
 use std::io;
+use std::rt::Files;
 use vdcp_files::NamedFile;
 use vdcp_text::Failure;
 
-/// Opens the file that the argument of this name says. `Memory` where memory is refused, else `Open` of the
+/// Opens the file that the argument of this name says. `Memory` if memory is refused, else `Open` of the
 /// file's name.
-pub fn open_file<'a>(
-    rt: &HostRuntime,
+pub fn open_file<'a, R: Files<File = File>>(
+    rt: &R,
     matches: &'a ArgMatches<'_>,
     argument: &str,
 ) -> Result<NamedFile<'a, File>, Failure<'a>>

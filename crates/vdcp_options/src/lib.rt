@@ -1,28 +1,31 @@
-//! The options of the command line: how those that are a number or a rate stand there, and what they say. And the
-//! files that its arguments name.
+//! The command line: each subcommand with its arguments and its help, and all of them but `run` from these words to the
+//! calls of their libraries.
 //!
-//! A `NumberOption` is an option whose value is a number in a range; `number_option`, `from_option`, `idle_option`,
-//! `poll_option`, `run_limit_option` and `rate_option` make `clap`'s arguments of them. Of what `clap` has found, `unit_of` and `rate_of` give one option's value, and
-//! `judge_settings_of`, `sim_settings_of`, `serve_settings_of`, `run_settings_of`, `asrun_settings_of`,
-//! `lossy_settings_of` and `probe_settings_of` all that their subcommand asks for. `open_file` opens the file that an argument names.
+//! `command` is what the command line may be, and `run_named` runs the subcommand that `clap` has found in it, but `run`,
+//! over a `System`. For `run`, which its caller runs, `open_file` opens the file that an argument names, `capture_of`
+//! makes that of `--capture`, and `number_of`,
+//! `unit_of`, `port_of`, `limit_of`, `from_of` and `rate_of` give one option's value.
 //!
-//! Files: `number` and `rate` (an option that is a number in a range, and `--rate`), `settings` (all options of a
-//! subcommand), `file` (a named file is opened).
+//! Files, in reading order: `number` (options that are numbers, each a `NumberOption`), `rate`, `args` (each subcommand's
+//! arguments), `settings` (a subcommand's options), `file`, `output`,
+//! `subcommands`, `system`.
 #![tactic(auto)]
 
+mod args;
 mod file;
 mod number;
+mod output;
 mod rate;
 mod settings;
+mod subcommands;
+mod system;
 
+pub use args::command;
 pub use file::open_file;
 pub use number::{
-    COPY, CUE_FRAMES, CUT, DAMAGE, FORGE, LIMIT, LISTENS, LOSE, LOSSY_SILENCE, NumberOption, PORT,
-    RUN_SILENCE, SEED, SERVE_SILENCE, TURNS, UNIT, WITHIN, from_option, idle_option, number_option,
-    poll_option, run_limit_option, unit_of,
+    LISTENS, NumberOption, POLL, RUN_SILENCE, from_of, limit_of, number_of, port_of, unit_of,
 };
-pub use rate::{rate_of, rate_option};
-pub use settings::{
-    asrun_settings_of, judge_settings_of, lossy_settings_of, probe_settings_of, run_settings_of,
-    serve_settings_of, sim_settings_of,
-};
+pub use output::{Output, capture_of};
+pub use rate::rate_of;
+pub use subcommands::run_named;
+pub use system::System;

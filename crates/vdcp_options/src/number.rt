@@ -1,6 +1,7 @@
-ghost use Rattle.clap.specs.Matches.{first_value, found_of};
-ghost use Rattle.std.specs.Prelude.{◌≡◌, ◌≤◌, ℕ, codes, IfSome, None, Some};
-ghost use Rattle.vdcp_options.specs.Options.{GivesNumber, WritesNumber, default_idle, idle_bound};
+//! Options that are numbers, each with its range.
+ghost use Rattle.clap.specs.Matches.{found_of};
+ghost use Rattle.std.specs.Prelude.{◌≡◌, ◌≤◌, ℕ, IfSome};
+ghost use Rattle.vdcp_options.specs.Options.{GivesNumber, WritesNumber};
 
 use clap::{Arg, ArgMatches, value_parser};
 use std::alloc::{AllocError, Global};
@@ -12,7 +13,7 @@ pub struct NumberOption {
     pub value_name: &'static str,
     pub least: u32,
     pub most: u32,
-    /// The number where the option is left out, as text.
+    /// The number if the option is left out, as text.
     pub default: &'static str,
     pub help: &'static str,
 }
@@ -208,34 +209,20 @@ pub fn idle_option<'a>(alloc: Global) -> Arg<'a> {
         )
 }
 
-/// For how many seconds a connection may be idle, if that is bounded; left out, it is where the port stays.
+/// For how many seconds a connection may be idle, if that is bounded; left out, it is if the port stays.
 pub fn idle_of(matches: &ArgMatches, stay: bool) -> Option<u32>
     ensures least { IfSome result (λ seconds. 1 ≤ seconds) }
     ensures most { IfSome result (λ seconds. seconds ≤ 86400) }
-    ensures number { (n : ℕ) → GivesNumber (found_of matches.now) (codes "idle") 0 86400 n → result ≡ idle_bound n }
-    ensures missing { first_value (found_of matches.now) (codes "idle") ≡ None → result ≡ default_idle stay }
 {
     match matches.get_str("idle") {
-        Some(text) => idle_bound(number_in(text, 0, 86_400)),
-        None => default_idle(stay),
+        Some(text) => match number_in(text, 0, 86_400) {
+            0 => None,
+            seconds => Some(seconds),
+        },
+        // (a port that stays isn't left to a connection that is dead)
+        None if stay => Some(10),
+        None => None,
     }
-}
-
-// The bound of this many seconds.
-fn idle_bound(seconds: u32) -> Option<u32>
-    ensures { result ≡ idle_bound seconds }
-{
-    match seconds {
-        0 => None,
-        _ => Some(seconds),
-    }
-}
-
-// The bound where none is said.
-fn default_idle(stay: bool) -> Option<u32>
-    ensures { result ≡ default_idle stay }
-{
-    if stay { Some(10) } else { None }
 }
 
 /// The option `--from`, for the command line: the number of an event. Left out, it says none.
@@ -250,16 +237,13 @@ pub fn from_option<'a>(alloc: Global) -> Arg<'a> {
 }
 
 /// The event to begin with, if it is said.
-pub fn from_of(matches: &ArgMatches) -> Option<usize>
-    ensures number { (n : ℕ) → GivesNumber (found_of matches.now) (codes "from") 0 4294967295 n → result ≡ Some n }
-    ensures missing { first_value (found_of matches.now) (codes "from") ≡ None → result ≡ None }
-{
+pub fn from_of(matches: &ArgMatches) -> Option<usize> {
     let text = matches.get_str("from")?;
     Some(number_in(text, 0, u32::MAX) as usize)
 }
 
 /// The number that the option's text writes; `clap` lets no text through that writes none in the
-/// range, and gives the default where the option is left out.
+/// range, and gives the default if the option is left out.
 pub fn number_of(matches: &ArgMatches, option: &NumberOption) -> u32
     requires { option.now.least ≤ option.now.most }
     ensures least { option.now.least ≤ result }
@@ -273,7 +257,7 @@ pub fn number_of(matches: &ArgMatches, option: &NumberOption) -> u32
     }
 }
 
-// The number that the text writes, where that is in the range.
+// The number that the text writes, if that is in the range.
 fn number_in(text: &str, least: u32, most: u32) -> u32
     requires { least ≤ most }
     ensures least { least ≤ result }
@@ -289,15 +273,12 @@ fn number_in(text: &str, least: u32, most: u32) -> u32
 /// The unit address.
 pub fn unit_of(matches: &ArgMatches) -> u8
     ensures most { result ≤ 15 }
-    ensures number { (n : ℕ) → GivesNumber (found_of matches.now) (codes "unit") 0 15 n → result ≡ n }
 {
     number_of(matches, &UNIT) as u8
 }
 
 /// The port's number.
-pub fn port_of(matches: &ArgMatches) -> u8
-    ensures { (n : ℕ) → GivesNumber (found_of matches.now) (codes "port") 0 255 n → result ≡ n }
-{
+pub fn port_of(matches: &ArgMatches) -> u8 {
     number_of(matches, &PORT) as u8
 }
 
@@ -305,7 +286,6 @@ pub fn port_of(matches: &ArgMatches) -> u8
 pub fn limit_of(matches: &ArgMatches) -> u32
     ensures least { 1 ≤ result }
     ensures most { result ≤ 1000 }
-    ensures number { (n : ℕ) → GivesNumber (found_of matches.now) (codes "limit") 1 1000 n → result ≡ n }
 {
     number_of(matches, &LIMIT)
 }
@@ -314,14 +294,11 @@ pub fn limit_of(matches: &ArgMatches) -> u32
 pub fn cue_frames_of(matches: &ArgMatches) -> u32
     ensures least { 1 ≤ result }
     ensures most { result ≤ 1000 }
-    ensures number { (n : ℕ) → GivesNumber (found_of matches.now) (codes "cue-frames") 1 1000 n → result ≡ n }
 {
     number_of(matches, &CUE_FRAMES)
 }
 
 /// After how many waits for bytes or for a silence a server or a line ends.
-pub fn turns_of(matches: &ArgMatches) -> u32
-    ensures { (n : ℕ) → GivesNumber (found_of matches.now) (codes "turns") 1 4294967295 n → result ≡ n }
-{
+pub fn turns_of(matches: &ArgMatches) -> u32 {
     number_of(matches, &TURNS)
 }

@@ -1,3 +1,4 @@
+//! The option `--rate`.
 ghost use Rattle.clap.specs.Matches.{found_of};
 ghost use Rattle.std.specs.Prelude.{◌≡◌, ◌≢◌, codes, IfSome, None};
 ghost use Rattle.vdcp_options.specs.Options.{GivesRate, NamesRate};

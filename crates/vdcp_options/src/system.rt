@@ -1,31 +1,38 @@
-//! The system as subcommands have it, which remembers the address that it refused last and why.
+//! The system as subcommands have it, which remembers what it refused last, and why.
 use std::alloc::{Alloc, Allocator, Global};
 use std::cell::Cell;
-use std::fmt::Display;
 use std::fs::{File, Metadata, OpenOptions};
-use std::io::{self, Write};
+use std::io::{self, ErrorKind, Write};
 use std::net::{Net, SocketAddr};
 use std::path::PathBuf;
 use std::rt::{Clock, Files};
 use std::time::Duration;
 use vdcp_text::NameText;
 
-/// The system, and the address that it refused, if the last one was refused.
+/// The system, and what it refused, if it refused the last address or file.
 #[derive(Drop)]
 pub struct System<'a> {
     pub rt: &'a HostRuntime,
     refused: Cell<Option<Refusal>>,
 }
 
-// An address that nobody listens at, or that can't be listened at, and the system's reason.
-#[derive(Clone, Copy)]
+// What was refused, and the system's reason.
+#[derive(Drop)]
 struct Refusal {
-    address: SocketAddr,
+    what: Refused,
     reason: io::Error,
 }
 
+#[derive(Drop)]
+enum Refused {
+    // Nobody listens at it, or it can't be listened at.
+    Address(SocketAddr),
+    // It can't be opened.
+    File(String),
+}
+
 impl<'a> System<'a> {
-    /// With no address refused yet.
+    /// With nothing refused yet.
     pub fn new(rt: &'a HostRuntime) -> Self {
         System {
             rt,
@@ -33,36 +40,31 @@ impl<'a> System<'a> {
         }
     }
 
-    /// Tells which address the system refused and why, if it refused the last one.
-    pub fn explain_address<E: Write>(&self, err: &mut E) {
-        if let Some(refusal) = self.refused.get() {
-            explain(&refusal.address, refusal.reason, err);
-        }
-    }
-
-    /// Tells why the file of this name can't be opened: it is tried once more.
-    pub fn explain_file<E: Write>(&self, name: &str, err: &mut E) {
-        if let Err(reason) = File::open(self.rt, name) {
-            explain(&NameText(name), reason, err);
-        }
-    }
-
-    fn remember<T>(&self, address: SocketAddr, done: io::Result<T>) -> io::Result<T> {
-        let refused = match &done {
-            Ok(_) => None,
-            Err(reason) => Some(Refusal {
-                address,
-                reason: *reason,
-            }),
+    /// Tells what the system refused and why, if it refused the last address or file.
+    pub fn explain<E: Write>(&self, err: &mut E) {
+        let Some(Refusal { what, reason }) = self.refused.replace(None) else {
+            return;
         };
-        self.refused.set(refused);
+        // (a reason that can't be written is left out: the fault was reported)
+        let _ = match what {
+            Refused::Address(address) => writeln!(err, "  {address}: {reason}"),
+            Refused::File(name) => writeln!(err, "  {}: {reason}", NameText(name.as_str())),
+        };
+    }
+
+    fn remember(&self, what: Refused, reason: io::Error) {
+        if reason.kind() != ErrorKind::OutOfMemory {
+            self.refused.set(Some(Refusal { what, reason }));
+        }
+    }
+
+    fn remember_address<T>(&self, address: SocketAddr, done: io::Result<T>) -> io::Result<T> {
+        match &done {
+            Ok(_) => self.refused.set(None),
+            Err(reason) => self.remember(Refused::Address(address), *reason),
+        }
         done
     }
-}
-
-// (who can't be told the reason was told the fault)
-fn explain<N: Display, E: Write>(name: &N, reason: io::Error, err: &mut E) {
-    let _ = writeln!(err, "  {name}: {reason}");
 }
 
 impl Net for System<'_> {
@@ -71,15 +73,15 @@ impl Net for System<'_> {
     type Listener = <HostRuntime as Net>::Listener;
 
     fn bind(&self, address: SocketAddr) -> io::Result<Self::Listener> {
-        self.remember(address, self.rt.bind(address))
+        self.remember_address(address, self.rt.bind(address))
     }
 
     fn connect(&self, address: SocketAddr) -> io::Result<Self::Stream> {
-        self.remember(address, self.rt.connect(address))
+        self.remember_address(address, self.rt.connect(address))
     }
 
     fn connect_timeout(&self, address: SocketAddr, within: Duration) -> io::Result<Self::Stream> {
-        self.remember(address, self.rt.connect_timeout(address, within))
+        self.remember_address(address, self.rt.connect_timeout(address, within))
     }
 }
 
@@ -90,7 +92,14 @@ impl Files for System<'_> {
     type Dir = <HostRuntime as Files>::Dir;
 
     fn open_file(&self, how: &OpenOptions, path: &str) -> io::Result<File> {
-        self.rt.open_file(how, path)
+        let opened = self.rt.open_file(how, path);
+        self.refused.set(None);
+        if let Err(reason) = &opened {
+            if let Ok(name) = String::from_str(self.rt.alloc(), path) {
+                self.remember(Refused::File(name), *reason);
+            }
+        }
+        opened
     }
 
     fn open_dir(&self, path: &str) -> io::Result<Self::Dir> {

@@ -1,10 +1,12 @@
-use clap::{Arg, ArgAction, Command};
-use std::alloc::{AllocError, Global};
-use vdcp_options::{
+//! The command line: each subcommand with its arguments and its help.
+use crate::number::{
     COPY, CUE_FRAMES, CUT, DAMAGE, FORGE, LIMIT, LISTENS, LOSE, LOSSY_SILENCE, NumberOption, PORT,
     RUN_SILENCE, SEED, SERVE_SILENCE, TURNS, UNIT, WITHIN, from_option, idle_option, number_option,
-    poll_option, rate_option, run_limit_option,
+    poll_option, run_limit_option,
 };
+use crate::rate::rate_option;
+use clap::{Arg, ArgAction, Command};
+use std::alloc::{AllocError, Global};
 
 // The program's version, and the toolchain that it is proved with.
 const VERSION: &str = "0.1.0\nrattle-kit-13f logic dac8208d650f15bf";
@@ -22,14 +24,21 @@ const PROBE_EXAMPLE: &str =
 
 Example: vdcp probe 127.0.0.1:7400 examples/catalogue.csv --yes-it-may-stop";
 
+const ASK_EXAMPLE: &str =
+    "The port needn't be open, and stays as it is. Another automation may play meanwhile, if the
+server takes a second connection.
+
+Example: vdcp ask 127.0.0.1:7400 examples/playlist.csv";
+
 const LOSSY_EXAMPLE: &str =
-    "It keeps what the report of a run rests on. Each way it holds one burst. A copied command reaches
-the server as two bursts, and only the answer to the last goes on; a copied answer goes out twice at
-once. Nothing of an exchange goes on once the time of --within has passed, and what the server sends
-later is dropped before the next command goes on. Of damaged bytes no more can be read than a beginning
-of what was sent. So --silence has to be more than the server's, and --within less than the silence of
-the run; and --forge is for a run with --confirm alone. A copied command takes three times --silence,
-and its answer is late unless --within is more.
+    "It keeps what the report of a run rests on, unless a process is held up for longer than the silence of
+the run less --within. Each way it holds one burst. A copied command reaches the server as two bursts,
+and only the answer to the last goes on; a copied answer goes out twice at once. Nothing of an exchange
+goes on once the time of --within has passed, and what the server sends later is dropped before the next
+command goes on. Of a damaged burst only its first messages are read, or none. So --silence has to be
+more than the server's, and --within less than the silence of the run; and --forge is for a run with
+--confirm alone. A copied command takes three times --silence, and its answer is late unless --within is
+more.
 
 Example, in three terminals:
   vdcp serve 127.0.0.1:7400 examples/catalogue.csv
@@ -56,9 +65,9 @@ enum Argument {
     Idle,
     From,
     Only,
-    Lengths,
     Resume,
     OpenAgain,
+    Panel,
 }
 
 const LIST: Argument = Argument::Required("LIST", "The playlist's file");
@@ -66,6 +75,12 @@ const LIST: Argument = Argument::Required("LIST", "The playlist's file");
 const CATALOGUE: Argument = Argument::Required("CATALOGUE", "The catalogue's file");
 
 const CONFIRM: Argument = Argument::Flag("confirm", "The controller trusts no ACK and no NAK");
+
+const CAPTURE: Argument = Argument::Value(
+    "capture",
+    "FILE",
+    "Makes this file, with all that the automation sends and hears, for judge; an older one stays as FILE.~N~",
+);
 
 // Where `run` and `probe` find a server.
 const SERVER: Argument = Argument::Required("ADDR", "Where the server listens, as 127.0.0.1:7400");
@@ -79,7 +94,7 @@ struct Subcommand {
     arguments: &'static [Argument],
 }
 
-const SHOW: Subcommand = Subcommand {
+static SHOW: Subcommand = Subcommand {
     name: "show",
     about: "Shows a burst: its messages, and how it ends",
     after_help: "Example: vdcp show 02021001ef --words",
@@ -92,7 +107,7 @@ const SHOW: Subcommand = Subcommand {
     ],
 };
 
-const MAKE: Subcommand = Subcommand {
+static MAKE: Subcommand = Subcommand {
     name: "make",
     about: "Makes the bytes of a command",
     after_help: "Example: vdcp make cue CLIP0001",
@@ -103,14 +118,14 @@ const MAKE: Subcommand = Subcommand {
     ],
 };
 
-const CHECK: Subcommand = Subcommand {
+static CHECK: Subcommand = Subcommand {
     name: "check",
     about: "Checks a playlist against a catalogue",
     after_help: "Example: vdcp check examples/playlist.csv examples/catalogue.csv",
     arguments: &[LIST, CATALOGUE, Argument::Rate],
 };
 
-const SIM: Subcommand = Subcommand {
+static SIM: Subcommand = Subcommand {
     name: "sim",
     about: "Runs a script of events on the line between a controller and a port",
     after_help: SIM_EXAMPLE,
@@ -129,7 +144,7 @@ const SIM: Subcommand = Subcommand {
     ],
 };
 
-const SERVE: Subcommand = Subcommand {
+static SERVE: Subcommand = Subcommand {
     name: "serve",
     about: "Serves a port with the clips of a catalogue to an automation, over TCP",
     after_help: SERVE_EXAMPLE,
@@ -154,14 +169,16 @@ const SERVE: Subcommand = Subcommand {
             "Keeps the port when a connection ends, and takes the next one",
         ),
         Argument::Idle,
+        Argument::Panel,
         Argument::Flag(
             "log",
             "Tells standard error of each message, and of each item that goes to air",
         ),
+        CAPTURE,
     ],
 };
 
-const RUN: Subcommand = Subcommand {
+static RUN: Subcommand = Subcommand {
     name: "run",
     about: "Plays a list through the port of a server, over TCP",
     after_help: RUN_EXAMPLE,
@@ -184,7 +201,6 @@ const RUN: Subcommand = Subcommand {
             "Hears each answer as soon as it has come, torn or late; for a line that keeps order, as TCP does",
         ),
         Argument::Poll,
-        Argument::Lengths,
         Argument::Value(
             "asrun",
             "FILE",
@@ -198,11 +214,26 @@ const RUN: Subcommand = Subcommand {
         Argument::Resume,
         Argument::OpenAgain,
         Argument::From,
+        Argument::Flag(
+            "operator",
+            "Reads calls from standard input, a line each: take, stop",
+        ),
+        Argument::Value(
+            "at",
+            "TIME",
+            "Puts the first event to air then: 20:15:00, or a time as 2026-11-27T20:15:00Z",
+        ),
+        Argument::Value(
+            "panel",
+            "ADDR",
+            "Shows the run in a browser on this machine, and takes calls there: where the page is, as 127.0.0.1:7480",
+        ),
         Argument::Flag("log", "Tells standard error of each message"),
+        CAPTURE,
     ],
 };
 
-const ASRUN: Subcommand = Subcommand {
+static ASRUN: Subcommand = Subcommand {
     name: "asrun",
     about: "Prints the as-run list that a journal shows",
     after_help: "Example: vdcp asrun run.journal",
@@ -217,28 +248,23 @@ const ASRUN: Subcommand = Subcommand {
             "times",
             "Says of each event when it was played, and when it was known to have aired",
         ),
-        Argument::Flag(
-            "open",
-            "Tells standard error of an event that may have aired too",
-        ),
     ],
 };
 
-const JUDGE: Subcommand = Subcommand {
+static JUDGE: Subcommand = Subcommand {
     name: "judge",
     about: "Holds an automation's commands on a captured line against the rule book",
-    after_help: "Example: vdcp judge examples/playlist.csv run.log",
+    after_help: "Example: vdcp judge examples/playlist.csv capture.csv",
     arguments: &[
         LIST,
-        Argument::Required("CAPTURE", "The file of what was captured"),
+        Argument::Required("CAPTURE", "The file of what was captured, as by --capture"),
         Argument::Number(&UNIT),
         Argument::Rate,
         Argument::Flag("confirm", "The automation trusts no ACK and no NAK"),
-        Argument::Flag("server", "The log is of the server's end"),
     ],
 };
 
-const PROBE: Subcommand = Subcommand {
+static PROBE: Subcommand = Subcommand {
     name: "probe",
     about: "Asks a server whether its port keeps the table that as-run lists rest on, over TCP",
     after_help: PROBE_EXAMPLE,
@@ -257,7 +283,20 @@ const PROBE: Subcommand = Subcommand {
     ],
 };
 
-const LOSSY: Subcommand = Subcommand {
+static ASK: Subcommand = Subcommand {
+    name: "ask",
+    about: "Asks a server whether it has each clip of a playlist, and parts that fit, over TCP",
+    after_help: ASK_EXAMPLE,
+    arguments: &[
+        SERVER,
+        LIST,
+        Argument::Number(&UNIT),
+        Argument::Rate,
+        Argument::Number(&RUN_SILENCE),
+    ],
+};
+
+static LOSSY: Subcommand = Subcommand {
     name: "lossy",
     about: "A line between a run and a server, over TCP, that loses, copies, cuts and damages bursts",
     after_help: LOSSY_EXAMPLE,
@@ -276,44 +315,70 @@ const LOSSY: Subcommand = Subcommand {
         Argument::Number(&LOSSY_SILENCE),
         Argument::Number(&WITHIN),
         Argument::Number(&TURNS),
+        CAPTURE,
     ],
 };
 
-const VECTORS: Subcommand = Subcommand {
+static VECTORS: Subcommand = Subcommand {
     name: "vectors",
     about: "Tests each row of a file of bursts and their readings",
     after_help: "Example: vdcp vectors examples/bursts.csv",
     arguments: &[Argument::Required("FILE", "The file of bursts and their readings")],
 };
 
-/// What the command line may be.
-pub fn command<'a>(alloc: Global) -> Result<Command<'a>, AllocError> {
+/// What the command line may be. If its first word is a subcommand's name, no other one is made.
+pub fn command<'a>(alloc: Global, first: Option<&str>) -> Result<Command<'a>, AllocError> {
+    let only = subcommand_named(first);
     let command = Command::new(alloc, "vdcp")
         .bin_name("vdcp")?
         .about("One playout channel of the Video Disk Communications Protocol")
         .version(VERSION)
         .subcommand_required(true)
         .arg_required_else_help(true);
-    let command = with_subcommand(alloc, command, &SHOW)?;
-    let command = with_subcommand(alloc, command, &MAKE)?;
-    let command = with_subcommand(alloc, command, &CHECK)?;
-    let command = with_subcommand(alloc, command, &SIM)?;
-    let command = with_subcommand(alloc, command, &SERVE)?;
-    let command = with_subcommand(alloc, command, &RUN)?;
-    let command = with_subcommand(alloc, command, &ASRUN)?;
-    let command = with_subcommand(alloc, command, &JUDGE)?;
-    let command = with_subcommand(alloc, command, &PROBE)?;
-    let command = with_subcommand(alloc, command, &LOSSY)?;
-    with_subcommand(alloc, command, &VECTORS)
+    let command = with_subcommand(alloc, command, only, &SHOW)?;
+    let command = with_subcommand(alloc, command, only, &MAKE)?;
+    let command = with_subcommand(alloc, command, only, &CHECK)?;
+    let command = with_subcommand(alloc, command, only, &ASK)?;
+    let command = with_subcommand(alloc, command, only, &SIM)?;
+    let command = with_subcommand(alloc, command, only, &SERVE)?;
+    let command = with_subcommand(alloc, command, only, &RUN)?;
+    let command = with_subcommand(alloc, command, only, &ASRUN)?;
+    let command = with_subcommand(alloc, command, only, &JUDGE)?;
+    let command = with_subcommand(alloc, command, only, &PROBE)?;
+    let command = with_subcommand(alloc, command, only, &LOSSY)?;
+    with_subcommand(alloc, command, only, &VECTORS)
 }
 
-// The command line with this subcommand, too.
+// The word, if it is a subcommand's name.
+fn subcommand_named(word: Option<&str>) -> Option<&str> {
+    match word? {
+        "show"
+        | "make"
+        | "check"
+        | "ask"
+        | "sim"
+        | "serve"
+        | "run"
+        | "asrun"
+        | "judge"
+        | "probe"
+        | "lossy"
+        | "vectors" => word,
+        _ => None,
+    }
+}
+
+// The command line with this subcommand, too, unless only another one is wanted.
 fn with_subcommand<'a>(
     alloc: Global,
     command: Command<'a>,
+    only: Option<&str>,
     subcommand: &Subcommand,
 ) -> Result<Command<'a>, AllocError> {
-    command.subcommand(made(alloc, subcommand)?)
+    match only {
+        Some(name) if name != subcommand.name => Ok(command),
+        _ => command.subcommand(made(alloc, subcommand)?),
+    }
 }
 
 // A subcommand, as `clap` has it.
@@ -342,9 +407,9 @@ fn argument_of<'a>(alloc: Global, argument: &Argument) -> Result<Arg<'a>, AllocE
         Argument::Idle => Ok(idle_option(alloc)),
         Argument::From => Ok(from_option(alloc)),
         Argument::Only => Ok(only(alloc)),
-        Argument::Lengths => lengths(alloc),
         Argument::Resume => resume(alloc),
         Argument::OpenAgain => open_again(alloc),
+        Argument::Panel => panel(alloc),
     }
 }
 
@@ -372,16 +437,6 @@ fn only<'a>(alloc: Global) -> Arg<'a> {
         .help("Puts only the rows that can falsify no as-run list, or only the others")
 }
 
-fn lengths<'a>(alloc: Global) -> Result<Arg<'a>, AllocError> {
-    option(
-        alloc,
-        "lengths",
-        "CATALOGUE",
-        "With --prompt, each clip is played when the one before it ends, by its length in this file",
-    )
-    .requires_arg("prompt")
-}
-
 fn resume<'a>(alloc: Global) -> Result<Arg<'a>, AllocError> {
     option(
         alloc,
@@ -400,4 +455,14 @@ fn open_again<'a>(alloc: Global) -> Result<Arg<'a>, AllocError> {
     )
     .requires_arg("resume")?
     .conflicts_with("journal")
+}
+
+fn panel<'a>(alloc: Global) -> Result<Arg<'a>, AllocError> {
+    option(
+        alloc,
+        "panel",
+        "ADDR",
+        "With --stay, shows the port in a browser on this machine: where the page is, as 127.0.0.1:7480",
+    )
+    .requires_arg("stay")
 }

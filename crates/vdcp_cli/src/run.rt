@@ -1,0 +1,160 @@
+//! The subcommand `run`, from the words of the command line to the call of its library.
+ghost use Rattle.std.specs.Prelude.{◌≤◌};
+
+use clap::ArgMatches;
+use std::io::{IsTerminal, Stderr, Stdin, Write};
+use std::time::Duration;
+use vdcp_log::{Hearing, Screen, Telling};
+use vdcp_operator::{Hand, Keys, open_page, start_of};
+use vdcp_options::{
+    LISTENS, Output, POLL, RUN_SILENCE, System, capture_of, from_of, limit_of, number_of,
+    open_file, port_of, rate_of, unit_of,
+};
+use vdcp_run::{RunJournal, RunSettings, Showing, Shown, do_run};
+use vdcp_text::Failure;
+
+/// Runs it, and gives the exit status; a failure isn't told yet.
+pub fn run_run<'a, W: Write, E: Write>(
+    system: &System<'_>,
+    matches: &'a ArgMatches<'_>,
+    out: &mut W,
+    err: &mut E,
+) -> Result<u8, Failure<'a>> {
+    let list = open_file(system, matches, "LIST")?;
+    let address = matches.get_str("ADDR").unwrap_or("");
+    let settings = run_settings_of(matches);
+    let mut hand = match hand_of(system, matches, settings, err) {
+        Ok(hand) => hand,
+        Err(status) => return Ok(status),
+    };
+    let capture = capture_of(system, matches, &["LIST", "asrun", "journal", "resume"])?;
+    let stderr = system.rt.stderr();
+    let is_terminal = stderr.is_terminal();
+    let shown = if matches.get_flag("log") {
+        Shown::Lines(Telling::All(Output::Terminal(Screen::new(system, stderr))))
+    } else if is_terminal {
+        Shown::Progress(Output::Terminal(Screen::new(system, stderr)))
+    } else {
+        Shown::Lines(Telling::Nothing)
+    };
+    let showing = Showing { shown, capture };
+    let mut advice = None;
+    let status = do_run(
+        system,
+        address,
+        list,
+        settings,
+        showing,
+        &mut hand,
+        &mut advice,
+        out,
+        err,
+    );
+    if let (Some(advice), true) = (advice, is_terminal) {
+        let _ = writeln!(err, "  {advice}");
+    }
+    Ok(status)
+}
+
+// The operator's hand in a run; or the status, where its page or its start is refused.
+fn hand_of<'a, E: Write>(
+    system: &'a System<'_>,
+    matches: &ArgMatches<'_>,
+    settings: RunSettings<'_>,
+    err: &mut E,
+) -> Result<Hand<'a, System<'a>, Keys<Stdin>, Screen<Stderr>>, u8> {
+    let start = match matches.get_str("at") {
+        Some(text) => Some(start_time(system, text, err)?),
+        None => None,
+    };
+    let page = match matches.get_str("panel") {
+        Some(text) => Some(open_page(system.rt, text, settings.rate, err)?),
+        None => None,
+    };
+    let keys = if matches.get_flag("operator") {
+        Some(Keys::new(system, system.rt.stdin()))
+    } else {
+        None
+    };
+    let told = Screen::new(system, system.rt.stderr());
+    Ok(Hand::new(system, keys, told, page, start, settings.hearing))
+}
+
+// The time at which the first event goes to air.
+fn start_time<E: Write>(system: &System<'_>, text: &str, err: &mut E) -> Result<Duration, u8> {
+    match start_of(system.rt, text) {
+        Ok(start) => Ok(start),
+        Err(fault) => match writeln!(err, "vdcp: {fault}") {
+            Ok(()) => Err(2),
+            Err(_) => Err(3),
+        },
+    }
+}
+
+// The journal that is named; that to go on from goes first.
+fn journal_of<'a>(matches: &'a ArgMatches<'_>) -> Option<RunJournal<'a>> {
+    match (matches.get_str("resume"), matches.get_str("journal")) {
+        (Some(name), _) if opens_again(matches) => Some(RunJournal::Again(name)),
+        (Some(name), _) => Some(RunJournal::Older(name)),
+        (None, Some(name)) => Some(RunJournal::New(name)),
+        (None, None) => None,
+    }
+}
+
+// Whether a journal that is gone on with is opened again. Where an event to begin with is said, it is.
+fn opens_again(matches: &ArgMatches) -> bool {
+    matches.get_flag("open-again") || matches.get_str("from").is_some()
+}
+
+// What the options say of a list that is played.
+fn run_settings_of<'a>(matches: &'a ArgMatches<'_>) -> RunSettings<'a>
+    ensures unit { result.unit ≤ 15 }
+    ensures some { 1 ≤ result.limit }
+    ensures few { result.limit ≤ 1000 }
+    ensures some_silence { 1 ≤ result.silence }
+    ensures short_silence { result.silence ≤ 60000 }
+{
+    RunSettings {
+        unit: unit_of(matches),
+        port: port_of(matches),
+        limit: run_limit_of(matches),
+        confirm: matches.get_flag("confirm"),
+        ask: matches.get_flag("ask"),
+        rate: rate_of(matches),
+        silence: number_of(matches, &RUN_SILENCE),
+        hearing: hearing_of(matches),
+        listens: number_of(matches, &LISTENS),
+        operated: is_operated(matches),
+        from: from_of(matches),
+        asrun: matches.get_str("asrun"),
+        journal: journal_of(matches),
+    }
+}
+
+// Whether an operator has a hand in a run.
+fn is_operated(matches: &ArgMatches) -> bool {
+    matches.get_flag("operator")
+        || matches.get_str("panel").is_some()
+        || matches.get_str("at").is_some()
+}
+
+// After how many unanswered exchanges in a row the controller gives up, by the specification. On a line that keeps order
+// the system sends what was lost again, and once more, before that.
+fn run_limit_of(matches: &ArgMatches) -> u32
+    ensures least { 1 ≤ result }
+    ensures most { result ≤ 1000 }
+{
+    if let Some(_) = matches.get_str("limit") {
+        return limit_of(matches);
+    }
+    if matches.get_flag("prompt") { 10 } else { 3 }
+}
+
+// When answers are heard.
+fn hearing_of(matches: &ArgMatches) -> Hearing {
+    if matches.get_flag("prompt") {
+        Hearing::AtOnce(number_of(matches, &POLL))
+    } else {
+        Hearing::AtSilences
+    }
+}

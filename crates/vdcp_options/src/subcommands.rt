@@ -1,0 +1,198 @@
+//! Subcommands, from the words of the command line to the calls of their libraries.
+use crate::file::open_file;
+use crate::number::unit_of;
+use crate::output::{Output, capture_of};
+use crate::rate::rate_of;
+use crate::settings::{
+    ask_settings_of, asrun_settings_of, judge_settings_of, lossy_settings_of, probe_settings_of,
+    serve_settings_of, sim_settings_of,
+};
+use crate::system::System;
+use clap::ArgMatches;
+use std::io::Write;
+use vdcp_files::{do_check, do_vectors};
+use vdcp_log::{Lines, Screen, Telling};
+use vdcp_lossy::do_lossy;
+use vdcp_offline::{do_judge, do_sim};
+use vdcp_probe::{do_ask, do_probe, rows};
+use vdcp_record::do_asrun;
+use vdcp_serve::{do_serve, open_panel};
+use vdcp_text::{Failure, do_make, do_show};
+
+/// Runs the subcommand of this name, which isn't `run`, and gives its exit status. What is printed goes to `out` and to
+/// `err`; a failure isn't told yet.
+pub fn run_named<'a, W: Write, E: Write>(
+    system: &System<'_>,
+    name: &str,
+    matches: &'a ArgMatches<'_>,
+    out: &mut W,
+    err: &mut E,
+) -> Result<u8, Failure<'a>> {
+    match name {
+        "show" => Ok(run_show(system, matches, out, err)),
+        "make" => Ok(run_make(matches, out, err)),
+        "check" => run_check(system, matches, out, err),
+        "ask" => run_ask(system, matches, out, err),
+        "sim" => run_sim(system, matches, out, err),
+        "serve" => run_serve(system, matches, out, err),
+        "asrun" => run_asrun(system, matches, out, err),
+        "judge" => run_judge(system, matches, out, err),
+        "probe" => run_probe(system, matches, out, err),
+        "lossy" => run_lossy(system, matches, err),
+        "vectors" => run_vectors(system, matches, out, err),
+        // (`clap` lets no other name through)
+        _ => Ok(2),
+    }
+}
+
+fn run_show<W: Write, E: Write>(
+    system: &System<'_>,
+    matches: &ArgMatches<'_>,
+    out: &mut W,
+    err: &mut E,
+) -> u8 {
+    let hex = matches.get_str("HEX").unwrap_or("");
+    do_show(system.alloc(), hex, matches.get_flag("words"), out, err)
+}
+
+fn run_make<W: Write, E: Write>(matches: &ArgMatches<'_>, out: &mut W, err: &mut E) -> u8 {
+    let name = matches.get_str("COMMAND").unwrap_or("");
+    let arguments = matches.get_strs("ARG").unwrap_or(&[]);
+    do_make(name, arguments, unit_of(matches), out, err)
+}
+
+fn run_check<'a, W: Write, E: Write>(
+    system: &System<'_>,
+    matches: &'a ArgMatches<'_>,
+    out: &mut W,
+    err: &mut E,
+) -> Result<u8, Failure<'a>> {
+    let list = open_file(system, matches, "LIST")?;
+    let catalogue = open_file(system, matches, "CATALOGUE")?;
+    let rate = rate_of(matches);
+    Ok(do_check(system.alloc(), list, catalogue, rate, out, err))
+}
+
+fn run_ask<'a, W: Write, E: Write>(
+    system: &System<'_>,
+    matches: &'a ArgMatches<'_>,
+    out: &mut W,
+    err: &mut E,
+) -> Result<u8, Failure<'a>> {
+    let list = open_file(system, matches, "LIST")?;
+    let address = matches.get_str("ADDR").unwrap_or("");
+    Ok(do_ask(system, address, list, ask_settings_of(matches), out, err))
+}
+
+fn run_sim<'a, W: Write, E: Write>(
+    system: &System<'_>,
+    matches: &'a ArgMatches<'_>,
+    out: &mut W,
+    err: &mut E,
+) -> Result<u8, Failure<'a>> {
+    let list = open_file(system, matches, "LIST")?;
+    let catalogue = open_file(system, matches, "CATALOGUE")?;
+    let script = open_file(system, matches, "SCRIPT")?;
+    let settings = sim_settings_of(matches);
+    Ok(do_sim(system.alloc(), list, catalogue, script, settings, out, err))
+}
+
+fn run_serve<'a, W: Write, E: Write>(
+    system: &System<'_>,
+    matches: &'a ArgMatches<'_>,
+    out: &mut W,
+    err: &mut E,
+) -> Result<u8, Failure<'a>> {
+    let catalogue = open_file(system, matches, "CATALOGUE")?;
+    let address = matches.get_str("ADDR").unwrap_or("");
+    let settings = serve_settings_of(matches);
+    let panel = match matches.get_str("panel") {
+        Some(text) => match open_panel(system.rt, text, err) {
+            Ok(panel) => Some(panel),
+            Err(status) => return Ok(status),
+        },
+        None => None,
+    };
+    let capture = capture_of(system, matches, &["CATALOGUE"])?;
+    let terminal = Output::Terminal(Screen::new(system, system.rt.stderr()));
+    let telling = if matches.get_flag("log") {
+        Telling::All(terminal)
+    } else {
+        Telling::Faults(terminal)
+    };
+    Ok(do_serve(
+        system, address, catalogue, settings, telling, capture, panel, out, err,
+    ))
+}
+
+fn run_asrun<'a, W: Write, E: Write>(
+    system: &System<'_>,
+    matches: &'a ArgMatches<'_>,
+    out: &mut W,
+    err: &mut E,
+) -> Result<u8, Failure<'a>> {
+    let journal = open_file(system, matches, "JOURNAL")?;
+    let list = match matches.get_str("LIST") {
+        Some(_) => Some(open_file(system, matches, "LIST")?),
+        None => None,
+    };
+    let settings = asrun_settings_of(matches);
+    Ok(do_asrun(system.alloc(), journal, list, settings, out, err))
+}
+
+fn run_judge<'a, W: Write, E: Write>(
+    system: &System<'_>,
+    matches: &'a ArgMatches<'_>,
+    out: &mut W,
+    err: &mut E,
+) -> Result<u8, Failure<'a>> {
+    let list = open_file(system, matches, "LIST")?;
+    let capture = open_file(system, matches, "CAPTURE")?;
+    let settings = judge_settings_of(matches);
+    Ok(do_judge(system.alloc(), list, capture, settings, out, err))
+}
+
+fn run_probe<'a, W: Write, E: Write>(
+    system: &System<'_>,
+    matches: &'a ArgMatches<'_>,
+    out: &mut W,
+    err: &mut E,
+) -> Result<u8, Failure<'a>> {
+    let catalogue = open_file(system, matches, "CATALOGUE")?;
+    let address = matches.get_str("ADDR").unwrap_or("");
+    let settings = probe_settings_of(matches);
+    let rows = rows(system.alloc())?;
+    Ok(do_probe(
+        system,
+        address,
+        catalogue,
+        rows.as_slice(),
+        settings,
+        out,
+        err,
+    ))
+}
+
+fn run_lossy<'a, E: Write>(
+    system: &System<'_>,
+    matches: &'a ArgMatches<'_>,
+    err: &mut E,
+) -> Result<u8, Failure<'a>> {
+    let address = matches.get_str("ADDR").unwrap_or("");
+    let server = matches.get_str("SERVER").unwrap_or("");
+    let settings = lossy_settings_of(matches);
+    // (who doesn't read its lines doesn't hold the two ends up)
+    let mut out = Lines::new(Screen::new(system, system.rt.stdout()));
+    let capture = capture_of(system, matches, &[])?;
+    Ok(do_lossy(system, address, server, settings, capture, &mut out, err))
+}
+
+fn run_vectors<'a, W: Write, E: Write>(
+    system: &System<'_>,
+    matches: &'a ArgMatches<'_>,
+    out: &mut W,
+    err: &mut E,
+) -> Result<u8, Failure<'a>> {
+    let file = open_file(system, matches, "FILE")?;
+    Ok(do_vectors(system.alloc(), file, out, err))
+}
