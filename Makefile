@@ -1,15 +1,20 @@
 # What follows 'wrong-bodies' are the names of crates.
-names := $(filter-out test wrong-bodies dist bench,$(MAKECMDGOALS))
+names := $(filter-out test wrong-bodies dist bench lib deb,$(MAKECMDGOALS))
 
-.PHONY: test wrong-bodies dist bench
+.PHONY: test wrong-bodies dist bench lib deb
 test:
-	@tools/test
+	@tools/gate/run
 wrong-bodies:
-	@tools/wrong_bodies $(names)
+	@tools/gate/wrong_bodies $(names)
 dist:
 	@tools/dist
-bench:
-	@tools/bench
+bench: lib
+	@tools/measure/bench
+	@cc -O2 -Iinclude tools/measure/c_bench.c tools/measure/hand_reader.c out/libvdcp.a -o out/c_bench && out/c_bench
+lib:
+	@tools/lib
+deb:
+	@tools/deb
 
 ifneq ($(filter wrong-bodies,$(MAKECMDGOALS)),)
 .PHONY: $(names)

@@ -1,0 +1,178 @@
+#!/usr/bin/env python3
+"""The files over which tools/measure/bench counts: the same bytes on each machine, for any number of rows."""
+
+from hashlib import sha256
+from random import Random
+
+
+class Dice:
+    """Throws that are the same in each version of Python, which promises this of random() alone."""
+
+    def __init__(self, seed):
+        self.throw = Random(seed).random
+
+    def below(self, limit):
+        return int(self.throw() * limit)
+
+    def hits(self, chance):
+        return self.throw() < chance
+
+    def one_of(self, choices):
+        return choices[self.below(len(choices))]
+
+    def bytes(self, count):
+        return bytes(self.below(256) for _ in range(count))
+
+
+# How many events a script has for each row of the list that it plays.
+EVENTS_OF_A_ROW = 10
+
+
+def id_of(number):
+    """A clip's ID as a CSV field: most plain, some with a space, or quoted, or of bytes that can't be typed."""
+    if number % 100 == 99:
+        return f"0x{0xF000000000000000 + number:016x}"
+    if number % 50 == 17:
+        return f'"C,{number}"'
+    if number % 25 == 3:
+        return f"C {number}"
+    return f"CLIP{number:04d}"
+
+
+def time_of(frames):
+    """The label of a frame at 25 frames a second."""
+    seconds = frames // 25
+    return f"{seconds // 3600:02d}:{seconds // 60 % 60:02d}:{seconds % 60:02d}:{frames % 25:02d}"
+
+
+def lists(rows):
+    """A catalogue in no order, and lists of its clips: whole ones, whole ones and parts, parts of a single frame."""
+    dice = Dice(1)
+    lengths = [1 + dice.below(3000) for _ in range(rows)]
+    order = sorted((dice.throw(), number) for number in range(rows))
+    played = [dice.below(rows) for _ in range(rows)]
+    parts = []
+    for number in played:
+        start = dice.below(lengths[number])
+        duration = 1 + dice.below(lengths[number] - start)
+        parts.append(f"{time_of(start)},{time_of(duration)}" if dice.hits(0.5) else ",")
+    return {
+        "catalogue.csv": [f"{id_of(number)},{time_of(lengths[number])}" for _, number in order],
+        "list.csv": [id_of(number) for number in played],
+        "parts.csv": [f"{id_of(number)},{part}" for number, part in zip(played, parts)],
+        "frames.csv": [f"{id_of(number)},{time_of(0)},{time_of(1)}" for number in played],
+    }
+
+
+# What a command and an answer are damaged into: other messages, bursts that are cut, bytes that begin nothing.
+DAMAGED = (
+    "04", "0404", "05", "0501", "058004", "02", "0202", "02021001", "02021001ee", "04020210", "00", "9c", "0200", "03",
+)
+
+# What befalls an exchange in plain mode, and events between two exchanges. {} is damage.
+MISHAPS = (
+    "tick lose-down timeout", "tick down lose-up timeout", "tick down-copy down up", "tick down up-copy up",
+    "tick down-copy down-copy lose-down timeout", "tick alter-down={} down up", "tick down-copy alter-down={} down up",
+    "tick down alter-up={} up", "tick down alter-up={} up timeout", "round", "round=3", "timeout", "ready", "end",
+    "take", "frame", "frame=30",
+)
+# What befalls one in confirm mode besides.
+FORGERIES = ("tick stray-ack down up", "tick stray-nak=01 lose-down timeout", "stray-nak=80")
+
+# How many events a line of this name stands for, for each 1 of its number.
+EVENTS_OF = {"round": 3, "good": 6, "frame": 1}
+
+
+def script(rows, mishaps):
+    """Good rounds, a mishap after every few of them."""
+    dice, lines, left = Dice(2), [], rows * EVENTS_OF_A_ROW
+    while True:
+        chosen = [f"good={1 + dice.below(6)}"]
+        if dice.hits(0.3):
+            damage = dice.one_of(DAMAGED) if dice.hits(0.8) else dice.bytes(1 + dice.below(20)).hex()
+            chosen = dice.one_of(mishaps).format(damage).split()
+        for entry in chosen:
+            name, _, number = entry.partition("=")
+            events = EVENTS_OF[name] * int(number or 1) if name in EVENTS_OF else 1
+            if events > left:
+                return lines + ["timeout"] * left
+            left -= events
+            lines.append(entry.replace("=", " "))
+
+
+# What bursts are made of, in digits, with the lines that show it; and what ends one, the number of bytes up to there being {}.
+MESSAGES = (
+    ("04", "ack"), ("05ff", "nak ff"), ("02021001ef", "unit 0 type 1 code 01 data -"),
+    ("020a2f24434c495030303031c4", "unit 15 type 2 code 24 data 434c495030303031"),
+    ("0242900a" + "5a" * 64 + "e6", f"unit 0 type 9 code 0a data {'5a' * 64}"),
+)
+ENDS = (("", "clean"),) * 5 + (("ff", "fault bad-start {}"), ("0201", "fault bad-count {} count 1"), ("02021001ee", "fault bad-sum {}"), ("020210", "cut 3"), ("0241900a5a5a5a", "cut 7"))
+
+
+def vectors(rows):
+    """Bursts of up to four messages, half of which end badly; one of a thousand is longer than what is read of a burst."""
+    dice, lines = Dice(3), []
+    for number in range(rows):
+        made = [dice.one_of(MESSAGES) for _ in range(dice.below(5))]
+        last, how = dice.one_of(ENDS)
+        digits = "".join(part for part, _ in made) + last
+        told = [line for _, line in made] + [how.format(len(digits) // 2)]
+        if number % 1000 == 500:
+            digits, told = "02021001ef" * 820, [MESSAGES[2][1]] * 819 + ["fault long 4097"]
+        lines.append(f"{digits.upper() if number % 2 else digits},{'; '.join(told)}")
+    return lines
+
+
+def framed(kind, code, data=b""):
+    """A message of these to unit 0, in digits."""
+    body = bytes([kind << 4, code]) + data
+    return (bytes([2, len(body)]) + body + bytes([-sum(body) % 256])).hex()
+
+
+def journal(rows):
+    """Of a run of plain clips, to the check of the last one: ten exchanges for each event, all answered. Its events, its rows,
+    and the rows of a capture of its line."""
+    events = [f"CLIP{number % 10000:04d}" for number in range(rows)]
+    digest = sha256("".join(f"{number},{event}\n" for number, event in enumerate(events)).encode()).hexdigest()
+    port, ack = b"\x01", ("ack", "04")
+    status = ("status 01", framed(3, 0x05, port))
+    waits = [(status, (f"state {state:02x}", framed(3, 0x85, bytes([1, state])))) for state in (2, 2, 2, 2, 2, 0x80)]
+    exchanges = [
+        (("open 01 01", framed(3, 0x01, b"\x01\x01")), ("granted", framed(3, 0x81, port))),
+        (("select 01", framed(2, 0x22, port)), ack),
+    ]
+    for event in events:
+        clip = event.encode()
+        exchanges += [
+            ((f"exists {event}", framed(3, 0x16, clip)), ("present", framed(3, 0x96, port))),
+            ((f"cue {event}", framed(2, 0x24, clip)), ack),
+            *waits,
+            (("play", framed(1, 0x01)), ack),
+            (("active", framed(3, 0x07)), (f"active {event}", framed(3, 0x87, b"\x01" + clip))),
+        ]
+    # (a row each ten milliseconds)
+    moments = (f"2026-11-25T{ms // 3600000:02d}:{ms // 60000 % 60:02d}:{ms // 1000 % 60:02d}.{ms % 1000:03d}Z"
+               for ms in range(0, 86400000, 10))
+    told = [("list", digest, "plain,0,1,10")]
+    captured = []
+    for sent, heard in exchanges:
+        told += [("sent", *sent), ("heard", *heard)]
+        captured += [f",down,{sent[1]}", f",up,{heard[1]}"]
+    return events, [f"{moment},{','.join(row)}" for moment, row in zip(moments, told)], captured
+
+
+def write_inputs(folder, rows):
+    """Writes them all into a folder, each line with its end."""
+    events, entries, captured = journal(rows)
+    files = {
+        **lists(rows),
+        "whole.csv": events,
+        "journal.csv": entries,
+        "capture.csv": captured,
+        "script.txt": script(rows, MISHAPS),
+        "confirm.txt": script(rows, MISHAPS + FORGERIES),
+        "bursts.csv": vectors(rows),
+    }
+    folder.mkdir()
+    for name, lines in files.items():
+        (folder / name).write_bytes("".join(f"{line}\n" for line in lines).encode())

@@ -1,0 +1,108 @@
+// Preloaded into a program, refuses what it asks of the system, and tells of each refusal on descriptor 9. With
+// REFUSED_GROWTHS=N it refuses the growth of memory of this number, counted from 1, with N- also all after it, and tells '!'. With
+// REFUSED_WRITE=N it refuses the write to standard output of this number, as a pipe does that is full, and tells '!'; each later one is
+// let through, as by a pipe that was drained, and it tells '+'. With REFUSED_LOCKS it refuses each lock of a file, as a file system does that has
+// none. With REFUSED_TEXT=TEXT it refuses each write to a file that has this text, as a disk does that is full, and each renaming to a
+// name that ends so, and tells 'refused'. With WATCHED it tells, in a line each and in their order, which files are written to, made
+// safe and renamed, and when something is sent: 'write FILE', 'sync FILE', 'rename FILE TO', without folders, and 'send TYPE', with a
+// message's type and command, in hexadecimal digits. With SLOW_SYNCS=N each sync of data takes so many milliseconds more.
+#define _GNU_SOURCE
+#include <dlfcn.h>
+#include <errno.h>
+#include <limits.h>
+#include <stdio.h>
+#include <stdlib.h>
+#include <string.h>
+#include <sys/file.h>
+#include <sys/socket.h>
+#include <unistd.h>
+
+#define NEXT(name) ((__typeof__(name) *)dlsym(RTLD_NEXT, #name))
+#define TELL(...) (getenv("WATCHED") ? dprintf(9, __VA_ARGS__) : 0)
+
+// Whether it's the turn of what is counted: 0 before, 1 if it is to be refused, 2 afterwards.
+static int turn_of(const char *variable, long *count) {
+    const char *number = getenv(variable);
+    char *rest;
+    if (!number) return 0;
+    long wanted = strtol(number, &rest, 10);
+    ++*count;
+    return *count < wanted ? 0 : *count == wanted || *rest == '-' ? 1 : 2;
+}
+
+static int refused(int error, const char *mark) {
+    NEXT(write)(9, mark, strlen(mark));
+    errno = error;
+    return -1;
+}
+
+static int is_refused_growth(void) {
+    static long growths;
+    return turn_of("REFUSED_GROWTHS", &growths) == 1 && refused(ENOMEM, "!");
+}
+
+void *malloc(size_t size) { return is_refused_growth() ? NULL : NEXT(malloc)(size); }
+
+void *realloc(void *block, size_t size) { return is_refused_growth() ? NULL : NEXT(realloc)(block, size); }
+
+static void tell_of_sending(const unsigned char *bytes, size_t count) { TELL("send %02x%02x\n", count > 3 ? bytes[2] : 0, count > 3 ? bytes[3] : 0); }
+
+static const char *last_part(const char *path) {
+    const char *last = strrchr(path, '/');
+    return last ? last + 1 : path;
+}
+
+// What is open there: a path, or 'socket:[N]' and the like. (A new one each time, in the same place.)
+static const char *open_at(int file) {
+    static char link[40], path[PATH_MAX];
+    snprintf(link, sizeof link, "/proc/self/fd/%d", file);
+    ssize_t length = readlink(link, path, sizeof path - 1);
+    path[length < 0 ? 0 : length] = 0;
+    return path;
+}
+
+ssize_t write(int file, const void *bytes, size_t count) {
+    static long writes;
+    int turn = file == STDOUT_FILENO ? turn_of("REFUSED_WRITE", &writes) : 0;
+    if (turn == 1) return refused(EAGAIN, "!");
+    if (turn == 2) NEXT(write)(9, "+", 1);
+    const char *path = file > 2 && file != 9 && getenv("WATCHED") ? open_at(file) : "", *text = getenv("REFUSED_TEXT");
+    if (*path == '/' && text && memmem(bytes, count, text, strlen(text))) return refused(ENOSPC, "refused\n");
+    if (*path == '/') TELL("write %s\n", last_part(path));
+    if (!strncmp(path, "socket:", 7)) tell_of_sending(bytes, count);
+    return NEXT(write)(file, bytes, count);
+}
+
+ssize_t __write(int file, const void *bytes, size_t count) { return write(file, bytes, count); }
+
+ssize_t send(int socket, const void *bytes, size_t count, int flags) {
+    tell_of_sending(bytes, count);
+    return NEXT(send)(socket, bytes, count, flags);
+}
+
+ssize_t sendto(int socket, const void *bytes, size_t count, int flags, const struct sockaddr *to, socklen_t length) {
+    tell_of_sending(bytes, count);
+    return NEXT(sendto)(socket, bytes, count, flags, to, length);
+}
+
+int fsync(int file) {
+    TELL("sync %s\n", last_part(open_at(file)));
+    return NEXT(fsync)(file);
+}
+
+int fdatasync(int file) {
+    const char *slow = getenv("SLOW_SYNCS");
+    TELL("sync %s\n", last_part(open_at(file)));
+    if (slow) usleep(1000 * atoi(slow));
+    return NEXT(fdatasync)(file);
+}
+
+int rename(const char *file, const char *to) {
+    const char *text = getenv("REFUSED_TEXT");
+    size_t length = text ? strlen(text) : 0;
+    if (text && strlen(to) >= length && !strcmp(to + strlen(to) - length, text)) return refused(ENOSPC, "refused\n");
+    TELL("rename %s %s\n", last_part(file), last_part(to));
+    return NEXT(rename)(file, to);
+}
+
+int flock(int file, int operation) { return getenv("REFUSED_LOCKS") ? (errno = ENOLCK, -1) : NEXT(flock)(file, operation); }
