@@ -1,8 +1,9 @@
 -- The rows of a journal, one after another: which events they show to be aired, and when.
-use Rattle.std.proofs.Common.{◌≡◌, ℕ, ◌+◌, ◌<◌, ◌≤◌, zero, suc, arith, length, Bool, true, false, not, ◌||◌, ◌&&◌, Option, None, Some, List, [], ◌∷◌, ◌++◌, ◌⊎◌, inl, inr, refl, sym, ap, ap₂, subst, ◌∙◌, append_assoc}
-use Rattle.std.proofs.lemmas.List.{append-nil, length-append}
+use Rattle.std.proofs.Common.{◌≡◌, ℕ, ◌+◌, ◌<◌, ◌≤◌, zero, suc, arith, length, Bool, true, false, not, ◌||◌, ◌&&◌, Option, None, Some, List, [], ◌∷◌, ◌++◌, ◌⊎◌, inl, inr, map, refl, sym, ap, ap₂, subst, ◌∙◌, append_assoc}
+use Rattle.std.proofs.lemmas.List.{append-nil, length-append, length-map, map-append}
 use Rattle.std.proofs.lemmas.List.Folds.{list_any-append}
 use Rattle.std.specs.List.{list_any}
+use Rattle.std.specs.Option.{option_or}
 use Rattle.std.specs.Prelude.{if◌then◌else◌, slice_get}
 use Rattle.vdcp_auto.specs.Commands.{is_play_command}
 use Rattle.vdcp_auto.specs.Log.{is_answered, is_play}
@@ -11,7 +12,8 @@ use Rattle.vdcp_auto.specs.declared.exchange.Exchange.{Exchange}
 use Rattle.vdcp_auto.specs.declared.exchange.Heard.{Heard}
 use Rattle.vdcp_auto.specs.declared.phase.Mode.{Mode}
 use Rattle.vdcp_auto.specs.declared.phase.Mode.TheVariants.{Plain, Confirming}
-use Rattle.vdcp_journal.specs.Airings.{AreAirings, IsAiring, announces_after, announces_from, is_play_row, sends_play, settled_in}
+use Rattle.vdcp_journal.proofs.AiringEnds.{HaveEnded, Noted, all_ended, end_more, found_mapped, map_ended, noted, open_before, push_ended}
+use Rattle.vdcp_journal.specs.Airings.{AreAirings, IsAiring, announces_after, announces_from, end_in, ended_by, is_play_row, sends_play, settled_in}
 use Rattle.vdcp_journal.specs.Resume.{ended_at, exchange_with, log_from, log_of, open_after}
 use Rattle.vdcp_journal.specs.declared.airings.Airing.{Airing}
 use Rattle.vdcp_journal.specs.declared.moment.Moment.{Moment}
@@ -246,7 +248,7 @@ Are mode rows airings =
     (k : ℕ) (airing : Airing) → slice_get airings k ≡ Some airing → IsAiring mode rows k airing
 
 more_rows : (mode : Mode) (rows : List Row) (row : Row) (k : ℕ) (airing : Airing) → IsAiring mode rows k airing
-    → IsAiring mode (rows ++ row ∷ []) k airing
+    → IsAiring mode (rows ++ row ∷ []) k (ended_by row airing)
 more_rows mode rows row k airing h = record {
   before = h.before;
   play = h.play;
@@ -262,12 +264,13 @@ more_rows mode rows row k airing h = record {
   settles = h.settles;
   played = h.played;
   known = h.known;
+  ended = ap (λ t. option_or t (end_in (row ∷ []))) h.ended ∙ sym (end_more (h.settling ∷ h.after) row);
 }
 
 -- the airing of an event that the next row settles
 settled_now : SettledGrows → (mode : Mode) (rows : List Row) (row : Row) (k : ℕ) (time : Moment)
     → IsLastPlay rows time → settled_in mode rows ≡ k → settled_in mode (rows ++ row ∷ []) ≡ k + 1
-    → IsAiring mode (rows ++ row ∷ []) k (record { played = time; known = row.time })
+    → IsAiring mode (rows ++ row ∷ []) k (record { played = time; known = row.time; ended = end_in (row ∷ []) })
 settled_now law mode rows row k time h was now =
     let all : rows ++ row ∷ [] ≡ h.before ++ (h.play ∷ (h.after ++ row ∷ [])) =
     ap (λ l. l ++ row ∷ []) h.in_order ∙ append_assoc h.before (h.play ∷ h.after) (row ∷ []) in
@@ -284,6 +287,7 @@ settled_now law mode rows row k time h was now =
       settles = ap (settled_in mode) (sym all) ∙ now;
       played = h.time_is;
       known = refl;
+      ended = refl;
     }
 
 one_airing : (a b : Airing) → ◌≡◌ {A = Option Airing} (Some a) (Some b) → a ≡ b
@@ -301,8 +305,10 @@ found_in (first ∷ xs) x y (suc k) e = elim (found_in xs x y k e) [
 ]
 
 are_more : (mode : Mode) (rows : List Row) (row : Row) (airings : List Airing) → Are mode rows airings
-    → Are mode (rows ++ row ∷ []) airings
-are_more mode rows row airings h = λ k airing at. more_rows mode rows row k airing (h k airing at)
+    → Are mode (rows ++ row ∷ []) (map (ended_by row) airings)
+are_more mode rows row airings h = λ k airing at.
+    let old = found_mapped row airings k airing at in
+    subst (IsAiring mode (rows ++ row ∷ []) k) (sym old.2) (more_rows mode rows row k old.0 (h k old.0 old.1))
 
 are_one_more : (mode : Mode) (rows : List Row) (airings : List Airing) (a : Airing) → Are mode rows airings
     → IsAiring mode rows (length airings) a → Are mode rows (airings ++ a ∷ [])
@@ -321,6 +327,8 @@ pub record SoFar (mode : Mode) (rows : List Row) (asked : Option Command) (playe
   pub are : Are mode rows airings
   pub last : LastPlay rows played
   pub unplayed : played ≡ None → Unplayed (ended_from None rows) asked
+  pub ended : HaveEnded airings
+  pub over : all_ended airings ≡ false → Unplayed (ended_from None rows) asked
 
 pub none_yet : (mode : Mode) → SoFar mode [] None None []
 none_yet mode = record {
@@ -330,6 +338,8 @@ none_yet mode = record {
   are = λ k airing at. cc at;
   last = tt;
   unplayed = λ e. record { shut = refl; unasked = refl };
+  ended = tt;
+  over = λ e. record { shut = refl; unasked = refl };
 }
 
 -- an exchange that ends was open
@@ -351,12 +361,13 @@ room asked (note.From k) = omega arith
 
 -- what came of one row more: the command that is open, the last PLAY and the airings
 pub record Steps (mode : Mode) (rows : List Row) (row : Row) (asked asked' : Option Command)
-    (played played' : Option Moment) (airings airings' : List Airing) (settled' : ℕ) : Type 0 where
+    (played played' : Option Moment) (airings added airings' : List Airing) (settled' : ℕ) : Type 0 where
   pub asks : asked' ≡ open_after asked row.note
   pub settles : settled' ≡ settled mode (ended_from None rows ++ ended_at asked row.note [])
-  pub same : settled' ≤ length airings → airings' ≡ airings
+  pub same : settled' ≤ length airings → added ≡ airings
   pub more : length airings < settled' → (play : Moment) → played ≡ Some play
-      → airings' ≡ airings ++ record { played = play; known = row.time } ∷ []
+      → added ≡ airings ++ record { played = play; known = row.time; ended = None } ∷ []
+  pub notes : Noted row added airings'
   pub plays : is_play_row row ≡ true → played' ≡ Some row.time
   pub plays_not : is_play_row row ≡ false → played' ≡ played
 
@@ -366,9 +377,11 @@ pub log_on : (rows : List Row) (row : Row) (asked : Option Command) → asked �
 log_on rows row asked is =
     ended_on None rows row ∙ ap (λ a. ended_from None rows ++ ended_at a row.note []) (sym is)
 
-record Aired (mode : Mode) (rows : List Row) (airings : List Airing) : Type 0 where
+record Aired (mode : Mode) (rows : List Row) (asked : Option Command) (airings : List Airing) : Type 0 where
   pub one_each : length airings ≡ settled mode (ended_from None rows)
   pub are : Are mode rows airings
+  pub ended : HaveEnded airings
+  pub over : all_ended airings ≡ false → Unplayed (ended_from None rows) asked
 
 ordered : (n m : ℕ) → (m ≤ n) ⊎ (n < m)
 ordered zero zero = inl (omega arith)
@@ -379,54 +392,141 @@ ordered (suc n) (suc m) = elim (ordered n m) [
   | inr w ↦ inr (omega (arith, w))
 ]
 
-aired_same : SettledGrows → (mode : Mode) (rows : List Row) (row : Row) (asked : Option Command)
+-- a row that is no PLAY opens none
+quiet_on : SettledGrows → OpenGrows → (mode : Mode) (rows : List Row) (row : Row) (asked asked' : Option Command)
+    → asked ≡ asked_after None rows → asked' ≡ open_after asked row.note → Unplayed (ended_from None rows) asked
+    → sends_play row.note ≡ false → Unplayed (ended_from None (rows ++ row ∷ [])) asked'
+quiet_on law opens mode rows row asked asked' is asks old other = record {
+  shut = ap has_open_play (log_on rows row asked is)
+      ∙ (quiet_row law opens mode (ended_from None rows) asked row.note old).shut;
+  unasked = ap asks_play asks ∙ asks_after asked row.note old.unasked other;
+}
+
+-- what settles leaves no PLAY open
+shuts : OpenGrows → (mode : Mode) (log : List Exchange) (e : Exchange) → settles mode log e ≡ true
+    → has_open_play (log ++ e ∷ []) ≡ false
+shuts law Plain log e is = let grown = law log e in grind (arith, grown, is)
+shuts law Confirming log e is = let grown = law log e in grind (arith, grown, is)
+
+settles_if : (mode : Mode) (log : List Exchange) (e : Exchange) (b : Bool) → settles mode log e ≡ b
+    → settled mode (log ++ e ∷ []) ≡ (if settles mode log e then settled mode log + 1 else settled mode log)
+    → settled mode log < settled mode (log ++ e ∷ []) → settles mode log e ≡ true
+settles_if mode log e true is grown more = is
+settles_if mode log e false is grown more =
+    absurd (omega (arith, more, grown ∙ ap (λ t. if t then settled mode log + 1 else settled mode log) is))
+
+with_shut : SettledGrows → OpenGrows → (mode : Mode) (log : List Exchange) (came : Option Heard)
+    (asked : Option Command) → settled mode log < settled mode (log ++ exchange_with came asked [])
+    → Unplayed (log ++ exchange_with came asked []) None
+with_shut law opens mode log came None more = absurd (omega (arith, more, ap (settled mode) (append-nil log)))
+with_shut law opens mode log came (Some c) more =
+    let e : Exchange = record { command = c; heard = came } in
+    record {
+      shut = shuts opens mode log e (settles_if mode log e (settles mode log e) refl (law mode log e) more);
+      unasked = refl;
+    }
+
+settled_shut : SettledGrows → OpenGrows → (mode : Mode) (log : List Exchange) (asked : Option Command) (n : Note)
+    → settled mode log < settled mode (log ++ ended_at asked n []) → Unplayed (log ++ ended_at asked n []) (open_after asked n)
+settled_shut law opens mode log asked (note.Sent c) more = absurd (omega (arith, more, ap (settled mode) (append-nil log)))
+settled_shut law opens mode log asked (note.Heard h) more = with_shut law opens mode log (Some h) asked more
+settled_shut law opens mode log asked note.Silence more = with_shut law opens mode log None asked more
+settled_shut law opens mode log asked note.Take more = absurd (omega (arith, more, ap (settled mode) (append-nil log)))
+settled_shut law opens mode log asked note.Stop more = absurd (omega (arith, more, ap (settled mode) (append-nil log)))
+settled_shut law opens mode log asked (note.End outcome) more =
+    absurd (omega (arith, more, ap (settled mode) (append-nil log)))
+settled_shut law opens mode log asked (note.From k) more = absurd (omega (arith, more, ap (settled mode) (append-nil log)))
+
+aired_same : SettledGrows → OpenGrows → (mode : Mode) (rows : List Row) (row : Row) (asked asked' : Option Command)
     (played : Option Moment) (airings airings' : List Airing) → SoFar mode rows asked played airings
-    → settled mode (ended_from None rows ++ ended_at asked row.note []) ≤ length airings → airings' ≡ airings
-    → Aired mode (rows ++ row ∷ []) airings'
-aired_same law mode rows row asked played airings airings' h few is =
+    → asked' ≡ open_after asked row.note
+    → settled mode (ended_from None rows ++ ended_at asked row.note []) ≤ length airings
+    → airings' ≡ map (ended_by row) airings → Aired mode (rows ++ row ∷ []) asked' airings'
+aired_same law opens mode rows row asked asked' played airings airings' h asks few is =
     let grown = (row_grows law mode (ended_from None rows) asked row.note).0 in
     let log = ap (settled mode) (log_on rows row asked h.asked_is) in
     record {
-      one_each = ap length is ∙ (omega (arith, grown, few, log, h.one_each));
+      one_each = ap length is ∙ length-map airings (ended_by row) ∙ (omega (arith, grown, few, log, h.one_each));
       are = subst (Are mode (rows ++ row ∷ [])) (sym is) (are_more mode rows row airings h.are);
+      ended = subst HaveEnded (sym is) (map_ended airings row h.ended);
+      over = λ e.
+          let old = open_before airings row (ap all_ended (sym is) ∙ e) in
+          quiet_on law opens mode rows row asked asked' h.asked_is asks (h.over old.0) old.1;
     }
 
-aired_more : SettledGrows → (mode : Mode) (rows : List Row) (row : Row) (asked : Option Command)
+aired_few : SettledGrows → OpenGrows → (mode : Mode) (rows : List Row) (row : Row) (asked asked' : Option Command)
+    (played played' : Option Moment) (airings added airings' : List Airing) (settled' : ℕ)
+    → SoFar mode rows asked played airings
+    → Steps mode rows row asked asked' played played' airings added airings' settled'
+    → settled mode (ended_from None rows ++ ended_at asked row.note []) ≤ length airings
+    → Aired mode (rows ++ row ∷ []) asked' airings'
+aired_few law opens mode rows row asked asked' played played' airings added airings' settled' h s few =
+    let same = s.same (omega (arith, few, s.settles)) in
+    aired_same law opens mode rows row asked asked' played airings airings' h s.asks few
+    (noted added airings' row (subst HaveEnded (sym same) h.ended) s.notes ∙ ap (map (ended_by row)) same)
+
+-- nothing is settled while one hasn't ended
+none_open : SettledGrows → OpenGrows → (mode : Mode) (rows : List Row) (row : Row) (asked : Option Command)
+    (played : Option Moment) (airings : List Airing) (b : Bool) → all_ended airings ≡ b
+    → SoFar mode rows asked played airings
+    → length airings < settled mode (ended_from None rows ++ ended_at asked row.note []) → b ≡ true
+none_open law opens mode rows row asked played airings true is h many = refl
+none_open law opens mode rows row asked played airings false is h many =
+    let quiet = quiet_row law opens mode (ended_from None rows) asked row.note (h.over is) in
+    absurd (omega (arith, quiet.same, h.one_each, many))
+
+aired_more : SettledGrows → OpenGrows → (mode : Mode) (rows : List Row) (row : Row) (asked asked' : Option Command)
     (time : Moment) (airings airings' : List Airing) → SoFar mode rows asked (Some time) airings
+    → asked' ≡ open_after asked row.note
     → length airings < settled mode (ended_from None rows ++ ended_at asked row.note [])
-    → airings' ≡ airings ++ record { played = time; known = row.time } ∷ []
-    → Aired mode (rows ++ row ∷ []) airings'
-aired_more law mode rows row asked time airings airings' h many is =
-    let a : Airing = record { played = time; known = row.time } in
+    → airings' ≡ map (ended_by row) (airings ++ record { played = time; known = row.time; ended = None } ∷ [])
+    → Aired mode (rows ++ row ∷ []) asked' airings'
+aired_more law opens mode rows row asked asked' time airings airings' h asks many is =
+    let a : Airing = record { played = time; known = row.time; ended = None } in
+    let b : Airing = record { played = time; known = row.time; ended = end_in (row ∷ []) } in
+    let old = map (ended_by row) airings in
+    let all = none_open law opens mode rows row asked (Some time) airings (all_ended airings) refl h many in
     let grown = (row_grows law mode (ended_from None rows) asked row.note).1 in
-    let log = ap (settled mode) (log_on rows row asked h.asked_is) in
+    let log = log_on rows row asked h.asked_is in
     let now : settled mode (ended_from None (rows ++ row ∷ [])) ≡ length airings + 1 =
-    omega (arith, grown, many, log, h.one_each) in
+    omega (arith, grown, many, ap (settled mode) log, h.one_each) in
     let new = settled_now law mode rows row (length airings) time h.last
     (shown_is law mode rows ∙ sym h.one_each)
     (shown_is law mode (rows ++ row ∷ []) ∙ now) in
+    let pushed : airings' ≡ old ++ b ∷ [] = is ∙ map-append (ended_by row) airings (a ∷ []) in
     record {
-      one_each = ap length is ∙ length-append airings (a ∷ []) ∙ sym now;
-      are = subst (Are mode (rows ++ row ∷ [])) (sym is)
-          (are_one_more mode (rows ++ row ∷ []) airings a (are_more mode rows row airings h.are) new);
+      one_each = ap length is ∙ length-map (airings ++ a ∷ []) (ended_by row) ∙ length-append airings (a ∷ []) ∙ sym now;
+      are = subst (Are mode (rows ++ row ∷ [])) (sym pushed)
+          (are_one_more mode (rows ++ row ∷ []) old b (are_more mode rows row airings h.are)
+          (subst (λ n. IsAiring mode (rows ++ row ∷ []) n b) (sym (length-map airings (ended_by row))) new));
+      ended = subst HaveEnded (sym is) (map_ended (airings ++ a ∷ []) row (push_ended airings a all));
+      over = λ e. subst (Unplayed (ended_from None (rows ++ row ∷ []))) (sym asks)
+          (subst (λ l. Unplayed l (open_after asked row.note)) (sym log)
+          (settled_shut law opens mode (ended_from None rows) asked row.note (omega (arith, many, h.one_each))));
     }
 
 aired_on : SettledGrows → OpenGrows → (mode : Mode) (rows : List Row) (row : Row) (asked asked' : Option Command)
-    (played played' : Option Moment) (airings airings' : List Airing) (settled' : ℕ)
+    (played played' : Option Moment) (airings added airings' : List Airing) (settled' : ℕ)
     → SoFar mode rows asked played airings
-    → Steps mode rows row asked asked' played played' airings airings' settled'
-    → Aired mode (rows ++ row ∷ []) airings'
-aired_on law opens mode rows row asked asked' None played' airings airings' settled' h s =
+    → Steps mode rows row asked asked' played played' airings added airings' settled'
+    → Aired mode (rows ++ row ∷ []) asked' airings'
+aired_on law opens mode rows row asked asked' None played' airings added airings' settled' h s =
     let quiet = quiet_row law opens mode (ended_from None rows) asked row.note (h.unplayed refl) in
     let few : settled mode (ended_from None rows ++ ended_at asked row.note []) ≤ length airings =
     omega (arith, quiet.same, h.one_each) in
-    aired_same law mode rows row asked None airings airings' h few (s.same (omega (arith, few, s.settles)))
-aired_on law opens mode rows row asked asked' (Some time) played' airings airings' settled' h s =
+    aired_few law opens mode rows row asked asked' None played' airings added airings' settled' h s few
+aired_on law opens mode rows row asked asked' (Some time) played' airings added airings' settled' h s =
     elim (ordered (length airings) settled') [
-      | inl w ↦ aired_same law mode rows row asked (Some time) airings airings' h (omega (arith, w, s.settles))
-          (s.same w)
-      | inr w ↦ aired_more law mode rows row asked time airings airings' h (omega (arith, w, s.settles))
-          (s.more w time refl)
+      | inl w ↦ aired_few law opens mode rows row asked asked' (Some time) played' airings added airings' settled' h s
+          (omega (arith, w, s.settles))
+      | inr w ↦
+          let many : length airings < settled mode (ended_from None rows ++ ended_at asked row.note []) =
+          omega (arith, w, s.settles) in
+          let all = none_open law opens mode rows row asked (Some time) airings (all_ended airings) refl h many in
+          let more = s.more w time refl in
+          aired_more law opens mode rows row asked asked' time airings airings' h s.asks many
+          (noted added airings' row (subst HaveEnded (sym more) (push_ended airings _ all)) s.notes
+          ∙ ap (map (ended_by row)) more)
     ]
 
 record Played (rows : List Row) (asked : Option Command) (played : Option Moment) : Type 0 where
@@ -437,23 +537,18 @@ some_none : (time : Moment) → ◌≡◌ {A = Option Moment} (Some time) None �
 some_none time e = cc e
 
 played_on : SettledGrows → OpenGrows → (mode : Mode) (rows : List Row) (row : Row) (asked asked' : Option Command)
-    (played played' : Option Moment) (airings airings' : List Airing) (settled' : ℕ) (b : Bool)
+    (played played' : Option Moment) (airings added airings' : List Airing) (settled' : ℕ) (b : Bool)
     → is_play_row row ≡ b → SoFar mode rows asked played airings
-    → Steps mode rows row asked asked' played played' airings airings' settled'
+    → Steps mode rows row asked asked' played played' airings added airings' settled'
     → Played (rows ++ row ∷ []) asked' played'
-played_on law opens mode rows row asked asked' played played' airings airings' settled' true is h s = record {
+played_on law opens mode rows row asked asked' played played' airings added airings' settled' true is h s = record {
   last = subst (LastPlay (rows ++ row ∷ [])) (sym (s.plays is)) (new_play rows row is);
   unplayed = λ e. absurd (some_none row.time (sym (s.plays is) ∙ e));
 }
-played_on law opens mode rows row asked asked' played played' airings airings' settled' false is h s = record {
+played_on law opens mode rows row asked asked' played played' airings added airings' settled' false is h s = record {
   last = subst (LastPlay (rows ++ row ∷ [])) (sym (s.plays_not is)) (old_play rows row played h.last is);
   unplayed = λ e.
-      let old = h.unplayed (sym (s.plays_not is) ∙ e) in
-      record {
-        shut = ap has_open_play (log_on rows row asked h.asked_is)
-            ∙ (quiet_row law opens mode (ended_from None rows) asked row.note old).shut;
-        unasked = ap asks_play s.asks ∙ asks_after asked row.note old.unasked is;
-      };
+      quiet_on law opens mode rows row asked asked' h.asked_is s.asks (h.unplayed (sym (s.plays_not is) ∙ e)) is;
 }
 
 few_on : (rows : List Row) (row : Row) (asked asked' : Option Command) → asked ≡ asked_after None rows
@@ -467,13 +562,13 @@ few_on rows row asked asked' is asks few =
     omega (arith, few, log, asked_size, room asked row.note, length-append rows (row ∷ []))
 
 pub one_row_more : SettledGrows → OpenGrows → (mode : Mode) (rows : List Row) (row : Row)
-    (asked asked' : Option Command) (played played' : Option Moment) (airings airings' : List Airing) (settled' : ℕ)
+    (asked asked' : Option Command) (played played' : Option Moment) (airings added airings' : List Airing) (settled' : ℕ)
     → SoFar mode rows asked played airings
-    → Steps mode rows row asked asked' played played' airings airings' settled'
+    → Steps mode rows row asked asked' played played' airings added airings' settled'
     → SoFar mode (rows ++ row ∷ []) asked' played' airings'
-one_row_more law opens mode rows row asked asked' played played' airings airings' settled' h s =
-    let aired = aired_on law opens mode rows row asked asked' played played' airings airings' settled' h s in
-    let plays = played_on law opens mode rows row asked asked' played played' airings airings' settled'
+one_row_more law opens mode rows row asked asked' played played' airings added airings' settled' h s =
+    let aired = aired_on law opens mode rows row asked asked' played played' airings added airings' settled' h s in
+    let plays = played_on law opens mode rows row asked asked' played played' airings added airings' settled'
     (is_play_row row) refl h s in
     record {
       asked_is = s.asks ∙ ap (λ a. open_after a row.note) h.asked_is ∙ sym (asked_on None rows row);
@@ -482,6 +577,8 @@ one_row_more law opens mode rows row asked asked' played played' airings airings
       are = aired.are;
       last = plays.last;
       unplayed = plays.unplayed;
+      ended = aired.ended;
+      over = aired.over;
     }
 
 -- what ends an exchange leaves room for it

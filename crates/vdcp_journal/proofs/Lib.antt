@@ -11,6 +11,8 @@ mod CsvRows
 mod FieldTexts
 mod JournalRows
 mod JournalSteps
+mod AiringEnds
+mod EndExamples
 mod AiringSteps
 mod RunSteps
 mod StateAgain

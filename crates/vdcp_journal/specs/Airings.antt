@@ -1,13 +1,15 @@
 -- When the events that a journal's rows report aired, and which event may have aired besides.
 use Rattle.std.specs.List.{list_any}
+use Rattle.std.specs.Option.{option_or}
 use Rattle.std.specs.Prelude.{◌≡◌, ℕ, ◌+◌, ◌||◌, ◌&&◌, Bool, false, IsTrue, Option, None, Some, List, [], ◌∷◌, ◌++◌, if◌then◌else◌, length, slice_get}
-use Rattle.vdcp_auto.specs.Commands.{is_play_command, is_status_command}
+use Rattle.vdcp_auto.specs.Commands.{is_play_command, is_status_command, is_stop_command}
 use Rattle.vdcp_auto.specs.Log.{hears}
-use Rattle.vdcp_auto.specs.Replies.{is_done, is_playing}
+use Rattle.vdcp_auto.specs.Replies.{has_off, is_done, is_playing}
 use Rattle.vdcp_auto.specs.Settled.{may_have_aired, settled}
 use Rattle.vdcp_auto.specs.declared.phase.Mode.{Mode}
 use Rattle.vdcp_journal.specs.Resume.{log_of}
 use Rattle.vdcp_journal.specs.declared.airings.Airing.{Airing}
+use Rattle.vdcp_journal.specs.declared.moment.Moment.{Moment}
 use Rattle.vdcp_journal.specs.declared.row.Note.{Note}
 use Rattle.vdcp_journal.specs.declared.row.Note.TheVariants as note
 use Rattle.vdcp_journal.specs.declared.row.Row.{Row}
@@ -29,8 +31,23 @@ is_play_row row = sends_play row.note
 abbrev pub settled_in : Mode → List Row → ℕ
 settled_in mode rows = settled mode (log_of rows)
 
+-- what is on air ends by this, or is seen to have ended: a PLAY or STOP goes out, or a state is heard with bit 2 off
+abbrev pub shows_end : Note → Bool
+shows_end (note.Sent c) = is_play_command c || is_stop_command c
+shows_end (note.Heard h) = hears (has_off 4) (Some h)
+shows_end note.Silence = false
+shows_end note.Take = false
+shows_end note.Stop = false
+shows_end (note.End outcome) = false
+shows_end (note.From k) = false
+
+-- the time of the first row that shows that
+abbrev pub end_in : List Row → Option Moment
+end_in [] = None
+end_in (row ∷ rows) = if shows_end row.note then Some row.time else end_in rows
+
 -- event k is known to have aired with the row that settles it: up to that row, and not before, the rows show more than
--- k events. It was played by the last PLAY before that row
+-- k events. It was played by the last PLAY before that row, and its end is what that row or a later one shows
 pub record IsAiring (mode : Mode) (rows : List Row) (k : ℕ) (airing : Airing) : Type 0 where
   pub before : List Row
   pub play : Row
@@ -44,6 +61,11 @@ pub record IsAiring (mode : Mode) (rows : List Row) (k : ℕ) (airing : Airing) 
   pub settles : settled_in mode (before ++ (play ∷ (between ++ (settling ∷ [])))) ≡ k + 1
   pub played : airing.played ≡ play.time
   pub known : airing.known ≡ settling.time
+  pub ended : airing.ended ≡ end_in (settling ∷ after)
+
+-- an airing after one more row
+abbrev pub ended_by : Row → Airing → Airing
+ended_by row airing = record airing { ended = option_or airing.ended (end_in (row ∷ [])) }
 
 -- after a note: a state was heard with the cue done and a clip playing, and since then at the most that this has ended. It
 -- announces a PLAY, which may have gone out before its row was safe

@@ -1,9 +1,9 @@
 //! When the events aired that the rows of a run report.
-ghost use Rattle.std.specs.Prelude.{◌≡◌, ◌≤◌, ◌<◌, ◌+◌, ◌^◌, ◌∷◌, ◌++◌, ◌||◌, [], IfOk, IsFalse, IsTrue, List, None, OnOk, Some, false, length, if◌then◌else◌};
+ghost use Rattle.std.specs.Prelude.{◌≡◌, ◌≤◌, ◌<◌, ◌+◌, ◌^◌, ◌∷◌, ◌++◌, ◌||◌, [], IfOk, IsFalse, IsTrue, List, None, OnOk, Some, false, length, if◌then◌else◌, slice_get, slice_set, ℕ};
 ghost use Rattle.vdcp_auto.specs.declared.exchange.Exchange.{Exchange};
 ghost use Rattle.vdcp_auto.specs.Log.{hears};
-ghost use Rattle.vdcp_auto.specs.Replies.{is_done, is_playing};
-ghost use Rattle.vdcp_journal.specs.Airings.{AreAirings, announces_after, announces_from, is_play_row};
+ghost use Rattle.vdcp_auto.specs.Replies.{has_off, is_done, is_playing};
+ghost use Rattle.vdcp_journal.specs.Airings.{AreAirings, announces_after, announces_from, ended_by, is_play_row, shows_end};
 ghost use Rattle.vdcp_journal.specs.Resume.{ended_at, exchange_with, open_after};
 ghost use Rattle.vdcp_judge.specs.Judging.{Knows};
 
@@ -23,14 +23,18 @@ pub struct Airing {
     pub played: Moment,
     /// It was known to have aired.
     pub known: Moment,
+    /// Its end was first seen: nothing played any more, or the next PLAY or a STOP went out. None if that wasn't seen.
+    pub ended: Option<Moment>,
 }
 
 impl Timed for Airing {
-    ghost use Rattle.vdcp_journal.specs.Times.{moment_text};
+    ghost use Rattle.vdcp_journal.specs.Times.{moment_text, moment_text_if};
 
     ghost played = { λ airing. moment_text airing.played };
 
     ghost known = { λ airing. moment_text airing.known };
+
+    ghost ended = { λ airing. moment_text_if airing.ended };
 
     fn played(&self) -> &[u8] {
         self.played.as_bytes()
@@ -38,6 +42,13 @@ impl Timed for Airing {
 
     fn known(&self) -> &[u8] {
         self.known.as_bytes()
+    }
+
+    fn ended(&self) -> &[u8] {
+        match &self.ended {
+            Some(ended) => ended.as_bytes(),
+            None => &[],
+        }
     }
 }
 
@@ -69,6 +80,7 @@ pub fn airings_in<S: Source>(
         let row = &rows[k];
         follow(&mut judge, &mut asked, &row.note);
         add_airing(&mut airings, judge.settled(), played, row.time)?;
+        note_end(&mut airings, row);
         played = last_play(played, row);
     }
     end(&mut judge, &mut asked, None);
@@ -126,13 +138,52 @@ fn add_airing(
 ) -> Result<(), AllocError>
     ensures same { OnOk result (settled ≤ length airings.old.items → airings.new.items ≡ airings.old.items) }
     ensures more { OnOk result (length airings.old.items < settled → (play : Moment) → played ≡ Some play →
-        airings.new.items ≡ airings.old.items ++ record { played = play; known = known } ∷ []) }
+        airings.new.items ≡ airings.old.items ++ record { played = play; known = known; ended = None } ∷ []) }
 {
     match played {
-        Some(played) if airings.len() < settled => airings.push(Airing { played, known })?,
+        Some(played) if airings.len() < settled => airings.push(Airing {
+            played,
+            known,
+            ended: None,
+        })?,
         _ => {}
     }
     Ok(())
+}
+
+/// Notes the end of the last airing, if a row shows it and none before did.
+fn note_end(airings: &mut Vec<Airing>, row: &Row)
+    ensures last { (k : ℕ) (last : Airing) → length airings.old.items ≡ k + 1 → slice_get airings.old.items k ≡ Some last →
+        airings.new.items ≡ slice_set airings.old.items k (ended_by row.now last) }
+    ensures none { airings.old.items ≡ [] → airings.new.items ≡ [] }
+{
+    if let Some(place) = airings.len().checked_sub(1) {
+        airings[place] = ended_by(airings[place], row);
+    }
+}
+
+/// An airing after one more row.
+fn ended_by(airing: Airing, row: &Row) -> Airing
+    ensures { result ≡ ended_by row.now airing }
+{
+    match airing.ended {
+        None if shows_end(&row.note) => Airing {
+            ended: Some(row.time),
+            ..airing
+        },
+        _ => airing,
+    }
+}
+
+/// Whether a note shows that what was on air is there no more.
+fn shows_end(note: &Note) -> bool
+    ensures { result ≡ shows_end note.now }
+{
+    match note {
+        Note::Sent(command) => matches!(command, Command::Play | Command::Stop),
+        Note::Heard(heard) => hears_idle(heard),
+        Note::Silence | Note::Take | Note::Stop | Note::End(_) | Note::From(_) => false,
+    }
 }
 
 /// When the last PLAY went out, this row included.
@@ -189,6 +240,16 @@ fn hears_playing(heard: &Heard) -> bool
 {
     match heard {
         Heard::Reply(Reply::State(_, Some(state))) => *state & PLAYING != 0,
+        _ => false,
+    }
+}
+
+/// Whether a state with no clip playing is heard.
+fn hears_idle(heard: &Heard) -> bool
+    ensures { result ≡ hears (has_off 4) (Some heard.now) }
+{
+    match heard {
+        Heard::Reply(Reply::State(_, Some(state))) => *state & PLAYING == 0,
         _ => false,
     }
 }

@@ -383,15 +383,20 @@ fn airings_from_the_middle_are_written(rt: HostRuntime) {
     let airing = Airing {
         played: time(&rt),
         known,
+        ended: None,
+    };
+    let ended = Airing {
+        ended: Some(known),
+        ..airing
     };
     let mut written = Vec::new(alloc);
     let heading = write_timed_heading(alloc, &list, &mut written);
     assert!(rt; 3 <= list.len());
-    let times = [airing, airing];
+    let times = [airing, ended];
     let events = write_timed_events(alloc, &list, Rate::F25, 1, &times, &mut written);
     let times = "2026-11-24T09:30:00.125Z,2026-11-24T09:30:01.000Z";
     let wanted = format!(in alloc;
-        "number,id,start,duration,played,known\n1,B,00:00:02:00,00:00:03:00,{times}\n2,C,,,{times}\n"
+        "number,id,start,duration,played,known,ended\n1,B,00:00:02:00,00:00:03:00,{times},\n2,C,,,{times},2026-11-24T09:30:01.000Z\n"
     ).expect(&rt, "memory");
     assert_eq!(rt;
         (heading, events, written.as_slice()),

@@ -8,18 +8,22 @@ use Rattle.vdcp_value.specs.declared.rate.Rate.{Rate}
 
 -- what the columns are, without and with those of a part
 abbrev pub timed_heading : Bool → FileRow
-timed_heading false = codes "number" ∷ codes "id" ∷ codes "played" ∷ codes "known" ∷ []
+timed_heading false = codes "number" ∷ codes "id" ∷ codes "played" ∷ codes "known" ∷ codes "ended" ∷ []
 timed_heading true =
-    codes "number" ∷ codes "id" ∷ codes "start" ∷ codes "duration" ∷ codes "played" ∷ codes "known" ∷ []
+    codes "number" ∷ codes "id" ∷ codes "start" ∷ codes "duration" ∷ codes "played" ∷ codes "known" ∷ codes "ended" ∷ []
 
--- an event's fields: those of the plain list, and its two times
-abbrev pub timed_fields : Rate → Bool → Item → List ℕ → List ℕ → FileRow
-timed_fields rate with_parts item played known = item_row rate with_parts item ++ (played ∷ known ∷ [])
+-- an event's times, of which each is of some form
+abbrev pub times_of : {T : Type 0} → (played known ended : T → List ℕ) → T → FileRow
+times_of played known ended time = played time ∷ known time ∷ ended time ∷ []
+
+-- an event's fields: those of the plain list, and its times
+abbrev pub timed_fields : Rate → Bool → Item → FileRow → FileRow
+timed_fields rate with_parts item times = item_row rate with_parts item ++ times
 
 -- the rows of these events from number k on, as far as there are times
-abbrev pub timed_rows : {T : Type 0} → (T → List ℕ) → (T → List ℕ) → Rate → Bool → ℕ → List Item → List T → List ℕ
-timed_rows played known rate with_parts k items [] = []
-timed_rows played known rate with_parts k [] (time ∷ times) = []
-timed_rows played known rate with_parts k (item ∷ items) (time ∷ times) =
-    row_text default_writer (decimal k ∷ timed_fields rate with_parts item (played time) (known time))
-    ++ timed_rows played known rate with_parts (suc k) items times
+abbrev pub timed_rows : {T : Type 0} → (T → FileRow) → Rate → Bool → ℕ → List Item → List T → List ℕ
+timed_rows row rate with_parts k items [] = []
+timed_rows row rate with_parts k [] (time ∷ times) = []
+timed_rows row rate with_parts k (item ∷ items) (time ∷ times) =
+    row_text default_writer (decimal k ∷ timed_fields rate with_parts item (row time))
+    ++ timed_rows row rate with_parts (suc k) items times

@@ -3,7 +3,7 @@ ghost use Rattle.csv.specs.Writing.{default_writer, fields_written, has_written,
 ghost use Rattle.std.specs.Io.KnownBytes.{Appends, Keeps};
 ghost use Rattle.std.specs.Prelude.{◌≡◌, ◌≢◌, ◌≤◌, ◌+◌, ◌∷◌, IfErr, IfOk, IsTrue, List, OnOk, drop, false, length, take, ℕ};
 ghost use Rattle.vdcp_list.specs.Asrun.{AppendsBeginning, are_lawful, has_part, is_lawful_event};
-ghost use Rattle.vdcp_list.specs.Timed.{timed_fields, timed_heading, timed_rows};
+ghost use Rattle.vdcp_list.specs.Timed.{timed_fields, timed_heading, timed_rows, times_of};
 ghost use Rattle.vdcp_list.specs.declared.faults.WriteFault.TheVariants.{Device};
 
 use crate::asrun::{check_parts, has_part, show_number, show_part, write_out};
@@ -15,11 +15,13 @@ use std::io::Write;
 use vdcp_auto::Source;
 use vdcp_value::{Item, Rate};
 
-/// The two times of an event, as texts.
+/// The times of an event, as texts.
 pub trait Timed {
     ghost played: { Self → List ℕ };
 
     ghost known: { Self → List ℕ };
+
+    ghost ended: { Self → List ℕ };
 
     /// When the event's last PLAY went out.
     fn played(&self) -> &[u8]
@@ -28,10 +30,14 @@ pub trait Timed {
     /// When the event was known to have aired.
     fn known(&self) -> &[u8]
         ensures { result.now ≡ known self.now };
+
+    /// When its end was seen; empty if it wasn't.
+    fn ended(&self) -> &[u8]
+        ensures { result.now ≡ ended self.now };
 }
 
 /// Writes the row that goes before a timed as-run list of a source: what the columns are. They are those of `write_asrun`,
-/// and two more.
+/// and three more.
 pub fn write_timed_heading<S: Source, W: Write, A: Allocator>(
     alloc: A,
     source: &S,
@@ -49,7 +55,7 @@ pub fn write_timed_heading<S: Source, W: Write, A: Allocator>(
     write_out(writer, text.as_slice())
 }
 
-/// Writes the rows that `write_events` writes of as many events from event `from` on as there are `times`, with two
+/// Writes the rows that `write_events` writes of as many events from event `from` on as there are `times`, with three
 /// columns more: the event's times.
 pub fn write_timed_events<S: Source, T: Timed, W: Write, A: Allocator>(
     alloc: A,
@@ -61,12 +67,12 @@ pub fn write_timed_events<S: Source, T: Timed, W: Write, A: Allocator>(
 ) -> Result<(), WriteFault>
     requires { from + length times.now ≤ length (S.items source.now) }
     ensures ok { OnOk result (Appends (W.contents writer.old) (W.contents writer.new)
-        (timed_rows T.played T.known rate (has_part (S.items source.now)) from (drop from (S.items source.now))
+        (timed_rows (times_of T.played T.known T.ended) rate (has_part (S.items source.now)) from (drop from (S.items source.now))
         times.now)) }
     ensures kept { IfErr result (λ fault. fault ≢ Device → Keeps (W.contents writer.old) (W.contents writer.new)) }
     ensures beginning { IfErr result (λ fault. fault ≡ Device
         → AppendsBeginning (W.contents writer.old) (W.contents writer.new)
-        (timed_rows T.played T.known rate (has_part (S.items source.now)) from (drop from (S.items source.now))
+        (timed_rows (times_of T.played T.known T.ended) rate (has_part (S.items source.now)) from (drop from (S.items source.now))
         times.now)) }
 {
     let end = from + times.len();
@@ -106,7 +112,7 @@ fn timed_text<'a, S: Source, T: Timed, A: Allocator>(
     requires within { from + length times.now ≤ length (S.items source.now) }
     requires lawful { IsTrue (are_lawful rate (take (from + length times.now) (S.items source.now))) }
     ensures text { IfOk result (λ text. text.items
-        ≡ timed_rows T.played T.known rate with_parts from (drop from (S.items source.now)) times.now) }
+        ≡ timed_rows (times_of T.played T.known T.ended) rate with_parts from (drop from (S.items source.now)) times.now) }
     ensures memory { IfErr result (λ fault. fault ≡ WriteFault.Memory) }
 {
     let mut rows = WriterBuilder::new().from_writer(Vec::new(alloc));
@@ -139,9 +145,17 @@ fn write_heading<W: Write + Drop>(rows: &mut Writer<W>, with_parts: bool) -> Res
     ensures clean { OnOk result (has_written rows.new ≡ false) }
 {
     if with_parts {
-        return rows.write_fields(&[b"number", b"id", b"start", b"duration", b"played", b"known"]);
+        return rows.write_fields(&[
+            b"number",
+            b"id",
+            b"start",
+            b"duration",
+            b"played",
+            b"known",
+            b"ended",
+        ]);
     }
-    rows.write_fields(&[b"number", b"id", b"played", b"known"])
+    rows.write_fields(&[b"number", b"id", b"played", b"known", b"ended"])
 }
 
 /// Writes the row of an event.
@@ -158,7 +172,7 @@ fn write_event<T: Timed, W: Write + Drop>(
     requires ended { fields_written rows.old ≡ 0 }
     requires clean { has_written rows.old ≡ false }
     ensures text { OnOk result (Appends (text_written W.contents rows.old) (text_written W.contents rows.new)
-        (row_text default_writer (number.now ∷ timed_fields rate with_parts item.now (T.played time.now) (T.known time.now)))) }
+        (row_text default_writer (number.now ∷ timed_fields rate with_parts item.now (times_of T.played T.known T.ended time.now)))) }
     ensures setup { OnOk result (writer_setup rows.new ≡ default_writer) }
     ensures ended { OnOk result (fields_written rows.new ≡ 0) }
     ensures clean { OnOk result (has_written rows.new ≡ false) }
@@ -171,6 +185,7 @@ fn write_event<T: Timed, W: Write + Drop>(
             id.as_bytes(),
             time.played(),
             time.known(),
+            time.ended(),
         ]);
     }
     let mut start = ArrayString::new();
@@ -183,5 +198,6 @@ fn write_event<T: Timed, W: Write + Drop>(
         duration.as_bytes(),
         time.played(),
         time.known(),
+        time.ended(),
     ])
 }

@@ -11,14 +11,14 @@ use Rattle.vdcp_journal.specs.Airings.{AreAirings}
 use Rattle.vdcp_journal.specs.Journals.{IsJournal}
 use Rattle.vdcp_journal.specs.Resume.{AreTold, WereLost, log_of}
 use Rattle.vdcp_journal.specs.Runs.{Run, runs_of}
-use Rattle.vdcp_journal.specs.Times.{moment_text}
+use Rattle.vdcp_journal.specs.Times.{moment_text, moment_text_if}
 use Rattle.vdcp_journal.specs.declared.airings.Airing.{Airing}
 use Rattle.vdcp_journal.specs.declared.read.Journal.{Journal}
 use Rattle.vdcp_journal.specs.declared.row.Heading.{Heading}
 use Rattle.vdcp_journal.specs.declared.row.Row.{Row}
 use Rattle.vdcp_list.specs.Asrun.{asrun_text, events_text, has_part}
 use Rattle.vdcp_list.specs.Playlists.{IsListOf}
-use Rattle.vdcp_list.specs.Timed.{timed_heading, timed_rows}
+use Rattle.vdcp_list.specs.Timed.{timed_heading, timed_rows, times_of}
 use Rattle.vdcp_record.specs.Resuming.{plan_begun, plan_of_run, state_after}
 use Rattle.vdcp_record.specs.declared.asrun.AsrunSettings.{AsrunSettings}
 use Rattle.vdcp_text.specs.Failure.{failure_line, status_of}
@@ -35,8 +35,8 @@ digest_of rate items = sha256 (asrun_text rate items (length items))
 abbrev pub reported_text : AsrunSettings → List Item → ℕ → ℕ → List Airing → List ℕ
 reported_text settings items from reported airings =
     if settings.times
-    then timed_rows (λ airing. moment_text airing.played) (λ airing. moment_text airing.known) settings.rate (has_part items)
-    from (drop from items) airings
+    then timed_rows (times_of (λ airing. moment_text airing.played) (λ airing. moment_text airing.known)
+    (λ airing. moment_text_if airing.ended)) settings.rate (has_part items) from (drop from items) airings
     else events_text settings.rate (has_part items) from (take reported (drop from items))
 
 -- what stands above them

@@ -35,12 +35,13 @@ loop-k-preserved g c =
     c.settled.ensures.settled next knows ∙ ap (λ m. settled m next) c.follow.ensures.mode in
     let so_far = one_row_more c.a_log_grows.ensures.settled c.a_log_grows.ensures.open mode front row asked
     c.follow.new.asked c.loop-k.played c.last_play-played.result c.loop-k.airings.items
-    c.add_airing.new.airings.items c.settled.result here.so_far
+    c.add_airing.new.airings.items c.note_end.new.airings.items c.settled.result here.so_far
     (record {
       asks = c.follow.ensures.asked;
       settles = count;
       same = c.in_ok-add_airing.ensures.same;
       more = c.in_ok-add_airing.ensures.more;
+      notes = record { last = c.note_end.ensures.last; none = c.note_end.ensures.none };
       plays = c.last_play-played.ensures.play;
       plays_not = c.last_play-played.ensures.other;
     }) in
@@ -51,9 +52,9 @@ loop-k-preserved g c =
           (subst (λ xs. Knows (λ source. g.S.Source.items source.now) xs c.follow.new.judge) (sym (log_on front row asked here.so_far.asked_is)) knows);
       so_far =
           subst (λ rows. SoFar c.follow.new.judge.mode rows c.follow.new.asked c.last_play-played.result
-          c.add_airing.new.airings.items) (sym more)
+          c.note_end.new.airings.items) (sym more)
           (subst (λ m. SoFar m (front ++ row ∷ []) c.follow.new.asked c.last_play-played.result
-          c.add_airing.new.airings.items) (sym c.follow.ensures.mode) so_far);
+          c.note_end.new.airings.items) (sym c.follow.ensures.mode) so_far);
     }
 
 pub returns : goal.returns

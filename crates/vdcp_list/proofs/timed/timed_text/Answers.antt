@@ -4,6 +4,7 @@ use Rattle.std.specs.Prelude.{Some, decimal, is_err}
 use Rattle.vdcp_list.proofs.Events.{at_left, lawful_at, on_ok}
 use Rattle.vdcp_list.proofs.Timings.{timed_step}
 use Rattle.vdcp_list.proofs.timed.timed_text.Goals as goal
+use Rattle.vdcp_list.specs.Timed.{times_of}
 
 pub write_event-requires-clause-lawful : goal.write_event-requires-clause-lawful
 write_event-requires-clause-lawful g c =
@@ -20,7 +21,7 @@ loop-k-preserved g c =
     c.as_str.ensures.value ∙ on_ok c.show_number.result shown c.show_number.ensures in
     record {
       text =
-          timed_step g.T.Timed.played g.T.Timed.known c.args.rate c.args.with_parts c.args.from
+          timed_step (times_of g.T.Timed.played g.T.Timed.known g.T.Timed.ended) c.args.rate c.args.with_parts c.args.from
           (drop c.args.from items) c.args.times.now c.loop-k.k c.at-item.result c.index-times-k.result
           c.as_str.result.now
           (text_written (λ text. Some text.items) c.loop-k.rows)
