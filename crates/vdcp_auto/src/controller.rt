@@ -26,7 +26,7 @@ mod table;
 /// - `hear` and `timeout` bring in what happens on the line; `receive` does both, and gives the
 ///   exchange that ended.
 /// - `take` and `stop` are calls of the operator, and `forget` withdraws them.
-/// - `tick` gives out the next command.
+/// - `tick` gives out the next command; `to_send` and then `await_answer` do the same in two steps.
 #[derive(Drop)]
 pub struct Controller<S: Source> {
     source: S,
@@ -322,14 +322,22 @@ impl<S: Source> Controller<S> {
         ensures writable { IfSome result IsWritableCommand }
         ensures after { self.new ≡ record self.old { state = turns.ticked self.old.state } }
     {
-        let Position::Ready(current) = self.position else {
-            return None;
-        };
-        let phase = if self.stop { Phase::Halt } else { current };
-        let command = self.command_in(phase);
-        self.position = Position::Awaiting(phase, command);
-        self.take = self.take && !matches!(phase, Phase::Play(_));
-        self.stop = false;
+        let command = self.to_send()?;
+        self.await_answer(&command);
         Some(command)
+    }
+
+    /// Awaits the answer to the command that `to_send` gives, as `tick` does.
+    pub fn await_answer(&mut self, command: &Command)
+        requires given { turns.given (plan_of S.items self.old) self.old.state ≡ Some command.now }
+        requires writable { IsWritableCommand command.now }
+        ensures { self.new ≡ record self.old { state = turns.ticked self.old.state } }
+    {
+        if let Position::Ready(current) = self.position {
+            let phase = if self.stop { Phase::Halt } else { current };
+            self.position = Position::Awaiting(phase, *command);
+            self.take = self.take && !matches!(phase, Phase::Play(_));
+            self.stop = false;
+        }
     }
 }

@@ -1,5 +1,5 @@
 -- A run with an operator, move by move.
-use Rattle.std.proofs.Common.{ℕ, ◌≡◌, ◌+◌, ◌-◌, ◌<◌, ◌≤◌, ◌≢◌, Bool, List, [], ◌∷◌, ◌++◌, length, refl, sym, ap, subst, ◌∙◌, arith, append-nil, append_assoc, length-append}
+use Rattle.std.proofs.Common.{ℕ, ◌≡◌, ◌+◌, ◌-◌, ◌<◌, ◌≢◌, Bool, List, [], ◌∷◌, ◌++◌, length, refl, sym, ap, subst, ◌∙◌, arith, append-nil, append_assoc, length-append}
 use Rattle.std.specs.Prelude.{◌↔◌, Option, Some, None, Result, Ok, Err, IsSome}
 use Rattle.vdcp_value.specs.declared.part.Item.{Item}
 use Rattle.vdcp_auto.specs.Course.{Reached, Take, Stop}
@@ -8,7 +8,6 @@ use Rattle.vdcp_auto.specs.Plan.{Plan, plan_of}
 use Rattle.vdcp_auto.specs.State.{State, Stage, Ready, Awaiting, Ended}
 use Rattle.vdcp_auto.specs.Turn.{given, given_in, outcome_of}
 use Rattle.vdcp_auto.specs.declared.outcome.Outcome.{Outcome}
-use Rattle.vdcp_auto.specs.declared.exchange.Exchange.{Exchange}
 use Rattle.vdcp_drive.specs.Auto.{Driving, IsReachedFrom}
 use Rattle.vdcp_drive.specs.Operated.{Scene, Parts, called, Gives, Asks, Rounds, Runs, LastRound, spent, ended, run_over, missed, IsOperated}
 use Rattle.vdcp_drive.specs.Steps.{Chain}

@@ -1,19 +1,21 @@
 -- A run leads to states that calls of a controller lead to.
-use Rattle.std.proofs.Common.{ℕ, zero, suc, ◌≡◌, ◌≤◌, List, [], ◌∷◌, ◌++◌, refl, sym, subst, ◌∙◌, append_assoc, append-nil, arith}
+use Rattle.std.proofs.Common.{ℕ, ◌≡◌, List, [], ◌∷◌, ◌++◌, refl, sym, subst, ◌∙◌, append_assoc, append-nil, arith}
 use Rattle.std.specs.Option.{option_to_list}
-use Rattle.std.specs.Prelude.{◌↔◌, Option, Some, None, Result, Ok, Err, IfOk, IsErr, IsSome}
+use Rattle.std.specs.Prelude.{◌↔◌, if◌then◌else◌, Option, Some, None, Result, Ok, Err, IfOk, IsSome, OnOk}
+use Rattle.vdcp_value.specs.declared.part.Item.{Item}
 use Rattle.vdcp_words.specs.declared.command.Command.{Command}
 use Rattle.vdcp_auto.specs.Course.{Reached, Tick, Receive, called, logged}
-use Rattle.vdcp_auto.specs.Plan.{Plan}
+use Rattle.vdcp_auto.specs.Plan.{Plan, plan_of}
 use Rattle.vdcp_auto.specs.State.{State}
 use Rattle.vdcp_auto.specs.Turn.{given, outcome_of, ticked, came_to, ended_by}
 use Rattle.vdcp_auto.specs.declared.outcome.Outcome.{Outcome}
 use Rattle.vdcp_auto.specs.declared.exchange.Exchange.{Exchange}
 use Rattle.vdcp_auto.specs.declared.exchange.Heard.{Heard}
 use Rattle.vdcp_wire.specs.Wires.{Arrival}
-use Rattle.vdcp_drive.specs.Auto.{Auto, IsReachedFrom, after, ended, gives, listens, log_of, receives}
+use Rattle.vdcp_drive.specs.Auto.{Auto, Driving, IsReachedFrom, auto_of, after, ended, gives, listens, log_of, receives}
 use Rattle.vdcp_drive.specs.Ears.{Fold, inputs}
-use Rattle.vdcp_drive.specs.Leaves.{Ending, by_itself, in_keep, in_drop, in_send, in_listen, HasRun, RunsTo}
+use Rattle.vdcp_drive.specs.Leaves.{Ending, by_itself, in_keep, in_drop, in_send, in_listen, HasRun, RunLeaves, RunsTo}
+use Rattle.vdcp_drive.specs.Lines.{is_broken}
 use Rattle.vdcp_drive.specs.Steps.{Rules, Step, World}
 use Rattle.vdcp_drive.specs.declared.keep.KeptFault.{KeptFault}
 use Rattle.vdcp_drive.specs.declared.keep.KeptFault.TheVariants as fault
@@ -108,26 +110,34 @@ led_by rules fold plan unit count a a' world world' answer h =
     ends_led fold plan unit count h.came a (after fold plan unit a h.came) answer h.more a'
     (λ log reached. (log_of fold plan unit a h.came, run_reached fold plan unit a h.came log reached)) h.ending
 
--- where the wire had failed before all stays
-stays_led : (plan : Plan) (state state' : State) (answer : Result Ran KeptFault) → IsErr answer → state' ≡ state
-    → ¬ (answer ≡ Err fault.Unkept) → Led plan state state' answer
-stays_led plan state state' (Ok r) is same other = cc
-stays_led plan state state' (Err f) is same other = record {
-  reached = λ log reached. (
-    [],
-    subst (λ (s : State). Reached plan s (log ++ [])) (sym same)
-        (subst (Reached plan state) (sym (append-nil log)) reached),
-  );
-  ended_so = tt;
-  unkept = λ unkept. absurd (other unkept);
-}
+works_by : (answer : Result Ran KeptFault) (n : ℕ) → n ≡ (if is_broken answer then 1 else 0) → OnOk answer (n ≡ 0)
+    × (answer ≡ Err fault.Unkept → n ≡ 0) × (answer ≡ Err fault.Device → n ≡ 1)
+works_by (Ok r) n is = (is, λ h. cc, λ h. cc)
+works_by (Err fault.Unkept) n is = (tt, λ h. is, λ h. cc)
+works_by (Err fault.Device) n is = (tt, λ h. cc, λ h. is)
 
-pub led_so : (plan : Plan) (n m : ℕ) (state state' : State) (answer : Result Ran KeptFault) → n ≤ 1
-    → (n ≡ 0 → Led plan state state' answer)
-    → (n ≡ 1 → IsErr answer × (state' ≡ state) × (m ≡ n)) → (answer ≡ Err fault.Unkept → m ≡ 0)
-    → Led plan state state' answer
-led_so plan zero m state state' answer few works stays unkept = works refl
-led_so plan (suc zero) m state state' answer few works stays unkept =
-    let s = stays refl in
-    stays_led plan state state' answer s.0 s.1 (λ is. absurd (omega (arith, s.2, unkept is)))
-led_so plan (suc (suc n)) m state state' answer few works stays unkept = absurd (omega (arith, few))
+-- what a run of a driver leaves that its owner sees so
+pub run_leaves : {S E W K V : Type 0} (items : S → List Item) (rules : Rules W K V) (fold : Fold E) (failures : W → ℕ)
+    (listens : ℕ) (inside old new : Driving S E W) (k k' : K) (v v' : V) (answer : Result Ran KeptFault) → inside ≡ old
+    → failures inside.wire ≡ 0
+    → HasRun rules fold (plan_of items inside.controller) inside.unit listens (auto_of inside) (auto_of new)
+    (record { wire = inside.wire; keep = k; watch = v }) (record { wire = new.wire; keep = k'; watch = v' }) answer
+    → new.controller ≡ record inside.controller { state = new.controller.state } → new.unit ≡ inside.unit
+    → failures new.wire ≡ (if is_broken answer then 1 else 0)
+    → RunLeaves items rules fold failures listens old new k k' v v' answer
+run_leaves {S} {E} {W} items rules fold failures listens inside old new k k' v v' answer seen works runs controller unit failing =
+    let led = led_by rules fold (plan_of items inside.controller) inside.unit listens (auto_of inside) (auto_of new) _ _
+    answer runs in
+    let n = works_by answer (failures new.wire) failing in
+    subst (λ (d : Driving S E W). RunLeaves items rules fold failures listens d new k k' v v' answer) seen (record {
+      runs = λ _. runs;
+      reached = led.reached;
+      ended = led.ended_so;
+      unsent = led.unkept;
+      controller = controller;
+      unit = unit;
+      works = n.0;
+      unkept = n.1;
+      device = n.2;
+      stays = λ one. absurd (omega (arith, works, one));
+    })

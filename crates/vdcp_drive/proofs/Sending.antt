@@ -1,25 +1,17 @@
 -- One command that goes out.
-use Rattle.std.proofs.Common.{ℕ, ◌≡◌, Bool, true, List, [], ◌∷◌, refl, subst}
-use Rattle.std.specs.Prelude.{Option, Some, None, is_some, Result, Ok, Err, IsErr}
+use Rattle.std.proofs.Common.{ℕ, ◌≡◌, Bool, List, [], ◌∷◌, refl, subst}
+use Rattle.std.specs.Prelude.{Some, Err}
 use Rattle.vdcp_words.specs.declared.command.Command.{Command}
 use Rattle.vdcp_auto.specs.Plan.{Plan}
 use Rattle.vdcp_auto.specs.State.{State}
 use Rattle.vdcp_auto.specs.Turn.{given, ticked}
-use Rattle.vdcp_wire.specs.Acts.{Act, sends, fails, OfFront}
-use Rattle.vdcp_drive.specs.Steps.{Chain}
-use Rattle.vdcp_drive.specs.Leaves.{HasSent, HasSendBroken, in_drop, in_send}
-use Rattle.vdcp_drive.specs.Steps.{command_bytes, dropping}
+use Rattle.vdcp_wire.specs.Acts.{Act, sends, OfFront}
+use Rattle.vdcp_drive.specs.Leaves.{HasKeptAndSent, HasSendBroken, in_send}
+use Rattle.vdcp_drive.specs.Steps.{Chain, command_bytes, dropping}
+use Rattle.vdcp_drive.specs.declared.keep.Kept.{Kept}
+use Rattle.vdcp_drive.specs.declared.keep.KeptFault.{KeptFault}
+use Rattle.vdcp_drive.specs.declared.keep.KeptFault.TheVariants as fault
 use Rattle.vdcp_drive.proofs.Chains.{chain_both}
-
-pub some_of : {A : Type 0} (o : Option A) → is_some o ≡ true → (a : A) × (o ≡ Some a)
-some_of None is = cc
-some_of (Some a) is = (a, refl)
-
-pub drop_broke : {W : Type 0} (does : Act → W → W → Type 0) (first : Bool) (plan : Plan) (unit : ℕ) (state : State)
-    (w w' : W) → is_some (given plan state) ≡ true → first ≡ true → does fails w w'
-    → HasSendBroken does first plan unit state state w w'
-drop_broke does first plan unit state w w' ready is broke =
-    let c = some_of (given plan state) ready in in_drop c.0 c.1 is refl broke
 
 pub send_broke : {W : Type 0} (does : Act → W → W → Type 0) (first : Bool) (plan : Plan) (unit : ℕ) (state state' : State)
     (c : Command) (bytes : List ℕ) (w w₁ w₂ : W) → given plan state ≡ Some c → state' ≡ ticked state
@@ -30,8 +22,10 @@ send_broke does first plan unit state state' c bytes w w₁ w₂ gives_it ticks 
     in_send c b.front b.rest gives_it ticks b.parts
     (chain_both does (dropping first) (sends b.front ∷ []) w w₁ w₂ dropped (w₂, b.is_so, refl))
 
-pub broken_so : {W F : Type 0} (does : Act → W → W → Type 0) (first : Bool) (plan : Plan) (unit : ℕ) (state state' : State)
-    (w w' : W) (r : Result Bool F) → IsErr r → HasSendBroken does first plan unit state state' w w'
-    → HasSent does first plan unit state state' w w' r
-broken_so does first plan unit state state' w w' (Ok b) is h = cc
-broken_so does first plan unit state state' w w' (Err e) is h = h
+-- the wire failed
+pub broken_by : {W K : Type 0} (does : Act → W → W → Type 0) (adds : Kept → K → K → Type 0)
+    (loses : Command → K → K → Type 0) (first : Bool) (plan : Plan) (unit : ℕ) (s s' : State) (w w' : W) (k k' : K)
+    (f : KeptFault) → f ≡ fault.Device → HasKeptAndSent does adds loses first plan unit s s' w w' k k' (Err f)
+    → HasSendBroken does first plan unit s s' w w'
+broken_by does adds loses first plan unit s s' w w' k k' fault.Device is h = h.1
+broken_by does adds loses first plan unit s s' w w' k k' fault.Unkept is h = cc

@@ -12,7 +12,7 @@ use Rattle.vdcp_wire.specs.Acts.{Act, sends, brings, fails}
 use Rattle.vdcp_drive.specs.Auto.{Auto, Driving, IsReachedFrom, auto_of, after, ended, gives, receives}
 use Rattle.vdcp_drive.specs.Ears.{Fold, inputs, ear_after}
 use Rattle.vdcp_drive.specs.Lines.{line_of}
-use Rattle.vdcp_drive.specs.Steps.{Chain, Step, acts, keeps, misses, looks, Rules, World, Happens, command_bytes, dropping, sending, ended_notes, opening, steps_of}
+use Rattle.vdcp_drive.specs.Steps.{Chain, Step, acts, keeps, misses, looks, Rules, World, Happens, command_bytes, dropping, sending, ended_notes, given_notes, opening, steps_of}
 use Rattle.vdcp_drive.specs.Traces.{until_close}
 use Rattle.vdcp_drive.specs.declared.keep.Kept.{Kept}
 use Rattle.vdcp_drive.specs.declared.keep.Kept.TheVariants as row
@@ -38,6 +38,22 @@ abbrev pub HasSent : {W E : Type 0} → (Act → W → W → Type 0) → Bool �
 HasSent does first plan unit state state' wire wire' (Ok is_sent) = (is_sent ≡ is_some (given plan state))
     × (state' ≡ ticked state) × Chain does (sending first unit (given plan state)) wire wire'
 HasSent does first plan unit state state' wire wire' (Err e) = HasSendBroken does first plan unit state state' wire wire'
+
+-- the command that is given couldn't be kept
+abbrev pub Misses : {K : Type 0} → (Command → K → K → Type 0) → Option Command → K → K → Type 0
+Misses loses None old new = ⊥
+Misses loses (Some c) old new = loses c old new
+
+-- it is kept first
+abbrev pub HasKeptAndSent : {W K : Type 0} → (Act → W → W → Type 0) → (Kept → K → K → Type 0) → (Command → K → K → Type 0)
+    → Bool → Plan → ℕ → State → State → W → W → K → K → Result Bool KeptFault → Type 0
+HasKeptAndSent does adds loses first plan unit state state' wire wire' keep keep' (Err fault.Unkept) =
+    (state' ≡ state) × (wire' ≡ wire) × Misses loses (given plan state) keep keep'
+HasKeptAndSent does adds loses first plan unit state state' wire wire' keep keep' (Err fault.Device) =
+    Chain adds (given_notes (given plan state)) keep keep' × HasSendBroken does first plan unit state state' wire wire'
+HasKeptAndSent does adds loses first plan unit state state' wire wire' keep keep' (Ok is_sent) =
+    Chain adds (given_notes (given plan state)) keep keep' × (is_sent ≡ is_some (given plan state))
+    × (state' ≡ ticked state) × Chain does (sending first unit (given plan state)) wire wire'
 
 -- A listen.
 
@@ -77,11 +93,6 @@ pub record HearsPiece {E K : Type 0} (fold : Fold E) (adds : Kept → K → K �
   pub state_is : state' ≡ receives plan (map Some (fold.hears unit piece ear)) state
   pub ear_is : ear' ≡ fold.takes unit piece ear
   pub noted : Chain adds (ended_notes (ended plan (map Some (fold.hears unit piece ear)) state)) keep keep'
-
--- the command that is given couldn't be kept
-abbrev pub Misses : {K : Type 0} → (Command → K → K → Type 0) → Option Command → K → K → Type 0
-Misses loses None old new = ⊥
-Misses loses (Some c) old new = loses c old new
 
 -- A run.
 

@@ -1,6 +1,8 @@
 -- What a driver answers to what came.
-use Rattle.std.specs.Prelude.{Option, Some, None}
+use Rattle.std.specs.Prelude.{Bool, true, false, Option, Some, None, Result, Ok, Err}
 use Rattle.vdcp_auto.specs.declared.outcome.Outcome.{Outcome}
+use Rattle.vdcp_drive.specs.declared.keep.KeptFault.{KeptFault}
+use Rattle.vdcp_drive.specs.declared.keep.KeptFault.TheVariants as fault
 use Rattle.vdcp_drive.specs.declared.line.Line.{Line}
 use Rattle.vdcp_drive.specs.declared.line.Line.TheVariants as line
 use Rattle.vdcp_drive.specs.declared.line.Ran.{Ran}
@@ -17,3 +19,15 @@ line_of close = line.Closed
 abbrev pub ran_unless_ended : Option Outcome → Ran → Ran
 ran_unless_ended (Some outcome) other = ran.Ended
 ran_unless_ended None other = other
+
+-- of a run that this listen ends
+abbrev pub ran_of : Line → Ran
+ran_of line.More = ran.Spent
+ran_of line.Ended = ran.Spent
+ran_of line.Closed = ran.Closed
+
+-- the wire failed
+abbrev pub is_broken : {A : Type 0} → Result A KeptFault → Bool
+is_broken (Ok a) = false
+is_broken (Err fault.Device) = true
+is_broken (Err fault.Unkept) = false

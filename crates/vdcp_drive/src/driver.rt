@@ -1,5 +1,5 @@
 //! The automation's end: it sends commands, and hears what comes for them.
-ghost use Rattle.std.specs.Prelude.{◌≡◌, ◌≤◌, ◌<◌, ◌↔◌, ◌∷◌, [], length, take, map, true, false, if◌then◌else◌, OnErr, OnOk, IfOk, IsErr, IsSome, Some, Err, Ok, ⊤};
+ghost use Rattle.std.specs.Prelude.{◌≡◌, ◌≢◌, ◌≤◌, ◌<◌, ◌↔◌, ◌∷◌, [], length, take, map, true, false, if◌then◌else◌, OnErr, OnOk, IfOk, IsErr, IsFalse, IsSome, IsTrue, Some, Err, Ok, ⊤};
 ghost use Rattle.std.specs.Option.{option_to_list};
 ghost use Rattle.vdcp_frame.specs.Message.{AreOctets};
 ghost use Rattle.vdcp_auto.specs.Plan.{plan_of};
@@ -7,13 +7,13 @@ ghost use Rattle.vdcp_auto.specs.Turn as turns;
 ghost use Rattle.vdcp_wire.specs.Wires.{IfTold, Told, has_closed};
 ghost use Rattle.vdcp_wire.specs.Acts.{fails};
 ghost use Rattle.vdcp_drive.specs.Auto.{IsReachedFrom, auto_of, ended, receives};
-ghost use Rattle.vdcp_drive.specs.Leaves.{HasListened, HasRun, HasSent, HearsPiece, Notes, RunLeaves};
-ghost use Rattle.vdcp_drive.specs.Lines.{ran_unless_ended};
+ghost use Rattle.vdcp_drive.specs.Leaves.{HasKeptAndSent, HasListened, HasRun, HasSent, HearsPiece, Notes, RunLeaves};
+ghost use Rattle.vdcp_drive.specs.Lines.{is_broken, ran_of, ran_unless_ended};
 ghost use Rattle.vdcp_drive.specs.Tells.{BreaksOn, RunsOn};
 ghost use Rattle.vdcp_drive.specs.Steps.{Chain, dropping, ended_notes};
 
 use crate::ear::Ear;
-use crate::keep::{Keep, KeepFault, KeptFault, Unkept, keep_next};
+use crate::keep::{Keep, KeepFault, KeptFault, Unkept};
 use crate::line::{DriveFault, Line, Ran};
 use crate::watch::{Pace, Unpaced, Unwatched, Watch};
 use std::marker::Model;
@@ -109,13 +109,19 @@ impl<S: Source, E: Ear, W: Wire> Driver<S, E, W> {
         if self.failed {
             return Err(DriveFault::Device);
         }
-        let dropping = self.ear.drops();
-        match send_next(&mut self.controller, self.unit, dropping, &mut self.wire) {
+        match send_next(
+            &mut self.controller,
+            self.unit,
+            &self.ear,
+            &mut self.wire,
+            &mut Unkept,
+        ) {
             Ok(is_sent) => Ok(is_sent),
-            Err(WireFault) => {
+            Err(KeptFault::Device) => {
                 self.failed = true;
                 Err(DriveFault::Device)
             }
+            Err(KeptFault::Unkept) => unreachable!(),
         }
     }
 
@@ -130,23 +136,6 @@ impl<S: Source, E: Ear, W: Wire> Driver<S, E, W> {
         ensures device { OnErr result (W.failures self.new.wire ≡ 1) }
         ensures stays { W.failures self.old.wire ≡ 1 → IsErr result × (self.new ≡ self.old) }
     {
-        self.listen_noting(&mut Unkept)
-    }
-
-    // As `listen`, and has what ended an exchange noted.
-    fn listen_noting<K: Keep>(&mut self, keep: &mut K) -> Result<Line, DriveFault>
-        ensures hears { W.failures self.old.wire ≡ 0 → HasListened W.does E.fold (plan_of S.items self.old.controller)
-            self.old.unit (Notes K.adds E.fold (plan_of S.items self.old.controller) self.old.unit
-            self.old.controller.state self.old.ear keep.old keep.new)
-            self.old.controller.state self.old.ear self.old.wire
-            self.new.controller.state self.new.ear self.new.wire result }
-        ensures unnoted { OnErr result (keep.new ≡ keep.old) }
-        ensures controller { self.new.controller ≡ record self.old.controller { state = self.new.controller.state } }
-        ensures unit { self.new.unit ≡ self.old.unit }
-        ensures works { OnOk result (W.failures self.new.wire ≡ 0) }
-        ensures device { OnErr result (W.failures self.new.wire ≡ 1) }
-        ensures stays { W.failures self.old.wire ≡ 1 → IsErr result × (self.new ≡ self.old) }
-    {
         if self.failed {
             return Err(DriveFault::Device);
         }
@@ -155,7 +144,7 @@ impl<S: Source, E: Ear, W: Wire> Driver<S, E, W> {
             self.unit,
             &mut self.ear,
             &mut self.wire,
-            keep,
+            &mut Unkept,
         ) {
             Ok(line) => Ok(line),
             Err(WireFault) => {
@@ -206,103 +195,174 @@ impl<S: Source, E: Ear, W: Wire> Driver<S, E, W> {
             E.fold W.failures listens self.old self.new keep.old keep.new watch.old watch.new result }
         ensures fails { result ≡ Err KeptFault.Unkept → K.can_fail }
     {
-        self.run_through(listens, watch, keep, pace)
-    }
-
-    // As `run_with`, clause by clause.
-    fn run_through<V: Watch<S>, K: Keep, P: Pace<S>>(
-        &mut self,
-        listens: u64,
-        watch: &mut V,
-        keep: &mut K,
-        pace: &mut P,
-    ) -> Result<Ran, KeptFault>
-        ensures runs { W.failures self.old.wire ≡ 0 → HasRun
-            (record { does = W.does; adds = K.adds; loses = K.loses; sees = V.sees }) E.fold
-            (plan_of S.items self.old.controller) self.old.unit listens (auto_of self.old) (auto_of self.new) (record { wire = self.old.wire; keep = keep.old; watch = watch.old })
-            (record { wire = self.new.wire; keep = keep.new; watch = watch.new }) result }
-        ensures controller { self.new.controller ≡ record self.old.controller { state = self.new.controller.state } }
-        ensures unit { self.new.unit ≡ self.old.unit }
-        ensures fails { result ≡ Err KeptFault.Unkept → K.can_fail }
-        ensures works { OnOk result (W.failures self.new.wire ≡ 0) }
-        ensures unsent { result ≡ Err KeptFault.Unkept → W.failures self.new.wire ≡ 0 }
-        ensures device { result ≡ Err KeptFault.Device → W.failures self.new.wire ≡ 1 }
-        ensures stays { W.failures self.old.wire ≡ 1 → IsErr result × (self.new ≡ self.old)
-            × (keep.new ≡ keep.old) × (watch.new ≡ watch.old) }
-    {
         if self.failed {
             return Err(KeptFault::Device);
         }
-        let mut made = 0;
-        'listens: while made < listens {
-            pace.wait(&self.controller);
-            if let Err(KeepFault) = keep_next(&self.controller, keep) {
-                return Err(KeptFault::Unkept);
-            }
-            if let Err(DriveFault::Device) = self.send() {
-                return Err(KeptFault::Device);
-            }
-            if !self.controller().awaiting() {
-                return Ok(Ran::Ended);
-            }
-            watch.look(&self.controller);
-            let line = match self.listen_noting(keep) {
-                Ok(line) => line,
-                Err(DriveFault::Device) => return Err(KeptFault::Device),
-            };
-            made += 1;
-            if let Line::Closed = line {
-                return Ok(self.unless_ended(Ran::Closed));
-            }
-        }
-        Ok(self.unless_ended(Ran::Spent))
-    }
-
-    // That the controller has ended goes before any other answer.
-    fn unless_ended(&self, ran: Ran) -> Ran
-        ensures { result ≡ ran_unless_ended (turns.outcome_of self.now.controller.state.stage) ran }
-    {
-        match self.controller.outcome() {
-            Some(_) => Ran::Ended,
-            None => ran,
-        }
+        let ran = run_rounds(
+            &mut self.controller,
+            self.unit,
+            &mut self.ear,
+            &mut self.wire,
+            listens,
+            watch,
+            keep,
+            pace,
+        );
+        self.failed = is_broken(ran);
+        ran
     }
 }
 
-// Sends the next command, if there is one. Answers whether there was one.
-fn send_next<S: Source, W: Wire>(
+// Runs an automation for so many listens.
+fn run_rounds<S: Source, E: Ear, W: Wire, V: Watch<S>, K: Keep, P: Pace<S>>(
     controller: &mut Controller<S>,
     unit: u8,
-    first: bool,
+    ear: &mut E,
     wire: &mut W,
-) -> Result<bool, WireFault>
+    listens: u64,
+    watch: &mut V,
+    keep: &mut K,
+    pace: &mut P,
+) -> Result<Ran, KeptFault>
     requires unit { unit ≤ 15 }
     requires works { W.failures wire.old ≡ 0 }
-    ensures sends { HasSent W.does first (plan_of S.items controller.old) unit controller.old.state
-        controller.new.state wire.old wire.new result }
+    ensures runs { HasRun (record { does = W.does; adds = K.adds; loses = K.loses; sees = V.sees }) E.fold
+        (plan_of S.items controller.old) unit listens
+        (record { ear = ear.old; state = controller.old.state })
+        (record { ear = ear.new; state = controller.new.state })
+        (record { wire = wire.old; keep = keep.old; watch = watch.old })
+        (record { wire = wire.new; keep = keep.new; watch = watch.new }) result }
     ensures controller { controller.new ≡ record controller.old { state = controller.new.state } }
-    ensures works { OnOk result (W.failures wire.new ≡ 0) }
-    ensures failed { OnErr result (W.failures wire.new ≡ 1) }
+    ensures fails { result ≡ Err KeptFault.Unkept → K.can_fail }
+    ensures failures { W.failures wire.new ≡ (if is_broken result then 1 else 0) }
 {
-    if !controller.is_ready() {
+    let mut made = 0;
+    'listens: while made < listens {
+        let ran = run_round(controller, unit, ear, wire, watch, keep, pace);
+        if !is_spent(ran) {
+            return ran;
+        }
+        made += 1;
+    }
+    Ok(unless_ended(controller, Ran::Spent))
+}
+
+// Runs an automation for one listen: before it the next command goes out.
+fn run_round<S: Source, E: Ear, W: Wire, V: Watch<S>, K: Keep, P: Pace<S>>(
+    controller: &mut Controller<S>,
+    unit: u8,
+    ear: &mut E,
+    wire: &mut W,
+    watch: &mut V,
+    keep: &mut K,
+    pace: &mut P,
+) -> Result<Ran, KeptFault>
+    requires unit { unit ≤ 15 }
+    requires works { W.failures wire.old ≡ 0 }
+    ensures runs { HasRun (record { does = W.does; adds = K.adds; loses = K.loses; sees = V.sees }) E.fold
+        (plan_of S.items controller.old) unit 1
+        (record { ear = ear.old; state = controller.old.state })
+        (record { ear = ear.new; state = controller.new.state })
+        (record { wire = wire.old; keep = keep.old; watch = watch.old })
+        (record { wire = wire.new; keep = keep.new; watch = watch.new }) result }
+    ensures controller { controller.new ≡ record controller.old { state = controller.new.state } }
+    ensures fails { result ≡ Err KeptFault.Unkept → K.can_fail }
+    ensures failures { W.failures wire.new ≡ (if is_broken result then 1 else 0) }
+{
+    pace.wait(controller);
+    if let Err(fault) = send_next(controller, unit, ear, wire, keep) {
+        return Err(fault);
+    }
+    if !controller.awaiting() {
+        return Ok(Ran::Ended);
+    }
+    watch.look(controller);
+    match hear(controller, unit, ear, wire, keep) {
+        Ok(line) => Ok(unless_ended(controller, ran_of(line))),
+        Err(WireFault) => Err(KeptFault::Device),
+    }
+}
+
+// That the controller has ended goes before any other answer.
+fn unless_ended<S: Source>(controller: &Controller<S>, ran: Ran) -> Ran
+    ensures { result ≡ ran_unless_ended (turns.outcome_of controller.now.state.stage) ran }
+{
+    match controller.outcome() {
+        Some(_) => Ran::Ended,
+        None => ran,
+    }
+}
+
+// What a listen makes of a run, of which it was the last.
+fn ran_of(line: Line) -> Ran
+    ensures { result ≡ ran_of line }
+{
+    match line {
+        Line::More | Line::Ended => Ran::Spent,
+        Line::Closed => Ran::Closed,
+    }
+}
+
+/// All listens of a run were made.
+pub(crate) fn is_spent(ran: Result<Ran, KeptFault>) -> bool
+    ensures spent { IsTrue result → ran ≡ Ok Ran.Spent }
+    ensures not { IsFalse result → ran ≢ Ok Ran.Spent }
+{
+    matches!(ran, Ok(Ran::Spent))
+}
+
+// The wire failed in a run.
+fn is_broken(ran: Result<Ran, KeptFault>) -> bool
+    ensures { result ≡ is_broken ran }
+{
+    matches!(ran, Err(KeptFault::Device))
+}
+
+// Has the next command kept, if there is one, and sends it. Answers whether there was one.
+fn send_next<S: Source, E: Ear, W: Wire, K: Keep>(
+    controller: &mut Controller<S>,
+    unit: u8,
+    ear: &E,
+    wire: &mut W,
+    keep: &mut K,
+) -> Result<bool, KeptFault>
+    requires unit { unit ≤ 15 }
+    requires works { W.failures wire.old ≡ 0 }
+    ensures sends { HasKeptAndSent W.does K.adds K.loses E.fold.drops (plan_of S.items controller.old) unit
+        controller.old.state controller.new.state wire.old wire.new keep.old keep.new result }
+    ensures controller { controller.new ≡ record controller.old { state = controller.new.state } }
+    ensures fails { result ≡ Err KeptFault.Unkept → K.can_fail }
+    ensures failures { W.failures wire.new ≡ (if is_broken result then 1 else 0) }
+{
+    let Some(command) = controller.to_send() else {
         return Ok(false);
+    };
+    if let Err(KeepFault) = keep.keep_sent(&command) {
+        return Err(KeptFault::Unkept);
     }
-    drop_first(first, wire)?;
-    if let Some(command) = controller.tick() {
-        wire.send(command.encode(unit).as_slice())?;
+    if let Err(WireFault) = drop_first(ear, wire) {
+        return Err(KeptFault::Device);
     }
-    Ok(true)
+    controller.await_answer(&command);
+    match wire.send(command.encode(unit).as_slice()) {
+        Ok(()) => Ok(true),
+        Err(WireFault) => Err(KeptFault::Device),
+    }
 }
 
 // Drops what waits, if that is to be done first.
-fn drop_first<W: Wire>(first: bool, wire: &mut W) -> Result<(), WireFault>
+fn drop_first<E: Ear, W: Wire>(ear: &E, wire: &mut W) -> Result<(), WireFault>
     requires { W.failures wire.old ≡ 0 }
-    ensures dropped { OnOk result (Chain W.does (dropping first) wire.old wire.new) }
-    ensures nothing { OnErr result ((first ≡ true) × W.does fails wire.old wire.new) }
+    ensures dropped { OnOk result (Chain W.does (dropping E.fold.drops) wire.old wire.new) }
+    ensures nothing { OnErr result ((E.fold.drops ≡ true) × W.does fails wire.old wire.new) }
     ensures works { OnOk result (W.failures wire.new ≡ 0) }
     ensures failed { OnErr result (W.failures wire.new ≡ 1) }
 {
-    if first { wire.drop_waiting() } else { Ok(()) }
+    if ear.drops() {
+        wire.drop_waiting()
+    } else {
+        Ok(())
+    }
 }
 
 // Listens once, hears what came, and has the end of each exchange noted.

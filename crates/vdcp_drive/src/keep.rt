@@ -1,13 +1,7 @@
 //! What is kept of an automation's exchanges, each command before it goes out.
-ghost use Rattle.std.specs.Prelude.{◌≡◌, OnErr, OnOk};
-ghost use Rattle.vdcp_auto.specs.Plan.{plan_of};
-ghost use Rattle.vdcp_auto.specs.Turn as turns;
-ghost use Rattle.vdcp_drive.specs.Leaves.{Misses};
-ghost use Rattle.vdcp_drive.specs.Steps.{Chain, given_notes};
-
 use crate::operator::Call;
 use thiserror::Error;
-use vdcp_auto::{Controller, Heard, Source};
+use vdcp_auto::Heard;
 use vdcp_words::Command;
 
 /// What is kept of an exchange.
@@ -95,22 +89,5 @@ impl Keep for Unkept {
 
     fn keep_call(&mut self, _call: Call) -> Result<(), KeepFault> {
         Ok(())
-    }
-}
-
-/// Has the command kept that goes out next, if one does.
-pub(crate) fn keep_next<S: Source, K: Keep>(
-    controller: &Controller<S>,
-    keep: &mut K,
-) -> Result<(), KeepFault>
-    ensures kept { OnOk result (Chain K.adds (given_notes (turns.given (plan_of S.items controller.now)
-        controller.now.state)) keep.old keep.new) }
-    ensures lost { OnErr result (Misses K.loses (turns.given (plan_of S.items controller.now)
-        controller.now.state) keep.old keep.new) }
-    ensures fails { OnErr result K.can_fail }
-{
-    match controller.to_send() {
-        Some(command) => keep.keep_sent(&command),
-        None => Ok(()),
     }
 }

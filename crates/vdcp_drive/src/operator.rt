@@ -6,7 +6,7 @@ ghost use Rattle.vdcp_drive.specs.Auto.{IsReachedFrom};
 ghost use Rattle.vdcp_drive.specs.declared.operator.Call.{Call};
 ghost use Rattle.vdcp_drive.specs.Operated.{Gives, IsOperated, called_driver};
 
-use crate::driver::Driver;
+use crate::driver::{Driver, is_spent};
 use crate::ear::Ear;
 use crate::keep::{Keep, KeepFault, KeptFault};
 use crate::line::Ran;
@@ -119,12 +119,4 @@ impl<S: Source, E: Ear, W: Wire> Driver<S, E, W> {
             Call::Stop => self.stop(),
         }
     }
-}
-
-// All listens of a run were made.
-fn is_spent(ran: Result<Ran, KeptFault>) -> bool
-    ensures spent { IsTrue result → ran ≡ Ok Ran.Spent }
-    ensures not { IsFalse result → ran ≢ Ok Ran.Spent }
-{
-    matches!(ran, Ok(Ran::Spent))
 }

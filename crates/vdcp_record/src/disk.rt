@@ -24,7 +24,7 @@ pub trait Disk {
     /// Those of them that are safe, if they are known.
     ghost safe: { Self → Option (List ℕ) } = { λ _. None };
 
-    /// Writes behind the last byte, as `Write` does.
+    /// Appends the first of these bytes, and gives how many, as `Write` does.
     fn write_some(&mut self, bytes: &[u8]) -> io::Result<usize>
         ensures bound { WritesAtMost result bytes.now }
         ensures bytes { WriteAppends (written self.old) (written self.new) result bytes.now }

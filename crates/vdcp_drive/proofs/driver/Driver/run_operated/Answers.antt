@@ -1,10 +1,10 @@
-use Rattle.std.proofs.Common.{◌≡◌, ◌+◌, refl, sym, ap, subst, ◌∙◌, arith}
+use Rattle.std.proofs.Common.{◌≡◌, refl, sym, ap, subst, ◌∙◌, arith}
 use Rattle.std.specs.Prelude.{◌↔◌, IfOk, IsSome, Ok, Result, is_some}
 use Rattle.vdcp_auto.specs.Plan.{Plan, View, plan_of}
 use Rattle.vdcp_auto.specs.Turn.{outcome_of}
 use Rattle.vdcp_drive.specs.Auto.{IsReachedFrom}
 use Rattle.vdcp_drive.specs.Operated.{Parts}
-use Rattle.vdcp_drive.proofs.Operating.{going_on, led_on, stood_here, round_more, round_over, spent_over, ended_over, missed_over, said_led, spent_going}
+use Rattle.vdcp_drive.proofs.Operating.{led_on, round_more, round_over, spent_over, ended_over, missed_over, said_led, spent_going}
 use Rattle.vdcp_drive.specs.declared.keep.KeptFault.{KeptFault}
 use Rattle.vdcp_drive.specs.declared.line.Ran.{Ran}
 use Rattle.vdcp_drive.specs.declared.line.Ran.TheVariants as ran

@@ -2,7 +2,6 @@ use Rattle.std.specs.Prelude.{◌-◌, ◌≡◌, ◌≤◌, None}
 use Rattle.vdcp_auto.specs.Plan.{plan_of}
 use Rattle.vdcp_auto.specs.Turn.{outcome_of}
 use Rattle.vdcp_drive.specs.Auto.{IsReachedFrom}
-use Rattle.vdcp_drive.specs.Operated.{Parts, Scene}
 use Rattle.vdcp_drive.proofs.Operating.{Stood}
 use Rattle.vdcp_drive.proofs.driver.Driver.run_operated.Given as goal
 
