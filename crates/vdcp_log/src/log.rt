@@ -44,6 +44,8 @@ pub struct Log<L: io::Write> {
     lines: Cell<Option<Lines<L>>>,
     rows: Cell<Option<Lines<L>>>,
     scope: Scope,
+    // What passes on the line is read: each message is told or captured.
+    reads: bool,
     pub(crate) side: Side,
 }
 
@@ -64,6 +66,7 @@ impl<L: io::Write + Drop> Log<L> {
             Telling::All(writer) => (Scope::All, Some(Lines::new(writer))),
         };
         Log {
+            reads: matches!(scope, Scope::All) || capture.is_some(),
             lines: Cell::new(lines),
             rows: Cell::new(capture.map(|writer| Lines::new(writer))),
             scope,
@@ -127,7 +130,7 @@ impl fmt::Display for Direction {
 
 /// A wire that tells what came by another wire or went out there: to a log each message, and each end of a burst that
 /// isn't clean, which are the lines of the burst's reading with words, but for `clean`; to a capture all bytes, and each
-/// silence after which an automation waits no longer.
+/// silence after which an automation waits no longer. If neither is told, nothing is read.
 ///
 /// What comes is read as it is heard. Where that is at once, reading begins anew after each message, so a burst may have
 /// any length, and what a silence has torn is read on. A row of a capture has the bytes of one message as it was heard, or
@@ -178,6 +181,9 @@ impl<W: Wire, L: io::Write + Drop> Wire for Logged<'_, W, L> {
 
     fn send(&mut self, bytes: &[u8]) -> Result<(), WireFault> {
         self.wire.send(bytes)?;
+        if !self.log.reads {
+            return Ok(());
+        }
         self.awaits = true;
         self.row.part(self.log);
         let mut sent = Some(Reader::new());
@@ -189,6 +195,9 @@ impl<W: Wire, L: io::Write + Drop> Wire for Logged<'_, W, L> {
 
     fn listen(&mut self, buffer: &mut [u8; PIECE]) -> Result<Came, WireFault> {
         let came = self.wire.listen(buffer)?;
+        if !self.log.reads {
+            return Ok(came);
+        }
         match came {
             Came::Bytes(n) => {
                 let piece = &buffer[..n];
