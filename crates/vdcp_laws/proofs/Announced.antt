@@ -1,34 +1,41 @@
--- A PLAY that may have gone out without its row, since what came last announced it.
-use Rattle.std.proofs.Common.{◌≡◌, ℕ, zero, suc, All, Bool, true, false, List, [], ◌∷◌, ◌++◌, Option, None, Some, append-nil, append_assoc, refl, sym, ap, length, subst, ◌∙◌, true≢false}
+-- A PLAY that what was heard last announces, and that may have gone out without its row.
+use Rattle.std.proofs.Common.{◌≡◌, ◌⊎◌, inl, inr, ℕ, zero, suc, All, Bool, true, false, List, [], ◌∷◌, ◌++◌, Option, None, Some, append-nil, append_assoc, refl, sym, ap, ap₂, length, subst, ◌∙◌, true≢false}
 use Rattle.std.proofs.lemmas.List.Elements.{All-head, All-tail}
-use Rattle.std.specs.Option.{option_map, option_map_or, option_to_list}
-use Rattle.std.specs.Prelude.{IsSome, IsTrue, if◌then◌else◌, insert, is_some, remove, slice_get}
+use Rattle.std.specs.Option.{option_map, option_to_list}
+use Rattle.std.specs.Prelude.{IsSome, IsTrue, if◌then◌else◌, insert, is_some, not, ◌&&◌, remove, slice_get}
+use Rattle.vdcp_auto.specs.Commands.{is_sense}
+use Rattle.vdcp_auto.specs.Course.{logged}
 use Rattle.vdcp_auto.specs.Heard.{heard_in}
 use Rattle.vdcp_auto.specs.Plan.{Plan}
+use Rattle.vdcp_auto.specs.Replies.{is_receipt}
 use Rattle.vdcp_auto.specs.State.{Stage, Ready, Awaiting, Ended, State}
-use Rattle.vdcp_auto.specs.Turn.{awaited, awaited_in, came_to, ended_by, ended_in, exchange_of, given, given_in, outcome_of, taken, tick_in, ticked}
+use Rattle.vdcp_auto.specs.Turn.{awaited, came_to, ended_by, exchange_of, given, given_in, outcome_of, taken, tick_in, ticked}
 use Rattle.vdcp_auto.specs.declared.exchange.Exchange.{Exchange}
 use Rattle.vdcp_auto.specs.declared.exchange.Heard.{Heard}
 use Rattle.vdcp_auto.specs.declared.exchange.Heard.TheVariants as heard
 use Rattle.vdcp_auto.specs.declared.phase.Mode.{Mode}
 use Rattle.vdcp_auto.specs.declared.phase.Mode.TheVariants.{Plain, Confirming}
-use Rattle.vdcp_journal.specs.Thinned.{IsThinned, asks_state, before_play, hears_done, hears_free, whole}
+use Rattle.vdcp_journal.specs.Thinned.{IsThinned, asks_state, before_play, hears_done, hears_free, takes, whole, without}
 use Rattle.vdcp_journal.specs.declared.row.Note.{Note}
 use Rattle.vdcp_journal.specs.declared.row.Note.TheVariants as note
-use Rattle.vdcp_laws.proofs.Journaled.{given_awaited, none_awaited, one_silence, plan_stays, plan_stays_in}
-use Rattle.vdcp_laws.specs.Kills.{Announces, IsQuiet, IsRun, announced_notes, happened, heard_twice, hearing, killed, end_notes, heard_notes, taking, ticking}
-use Rattle.vdcp_late.specs.Damage.{can_become_up, is_junk_up, replaced, with_damage, with_junk}
+use Rattle.vdcp_laws.proofs.Commands.{awaits_none_in, exchange_is, left_by, not_ended}
+use Rattle.vdcp_laws.proofs.Journaled.{asked, given_awaited, one_silence, plan_stays, plan_stays_in}
+use Rattle.vdcp_laws.proofs.Twice.{given_last, last_more}
+use Rattle.vdcp_laws.specs.Announced.{Announces, came_again, heard_from, heard_last, played_notes}
+use Rattle.vdcp_laws.specs.Kills.{IsOfRun, IsRun, begun, happened, heard_notes, killed, end_notes, notes_of, played, silence_notes, stray_notes}
+use Rattle.vdcp_late.specs.Damage.{can_become, is_junk_down, replaced, with_damage, with_junk}
 use Rattle.vdcp_late.specs.GoingOn.{IsNoTick, gone_on}
-use Rattle.vdcp_late.specs.LateChannel.{LateChannel, after_late_event, after_late_events, command_bursts, oldest, without_oldest}
+use Rattle.vdcp_late.specs.LateChannel.{LateChannel, after_late_event, after_late_events, bursts_of, command_bursts, oldest, without_oldest}
 use Rattle.vdcp_late.specs.declared.event.LateEvent.{LateEvent}
 use Rattle.vdcp_late.specs.declared.event.LateEvent.TheVariants as event
-use Rattle.vdcp_port.specs.Answers.{after_burst}
+use Rattle.vdcp_port.specs.Answers.{after_burst, aired_for, sent_for}
 use Rattle.vdcp_port.specs.Clock.{ClockedPort, after_ended, after_frame, after_ready}
+use Rattle.vdcp_value.specs.declared.part.Item.{Item}
 use Rattle.vdcp_words.specs.declared.command.Command.{Command}
 use Rattle.vdcp_words.specs.declared.command.Command.TheVariants as command
 use Rattle.vdcp_words.specs.declared.reply.Reply.{Reply}
 use Rattle.vdcp_words.specs.declared.reply.Reply.TheVariants.{Ack, Nak}
-use Rattle.vdcp_world.specs.Channel.{log_hearing, state_hearing, state_straying}
+use Rattle.vdcp_world.specs.Channel.{log_hearing, log_straying, state_hearing, state_straying}
 
 -- What stays.
 
@@ -68,150 +75,29 @@ units_stay : UnitStays → (c : LateChannel) (events : List LateEvent)
 units_stay stays c [] = refl
 units_stay stays c (e ∷ events) = units_stay stays (after_late_event c e) events ∙ unit_stays stays c e
 
--- the controller, if it awaits nothing
-unheard : (plan : Plan) (s : State) (came : Option Heard) → awaited plan s ≡ None → came_to plan came s ≡ s
-unheard plan s came none =
-    ap (λ (o : Option Command). option_map_or (λ e. ended_in plan s.stage e s) (exchange_of plan.mode came o) s) none
+-- The line with another controller, and more bursts behind what is on the way down.
 
-hears_nothing : (plan : Plan) (s : State) (came : Option Heard) → awaited plan s ≡ None → state_hearing plan came s ≡ s
-hears_nothing plan s None none = refl
-hears_nothing plan s (Some h) none = unheard plan s (Some h) none
-
-strays : (mode : Mode) (plan : Plan) (s : State) (receipt : Reply) → awaited plan s ≡ None
-    → state_straying mode plan receipt s ≡ s
-strays Plain plan s receipt none = refl
-strays Confirming plan s receipt none = unheard plan s (Some (heard.Reply receipt)) none
-
-quiet_one : (c : LateChannel) (e : LateEvent) → IsQuiet e → awaited c.plan c.state ≡ None
-    → (after_late_event c e).state ≡ c.state
-quiet_one c event.Tick quiet none = absurd quiet
-quiet_one c event.Down quiet none = refl
-quiet_one c event.Up quiet none = hears_nothing c.plan c.state (heard_in c.port.state.unit (oldest c.up)) none
-quiet_one c event.DownCopy quiet none = refl
-quiet_one c event.UpCopy quiet none = hears_nothing c.plan c.state (heard_in c.port.state.unit (oldest c.up)) none
-quiet_one c (event.LoseDown place) quiet none = refl
-quiet_one c (event.LoseUp place) quiet none = refl
-quiet_one c (event.AlterDown place bytes) quiet none = refl
-quiet_one c (event.AlterUp place bytes) quiet none = refl
-quiet_one c (event.JunkDown place bytes) quiet none = refl
-quiet_one c (event.JunkUp place bytes) quiet none = refl
-quiet_one c event.Timeout quiet none = unheard c.plan c.state None none
-quiet_one c event.Ready quiet none = refl
-quiet_one c event.End quiet none = refl
-quiet_one c event.Frame quiet none = refl
-quiet_one c event.Take quiet none = absurd quiet
-quiet_one c event.Stop quiet none = absurd quiet
-quiet_one c event.ServerAnew quiet none = refl
-quiet_one c event.AutomationAnew quiet none = absurd quiet
-quiet_one c event.StrayAck quiet none = strays c.plan.mode c.plan c.state Ack none
-quiet_one c (event.StrayNak byte) quiet none = strays c.plan.mode c.plan c.state (Nak byte) none
-
-quiet_all : (c : LateChannel) (quiet : List LateEvent) → All IsQuiet quiet → awaited c.plan c.state ≡ None
-    → (after_late_events c quiet).state ≡ c.state
-quiet_all c [] all none = refl
-quiet_all c (e ∷ quiet) all none =
-    let one = quiet_one c e (All-head IsQuiet e quiet all) none in
-    quiet_all (after_late_event c e) quiet (All-tail IsQuiet e quiet all)
-    (ap (λ (p : Plan). awaited p (after_late_event c e).state) (plan_stays c e) ∙ ap (awaited c.plan) one ∙ none)
-    ∙ one
-
--- The line with another controller.
-
--- a channel with this state and log
-abbrev beside : LateChannel → State → List Exchange → LateChannel
-beside t s l = record t { state = s; log = l }
-
--- and with this burst before what is on the way up
-abbrev behind : LateChannel → State → List Exchange → List ℕ → LateChannel
-behind t s l b = record t { state = s; log = l; up = b ∷ t.up }
-
-record Beside (t u : LateChannel) : Type 0 where
-  state : State
-  log : List Exchange
-  is : u ≡ beside t state log
-
--- no event but a tick heeds the controller
-beside_one : (t : LateChannel) (s : State) (l : List Exchange) (e : LateEvent) → IsNoTick e
-    → Beside (after_late_event t e) (after_late_event (beside t s l) e)
-beside_one t s l event.Tick quiet = absurd quiet
-beside_one t s l event.Down quiet = record { state = _; log = _; is = refl }
-beside_one t s l event.Up quiet = record {
-  state = (after_late_event (beside t s l) event.Up).state;
-  log = (after_late_event (beside t s l) event.Up).log;
-  is = refl;
-}
-beside_one t s l event.DownCopy quiet = record { state = s; log = l; is = refl }
-beside_one t s l event.UpCopy quiet = record {
-  state = (after_late_event (beside t s l) event.UpCopy).state;
-  log = (after_late_event (beside t s l) event.UpCopy).log;
-  is = refl;
-}
-beside_one t s l (event.LoseDown place) quiet = record { state = s; log = l; is = refl }
-beside_one t s l (event.LoseUp place) quiet = record { state = s; log = l; is = refl }
-beside_one t s l (event.AlterDown place bytes) quiet = record { state = s; log = l; is = refl }
-beside_one t s l (event.AlterUp place bytes) quiet = record { state = s; log = l; is = refl }
-beside_one t s l (event.JunkDown place bytes) quiet = record { state = s; log = l; is = refl }
-beside_one t s l (event.JunkUp place bytes) quiet = record { state = s; log = l; is = refl }
-beside_one t s l event.Timeout quiet = record {
-  state = (after_late_event (beside t s l) event.Timeout).state;
-  log = (after_late_event (beside t s l) event.Timeout).log;
-  is = refl;
-}
-beside_one t s l event.Ready quiet = record { state = s; log = l; is = refl }
-beside_one t s l event.End quiet = record { state = s; log = l; is = refl }
-beside_one t s l event.Frame quiet = record { state = s; log = l; is = refl }
-beside_one t s l event.Take quiet = record {
-  state = (after_late_event (beside t s l) event.Take).state;
-  log = l;
-  is = refl;
-}
-beside_one t s l event.Stop quiet = record {
-  state = (after_late_event (beside t s l) event.Stop).state;
-  log = l;
-  is = refl;
-}
-beside_one t s l event.ServerAnew quiet = record { state = s; log = l; is = refl }
-beside_one t s l event.AutomationAnew quiet = record {
-  state = (after_late_event (beside t s l) event.AutomationAnew).state;
-  log = (after_late_event (beside t s l) event.AutomationAnew).log;
-  is = refl;
-}
-beside_one t s l event.StrayAck quiet = record {
-  state = (after_late_event (beside t s l) event.StrayAck).state;
-  log = (after_late_event (beside t s l) event.StrayAck).log;
-  is = refl;
-}
-beside_one t s l (event.StrayNak byte) quiet = record {
-  state = (after_late_event (beside t s l) (event.StrayNak byte)).state;
-  log = (after_late_event (beside t s l) (event.StrayNak byte)).log;
-  is = refl;
-}
-
-beside_all : (t : LateChannel) (s : State) (l : List Exchange) (since : List LateEvent) → All IsNoTick since
-    → Beside (after_late_events t since) (after_late_events (beside t s l) since)
-beside_all t s l [] quiet = record { state = s; log = l; is = refl }
-beside_all t s l (e ∷ since) quiet =
-    let one = beside_one t s l e (All-head IsNoTick e since quiet) in
-    let all = beside_all (after_late_event t e) one.state one.log since (All-tail IsNoTick e since quiet) in
-    record {
-      state = all.state;
-      log = all.log;
-      is = ap (λ (u : LateChannel). after_late_events u since) one.is ∙ all.is;
-    }
-
--- so an automation that is killed goes on alike
-gone_alike : (p t : LateChannel) (s : State) (l : List Exchange) (since : List LateEvent) → All IsNoTick since
-    → gone_on p (after_late_events (beside t s l) since) ≡ gone_on p (after_late_events t since)
-gone_alike p t s l since quiet = ap (gone_on p) (beside_all t s l since quiet).is
-
--- What happens behind a burst.
+abbrev ahead : LateChannel → State → List Exchange → List (List ℕ) → LateChannel
+ahead t s l x = record t { state = s; log = l; down = t.down ++ x }
 
 no_notes : {c : LateChannel} {notes : List Note} → IsRun c (notes ++ []) → IsRun c notes
 no_notes {c} {notes} run = subst (IsRun c) (append-nil notes) run
 
-first_gone : (b : List ℕ) (up : List (List ℕ)) → remove (b ∷ up) (suc zero) ≡ b ∷ without_oldest up
-first_gone b [] = refl
-first_gone b (x ∷ up) = refl
+first_lost : (queue : List (List ℕ)) → remove queue 0 ≡ without_oldest queue
+first_lost [] = refl
+first_lost (burst ∷ queue) = refl
+
+lost_before : (x queue : List (List ℕ)) (place : ℕ)
+    → (remove (queue ++ x) place ≡ remove queue place ++ x) ⊎ (remove queue place ≡ queue)
+lost_before x [] zero = inr refl
+lost_before x [] (suc place) = inr refl
+lost_before x (b ∷ queue) zero = inl refl
+lost_before x (b ∷ queue) (suc place) = by (lost_before x queue place) where
+  by : (remove (queue ++ x) place ≡ remove queue place ++ x) ⊎ (remove queue place ≡ queue)
+      → (remove ((b ∷ queue) ++ x) (suc place) ≡ remove (b ∷ queue) (suc place) ++ x)
+      ⊎ (remove (b ∷ queue) (suc place) ≡ b ∷ queue)
+  by (inl is) = inl (ap (λ (q : List (List ℕ)). b ∷ q) is)
+  by (inr is) = inr (ap (λ (q : List (List ℕ)). b ∷ q) is)
 
 damaged_if : (b bytes : List ℕ) (place : ℕ) (up : List (List ℕ)) (can : Bool)
     → (if can then insert (remove (b ∷ up) (suc place)) (suc place) bytes else b ∷ up)
@@ -228,260 +114,575 @@ damaged : (can : List ℕ → Bool) (b bytes : List ℕ) (place : ℕ) (up : Lis
     → with_damage can bytes (suc place) (b ∷ up) ≡ b ∷ with_damage can bytes place up
 damaged can b bytes place up = damaged_at can b bytes place up (slice_get up place)
 
+damaged_first : (x queue : List (List ℕ)) (b bytes : List ℕ) (can : Bool)
+    → (if can then insert (remove ((b ∷ queue) ++ x) 0) 0 bytes else (b ∷ queue) ++ x)
+    ≡ (if can then insert (remove (b ∷ queue) 0) 0 bytes else b ∷ queue) ++ x
+damaged_first x queue b bytes true = refl
+damaged_first x queue b bytes false = refl
+
+damaged_before : (can : List ℕ → Bool) (bytes : List ℕ) (x queue : List (List ℕ)) (place : ℕ)
+    → (with_damage can bytes place (queue ++ x) ≡ with_damage can bytes place queue ++ x)
+    ⊎ (with_damage can bytes place queue ≡ queue)
+damaged_before can bytes x [] zero = inr refl
+damaged_before can bytes x [] (suc place) = inr refl
+damaged_before can bytes x (b ∷ queue) zero = inl (damaged_first x queue b bytes (can b))
+damaged_before can bytes x (b ∷ queue) (suc place) = by (damaged_before can bytes x queue place) where
+  by : (with_damage can bytes place (queue ++ x) ≡ with_damage can bytes place queue ++ x)
+      ⊎ (with_damage can bytes place queue ≡ queue)
+      → (with_damage can bytes (suc place) ((b ∷ queue) ++ x) ≡ with_damage can bytes (suc place) (b ∷ queue) ++ x)
+      ⊎ (with_damage can bytes (suc place) (b ∷ queue) ≡ b ∷ queue)
+  by (inl is) = inl (damaged can b bytes place (queue ++ x) ∙ ap (λ (q : List (List ℕ)). b ∷ q) is
+      ∙ ap (λ (q : List (List ℕ)). q ++ x) (sym (damaged can b bytes place queue)))
+  by (inr is) = inr (damaged can b bytes place queue ∙ ap (λ (q : List (List ℕ)). b ∷ q) is)
+
+junk_first : (x queue : List (List ℕ)) (bytes : List ℕ) (is_junk : Bool)
+    → with_junk is_junk bytes 0 (queue ++ x) ≡ with_junk is_junk bytes 0 queue ++ x
+junk_first x queue bytes true = refl
+junk_first x queue bytes false = refl
+
+junk_past : (x : List (List ℕ)) (bytes : List ℕ) (place : ℕ) (is_junk : Bool)
+    → with_junk is_junk bytes 0 x ≡ with_junk is_junk bytes (suc place) [] ++ x
+junk_past x bytes place true = refl
+junk_past x bytes place false = refl
+
 junked : (b bytes : List ℕ) (place : ℕ) (up : List (List ℕ)) (is_junk : Bool)
     → with_junk is_junk bytes (suc place) (b ∷ up) ≡ b ∷ with_junk is_junk bytes place up
 junked b bytes place up true = refl
 junked b bytes place up false = refl
 
-with_up : (t : LateChannel) (s : State) (l : List Exchange) (up up' : List (List ℕ)) (notes : List Note) → up ≡ up'
-    → IsRun (record t { state = s; log = l; up = up }) notes → IsRun (record t { state = s; log = l; up = up' }) notes
-with_up t s l up up' notes is run = subst (λ (u : List (List ℕ)). IsRun (record t { state = s; log = l; up = u }) notes) is run
+junk_before : (is_junk : Bool) (bytes : List ℕ) (x queue : List (List ℕ)) (place : ℕ)
+    → (at : ℕ) × (with_junk is_junk bytes at (queue ++ x) ≡ with_junk is_junk bytes place queue ++ x)
+junk_before is_junk bytes x queue zero = (0, junk_first x queue bytes is_junk)
+junk_before is_junk bytes x [] (suc place) = (0, junk_past x bytes place is_junk)
+junk_before is_junk bytes x (b ∷ queue) (suc place) =
+    let r = junk_before is_junk bytes x queue place in (
+      suc r.0,
+      junked b bytes r.0 (queue ++ x) is_junk ∙ ap (λ (q : List (List ℕ)). b ∷ q) r.1
+          ∙ ap (λ (q : List (List ℕ)). q ++ x) (sym (junked b bytes place queue is_junk)),
+    )
 
--- each event that isn't heard
-behind_one : (t : LateChannel) (s : State) (l : List Exchange) (b : List ℕ) (notes : List Note) (e : LateEvent)
-    → IsQuiet e → IsRun (behind t s l b) notes → IsRun (behind (after_late_event t e) s l b) notes
-behind_one t s l b notes event.Tick quiet run = absurd quiet
-behind_one t s l b notes event.Down quiet run = no_notes (happened run event.Down tt)
-behind_one t s l b notes event.Up quiet run =
-    with_up t s l _ _ notes (first_gone b t.up) (no_notes (happened run (event.LoseUp (suc zero)) tt))
-behind_one t s l b notes event.DownCopy quiet run = no_notes (happened run event.DownCopy tt)
-behind_one t s l b notes event.UpCopy quiet run = run
-behind_one t s l b notes (event.LoseDown place) quiet run = no_notes (happened run (event.LoseDown place) tt)
-behind_one t s l b notes (event.LoseUp place) quiet run = no_notes (happened run (event.LoseUp (suc place)) tt)
-behind_one t s l b notes (event.AlterDown place bytes) quiet run =
-    no_notes (happened run (event.AlterDown place bytes) tt)
-behind_one t s l b notes (event.AlterUp place bytes) quiet run =
-    with_up t s l _ _ notes (damaged (λ was. can_become_up t.plan.mode t.port.state.unit was bytes) b bytes place t.up)
-    (no_notes (happened run (event.AlterUp (suc place) bytes) tt))
-behind_one t s l b notes (event.JunkDown place bytes) quiet run = no_notes (happened run (event.JunkDown place bytes) tt)
-behind_one t s l b notes (event.JunkUp place bytes) quiet run =
-    with_up t s l _ _ notes (junked b bytes place t.up (is_junk_up t.plan.mode t.port.state.unit bytes))
-    (no_notes (happened run (event.JunkUp (suc place) bytes) tt))
-behind_one t s l b notes event.Timeout quiet run = run
-behind_one t s l b notes event.Ready quiet run = no_notes (happened run event.Ready tt)
-behind_one t s l b notes event.End quiet run = no_notes (happened run event.End tt)
-behind_one t s l b notes event.Frame quiet run = no_notes (happened run event.Frame tt)
-behind_one t s l b notes event.Take quiet run = absurd quiet
-behind_one t s l b notes event.Stop quiet run = absurd quiet
-behind_one t s l b notes event.ServerAnew quiet run = no_notes (happened run event.ServerAnew tt)
-behind_one t s l b notes event.AutomationAnew quiet run = absurd quiet
-behind_one t s l b notes event.StrayAck quiet run = run
-behind_one t s l b notes (event.StrayNak byte) quiet run = run
+-- the same with this on the way down
+with_downs : (t : LateChannel) (notes : List Note) (down down' : List (List ℕ)) → down ≡ down'
+    → IsRun (record t { down = down }) notes → IsRun (record t { down = down' }) notes
+with_downs t notes down down' is run = subst (λ (q : List (List ℕ)). IsRun (record t { down = q }) notes) is run
 
-behind_all : (t : LateChannel) (s : State) (l : List Exchange) (b : List ℕ) (notes : List Note) (quiet : List LateEvent)
-    → All IsQuiet quiet → IsRun (behind t s l b) notes → IsRun (behind (after_late_events t quiet) s l b) notes
-behind_all t s l b notes [] all run = run
-behind_all t s l b notes (e ∷ quiet) all run =
-    behind_all (after_late_event t e) s l b notes quiet (All-tail IsQuiet e quiet all)
-    (behind_one t s l b notes e (All-head IsQuiet e quiet all) run)
+-- a burst without a byte is no event
+nothing_read : (t : LateChannel) (s : State) (l : List Exchange) (x : List (List ℕ)) (notes : List Note)
+    → IsRun (record t { state = s; log = l; down = x }) notes
+    → IsRun (record t {
+      state = s;
+      log = l;
+      down = x;
+      port = after_burst t.port [];
+      up = t.up ++ bursts_of (sent_for t.port []);
+      aired = t.aired ++ aired_for t.port [];
+    }) notes
+nothing_read t s l x notes run =
+    subst (λ (c : LateChannel). IsRun c notes)
+    (ap₂ (λ (up : List (List ℕ)) (aired : List Item). record t { state = s; log = l; down = x; up = up; aired = aired })
+    (sym (append-nil t.up)) (sym (append-nil t.aired))) run
 
--- What is heard behind nothing more, and the PLAY after it.
+reads : (t : LateChannel) (s : State) (l : List Exchange) (x : List (List ℕ)) (notes : List Note) (queue : List (List ℕ))
+    → IsRun (record t { state = s; log = l; down = queue ++ x }) notes
+    → IsRun (record t {
+      state = s;
+      log = l;
+      down = without_oldest queue ++ x;
+      port = after_burst t.port (oldest queue);
+      up = t.up ++ bursts_of (sent_for t.port (oldest queue));
+      aired = t.aired ++ aired_for t.port (oldest queue);
+    }) notes
+reads t s l x notes [] run = nothing_read t s l x notes run
+reads t s l x notes (b ∷ queue) run = no_notes (happened run event.Down tt)
 
-none_some : {c : Command} → None ≡ Some c → ⊥
+reads_copy : (t : LateChannel) (s : State) (l : List Exchange) (x : List (List ℕ)) (notes : List Note)
+    (queue : List (List ℕ)) → IsRun (record t { state = s; log = l; down = queue ++ x }) notes
+    → IsRun (record t {
+      state = s;
+      log = l;
+      down = queue ++ x;
+      port = after_burst t.port (oldest queue);
+      up = t.up ++ bursts_of (sent_for t.port (oldest queue));
+      aired = t.aired ++ aired_for t.port (oldest queue);
+    }) notes
+reads_copy t s l x notes [] run = nothing_read t s l x notes run
+reads_copy t s l x notes (b ∷ queue) run = no_notes (happened run event.DownCopy tt)
+
+loses : (t : LateChannel) (x : List (List ℕ)) (notes : List Note) (place : ℕ)
+    → (remove (t.down ++ x) place ≡ remove t.down place ++ x) ⊎ (remove t.down place ≡ t.down)
+    → IsRun (record t { down = t.down ++ x }) notes → IsRun (record t { down = remove t.down place ++ x }) notes
+loses t x notes place (inl is) run = with_downs t notes _ _ is (no_notes (happened run (event.LoseDown place) tt))
+loses t x notes place (inr is) run = with_downs t notes _ _ (ap (λ (q : List (List ℕ)). q ++ x) (sym is)) run
+
+alters : (t : LateChannel) (x : List (List ℕ)) (notes : List Note) (place : ℕ) (bytes : List ℕ)
+    → (with_damage (λ was. can_become was bytes) bytes place (t.down ++ x)
+    ≡ with_damage (λ was. can_become was bytes) bytes place t.down ++ x)
+    ⊎ (with_damage (λ was. can_become was bytes) bytes place t.down ≡ t.down)
+    → IsRun (record t { down = t.down ++ x }) notes
+    → IsRun (record t { down = with_damage (λ was. can_become was bytes) bytes place t.down ++ x }) notes
+alters t x notes place bytes (inl is) run =
+    with_downs t notes _ _ is (no_notes (happened run (event.AlterDown place bytes) tt))
+alters t x notes place bytes (inr is) run = with_downs t notes _ _ (ap (λ (q : List (List ℕ)). q ++ x) (sym is)) run
+
+-- Whatever happens on the line without a command, it may happen with this controller, which hears nothing of it.
+ahead_one : (t : LateChannel) (s : State) (l : List Exchange) (x : List (List ℕ)) (notes : List Note) (e : LateEvent)
+    → IsNoTick e → IsRun (ahead t s l x) notes → IsRun (ahead (after_late_event t e) s l x) notes
+ahead_one t s l x notes event.Tick quiet run = absurd quiet
+ahead_one t s l x notes event.Down quiet run = reads t s l x notes t.down run
+ahead_one t s l x notes event.Up quiet run =
+    subst (λ (up : List (List ℕ)). IsRun (record t { state = s; log = l; down = t.down ++ x; up = up }) notes)
+    (first_lost t.up) (no_notes (happened run (event.LoseUp 0) tt))
+ahead_one t s l x notes event.DownCopy quiet run = reads_copy t s l x notes t.down run
+ahead_one t s l x notes event.UpCopy quiet run = run
+ahead_one t s l x notes (event.LoseDown place) quiet run =
+    loses (record t { state = s; log = l }) x notes place (lost_before x t.down place) run
+ahead_one t s l x notes (event.LoseUp place) quiet run = no_notes (happened run (event.LoseUp place) tt)
+ahead_one t s l x notes (event.AlterDown place bytes) quiet run =
+    alters (record t { state = s; log = l }) x notes place bytes
+    (damaged_before (λ was. can_become was bytes) bytes x t.down place) run
+ahead_one t s l x notes (event.AlterUp place bytes) quiet run = no_notes (happened run (event.AlterUp place bytes) tt)
+ahead_one t s l x notes (event.JunkDown place bytes) quiet run =
+    let junk = junk_before (is_junk_down bytes) bytes x t.down place in
+    with_downs (record t { state = s; log = l }) notes _ _ junk.1
+    (no_notes (happened run (event.JunkDown junk.0 bytes) tt))
+ahead_one t s l x notes (event.JunkUp place bytes) quiet run = no_notes (happened run (event.JunkUp place bytes) tt)
+ahead_one t s l x notes event.Timeout quiet run = run
+ahead_one t s l x notes event.Ready quiet run = no_notes (happened run event.Ready tt)
+ahead_one t s l x notes event.End quiet run = no_notes (happened run event.End tt)
+ahead_one t s l x notes event.Frame quiet run = no_notes (happened run event.Frame tt)
+ahead_one t s l x notes event.Take quiet run = run
+ahead_one t s l x notes event.Stop quiet run = run
+ahead_one t s l x notes event.ServerAnew quiet run = no_notes (happened run event.ServerAnew tt)
+ahead_one t s l x notes event.AutomationAnew quiet run = run
+ahead_one t s l x notes event.StrayAck quiet run = run
+ahead_one t s l x notes (event.StrayNak byte) quiet run = run
+
+ahead_all : (t : LateChannel) (s : State) (l : List Exchange) (x : List (List ℕ)) (notes : List Note)
+    (since : List LateEvent) → All IsNoTick since → IsRun (ahead t s l x) notes
+    → IsRun (ahead (after_late_events t since) s l x) notes
+ahead_all t s l x notes [] quiet run = run
+ahead_all t s l x notes (e ∷ since) quiet run =
+    ahead_all (after_late_event t e) s l x notes since (All-tail IsNoTick e since quiet)
+    (ahead_one t s l x notes e (All-head IsNoTick e since quiet) run)
+
+-- The state is asked, and what was heard last is heard again, after a take: with the request, which may still be on its way.
+
+abbrev sent_of : Option Command → List Note
+sent_of gives = option_to_list (option_map (λ c. note.Sent c) gives)
+
+abbrev Again : Plan → State → Option Command → List Exchange → ℕ → Heard → LateChannel → List Note → Type 0
+Again plan s gives log unit h c notes =
+    IsRun (ahead c (came_to plan (Some h) (taken s)) (logged log (ended_by plan (Some h) (taken s)))
+    (command_bursts unit gives))
+    (notes ++ (sent_of gives ++ note.Take ∷ note.Heard h ∷ []))
+
+abbrev IsAgain : Heard → LateChannel → List Note → Type 0
+IsAgain h c notes = Again c.plan (ticked c.state) (given c.plan c.state) c.log c.port.state.unit h c notes
+
+-- the controller is as it was
+again_on : (h : Heard) (c d : LateChannel) (notes : List Note) → d.plan ≡ c.plan → d.state ≡ c.state
+    → d.log ≡ c.log → d.port.state.unit ≡ c.port.state.unit
+    → Again c.plan (ticked c.state) (given c.plan c.state) c.log c.port.state.unit h d notes → IsAgain h d notes
+again_on h c d notes plan state log unit again =
+    subst (λ (n : ℕ). Again d.plan (ticked d.state) (given d.plan d.state) d.log n h d notes) (sym unit)
+    (subst (λ (l : List Exchange). Again d.plan (ticked d.state) (given d.plan d.state) l c.port.state.unit h d notes)
+    (sym log)
+    (subst (λ (s : State). Again d.plan (ticked s) (given d.plan s) c.log c.port.state.unit h d notes) (sym state)
+    (subst (λ (p : Plan). Again p (ticked c.state) (given p c.state) c.log c.port.state.unit h d notes) (sym plan)
+    again)))
+
+still_again : UnitStays → (h : Heard) (c : LateChannel) (notes : List Note) (e : LateEvent) → IsNoTick e
+    → (after_late_event c e).state ≡ c.state → (after_late_event c e).log ≡ c.log → IsAgain h c notes
+    → IsAgain h (after_late_event c e) notes
+still_again stays h c notes e quiet state log again =
+    again_on h c (after_late_event c e) notes (plan_stays c e) state log (unit_stays stays c e)
+    (ahead_one c (came_to c.plan (Some h) (taken (ticked c.state)))
+    (logged c.log (ended_by c.plan (Some h) (taken (ticked c.state))))
+    (command_bursts c.port.state.unit (given c.plan c.state))
+    (notes ++ (sent_of (given c.plan c.state) ++ note.Take ∷ note.Heard h ∷ [])) e quiet again)
+
+-- A controller that would give PLAY then.
+
+abbrev Plays : Plan → State → Heard → Type 0
+Plays plan s h = given plan (came_again plan h s) ≡ Some command.Play
+
+plays_so : (h : Heard) (plan plan' : Plan) (s s' : State) → plan' ≡ plan → s' ≡ s → Plays plan' s' h → Plays plan s h
+plays_so h plan plan' s s' plan_is is plays =
+    ap₂ (λ (p : Plan) (x : State). given p (came_again p h x)) (sym plan_is) (sym is) ∙ plays
+
+none_some : {A : Type 0} {x : A} → None ≡ Some x → ⊥
 none_some is = cc is
 
-last_gone : (down : List (List ℕ)) (burst : List ℕ) → remove (down ++ burst ∷ []) (length down) ≡ down
-last_gone [] burst = refl
-last_gone (x ∷ down) burst = ap (λ (l : List (List ℕ)). x ∷ l) (last_gone down burst)
+-- a command that was given is awaited
+ticked_twice : (plan : Plan) (stage : Stage) (s : State) (q : Command) → given_in plan s.stop stage ≡ Some q
+    → (ticked (tick_in stage s) ≡ tick_in stage s) × (given plan (tick_in stage s) ≡ None)
+ticked_twice plan (Ready p) s q is = (refl, refl)
+ticked_twice plan (Awaiting p) s q is = cc is
+ticked_twice plan (Ended outcome) s q is = cc is
 
--- a controller that is given what ends an exchange goes on
-goes_on : (plan : Plan) (stage : Stage) (h : Heard) → IsSome (exchange_of plan.mode (Some h) (awaited_in plan stage))
-    → outcome_of stage ≡ None
-goes_on plan (Ready p) h ends = refl
-goes_on plan (Awaiting p) h ends = refl
-goes_on plan (Ended outcome) h ends = absurd (true≢false (sym ends))
+none_given : (plan : Plan) (stage : Stage) (s : State) → s.stage ≡ stage → given plan (taken (tick_in stage s)) ≡ None
+none_given plan (Ready p) s is = refl
+none_given plan (Awaiting p) s is = ap (given_in plan s.stop) is
+none_given plan (Ended outcome) s is = ap (given_in plan s.stop) is
 
--- what leads a controller that waits to a command ends an exchange
+-- what is heard ends an exchange, since PLAY comes after it
 ends_if : (plan : Plan) (s : State) (c : Command) (by : Option Exchange) → given plan s ≡ None
-    → given plan (option_map_or (λ e. ended_in plan s.stage e s) by s) ≡ Some c → IsSome by
+    → given plan (left_by plan s by) ≡ Some c → IsSome by
 ends_if plan s c None none gives = absurd (none_some (sym none ∙ gives))
 ends_if plan s c (Some e) none gives = refl
 
-none_given : (plan : Plan) (stage : Stage) (s : State) (q : Command) → given_in plan s.stop stage ≡ Some q
-    → given plan (taken (tick_in stage s)) ≡ None
-none_given plan (Ready p) s q is = refl
-none_given plan (Awaiting p) s q is = cc is
-none_given plan (Ended outcome) s q is = cc is
+ends_again : (plan : Plan) (s : State) (h : Heard) → Plays plan s h
+    → IsSome (ended_by plan (Some h) (taken (ticked s)))
+ends_again plan s h plays =
+    ends_if plan (taken (ticked s)) command.Play (ended_by plan (Some h) (taken (ticked s)))
+    (none_given plan s.stage s refl) plays
+
+awaits_none : (plan : Plan) (stage : Stage) (s : State) → s.stage ≡ stage → awaited plan s ≡ None
+    → given_in plan s.stop stage ≡ None → awaited plan (tick_in stage s) ≡ None
+awaits_none plan (Ready p) s is none gives = gives
+awaits_none plan (Awaiting p) s is none gives = none
+awaits_none plan (Ended outcome) s is none gives = none
+
+gives_some : (plan : Plan) (s : State) (h : Heard) (gives : Option Command) → given plan s ≡ gives
+    → awaited plan s ≡ None → Plays plan s h → (q : Command) × (given plan s ≡ Some q)
+gives_some plan s h (Some q) is none plays = (q, is)
+gives_some plan s h None is none plays =
+    let ends : ended_by plan (Some h) (taken (ticked s)) ≡ None =
+    ap (exchange_of plan.mode (Some h)) (awaits_none plan s.stage s refl none is) in
+    absurd (true≢false (sym (ends_again plan s h plays) ∙ ap is_some ends))
+
+-- What is heard, and stays.
 
 heard_end : (h : Heard) (by : Option Exchange) → IsSome by → end_notes (Some h) by ≡ note.Heard h ∷ []
 heard_end h None is = absurd (true≢false (sym is))
 heard_end h (Some e) is = refl
 
--- the notes of a take, of what is heard after it, of the PLAY, and of its time-out
-abbrev last_notes : Heard → List Note
-last_notes h = note.Take ∷ note.Heard h ∷ note.Sent command.Play ∷ note.Silence ∷ []
+-- the notes of it
+noted_so : (h : Heard) (e : LateChannel) (notes : List Note) (q : Command) (more : List Note)
+    → IsRun e (((notes ++ note.Sent q ∷ []) ++ note.Take ∷ []) ++ more) → more ≡ note.Heard h ∷ []
+    → IsRun e (notes ++ (sent_of (Some q) ++ note.Take ∷ note.Heard h ∷ []))
+noted_so h e notes q more heard is =
+    subst (IsRun e)
+    (ap (λ (l : List Note). ((notes ++ note.Sent q ∷ []) ++ note.Take ∷ []) ++ l) is
+    ∙ append_assoc (notes ++ note.Sent q ∷ []) (note.Take ∷ []) (note.Heard h ∷ [])
+    ∙ append_assoc notes (note.Sent q ∷ []) (note.Take ∷ note.Heard h ∷ []))
+    heard
 
-four : (notes : List Note) (a b c d : Note)
-    → (((notes ++ a ∷ []) ++ b ∷ []) ++ c ∷ []) ++ d ∷ [] ≡ notes ++ (a ∷ b ∷ c ∷ d ∷ [])
-four notes a b c d =
-    append_assoc ((notes ++ a ∷ []) ++ b ∷ []) (c ∷ []) (d ∷ [])
-    ∙ append_assoc (notes ++ a ∷ []) (b ∷ []) (c ∷ d ∷ [])
-    ∙ append_assoc notes (a ∷ []) (b ∷ c ∷ d ∷ [])
+-- this was heard by an event that brings it, and then stays or is gone
+heard_again : (stays : UnitStays) (c d : LateChannel) (notes : List Note) (x : Heard) (e : Exchange)
+    → ended_by c.plan (Some x) c.state ≡ Some e → d.plan ≡ c.plan → d.state ≡ came_to c.plan (Some x) c.state
+    → d.log ≡ logged c.log (ended_by c.plan (Some x) c.state) → d.port.state.unit ≡ c.port.state.unit
+    → IsRun (record c { state = d.state; log = d.log }) (notes ++ note.Heard x ∷ [])
+    → ((s : State) (l : List Exchange) (more : List (List ℕ)) (ns : List Note)
+    → IsRun (record c { state = s; log = l; down = c.down ++ more }) ns
+    → IsRun (ahead d (came_to c.plan (Some x) s) (logged l (ended_by c.plan (Some x) s)) more)
+    (ns ++ end_notes (Some x) (ended_by c.plan (Some x) s)))
+    → Plays d.plan d.state x → IsAgain x d (notes ++ note.Heard x ∷ [])
+heard_again stays c d notes x e ended plan state log unit first later plays =
+    let n : List Note = notes ++ note.Heard x ∷ [] in
+    let s : State = d.state in
+    let c1 : LateChannel = record c { state = s; log = d.log } in
+    let so : Plays c.plan s x = plays_so x c.plan d.plan s s plan refl plays in
+    let rests : awaited c.plan s ≡ None =
+    ap (awaited c.plan) (state ∙ ap (left_by c.plan c.state) ended)
+    ∙ awaits_none_in c.plan c.state.stage e c.state (exchange_is c.plan.mode (Some x) (awaited c.plan c.state) e ended) in
+    let gives = gives_some c.plan s x (given c.plan s) refl rests so in
+    let took : IsRun (record c {
+      state = taken (ticked s);
+      log = d.log;
+      down = c.down ++ command_bursts c.port.state.unit (given c.plan s);
+    }) ((n ++ note.Sent gives.0 ∷ []) ++ note.Take ∷ []) =
+    happened (asked c1 n gives.0 first gives.1) event.Take (not_ended c.plan x (ticked s) command.Play so) in
+    let heard = later (taken (ticked s)) d.log (command_bursts c.port.state.unit (given c.plan s)) _ took in
+    let all : Again c.plan (ticked s) (given c.plan s) d.log c.port.state.unit x d n =
+    subst (λ (o : Option Command). IsRun (ahead d (came_to c.plan (Some x) (taken (ticked s)))
+    (logged d.log (ended_by c.plan (Some x) (taken (ticked s)))) (command_bursts c.port.state.unit (given c.plan s)))
+    (n ++ (sent_of o ++ note.Take ∷ note.Heard x ∷ []))) (sym gives.1)
+    (noted_so x (ahead d (came_to c.plan (Some x) (taken (ticked s)))
+    (logged d.log (ended_by c.plan (Some x) (taken (ticked s)))) (command_bursts c.port.state.unit (given c.plan s)))
+    n gives.0 (end_notes (Some x) (ended_by c.plan (Some x) (taken (ticked s)))) heard
+    (heard_end x (ended_by c.plan (Some x) (taken (ticked s))) (ends_again c.plan s x so))) in
+    again_on x c1 d n plan refl refl unit all
 
--- the burst is heard after a take
-heard_behind : (t : LateChannel) (s : State) (l : List Exchange) (b : List ℕ) (h : Heard) (notes : List Note)
-    → heard_in t.port.state.unit b ≡ Some h → IsSome (ended_by t.plan (Some h) (taken s))
-    → outcome_of s.stage ≡ None → IsRun (behind t s l b) notes
-    → IsRun (hearing h (taking (beside t s l))) ((notes ++ note.Take ∷ []) ++ note.Heard h ∷ [])
-heard_behind t s l b h notes hears ends goes run =
-    let took : IsRun (behind t (taken s) l b) (notes ++ note.Take ∷ []) = happened run event.Take goes in
-    let came : Option Heard = heard_in t.port.state.unit b in
-    let up : IsRun (beside t (state_hearing t.plan came (taken s)) (log_hearing t.plan came (taken s) l))
-    ((notes ++ note.Take ∷ []) ++ heard_notes (behind t (taken s) l b) came) = happened took event.Up tt in
-    let as_heard : IsRun (hearing h (taking (beside t s l)))
-    ((notes ++ note.Take ∷ []) ++ heard_notes (behind t (taken s) l b) (Some h)) =
-    subst (λ (o : Option Heard). IsRun (beside t (state_hearing t.plan o (taken s)) (log_hearing t.plan o (taken s) l))
-    ((notes ++ note.Take ∷ []) ++ heard_notes (behind t (taken s) l b) o)) hears up in
-    subst (λ (more : List Note). IsRun (hearing h (taking (beside t s l))) ((notes ++ note.Take ∷ []) ++ more))
-    (heard_end h (ended_by t.plan (Some h) (taken s)) ends) as_heard
+-- something came up, or nothing
+came_by : (stays : UnitStays) (h : Heard) (c d : LateChannel) (notes : List Note) (x : Heard) (by : Option Exchange)
+    → ended_by c.plan (Some x) c.state ≡ by → d.plan ≡ c.plan → d.state ≡ came_to c.plan (Some x) c.state
+    → d.log ≡ logged c.log (ended_by c.plan (Some x) c.state) → d.port.state.unit ≡ c.port.state.unit
+    → IsRun (record c { state = d.state; log = d.log }) (notes ++ end_notes (Some x) by)
+    → ((s : State) (l : List Exchange) (more : List (List ℕ)) (ns : List Note)
+    → IsRun (record c { state = s; log = l; down = c.down ++ more }) ns
+    → IsRun (ahead d (came_to c.plan (Some x) s) (logged l (ended_by c.plan (Some x) s)) more)
+    (ns ++ end_notes (Some x) (ended_by c.plan (Some x) s)))
+    → (d.state ≡ c.state → d.log ≡ c.log → IsAgain h c notes → IsAgain h d notes)
+    → (heard_last notes ≡ Some h → Plays c.plan c.state h → IsAgain h c notes)
+    → heard_last (notes ++ end_notes (Some x) by) ≡ Some h → Plays d.plan d.state h
+    → IsAgain h d (notes ++ end_notes (Some x) by)
+came_by stays h c d notes x None ended plan state log unit first later still before last plays =
+    let same : d.state ≡ c.state = state ∙ ap (left_by c.plan c.state) ended in
+    subst (IsAgain h d) (sym (append-nil notes))
+    (still same (log ∙ ap (logged c.log) ended)
+    (before (ap heard_last (sym (append-nil notes)) ∙ last) (plays_so h c.plan d.plan c.state d.state plan same plays)))
+came_by stays h c d notes x (Some e) ended plan state log unit first later still before last plays =
+    let is : x ≡ h = cc (sym (last_more None notes (note.Heard x ∷ [])) ∙ last) in
+    subst (λ (y : Heard). Plays d.plan d.state y → IsAgain y d (notes ++ note.Heard x ∷ [])) is
+    (heard_again stays c d notes x e ended plan state log unit first later) plays
 
--- a command is given and lost
-given_lost : (t : LateChannel) (notes : List Note) (q : Command) → given t.plan t.state ≡ Some q → IsRun t notes
-    → IsRun (ticking t) (notes ++ note.Sent q ∷ [])
-given_lost t notes q plays run =
-    let tick : IsRun (after_late_event t event.Tick)
-    (notes ++ option_to_list (option_map (λ x. note.Sent x) (given t.plan t.state))) =
-    happened run event.Tick (ap is_some plays) in
-    let sent : IsRun (record t { state = ticked t.state; down = t.down ++ command_bursts t.port.state.unit (Some q) })
-    (notes ++ note.Sent q ∷ []) =
-    subst (λ (o : Option Command). IsRun (record t { state = ticked t.state; down = t.down ++ command_bursts t.port.state.unit o })
-    (notes ++ option_to_list (option_map (λ x. note.Sent x) o))) plays tick in
-    subst (λ (down : List (List ℕ)). IsRun (record t { state = ticked t.state; down = down }) (notes ++ note.Sent q ∷ []))
-    (last_gone t.down _) (no_notes (happened sent (event.LoseDown (length t.down)) tt))
+-- the burst that comes up next is heard, and stays or is gone
+came_up : (stays : UnitStays) (h : Heard) (c d : LateChannel) (notes : List Note) (k : Option Heard)
+    → d.plan ≡ c.plan → d.state ≡ state_hearing c.plan k c.state → d.log ≡ log_hearing c.plan k c.state c.log
+    → d.port.state.unit ≡ c.port.state.unit
+    → IsRun (record c { state = d.state; log = d.log }) (notes ++ heard_notes c k)
+    → ((s : State) (l : List Exchange) (more : List (List ℕ)) (ns : List Note)
+    → IsRun (record c { state = s; log = l; down = c.down ++ more }) ns
+    → IsRun (ahead d (state_hearing c.plan k s) (log_hearing c.plan k s l) more)
+    (ns ++ heard_notes (record c { state = s; log = l; down = c.down ++ more }) k))
+    → (d.state ≡ c.state → d.log ≡ c.log → IsAgain h c notes → IsAgain h d notes)
+    → (heard_last notes ≡ Some h → Plays c.plan c.state h → IsAgain h c notes)
+    → heard_last (notes ++ heard_notes c k) ≡ Some h → Plays d.plan d.state h → IsAgain h d (notes ++ heard_notes c k)
+came_up stays h c d notes None plan state log unit first later still before last plays =
+    subst (IsAgain h d) (sym (append-nil notes))
+    (still state log
+    (before (ap heard_last (sym (append-nil notes)) ∙ last) (plays_so h c.plan d.plan c.state d.state plan state plays)))
+came_up stays h c d notes (Some x) plan state log unit first later still before last plays =
+    came_by stays h c d notes x (ended_by c.plan (Some x) c.state) refl plan state log unit first later still before last
+    plays
 
--- a burst that is heard after a take, and leads to a PLAY
-plays_behind : (t : LateChannel) (s : State) (l : List Exchange) (b : List ℕ) (h : Heard) (notes : List Note)
-    (since : List LateEvent) → heard_in t.port.state.unit b ≡ Some h → IsSome (ended_by t.plan (Some h) (taken s))
-    → given t.plan (hearing h (taking (beside t s l))).state ≡ Some command.Play → All IsNoTick since
-    → IsRun (behind t s l b) notes
-    → IsRun (gone_on (ticking (hearing h (taking (beside t s l)))) (after_late_events t since)) (notes ++ last_notes h)
-plays_behind t s l b h notes since hears ends plays quiet run =
-    let goes : outcome_of s.stage ≡ None = goes_on t.plan s.stage h ends in
-    let p : LateChannel = ticking (hearing h (taking (beside t s l))) in
-    let lost : IsRun p (((notes ++ note.Take ∷ []) ++ note.Heard h ∷ []) ++ note.Sent command.Play ∷ []) =
-    given_lost (hearing h (taking (beside t s l))) ((notes ++ note.Take ∷ []) ++ note.Heard h ∷ []) command.Play plays
-    (heard_behind t s l b h notes hears ends goes run) in
-    let silent = one_silence p command.Play
-    (given_awaited t.plan (hearing h (taking (beside t s l))).state.stage (hearing h (taking (beside t s l))).state
-    command.Play plays) in
-    subst (λ (u : LateChannel). IsRun u (notes ++ last_notes h)) (gone_alike p t p.state p.log since quiet)
-    (subst (IsRun (gone_on p (after_late_events p since)))
-    (ap (λ (more : List Note). (((notes ++ note.Take ∷ []) ++ note.Heard h ∷ []) ++ note.Sent command.Play ∷ []) ++ more)
-    silent ∙ four notes note.Take (note.Heard h) (note.Sent command.Play) note.Silence)
-    (killed lost since quiet))
+-- A receipt from nowhere ends nothing.
 
--- Whole histories.
+and_false : (b : Bool) → b && false ≡ false
+and_false true = refl
+and_false false = refl
 
-events_both : (c : LateChannel) (xs ys : List LateEvent)
-    → after_late_events c (xs ++ ys) ≡ after_late_events (after_late_events c xs) ys
-events_both c [] ys = refl
-events_both c (x ∷ xs) ys = events_both (after_late_event c x) xs ys
+receipt_ends : (mode : Mode) (r : Reply) (asks : Option Command) → mode ≡ Confirming → is_receipt r ≡ true
+    → exchange_of mode (Some (heard.Reply r)) asks ≡ None
+receipt_ends mode r None is receipt = refl
+receipt_ends mode r (Some q) is receipt =
+    ap (λ (m : Mode). exchange_of m (Some (heard.Reply r)) (Some q)) is
+    ∙ ap (λ (b : Bool). if b then Some (record { command = q; heard = Some (heard.Reply r) }) else None)
+    (ap (λ (b : Bool). is_sense q && not b) receipt ∙ and_false (is_sense q))
 
-six : (notes more : List Note) (a b : Note)
-    → ((notes ++ a ∷ []) ++ b ∷ []) ++ more ≡ notes ++ (a ∷ b ∷ more)
-six notes more a b = append_assoc (notes ++ a ∷ []) (b ∷ []) more ∙ append_assoc notes (a ∷ []) (b ∷ more)
+record Strays (c : LateChannel) (mode : Mode) (r : Reply) : Type 0 where
+  notes_are : stray_notes c mode r ≡ []
+  state_is : state_straying mode c.plan r c.state ≡ c.state
+  log_is : log_straying mode c.plan r c.state c.log ≡ c.log
 
--- the state is heard, and a copy of it stays
-copied : (c : LateChannel) (notes : List Note) (h : Heard) (q : Command) → (a : Announces c h q) → IsRun c notes
-    → IsRun (behind (after_late_event c event.Up) (hearing h c).state (hearing h c).log a.burst)
-    (notes ++ note.Heard h ∷ [])
-copied c notes h q a run =
-    let came : heard_in c.port.state.unit (oldest c.up) ≡ Some h =
-    ap (λ (up : List (List ℕ)). heard_in c.port.state.unit (oldest up)) a.next ∙ a.heard_is in
-    let copy : IsRun (beside c (hearing h c).state (hearing h c).log) (notes ++ heard_notes c (Some h)) =
-    subst (λ (o : Option Heard). IsRun (beside c (state_hearing c.plan o c.state) (log_hearing c.plan o c.state c.log))
-    (notes ++ heard_notes c o)) came (happened run event.UpCopy tt) in
-    with_up c (hearing h c).state (hearing h c).log c.up (a.burst ∷ without_oldest c.up) (notes ++ note.Heard h ∷ [])
-    (a.next ∙ ap (λ (up : List (List ℕ)). a.burst ∷ without_oldest up) (sym a.next))
-    (subst (λ (more : List Note). IsRun (beside c (hearing h c).state (hearing h c).log) (notes ++ more))
-    (heard_end h (ended_by c.plan (Some h) c.state) a.ends) copy)
+strays : (c : LateChannel) (mode : Mode) (r : Reply) → c.plan.mode ≡ mode → is_receipt r ≡ true → Strays c mode r
+strays c Plain r is receipt = record { notes_are = refl; state_is = refl; log_is = refl }
+strays c Confirming r is receipt =
+    let none : ended_by c.plan (Some (heard.Reply r)) c.state ≡ None =
+    receipt_ends c.plan.mode r (awaited c.plan c.state) is receipt in record {
+      notes_are = ap (end_notes (Some (heard.Reply r))) none;
+      state_is = ap (left_by c.plan c.state) none;
+      log_is = ap (logged c.log) none;
+    }
 
-ends_twice : (c : LateChannel) (h : Heard) (q : Command) → Announces c h q
-    → IsSome (ended_by c.plan (Some h) (taken (ticked (hearing h c).state)))
-ends_twice c h q a =
-    ends_if c.plan (taken (ticked (hearing h c).state)) command.Play
-    (ended_by c.plan (Some h) (taken (ticked (hearing h c).state)))
-    (none_given c.plan (hearing h c).state.stage (hearing h c).state q a.asked) a.plays
+-- All runs.
 
--- the state isn't asked any more
-pub idle : (c : LateChannel) (notes : List Note) (h : Heard) (q : Command) (since : List LateEvent) → IsRun c notes
-    → Announces c h q → All IsNoTick since
-    → IsRun (gone_on (heard_twice h c) (after_late_events c (event.Up ∷ since))) (notes ++ announced_notes h q)
-idle c notes h q since run a quiet =
-    let t : LateChannel = after_late_event c event.Up in
-    let s : State = (hearing h c).state in
-    let l : List Exchange = (hearing h c).log in
-    let sent : IsRun (behind t (ticked s) l a.burst) ((notes ++ note.Heard h ∷ []) ++ note.Sent q ∷ []) =
-    given_lost (behind t s l a.burst) (notes ++ note.Heard h ∷ []) q a.asked (copied c notes h q a run) in
-    subst (IsRun (gone_on (heard_twice h c) (after_late_events t since)))
-    (six notes (last_notes h) (note.Heard h) (note.Sent q))
-    (plays_behind t (ticked s) l a.burst h ((notes ++ note.Heard h ∷ []) ++ note.Sent q ∷ []) since a.heard_is
-    (ends_twice c h q a) a.plays quiet sent)
+same_notes : (h : Heard) (d : LateChannel) (notes more : List Note) → more ≡ [] → IsAgain h d notes
+    → IsAgain h d (notes ++ more)
+same_notes h d notes more none again =
+    subst (IsAgain h d) (sym (ap (λ (l : List Note). notes ++ l) none ∙ append-nil notes)) again
 
--- it is asked
-asked_behind : (t : LateChannel) (s : State) (l : List Exchange) (b : List ℕ) (notes : List Note) (q : Command)
-    → t.state ≡ s → given t.plan s ≡ Some q → IsRun (behind t s l b) notes
-    → IsRun (behind (after_late_event t event.Tick) (ticked s) l b) (notes ++ note.Sent q ∷ [])
-asked_behind t s l b notes q same gives run =
-    let tick : IsRun (behind (record t { down = t.down ++ command_bursts t.port.state.unit (given t.plan s) }) (ticked s) l b)
-    (notes ++ note.Sent q ∷ []) =
-    subst (λ (o : Option Command). IsRun (after_late_event (behind t s l b) event.Tick)
-    (notes ++ option_to_list (option_map (λ x. note.Sent x) o))) gives
-    (happened run event.Tick (ap is_some gives)) in
-    subst (λ (x : State). IsRun (behind (record t { down = t.down ++ command_bursts t.port.state.unit (given t.plan x) })
-    (ticked s) l b) (notes ++ note.Sent q ∷ [])) (sym same) tick
+same_last : (notes more : List Note) (h : Heard) → more ≡ [] → heard_last (notes ++ more) ≡ Some h
+    → heard_last notes ≡ Some h
+same_last notes more h none last =
+    ap heard_last (sym (ap (λ (l : List Note). notes ++ l) none ∙ append-nil notes)) ∙ last
 
--- with a plan that is the same
-abbrev lasting : Plan → State → List Exchange → Heard → LateChannel → LateChannel
-lasting plan s l h now =
-    gone_on (ticking (hearing h (taking (record now { plan = plan; state = s; log = l })))) now
+-- an event that leaves the controller as it was, and has no note
+passes : UnitStays → (h : Heard) (c : LateChannel) (notes : List Note) (e : LateEvent) → IsNoTick e
+    → notes_of c e ≡ [] → (after_late_event c e).state ≡ c.state → (after_late_event c e).log ≡ c.log
+    → (heard_last notes ≡ Some h → Plays c.plan c.state h → IsAgain h c notes)
+    → heard_last (notes ++ notes_of c e) ≡ Some h
+    → Plays (after_late_event c e).plan (after_late_event c e).state h
+    → IsAgain h (after_late_event c e) (notes ++ notes_of c e)
+passes stays h c notes e quiet none state log before last plays =
+    let d : LateChannel = after_late_event c e in
+    same_notes h d notes (notes_of c e) none
+    (still_again stays h c notes e quiet state log
+    (before (same_last notes (notes_of c e) h none last)
+    (plays_so h c.plan d.plan c.state d.state (plan_stays c e) state plays)))
 
-pub asked : UnitStays → (c : LateChannel) (notes : List Note) (h : Heard) (q : Command) (quiet since : List LateEvent)
-    → IsRun c notes → Announces c h q → All IsQuiet quiet → All IsNoTick since
-    → IsRun (gone_on (heard_twice h c) (after_late_events c (event.Up ∷ (quiet ++ (event.Tick ∷ since)))))
-    (notes ++ announced_notes h q)
-asked stays c notes h q quiet since run a is_quiet no_tick =
-    let first : LateChannel = after_late_event c event.Up in
-    let s : State = (hearing h c).state in
-    let l : List Exchange = (hearing h c).log in
-    let t : LateChannel = after_late_events first quiet in
-    let u : LateChannel = after_late_event t event.Tick in
-    let plan : t.plan ≡ c.plan = plan_stays_in first quiet in
-    let came : heard_in c.port.state.unit (oldest c.up) ≡ Some h =
-    ap (λ (up : List (List ℕ)). heard_in c.port.state.unit (oldest up)) a.next ∙ a.heard_is in
-    let hears_first : first.state ≡ s = ap (λ (o : Option Heard). state_hearing c.plan o c.state) came in
-    let idle_then : awaited c.plan first.state ≡ None =
-    ap (awaited c.plan) hears_first ∙ none_awaited c.plan s.stage s.stop s q refl a.asked in
-    let same : t.state ≡ s = quiet_all first quiet is_quiet idle_then ∙ hears_first in
-    let sent : IsRun (behind u (ticked s) l a.burst) ((notes ++ note.Heard h ∷ []) ++ note.Sent q ∷ []) =
-    asked_behind t s l a.burst (notes ++ note.Heard h ∷ []) q same (ap (λ (p : Plan). given p s) plan ∙ a.asked)
-    (behind_all first s l a.burst (notes ++ note.Heard h ∷ []) quiet is_quiet (copied c notes h q a run)) in
-    let hears : heard_in u.port.state.unit a.burst ≡ Some h =
-    ap (λ (unit : ℕ). heard_in unit a.burst) (units_stay stays first quiet) ∙ a.heard_is in
-    let ends : IsSome (ended_by u.plan (Some h) (taken (ticked s))) =
-    subst (λ (p : Plan). IsSome (ended_by p (Some h) (taken (ticked s)))) (sym plan) (ends_twice c h q a) in
-    let plays : given u.plan (came_to u.plan (Some h) (taken (ticked s))) ≡ Some command.Play =
-    ap (λ (p : Plan). given p (came_to p (Some h) (taken (ticked s)))) plan ∙ a.plays in
-    let all : IsRun (lasting u.plan (ticked s) l h (after_late_events u since))
-    (((notes ++ note.Heard h ∷ []) ++ note.Sent q ∷ []) ++ last_notes h) =
-    plays_behind u (ticked s) l a.burst h ((notes ++ note.Heard h ∷ []) ++ note.Sent q ∷ []) since hears ends plays no_tick
-    sent in
-    subst (λ (now : LateChannel). IsRun (lasting c.plan (ticked s) l h now) (notes ++ announced_notes h q))
-    (sym (events_both first quiet (event.Tick ∷ since)))
-    (subst (IsRun (lasting c.plan (ticked s) l h (after_late_events u since)))
-    (six notes (last_notes h) (note.Heard h) (note.Sent q))
-    (subst (λ (p : Plan). IsRun (lasting p (ticked s) l h (after_late_events u since))
-    (((notes ++ note.Heard h ∷ []) ++ note.Sent q ∷ []) ++ last_notes h)) plan all))
+-- the state is asked
+asks_it : (h : Heard) (c : LateChannel) (notes : List Note) (gives : Option Command) → given c.plan c.state ≡ gives
+    → IsSome gives → (heard_last notes ≡ Some h → Plays c.plan c.state h → IsAgain h c notes)
+    → heard_last (notes ++ sent_of gives) ≡ Some h → Plays c.plan (ticked c.state) h
+    → IsAgain h (after_late_event c event.Tick) (notes ++ sent_of gives)
+asks_it h c notes None is some before last plays = cc some
+asks_it h c notes (Some q) is some before last plays =
+    let s : State = c.state in
+    let n : List Note = notes ++ note.Sent q ∷ [] in
+    let d : LateChannel = after_late_event c event.Tick in
+    let unit : ℕ = c.port.state.unit in
+    let twice = ticked_twice c.plan s.stage s q is in
+    let so : Plays c.plan s h =
+    ap (λ (x : State). given c.plan (came_to c.plan (Some h) (taken x))) (sym twice.0) ∙ plays in
+    let was : Again c.plan (ticked s) (Some q) c.log unit h c notes =
+    subst (λ (o : Option Command). Again c.plan (ticked s) o c.log unit h c notes) is
+    (before (given_last notes (Some q) h last) so) in
+    let moved : IsRun (ahead d (came_to c.plan (Some h) (taken (ticked s)))
+    (logged c.log (ended_by c.plan (Some h) (taken (ticked s)))) []) (n ++ note.Take ∷ note.Heard h ∷ []) =
+    with_downs (record c {
+      state = came_to c.plan (Some h) (taken (ticked s));
+      log = logged c.log (ended_by c.plan (Some h) (taken (ticked s)));
+    }) (n ++ note.Take ∷ note.Heard h ∷ []) (c.down ++ command_bursts unit (Some q)) (d.down ++ [])
+    (ap (λ (o : Option Command). c.down ++ command_bursts unit o) (sym is) ∙ sym (append-nil d.down))
+    (subst (IsRun (ahead c (came_to c.plan (Some h) (taken (ticked s)))
+    (logged c.log (ended_by c.plan (Some h) (taken (ticked s)))) (command_bursts unit (Some q))))
+    (sym (append_assoc notes (note.Sent q ∷ []) (note.Take ∷ note.Heard h ∷ []))) was) in
+    subst (λ (x : State). Again c.plan x (given c.plan (ticked s)) c.log unit h d n) (sym twice.0)
+    (subst (λ (o : Option Command). Again c.plan (ticked s) o c.log unit h d n) (sym twice.1) moved)
 
--- the rows may tell of another state
-pub shows : (notes : List Note) (h : Heard) (free : Note) (q : Command) → IsTrue (asks_state (note.Sent q))
-    → IsTrue (hears_done (note.Heard h)) → IsTrue (hears_free free)
-    → IsThinned (notes ++ announced_notes h q)
-    (notes ++ (note.Heard h ∷ note.Sent q ∷ free ∷ note.Sent command.Play ∷ note.Silence ∷ []))
-shows notes h free q asks done lets =
-    let all : List Note = notes ++ announced_notes h q in
-    let last : List Note = note.Sent command.Play ∷ note.Silence ∷ [] in
-    subst (IsThinned all) (append_assoc notes (note.Heard h ∷ []) (note.Sent q ∷ free ∷ last))
-    (before_play (notes ++ note.Heard h ∷ []) (note.Silence ∷ []) true (note.Sent q) (note.Heard h) free asks done lets
-    (subst (IsThinned all) (sym (append_assoc notes (note.Heard h ∷ []) (note.Sent q ∷ note.Take ∷ note.Heard h ∷ last)))
-    whole))
+-- a time-out, or a kill, with nothing awaited
+silent : (h : Heard) (c : LateChannel) (notes : List Note) (by : Option Exchange) → ended_by c.plan None c.state ≡ by
+    → heard_last (notes ++ end_notes None by) ≡ Some h → end_notes None by ≡ []
+silent h c notes None is last = refl
+silent h c notes (Some e) is last = absurd (none_some (sym (last_more None notes (note.Silence ∷ [])) ∙ last))
+
+unended : (c : LateChannel) (by : Option Exchange) → ended_by c.plan None c.state ≡ by → end_notes None by ≡ []
+    → (came_to c.plan None c.state ≡ c.state) × (logged c.log (ended_by c.plan None c.state) ≡ c.log)
+unended c None is none = (ap (left_by c.plan c.state) is, ap (logged c.log) is)
+unended c (Some e) is none = cc none
+
+again_of : UnitStays → (h : Heard) (c : LateChannel) (notes : List Note) → IsRun c notes → heard_last notes ≡ Some h
+    → Plays c.plan c.state h → IsAgain h c notes
+again_of stays h _ _ (begun plan port down up can_start) last plays = absurd (none_some last)
+again_of stays h _ _ (happened {c} {notes} run event.Tick of_run) last plays =
+    asks_it h c notes (given c.plan c.state) refl of_run (again_of stays h c notes run) last plays
+again_of stays h _ _ (happened {c} {notes} run event.Down of_run) last plays =
+    passes stays h c notes event.Down tt refl refl refl (again_of stays h c notes run) last plays
+again_of stays h _ _ (happened {c} {notes} run event.Up of_run) last plays =
+    came_up stays h c (after_late_event c event.Up) notes (heard_in c.port.state.unit (oldest c.up)) refl refl refl refl
+    (happened run event.UpCopy tt) (λ s l more ns r. happened r event.Up tt)
+    (still_again stays h c notes event.Up tt) (again_of stays h c notes run) last plays
+again_of stays h _ _ (happened {c} {notes} run event.DownCopy of_run) last plays =
+    passes stays h c notes event.DownCopy tt refl refl refl (again_of stays h c notes run) last plays
+again_of stays h _ _ (happened {c} {notes} run event.UpCopy of_run) last plays =
+    came_up stays h c (after_late_event c event.UpCopy) notes (heard_in c.port.state.unit (oldest c.up)) refl refl refl refl
+    (happened run event.UpCopy tt) (λ s l more ns r. happened r event.UpCopy tt)
+    (still_again stays h c notes event.UpCopy tt) (again_of stays h c notes run) last plays
+again_of stays h _ _ (happened {c} {notes} run (event.LoseDown place) of_run) last plays =
+    passes stays h c notes (event.LoseDown place) tt refl refl refl (again_of stays h c notes run) last plays
+again_of stays h _ _ (happened {c} {notes} run (event.LoseUp place) of_run) last plays =
+    passes stays h c notes (event.LoseUp place) tt refl refl refl (again_of stays h c notes run) last plays
+again_of stays h _ _ (happened {c} {notes} run (event.AlterDown place bytes) of_run) last plays =
+    passes stays h c notes (event.AlterDown place bytes) tt refl refl refl (again_of stays h c notes run) last plays
+again_of stays h _ _ (happened {c} {notes} run (event.AlterUp place bytes) of_run) last plays =
+    passes stays h c notes (event.AlterUp place bytes) tt refl refl refl (again_of stays h c notes run) last plays
+again_of stays h _ _ (happened {c} {notes} run (event.JunkDown place bytes) of_run) last plays =
+    passes stays h c notes (event.JunkDown place bytes) tt refl refl refl (again_of stays h c notes run) last plays
+again_of stays h _ _ (happened {c} {notes} run (event.JunkUp place bytes) of_run) last plays =
+    passes stays h c notes (event.JunkUp place bytes) tt refl refl refl (again_of stays h c notes run) last plays
+again_of stays h _ _ (happened {c} {notes} run event.Timeout of_run) last plays =
+    let none = silent h c notes (ended_by c.plan None c.state) refl last in
+    let same = unended c (ended_by c.plan None c.state) refl none in
+    passes stays h c notes event.Timeout tt none same.0 same.1 (again_of stays h c notes run) last plays
+again_of stays h _ _ (happened {c} {notes} run event.Ready of_run) last plays =
+    passes stays h c notes event.Ready tt refl refl refl (again_of stays h c notes run) last plays
+again_of stays h _ _ (happened {c} {notes} run event.End of_run) last plays =
+    passes stays h c notes event.End tt refl refl refl (again_of stays h c notes run) last plays
+again_of stays h _ _ (happened {c} {notes} run event.Frame of_run) last plays =
+    passes stays h c notes event.Frame tt refl refl refl (again_of stays h c notes run) last plays
+again_of stays h _ _ (happened {c} {notes} run event.Take of_run) last plays =
+    absurd (none_some (sym (last_more None notes (note.Take ∷ [])) ∙ last))
+again_of stays h _ _ (happened {c} {notes} run event.Stop of_run) last plays =
+    absurd (none_some (sym (last_more None notes (note.Stop ∷ [])) ∙ last))
+again_of stays h _ _ (happened {c} {notes} run event.ServerAnew of_run) last plays =
+    passes stays h c notes event.ServerAnew tt refl refl refl (again_of stays h c notes run) last plays
+again_of stays h _ _ (happened {c} {notes} run event.AutomationAnew of_run) last plays = absurd of_run
+again_of stays h _ _ (happened {c} {notes} run event.StrayAck of_run) last plays =
+    let s = strays c c.plan.mode Ack refl refl in
+    passes stays h c notes event.StrayAck tt s.notes_are s.state_is s.log_is (again_of stays h c notes run) last plays
+again_of stays h _ _ (happened {c} {notes} run (event.StrayNak byte) of_run) last plays =
+    let s = strays c c.plan.mode (Nak byte) refl refl in
+    passes stays h c notes (event.StrayNak byte) tt s.notes_are s.state_is s.log_is (again_of stays h c notes run) last
+    plays
+again_of stays h _ _ (killed {c} {notes} run since quiet) last plays =
+    let d : LateChannel = gone_on c (after_late_events c since) in
+    let none = silent h c notes (ended_by c.plan None c.state) refl last in
+    let same = unended c (ended_by c.plan None c.state) refl none in
+    let plan = plan_stays_in c since in
+    same_notes h d notes (silence_notes c) none
+    (again_on h c d notes plan same.0 same.1 (units_stay stays c since)
+    (ahead_all c (came_to c.plan (Some h) (taken (ticked c.state)))
+    (logged c.log (ended_by c.plan (Some h) (taken (ticked c.state))))
+    (command_bursts c.port.state.unit (given c.plan c.state))
+    (notes ++ (sent_of (given c.plan c.state) ++ note.Take ∷ note.Heard h ∷ [])) since quiet
+    (again_of stays h c notes run (same_last notes (silence_notes c) h none last)
+    (plays_so h c.plan d.plan c.state d.state plan same.0 plays))))
+
+-- So it may go on with that PLAY.
+
+last_gone : (down : List (List ℕ)) (burst : List ℕ) → remove (down ++ burst ∷ []) (length down) ≡ down
+last_gone [] burst = refl
+last_gone (x ∷ down) burst = ap (λ (l : List (List ℕ)). x ∷ l) (last_gone down burst)
+
+-- a command that was given is lost
+lost_last : (c : LateChannel) (notes : List Note) (unit : ℕ) (gives : Option Command)
+    → IsRun (record c { down = c.down ++ command_bursts unit gives }) notes → IsRun c notes
+lost_last c notes unit None run = with_downs c notes (c.down ++ []) c.down (append-nil c.down) run
+lost_last c notes unit (Some q) run =
+    with_downs c notes _ c.down (last_gone c.down _) (no_notes (happened run (event.LoseDown (length c.down)) tt))
+
+pub goes : UnitStays → (c : LateChannel) (notes : List Note) (h : Heard) (since : List LateEvent) → IsRun c notes
+    → Announces c.plan c.state notes h → All IsNoTick since
+    → IsRun (gone_on (played h c) (after_late_events c since)) (notes ++ played_notes (given c.plan c.state) h)
+goes stays c notes h since run a quiet =
+    let unit : ℕ = c.port.state.unit in
+    let gives : Option Command = given c.plan c.state in
+    let s : State = came_again c.plan h c.state in
+    let l : List Exchange = logged c.log (ended_by c.plan (Some h) (taken (ticked c.state))) in
+    let ready : LateChannel = record c { state = s; log = l } in
+    let before : List Note = sent_of gives ++ note.Take ∷ note.Heard h ∷ [] in
+    let n : List Note = notes ++ before in
+    let plays : IsRun ready n = lost_last ready n unit gives (again_of stays h c notes run a.last a.plays) in
+    let lost : IsRun (played h c) (n ++ note.Sent command.Play ∷ []) =
+    lost_last (played h c) (n ++ note.Sent command.Play ∷ []) unit (given c.plan s)
+    (asked ready n command.Play plays a.plays) in
+    let now : LateChannel = after_late_events c since in
+    let p : LateChannel = record now { state = ticked s; log = l } in
+    let held : IsRun p (n ++ note.Sent command.Play ∷ []) =
+    with_downs p (n ++ note.Sent command.Play ∷ []) (now.down ++ []) now.down (append-nil now.down)
+    (ahead_all c (ticked s) l [] (n ++ note.Sent command.Play ∷ []) since quiet
+    (with_downs (played h c) (n ++ note.Sent command.Play ∷ []) c.down (c.down ++ []) (sym (append-nil c.down)) lost)) in
+    let plan : now.plan ≡ c.plan = plan_stays_in c since in
+    let awaits : awaited p.plan p.state ≡ Some command.Play =
+    ap (λ (q : Plan). awaited q (ticked s)) plan ∙ given_awaited c.plan s.stage s command.Play a.plays in
+    let over : IsRun (after_late_event p event.Timeout) ((n ++ note.Sent command.Play ∷ []) ++ silence_notes p) =
+    happened held event.Timeout tt in
+    subst (λ (q : Plan). IsRun (record now { state = came_to q None (ticked s); log = logged l (ended_by q None (ticked s)) })
+    (notes ++ played_notes gives h)) plan
+    (subst (IsRun (after_late_event p event.Timeout))
+    (ap (λ (more : List Note). (n ++ note.Sent command.Play ∷ []) ++ more) (one_silence p command.Play awaits)
+    ∙ append_assoc n (note.Sent command.Play ∷ []) (note.Silence ∷ [])
+    ∙ append_assoc notes before (note.Sent command.Play ∷ note.Silence ∷ [])
+    ∙ ap (λ (more : List Note). notes ++ more)
+    (append_assoc (sent_of gives) (note.Take ∷ note.Heard h ∷ []) (note.Sent command.Play ∷ note.Silence ∷ []))) over)
+
+-- Rows may leave out as much of notes before others.
+
+pub thinned_more : (all rows more : List Note) → IsThinned all rows → IsThinned (all ++ more) (rows ++ more)
+thinned_more all _ more whole = whole
+thinned_more all _ more (without before after asks hears a h thin) =
+    let both : List Note = all ++ more in
+    subst (IsThinned both) (sym (append_assoc before (asks ∷ hears ∷ asks ∷ after) more))
+    (without before (after ++ more) asks hears a h
+    (subst (IsThinned both) (append_assoc before (asks ∷ hears ∷ asks ∷ hears ∷ asks ∷ after) more)
+    (thinned_more all (before ++ (asks ∷ hears ∷ asks ∷ hears ∷ asks ∷ after)) more thin)))
+thinned_more all _ more (before_play before after took asks hears free a h f thin) =
+    let both : List Note = all ++ more in
+    let last : List Note = hears ∷ note.Sent command.Play ∷ after in
+    subst (IsThinned both) (sym (append_assoc before (asks ∷ free ∷ note.Sent command.Play ∷ after) more))
+    (before_play before (after ++ more) took asks hears free a h f
+    (subst (IsThinned both)
+    (append_assoc before (asks ∷ (takes took ++ last)) more
+    ∙ ap (λ (l : List Note). before ++ (asks ∷ l)) (append_assoc (takes took) last more))
+    (thinned_more all (before ++ (asks ∷ (takes took ++ last))) more thin)))
+
+-- so the rows may tell of another state
+pub shows : (all rows : List Note) (h : Heard) (free : Note) (q : Command) → IsThinned all rows
+    → IsTrue (asks_state (note.Sent q)) → IsTrue (hears_done (note.Heard h)) → IsTrue (hears_free free)
+    → IsThinned (all ++ played_notes (Some q) h)
+    (rows ++ (note.Sent q ∷ free ∷ note.Sent command.Play ∷ note.Silence ∷ []))
+shows all rows h free q thin asks done lets =
+    before_play rows (note.Silence ∷ []) true (note.Sent q) (note.Heard h) free asks done lets
+    (thinned_more all rows (played_notes (Some q) h) thin)

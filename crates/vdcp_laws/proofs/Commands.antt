@@ -10,9 +10,10 @@ use Rattle.vdcp_auto.specs.Heard.{heard_as}
 use Rattle.vdcp_auto.specs.Plan.{Plan}
 use Rattle.vdcp_auto.specs.State.{State, Stage, Ready, Awaiting, Ended}
 use Rattle.vdcp_auto.specs.Turn as turns
-use Rattle.vdcp_auto.specs.Turn.{awaited, awaited_in, given, given_in, ticked, tick_in, came_to, ended_by, ended_in, exchange_of, is_end, transition_of, unanswered_after}
+use Rattle.vdcp_auto.specs.Turn.{awaited, awaited_in, given, given_in, ticked, tick_in, came_to, ended_by, ended_in, exchange_of, is_end, outcome_of, taken, transition_of, unanswered_after}
 use Rattle.vdcp_auto.specs.declared.exchange.Exchange.{Exchange}
 use Rattle.vdcp_auto.specs.declared.exchange.Heard.{Heard}
+use Rattle.vdcp_auto.specs.declared.outcome.Outcome.{Outcome}
 use Rattle.vdcp_auto.specs.declared.phase.Mode.{Mode}
 use Rattle.vdcp_auto.specs.declared.phase.Mode.TheVariants.{Plain, Confirming}
 use Rattle.vdcp_auto.specs.declared.phase.Transition.{Transition}
@@ -94,6 +95,30 @@ timed_out_by plan s (Some c) is =
 pub timed_out : (plan : Plan) (s : State) → awaited plan (came_to plan None s) ≡ None
 timed_out plan s = timed_out_by plan s (awaited plan s) refl
 
+-- An end stays: what comes then changes nothing.
+
+pub still : (plan : Plan) (h : Option Heard) (s : State) (o : Outcome) → s.stage ≡ Ended o → came_to plan h s ≡ s
+still plan h s o is =
+    ap (λ (c : Option Command). left_by plan s (exchange_of plan.mode h c)) (ap (awaited_in plan) is)
+
+gives_nothing : (plan : Plan) (h : Heard) (s : State) (o : Outcome) → s.stage ≡ Ended o
+    → given plan (came_to plan (Some h) (taken s)) ≡ None
+gives_nothing plan h s o is =
+    ap (given plan) (still plan (Some h) (taken s) o is) ∙ ap (given_in plan s.stop) is
+
+not_ended_in : (plan : Plan) (h : Heard) (s : State) (c : Command) (stage : Stage) → s.stage ≡ stage
+    → given plan (came_to plan (Some h) (taken s)) ≡ Some c → outcome_of stage ≡ None
+not_ended_in plan h s c (Ready p) is gives = refl
+not_ended_in plan h s c (Awaiting p) is gives = refl
+not_ended_in plan h s c (Ended o) is gives =
+    let none : None ≡ Some c = sym (gives_nothing plan h s o is) ∙ gives in
+    cc none
+
+-- a controller that gives a command after what it hears goes on
+pub not_ended : (plan : Plan) (h : Heard) (s : State) (c : Command)
+    → given plan (came_to plan (Some h) (taken s)) ≡ Some c → outcome_of s.stage ≡ None
+not_ended plan h s c gives = not_ended_in plan h s c s.stage refl gives
+
 -- what a message leaves, whether it was awaited or not
 pub record Comes (plan : Plan) (h : Option Heard) (p q : Prompt) : Type 0 where
   pub state_is : q.state ≡ came_to plan h p.state
@@ -111,7 +136,7 @@ commands_gives plan p = ap (λ (l : List Command). map command_of p.log ++ l) (t
     ∙ sym (append_assoc (map command_of p.log) (option_to_list (awaited plan p.state))
     (option_to_list (given plan p.state)))
 
-commands_receives : (plan : Plan) (h : Option Heard) (p : Prompt)
+pub commands_receives : (plan : Plan) (h : Option Heard) (p : Prompt)
     → commands_in plan (receives plan h p) ≡ commands_in plan p
 commands_receives plan h p = by (ended_by plan h p.state) refl where
   by : (o : Option Exchange) → ended_by plan h p.state ≡ o

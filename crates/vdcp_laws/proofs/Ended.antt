@@ -7,15 +7,15 @@ use Rattle.vdcp_port.specs.Clock.{ClockedPort}
 use Rattle.vdcp_auto.specs.Heard.{heard_as}
 use Rattle.vdcp_auto.specs.Plan.{Plan}
 use Rattle.vdcp_auto.specs.State.{State, Stage, Ready, Awaiting, Ended}
-use Rattle.vdcp_auto.specs.Turn.{awaited_in, came_to, exchange_of, outcome_of, tick_in, ticked}
+use Rattle.vdcp_auto.specs.Turn.{awaited_in, came_to, exchange_of, outcome_of, taken, tick_in, ticked}
 use Rattle.vdcp_auto.specs.declared.exchange.Heard.{Heard}
 use Rattle.vdcp_auto.specs.declared.outcome.Outcome.{Outcome}
 use Rattle.vdcp_laws.specs.Automation.{Prompt, hears, hears_all}
 use Rattle.vdcp_drive.specs.Reading.{completed}
 use Rattle.vdcp_late.specs.LateHeadline.{is_late_complete}
-use Rattle.vdcp_laws.specs.TwoEnds.{AreJoined, AreLed, CanJoin, Ends, Step, aired_now, begun, went_on}
+use Rattle.vdcp_laws.specs.TwoEnds.{AreJoined, AreLed, CanJoin, Ends, GoesOn, Step, aired_now, as_announced, as_noted, begun, went_on}
 use Rattle.vdcp_laws.specs.TwoEnds.{gave, came_up, came_down, waited, hung_up, frame, shut, took, halted, resumed, restarted}
-use Rattle.vdcp_laws.proofs.Commands.{hears_comes, left_by}
+use Rattle.vdcp_laws.proofs.Commands.{hears_comes, still}
 use Rattle.vdcp_laws.proofs.Headline.{Laws, of_ends}
 
 -- An end stays.
@@ -24,11 +24,6 @@ is_ended : (stage : Stage) (o : Outcome) → outcome_of stage ≡ Some o → sta
 is_ended (Ready p) o is = cc
 is_ended (Awaiting p) o is = cc
 is_ended (Ended other) o is = cc
-
--- what comes then changes nothing
-still : (plan : Plan) (h : Option Heard) (s : State) (o : Outcome) → s.stage ≡ Ended o → came_to plan h s ≡ s
-still plan h s o is =
-    ap (λ (c : Option Command). left_by plan s (exchange_of plan.mode h c)) (ap (awaited_in plan) is)
 
 still_heard : (plan : Plan) (unit : ℕ) (ms : List Content) (p : Prompt) (o : Outcome) → p.state.stage ≡ Ended o
     → (hears_all plan unit ms p).state ≡ p.state
@@ -44,6 +39,27 @@ Rests o was now = (now.stage ≡ Ended o) × (now.settled ≡ was.settled)
 
 rests : (o : Outcome) (was now : State) → was.stage ≡ Ended o → now ≡ was → Rests o was now
 rests o was now is same = (ap (λ (s : State). s.stage) same ∙ is, ap (λ (s : State). s.settled) same)
+
+then_rests : (o : Outcome) (was now : State) → Rests o was now → (later : State) → later ≡ now → Rests o was later
+then_rests o was now r later same =
+    (ap (λ (s : State). s.stage) same ∙ r.0, ap (λ (s : State). s.settled) same ∙ r.1)
+
+still_given : (o : Outcome) (s : State) → s.stage ≡ Ended o → ticked s ≡ s
+still_given o s is = ap (λ (t : Stage). tick_in t s) is
+
+goes_rests : (plan : Plan) (e on : Ends) (o : Outcome) → GoesOn plan e on → e.automation.state.stage ≡ Ended o
+    → Rests o e.automation.state on.automation.state
+goes_rests plan e _ o as_noted is = (is, refl)
+goes_rests plan e _ o (as_announced h a) is =
+    let s : State = e.automation.state in
+    let asked = then_rests o s s (is, refl) (ticked s) (still_given o s is) in
+    let took : Rests o s (taken (ticked s)) = (asked.0, asked.1) in
+    let again : State = came_to plan (Some h) (taken (ticked s)) in
+    let heard = then_rests o s (taken (ticked s)) took again (still plan (Some h) (taken (ticked s)) o took.0) in
+    then_rests o s again heard (ticked again) (still_given o again heard.0)
+
+then_timed_out : (plan : Plan) (o : Outcome) (was now : State) → Rests o was now → Rests o was (came_to plan None now)
+then_timed_out plan o was now r = then_rests o was now r (came_to plan None now) (still plan None now o r.0)
 
 step_rests : (plan : Plan) (unit : ℕ) (e e' : Ends) (o : Outcome) → Step plan unit e e'
     → e.automation.state.stage ≡ Ended o → Rests o e.automation.state e'.automation.state
@@ -61,10 +77,10 @@ step_rests plan unit e _ o (frame no_close all) is = (is, refl)
 step_rests plan unit e _ o shut is = (is, refl)
 step_rests plan unit e _ o (took on) is = (is, refl)
 step_rests plan unit e _ o (halted on) is = (is, refl)
-step_rests plan unit e _ o resumed is =
-    rests o e.automation.state (came_to plan None e.automation.state) is (still plan None e.automation.state o is)
-step_rests plan unit e _ o restarted is =
-    rests o e.automation.state (came_to plan None e.automation.state) is (still plan None e.automation.state o is)
+step_rests plan unit e _ o (resumed {on} goes) is =
+    then_timed_out plan o e.automation.state on.automation.state (goes_rests plan e on o goes is)
+step_rests plan unit e _ o (restarted {on} goes) is =
+    then_timed_out plan o e.automation.state on.automation.state (goes_rests plan e on o goes is)
 
 all_rests : (plan : Plan) (unit : ℕ) (e later : Ends) (o : Outcome) → AreLed plan unit e later
     → e.automation.state.stage ≡ Ended o → Rests o e.automation.state later.automation.state

@@ -359,7 +359,7 @@ a_kill length = (
   ends.went_on
       (ends.went_on
       (ends.went_on
-      (ends.went_on (ends.went_on (ends.went_on ends.begun ends.gave) (ends.came_down open_bytes [] refl refl)) ends.resumed)
+      (ends.went_on (ends.went_on (ends.went_on ends.begun ends.gave) (ends.came_down open_bytes [] refl refl)) (ends.resumed ends.as_noted))
       ends.gave)
       (ends.came_down open_bytes [] refl refl))
       (ends.came_up granted_bytes [] refl),

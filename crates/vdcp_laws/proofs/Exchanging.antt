@@ -40,8 +40,8 @@ use Rattle.vdcp_drive.specs.Reading.{Held, holds, completed, held_after, held_af
 use Rattle.vdcp_drive.specs.Served.{items_served}
 use Rattle.vdcp_late.specs.LateChannel.{CanStart}
 use Rattle.vdcp_laws.specs.TwoEnds as two
-use Rattle.vdcp_laws.specs.TwoEnds.{AreJoined, Ends, aired_now, bytes_in, commands_sent, new_ends, port_now, sent_down, sent_up, with_down}
-use Rattle.vdcp_laws.specs.Undisturbed.{AreUndisturbed, CanPlay, IsDone, exchanged, first, most_exchanges, none, with_all_down, with_all_up, with_command, with_frames, with_piece_up, with_time_out}
+use Rattle.vdcp_laws.specs.TwoEnds.{AreJoined, Ends, aired_now, bytes_in, commands_sent, new_ends, port_now, sent_down, sent_up, with_command, with_down}
+use Rattle.vdcp_laws.specs.Undisturbed.{AreUndisturbed, CanPlay, IsDone, exchanged, first, most_exchanges, none, with_all_down, with_all_up, with_frames, with_piece_up, with_time_out}
 use Rattle.vdcp_laws.specs.Below.{Answered, Arrived, Completed, Spelt, Written}
 use Rattle.vdcp_laws.proofs.Bytes.{clean_spelt, messages_spelt, nothing_unfinished, spells_all, spelt, spelt_both}
 use Rattle.vdcp_laws.proofs.Commands.{commands_gives, commands_listens, hears_comes}

@@ -17,26 +17,34 @@ use Rattle.vdcp_words.specs.declared.reply.Reply.TheVariants.{Nak}
 use Rattle.vdcp_port.specs.Answers.{after_messages, aired_on_way, answer_bytes, answers_to, bytes_for_all, end_answers}
 use Rattle.vdcp_port.specs.Clock.{ClockedPort, after_frame}
 use Rattle.vdcp_auto.specs.Course.{logged}
+use Rattle.vdcp_auto.specs.Heard.{heard_in}
 use Rattle.vdcp_auto.specs.Plan.{Plan}
 use Rattle.vdcp_auto.specs.State.{State}
 use Rattle.vdcp_auto.specs.Turn.{awaited, came_to, ended_by, given, stopped, taken, ticked}
 use Rattle.vdcp_auto.specs.declared.exchange.Exchange.{Exchange}
+use Rattle.vdcp_auto.specs.declared.exchange.Heard.{Heard}
 use Rattle.vdcp_journal.specs.declared.row.Note.{Note}
 use Rattle.vdcp_journal.specs.declared.row.Note.TheVariants as note
 use Rattle.vdcp_wire.specs.Wires.{Arrival, bytes, silence, close, has_closed}
 use Rattle.vdcp_drive.specs.Bursts.{open_burst}
-use Rattle.vdcp_laws.specs.Automation.{Prompt, commands_in, gives, hears_all, listens}
+use Rattle.vdcp_drive.specs.Steps as steps
+use Rattle.vdcp_laws.specs.Announced.{Announces, heard_from, heard_last}
+use Rattle.vdcp_laws.specs.Automation.{Prompt, commands_in, end_notes, gives, hears_all, listens, receives}
 use Rattle.vdcp_drive.specs.Reading.{Held, holds, completed, held_after, held_after_silence}
 use Rattle.vdcp_drive.specs.Served.{items_served}
+use Rattle.vdcp_world.specs.Channel.{log_hearing, state_hearing}
 use Rattle.vdcp_late.specs.LateChannel.{AsksOnly, LateChannel, IsLateReached, IsQuestion, after_late_event, after_late_events, command_bursts, made_anew, new_late_channel}
 use Rattle.vdcp_late.specs.declared.event.LateEvent.{LateEvent}
 use Rattle.vdcp_late.specs.declared.event.LateEvent.TheVariants as event
-use Rattle.vdcp_laws.specs.TwoEnds.{AreJoined, begun, went_on, gave, came_up, came_down, waited, hung_up, frame, shut, took, halted, resumed, restarted}
-use Rattle.vdcp_laws.specs.TwoEnds.{CanJoin, Ends, IsLateChannel, aired_now, bytes_in, commands_sent, connected_anew, log_now, new_ends, port_now, sent_up, notes_ended, notes_given, notes_heard, wishing, with_automation, with_down, with_up}
+use Rattle.vdcp_laws.specs.TwoEnds.{AreJoined, begun, note_for, went_on, gave, came_up, came_down, waited, hung_up, frame, shut, took, halted, resumed, restarted}
+use Rattle.vdcp_laws.specs.TwoEnds.{GoesOn, as_announced, as_noted}
+use Rattle.vdcp_laws.specs.TwoEnds.{CanJoin, Ends, IsLateChannel, aired_now, bytes_in, commands_sent, connected_anew, log_now, new_ends, port_now, sent_up, notes_ended, notes_given, notes_heard, wishing, with_automation, with_command, with_down, with_heard, with_take, with_up}
 use Rattle.vdcp_laws.specs.Below.{Answered, Arrived, Completed, Spelt, Written}
 use Rattle.vdcp_laws.proofs.Bytes.{clean_spelt, completes, end_past, front_small, messages_past, messages_spelt, messages_within_limit, nothing_unfinished, spelt, spelt_both, whole_spelt, within_limit}
-use Rattle.vdcp_laws.proofs.Commands.{commands_gives, commands_listens, timed_out}
+use Rattle.vdcp_laws.proofs.Commands.{commands_gives, commands_listens, commands_receives, timed_out}
+use Rattle.vdcp_laws.proofs.Noting.{heard_is}
 use Rattle.vdcp_laws.proofs.Queues.{ComesOn, IsOnWay, bursts_to, bytes_from, bytes_to, comes_on, delivers, downs_lost, downs_of, hears_each, logged_behind, loses_down, loses_first, loses_up, refuses, messages_from, messages_to, sends_on, ups_lost, ups_of, with_queues}
+use Rattle.vdcp_laws.proofs.Twice.{IsTwice, behind, downs_unheard, given_last, heard_note, last_more, lost_down_unheard, lost_up_unheard, silent_last, twice_all, twice_heard, twice_on}
 use Rattle.vdcp_laws.proofs.Serving.{bytes_close, bytes_more, bytes_silence, clips_frame, clips_stay, serves_bytes, serves_close, serves_frame}
 
 -- the laws below, and vdcp_late::laws::a_killed_automation_goes_on
@@ -74,6 +82,7 @@ pub record IsBeside (plan : Plan) (start_port : ClockedPort) (e : Ends) (c : Lat
   pub log_is : c.log ≡ log_now e
   pub port_is : c.port ≡ port_now e
   pub aired_is : c.aired ≡ aired_now e
+  pub again : (h : Heard) → heard_last e.notes ≡ Some h → IsTwice start_port.state.unit h c
   pub downwards : IsDown plan start_port.state.unit e c.down
   pub upwards : IsUp e c.up
 
@@ -104,10 +113,10 @@ same_down plan unit e e' queue queue' w downs commands same = record {
   open_is = ap open_burst downs ∙ w.open_is;
 }
 
-gives_next : (law : Laws) (plan : Plan) (port : ClockedPort) (asked : List Command) (e : Ends) (c : LateChannel) (notes : List Note)
+gives_next : (law : Laws) (plan : Plan) (port : ClockedPort) (asked : List Command) (e : Ends) (c : LateChannel)
     → CanJoin plan port asked → IsBeside plan port e c
-    → IsBeside plan port (with_automation (gives e.automation) notes e) (after_late_event c event.Tick)
-gives_next law plan port asked e c notes can b =
+    → IsBeside plan port (with_command plan e) (after_late_event c event.Tick)
+gives_next law plan port asked e c can b =
     let unit : ℕ = port.state.unit in
     let p : Prompt = e.automation in
     let before : List Command = commands_sent plan e in
@@ -135,6 +144,7 @@ gives_next law plan port asked e c notes can b =
       log_is = b.log_is;
       port_is = b.port_is;
       aired_is = b.aired_is;
+      again = λ h is. twice_on law.goes_on unit h c event.Tick tt (b.again h (given_last e.notes (given plan p.state) h is));
       downwards = record {
         held = w.held;
         on_way = subst (λ (l : List Content). IsOnWay l (bytes_in e.downs) w.held
@@ -154,15 +164,16 @@ gives_next law plan port asked e c notes can b =
     }
 
 -- a time-out
-times_out : (law : Laws) (plan : Plan) (port : ClockedPort) (e : Ends) (c : LateChannel) (a : Arrival) (notes : List Note)
+times_out : (law : Laws) (plan : Plan) (port : ClockedPort) (e : Ends) (c : LateChannel) (a : Arrival)
     → (b : IsBeside plan port e c)
     → (listens plan port.state.unit a e.automation).state ≡ came_to plan None e.automation.state
     → (listens plan port.state.unit a e.automation).log
     ≡ logged e.automation.log (ended_by plan None e.automation.state)
     → (listens plan port.state.unit a e.automation).held ≡ holds b.upwards.held
-    → IsBeside plan port (with_automation (listens plan port.state.unit a e.automation) notes e)
+    → IsBeside plan port
+    (with_automation (listens plan port.state.unit a e.automation) (notes_ended plan None e.automation.state) e)
     (after_late_event c event.Timeout)
-times_out law plan port e c a notes b state log held = record {
+times_out law plan port e c a b state log held = record {
   reached = law.goes_on c (event.Timeout ∷ []) b.reached;
   plan_is = b.plan_is;
   unit_is = b.unit_is;
@@ -174,7 +185,10 @@ times_out law plan port e c a notes b state log held = record {
       ∙ ap (λ (l : List Exchange). e.log_before ++ l) (sym log);
   port_is = b.port_is;
   aired_is = b.aired_is;
-  downwards = same_down plan port.state.unit e (with_automation (listens plan port.state.unit a e.automation) notes e) c.down
+  again = λ h is. twice_on law.goes_on port.state.unit h c event.Timeout tt
+      (b.again h (silent_last plan e.automation.state e.notes h is));
+  downwards = same_down plan port.state.unit e
+      (with_automation (listens plan port.state.unit a e.automation) (notes_ended plan None e.automation.state) e) c.down
       c.down b.downwards refl
       (ap (λ (l : List Command). e.asked ++ l) (commands_listens plan port.state.unit a e.automation)) refl;
   upwards = record {
@@ -188,12 +202,14 @@ times_out law plan port e c a notes b state log held = record {
 
 -- bytes come up: each message that they complete is delivered
 comes_up : (law : Laws) (plan : Plan) (port : ClockedPort) (e : Ends) (piece : List ℕ) (c : LateChannel)
-    (notes : List Note) → (b : IsBeside plan port e c) → (on : ComesOn b.upwards.said e.ups b.upwards.held piece c.up)
-    → IsBeside plan port (with_up piece (with_automation (listens plan port.state.unit (bytes piece) e.automation) notes e))
+    → (b : IsBeside plan port e c) → (on : ComesOn b.upwards.said e.ups b.upwards.held piece c.up)
+    → IsBeside plan port (with_up piece (with_automation (listens plan port.state.unit (bytes piece) e.automation)
+    (notes_heard plan port.state.unit (completed e.automation.held piece) e.automation) e))
     (after_late_events c (ups_of on.new))
-comes_up law plan port e piece c notes b on =
+comes_up law plan port e piece c b on =
     let unit : ℕ = port.state.unit in
     let p : Prompt = e.automation in
+    let notes : List Note = notes_heard plan unit (completed p.held piece) p in
     let d : LateChannel = after_late_events c (ups_of on.new) in
     let reads = completes law.spelt law.completed b.upwards.held piece on.new on.held_on b.upwards.on_way.unfinished
     on.fits on.on_way.unfinished on.reads in
@@ -209,6 +225,9 @@ comes_up law plan port e piece c notes b on =
       log_is = h.log_is ∙ ap (λ (l : List Content). e.log_before ++ (hears_all plan unit l p).log) (sym new);
       port_is = h.port_is ∙ b.port_is;
       aired_is = h.aired_is ∙ b.aired_is;
+      again = λ x is. twice_heard law.goes_on law.spelt plan unit on.new on.rest p c e.notes on.fits b.plan_is b.unit_is
+          b.state_is on.queue_is b.reached b.again x
+          (ap (λ (l : List Content). heard_last (e.notes ++ notes_heard plan unit l p)) (sym new) ∙ is);
       downwards = same_down plan unit e (with_up piece (with_automation (listens plan unit (bytes piece) p) notes e)) c.down
           d.down b.downwards refl
           (ap (λ (l : List Command). e.asked ++ l) (commands_listens plan unit (bytes piece) p)) h.down_is;
@@ -221,13 +240,28 @@ comes_up law plan port e piece c notes b on =
       };
     }
 
+none_last : (h : Heard) → None ≡ Some h → ⊥
+none_last h is = cc is
+
+-- after none, this is heard
+one_heard : (plan : Plan) (s : State) (notes : List Note) (h x : Heard) → heard_last notes ≡ None → (by : Option Exchange)
+    → ended_by plan (Some h) s ≡ by → heard_last (notes ++ map note_for (end_notes by)) ≡ Some x → h ≡ x
+one_heard plan s notes h x none None ended last =
+    absurd (none_last x (sym none ∙ ap heard_last (sym (append-nil notes)) ∙ last))
+one_heard plan s notes h x none (Some e) ended last =
+    let is : Some h ≡ Some x =
+    sym (heard_note (heard_last notes) e.heard h (heard_is plan.mode (Some h) (awaited plan s) e ended))
+    ∙ sym (last_more None notes (note_for (steps.end_of e.heard) ∷ [])) ∙ last in
+    cc is
+
 -- a wish of the operator, which changes neither what is awaited nor what is held
 wishes : (law : Laws) (plan : Plan) (port : ClockedPort) (e : Ends) (c : LateChannel) (wish : LateEvent)
     (state : State) (notes : List Note) → IsBeside plan port e c
     → after_late_event c wish ≡ record c { state = (after_late_event c wish).state }
     → (after_late_event c wish).state ≡ state → awaited plan state ≡ awaited plan e.automation.state
+    → heard_last (e.notes ++ notes) ≡ None
     → IsBeside plan port (with_automation (wishing state e.automation) notes e) (after_late_event c wish)
-wishes law plan port e c wish state notes b same is awaits =
+wishes law plan port e c wish state notes b same is awaits none =
     subst (IsBeside plan port (with_automation (wishing state e.automation) notes e)) (sym same) (record {
       reached = subst IsLateReached same (law.goes_on c (wish ∷ []) b.reached);
       plan_is = b.plan_is;
@@ -237,6 +271,7 @@ wishes law plan port e c wish state notes b same is awaits =
       log_is = b.log_is;
       port_is = b.port_is;
       aired_is = b.aired_is;
+      again = λ h last. absurd (none_last h (sym none ∙ last));
       downwards = same_down plan port.state.unit e (with_automation (wishing state e.automation) notes e) c.down c.down b.downwards refl
           (ap (λ (x : Option Command). e.asked
           ++ (map (λ (x : Exchange). x.command) e.automation.log ++ option_to_list x)) awaits) refl;
@@ -298,6 +333,9 @@ read_and_lost law plan port asked e piece c can b no_close ms new past held rest
             ∙ ap₂ (λ (l : List Item) (p : ClockedPort). l ++ aired_on_way p new) b.aired_is b.port_is
             ∙ append_assoc e.aired_before (items_served e.port downs) (aired_on_way (port_now e) new)
             ∙ ap (λ (l : List Item). e.aired_before ++ l) (sym s.aired);
+        again = λ h is. subst (IsTwice unit h) loses
+            (twice_all law.goes_on unit h d (downs_lost (map spelling past)) (lost_down_unheard (map spelling past))
+            (twice_all law.goes_on unit h c (downs_of new) (downs_unheard new) (b.again h is)));
         downwards = record {
           held = held;
           on_way = subst (λ (l : List ℕ). IsOnWay sent l held rest) (sym (bytes_more downs piece)) on_way;
@@ -394,8 +432,10 @@ ends_burst : (law : Laws) (plan : Plan) (port : ClockedPort) (e : Ends) (c : Lat
     → (b : IsBeside plan port e c) → has_closed e.downs ≡ false → b.downwards.held ≡ []
     → end_answers (end_of (open_burst e.downs)) ≡ answers → All Fits (messages_from port.state.unit answers)
     → IsLateReached (with_queues c c.down (c.up ++ map spelling (messages_from port.state.unit answers)))
+    → ((h : Heard) → IsTwice port.state.unit h c → IsTwice port.state.unit h
+    (with_queues c c.down (c.up ++ map spelling (messages_from port.state.unit answers))))
     → AreBeside plan port (with_down silence e)
-ends_burst law plan port e c answers b no_close none ends fits reached =
+ends_burst law plan port e c answers b no_close none ends fits reached twice =
     let unit : ℕ = port.state.unit in
     let sent : List Content = messages_to unit (commands_sent plan e) in
     let more : List Content = messages_from unit answers in
@@ -415,6 +455,7 @@ ends_burst law plan port e c answers b no_close none ends fits reached =
         log_is = b.log_is;
         port_is = ap after_frame b.port_is ∙ sym s.left;
         aired_is = b.aired_is ∙ ap (λ (l : List Item). e.aired_before ++ l) (sym s.aired);
+        again = λ h is. twice_on law.goes_on unit h answering event.Frame tt (twice h (b.again h is));
         downwards = record {
           held = w.held;
           on_way = subst (λ (l : List ℕ). IsOnWay sent l w.held c.down) (sym (bytes_silence e.downs)) w.on_way;
@@ -447,6 +488,8 @@ passes law plan port e c b no_close all (inl past) =
     (whole_spelt law.spelt law.completed w.whole w.held w.fits w.on_way.unfinished (subst AreMessages w.open_is all))
     (end_past (open_burst e.downs) past) (All-cons Fits (nak 0x04) [] (lit< tt) (All-nil Fits))
     (subst IsLateReached (refuses c) (law.goes_on c (event.JunkUp (length c.up) (0x05 ∷ 0x04 ∷ []) ∷ []) b.reached))
+    (λ h t. subst (IsTwice port.state.unit h) (refuses c)
+    (twice_on law.goes_on port.state.unit h c (event.JunkUp (length c.up) (0x05 ∷ 0x04 ∷ [])) tt t))
 passes law plan port e c b no_close all (inr small) =
     let w = b.downwards in
     let none : w.held ≡ [] =
@@ -456,6 +499,7 @@ passes law plan port e c b no_close all (inr small) =
     (ap (λ (l : List ℕ). end_answers (end_of l)) parts
     ∙ ap end_answers (clean_spelt law.spelt w.whole w.fits (subst (λ (l : List ℕ). length l ≤ burst_limit) parts small)))
     (All-nil Fits) (subst IsLateReached (ap (with_queues c c.down) (sym (append-nil c.up))) b.reached)
+    (λ h t. subst (IsTwice port.state.unit h) (ap (with_queues c c.down) (sym (append-nil c.up))) t)
 
 -- the server's line is closed
 shuts : (law : Laws) (plan : Plan) (port : ClockedPort) (e : Ends) (c : LateChannel) → IsBeside plan port e c
@@ -475,6 +519,7 @@ shuts law plan port e c b =
       log_is = b.log_is;
       port_is = b.port_is ∙ sym s.left;
       aired_is = b.aired_is ∙ ap (λ (l : List Item). e.aired_before ++ l) (sym s.aired);
+      again = b.again;
       downwards = record {
         held = w.held;
         on_way = subst (λ (l : List ℕ). IsOnWay sent l w.held c.down) (sym (bytes_close e.downs)) w.on_way;
@@ -578,6 +623,7 @@ begins law plan port asked can =
         log_is = refl;
         port_is = refl;
         aired_is = refl;
+        again = λ h last. absurd (none_last h last);
         downwards = record {
           held = [];
           on_way = record {
@@ -608,11 +654,20 @@ lost_reached law c r =
     (law.goes_on (with_queues c [] c.up) (ups_lost c.up)
     (subst IsLateReached (loses_down c.down c.up c) (law.goes_on c (downs_lost c.down) r))))
 
+lost_twice : (law : Laws) (unit : ℕ) (h : Heard) (c : LateChannel) → IsTwice unit h c → IsTwice unit h (lost c)
+lost_twice law unit h c t =
+    twice_on law.goes_on unit h (with_queues c [] []) event.Timeout tt
+    (subst (IsTwice unit h) (loses_up [] c.up c)
+    (twice_all law.goes_on unit h (with_queues c [] c.up) (ups_lost c.up) (lost_up_unheard c.up)
+    (subst (IsTwice unit h) (loses_down c.down c.up c)
+    (twice_all law.goes_on unit h c (downs_lost c.down) (lost_down_unheard c.down) t))))
+
 connects : (law : Laws) (plan : Plan) (port : ClockedPort) (e : Ends) (c d : LateChannel) (q : ClockedPort)
     → IsBeside plan port e c → IsLateReached d → d ≡ record (lost c) { port = d.port } → d.port ≡ q
     → d.port.state.unit ≡ port.state.unit → d.port.clips ≡ port.clips
+    → ((h : Heard) → IsTwice port.state.unit h (lost c) → IsTwice port.state.unit h d)
     → IsBeside plan port (connected_anew plan q e) d
-connects law plan port e c d q b reached same is unit clips =
+connects law plan port e c d q b reached same is unit clips twice =
     let s : State = e.automation.state in
     let anew : Ends = connected_anew plan q e in
     let time : came_to c.plan None c.state ≡ came_to plan None s =
@@ -631,11 +686,88 @@ connects law plan port e c d q b reached same is unit clips =
       log_is = ap (λ (x : LateChannel). x.log) same ∙ ended;
       port_is = is;
       aired_is = ap (λ (x : LateChannel). x.aired) same ∙ b.aired_is ∙ sym (append-nil (aired_now e));
+      again = λ h last. twice h (lost_twice law port.state.unit h c (b.again h (silent_last plan s e.notes h last)));
       downwards = subst (IsDown plan port.state.unit anew) (sym (ap (λ (x : LateChannel). x.down) same))
           (nothing_down law.spelt plan port.state.unit anew refl
           (ap (λ (x : Option Command). option_to_list x) (timed_out plan s)));
       upwards = subst (IsUp anew) (sym (ap (λ (x : LateChannel). x.up) same))
           (record { said = []; said_is = refl; held = []; on_way = nothing_on_way law.spelt; held_is = refl });
+    }
+
+-- What an automation goes on as that is killed.
+
+takes : (law : Laws) (plan : Plan) (port : ClockedPort) (e : Ends) (c : LateChannel) → IsBeside plan port e c
+    → IsBeside plan port (with_take e) (after_late_event c event.Take)
+takes law plan port e c b =
+    wishes law plan port e c event.Take (taken e.automation.state) (note.Take ∷ []) b refl (ap taken b.state_is) refl
+    (last_more None e.notes (note.Take ∷ []))
+
+-- this is heard of a copy
+hears_copy : (law : Laws) (plan : Plan) (port : ClockedPort) (e : Ends) (c : LateChannel) (h : Heard)
+    → IsBeside plan port e c → heard_last e.notes ≡ None → IsTwice port.state.unit h c
+    → AreBeside plan port (with_heard plan h e)
+hears_copy law plan port e c h b none t =
+    let unit : ℕ = port.state.unit in
+    let s : State = e.automation.state in
+    let d : LateChannel =
+    record c { state = came_to c.plan (Some h) c.state; log = logged c.log (ended_by c.plan (Some h) c.state) } in
+    let came : heard_in c.port.state.unit t.burst ≡ Some h =
+    ap (λ (n : ℕ). heard_in n t.burst) b.unit_is ∙ t.heard_is in
+    let hears : after_late_event (behind t.burst c) event.Up ≡ d =
+    ap (λ (o : Option Heard). record c { state = state_hearing c.plan o c.state; log = log_hearing c.plan o c.state c.log })
+    came in
+    let hears_on : after_late_event (behind t.burst c) event.UpCopy ≡ behind t.burst d =
+    ap (λ (o : Option Heard). record c {
+      state = state_hearing c.plan o c.state;
+      log = log_hearing c.plan o c.state c.log;
+      up = t.burst ∷ c.up;
+    }) came in
+    record {
+      channel = d;
+      beside = record {
+        reached = subst IsLateReached hears (law.goes_on (behind t.burst c) (event.Up ∷ []) t.reached);
+        plan_is = b.plan_is;
+        unit_is = b.unit_is;
+        clips_are = b.clips_are;
+        state_is = ap₂ (λ (q : Plan) (x : State). came_to q (Some h) x) b.plan_is b.state_is;
+        log_is = ap₂ (λ (q : Plan) (x : State). logged c.log (ended_by q (Some h) x)) b.plan_is b.state_is
+            ∙ ap (λ (l : List Exchange). logged l (ended_by plan (Some h) s)) b.log_is
+            ∙ logged_behind e.log_before e.automation.log (ended_by plan (Some h) s);
+        port_is = b.port_is;
+        aired_is = b.aired_is;
+        again = λ x last. subst (λ (y : Heard). IsTwice unit y d)
+            (one_heard plan s e.notes h x none (ended_by plan (Some h) s) refl last) (record {
+              burst = t.burst;
+              heard_is = t.heard_is;
+              reached = subst IsLateReached hears_on (law.goes_on (behind t.burst c) (event.UpCopy ∷ []) t.reached);
+            });
+        downwards = same_down plan unit e (with_heard plan h e) c.down c.down b.downwards refl
+            (ap (λ (l : List Command). e.asked ++ l) (commands_receives plan (Some h) e.automation)) refl;
+        upwards = record {
+          said = b.upwards.said;
+          said_is = b.upwards.said_is;
+          held = b.upwards.held;
+          on_way = b.upwards.on_way;
+          held_is = b.upwards.held_is;
+        };
+      };
+    }
+
+goes_beside : (law : Laws) (plan : Plan) (port : ClockedPort) (asked : List Command) (e on : Ends) (c : LateChannel)
+    → CanJoin plan port asked → IsBeside plan port e c → GoesOn plan e on → AreBeside plan port on
+goes_beside law plan port asked e _ c can b as_noted = record { channel = c; beside = b }
+goes_beside law plan port asked e _ c can b (as_announced h a) =
+    let unit : ℕ = port.state.unit in
+    let gives_it = gives_next law plan port asked e c can b in
+    let given_c : LateChannel = after_late_event c event.Tick in
+    let takes_it = takes law plan port (with_command plan e) given_c gives_it in
+    let t = twice_on law.goes_on unit h given_c event.Take tt (twice_on law.goes_on unit h c event.Tick tt (b.again h a.last)) in
+    let hears_it = hears_copy law plan port (with_take (with_command plan e)) (after_late_event given_c event.Take) h takes_it
+    (last_more None (with_command plan e).notes (note.Take ∷ [])) t in
+    record {
+      channel = _;
+      beside = gives_next law plan port asked (with_heard plan h (with_take (with_command plan e))) hears_it.channel can
+          hears_it.beside;
     }
 
 -- All steps.
@@ -645,16 +777,12 @@ pub beside : (law : Laws) (plan : Plan) (port : ClockedPort) (asked : List Comma
 beside law plan port asked _ can begun = begins law plan port asked can
 beside law plan port asked _ can (went_on {e} j gave) =
     let r = beside law plan port asked e can j in
-    record { channel = _; beside = gives_next law plan port asked e r.channel (notes_given plan e.automation.state) can r.beside }
+    record { channel = _; beside = gives_next law plan port asked e r.channel can r.beside }
 beside law plan port asked _ can (went_on {e} j (came_up piece rest is)) =
     let r = beside law plan port asked e can j in
     let u = r.beside.upwards in
     let on = comes_on law.spelt u.said e.ups u.held r.channel.up u.on_way piece rest (sym u.said_is ∙ is) in
-    record {
-      channel = _;
-      beside = comes_up law plan port e piece r.channel
-          (notes_heard plan port.state.unit (completed e.automation.held piece) e.automation) r.beside on;
-    }
+    record { channel = _; beside = comes_up law plan port e piece r.channel r.beside on }
 beside law plan port asked _ can (went_on {e} j (came_down piece rest is no_close)) =
     let r = beside law plan port asked e can j in
     comes_down law plan port asked e piece r.channel can r.beside no_close rest
@@ -662,13 +790,13 @@ beside law plan port asked _ can (went_on {e} j (came_down piece rest is no_clos
 beside law plan port asked _ can (went_on {e} j waited) =
     let r = beside law plan port asked e can j in record {
       channel = _;
-      beside = times_out law plan port e r.channel silence (notes_ended plan None e.automation.state) r.beside refl refl
+      beside = times_out law plan port e r.channel silence r.beside refl refl
           (ap held_after_silence r.beside.upwards.held_is);
     }
 beside law plan port asked _ can (went_on {e} j hung_up) =
     let r = beside law plan port asked e can j in record {
       channel = _;
-      beside = times_out law plan port e r.channel close (notes_ended plan None e.automation.state) r.beside refl refl
+      beside = times_out law plan port e r.channel close r.beside refl refl
           (ap held_after_silence r.beside.upwards.held_is);
     }
 beside law plan port asked _ can (went_on {e} j (frame no_close all)) =
@@ -678,30 +806,30 @@ beside law plan port asked _ can (went_on {e} j shut) =
     let r = beside law plan port asked e can j in
     record { channel = r.channel; beside = shuts law plan port e r.channel r.beside }
 beside law plan port asked _ can (went_on {e} j (took on)) =
-    let r = beside law plan port asked e can j in record {
-      channel = _;
-      beside = wishes law plan port e r.channel event.Take (taken e.automation.state) (note.Take ∷ []) r.beside refl
-          (ap taken r.beside.state_is) refl;
-    }
+    let r = beside law plan port asked e can j in record { channel = _; beside = takes law plan port e r.channel r.beside }
 beside law plan port asked _ can (went_on {e} j (halted on)) =
     let r = beside law plan port asked e can j in record {
       channel = _;
       beside = wishes law plan port e r.channel event.Stop (stopped e.automation.state) (note.Stop ∷ []) r.beside refl
-          (ap stopped r.beside.state_is) refl;
+          (ap stopped r.beside.state_is) refl (last_more None e.notes (note.Stop ∷ []));
     }
-beside law plan port asked _ can (went_on {e} j resumed) =
-    let r = beside law plan port asked e can j in record {
-      channel = lost r.channel;
-      beside = connects law plan port e r.channel (lost r.channel) (port_now e) r.beside
-          (lost_reached law r.channel r.beside.reached) refl r.beside.port_is r.beside.unit_is r.beside.clips_are;
+beside law plan port asked _ can (went_on {e} j (resumed {on} goes)) =
+    let r = beside law plan port asked e can j in
+    let g = goes_beside law plan port asked e on r.channel can r.beside goes in
+    let c : LateChannel = g.channel in record {
+      channel = lost c;
+      beside = connects law plan port on c (lost c) (port_now on) g.beside (lost_reached law c g.beside.reached) refl
+          g.beside.port_is g.beside.unit_is g.beside.clips_are (λ h t. t);
     }
-beside law plan port asked _ can (went_on {e} j restarted) =
-    let r = beside law plan port asked e can j in record {
-      channel = after_late_event (lost r.channel) event.ServerAnew;
-      beside = connects law plan port e r.channel (after_late_event (lost r.channel) event.ServerAnew)
-          (made_anew (port_now e)) r.beside
-          (law.goes_on (lost r.channel) (event.ServerAnew ∷ []) (lost_reached law r.channel r.beside.reached)) refl
-          (ap made_anew r.beside.port_is) r.beside.unit_is r.beside.clips_are;
+beside law plan port asked _ can (went_on {e} j (restarted {on} goes)) =
+    let r = beside law plan port asked e can j in
+    let g = goes_beside law plan port asked e on r.channel can r.beside goes in
+    let c : LateChannel = g.channel in record {
+      channel = after_late_event (lost c) event.ServerAnew;
+      beside = connects law plan port on c (after_late_event (lost c) event.ServerAnew) (made_anew (port_now on)) g.beside
+          (law.goes_on (lost c) (event.ServerAnew ∷ []) (lost_reached law c g.beside.reached)) refl
+          (ap made_anew g.beside.port_is) g.beside.unit_is g.beside.clips_are
+          (λ h t. twice_on law.goes_on port.state.unit h (lost c) event.ServerAnew tt t);
     }
 
 pub are_late_channel : (law : Laws) (plan : Plan) (port : ClockedPort) (asked : List Command) (e : Ends) → CanJoin plan port asked

@@ -244,7 +244,7 @@ same_state plan s none =
     ap (λ (o : Option Command). option_map_or (λ e. ended_in plan s.stage e s) (exchange_of plan.mode None o) s) none
 
 -- the command is given
-asked : (c : LateChannel) (notes : List Note) (q : Command) → IsRun c notes → given c.plan c.state ≡ Some q
+pub asked : (c : LateChannel) (notes : List Note) (q : Command) → IsRun c notes → given c.plan c.state ≡ Some q
     → IsRun (after_late_event c event.Tick) (notes ++ note.Sent q ∷ [])
 asked c notes q run is =
     subst (IsRun (after_late_event c event.Tick))

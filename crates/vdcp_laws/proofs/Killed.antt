@@ -23,8 +23,8 @@ keeps_on : (plan : Plan) (port : ClockedPort) (asked : List Command) (kept now :
     → IsSince plan port.state.unit kept now → KeepsOn plan port asked kept now
 keeps_on plan port asked kept _ j at_once = record { joined = j; port_is = refl; before_is = refl; commands = refl }
 keeps_on plan port asked kept _ j (later {e} since gave none) = absurd none
-keeps_on plan port asked kept _ j (later {e} since resumed none) = absurd none
-keeps_on plan port asked kept _ j (later {e} since restarted none) = absurd none
+keeps_on plan port asked kept _ j (later {e} since (resumed goes) none) = absurd none
+keeps_on plan port asked kept _ j (later {e} since (restarted goes) none) = absurd none
 keeps_on plan port asked kept _ j (later {e} since (came_up piece rest is) none) =
     let k = keeps_on plan port asked kept e j since in record {
       joined = k.joined;

@@ -18,6 +18,7 @@ mod Queues
 mod Same
 mod Serving
 mod SeveralRuns
+mod Twice
 mod Whole
 mod AsrunRows
 mod LossyGoings

@@ -22,7 +22,7 @@ use Rattle.vdcp_laws.specs.Automation.{end_notes}
 use Rattle.vdcp_laws.specs.Automation.{Prompt, hears, hears_all}
 use Rattle.vdcp_drive.specs.Reading.{completed}
 use Rattle.vdcp_laws.specs.TwoEnds.{AreJoined, begun, went_on, gave, came_up, came_down, waited, hung_up, frame, shut, took, halted, resumed, restarted}
-use Rattle.vdcp_laws.specs.TwoEnds.{Ends, log_now, note_for, notes_ended, notes_given, notes_heard}
+use Rattle.vdcp_laws.specs.TwoEnds.{Ends, GoesOn, as_announced, as_noted, log_now, note_for, notes_ended, notes_given, notes_heard, with_command, with_heard, with_take}
 use Rattle.vdcp_laws.proofs.Commands.{awaits_none_in, ends_alone, exchange_is, hears_comes}
 
 -- the command that is open after notes, and the exchanges that they end
@@ -166,13 +166,48 @@ time_leads : (plan : Plan) (p : Prompt)
     (notes_ended plan None p.state)
 time_leads plan p = ended_leads plan p.state p.log None (ended_by plan None p.state) refl
 
-pub are_logged : (plan : Plan) (port : ClockedPort) (asked : List Command) (e : Ends) → AreJoined plan port asked e → IsLogged plan e
-are_logged plan port asked _ begun = record { open_is = refl; closed_is = refl }
-are_logged plan port asked _ (went_on {e} j gave) =
+gave_logged : (plan : Plan) (e : Ends) → IsLogged plan e → IsLogged plan (with_command plan e)
+gave_logged plan e logged_so =
     let p : Prompt = e.automation in
-    let l = logs_on plan e (ticked p.state) p.log (notes_given plan p.state) (are_logged plan port asked e j)
+    let l = logs_on plan e (ticked p.state) p.log (notes_given plan p.state) logged_so
     (given_leads plan p.state p.log (given plan p.state) refl) in
     record { open_is = l.0; closed_is = l.1 }
+
+took_logged : (plan : Plan) (e : Ends) → IsLogged plan e → IsLogged plan (with_take e)
+took_logged plan e logged_so =
+    let p : Prompt = e.automation in
+    let l = logs_on plan e (taken p.state) p.log (note.Take ∷ []) logged_so
+    (wish_leads plan p.state (taken p.state) p.log refl).0 in
+    record { open_is = l.0; closed_is = l.1 }
+
+heard_logged : (plan : Plan) (h : Heard) (e : Ends) → IsLogged plan e → IsLogged plan (with_heard plan h e)
+heard_logged plan h e logged_so =
+    let p : Prompt = e.automation in
+    let l = logs_on plan e (came_to plan (Some h) p.state) (logged p.log (ended_by plan (Some h) p.state))
+    (notes_ended plan (Some h) p.state) logged_so
+    (ended_leads plan p.state p.log (Some h) (ended_by plan (Some h) p.state) refl) in
+    record { open_is = l.0; closed_is = l.1 }
+
+goes_logged : (plan : Plan) (e on : Ends) → IsLogged plan e → GoesOn plan e on → IsLogged plan on
+goes_logged plan e _ l as_noted = l
+goes_logged plan e _ l (as_announced h a) =
+    gave_logged plan (with_heard plan h (with_take (with_command plan e)))
+    (heard_logged plan h (with_take (with_command plan e)) (took_logged plan (with_command plan e) (gave_logged plan e l)))
+
+connects_logged : (plan : Plan) (e : Ends) → IsLogged plan e
+    → (open_through None (e.notes ++ notes_ended plan None e.automation.state)
+    ≡ awaited plan (came_to plan None e.automation.state))
+    × ((e.log_before ++ logged e.automation.log (ended_by plan None e.automation.state)) ++ []
+    ≡ closed_from None (e.notes ++ notes_ended plan None e.automation.state))
+connects_logged plan e logged_so =
+    let p : Prompt = e.automation in
+    let log : List Exchange = logged p.log (ended_by plan None p.state) in
+    let l = logs_on plan e (came_to plan None p.state) log (notes_ended plan None p.state) logged_so (time_leads plan p) in
+    (l.0, append-nil (e.log_before ++ log) ∙ l.1)
+
+pub are_logged : (plan : Plan) (port : ClockedPort) (asked : List Command) (e : Ends) → AreJoined plan port asked e → IsLogged plan e
+are_logged plan port asked _ begun = record { open_is = refl; closed_is = refl }
+are_logged plan port asked _ (went_on {e} j gave) = gave_logged plan e (are_logged plan port asked e j)
 are_logged plan port asked _ (went_on {e} j (came_up piece rest is)) =
     let p : Prompt = e.automation in
     let ms : List Content = completed p.held piece in
@@ -196,28 +231,18 @@ are_logged plan port asked _ (went_on {e} j (frame no_close all)) =
     let l = are_logged plan port asked e j in record { open_is = l.open_is; closed_is = l.closed_is }
 are_logged plan port asked _ (went_on {e} j shut) =
     let l = are_logged plan port asked e j in record { open_is = l.open_is; closed_is = l.closed_is }
-are_logged plan port asked _ (went_on {e} j (took on)) =
-    let p : Prompt = e.automation in
-    let l = logs_on plan e (taken p.state) p.log (note.Take ∷ []) (are_logged plan port asked e j)
-    (wish_leads plan p.state (taken p.state) p.log refl).0 in
-    record { open_is = l.0; closed_is = l.1 }
+are_logged plan port asked _ (went_on {e} j (took on)) = took_logged plan e (are_logged plan port asked e j)
 are_logged plan port asked _ (went_on {e} j (halted on)) =
     let p : Prompt = e.automation in
     let l = logs_on plan e (stopped p.state) p.log (note.Stop ∷ []) (are_logged plan port asked e j)
     (wish_leads plan p.state (stopped p.state) p.log refl).1 in
     record { open_is = l.0; closed_is = l.1 }
-are_logged plan port asked _ (went_on {e} j resumed) =
-    let p : Prompt = e.automation in
-    let log : List Exchange = logged p.log (ended_by plan None p.state) in
-    let l = logs_on plan e (came_to plan None p.state) log (notes_ended plan None p.state) (are_logged plan port asked e j)
-    (time_leads plan p) in
-    record { open_is = l.0; closed_is = append-nil (e.log_before ++ log) ∙ l.1 }
-are_logged plan port asked _ (went_on {e} j restarted) =
-    let p : Prompt = e.automation in
-    let log : List Exchange = logged p.log (ended_by plan None p.state) in
-    let l = logs_on plan e (came_to plan None p.state) log (notes_ended plan None p.state) (are_logged plan port asked e j)
-    (time_leads plan p) in
-    record { open_is = l.0; closed_is = append-nil (e.log_before ++ log) ∙ l.1 }
+are_logged plan port asked _ (went_on {e} j (resumed {on} goes)) =
+    let l = connects_logged plan on (goes_logged plan e on (are_logged plan port asked e j) goes) in
+    record { open_is = l.0; closed_is = l.1 }
+are_logged plan port asked _ (went_on {e} j (restarted {on} goes)) =
+    let l = connects_logged plan on (goes_logged plan e on (are_logged plan port asked e j) goes) in
+    record { open_is = l.0; closed_is = l.1 }
 
 last_timed_out : (plan : Plan) (s : State) (log : List Exchange) (asked : Option Command) → awaited plan s ≡ asked
     → log ++ exchange_with None asked [] ≡ logged log (ended_by plan None s)

@@ -6,6 +6,7 @@ use Rattle.std.specs.Option.{option_map_or, option_to_list}
 use Rattle.std.specs.Prelude.{IsTrue, Option, None, Some, if◌then◌else◌, is_some}
 use Rattle.vdcp_frame.specs.Message.{Content}
 use Rattle.vdcp_words.specs.declared.command.Command.{Command}
+use Rattle.vdcp_words.specs.declared.command.Command.TheVariants as command
 use Rattle.vdcp_port.specs.Clock.{ClockedPort}
 use Rattle.vdcp_auto.specs.Course.{Reached, Tick, Receive, Take, Stop, after_call, called, logged}
 use Rattle.vdcp_auto.specs.Course as course
@@ -13,7 +14,7 @@ use Rattle.vdcp_auto.specs.Heard.{heard_as}
 use Rattle.vdcp_auto.specs.Law.{IsLawful}
 use Rattle.vdcp_auto.specs.Plan.{Plan}
 use Rattle.vdcp_auto.specs.State.{State, Stage, Ready, Awaiting, Ended}
-use Rattle.vdcp_auto.specs.Turn.{awaited, came_to, ended_by, ended_in, exchange_of, given, is_end, is_ready, start, stopped, taken, tick_in, ticked}
+use Rattle.vdcp_auto.specs.Turn.{awaited, came_to, ended_by, ended_in, exchange_of, given, is_end, is_ready, outcome_of, start, stopped, taken, tick_in, ticked}
 use Rattle.vdcp_auto.specs.declared.exchange.Exchange.{Exchange}
 use Rattle.vdcp_auto.specs.declared.exchange.Heard.{Heard}
 use Rattle.vdcp_auto.specs.declared.phase.Mode.{Mode}
@@ -30,8 +31,8 @@ use Rattle.vdcp_drive.specs.declared.keep.Kept.TheVariants as kept
 use Rattle.vdcp_laws.specs.Automation.{Prompt, gives, hears, hears_all, kept_in, receives}
 use Rattle.vdcp_drive.specs.Reading.{completed}
 use Rattle.vdcp_laws.specs.TwoEnds.{AreJoined, begun, went_on, gave, came_up, came_down, waited, hung_up, frame, shut, took, halted, resumed, restarted}
-use Rattle.vdcp_laws.specs.TwoEnds.{CanJoin, Ends, log_now, note_for, notes_ended, notes_given, notes_heard}
-use Rattle.vdcp_laws.proofs.Commands.{awaits_none_in, exchange_is, hears_comes, ticks_state}
+use Rattle.vdcp_laws.specs.TwoEnds.{CanJoin, Ends, GoesOn, as_announced, as_noted, log_now, note_for, notes_ended, notes_given, notes_heard, with_command, with_heard, with_take}
+use Rattle.vdcp_laws.proofs.Commands.{awaits_none_in, exchange_is, hears_comes, not_ended, ticks_state}
 use Rattle.vdcp_laws.proofs.Queues.{logged_behind}
 
 -- the controller after the calls of some notes
@@ -252,17 +253,45 @@ connects_so plan e n =
       told_more plan e (notes_ended plan None s) n (ended_told plan s None (ended_by plan None s) refl),
     )
 
-pub are_noted : (lawful : Lawful) (plan : Plan) (port : ClockedPort) (asked : List Command) (e : Ends) → CanJoin plan port asked
-    → AreJoined plan port asked e → IsNoted plan e
-are_noted lawful plan port asked _ can begun = record { reached = course.begun can.can_start.some can.can_start.few; noted = refl; told = tt }
-are_noted lawful plan port asked _ can (went_on {e} j gave) =
-    let n = are_noted lawful plan port asked e can j in
+gave_noted : (lawful : Lawful) (plan : Plan) (e : Ends) → IsNoted plan e → IsNoted plan (with_command plan e)
+gave_noted lawful plan e n =
     let s : State = e.automation.state in record {
       reached = called n.reached Tick;
       noted = noted_more plan e (notes_given plan s) (ticked s) n
           (given_by plan s (given plan s) refl (lawful plan s (log_now e) n.reached).gives);
       told = told_more plan e (notes_given plan s) n (given_told plan s (given plan s) refl);
     }
+
+took_noted : (plan : Plan) (e : Ends) → outcome_of e.automation.state.stage ≡ None → IsNoted plan e
+    → IsNoted plan (with_take e)
+took_noted plan e on n = record {
+  reached = called n.reached Take;
+  noted = noted_more plan e (note.Take ∷ []) (taken e.automation.state) n refl;
+  told = told_more plan e (note.Take ∷ []) n (on, tt);
+}
+
+heard_noted : (plan : Plan) (h : Heard) (e : Ends) → IsNoted plan e → IsNoted plan (with_heard plan h e)
+heard_noted plan h e n =
+    let s : State = e.automation.state in record {
+      reached = receives_so plan e.log_before e.automation.log s (Some h) n.reached;
+      noted = noted_more plan e (notes_ended plan (Some h) s) (came_to plan (Some h) s) n
+          (ended_then plan s (Some h) (ended_by plan (Some h) s) refl);
+      told = told_more plan e (notes_ended plan (Some h) s) n (ended_told plan s (Some h) (ended_by plan (Some h) s) refl);
+    }
+
+goes_noted : (lawful : Lawful) (plan : Plan) (e on : Ends) → IsNoted plan e → GoesOn plan e on → IsNoted plan on
+goes_noted lawful plan e _ n as_noted = n
+goes_noted lawful plan e _ n (as_announced h a) =
+    let asks : Ends = with_command plan e in
+    gave_noted lawful plan (with_heard plan h (with_take asks))
+    (heard_noted plan h (with_take asks)
+    (took_noted plan asks (not_ended plan h asks.automation.state command.Play a.plays) (gave_noted lawful plan e n)))
+
+pub are_noted : (lawful : Lawful) (plan : Plan) (port : ClockedPort) (asked : List Command) (e : Ends) → CanJoin plan port asked
+    → AreJoined plan port asked e → IsNoted plan e
+are_noted lawful plan port asked _ can begun = record { reached = course.begun can.can_start.some can.can_start.few; noted = refl; told = tt }
+are_noted lawful plan port asked _ can (went_on {e} j gave) =
+    gave_noted lawful plan e (are_noted lawful plan port asked e can j)
 are_noted lawful plan port asked _ can (went_on {e} j (came_up piece rest is)) =
     let n = are_noted lawful plan port asked e can j in
     let unit : ℕ = port.state.unit in
@@ -299,23 +328,19 @@ are_noted lawful plan port asked _ can (went_on {e} j shut) =
     let n = are_noted lawful plan port asked e can j in
     record { reached = n.reached; noted = n.noted; told = n.told }
 are_noted lawful plan port asked _ can (went_on {e} j (took on)) =
-    let n = are_noted lawful plan port asked e can j in record {
-      reached = called n.reached Take;
-      noted = noted_more plan e (note.Take ∷ []) (taken e.automation.state) n refl;
-      told = told_more plan e (note.Take ∷ []) n (on, tt);
-    }
+    took_noted plan e on (are_noted lawful plan port asked e can j)
 are_noted lawful plan port asked _ can (went_on {e} j (halted on)) =
     let n = are_noted lawful plan port asked e can j in record {
       reached = called n.reached Stop;
       noted = noted_more plan e (note.Stop ∷ []) (stopped e.automation.state) n refl;
       told = told_more plan e (note.Stop ∷ []) n (on, tt);
     }
-are_noted lawful plan port asked _ can (went_on {e} j resumed) =
-    let n = are_noted lawful plan port asked e can j in
-    let both = connects_so plan e n in record { reached = both.0; noted = both.1; told = both.2 }
-are_noted lawful plan port asked _ can (went_on {e} j restarted) =
-    let n = are_noted lawful plan port asked e can j in
-    let both = connects_so plan e n in record { reached = both.0; noted = both.1; told = both.2 }
+are_noted lawful plan port asked _ can (went_on {e} j (resumed {on} goes)) =
+    let both = connects_so plan on (goes_noted lawful plan e on (are_noted lawful plan port asked e can j) goes) in
+    record { reached = both.0; noted = both.1; told = both.2 }
+are_noted lawful plan port asked _ can (went_on {e} j (restarted {on} goes)) =
+    let both = connects_so plan on (goes_noted lawful plan e on (are_noted lawful plan port asked e can j) goes) in
+    record { reached = both.0; noted = both.1; told = both.2 }
 
 pub rows_make : (lawful : Lawful) (plan : Plan) (port : ClockedPort) (asked : List Command) (e : Ends) (rows : List Row) → CanJoin plan port asked
     → AreJoined plan port asked e → map (λ row. row.note) rows ≡ e.notes → after_rows plan start rows ≡ e.automation.state

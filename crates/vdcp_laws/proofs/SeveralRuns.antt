@@ -17,7 +17,7 @@ use Rattle.vdcp_journal.specs.declared.row.Row.{Row}
 use Rattle.vdcp_late.specs.LateChannel.{LateChannel}
 use Rattle.vdcp_late.specs.LateHeadline.{reported_of}
 use Rattle.vdcp_laws.specs.SeveralRuns.{HaveAired, nothing, ran}
-use Rattle.vdcp_laws.specs.TwoEnds.{AreJoined, CanJoin, Ends, aired_now, connected_anew, port_now, resumed, went_on}
+use Rattle.vdcp_laws.specs.TwoEnds.{AreJoined, CanJoin, Ends, aired_now, as_noted, connected_anew, port_now, resumed, went_on}
 use Rattle.vdcp_laws.proofs.Commands.{timed_out}
 use Rattle.vdcp_laws.proofs.Headline.{Laws, of_ends}
 use Rattle.vdcp_laws.proofs.Logging.{rows_show}
@@ -47,7 +47,7 @@ pub number_aired : (law : Laws) (plan : Plan) (port : ClockedPort) (asked : List
     → CanJoin plan port asked → AreJoined plan port asked e → map (λ row. row.note) rows ≡ e.notes → may_have_aired plan.mode (log_of rows) ≡ false
     → length (aired_now e) ≡ settled_in plan.mode rows
 number_aired law plan port asked e rows can j noted none =
-    let late = law.ends plan port asked (connected_anew plan (port_now e) e) can (went_on j resumed) in
+    let late = law.ends plan port asked (connected_anew plan (port_now e) e) can (went_on j (resumed as_noted)) in
     let c : LateChannel = late.channel in
     let h = law.headline c late.reached in
     let log : c.log ≡ log_of rows =

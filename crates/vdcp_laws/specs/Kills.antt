@@ -1,15 +1,13 @@
 -- Runs over a line that keeps order, whose automation keeps a journal, is killed, and goes on from it.
 use Rattle.std.specs.Option.{option_map, option_to_list}
 use Rattle.std.specs.Prelude.{ℕ, ◌≡◌, ◌⊎◌, IsSome, List, [], ◌∷◌, ◌++◌, All, length, Option, None, Some}
-use Rattle.vdcp_words.specs.declared.command.Command.{Command}
-use Rattle.vdcp_words.specs.declared.command.Command.TheVariants as command
 use Rattle.vdcp_words.specs.declared.reply.Reply.{Reply}
 use Rattle.vdcp_words.specs.declared.reply.Reply.TheVariants.{Ack, Nak}
 use Rattle.vdcp_port.specs.Clock.{ClockedPort}
 use Rattle.vdcp_auto.specs.Heard.{heard_in}
 use Rattle.vdcp_auto.specs.Plan.{Plan}
 use Rattle.vdcp_auto.specs.Course.{logged}
-use Rattle.vdcp_auto.specs.Turn.{came_to, ended_by, given, outcome_of, taken, ticked}
+use Rattle.vdcp_auto.specs.Turn.{ended_by, given, outcome_of, taken, ticked}
 use Rattle.vdcp_auto.specs.declared.exchange.Exchange.{Exchange}
 use Rattle.vdcp_auto.specs.declared.exchange.Heard.{Heard}
 use Rattle.vdcp_auto.specs.declared.exchange.Heard.TheVariants as heard
@@ -19,6 +17,7 @@ use Rattle.vdcp_auto.specs.declared.phase.Mode.{Mode}
 use Rattle.vdcp_auto.specs.declared.phase.Mode.TheVariants.{Plain, Confirming}
 use Rattle.vdcp_journal.specs.declared.row.Note.{Note}
 use Rattle.vdcp_journal.specs.declared.row.Note.TheVariants as note
+use Rattle.vdcp_laws.specs.Announced.{came_again}
 use Rattle.vdcp_late.specs.GoingOn.{IsNoTick, gone_on}
 use Rattle.vdcp_late.specs.LateChannel.{LateChannel, CanStart, after_late_event, after_late_events, new_late_channel, oldest}
 use Rattle.vdcp_late.specs.declared.event.LateEvent.{LateEvent}
@@ -72,7 +71,7 @@ pub data IsRun : LateChannel → List Note → Type 0 where
       → IsRun (after_late_event c e) (notes ++ notes_of c e)
   -- The automation was killed, and goes on with the notes that are safe. Since then no command was given out, since its
   -- note is safe first; all else may have happened. What it awaited has timed out, which is noted. (Of a command that asks
-  -- for the state the note needn't be safe: `asked_in_vain`; nor that of a PLAY that was announced: `heard_twice`.)
+  -- for the state the note needn't be safe: `asked_in_vain`; nor that of a PLAY that was announced: `played`.)
   killed : {c : LateChannel} {notes : List Note} → IsRun c notes → (since : List LateEvent) → All IsNoTick since
       → IsRun (gone_on c (after_late_events c since)) (notes ++ silence_notes c)
 
@@ -80,46 +79,13 @@ pub data IsRun : LateChannel → List Note → Type 0 where
 abbrev pub asked_in_vain : LateChannel → LateChannel
 asked_in_vain c = after_late_events c (event.Tick ∷ event.LoseDown (length c.down) ∷ event.Timeout ∷ [])
 
--- the controller alone: it hears this; is called to take; gives a command, which is lost
-abbrev pub hearing : Heard → LateChannel → LateChannel
-hearing h c = record c {
-  state = came_to c.plan (Some h) c.state;
-  log = logged c.log (ended_by c.plan (Some h) c.state);
+-- the controller alone: the state is asked, what was heard last is heard once more, after a take, and PLAY is given; and
+-- nothing of it is on the way
+abbrev pub played : Heard → LateChannel → LateChannel
+played h c = record c {
+  state = ticked (came_again c.plan h c.state);
+  log = logged c.log (ended_by c.plan (Some h) (taken (ticked c.state)));
 }
-
-abbrev pub taking : LateChannel → LateChannel
-taking c = record c { state = taken c.state }
-
-abbrev pub ticking : LateChannel → LateChannel
-ticking c = record c { state = ticked c.state }
-
--- A state comes, the state is asked again, and the same comes once more, as a copy, after a take: then the next command
--- is given.
-abbrev pub heard_twice : Heard → LateChannel → LateChannel
-heard_twice h c = ticking (hearing h (taking (ticking (hearing h c))))
-
--- This comes next, and announces a PLAY: were the state asked again, a take called and the same heard, PLAY would be given.
-pub record Announces (c : LateChannel) (h : Heard) (asks : Command) : Type 0 where
-  pub burst : List ℕ
-  pub rest : List (List ℕ)
-  pub next : c.up ≡ burst ∷ rest
-  pub heard_is : heard_in c.port.state.unit burst ≡ Some h
-  pub ends : IsSome (ended_by c.plan (Some h) c.state)
-  pub asked : given c.plan (hearing h c).state ≡ Some asks
-  pub plays : given c.plan (hearing h (taking (ticking (hearing h c)))).state ≡ Some command.Play
-
--- the notes of that
-abbrev pub announced_notes : Heard → Command → List Note
-announced_notes h asks =
-    note.Heard h ∷ note.Sent asks ∷ note.Take ∷ note.Heard h ∷ note.Sent command.Play ∷ note.Silence ∷ []
-
--- the operator calls nothing, and no command is given
-abbrev pub IsQuiet : LateEvent → Type 0
-IsQuiet event.Tick = ⊥
-IsQuiet event.Take = ⊥
-IsQuiet event.Stop = ⊥
-IsQuiet event.AutomationAnew = ⊥
-IsQuiet _ = Unit {0}
 
 -- a run hasn't ended, or it was lost: it may go on, under a greater limit
 abbrev pub MayGoOn : Option Outcome → Type 0

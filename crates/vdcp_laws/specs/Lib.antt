@@ -1,4 +1,5 @@
 -- What the clauses of this crate cite.
+pub mod Announced
 pub mod Kills
 pub mod Automation
 pub mod Below

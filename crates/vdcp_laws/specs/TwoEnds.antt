@@ -20,7 +20,8 @@ use Rattle.vdcp_drive.specs.Bursts.{open_burst}
 use Rattle.vdcp_drive.specs.Traces.{bytes_of}
 use Rattle.vdcp_drive.specs.Steps.{given_notes}
 use Rattle.vdcp_laws.specs.Automation.{end_notes}
-use Rattle.vdcp_laws.specs.Automation.{Prompt, commands_in, gives, hears, listens, new_prompt}
+use Rattle.vdcp_laws.specs.Automation.{Prompt, commands_in, gives, hears, listens, new_prompt, receives}
+use Rattle.vdcp_laws.specs.Announced.{Announces}
 use Rattle.vdcp_drive.specs.Reading.{completed, holds}
 use Rattle.vdcp_drive.specs.declared.keep.Kept.{Kept}
 use Rattle.vdcp_drive.specs.declared.keep.Kept.TheVariants as kept
@@ -116,6 +117,31 @@ with_down a e = record e { downs = e.downs ++ a ∷ [] }
 abbrev pub wishing : State → Prompt → Prompt
 wishing state p = record p { state = state }
 
+-- What the automation does, with its notes.
+
+-- the next command is given
+abbrev pub with_command : Plan → Ends → Ends
+with_command plan e = with_automation (gives e.automation) (notes_given plan e.automation.state) e
+
+-- the operator takes
+abbrev pub with_take : Ends → Ends
+with_take e = with_automation (wishing (taken e.automation.state) e.automation) (note.Take ∷ []) e
+
+-- this is heard
+abbrev pub with_heard : Plan → Heard → Ends → Ends
+with_heard plan h e =
+    with_automation (receives plan (Some h) e.automation) (notes_ended plan (Some h) e.automation.state) e
+
+-- the state is asked, if it wasn't; and what was heard last is heard once more, after a take
+abbrev pub heard_again : Plan → Heard → Ends → Ends
+heard_again plan h e = with_heard plan h (with_take (with_command plan e))
+
+-- What an automation goes on as that is killed: what its notes make it; or where what was heard last announces a PLAY, which
+-- may have gone out without a note, what it is once that was given.
+pub data GoesOn (plan : Plan) (e : Ends) : Ends → Type 0 where
+  as_noted : GoesOn plan e e
+  as_announced : (h : Heard) → Announces plan e.automation.state e.notes h → GoesOn plan e (with_command plan (heard_again plan h e))
+
 -- a new connection, to this port, of an automation whose last command timed out; what was on its way is lost
 abbrev pub connected_anew : Plan → ClockedPort → Ends → Ends
 connected_anew plan port e =
@@ -134,7 +160,7 @@ connected_anew plan port e =
 -- comes later, or never.
 pub data Step (plan : Plan) (unit : ℕ) (e : Ends) : Ends → Type 0 where
   -- the automation gives its next command, if none is awaited and it hasn't ended
-  gave : Step plan unit e (with_automation (gives e.automation) (notes_given plan e.automation.state) e)
+  gave : Step plan unit e (with_command plan e)
   came_up : (piece rest : List ℕ) → sent_up e ≡ e.ups ++ (piece ++ rest) → Step plan unit e (with_up piece
       (with_automation (listens plan unit (bytes piece) e.automation)
       (notes_heard plan unit (completed e.automation.held piece) e.automation) e))
@@ -149,14 +175,13 @@ pub data Step (plan : Plan) (unit : ℕ) (e : Ends) : Ends → Type 0 where
   frame : has_closed e.downs ≡ false → AreMessages (open_burst e.downs) → Step plan unit e (with_down silence e)
   shut : Step plan unit e (with_down close e)
   -- the operator's wishes, while it goes on
-  took : outcome_of e.automation.state.stage ≡ None → Step plan unit e
-      (with_automation (wishing (taken e.automation.state) e.automation) (note.Take ∷ []) e)
+  took : outcome_of e.automation.state.stage ≡ None → Step plan unit e (with_take e)
   halted : outcome_of e.automation.state.stage ≡ None → Step plan unit e
       (with_automation (wishing (stopped e.automation.state) e.automation) (note.Stop ∷ []) e)
   -- the automation is killed, and goes on from its journal over a new connection, once the server has left the old one
-  resumed : Step plan unit e (connected_anew plan (port_now e) e)
+  resumed : {on : Ends} → GoesOn plan e on → Step plan unit e (connected_anew plan (port_now on) on)
   -- the same, to a server that was started anew
-  restarted : Step plan unit e (connected_anew plan (made_anew (port_now e)) e)
+  restarted : {on : Ends} → GoesOn plan e on → Step plan unit e (connected_anew plan (made_anew (port_now on)) on)
 
 -- what may come of both ends in some steps
 pub data AreLed (plan : Plan) (unit : ℕ) (first : Ends) : Ends → Type 0 where
@@ -170,8 +195,8 @@ AreJoined plan port asked e = AreLed plan port.state.unit (new_ends port asked) 
 -- no command is given in it
 abbrev pub GivesNone : {plan : Plan} {unit : ℕ} {e e' : Ends} → Step plan unit e e' → Type 0
 GivesNone gave = ⊥
-GivesNone resumed = ⊥
-GivesNone restarted = ⊥
+GivesNone (resumed goes) = ⊥
+GivesNone (restarted goes) = ⊥
 GivesNone _ = Unit {0}
 
 -- what may have come of them since, while no command was given

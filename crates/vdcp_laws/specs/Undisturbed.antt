@@ -8,10 +8,10 @@ use Rattle.vdcp_auto.specs.declared.outcome.Outcome.TheVariants.{Done}
 use Rattle.vdcp_auto.specs.declared.phase.Mode.{Mode}
 use Rattle.vdcp_auto.specs.declared.phase.Mode.TheVariants.{Plain, Confirming}
 use Rattle.vdcp_wire.specs.Wires.{bytes, silence}
-use Rattle.vdcp_laws.specs.Automation.{gives, listens}
+use Rattle.vdcp_laws.specs.Automation.{listens}
 use Rattle.vdcp_drive.specs.Reading.{completed}
 use Rattle.vdcp_late.specs.LateChannel.{CanStart}
-use Rattle.vdcp_laws.specs.TwoEnds.{Ends, aired_now, bytes_in, notes_ended, notes_given, notes_heard, port_now, sent_down, sent_up, with_automation, with_down, with_up}
+use Rattle.vdcp_laws.specs.TwoEnds.{Ends, aired_now, bytes_in, notes_ended, notes_heard, port_now, sent_down, sent_up, with_automation, with_command, with_down, with_up}
 
 -- what was awaited has timed out, if anything was
 abbrev pub with_time_out : Plan → ℕ → Ends → Ends
@@ -22,10 +22,6 @@ with_time_out plan unit e =
 abbrev pub with_frames : ℕ → Ends → Ends
 with_frames zero e = e
 with_frames (suc frames) e = with_frames frames (with_down silence e)
-
--- the next command is given
-abbrev pub with_command : Plan → Ends → Ends
-with_command plan e = with_automation (gives e.automation) (notes_given plan e.automation.state) e
 
 -- all that either end has sent comes to the other
 

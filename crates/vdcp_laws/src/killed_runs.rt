@@ -10,12 +10,13 @@ ghost use Rattle.vdcp_journal.specs.Thinned.{AreThinned, IsThinned, asks_state, 
 ghost use Rattle.vdcp_journal.specs.declared.row.Note.{Note};
 ghost use Rattle.vdcp_journal.specs.declared.row.Note.TheVariants as note;
 ghost use Rattle.vdcp_journal.specs.declared.row.Row.{Row};
-ghost use Rattle.vdcp_laws.specs.Kills.{Announces, IsQuiet, IsRun, MayGoOn, announced_notes, asked_in_vain, heard_twice};
+ghost use Rattle.vdcp_laws.specs.Announced.{Announces, played_notes};
+ghost use Rattle.vdcp_laws.specs.Kills.{IsRun, MayGoOn, asked_in_vain, played};
 ghost use Rattle.vdcp_late.specs.GoingOn.{IsNoTick, gone_on};
 ghost use Rattle.vdcp_late.specs.LateChannel.{LateChannel, IsLateReached, after_late_event, after_late_events};
 ghost use Rattle.vdcp_late.specs.LateHeadline.{LateHeadline};
 ghost use Rattle.vdcp_late.specs.declared.event.LateEvent.{LateEvent};
-ghost use Rattle.vdcp_late.specs.declared.event.LateEvent.TheVariants.{Tick, Up};
+ghost use Rattle.vdcp_late.specs.declared.event.LateEvent.TheVariants.{Tick};
 ghost use Rattle.vdcp_words.specs.declared.command.Command.{Command};
 ghost use Rattle.vdcp_words.specs.declared.command.Command.TheVariants.{Play};
 
@@ -48,23 +49,18 @@ pub fn what_asks_may_go_out_unkept()
         IsRun (asked_in_vain (gone_on c (after_late_events c since))) (notes ++ (note.Sent asks ∷ note.Silence ∷ [])) }
 {}
 
-/// Where the state that came last announced a PLAY, that may have gone out before its row was safe: the state was asked
-/// once more, its answer heard, and PLAY given. If it wasn't, going on may take it for given and lost all the same, whether
-/// nothing was given since that state (`unasked`) or the state was asked (`unheard`): a line could have had it so, on which
-/// the same state came once more, as a copy, after a take. And either way the rows may tell of any state that lets a PLAY go
-/// out (`shows`).
+/// Where what was heard last announces a PLAY, that may have gone out before its row was safe, whatever brought the state, and
+/// whether the state was asked since or not: the state was asked once more, its answer heard, and PLAY given. If it wasn't,
+/// going on may take it for given and lost all the same: a line could have had it so, on which the same state came once more,
+/// as a copy, after a take. And either way the rows may tell of any state that lets a PLAY go out (`shows`).
 pub fn an_announced_play_may_go_out_unkept()
-    ensures unasked { (c : LateChannel) (notes : List Note) (h : Heard) (asks : Command) (since : List LateEvent) →
-        IsRun c notes → Announces c h asks → All IsNoTick since →
-        IsRun (gone_on (heard_twice h c) (after_late_events c (Up ∷ since))) (notes ++ announced_notes h asks) }
-    ensures unheard { (c : LateChannel) (notes : List Note) (h : Heard) (asks : Command) (quiet since : List LateEvent) →
-        IsRun c notes → Announces c h asks → All IsQuiet quiet → All IsNoTick since →
-        IsRun (gone_on (heard_twice h c) (after_late_events c (Up ∷ (quiet ++ (Tick ∷ since)))))
-        (notes ++ announced_notes h asks) }
-    ensures shows { (notes : List Note) (h : Heard) (free : Note) (asks : Command) → IsTrue (asks_state (note.Sent asks)) →
-        IsTrue (hears_done (note.Heard h)) → IsTrue (hears_free free) →
-        IsThinned (notes ++ announced_notes h asks)
-        (notes ++ (note.Heard h ∷ note.Sent asks ∷ free ∷ note.Sent Play ∷ note.Silence ∷ [])) }
+    ensures goes { (c : LateChannel) (notes : List Note) (h : Heard) (since : List LateEvent) → IsRun c notes →
+        Announces c.plan c.state notes h → All IsNoTick since →
+        IsRun (gone_on (played h c) (after_late_events c since)) (notes ++ played_notes (given c.plan c.state) h) }
+    ensures shows { (all rows : List Note) (h : Heard) (free : Note) (asks : Command) → IsThinned all rows →
+        IsTrue (asks_state (note.Sent asks)) → IsTrue (hears_done (note.Heard h)) → IsTrue (hears_free free) →
+        IsThinned (all ++ played_notes (Some asks) h)
+        (rows ++ (note.Sent asks ∷ free ∷ note.Sent Play ∷ note.Silence ∷ [])) }
 {
     vdcp_port::laws::the_unit_stays();
 }

@@ -14,6 +14,7 @@ ghost use Rattle.vdcp_auto.specs.Turn.{ended_by, outcome_of, start, ticked};
 ghost use Rattle.vdcp_auto.specs.declared.outcome.Outcome.{Outcome};
 ghost use Rattle.vdcp_journal.specs.Airings.{settled_in};
 ghost use Rattle.vdcp_journal.specs.Resume.{AreTold, after_rows, log_of};
+ghost use Rattle.vdcp_journal.specs.Thinned.{AreThinned, notes_in};
 ghost use Rattle.vdcp_journal.specs.declared.row.Row.{Row};
 ghost use Rattle.vdcp_wire.specs.Acts.{Act};
 ghost use Rattle.vdcp_wire.specs.Wires.{Arrival};
@@ -159,12 +160,13 @@ pub fn nothing_airs_after_a_complete_end()
 pub fn several_runs_air_a_beginning()
     ensures list { (list aired : List Item) → HaveAired list aired → (more : List Item) × (list ≡ aired ++ more) }
     // that number is what a run's journal settles, where it shows that no event more may have aired
-    ensures next { (plan : Plan) (port : ClockedPort) (asked : List Command) (e : Ends) (rows : List Row) →
-        CanJoin plan port asked → AreJoined plan port asked e → map (λ row. row.note) rows ≡ e.notes →
+    ensures next { (plan : Plan) (port : ClockedPort) (asked : List Command) (e : Ends) (all rows : List Row) →
+        CanJoin plan port asked → AreJoined plan port asked e → notes_in all ≡ e.notes → AreThinned all rows →
         may_have_aired plan.mode (log_of rows) ≡ false → length (aired_now e) ≡ settled_in plan.mode rows }
 {
     two_ends_are_a_late_channel();
     vdcp_late::laws::a_late_line_keeps_the_headline();
+    vdcp_journal::laws::a_thinned_journal_makes_the_same();
 }
 
 /// Exchanges that nothing disturbs bring a list to its end, from two new ends: in plain mode five for each event, and
@@ -197,18 +199,19 @@ pub fn a_kill_loses_what_came_since()
         AreJoined plan port asked kept → IsSince plan port.state.unit kept now → aired_now (with_kept kept now) ≡ aired_now now }
 {}
 
-/// The rows of a journal that has these notes make the automation's controller of a new one, each tells what the
-/// controller does there, and the log that they show is the automation's, with the command that is awaited timed out.
+/// The rows of a journal of these notes, also where it leaves out what may be left, make the automation's controller of a
+/// new one, and each tells what the controller does there. The log that all of them show is the automation's, with the
+/// command that is awaited timed out.
 pub fn a_journal_makes_the_automation()
-    ensures makes { (plan : Plan) (port : ClockedPort) (asked : List Command) (e : Ends) (rows : List Row) →
-        CanJoin plan port asked → AreJoined plan port asked e → map (λ row. row.note) rows ≡ e.notes →
+    ensures makes { (plan : Plan) (port : ClockedPort) (asked : List Command) (e : Ends) (all rows : List Row) →
+        CanJoin plan port asked → AreJoined plan port asked e → notes_in all ≡ e.notes → AreThinned all rows →
         after_rows plan start rows ≡ e.automation.state }
-    ensures told { (plan : Plan) (port : ClockedPort) (asked : List Command) (e : Ends) (rows : List Row) →
-        CanJoin plan port asked → AreJoined plan port asked e → map (λ row. row.note) rows ≡ e.notes →
+    ensures told { (plan : Plan) (port : ClockedPort) (asked : List Command) (e : Ends) (all rows : List Row) →
+        CanJoin plan port asked → AreJoined plan port asked e → notes_in all ≡ e.notes → AreThinned all rows →
         AreTold plan start rows }
-    ensures shows { (plan : Plan) (port : ClockedPort) (asked : List Command) (e : Ends) (rows : List Row) →
-        AreJoined plan port asked e → map (λ row. row.note) rows ≡ e.notes →
-        log_of rows ≡ logged (log_now e) (ended_by plan None e.automation.state) }
+    ensures shows { (plan : Plan) (port : ClockedPort) (asked : List Command) (e : Ends) (all : List Row) →
+        AreJoined plan port asked e → notes_in all ≡ e.notes →
+        log_of all ≡ logged (log_now e) (ended_by plan None e.automation.state) }
     // and what a driver's run keeps (`notes_of`), with its next command given, are the notes that it adds to the journal
     ensures kept { (plan : Plan) (unit : ℕ) (e : Ends) (came downs : List Arrival) → IsFresh plan e →
         (ends_of plan unit e came downs).notes ≡ e.notes ++ map note_for
@@ -216,6 +219,7 @@ pub fn a_journal_makes_the_automation()
         (ticked (after at_once plan unit (driver_of e.automation) came).state)) }
 {
     vdcp_auto::laws::reached_is_lawful();
+    vdcp_journal::laws::a_thinned_journal_makes_the_same();
 }
 
 /// What the laws of the crates below say of bytes and messages.

@@ -1,12 +1,9 @@
-use Rattle.vdcp_laws.proofs.Announced.{asked, idle, shows}
+use Rattle.vdcp_laws.proofs.Announced.{goes, shows}
 use Rattle.vdcp_laws.proofs.killed_runs.an_announced_play_may_go_out_unkept.Goals as goal
 
-pub returns-clause-unasked : goal.returns-clause-unasked
-returns-clause-unasked c = idle
-
-pub returns-clause-unheard : goal.returns-clause-unheard
-returns-clause-unheard c =
-    asked (
+pub returns-clause-goes : goal.returns-clause-goes
+returns-clause-goes c =
+    goes (
       c.the_unit_stays.ensures.burst,
       c.the_unit_stays.ensures.frame,
       c.the_unit_stays.ensures.ready,
