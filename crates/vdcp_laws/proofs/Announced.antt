@@ -9,7 +9,7 @@ use Rattle.vdcp_auto.specs.Heard.{heard_in}
 use Rattle.vdcp_auto.specs.Plan.{Plan}
 use Rattle.vdcp_auto.specs.Replies.{is_receipt}
 use Rattle.vdcp_auto.specs.State.{Stage, Ready, Awaiting, Ended, State}
-use Rattle.vdcp_auto.specs.Turn.{awaited, came_to, ended_by, exchange_of, given, given_in, outcome_of, taken, tick_in, ticked}
+use Rattle.vdcp_auto.specs.Turn.{awaited, came_to, ended_by, exchange_of, given, given_in, taken, tick_in, ticked}
 use Rattle.vdcp_auto.specs.declared.exchange.Exchange.{Exchange}
 use Rattle.vdcp_auto.specs.declared.exchange.Heard.{Heard}
 use Rattle.vdcp_auto.specs.declared.exchange.Heard.TheVariants as heard
@@ -20,9 +20,9 @@ use Rattle.vdcp_journal.specs.declared.row.Note.{Note}
 use Rattle.vdcp_journal.specs.declared.row.Note.TheVariants as note
 use Rattle.vdcp_laws.proofs.Commands.{awaits_none_in, exchange_is, left_by, not_ended}
 use Rattle.vdcp_laws.proofs.Journaled.{asked, given_awaited, one_silence, plan_stays, plan_stays_in}
-use Rattle.vdcp_laws.proofs.Twice.{given_last, last_more}
-use Rattle.vdcp_laws.specs.Announced.{Announces, came_again, heard_from, heard_last, played_notes}
-use Rattle.vdcp_laws.specs.Kills.{IsOfRun, IsRun, begun, happened, heard_notes, killed, end_notes, notes_of, played, silence_notes, stray_notes}
+use Rattle.vdcp_laws.proofs.Twice.{given_last, junked, last_more}
+use Rattle.vdcp_laws.specs.Announced.{Announces, came_again, heard_last, played_notes}
+use Rattle.vdcp_laws.specs.Kills.{IsRun, begun, happened, heard_notes, killed, end_notes, notes_of, played, silence_notes, stray_notes}
 use Rattle.vdcp_late.specs.Damage.{can_become, is_junk_down, replaced, with_damage, with_junk}
 use Rattle.vdcp_late.specs.GoingOn.{IsNoTick, gone_on}
 use Rattle.vdcp_late.specs.LateChannel.{LateChannel, after_late_event, after_late_events, bursts_of, command_bursts, oldest, without_oldest}
@@ -144,11 +144,6 @@ junk_past : (x : List (List ℕ)) (bytes : List ℕ) (place : ℕ) (is_junk : Bo
     → with_junk is_junk bytes 0 x ≡ with_junk is_junk bytes (suc place) [] ++ x
 junk_past x bytes place true = refl
 junk_past x bytes place false = refl
-
-junked : (b bytes : List ℕ) (place : ℕ) (up : List (List ℕ)) (is_junk : Bool)
-    → with_junk is_junk bytes (suc place) (b ∷ up) ≡ b ∷ with_junk is_junk bytes place up
-junked b bytes place up true = refl
-junked b bytes place up false = refl
 
 junk_before : (is_junk : Bool) (bytes : List ℕ) (x queue : List (List ℕ)) (place : ℕ)
     → (at : ℕ) × (with_junk is_junk bytes at (queue ++ x) ≡ with_junk is_junk bytes place queue ++ x)
@@ -303,7 +298,7 @@ still_again stays h c notes e quiet state log again =
 
 -- A controller that would give PLAY then.
 
-abbrev Plays : Plan → State → Heard → Type 0
+abbrev pub Plays : Plan → State → Heard → Type 0
 Plays plan s h = given plan (came_again plan h s) ≡ Some command.Play
 
 plays_so : (h : Heard) (plan plan' : Plan) (s s' : State) → plan' ≡ plan → s' ≡ s → Plays plan' s' h → Plays plan s h
@@ -331,7 +326,7 @@ ends_if : (plan : Plan) (s : State) (c : Command) (by : Option Exchange) → giv
 ends_if plan s c None none gives = absurd (none_some (sym none ∙ gives))
 ends_if plan s c (Some e) none gives = refl
 
-ends_again : (plan : Plan) (s : State) (h : Heard) → Plays plan s h
+pub ends_again : (plan : Plan) (s : State) (h : Heard) → Plays plan s h
     → IsSome (ended_by plan (Some h) (taken (ticked s)))
 ends_again plan s h plays =
     ends_if plan (taken (ticked s)) command.Play (ended_by plan (Some h) (taken (ticked s)))
@@ -660,7 +655,7 @@ goes stays c notes h since run a quiet =
 
 -- Rows may leave out as much of notes before others.
 
-pub thinned_more : (all rows more : List Note) → IsThinned all rows → IsThinned (all ++ more) (rows ++ more)
+thinned_more : (all rows more : List Note) → IsThinned all rows → IsThinned (all ++ more) (rows ++ more)
 thinned_more all _ more whole = whole
 thinned_more all _ more (without before after asks hears a h thin) =
     let both : List Note = all ++ more in
@@ -678,11 +673,14 @@ thinned_more all _ more (before_play before after took asks hears free a h f thi
     ∙ ap (λ (l : List Note). before ++ (asks ∷ l)) (append_assoc (takes took) last more))
     (thinned_more all (before ++ (asks ∷ (takes took ++ last))) more thin)))
 
--- so the rows may tell of another state
-pub shows : (all rows : List Note) (h : Heard) (free : Note) (q : Command) → IsThinned all rows
-    → IsTrue (asks_state (note.Sent q)) → IsTrue (hears_done (note.Heard h)) → IsTrue (hears_free free)
-    → IsThinned (all ++ played_notes (Some q) h)
+-- so the rows may tell of another state, whether PLAY went out or not
+pub shows : (asked rows : List Note) (took : Bool) (h : Heard) (free : Note) (q : Command)
+    → IsThinned asked (rows ++ note.Sent q ∷ []) → IsTrue (asks_state (note.Sent q))
+    → IsTrue (hears_done (note.Heard h)) → IsTrue (hears_free free)
+    → IsThinned (asked ++ (takes took ++ note.Heard h ∷ note.Sent command.Play ∷ note.Silence ∷ []))
     (rows ++ (note.Sent q ∷ free ∷ note.Sent command.Play ∷ note.Silence ∷ []))
-shows all rows h free q thin asks done lets =
-    before_play rows (note.Silence ∷ []) true (note.Sent q) (note.Heard h) free asks done lets
-    (thinned_more all rows (played_notes (Some q) h) thin)
+shows asked rows took h free q thin asks done lets =
+    let last : List Note = takes took ++ note.Heard h ∷ note.Sent command.Play ∷ note.Silence ∷ [] in
+    before_play rows (note.Silence ∷ []) took (note.Sent q) (note.Heard h) free asks done lets
+    (subst (IsThinned (asked ++ last)) (append_assoc rows (note.Sent q ∷ []) last)
+    (thinned_more asked (rows ++ note.Sent q ∷ []) last thin))

@@ -1,14 +1,13 @@
 -- After an end that reports all nothing more airs.
 use Rattle.std.proofs.Common.{ℕ, ◌≡◌, List, [], ◌∷◌, take, refl, sym, ap, subst, ◌∙◌}
-use Rattle.std.specs.Prelude.{IfSome, IsTrue, Option, None, Some}
+use Rattle.std.specs.Prelude.{IfSome, IsTrue, None, Some}
 use Rattle.vdcp_frame.specs.Message.{Content}
 use Rattle.vdcp_words.specs.declared.command.Command.{Command}
 use Rattle.vdcp_port.specs.Clock.{ClockedPort}
 use Rattle.vdcp_auto.specs.Heard.{heard_as}
 use Rattle.vdcp_auto.specs.Plan.{Plan}
 use Rattle.vdcp_auto.specs.State.{State, Stage, Ready, Awaiting, Ended}
-use Rattle.vdcp_auto.specs.Turn.{awaited_in, came_to, exchange_of, outcome_of, taken, tick_in, ticked}
-use Rattle.vdcp_auto.specs.declared.exchange.Heard.{Heard}
+use Rattle.vdcp_auto.specs.Turn.{came_to, outcome_of, taken, tick_in, ticked}
 use Rattle.vdcp_auto.specs.declared.outcome.Outcome.{Outcome}
 use Rattle.vdcp_laws.specs.Automation.{Prompt, hears, hears_all}
 use Rattle.vdcp_drive.specs.Reading.{completed}

@@ -1,5 +1,5 @@
 -- Two ends with their bytes, computed: a run that the laws speak of; and for three premises what happens without them.
-use Rattle.std.proofs.Common.{◌≡◌, ◌<◌, ◌+◌, ℕ, zero, suc, true, List, [], ◌∷◌, ◌++◌, max, refl, ap, arith, lit<, lit≤, take}
+use Rattle.std.proofs.Common.{◌≡◌, ◌<◌, ◌+◌, ℕ, zero, suc, true, false, List, [], ◌∷◌, ◌++◌, max, refl, ap, arith, lit<, lit≤, take}
 use Rattle.std.proofs.lemmas.List.Elements.{All-cons, All-nil}
 use Rattle.std.specs.Simd.Lanes.{all_below}
 use Rattle.std.specs.Prelude.{None, Some}
@@ -14,6 +14,7 @@ use Rattle.vdcp_words.specs.Commands.{command_message}
 use Rattle.vdcp_words.specs.declared.command.Command.{Command}
 use Rattle.vdcp_words.specs.declared.command.Command.TheVariants as command
 use Rattle.vdcp_words.specs.declared.reply.Reply.TheVariants as reply
+use Rattle.vdcp_auto.specs.declared.exchange.Heard.{Heard}
 use Rattle.vdcp_auto.specs.declared.exchange.Heard.TheVariants as heard
 use Rattle.vdcp_journal.specs.declared.row.Note.TheVariants as note
 use Rattle.vdcp_port.specs.Clips.{whole}
@@ -22,10 +23,13 @@ use Rattle.vdcp_port.specs.Port.{done, empty}
 use Rattle.vdcp_port.specs.declared.access.Access.TheVariants.{Selected}
 use Rattle.vdcp_auto.specs.Commands.{cue_for}
 use Rattle.vdcp_auto.specs.Plan.{Plan}
-use Rattle.vdcp_auto.specs.Turn.{came_to}
-use Rattle.vdcp_auto.specs.declared.phase.Mode.TheVariants.{Plain}
+use Rattle.vdcp_auto.specs.State.{Ready, State}
+use Rattle.vdcp_auto.specs.Turn.{came_to, given, ticked}
+use Rattle.vdcp_auto.specs.declared.phase.Mode.TheVariants.{Confirming, Plain}
+use Rattle.vdcp_auto.specs.declared.phase.Phase.TheVariants as phase
 use Rattle.vdcp_wire.specs.Wires.{Arrival, bytes, silence}
 use Rattle.vdcp_drive.specs.Traces.{bytes_of}
+use Rattle.vdcp_laws.specs.Announced.{Announces, came_again}
 use Rattle.vdcp_laws.specs.Automation.{Prompt, commands_in, gives, new_prompt, prompted, prompted_from}
 use Rattle.vdcp_drive.specs.Reading.{holds}
 use Rattle.vdcp_drive.specs.Served.{items_served, served}
@@ -309,6 +313,56 @@ unsafe_command_airs_twice : (length : Timecode) → frames_of length ≡ 1
     ∷ bytes status_bytes ∷ bytes play_bytes ∷ then_downs)
     ≡ whole clip ∷ whole clip ∷ []
 unsafe_command_airs_twice length one = ap (aired_then length) one
+
+-- A PLAY that was announced.
+
+-- The first of two events plays, and the second one's cue is done: the state says so.
+abbrev two_events : Plan
+two_events = record { mode = Confirming; list = whole clip ∷ whole clip ∷ []; port = 1; limit = 3 }
+
+abbrev waits : State
+waits = record { stage = Ready (phase.Wait 1); take = false; stop = false; unanswered = 0; settled = 1; tries = 0 }
+
+abbrev says_so : Heard
+says_so = heard.Reply (reply.State 1 (Some 0x84))
+
+it_announces : Announces two_events waits (note.Sent (command.Status 1) ∷ note.Heard says_so ∷ []) says_so
+it_announces = record { last = refl; plays = refl }
+
+-- what goes on from there asks first
+it_asks : given two_events (came_to two_events None (ticked (came_again two_events says_so waits))) ≡ Some (command.Status 1)
+it_asks = refl
+
+-- An automation that goes on without the PLAY takes the cue for lost, and cues again.
+abbrev playing_bytes : List ℕ
+playing_bytes = 0x02 ∷ 0x04 ∷ 0x30 ∷ 0x85 ∷ 0x01 ∷ 0x04 ∷ 0x46 ∷ []
+
+forgetting_sends :
+    bytes_of 0 (commands_in two_events (gives (prompted_from two_events 0 (record { held = holds []; state = waits; log = [] })
+    (bytes playing_bytes ∷ silence ∷ bytes done_bytes ∷ []))))
+    ≡ status_bytes ++ (cue_front ++ cue_rest) ++ status_bytes ++ play_bytes
+forgetting_sends = refl
+
+-- So if the PLAY went out, the second event airs twice.
+
+abbrev next_cued : Timecode → ClockedPort
+next_cued length = record {
+  clips = (clip, length) ∷ [];
+  cue_frames = 1;
+  state = record { unit = 0; number = 1; access = Selected; cued = done (whole clip); playing = Some (whole clip) };
+  counts = record { cue = 0; playing = 1 };
+}
+
+abbrev forgetting_downs : List Arrival
+forgetting_downs = bytes status_bytes ∷ bytes (cue_front ++ cue_rest) ∷ silence ∷ bytes status_bytes ∷ bytes play_bytes ∷ []
+
+abbrev forgetting_airs : Timecode → ℕ → List Item
+forgetting_airs length n = whole clip ∷ items_served (playing_for length n) forgetting_downs
+
+forgotten_play_airs_twice : (length : Timecode) → frames_of length ≡ 1
+    → items_served (next_cued length) (silence ∷ bytes status_bytes ∷ bytes play_bytes ∷ forgetting_downs)
+    ≡ whole clip ∷ whole clip ∷ []
+forgotten_play_airs_twice length one = ap (forgetting_airs length) one
 
 -- What an earlier conversation has left.
 

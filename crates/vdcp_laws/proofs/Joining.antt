@@ -28,8 +28,8 @@ use Rattle.vdcp_journal.specs.declared.row.Note.TheVariants as note
 use Rattle.vdcp_wire.specs.Wires.{Arrival, bytes, silence, close, has_closed}
 use Rattle.vdcp_drive.specs.Bursts.{open_burst}
 use Rattle.vdcp_drive.specs.Steps as steps
-use Rattle.vdcp_laws.specs.Announced.{Announces, heard_from, heard_last}
-use Rattle.vdcp_laws.specs.Automation.{Prompt, commands_in, end_notes, gives, hears_all, listens, receives}
+use Rattle.vdcp_laws.specs.Announced.{heard_last}
+use Rattle.vdcp_laws.specs.Automation.{Prompt, commands_in, end_notes, gives, hears_all, listens}
 use Rattle.vdcp_drive.specs.Reading.{Held, holds, completed, held_after, held_after_silence}
 use Rattle.vdcp_drive.specs.Served.{items_served}
 use Rattle.vdcp_world.specs.Channel.{log_hearing, state_hearing}
@@ -38,7 +38,7 @@ use Rattle.vdcp_late.specs.declared.event.LateEvent.{LateEvent}
 use Rattle.vdcp_late.specs.declared.event.LateEvent.TheVariants as event
 use Rattle.vdcp_laws.specs.TwoEnds.{AreJoined, begun, note_for, went_on, gave, came_up, came_down, waited, hung_up, frame, shut, took, halted, resumed, restarted}
 use Rattle.vdcp_laws.specs.TwoEnds.{GoesOn, as_announced, as_noted}
-use Rattle.vdcp_laws.specs.TwoEnds.{CanJoin, Ends, IsLateChannel, aired_now, bytes_in, commands_sent, connected_anew, log_now, new_ends, port_now, sent_up, notes_ended, notes_given, notes_heard, wishing, with_automation, with_command, with_down, with_heard, with_take, with_up}
+use Rattle.vdcp_laws.specs.TwoEnds.{CanJoin, Ends, IsLateChannel, aired_now, bytes_in, commands_sent, connected_anew, log_now, new_ends, port_now, sent_up, notes_ended, notes_heard, wishing, with_automation, with_command, with_down, with_heard, with_take, with_up}
 use Rattle.vdcp_laws.specs.Below.{Answered, Arrived, Completed, Spelt, Written}
 use Rattle.vdcp_laws.proofs.Bytes.{clean_spelt, completes, end_past, front_small, messages_past, messages_spelt, messages_within_limit, nothing_unfinished, spelt, spelt_both, whole_spelt, within_limit}
 use Rattle.vdcp_laws.proofs.Commands.{commands_gives, commands_listens, commands_receives, timed_out}

@@ -1,16 +1,30 @@
 -- An automation that is killed goes on as it was when the last of what is safe was noted.
-use Rattle.std.proofs.Common.{◌≡◌, List, ◌++◌, refl, sym, ap, ap₂, ◌∙◌}
+use Rattle.std.proofs.Common.{◌≡◌, Bool, List, [], ◌∷◌, ◌++◌, map, append_assoc, refl, sym, ap, ap₂, ◌∙◌}
+use Rattle.std.specs.Option.{option_map, option_to_list}
+use Rattle.std.specs.Prelude.{IsSome, Option, None, Some, if◌then◌else◌}
 use Rattle.vdcp_value.specs.declared.part.Item.{Item}
 use Rattle.vdcp_port.specs.Clock.{ClockedPort}
 use Rattle.vdcp_auto.specs.Plan.{Plan}
+use Rattle.vdcp_auto.specs.State.{State}
+use Rattle.vdcp_auto.specs.Turn.{awaited, ended_by, exchange_of, given, taken, ticked}
+use Rattle.vdcp_auto.specs.declared.exchange.Exchange.{Exchange}
+use Rattle.vdcp_auto.specs.declared.exchange.Heard.{Heard}
+use Rattle.vdcp_journal.specs.declared.row.Note.{Note}
+use Rattle.vdcp_journal.specs.declared.row.Note.TheVariants as note
 use Rattle.vdcp_wire.specs.Wires.{bytes, silence, close}
 use Rattle.vdcp_drive.specs.Traces.{bytes_of}
+use Rattle.vdcp_drive.specs.Steps.{end_of, given_notes}
 use Rattle.vdcp_words.specs.declared.command.Command.{Command}
+use Rattle.vdcp_words.specs.declared.command.Command.TheVariants as command
 use Rattle.vdcp_drive.specs.Served.{items_served, port_after}
-use Rattle.vdcp_laws.specs.TwoEnds.{AreJoined, Ends, IsSince, aired_now, at_once, commands_sent, later, notes_given, port_now, went_on, with_automation, with_kept}
+use Rattle.vdcp_laws.specs.TwoEnds.{AreJoined, Ends, IsSince, aired_now, at_once, commands_sent, connected_anew, heard_again, later, note_for, notes_ended, notes_given, port_now, went_on, with_command, with_kept}
 use Rattle.vdcp_laws.specs.TwoEnds.{gave, came_up, came_down, waited, hung_up, frame, shut, took, halted, resumed, restarted}
-use Rattle.vdcp_laws.specs.Automation.{gives}
-use Rattle.vdcp_laws.proofs.Commands.{commands_listens}
+use Rattle.vdcp_laws.specs.Announced.{Announces, came_again, played_notes}
+use Rattle.vdcp_laws.specs.Automation.{end_notes}
+use Rattle.vdcp_laws.proofs.Announced.{ends_again}
+use Rattle.vdcp_laws.proofs.Commands.{commands_listens, ends_alone}
+use Rattle.vdcp_laws.proofs.Journaled.{given_awaited}
+use Rattle.vdcp_laws.proofs.Noting.{heard_is}
 
 -- since then the automation has given nothing more, and the connection is the same
 record KeepsOn (plan : Plan) (port : ClockedPort) (asked : List Command) (kept now : Ends) : Type 0 where
@@ -79,8 +93,7 @@ pub kept_joined : (plan : Plan) (port : ClockedPort) (asked : List Command) (kep
 kept_joined plan port asked kept now j since = (keeps_on plan port asked kept now j since).joined
 
 pub kept_gives : (plan : Plan) (port : ClockedPort) (asked : List Command) (kept now : Ends) → AreJoined plan port asked kept
-    → IsSince plan port.state.unit kept now → AreJoined plan port asked
-    (with_automation (gives kept.automation) (notes_given plan kept.automation.state) (with_kept kept now))
+    → IsSince plan port.state.unit kept now → AreJoined plan port asked (with_command plan (with_kept kept now))
 kept_gives plan port asked kept now joined since = went_on (kept_joined plan port asked kept now joined since) gave
 
 pub kept_port : (plan : Plan) (port : ClockedPort) (asked : List Command) (kept now : Ends) → AreJoined plan port asked kept
@@ -93,3 +106,51 @@ pub kept_aired : (plan : Plan) (port : ClockedPort) (asked : List Command) (kept
 kept_aired plan port asked kept now j since =
     let k = keeps_on plan port asked kept now j since in
     ap₂ (λ (l : List Item) (q : ClockedPort). l ++ items_served q now.downs) (sym k.before_is) (sym k.port_is)
+
+-- What goes on with a PLAY that the notes announce has these notes more.
+
+sent_so : (gives : Option Command)
+    → map note_for (given_notes gives) ≡ option_to_list (option_map (λ c. note.Sent c) gives)
+sent_so None = refl
+sent_so (Some c) = refl
+
+heard_so : (plan : Plan) (s : State) (h : Heard) (by : Option Exchange) → ended_by plan (Some h) s ≡ by → IsSome by
+    → map note_for (end_notes by) ≡ note.Heard h ∷ []
+heard_so plan s h None is some = cc some
+heard_so plan s h (Some e) is some =
+    ap (λ (o : Option Heard). note_for (end_of o) ∷ []) (sym (heard_is plan.mode (Some h) (awaited plan s) e is))
+
+silent_so : (plan : Plan) (s : State) (q : Command) → awaited plan s ≡ Some q
+    → notes_ended plan None s ≡ note.Silence ∷ []
+silent_so plan s q is =
+    ap (λ (o : Option Command). map note_for (end_notes (exchange_of plan.mode None o))) is
+    ∙ ap (λ (b : Bool). map note_for (end_notes (if b then Some (record { command = q; heard = None }) else None)))
+    (ends_alone plan.mode q)
+
+flat : (n g : List Note) (w x y z : Note)
+    → ((((n ++ g) ++ w ∷ []) ++ x ∷ []) ++ y ∷ []) ++ z ∷ [] ≡ n ++ (g ++ (w ∷ x ∷ y ∷ z ∷ []))
+flat n g w x y z =
+    append_assoc (((n ++ g) ++ w ∷ []) ++ x ∷ []) (y ∷ []) (z ∷ [])
+    ∙ append_assoc ((n ++ g) ++ w ∷ []) (x ∷ []) (y ∷ z ∷ [])
+    ∙ append_assoc (n ++ g) (w ∷ []) (x ∷ y ∷ z ∷ [])
+    ∙ append_assoc n g (w ∷ x ∷ y ∷ z ∷ [])
+
+pub played_noted : (plan : Plan) (port : ClockedPort) (e : Ends) (h : Heard)
+    → Announces plan e.automation.state e.notes h
+    → (connected_anew plan port (with_command plan (heard_again plan h e))).notes
+    ≡ e.notes ++ played_notes (given plan e.automation.state) h
+played_noted plan port e h a =
+    let s : State = e.automation.state in
+    let again : State = came_again plan h s in
+    let gives : List Note = option_to_list (option_map (λ c. note.Sent c) (given plan s)) in
+    let hears : List Note = notes_ended plan (Some h) (taken (ticked s)) in
+    let plays : List Note = notes_given plan again in
+    let silent : List Note = notes_ended plan None (ticked again) in
+    ap (λ (l : List Note). ((((e.notes ++ l) ++ note.Take ∷ []) ++ hears) ++ plays) ++ silent) (sent_so (given plan s))
+    ∙ ap (λ (l : List Note). ((((e.notes ++ gives) ++ note.Take ∷ []) ++ l) ++ plays) ++ silent)
+    (heard_so plan (taken (ticked s)) h (ended_by plan (Some h) (taken (ticked s))) refl (ends_again plan s h a.plays))
+    ∙ ap (λ (o : Option Command). ((((e.notes ++ gives) ++ note.Take ∷ []) ++ note.Heard h ∷ [])
+    ++ map note_for (given_notes o)) ++ silent) a.plays
+    ∙ ap (λ (l : List Note). ((((e.notes ++ gives) ++ note.Take ∷ []) ++ note.Heard h ∷ []) ++ note.Sent command.Play ∷ [])
+    ++ l) (silent_so plan (ticked again) command.Play (given_awaited plan again.stage again command.Play a.plays))
+    ∙ flat e.notes gives note.Take (note.Heard h) (note.Sent command.Play) note.Silence

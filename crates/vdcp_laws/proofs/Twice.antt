@@ -1,7 +1,7 @@
 -- What was heard last may come once more, as a copy.
-use Rattle.std.proofs.Common.{ℕ, ◌≡◌, zero, suc, Bool, true, false, All, List, [], ◌∷◌, ◌++◌, map, refl, sym, ap, ap₂, subst, ◌∙◌, append_assoc, append-nil}
+use Rattle.std.proofs.Common.{ℕ, ◌≡◌, suc, Bool, true, false, All, List, [], ◌∷◌, ◌++◌, map, refl, sym, ap, ap₂, subst, ◌∙◌, append_assoc, append-nil}
 use Rattle.std.proofs.lemmas.List.Elements.{All-head, All-tail}
-use Rattle.std.specs.List.{insert, remove}
+use Rattle.std.specs.List.{remove}
 use Rattle.std.specs.Prelude.{Option, None, Some, if◌then◌else◌}
 use Rattle.vdcp_frame.specs.Message.{Content, Fits, spelling}
 use Rattle.vdcp_words.specs.declared.command.Command.{Command}
@@ -27,7 +27,7 @@ use Rattle.vdcp_laws.specs.Below.{Spelt}
 use Rattle.vdcp_laws.specs.TwoEnds.{note_for, notes_ended, notes_heard}
 use Rattle.vdcp_laws.proofs.Commands.{hears_comes, left_by}
 use Rattle.vdcp_laws.proofs.Noting.{heard_is}
-use Rattle.vdcp_laws.proofs.Queues.{downs_lost, downs_of, ups_lost, ups_of, with_queues}
+use Rattle.vdcp_laws.proofs.Queues.{downs_lost, downs_of, ups_lost, ups_of}
 
 -- vdcp_late::laws::a_killed_automation_goes_on
 abbrev pub Goes : Type 0
@@ -59,7 +59,7 @@ by_event goes unit h c d e t is = record {
   reached = subst IsLateReached is (goes (behind t.burst c) (e ∷ []) t.reached);
 }
 
-junked : (b bytes : List ℕ) (place : ℕ) (up : List (List ℕ)) (is_junk : Bool)
+pub junked : (b bytes : List ℕ) (place : ℕ) (up : List (List ℕ)) (is_junk : Bool)
     → with_junk is_junk bytes (suc place) (b ∷ up) ≡ b ∷ with_junk is_junk bytes place up
 junked b bytes place up true = refl
 junked b bytes place up false = refl

@@ -1,12 +1,12 @@
 //! The laws of runs that are killed, any number of times, and go on from their journals.
 //!
 //! The functions do nothing: their contracts are the laws, and a caller whose proof needs one calls it.
-ghost use Rattle.std.specs.Prelude.{◌≡◌, ◌≤◌, ℕ, ◌∷◌, ◌++◌, [], All, IsTrue, List, Some};
+ghost use Rattle.std.specs.Prelude.{◌≡◌, ◌≤◌, ℕ, ◌∷◌, ◌++◌, [], All, Bool, IsTrue, List, Some};
 ghost use Rattle.vdcp_auto.specs.declared.exchange.Heard.{Heard};
 ghost use Rattle.vdcp_auto.specs.Plan.{Plan};
 ghost use Rattle.vdcp_auto.specs.Turn.{given, outcome_of, start};
 ghost use Rattle.vdcp_journal.specs.Resume.{AreTold, after_rows};
-ghost use Rattle.vdcp_journal.specs.Thinned.{AreThinned, IsThinned, asks_state, hears_done, hears_free, notes_in};
+ghost use Rattle.vdcp_journal.specs.Thinned.{AreThinned, IsThinned, asks_state, hears_done, hears_free, notes_in, takes};
 ghost use Rattle.vdcp_journal.specs.declared.row.Note.{Note};
 ghost use Rattle.vdcp_journal.specs.declared.row.Note.TheVariants as note;
 ghost use Rattle.vdcp_journal.specs.declared.row.Row.{Row};
@@ -50,16 +50,17 @@ pub fn what_asks_may_go_out_unkept()
 {}
 
 /// Where what was heard last announces a PLAY, that may have gone out before its row was safe, whatever brought the state, and
-/// whether the state was asked since or not: the state was asked once more, its answer heard, and PLAY given. If it wasn't,
-/// going on may take it for given and lost all the same: a line could have had it so, on which the same state came once more,
-/// as a copy, after a take. And either way the rows may tell of any state that lets a PLAY go out (`shows`).
+/// whether the state was asked since or not. If it did, the state was asked once more, its answer heard, and PLAY given. If it
+/// didn't, going on may take it for given and lost all the same (`goes`): a line could have had it so, on which the same state
+/// came once more, as a copy, after a take. Either way the rows may tell of any state that lets a PLAY go out (`shows`).
 pub fn an_announced_play_may_go_out_unkept()
     ensures goes { (c : LateChannel) (notes : List Note) (h : Heard) (since : List LateEvent) → IsRun c notes →
         Announces c.plan c.state notes h → All IsNoTick since →
         IsRun (gone_on (played h c) (after_late_events c since)) (notes ++ played_notes (given c.plan c.state) h) }
-    ensures shows { (all rows : List Note) (h : Heard) (free : Note) (asks : Command) → IsThinned all rows →
-        IsTrue (asks_state (note.Sent asks)) → IsTrue (hears_done (note.Heard h)) → IsTrue (hears_free free) →
-        IsThinned (all ++ played_notes (Some asks) h)
+    ensures shows { (asked rows : List Note) (took : Bool) (h : Heard) (free : Note) (asks : Command) →
+        IsThinned asked (rows ++ note.Sent asks ∷ []) → IsTrue (asks_state (note.Sent asks)) →
+        IsTrue (hears_done (note.Heard h)) → IsTrue (hears_free free) →
+        IsThinned (asked ++ (takes took ++ note.Heard h ∷ note.Sent Play ∷ note.Silence ∷ []))
         (rows ++ (note.Sent asks ∷ free ∷ note.Sent Play ∷ note.Silence ∷ [])) }
 {
     vdcp_port::laws::the_unit_stays();

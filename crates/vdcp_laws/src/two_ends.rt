@@ -10,7 +10,8 @@ ghost use Rattle.vdcp_auto.specs.Course.{logged};
 ghost use Rattle.vdcp_auto.specs.Plan.{Plan};
 ghost use Rattle.vdcp_auto.specs.Settled.{may_have_aired};
 ghost use Rattle.vdcp_auto.specs.State.{State};
-ghost use Rattle.vdcp_auto.specs.Turn.{ended_by, outcome_of, start, ticked};
+ghost use Rattle.vdcp_auto.specs.Turn.{ended_by, given, outcome_of, start, ticked};
+ghost use Rattle.vdcp_auto.specs.declared.exchange.Heard.{Heard};
 ghost use Rattle.vdcp_auto.specs.declared.outcome.Outcome.{Outcome};
 ghost use Rattle.vdcp_journal.specs.Airings.{settled_in};
 ghost use Rattle.vdcp_journal.specs.Resume.{AreTold, after_rows, log_of};
@@ -35,13 +36,13 @@ ghost use Rattle.vdcp_drive.specs.Served.{IsOpen, items_served, stands_at};
 ghost use Rattle.vdcp_drive.specs.Serving.{Serving, acts_of};
 ghost use Rattle.vdcp_drive.specs.Watching.{tells_airing};
 ghost use Rattle.vdcp_late.specs.LateHeadline.{is_late_complete};
-ghost use Rattle.vdcp_laws.specs.Automation.{gives};
+ghost use Rattle.vdcp_laws.specs.Announced.{Announces, played_notes};
 ghost use Rattle.vdcp_laws.specs.Below.{Answered, Arrived, Completed, Spelt, Written};
 ghost use Rattle.vdcp_laws.specs.Carried.{AreCarried, driver_of};
 ghost use Rattle.vdcp_laws.specs.EndsHeadline.{EndsHeadline};
 ghost use Rattle.vdcp_laws.specs.OneConnection.{ComesWhole, HasCome, IsFresh, ends_of};
 ghost use Rattle.vdcp_laws.specs.SeveralRuns.{HaveAired};
-ghost use Rattle.vdcp_laws.specs.TwoEnds.{AreJoined, AreLed, CanJoin, Ends, IsLateChannel, IsSince, aired_now, connected_anew, log_now, new_ends, note_for, notes_given, port_now, with_automation, with_kept};
+ghost use Rattle.vdcp_laws.specs.TwoEnds.{AreJoined, AreLed, CanJoin, Ends, IsLateChannel, IsSince, aired_now, connected_anew, heard_again, log_now, new_ends, note_for, port_now, with_command, with_kept};
 ghost use Rattle.vdcp_laws.specs.Undisturbed.{AreUndisturbed, CanPlay, IsDone, most_exchanges};
 
 use vdcp_auto::Source;
@@ -185,14 +186,14 @@ pub fn undisturbed_ends_play_the_list()
 
 /// An automation that is killed goes on as it was when the last of what is safe in its journal was noted, if it gave no
 /// command since. What came to it since is lost, and the server is as it is now; so this is among what may come of the
-/// two ends, and a new connection may follow. Its next command may be taken for given, too, as one that may have gone out
-/// without its row.
+/// two ends, and a new connection may follow, also with the PLAY that its notes announce. Its next command may be taken for
+/// given, too, as one that may have gone out without its row.
 pub fn a_kill_loses_what_came_since()
     ensures joined { (plan : Plan) (port : ClockedPort) (asked : List Command) (kept now : Ends) →
         AreJoined plan port asked kept → IsSince plan port.state.unit kept now → AreJoined plan port asked (with_kept kept now) }
     ensures gives { (plan : Plan) (port : ClockedPort) (asked : List Command) (kept now : Ends) →
-        AreJoined plan port asked kept → IsSince plan port.state.unit kept now → AreJoined plan port asked
-        (with_automation (gives kept.automation) (notes_given plan kept.automation.state) (with_kept kept now)) }
+        AreJoined plan port asked kept → IsSince plan port.state.unit kept now →
+        AreJoined plan port asked (with_command plan (with_kept kept now)) }
     ensures port { (plan : Plan) (port : ClockedPort) (asked : List Command) (kept now : Ends) →
         AreJoined plan port asked kept → IsSince plan port.state.unit kept now → port_now (with_kept kept now) ≡ port_now now }
     ensures aired { (plan : Plan) (port : ClockedPort) (asked : List Command) (kept now : Ends) →
@@ -212,6 +213,11 @@ pub fn a_journal_makes_the_automation()
     ensures shows { (plan : Plan) (port : ClockedPort) (asked : List Command) (e : Ends) (all : List Row) →
         AreJoined plan port asked e → notes_in all ≡ e.notes →
         log_of all ≡ logged (log_now e) (ended_by plan None e.automation.state) }
+    // where they announce a PLAY, what goes on with it has these notes more
+    ensures announced { (plan : Plan) (port : ClockedPort) (e : Ends) (h : Heard) →
+        Announces plan e.automation.state e.notes h →
+        (connected_anew plan port (with_command plan (heard_again plan h e))).notes
+        ≡ e.notes ++ played_notes (given plan e.automation.state) h }
     // and what a driver's run keeps (`notes_of`), with its next command given, are the notes that it adds to the journal
     ensures kept { (plan : Plan) (unit : ℕ) (e : Ends) (came downs : List Arrival) → IsFresh plan e →
         (ends_of plan unit e came downs).notes ≡ e.notes ++ map note_for

@@ -1,4 +1,5 @@
 use Rattle.std.proofs.Common.{◌∙◌}
+use Rattle.vdcp_laws.proofs.Killed.{played_noted}
 use Rattle.vdcp_laws.proofs.Logging.{rows_show}
 use Rattle.vdcp_laws.proofs.Noting.{rows_are_told, rows_make}
 use Rattle.vdcp_laws.proofs.Same.{noted_so}
@@ -17,6 +18,9 @@ returns-clause-told c = λ plan port asked e all rows can j noted thin.
 
 pub returns-clause-shows : goal.returns-clause-shows
 returns-clause-shows c = rows_show
+
+pub returns-clause-announced : goal.returns-clause-announced
+returns-clause-announced c = played_noted
 
 pub returns-clause-kept : goal.returns-clause-kept
 returns-clause-kept c = noted_so
