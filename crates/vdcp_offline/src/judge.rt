@@ -4,7 +4,9 @@
 //! stand, and which events the exchanges show to be aired. Of the capture it takes nothing but its bytes, so it judges
 //! any automation. It reports a failure to standard error in one line, and gives the exit status.
 //!
-//! Files, in reading order: `settings`, `capture`, `findings`, `printing`.
+//! The capture is read line by line, and only what is told of it is kept.
+//!
+//! Files, in reading order: `settings`, `capture`, `findings`, `told`.
 ghost use Rattle.std.specs.Io.KnownBytes.{Appends, Keeps};
 ghost use Rattle.std.specs.Prelude.{ℕ, ◌≡◌, ◌≢◌, ◌⊎◌, ◌<◌, IfErr, IfOk, OnOk};
 ghost use Rattle.vdcp_offline.specs.Judged.{AreWhole, IsJudged, IsToldOnly};
@@ -13,8 +15,7 @@ ghost use Rattle.vdcp_text.specs.Failure.{status_of};
 ghost use Rattle.vdcp_text.specs.declared.failure.Failure.TheVariants as failures;
 
 use crate::judge::capture::read_capture;
-use crate::judge::findings::{find, has_message};
-use crate::judge::printing::{forbidden_in, report};
+use crate::judge::findings::Found;
 use std::alloc::Global;
 use std::io;
 use vdcp_files::NamedFile;
@@ -22,8 +23,8 @@ use vdcp_text::Failure;
 
 mod capture;
 mod findings;
-mod printing;
 mod settings;
+mod told;
 
 pub use settings::JudgeSettings;
 
@@ -81,14 +82,16 @@ fn judge<'a, L: io::Read + Drop, C: io::Read + Drop, W: io::Write>(
 {
     let events = list.read_list(alloc, settings.rate)?;
     let name = capture.name;
-    let pieces = read_capture(alloc, capture, settings.unit)?;
-    if !has_message(pieces.as_slice()) {
+    let mut found = Found::new(alloc, &events, settings);
+    read_capture(alloc, capture, settings.unit, &mut found)?;
+    if !found.has_message {
         return Err(Failure::Empty(name));
     }
-    let findings = find(alloc, &events, settings.confirming, pieces.as_slice())?;
-    let text = report(alloc, settings.rate, &events, findings.as_slice())?;
+    let told = found.end()?;
+    let forbidden = told.forbidden;
+    let text = told.text()?;
     match write(text.as_bytes(), out) {
-        Ok(()) => Ok(forbidden_in(findings.as_slice())),
+        Ok(()) => Ok(forbidden),
         Err(_) => Err(Failure::Writer),
     }
 }
