@@ -20,7 +20,7 @@ use Rattle.vdcp_journal.specs.declared.row.Note.{Note}
 use Rattle.vdcp_journal.specs.declared.row.Note.TheVariants as note
 use Rattle.vdcp_laws.proofs.Commands.{awaits_none_in, exchange_is, left_by, not_ended}
 use Rattle.vdcp_laws.proofs.Journaled.{asked, given_awaited, one_silence, plan_stays, plan_stays_in}
-use Rattle.vdcp_laws.proofs.Twice.{given_last, junked, last_more}
+use Rattle.vdcp_laws.proofs.Running.{given_last, last_more, no_notes}
 use Rattle.vdcp_laws.specs.Announced.{Announces, came_again, heard_last, played_notes}
 use Rattle.vdcp_laws.specs.Kills.{IsRun, begun, happened, heard_notes, killed, end_notes, notes_of, played, silence_notes, stray_notes}
 use Rattle.vdcp_late.specs.Damage.{can_become, is_junk_down, replaced, with_damage, with_junk}
@@ -77,11 +77,8 @@ units_stay stays c (e ∷ events) = units_stay stays (after_late_event c e) even
 
 -- The line with another controller, and more bursts behind what is on the way down.
 
-abbrev ahead : LateChannel → State → List Exchange → List (List ℕ) → LateChannel
+abbrev pub ahead : LateChannel → State → List Exchange → List (List ℕ) → LateChannel
 ahead t s l x = record t { state = s; log = l; down = t.down ++ x }
-
-no_notes : {c : LateChannel} {notes : List Note} → IsRun c (notes ++ []) → IsRun c notes
-no_notes {c} {notes} run = subst (IsRun c) (append-nil notes) run
 
 first_lost : (queue : List (List ℕ)) → remove queue 0 ≡ without_oldest queue
 first_lost [] = refl
@@ -144,6 +141,11 @@ junk_past : (x : List (List ℕ)) (bytes : List ℕ) (place : ℕ) (is_junk : Bo
     → with_junk is_junk bytes 0 x ≡ with_junk is_junk bytes (suc place) [] ++ x
 junk_past x bytes place true = refl
 junk_past x bytes place false = refl
+
+junked : (b bytes : List ℕ) (place : ℕ) (up : List (List ℕ)) (is_junk : Bool)
+    → with_junk is_junk bytes (suc place) (b ∷ up) ≡ b ∷ with_junk is_junk bytes place up
+junked b bytes place up true = refl
+junked b bytes place up false = refl
 
 junk_before : (is_junk : Bool) (bytes : List ℕ) (x queue : List (List ℕ)) (place : ℕ)
     → (at : ℕ) × (with_junk is_junk bytes at (queue ++ x) ≡ with_junk is_junk bytes place queue ++ x)
@@ -262,16 +264,16 @@ ahead_all t s l x notes (e ∷ since) quiet run =
 
 -- The state is asked, and what was heard last is heard again, after a take: with the request, which may still be on its way.
 
-abbrev sent_of : Option Command → List Note
+abbrev pub sent_of : Option Command → List Note
 sent_of gives = option_to_list (option_map (λ c. note.Sent c) gives)
 
-abbrev Again : Plan → State → Option Command → List Exchange → ℕ → Heard → LateChannel → List Note → Type 0
+abbrev pub Again : Plan → State → Option Command → List Exchange → ℕ → Heard → LateChannel → List Note → Type 0
 Again plan s gives log unit h c notes =
     IsRun (ahead c (came_to plan (Some h) (taken s)) (logged log (ended_by plan (Some h) (taken s)))
     (command_bursts unit gives))
     (notes ++ (sent_of gives ++ note.Take ∷ note.Heard h ∷ []))
 
-abbrev IsAgain : Heard → LateChannel → List Note → Type 0
+abbrev pub IsAgain : Heard → LateChannel → List Note → Type 0
 IsAgain h c notes = Again c.plan (ticked c.state) (given c.plan c.state) c.log c.port.state.unit h c notes
 
 -- the controller is as it was
@@ -301,7 +303,7 @@ still_again stays h c notes e quiet state log again =
 abbrev pub Plays : Plan → State → Heard → Type 0
 Plays plan s h = given plan (came_again plan h s) ≡ Some command.Play
 
-plays_so : (h : Heard) (plan plan' : Plan) (s s' : State) → plan' ≡ plan → s' ≡ s → Plays plan' s' h → Plays plan s h
+pub plays_so : (h : Heard) (plan plan' : Plan) (s s' : State) → plan' ≡ plan → s' ≡ s → Plays plan' s' h → Plays plan s h
 plays_so h plan plan' s s' plan_is is plays =
     ap₂ (λ (p : Plan) (x : State). given p (came_again p h x)) (sym plan_is) (sym is) ∙ plays
 
@@ -538,7 +540,7 @@ unended : (c : LateChannel) (by : Option Exchange) → ended_by c.plan None c.st
 unended c None is none = (ap (left_by c.plan c.state) is, ap (logged c.log) is)
 unended c (Some e) is none = cc none
 
-again_of : UnitStays → (h : Heard) (c : LateChannel) (notes : List Note) → IsRun c notes → heard_last notes ≡ Some h
+pub again_of : UnitStays → (h : Heard) (c : LateChannel) (notes : List Note) → IsRun c notes → heard_last notes ≡ Some h
     → Plays c.plan c.state h → IsAgain h c notes
 again_of stays h _ _ (begun plan port down up can_start) last plays = absurd (none_some last)
 again_of stays h _ _ (happened {c} {notes} run event.Tick of_run) last plays =

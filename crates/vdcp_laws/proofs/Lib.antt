@@ -18,7 +18,7 @@ mod Queues
 mod Same
 mod Serving
 mod SeveralRuns
-mod Twice
+mod Running
 mod Whole
 mod AsrunRows
 mod LossyGoings

@@ -22,6 +22,7 @@ use Rattle.vdcp_drive.specs.Steps.{given_notes}
 use Rattle.vdcp_laws.specs.Automation.{end_notes}
 use Rattle.vdcp_laws.specs.Automation.{Prompt, commands_in, gives, hears, listens, new_prompt, receives}
 use Rattle.vdcp_laws.specs.Announced.{Announces}
+use Rattle.vdcp_laws.specs.Kills.{IsRun}
 use Rattle.vdcp_drive.specs.Reading.{completed, holds}
 use Rattle.vdcp_drive.specs.declared.keep.Kept.{Kept}
 use Rattle.vdcp_drive.specs.declared.keep.Kept.TheVariants as kept
@@ -214,10 +215,11 @@ pub record CanJoin (plan : Plan) (port : ClockedPort) (asked : List Command) : T
   pub can_start : CanStart plan port [] []
   pub only_asks : All (IsQuestion plan.port) asked
 
--- the two ends are what events of a late channel lead to
+-- the two ends are what events of a late channel lead to, in a run that has their notes
 pub record IsLateChannel (plan : Plan) (port : ClockedPort) (e : Ends) : Type 0 where
   pub channel : LateChannel
   pub reached : IsLateReached channel
+  pub run : IsRun channel e.notes
   pub plan_is : channel.plan ≡ plan
   pub state_is : channel.state ≡ e.automation.state
   pub log_is : channel.log ≡ log_now e
