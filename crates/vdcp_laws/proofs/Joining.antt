@@ -30,7 +30,6 @@ use Rattle.vdcp_drive.specs.Bursts.{open_burst}
 use Rattle.vdcp_laws.specs.Announced.{Announces, came_again}
 use Rattle.vdcp_laws.specs.Kills as kills
 use Rattle.vdcp_laws.specs.Kills.{IsRun, happened, silence_notes}
-use Rattle.vdcp_late.specs.GoingOn.{IsNoTick, gone_on}
 use Rattle.vdcp_laws.specs.Automation.{Prompt, commands_in, gives, hears_all, listens}
 use Rattle.vdcp_drive.specs.Reading.{Held, holds, completed, held_after, held_after_silence}
 use Rattle.vdcp_drive.specs.Served.{items_served}
@@ -45,7 +44,8 @@ use Rattle.vdcp_laws.proofs.Bytes.{clean_spelt, completes, end_past, front_small
 use Rattle.vdcp_laws.proofs.Commands.{commands_gives, commands_listens, commands_receives, timed_out}
 use Rattle.vdcp_laws.proofs.Noting.{Lawful, are_reached}
 use Rattle.vdcp_laws.proofs.Queues.{ComesOn, IsOnWay, bursts_to, bytes_from, bytes_to, comes_on, delivers, downs_lost, downs_of, hears_each, logged_behind, loses_down, loses_first, loses_up, refuses, messages_from, messages_to, sends_on, ups_of, with_queues}
-use Rattle.vdcp_laws.proofs.Announced.{UnitStays, again_of, ahead, plays_so, sent_of}
+use Rattle.vdcp_laws.proofs.Announced.{UnitStays, again_of, plays_so, sent_of}
+use Rattle.vdcp_laws.proofs.Held.{ahead}
 use Rattle.vdcp_laws.proofs.Journaled.{run_reached}
 use Rattle.vdcp_laws.proofs.Killed.{again_noted, gives_ready}
 use Rattle.vdcp_laws.proofs.Running.{hears_so, loses_down_so, loses_up_so, no_notes, runs_down, silent_so, ticks_so}
@@ -58,8 +58,6 @@ pub record Laws : Type 0 where
   pub arrived : Arrived
   pub answered : Answered
   pub written : Written
-  pub kills : (c : LateChannel) (events : List LateEvent) → IsLateReached c → All IsNoTick events
-      → IsLateReached (gone_on c (after_late_events c events))
   pub goes_on : (c : LateChannel) (events : List LateEvent) → IsLateReached c → IsLateReached (after_late_events c events)
   pub stays : UnitStays
   pub lawful : Lawful
@@ -791,7 +789,7 @@ pub are_late_channel : (law : Laws) (plan : Plan) (port : ClockedPort) (asked : 
 are_late_channel law plan port asked e can j =
     let r = beside law plan port asked e can j in record {
       channel = r.channel;
-      reached = run_reached law.kills law.goes_on r.channel e.notes r.beside.run;
+      reached = run_reached law.goes_on r.channel e.notes r.beside.run;
       run = r.beside.run;
       plan_is = r.beside.plan_is;
       state_is = r.beside.state_is;

@@ -1,4 +1,5 @@
 mod Announced
+mod Held
 mod Journaled
 mod Raised
 mod Bytes

@@ -11,7 +11,6 @@ returns c =
       arrived = c.what_is_below.ensures.arrived;
       answered = c.what_is_below.ensures.answered;
       written = c.what_is_below.ensures.written;
-      kills = c.a_killed_automation_goes_on.ensures.reached;
       goes_on = c.a_killed_automation_goes_on.ensures.event;
       stays = (
         c.the_unit_stays.ensures.burst,
