@@ -1,8 +1,7 @@
 -- A PLAY that what was heard last announces, and that may have gone out without its row.
-use Rattle.std.proofs.Common.{◌≡◌, ◌⊎◌, inl, inr, ℕ, zero, suc, All, Bool, true, false, List, [], ◌∷◌, ◌++◌, Option, None, Some, append-nil, append_assoc, refl, sym, ap, ap₂, length, subst, ◌∙◌, true≢false}
-use Rattle.std.proofs.lemmas.List.Elements.{All-head, All-tail}
+use Rattle.std.proofs.Common.{◌≡◌, ℕ, All, Bool, true, false, List, [], ◌∷◌, ◌++◌, Option, None, Some, append-nil, append_assoc, refl, sym, ap, ap₂, length, subst, ◌∙◌, true≢false}
 use Rattle.std.specs.Option.{option_map, option_to_list}
-use Rattle.std.specs.Prelude.{IsSome, IsTrue, if◌then◌else◌, insert, is_some, not, ◌&&◌, remove, slice_get}
+use Rattle.std.specs.Prelude.{IsSome, IsTrue, if◌then◌else◌, is_some, not, ◌&&◌, remove}
 use Rattle.vdcp_auto.specs.Commands.{is_sense}
 use Rattle.vdcp_auto.specs.Course.{logged}
 use Rattle.vdcp_auto.specs.Heard.{heard_in}
@@ -19,18 +18,17 @@ use Rattle.vdcp_journal.specs.Thinned.{IsThinned, asks_state, before_play, hears
 use Rattle.vdcp_journal.specs.declared.row.Note.{Note}
 use Rattle.vdcp_journal.specs.declared.row.Note.TheVariants as note
 use Rattle.vdcp_laws.proofs.Commands.{awaits_none_in, exchange_is, left_by, not_ended}
+use Rattle.vdcp_laws.proofs.Held.{ahead, ahead_all, ahead_one, with_downs}
 use Rattle.vdcp_laws.proofs.Journaled.{asked, given_awaited, one_silence, plan_stays, plan_stays_in}
-use Rattle.vdcp_laws.proofs.Twice.{given_last, junked, last_more}
+use Rattle.vdcp_laws.proofs.Running.{given_last, last_more, no_notes}
 use Rattle.vdcp_laws.specs.Announced.{Announces, came_again, heard_last, played_notes}
-use Rattle.vdcp_laws.specs.Kills.{IsRun, begun, happened, heard_notes, killed, end_notes, notes_of, played, silence_notes, stray_notes}
-use Rattle.vdcp_late.specs.Damage.{can_become, is_junk_down, replaced, with_damage, with_junk}
+use Rattle.vdcp_laws.specs.Kills.{IsRun, begun, happened, heard_notes, end_notes, notes_of, played, silence_notes, stray_notes}
 use Rattle.vdcp_late.specs.GoingOn.{IsNoTick, gone_on}
-use Rattle.vdcp_late.specs.LateChannel.{LateChannel, after_late_event, after_late_events, bursts_of, command_bursts, oldest, without_oldest}
+use Rattle.vdcp_late.specs.LateChannel.{LateChannel, after_late_event, after_late_events, command_bursts, oldest}
 use Rattle.vdcp_late.specs.declared.event.LateEvent.{LateEvent}
 use Rattle.vdcp_late.specs.declared.event.LateEvent.TheVariants as event
-use Rattle.vdcp_port.specs.Answers.{after_burst, aired_for, sent_for}
+use Rattle.vdcp_port.specs.Answers.{after_burst}
 use Rattle.vdcp_port.specs.Clock.{ClockedPort, after_ended, after_frame, after_ready}
-use Rattle.vdcp_value.specs.declared.part.Item.{Item}
 use Rattle.vdcp_words.specs.declared.command.Command.{Command}
 use Rattle.vdcp_words.specs.declared.command.Command.TheVariants as command
 use Rattle.vdcp_words.specs.declared.reply.Reply.{Reply}
@@ -75,203 +73,18 @@ units_stay : UnitStays → (c : LateChannel) (events : List LateEvent)
 units_stay stays c [] = refl
 units_stay stays c (e ∷ events) = units_stay stays (after_late_event c e) events ∙ unit_stays stays c e
 
--- The line with another controller, and more bursts behind what is on the way down.
-
-abbrev ahead : LateChannel → State → List Exchange → List (List ℕ) → LateChannel
-ahead t s l x = record t { state = s; log = l; down = t.down ++ x }
-
-no_notes : {c : LateChannel} {notes : List Note} → IsRun c (notes ++ []) → IsRun c notes
-no_notes {c} {notes} run = subst (IsRun c) (append-nil notes) run
-
-first_lost : (queue : List (List ℕ)) → remove queue 0 ≡ without_oldest queue
-first_lost [] = refl
-first_lost (burst ∷ queue) = refl
-
-lost_before : (x queue : List (List ℕ)) (place : ℕ)
-    → (remove (queue ++ x) place ≡ remove queue place ++ x) ⊎ (remove queue place ≡ queue)
-lost_before x [] zero = inr refl
-lost_before x [] (suc place) = inr refl
-lost_before x (b ∷ queue) zero = inl refl
-lost_before x (b ∷ queue) (suc place) = by (lost_before x queue place) where
-  by : (remove (queue ++ x) place ≡ remove queue place ++ x) ⊎ (remove queue place ≡ queue)
-      → (remove ((b ∷ queue) ++ x) (suc place) ≡ remove (b ∷ queue) (suc place) ++ x)
-      ⊎ (remove (b ∷ queue) (suc place) ≡ b ∷ queue)
-  by (inl is) = inl (ap (λ (q : List (List ℕ)). b ∷ q) is)
-  by (inr is) = inr (ap (λ (q : List (List ℕ)). b ∷ q) is)
-
-damaged_if : (b bytes : List ℕ) (place : ℕ) (up : List (List ℕ)) (can : Bool)
-    → (if can then insert (remove (b ∷ up) (suc place)) (suc place) bytes else b ∷ up)
-    ≡ b ∷ (if can then insert (remove up place) place bytes else up)
-damaged_if b bytes place up true = refl
-damaged_if b bytes place up false = refl
-
-damaged_at : (can : List ℕ → Bool) (b bytes : List ℕ) (place : ℕ) (up : List (List ℕ)) (at : Option (List ℕ))
-    → replaced can bytes (suc place) (b ∷ up) at ≡ b ∷ replaced can bytes place up at
-damaged_at can b bytes place up None = refl
-damaged_at can b bytes place up (Some was) = damaged_if b bytes place up (can was)
-
-damaged : (can : List ℕ → Bool) (b bytes : List ℕ) (place : ℕ) (up : List (List ℕ))
-    → with_damage can bytes (suc place) (b ∷ up) ≡ b ∷ with_damage can bytes place up
-damaged can b bytes place up = damaged_at can b bytes place up (slice_get up place)
-
-damaged_first : (x queue : List (List ℕ)) (b bytes : List ℕ) (can : Bool)
-    → (if can then insert (remove ((b ∷ queue) ++ x) 0) 0 bytes else (b ∷ queue) ++ x)
-    ≡ (if can then insert (remove (b ∷ queue) 0) 0 bytes else b ∷ queue) ++ x
-damaged_first x queue b bytes true = refl
-damaged_first x queue b bytes false = refl
-
-damaged_before : (can : List ℕ → Bool) (bytes : List ℕ) (x queue : List (List ℕ)) (place : ℕ)
-    → (with_damage can bytes place (queue ++ x) ≡ with_damage can bytes place queue ++ x)
-    ⊎ (with_damage can bytes place queue ≡ queue)
-damaged_before can bytes x [] zero = inr refl
-damaged_before can bytes x [] (suc place) = inr refl
-damaged_before can bytes x (b ∷ queue) zero = inl (damaged_first x queue b bytes (can b))
-damaged_before can bytes x (b ∷ queue) (suc place) = by (damaged_before can bytes x queue place) where
-  by : (with_damage can bytes place (queue ++ x) ≡ with_damage can bytes place queue ++ x)
-      ⊎ (with_damage can bytes place queue ≡ queue)
-      → (with_damage can bytes (suc place) ((b ∷ queue) ++ x) ≡ with_damage can bytes (suc place) (b ∷ queue) ++ x)
-      ⊎ (with_damage can bytes (suc place) (b ∷ queue) ≡ b ∷ queue)
-  by (inl is) = inl (damaged can b bytes place (queue ++ x) ∙ ap (λ (q : List (List ℕ)). b ∷ q) is
-      ∙ ap (λ (q : List (List ℕ)). q ++ x) (sym (damaged can b bytes place queue)))
-  by (inr is) = inr (damaged can b bytes place queue ∙ ap (λ (q : List (List ℕ)). b ∷ q) is)
-
-junk_first : (x queue : List (List ℕ)) (bytes : List ℕ) (is_junk : Bool)
-    → with_junk is_junk bytes 0 (queue ++ x) ≡ with_junk is_junk bytes 0 queue ++ x
-junk_first x queue bytes true = refl
-junk_first x queue bytes false = refl
-
-junk_past : (x : List (List ℕ)) (bytes : List ℕ) (place : ℕ) (is_junk : Bool)
-    → with_junk is_junk bytes 0 x ≡ with_junk is_junk bytes (suc place) [] ++ x
-junk_past x bytes place true = refl
-junk_past x bytes place false = refl
-
-junk_before : (is_junk : Bool) (bytes : List ℕ) (x queue : List (List ℕ)) (place : ℕ)
-    → (at : ℕ) × (with_junk is_junk bytes at (queue ++ x) ≡ with_junk is_junk bytes place queue ++ x)
-junk_before is_junk bytes x queue zero = (0, junk_first x queue bytes is_junk)
-junk_before is_junk bytes x [] (suc place) = (0, junk_past x bytes place is_junk)
-junk_before is_junk bytes x (b ∷ queue) (suc place) =
-    let r = junk_before is_junk bytes x queue place in (
-      suc r.0,
-      junked b bytes r.0 (queue ++ x) is_junk ∙ ap (λ (q : List (List ℕ)). b ∷ q) r.1
-          ∙ ap (λ (q : List (List ℕ)). q ++ x) (sym (junked b bytes place queue is_junk)),
-    )
-
--- the same with this on the way down
-with_downs : (t : LateChannel) (notes : List Note) (down down' : List (List ℕ)) → down ≡ down'
-    → IsRun (record t { down = down }) notes → IsRun (record t { down = down' }) notes
-with_downs t notes down down' is run = subst (λ (q : List (List ℕ)). IsRun (record t { down = q }) notes) is run
-
--- a burst without a byte is no event
-nothing_read : (t : LateChannel) (s : State) (l : List Exchange) (x : List (List ℕ)) (notes : List Note)
-    → IsRun (record t { state = s; log = l; down = x }) notes
-    → IsRun (record t {
-      state = s;
-      log = l;
-      down = x;
-      port = after_burst t.port [];
-      up = t.up ++ bursts_of (sent_for t.port []);
-      aired = t.aired ++ aired_for t.port [];
-    }) notes
-nothing_read t s l x notes run =
-    subst (λ (c : LateChannel). IsRun c notes)
-    (ap₂ (λ (up : List (List ℕ)) (aired : List Item). record t { state = s; log = l; down = x; up = up; aired = aired })
-    (sym (append-nil t.up)) (sym (append-nil t.aired))) run
-
-reads : (t : LateChannel) (s : State) (l : List Exchange) (x : List (List ℕ)) (notes : List Note) (queue : List (List ℕ))
-    → IsRun (record t { state = s; log = l; down = queue ++ x }) notes
-    → IsRun (record t {
-      state = s;
-      log = l;
-      down = without_oldest queue ++ x;
-      port = after_burst t.port (oldest queue);
-      up = t.up ++ bursts_of (sent_for t.port (oldest queue));
-      aired = t.aired ++ aired_for t.port (oldest queue);
-    }) notes
-reads t s l x notes [] run = nothing_read t s l x notes run
-reads t s l x notes (b ∷ queue) run = no_notes (happened run event.Down tt)
-
-reads_copy : (t : LateChannel) (s : State) (l : List Exchange) (x : List (List ℕ)) (notes : List Note)
-    (queue : List (List ℕ)) → IsRun (record t { state = s; log = l; down = queue ++ x }) notes
-    → IsRun (record t {
-      state = s;
-      log = l;
-      down = queue ++ x;
-      port = after_burst t.port (oldest queue);
-      up = t.up ++ bursts_of (sent_for t.port (oldest queue));
-      aired = t.aired ++ aired_for t.port (oldest queue);
-    }) notes
-reads_copy t s l x notes [] run = nothing_read t s l x notes run
-reads_copy t s l x notes (b ∷ queue) run = no_notes (happened run event.DownCopy tt)
-
-loses : (t : LateChannel) (x : List (List ℕ)) (notes : List Note) (place : ℕ)
-    → (remove (t.down ++ x) place ≡ remove t.down place ++ x) ⊎ (remove t.down place ≡ t.down)
-    → IsRun (record t { down = t.down ++ x }) notes → IsRun (record t { down = remove t.down place ++ x }) notes
-loses t x notes place (inl is) run = with_downs t notes _ _ is (no_notes (happened run (event.LoseDown place) tt))
-loses t x notes place (inr is) run = with_downs t notes _ _ (ap (λ (q : List (List ℕ)). q ++ x) (sym is)) run
-
-alters : (t : LateChannel) (x : List (List ℕ)) (notes : List Note) (place : ℕ) (bytes : List ℕ)
-    → (with_damage (λ was. can_become was bytes) bytes place (t.down ++ x)
-    ≡ with_damage (λ was. can_become was bytes) bytes place t.down ++ x)
-    ⊎ (with_damage (λ was. can_become was bytes) bytes place t.down ≡ t.down)
-    → IsRun (record t { down = t.down ++ x }) notes
-    → IsRun (record t { down = with_damage (λ was. can_become was bytes) bytes place t.down ++ x }) notes
-alters t x notes place bytes (inl is) run =
-    with_downs t notes _ _ is (no_notes (happened run (event.AlterDown place bytes) tt))
-alters t x notes place bytes (inr is) run = with_downs t notes _ _ (ap (λ (q : List (List ℕ)). q ++ x) (sym is)) run
-
--- Whatever happens on the line without a command, it may happen with this controller, which hears nothing of it.
-ahead_one : (t : LateChannel) (s : State) (l : List Exchange) (x : List (List ℕ)) (notes : List Note) (e : LateEvent)
-    → IsNoTick e → IsRun (ahead t s l x) notes → IsRun (ahead (after_late_event t e) s l x) notes
-ahead_one t s l x notes event.Tick quiet run = absurd quiet
-ahead_one t s l x notes event.Down quiet run = reads t s l x notes t.down run
-ahead_one t s l x notes event.Up quiet run =
-    subst (λ (up : List (List ℕ)). IsRun (record t { state = s; log = l; down = t.down ++ x; up = up }) notes)
-    (first_lost t.up) (no_notes (happened run (event.LoseUp 0) tt))
-ahead_one t s l x notes event.DownCopy quiet run = reads_copy t s l x notes t.down run
-ahead_one t s l x notes event.UpCopy quiet run = run
-ahead_one t s l x notes (event.LoseDown place) quiet run =
-    loses (record t { state = s; log = l }) x notes place (lost_before x t.down place) run
-ahead_one t s l x notes (event.LoseUp place) quiet run = no_notes (happened run (event.LoseUp place) tt)
-ahead_one t s l x notes (event.AlterDown place bytes) quiet run =
-    alters (record t { state = s; log = l }) x notes place bytes
-    (damaged_before (λ was. can_become was bytes) bytes x t.down place) run
-ahead_one t s l x notes (event.AlterUp place bytes) quiet run = no_notes (happened run (event.AlterUp place bytes) tt)
-ahead_one t s l x notes (event.JunkDown place bytes) quiet run =
-    let junk = junk_before (is_junk_down bytes) bytes x t.down place in
-    with_downs (record t { state = s; log = l }) notes _ _ junk.1
-    (no_notes (happened run (event.JunkDown junk.0 bytes) tt))
-ahead_one t s l x notes (event.JunkUp place bytes) quiet run = no_notes (happened run (event.JunkUp place bytes) tt)
-ahead_one t s l x notes event.Timeout quiet run = run
-ahead_one t s l x notes event.Ready quiet run = no_notes (happened run event.Ready tt)
-ahead_one t s l x notes event.End quiet run = no_notes (happened run event.End tt)
-ahead_one t s l x notes event.Frame quiet run = no_notes (happened run event.Frame tt)
-ahead_one t s l x notes event.Take quiet run = run
-ahead_one t s l x notes event.Stop quiet run = run
-ahead_one t s l x notes event.ServerAnew quiet run = no_notes (happened run event.ServerAnew tt)
-ahead_one t s l x notes event.AutomationAnew quiet run = run
-ahead_one t s l x notes event.StrayAck quiet run = run
-ahead_one t s l x notes (event.StrayNak byte) quiet run = run
-
-ahead_all : (t : LateChannel) (s : State) (l : List Exchange) (x : List (List ℕ)) (notes : List Note)
-    (since : List LateEvent) → All IsNoTick since → IsRun (ahead t s l x) notes
-    → IsRun (ahead (after_late_events t since) s l x) notes
-ahead_all t s l x notes [] quiet run = run
-ahead_all t s l x notes (e ∷ since) quiet run =
-    ahead_all (after_late_event t e) s l x notes since (All-tail IsNoTick e since quiet)
-    (ahead_one t s l x notes e (All-head IsNoTick e since quiet) run)
-
 -- The state is asked, and what was heard last is heard again, after a take: with the request, which may still be on its way.
 
-abbrev sent_of : Option Command → List Note
+abbrev pub sent_of : Option Command → List Note
 sent_of gives = option_to_list (option_map (λ c. note.Sent c) gives)
 
-abbrev Again : Plan → State → Option Command → List Exchange → ℕ → Heard → LateChannel → List Note → Type 0
+abbrev pub Again : Plan → State → Option Command → List Exchange → ℕ → Heard → LateChannel → List Note → Type 0
 Again plan s gives log unit h c notes =
     IsRun (ahead c (came_to plan (Some h) (taken s)) (logged log (ended_by plan (Some h) (taken s)))
     (command_bursts unit gives))
     (notes ++ (sent_of gives ++ note.Take ∷ note.Heard h ∷ []))
 
-abbrev IsAgain : Heard → LateChannel → List Note → Type 0
+abbrev pub IsAgain : Heard → LateChannel → List Note → Type 0
 IsAgain h c notes = Again c.plan (ticked c.state) (given c.plan c.state) c.log c.port.state.unit h c notes
 
 -- the controller is as it was
@@ -301,7 +114,7 @@ still_again stays h c notes e quiet state log again =
 abbrev pub Plays : Plan → State → Heard → Type 0
 Plays plan s h = given plan (came_again plan h s) ≡ Some command.Play
 
-plays_so : (h : Heard) (plan plan' : Plan) (s s' : State) → plan' ≡ plan → s' ≡ s → Plays plan' s' h → Plays plan s h
+pub plays_so : (h : Heard) (plan plan' : Plan) (s s' : State) → plan' ≡ plan → s' ≡ s → Plays plan' s' h → Plays plan s h
 plays_so h plan plan' s s' plan_is is plays =
     ap₂ (λ (p : Plan) (x : State). given p (came_again p h x)) (sym plan_is) (sym is) ∙ plays
 
@@ -538,7 +351,7 @@ unended : (c : LateChannel) (by : Option Exchange) → ended_by c.plan None c.st
 unended c None is none = (ap (left_by c.plan c.state) is, ap (logged c.log) is)
 unended c (Some e) is none = cc none
 
-again_of : UnitStays → (h : Heard) (c : LateChannel) (notes : List Note) → IsRun c notes → heard_last notes ≡ Some h
+pub again_of : UnitStays → (h : Heard) (c : LateChannel) (notes : List Note) → IsRun c notes → heard_last notes ≡ Some h
     → Plays c.plan c.state h → IsAgain h c notes
 again_of stays h _ _ (begun plan port down up can_start) last plays = absurd (none_some last)
 again_of stays h _ _ (happened {c} {notes} run event.Tick of_run) last plays =
@@ -591,19 +404,6 @@ again_of stays h _ _ (happened {c} {notes} run (event.StrayNak byte) of_run) las
     let s = strays c c.plan.mode (Nak byte) refl refl in
     passes stays h c notes (event.StrayNak byte) tt s.notes_are s.state_is s.log_is (again_of stays h c notes run) last
     plays
-again_of stays h _ _ (killed {c} {notes} run since quiet) last plays =
-    let d : LateChannel = gone_on c (after_late_events c since) in
-    let none = silent h c notes (ended_by c.plan None c.state) refl last in
-    let same = unended c (ended_by c.plan None c.state) refl none in
-    let plan = plan_stays_in c since in
-    same_notes h d notes (silence_notes c) none
-    (again_on h c d notes plan same.0 same.1 (units_stay stays c since)
-    (ahead_all c (came_to c.plan (Some h) (taken (ticked c.state)))
-    (logged c.log (ended_by c.plan (Some h) (taken (ticked c.state))))
-    (command_bursts c.port.state.unit (given c.plan c.state))
-    (notes ++ (sent_of (given c.plan c.state) ++ note.Take ∷ note.Heard h ∷ [])) since quiet
-    (again_of stays h c notes run (same_last notes (silence_notes c) h none last)
-    (plays_so h c.plan d.plan c.state d.state plan same.0 plays))))
 
 -- So it may go on with that PLAY.
 

@@ -4,7 +4,7 @@ use Rattle.std.proofs.lemmas.Bool.{cases_lt}
 use Rattle.std.proofs.lemmas.List.{map-append}
 use Rattle.std.proofs.lemmas.List.Elements.{All-append, All-cons, All-head, All-nil, All-map, All-tail, All-weaker}
 use Rattle.std.specs.Option.{option_to_list}
-use Rattle.std.specs.Prelude.{IfSome, Option, Some, None}
+use Rattle.std.specs.Prelude.{IfSome, Option, Some, None, is_some}
 use Rattle.vdcp_value.specs.declared.part.Item.{Item}
 use Rattle.vdcp_frame.specs.Burst.{messages_of, end_of}
 use Rattle.vdcp_frame.specs.Message.{Content, nak, Fits, spelling}
@@ -12,39 +12,43 @@ use Rattle.vdcp_frame.specs.Reading.{AreMessages, burst_limit, clean}
 use Rattle.vdcp_words.specs.Commands.{command_message, IsWritableCommand}
 use Rattle.vdcp_words.specs.Replies.{reply_message, IsWritableReply}
 use Rattle.vdcp_words.specs.declared.command.Command.{Command}
+use Rattle.vdcp_words.specs.declared.command.Command.TheVariants as command
 use Rattle.vdcp_words.specs.declared.reply.Reply.{Reply}
 use Rattle.vdcp_words.specs.declared.reply.Reply.TheVariants.{Nak}
 use Rattle.vdcp_port.specs.Answers.{after_messages, aired_on_way, answer_bytes, answers_to, bytes_for_all, end_answers}
 use Rattle.vdcp_port.specs.Clock.{ClockedPort, after_frame}
 use Rattle.vdcp_auto.specs.Course.{logged}
-use Rattle.vdcp_auto.specs.Heard.{heard_in}
 use Rattle.vdcp_auto.specs.Plan.{Plan}
 use Rattle.vdcp_auto.specs.State.{State}
-use Rattle.vdcp_auto.specs.Turn.{awaited, came_to, ended_by, given, stopped, taken, ticked}
+use Rattle.vdcp_auto.specs.Turn.{awaited, came_to, ended_by, given, is_ready, outcome_of, stopped, taken, ticked}
 use Rattle.vdcp_auto.specs.declared.exchange.Exchange.{Exchange}
 use Rattle.vdcp_auto.specs.declared.exchange.Heard.{Heard}
 use Rattle.vdcp_journal.specs.declared.row.Note.{Note}
 use Rattle.vdcp_journal.specs.declared.row.Note.TheVariants as note
 use Rattle.vdcp_wire.specs.Wires.{Arrival, bytes, silence, close, has_closed}
 use Rattle.vdcp_drive.specs.Bursts.{open_burst}
-use Rattle.vdcp_drive.specs.Steps as steps
-use Rattle.vdcp_laws.specs.Announced.{heard_last}
-use Rattle.vdcp_laws.specs.Automation.{Prompt, commands_in, end_notes, gives, hears_all, listens}
+use Rattle.vdcp_laws.specs.Announced.{Announces, came_again}
+use Rattle.vdcp_laws.specs.Kills as kills
+use Rattle.vdcp_laws.specs.Kills.{IsRun, happened, silence_notes}
+use Rattle.vdcp_laws.specs.Automation.{Prompt, commands_in, gives, hears_all, listens}
 use Rattle.vdcp_drive.specs.Reading.{Held, holds, completed, held_after, held_after_silence}
 use Rattle.vdcp_drive.specs.Served.{items_served}
-use Rattle.vdcp_world.specs.Channel.{log_hearing, state_hearing}
 use Rattle.vdcp_late.specs.LateChannel.{AsksOnly, LateChannel, IsLateReached, IsQuestion, after_late_event, after_late_events, command_bursts, made_anew, new_late_channel}
 use Rattle.vdcp_late.specs.declared.event.LateEvent.{LateEvent}
 use Rattle.vdcp_late.specs.declared.event.LateEvent.TheVariants as event
-use Rattle.vdcp_laws.specs.TwoEnds.{AreJoined, begun, note_for, went_on, gave, came_up, came_down, waited, hung_up, frame, shut, took, halted, resumed, restarted}
+use Rattle.vdcp_laws.specs.TwoEnds.{AreJoined, begun, went_on, gave, came_up, came_down, waited, hung_up, frame, shut, took, halted, resumed, restarted}
 use Rattle.vdcp_laws.specs.TwoEnds.{GoesOn, as_announced, as_noted}
-use Rattle.vdcp_laws.specs.TwoEnds.{CanJoin, Ends, IsLateChannel, aired_now, bytes_in, commands_sent, connected_anew, log_now, new_ends, port_now, sent_up, notes_ended, notes_heard, wishing, with_automation, with_command, with_down, with_heard, with_take, with_up}
+use Rattle.vdcp_laws.specs.TwoEnds.{CanJoin, Ends, IsLateChannel, aired_now, bytes_in, commands_sent, connected_anew, log_now, new_ends, port_now, sent_up, notes_ended, notes_heard, wishing, with_automation, with_command, with_down, with_take, with_up, heard_again}
 use Rattle.vdcp_laws.specs.Below.{Answered, Arrived, Completed, Spelt, Written}
 use Rattle.vdcp_laws.proofs.Bytes.{clean_spelt, completes, end_past, front_small, messages_past, messages_spelt, messages_within_limit, nothing_unfinished, spelt, spelt_both, whole_spelt, within_limit}
 use Rattle.vdcp_laws.proofs.Commands.{commands_gives, commands_listens, commands_receives, timed_out}
-use Rattle.vdcp_laws.proofs.Noting.{heard_is}
-use Rattle.vdcp_laws.proofs.Queues.{ComesOn, IsOnWay, bursts_to, bytes_from, bytes_to, comes_on, delivers, downs_lost, downs_of, hears_each, logged_behind, loses_down, loses_first, loses_up, refuses, messages_from, messages_to, sends_on, ups_lost, ups_of, with_queues}
-use Rattle.vdcp_laws.proofs.Twice.{IsTwice, behind, downs_unheard, given_last, heard_note, last_more, lost_down_unheard, lost_up_unheard, silent_last, twice_all, twice_heard, twice_on}
+use Rattle.vdcp_laws.proofs.Noting.{Lawful, are_reached}
+use Rattle.vdcp_laws.proofs.Queues.{ComesOn, IsOnWay, bursts_to, bytes_from, bytes_to, comes_on, delivers, downs_lost, downs_of, hears_each, logged_behind, loses_down, loses_first, loses_up, refuses, messages_from, messages_to, sends_on, ups_of, with_queues}
+use Rattle.vdcp_laws.proofs.Announced.{UnitStays, again_of, plays_so, sent_of}
+use Rattle.vdcp_laws.proofs.Held.{ahead}
+use Rattle.vdcp_laws.proofs.Journaled.{run_reached}
+use Rattle.vdcp_laws.proofs.Killed.{again_noted, gives_ready}
+use Rattle.vdcp_laws.proofs.Running.{hears_so, loses_down_so, loses_up_so, no_notes, runs_down, silent_so, ticks_so}
 use Rattle.vdcp_laws.proofs.Serving.{bytes_close, bytes_more, bytes_silence, clips_frame, clips_stay, serves_bytes, serves_close, serves_frame}
 
 -- the laws below, and vdcp_late::laws::a_killed_automation_goes_on
@@ -55,6 +59,8 @@ pub record Laws : Type 0 where
   pub answered : Answered
   pub written : Written
   pub goes_on : (c : LateChannel) (events : List LateEvent) → IsLateReached c → IsLateReached (after_late_events c events)
+  pub stays : UnitStays
+  pub lawful : Lawful
 
 -- what came up, and the automation: it holds the beginning of the first message that hasn't wholly come
 pub record IsUp (e : Ends) (queue : List (List ℕ)) : Type 0 where
@@ -74,7 +80,7 @@ pub record IsDown (plan : Plan) (unit : ℕ) (e : Ends) (queue : List (List ℕ)
 
 -- the two ends, and the channel beside them
 pub record IsBeside (plan : Plan) (start_port : ClockedPort) (e : Ends) (c : LateChannel) : Type 0 where
-  pub reached : IsLateReached c
+  pub run : IsRun c e.notes
   pub plan_is : c.plan ≡ plan
   pub unit_is : c.port.state.unit ≡ start_port.state.unit
   pub clips_are : c.port.clips ≡ start_port.clips
@@ -82,7 +88,6 @@ pub record IsBeside (plan : Plan) (start_port : ClockedPort) (e : Ends) (c : Lat
   pub log_is : c.log ≡ log_now e
   pub port_is : c.port ≡ port_now e
   pub aired_is : c.aired ≡ aired_now e
-  pub again : (h : Heard) → heard_last e.notes ≡ Some h → IsTwice start_port.state.unit h c
   pub downwards : IsDown plan start_port.state.unit e c.down
   pub upwards : IsUp e c.up
 
@@ -114,9 +119,9 @@ same_down plan unit e e' queue queue' w downs commands same = record {
 }
 
 gives_next : (law : Laws) (plan : Plan) (port : ClockedPort) (asked : List Command) (e : Ends) (c : LateChannel)
-    → CanJoin plan port asked → IsBeside plan port e c
-    → IsBeside plan port (with_command plan e) (after_late_event c event.Tick)
-gives_next law plan port asked e c can b =
+    → CanJoin plan port asked → is_some (given plan e.automation.state) ≡ is_ready e.automation.state.stage
+    → IsBeside plan port e c → IsBeside plan port (with_command plan e) (after_late_event c event.Tick)
+gives_next law plan port asked e c can ready b =
     let unit : ℕ = port.state.unit in
     let p : Prompt = e.automation in
     let before : List Command = commands_sent plan e in
@@ -136,7 +141,8 @@ gives_next law plan port asked e c can b =
     (sym (bursts_to unit (given plan p.state))
     ∙ ap₂ command_bursts (sym b.unit_is) (ap₂ given (sym b.plan_is) (sym b.state_is))) in
     record {
-      reached = law.goes_on c (event.Tick ∷ []) b.reached;
+      run = ticks_so c e.notes (given plan p.state) (ap₂ given b.plan_is b.state_is)
+          (ready ∙ ap (λ (s : State). is_ready s.stage) (sym b.state_is)) b.run;
       plan_is = b.plan_is;
       unit_is = b.unit_is;
       clips_are = b.clips_are;
@@ -144,7 +150,6 @@ gives_next law plan port asked e c can b =
       log_is = b.log_is;
       port_is = b.port_is;
       aired_is = b.aired_is;
-      again = λ h is. twice_on law.goes_on unit h c event.Tick tt (b.again h (given_last e.notes (given plan p.state) h is));
       downwards = record {
         held = w.held;
         on_way = subst (λ (l : List Content). IsOnWay l (bytes_in e.downs) w.held
@@ -174,7 +179,8 @@ times_out : (law : Laws) (plan : Plan) (port : ClockedPort) (e : Ends) (c : Late
     (with_automation (listens plan port.state.unit a e.automation) (notes_ended plan None e.automation.state) e)
     (after_late_event c event.Timeout)
 times_out law plan port e c a b state log held = record {
-  reached = law.goes_on c (event.Timeout ∷ []) b.reached;
+  run = subst (λ (l : List Note). IsRun (after_late_event c event.Timeout) (e.notes ++ l))
+      (silent_so c plan e.automation.state b.plan_is b.state_is) (happened b.run event.Timeout tt);
   plan_is = b.plan_is;
   unit_is = b.unit_is;
   clips_are = b.clips_are;
@@ -185,8 +191,6 @@ times_out law plan port e c a b state log held = record {
       ∙ ap (λ (l : List Exchange). e.log_before ++ l) (sym log);
   port_is = b.port_is;
   aired_is = b.aired_is;
-  again = λ h is. twice_on law.goes_on port.state.unit h c event.Timeout tt
-      (b.again h (silent_last plan e.automation.state e.notes h is));
   downwards = same_down plan port.state.unit e
       (with_automation (listens plan port.state.unit a e.automation) (notes_ended plan None e.automation.state) e) c.down
       c.down b.downwards refl
@@ -217,7 +221,8 @@ comes_up law plan port e piece c b on =
     let h = hears_each law.spelt plan unit e.log_before on.new on.rest p c on.fits b.plan_is b.unit_is b.state_is b.log_is
     on.queue_is in
     record {
-      reached = law.goes_on c (ups_of on.new) b.reached;
+      run = subst (λ (l : List Content). IsRun d (e.notes ++ notes_heard plan unit l p)) (sym new)
+          (hears_so law.spelt plan unit on.new on.rest p c e.notes on.fits b.plan_is b.unit_is b.state_is on.queue_is b.run);
       plan_is = h.plan_is ∙ b.plan_is;
       unit_is = ap (λ (q : ClockedPort). q.state.unit) h.port_is ∙ b.unit_is;
       clips_are = ap (λ (q : ClockedPort). q.clips) h.port_is ∙ b.clips_are;
@@ -225,9 +230,6 @@ comes_up law plan port e piece c b on =
       log_is = h.log_is ∙ ap (λ (l : List Content). e.log_before ++ (hears_all plan unit l p).log) (sym new);
       port_is = h.port_is ∙ b.port_is;
       aired_is = h.aired_is ∙ b.aired_is;
-      again = λ x is. twice_heard law.goes_on law.spelt plan unit on.new on.rest p c e.notes on.fits b.plan_is b.unit_is
-          b.state_is on.queue_is b.reached b.again x
-          (ap (λ (l : List Content). heard_last (e.notes ++ notes_heard plan unit l p)) (sym new) ∙ is);
       downwards = same_down plan unit e (with_up piece (with_automation (listens plan unit (bytes piece) p) notes e)) c.down
           d.down b.downwards refl
           (ap (λ (l : List Command). e.asked ++ l) (commands_listens plan unit (bytes piece) p)) h.down_is;
@@ -240,30 +242,16 @@ comes_up law plan port e piece c b on =
       };
     }
 
-none_last : (h : Heard) → None ≡ Some h → ⊥
-none_last h is = cc is
-
--- after none, this is heard
-one_heard : (plan : Plan) (s : State) (notes : List Note) (h x : Heard) → heard_last notes ≡ None → (by : Option Exchange)
-    → ended_by plan (Some h) s ≡ by → heard_last (notes ++ map note_for (end_notes by)) ≡ Some x → h ≡ x
-one_heard plan s notes h x none None ended last =
-    absurd (none_last x (sym none ∙ ap heard_last (sym (append-nil notes)) ∙ last))
-one_heard plan s notes h x none (Some e) ended last =
-    let is : Some h ≡ Some x =
-    sym (heard_note (heard_last notes) e.heard h (heard_is plan.mode (Some h) (awaited plan s) e ended))
-    ∙ sym (last_more None notes (note_for (steps.end_of e.heard) ∷ [])) ∙ last in
-    cc is
-
 -- a wish of the operator, which changes neither what is awaited nor what is held
 wishes : (law : Laws) (plan : Plan) (port : ClockedPort) (e : Ends) (c : LateChannel) (wish : LateEvent)
     (state : State) (notes : List Note) → IsBeside plan port e c
     → after_late_event c wish ≡ record c { state = (after_late_event c wish).state }
     → (after_late_event c wish).state ≡ state → awaited plan state ≡ awaited plan e.automation.state
-    → heard_last (e.notes ++ notes) ≡ None
+    → IsRun (after_late_event c wish) (e.notes ++ notes)
     → IsBeside plan port (with_automation (wishing state e.automation) notes e) (after_late_event c wish)
-wishes law plan port e c wish state notes b same is awaits none =
+wishes law plan port e c wish state notes b same is awaits run =
     subst (IsBeside plan port (with_automation (wishing state e.automation) notes e)) (sym same) (record {
-      reached = subst IsLateReached same (law.goes_on c (wish ∷ []) b.reached);
+      run = subst (λ (x : LateChannel). IsRun x (e.notes ++ notes)) same run;
       plan_is = b.plan_is;
       unit_is = b.unit_is;
       clips_are = b.clips_are;
@@ -271,7 +259,6 @@ wishes law plan port e c wish state notes b same is awaits none =
       log_is = b.log_is;
       port_is = b.port_is;
       aired_is = b.aired_is;
-      again = λ h last. absurd (none_last h (sym none ∙ last));
       downwards = same_down plan port.state.unit e (with_automation (wishing state e.automation) notes e) c.down c.down b.downwards refl
           (ap (λ (x : Option Command). e.asked
           ++ (map (λ (x : Exchange). x.command) e.automation.log ++ option_to_list x)) awaits) refl;
@@ -321,8 +308,8 @@ read_and_lost law plan port asked e piece c can b no_close ms new past held rest
     record {
       channel = with_queues d rest d.up;
       beside = record {
-        reached = subst IsLateReached loses
-            (law.goes_on d (downs_lost (map spelling past)) (law.goes_on c (downs_of new) b.reached));
+        run = subst (λ (x : LateChannel). IsRun x e.notes) loses
+            (loses_down_so (map spelling past) d e.notes (runs_down new c e.notes b.run));
         plan_is = r.plan_is ∙ b.plan_is;
         unit_is = ap (λ (p : ClockedPort). p.state.unit) r.port_is ∙ law.answered.unit_messages c.port new ∙ b.unit_is;
         clips_are = ap (λ (p : ClockedPort). p.clips) r.port_is ∙ clips_stay c.port new ∙ b.clips_are;
@@ -333,9 +320,6 @@ read_and_lost law plan port asked e piece c can b no_close ms new past held rest
             ∙ ap₂ (λ (l : List Item) (p : ClockedPort). l ++ aired_on_way p new) b.aired_is b.port_is
             ∙ append_assoc e.aired_before (items_served e.port downs) (aired_on_way (port_now e) new)
             ∙ ap (λ (l : List Item). e.aired_before ++ l) (sym s.aired);
-        again = λ h is. subst (IsTwice unit h) loses
-            (twice_all law.goes_on unit h d (downs_lost (map spelling past)) (lost_down_unheard (map spelling past))
-            (twice_all law.goes_on unit h c (downs_of new) (downs_unheard new) (b.again h is)));
         downwards = record {
           held = held;
           on_way = subst (λ (l : List ℕ). IsOnWay sent l held rest) (sym (bytes_more downs piece)) on_way;
@@ -431,11 +415,9 @@ comes_down law plan port asked e piece c can b no_close rest is (inr small) =
 ends_burst : (law : Laws) (plan : Plan) (port : ClockedPort) (e : Ends) (c : LateChannel) (answers : List Reply)
     → (b : IsBeside plan port e c) → has_closed e.downs ≡ false → b.downwards.held ≡ []
     → end_answers (end_of (open_burst e.downs)) ≡ answers → All Fits (messages_from port.state.unit answers)
-    → IsLateReached (with_queues c c.down (c.up ++ map spelling (messages_from port.state.unit answers)))
-    → ((h : Heard) → IsTwice port.state.unit h c → IsTwice port.state.unit h
-    (with_queues c c.down (c.up ++ map spelling (messages_from port.state.unit answers))))
+    → IsRun (with_queues c c.down (c.up ++ map spelling (messages_from port.state.unit answers))) e.notes
     → AreBeside plan port (with_down silence e)
-ends_burst law plan port e c answers b no_close none ends fits reached twice =
+ends_burst law plan port e c answers b no_close none ends fits run =
     let unit : ℕ = port.state.unit in
     let sent : List Content = messages_to unit (commands_sent plan e) in
     let more : List Content = messages_from unit answers in
@@ -447,7 +429,7 @@ ends_burst law plan port e c answers b no_close none ends fits reached twice =
     record {
       channel = after_late_event answering event.Frame;
       beside = record {
-        reached = law.goes_on answering (event.Frame ∷ []) reached;
+        run = no_notes (happened run event.Frame tt);
         plan_is = b.plan_is;
         unit_is = law.answered.unit_frame c.port ∙ b.unit_is;
         clips_are = clips_frame c.port ∙ b.clips_are;
@@ -455,7 +437,6 @@ ends_burst law plan port e c answers b no_close none ends fits reached twice =
         log_is = b.log_is;
         port_is = ap after_frame b.port_is ∙ sym s.left;
         aired_is = b.aired_is ∙ ap (λ (l : List Item). e.aired_before ++ l) (sym s.aired);
-        again = λ h is. twice_on law.goes_on unit h answering event.Frame tt (twice h (b.again h is));
         downwards = record {
           held = w.held;
           on_way = subst (λ (l : List ℕ). IsOnWay sent l w.held c.down) (sym (bytes_silence e.downs)) w.on_way;
@@ -487,9 +468,8 @@ passes law plan port e c b no_close all (inl past) =
     ends_burst law plan port e c (Nak 0x04 ∷ []) b no_close
     (whole_spelt law.spelt law.completed w.whole w.held w.fits w.on_way.unfinished (subst AreMessages w.open_is all))
     (end_past (open_burst e.downs) past) (All-cons Fits (nak 0x04) [] (lit< tt) (All-nil Fits))
-    (subst IsLateReached (refuses c) (law.goes_on c (event.JunkUp (length c.up) (0x05 ∷ 0x04 ∷ []) ∷ []) b.reached))
-    (λ h t. subst (IsTwice port.state.unit h) (refuses c)
-    (twice_on law.goes_on port.state.unit h c (event.JunkUp (length c.up) (0x05 ∷ 0x04 ∷ [])) tt t))
+    (subst (λ (x : LateChannel). IsRun x e.notes) (refuses c)
+    (no_notes (happened b.run (event.JunkUp (length c.up) (0x05 ∷ 0x04 ∷ [])) tt)))
 passes law plan port e c b no_close all (inr small) =
     let w = b.downwards in
     let none : w.held ≡ [] =
@@ -498,8 +478,7 @@ passes law plan port e c b no_close all (inr small) =
     ends_burst law plan port e c [] b no_close none
     (ap (λ (l : List ℕ). end_answers (end_of l)) parts
     ∙ ap end_answers (clean_spelt law.spelt w.whole w.fits (subst (λ (l : List ℕ). length l ≤ burst_limit) parts small)))
-    (All-nil Fits) (subst IsLateReached (ap (with_queues c c.down) (sym (append-nil c.up))) b.reached)
-    (λ h t. subst (IsTwice port.state.unit h) (ap (with_queues c c.down) (sym (append-nil c.up))) t)
+    (All-nil Fits) (subst (λ (x : LateChannel). IsRun x e.notes) (ap (with_queues c c.down) (sym (append-nil c.up))) b.run)
 
 -- the server's line is closed
 shuts : (law : Laws) (plan : Plan) (port : ClockedPort) (e : Ends) (c : LateChannel) → IsBeside plan port e c
@@ -511,7 +490,7 @@ shuts law plan port e c b =
     let s = serves_close law.arrived e.port e.downs in
     let opens : open_burst (e.downs ++ close ∷ []) ≡ open_burst e.downs = (law.arrived.close e.downs).1 in
     record {
-      reached = b.reached;
+      run = b.run;
       plan_is = b.plan_is;
       unit_is = b.unit_is;
       clips_are = b.clips_are;
@@ -519,7 +498,6 @@ shuts law plan port e c b =
       log_is = b.log_is;
       port_is = b.port_is ∙ sym s.left;
       aired_is = b.aired_is ∙ ap (λ (l : List Item). e.aired_before ++ l) (sym s.aired);
-      again = b.again;
       downwards = record {
         held = w.held;
         on_way = subst (λ (l : List ℕ). IsOnWay sent l w.held c.down) (sym (bytes_close e.downs)) w.on_way;
@@ -598,24 +576,16 @@ begins law plan port asked can =
     record {
       channel = new_late_channel plan port (map spelling (messages_to unit sent)) [];
       beside = record {
-        reached = record {
-          plan = plan;
-          port = port;
-          down = map spelling (messages_to unit sent);
-          up = [];
-          events = [];
-          can_start = record {
-            some = can.can_start.some;
-            few = can.can_start.few;
-            unit_fits = can.can_start.unit_fits;
-            port_fits = can.can_start.port_fits;
-            of_bytes = can.can_start.of_bytes;
-            nothing_cued = can.can_start.nothing_cued;
-            asked = q.only;
-            answered = can.can_start.answered;
-          };
-          led = refl;
-        };
+        run = kills.begun plan port (map spelling (messages_to unit sent)) [] (record {
+          some = can.can_start.some;
+          few = can.can_start.few;
+          unit_fits = can.can_start.unit_fits;
+          port_fits = can.can_start.port_fits;
+          of_bytes = can.can_start.of_bytes;
+          nothing_cued = can.can_start.nothing_cued;
+          asked = q.only;
+          answered = can.can_start.answered;
+        });
         plan_is = refl;
         unit_is = refl;
         clips_are = refl;
@@ -623,7 +593,6 @@ begins law plan port asked can =
         log_is = refl;
         port_is = refl;
         aired_is = refl;
-        again = λ h last. absurd (none_last h last);
         downwards = record {
           held = [];
           on_way = record {
@@ -647,27 +616,17 @@ begins law plan port asked can =
 abbrev lost : LateChannel → LateChannel
 lost c = after_late_event (with_queues c [] []) event.Timeout
 
-lost_reached : (law : Laws) (c : LateChannel) → IsLateReached c → IsLateReached (lost c)
-lost_reached law c r =
-    law.goes_on (with_queues c [] []) (event.Timeout ∷ [])
-    (subst IsLateReached (loses_up [] c.up c)
-    (law.goes_on (with_queues c [] c.up) (ups_lost c.up)
-    (subst IsLateReached (loses_down c.down c.up c) (law.goes_on c (downs_lost c.down) r))))
-
-lost_twice : (law : Laws) (unit : ℕ) (h : Heard) (c : LateChannel) → IsTwice unit h c → IsTwice unit h (lost c)
-lost_twice law unit h c t =
-    twice_on law.goes_on unit h (with_queues c [] []) event.Timeout tt
-    (subst (IsTwice unit h) (loses_up [] c.up c)
-    (twice_all law.goes_on unit h (with_queues c [] c.up) (ups_lost c.up) (lost_up_unheard c.up)
-    (subst (IsTwice unit h) (loses_down c.down c.up c)
-    (twice_all law.goes_on unit h c (downs_lost c.down) (lost_down_unheard c.down) t))))
+lost_so : (c : LateChannel) (notes : List Note) → IsRun c notes → IsRun (lost c) (notes ++ silence_notes c)
+lost_so c notes run =
+    happened (subst (λ (x : LateChannel). IsRun x notes) (loses_up [] c.up c)
+    (loses_up_so c.up (with_queues c [] c.up) notes (subst (λ (x : LateChannel). IsRun x notes) (loses_down c.down c.up c)
+    (loses_down_so c.down c notes run)))) event.Timeout tt
 
 connects : (law : Laws) (plan : Plan) (port : ClockedPort) (e : Ends) (c d : LateChannel) (q : ClockedPort)
-    → IsBeside plan port e c → IsLateReached d → d ≡ record (lost c) { port = d.port } → d.port ≡ q
+    → IsBeside plan port e c → IsRun d (e.notes ++ silence_notes c) → d ≡ record (lost c) { port = d.port } → d.port ≡ q
     → d.port.state.unit ≡ port.state.unit → d.port.clips ≡ port.clips
-    → ((h : Heard) → IsTwice port.state.unit h (lost c) → IsTwice port.state.unit h d)
     → IsBeside plan port (connected_anew plan q e) d
-connects law plan port e c d q b reached same is unit clips twice =
+connects law plan port e c d q b run same is unit clips =
     let s : State = e.automation.state in
     let anew : Ends = connected_anew plan q e in
     let time : came_to c.plan None c.state ≡ came_to plan None s =
@@ -678,7 +637,7 @@ connects law plan port e c d q b reached same is unit clips twice =
     ∙ logged_behind e.log_before e.automation.log (ended_by plan None s)
     ∙ sym (append-nil (e.log_before ++ logged e.automation.log (ended_by plan None s))) in
     record {
-      reached = reached;
+      run = subst (λ (l : List Note). IsRun d (e.notes ++ l)) (silent_so c plan s b.plan_is b.state_is) run;
       plan_is = ap (λ (x : LateChannel). x.plan) same ∙ b.plan_is;
       unit_is = unit;
       clips_are = clips;
@@ -686,7 +645,6 @@ connects law plan port e c d q b reached same is unit clips twice =
       log_is = ap (λ (x : LateChannel). x.log) same ∙ ended;
       port_is = is;
       aired_is = ap (λ (x : LateChannel). x.aired) same ∙ b.aired_is ∙ sym (append-nil (aired_now e));
-      again = λ h last. twice h (lost_twice law port.state.unit h c (b.again h (silent_last plan s e.notes h last)));
       downwards = subst (IsDown plan port.state.unit anew) (sym (ap (λ (x : LateChannel). x.down) same))
           (nothing_down law.spelt plan port.state.unit anew refl
           (ap (λ (x : Option Command). option_to_list x) (timed_out plan s)));
@@ -696,53 +654,46 @@ connects law plan port e c d q b reached same is unit clips twice =
 
 -- What an automation goes on as that is killed.
 
-takes : (law : Laws) (plan : Plan) (port : ClockedPort) (e : Ends) (c : LateChannel) → IsBeside plan port e c
+takes : (law : Laws) (plan : Plan) (port : ClockedPort) (e : Ends) (c : LateChannel)
+    → outcome_of e.automation.state.stage ≡ None → IsBeside plan port e c
     → IsBeside plan port (with_take e) (after_late_event c event.Take)
-takes law plan port e c b =
+takes law plan port e c on b =
     wishes law plan port e c event.Take (taken e.automation.state) (note.Take ∷ []) b refl (ap taken b.state_is) refl
-    (last_more None e.notes (note.Take ∷ []))
+    (happened b.run event.Take (ap (λ (s : State). outcome_of s.stage) b.state_is ∙ on))
 
--- this is heard of a copy
-hears_copy : (law : Laws) (plan : Plan) (port : ClockedPort) (e : Ends) (c : LateChannel) (h : Heard)
-    → IsBeside plan port e c → heard_last e.notes ≡ None → IsTwice port.state.unit h c
-    → AreBeside plan port (with_heard plan h e)
-hears_copy law plan port e c h b none t =
+-- what was heard last is heard once more, after a take
+hears_again : (law : Laws) (plan : Plan) (port : ClockedPort) (asked : List Command) (e : Ends) (c : LateChannel)
+    (h : Heard) → CanJoin plan port asked
+    → is_some (given plan e.automation.state) ≡ is_ready e.automation.state.stage
+    → Announces plan e.automation.state e.notes h → IsBeside plan port e c → AreBeside plan port (heard_again plan h e)
+hears_again law plan port asked e c h can ready a b =
     let unit : ℕ = port.state.unit in
     let s : State = e.automation.state in
+    let g = gives_next law plan port asked e c can ready b in
     let d : LateChannel =
-    record c { state = came_to c.plan (Some h) c.state; log = logged c.log (ended_by c.plan (Some h) c.state) } in
-    let came : heard_in c.port.state.unit t.burst ≡ Some h =
-    ap (λ (n : ℕ). heard_in n t.burst) b.unit_is ∙ t.heard_is in
-    let hears : after_late_event (behind t.burst c) event.Up ≡ d =
-    ap (λ (o : Option Heard). record c { state = state_hearing c.plan o c.state; log = log_hearing c.plan o c.state c.log })
-    came in
-    let hears_on : after_late_event (behind t.burst c) event.UpCopy ≡ behind t.burst d =
-    ap (λ (o : Option Heard). record c {
-      state = state_hearing c.plan o c.state;
-      log = log_hearing c.plan o c.state c.log;
-      up = t.burst ∷ c.up;
-    }) came in
+    ahead c (came_to c.plan (Some h) (taken (ticked c.state)))
+    (logged c.log (ended_by c.plan (Some h) (taken (ticked c.state))))
+    (command_bursts c.port.state.unit (given c.plan c.state)) in
+    let notes : sent_of (given c.plan c.state) ≡ sent_of (given plan s) = ap sent_of (ap₂ given b.plan_is b.state_is) in
     record {
       channel = d;
       beside = record {
-        reached = subst IsLateReached hears (law.goes_on (behind t.burst c) (event.Up ∷ []) t.reached);
+        run = subst (IsRun d)
+            (ap (λ (l : List Note). e.notes ++ (l ++ note.Take ∷ note.Heard h ∷ [])) notes ∙ sym (again_noted plan e h a))
+            (again_of law.stays h c e.notes b.run a.last
+            (plays_so h c.plan plan c.state s (sym b.plan_is) (sym b.state_is) a.plays));
         plan_is = b.plan_is;
         unit_is = b.unit_is;
         clips_are = b.clips_are;
-        state_is = ap₂ (λ (q : Plan) (x : State). came_to q (Some h) x) b.plan_is b.state_is;
-        log_is = ap₂ (λ (q : Plan) (x : State). logged c.log (ended_by q (Some h) x)) b.plan_is b.state_is
-            ∙ ap (λ (l : List Exchange). logged l (ended_by plan (Some h) s)) b.log_is
-            ∙ logged_behind e.log_before e.automation.log (ended_by plan (Some h) s);
+        state_is = ap₂ (λ (q : Plan) (x : State). came_to q (Some h) (taken (ticked x))) b.plan_is b.state_is;
+        log_is = ap₂ (λ (q : Plan) (x : State). logged c.log (ended_by q (Some h) (taken (ticked x)))) b.plan_is b.state_is
+            ∙ ap (λ (l : List Exchange). logged l (ended_by plan (Some h) (taken (ticked s)))) b.log_is
+            ∙ logged_behind e.log_before e.automation.log (ended_by plan (Some h) (taken (ticked s)));
         port_is = b.port_is;
         aired_is = b.aired_is;
-        again = λ x last. subst (λ (y : Heard). IsTwice unit y d)
-            (one_heard plan s e.notes h x none (ended_by plan (Some h) s) refl last) (record {
-              burst = t.burst;
-              heard_is = t.heard_is;
-              reached = subst IsLateReached hears_on (law.goes_on (behind t.burst c) (event.UpCopy ∷ []) t.reached);
-            });
-        downwards = same_down plan unit e (with_heard plan h e) c.down c.down b.downwards refl
-            (ap (λ (l : List Command). e.asked ++ l) (commands_receives plan (Some h) e.automation)) refl;
+        downwards = same_down plan unit (with_command plan e) (heard_again plan h e) d.down d.down g.downwards refl
+            (ap (λ (l : List Command). e.asked ++ l)
+            (commands_receives plan (Some h) (with_take (with_command plan e)).automation)) refl;
         upwards = record {
           said = b.upwards.said;
           said_is = b.upwards.said_is;
@@ -754,21 +705,22 @@ hears_copy law plan port e c h b none t =
     }
 
 goes_beside : (law : Laws) (plan : Plan) (port : ClockedPort) (asked : List Command) (e on : Ends) (c : LateChannel)
-    → CanJoin plan port asked → IsBeside plan port e c → GoesOn plan e on → AreBeside plan port on
-goes_beside law plan port asked e _ c can b as_noted = record { channel = c; beside = b }
-goes_beside law plan port asked e _ c can b (as_announced h a) =
-    let unit : ℕ = port.state.unit in
-    let gives_it = gives_next law plan port asked e c can b in
-    let given_c : LateChannel = after_late_event c event.Tick in
-    let takes_it = takes law plan port (with_command plan e) given_c gives_it in
-    let t = twice_on law.goes_on unit h given_c event.Take tt (twice_on law.goes_on unit h c event.Tick tt (b.again h a.last)) in
-    let hears_it = hears_copy law plan port (with_take (with_command plan e)) (after_late_event given_c event.Take) h takes_it
-    (last_more None (with_command plan e).notes (note.Take ∷ [])) t in
-    record {
+    → CanJoin plan port asked → is_some (given plan e.automation.state) ≡ is_ready e.automation.state.stage
+    → IsBeside plan port e c → GoesOn plan e on → AreBeside plan port on
+goes_beside law plan port asked e _ c can ready b as_noted = record { channel = c; beside = b }
+goes_beside law plan port asked e _ c can ready b (as_announced h a) =
+    let r = hears_again law plan port asked e c h can ready a b in
+    let s : State = came_again plan h e.automation.state in record {
       channel = _;
-      beside = gives_next law plan port asked (with_heard plan h (with_take (with_command plan e))) hears_it.channel can
-          hears_it.beside;
+      beside = gives_next law plan port asked (heard_again plan h e) r.channel can
+          (ap is_some a.plays ∙ sym (gives_ready plan s.stop s.stage command.Play a.plays)) r.beside;
     }
+
+-- what is given next, as all calls of a controller lead to it
+ready : (law : Laws) (plan : Plan) (port : ClockedPort) (asked : List Command) (e : Ends) → CanJoin plan port asked
+    → AreJoined plan port asked e → is_some (given plan e.automation.state) ≡ is_ready e.automation.state.stage
+ready law plan port asked e can j =
+    (law.lawful plan e.automation.state (log_now e) (are_reached plan port asked e can j)).gives
 
 -- All steps.
 
@@ -777,7 +729,7 @@ pub beside : (law : Laws) (plan : Plan) (port : ClockedPort) (asked : List Comma
 beside law plan port asked _ can begun = begins law plan port asked can
 beside law plan port asked _ can (went_on {e} j gave) =
     let r = beside law plan port asked e can j in
-    record { channel = _; beside = gives_next law plan port asked e r.channel can r.beside }
+    record { channel = _; beside = gives_next law plan port asked e r.channel can (ready law plan port asked e can j) r.beside }
 beside law plan port asked _ can (went_on {e} j (came_up piece rest is)) =
     let r = beside law plan port asked e can j in
     let u = r.beside.upwards in
@@ -806,30 +758,30 @@ beside law plan port asked _ can (went_on {e} j shut) =
     let r = beside law plan port asked e can j in
     record { channel = r.channel; beside = shuts law plan port e r.channel r.beside }
 beside law plan port asked _ can (went_on {e} j (took on)) =
-    let r = beside law plan port asked e can j in record { channel = _; beside = takes law plan port e r.channel r.beside }
+    let r = beside law plan port asked e can j in record { channel = _; beside = takes law plan port e r.channel on r.beside }
 beside law plan port asked _ can (went_on {e} j (halted on)) =
     let r = beside law plan port asked e can j in record {
       channel = _;
       beside = wishes law plan port e r.channel event.Stop (stopped e.automation.state) (note.Stop ∷ []) r.beside refl
-          (ap stopped r.beside.state_is) refl (last_more None e.notes (note.Stop ∷ []));
+          (ap stopped r.beside.state_is) refl
+          (happened r.beside.run event.Stop (ap (λ (s : State). outcome_of s.stage) r.beside.state_is ∙ on));
     }
 beside law plan port asked _ can (went_on {e} j (resumed {on} goes)) =
     let r = beside law plan port asked e can j in
-    let g = goes_beside law plan port asked e on r.channel can r.beside goes in
+    let g = goes_beside law plan port asked e on r.channel can (ready law plan port asked e can j) r.beside goes in
     let c : LateChannel = g.channel in record {
       channel = lost c;
-      beside = connects law plan port on c (lost c) (port_now on) g.beside (lost_reached law c g.beside.reached) refl
-          g.beside.port_is g.beside.unit_is g.beside.clips_are (λ h t. t);
+      beside = connects law plan port on c (lost c) (port_now on) g.beside (lost_so c on.notes g.beside.run) refl
+          g.beside.port_is g.beside.unit_is g.beside.clips_are;
     }
 beside law plan port asked _ can (went_on {e} j (restarted {on} goes)) =
     let r = beside law plan port asked e can j in
-    let g = goes_beside law plan port asked e on r.channel can r.beside goes in
+    let g = goes_beside law plan port asked e on r.channel can (ready law plan port asked e can j) r.beside goes in
     let c : LateChannel = g.channel in record {
       channel = after_late_event (lost c) event.ServerAnew;
       beside = connects law plan port on c (after_late_event (lost c) event.ServerAnew) (made_anew (port_now on)) g.beside
-          (law.goes_on (lost c) (event.ServerAnew ∷ []) (lost_reached law c g.beside.reached)) refl
-          (ap made_anew g.beside.port_is) g.beside.unit_is g.beside.clips_are
-          (λ h t. twice_on law.goes_on port.state.unit h (lost c) event.ServerAnew tt t);
+          (no_notes (happened (lost_so c on.notes g.beside.run) event.ServerAnew tt)) refl
+          (ap made_anew g.beside.port_is) g.beside.unit_is g.beside.clips_are;
     }
 
 pub are_late_channel : (law : Laws) (plan : Plan) (port : ClockedPort) (asked : List Command) (e : Ends) → CanJoin plan port asked
@@ -837,7 +789,8 @@ pub are_late_channel : (law : Laws) (plan : Plan) (port : ClockedPort) (asked : 
 are_late_channel law plan port asked e can j =
     let r = beside law plan port asked e can j in record {
       channel = r.channel;
-      reached = r.beside.reached;
+      reached = run_reached law.goes_on r.channel e.notes r.beside.run;
+      run = r.beside.run;
       plan_is = r.beside.plan_is;
       state_is = r.beside.state_is;
       log_is = r.beside.log_is;

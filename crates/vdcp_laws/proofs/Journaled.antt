@@ -1,5 +1,5 @@
 -- What a journal's notes make of a new controller is the controller that runs.
-use Rattle.std.proofs.Common.{◌≡◌, All, Bool, true, List, [], ◌∷◌, ◌++◌, Option, None, Some, append-nil, append_assoc, refl, sym, ap, length, subst, ◌∙◌}
+use Rattle.std.proofs.Common.{◌≡◌, Bool, true, List, [], ◌∷◌, ◌++◌, Option, None, Some, refl, sym, ap, subst, ◌∙◌}
 use Rattle.std.specs.Option.{option_map, option_map_or, option_to_list}
 use Rattle.std.specs.Prelude.{IsSome, if◌then◌else◌, is_some}
 use Rattle.vdcp_auto.specs.Heard.{heard_in}
@@ -16,8 +16,7 @@ use Rattle.vdcp_journal.specs.Thinned.{notes_in}
 use Rattle.vdcp_journal.specs.declared.row.Note.{Note}
 use Rattle.vdcp_journal.specs.declared.row.Note.TheVariants as note
 use Rattle.vdcp_journal.specs.declared.row.Row.{Row}
-use Rattle.vdcp_laws.specs.Kills.{IsRun, IsOfRun, asked_in_vain, begun, happened, killed, end_notes, heard_notes, notes_of, silence_notes, stray_notes}
-use Rattle.vdcp_late.specs.GoingOn.{IsNoTick, gone_on}
+use Rattle.vdcp_laws.specs.Kills.{IsRun, IsOfRun, begun, happened, end_notes, heard_notes, notes_of, silence_notes, stray_notes}
 use Rattle.vdcp_late.specs.LateChannel.{LateChannel, IsLateReached, after_late_event, after_late_events, oldest}
 use Rattle.vdcp_late.specs.declared.event.LateEvent.{LateEvent}
 use Rattle.vdcp_late.specs.declared.event.LateEvent.TheVariants as event
@@ -122,11 +121,6 @@ journaled _ _ (happened {c} {notes} run e of_run) =
     ∙ after_more c.plan start notes (notes_of c e)
     ∙ ap (λ state. after_notes c.plan state (notes_of c e)) (journaled c notes run)
     ∙ noted c e of_run
-journaled _ _ (killed {c} {notes} run since quiet) =
-    ap (λ plan. after_notes plan start (notes ++ silence_notes c)) (plan_stays_in c since)
-    ∙ after_more c.plan start notes (silence_notes c)
-    ∙ ap (λ state. after_notes c.plan state (silence_notes c)) (journaled c notes run)
-    ∙ ended c.plan c.state None (ended_by c.plan None c.state) refl
 
 -- Each of its notes tells what the controller does.
 
@@ -201,9 +195,6 @@ run_told _ _ (begun plan port down up can_start) = tt
 run_told _ _ (happened {c} {notes} run e of_run) =
     more_told c (after_late_event c e).plan notes (notes_of c e) (plan_stays c e) run (run_told c notes run)
     (event_told c e of_run)
-run_told _ _ (killed {c} {notes} run since quiet) =
-    more_told c (after_late_events c since).plan notes (silence_notes c) (plan_stays_in c since) run
-    (run_told c notes run) (end_told c.plan c.state None (ended_by c.plan None c.state) refl)
 
 pub told : (c : LateChannel) (rows : List Row) → IsRun c (notes_in rows) → AreTold c.plan start rows
 told c rows run = rows_told c.plan start rows (run_told c (notes_in rows) run)
@@ -226,11 +217,11 @@ none_awaited plan (Ready p) stop s q at is = ap (awaited_in plan) at
 none_awaited plan (Awaiting p) stop s q at is = cc is
 none_awaited plan (Ended outcome) stop s q at is = cc is
 
-silence_ends : (mode : Mode) (q : Command) → is_end mode q None ≡ true
+pub silence_ends : (mode : Mode) (q : Command) → is_end mode q None ≡ true
 silence_ends Plain q = refl
 silence_ends Confirming q = refl
 
-no_silence : (c : LateChannel) → awaited c.plan c.state ≡ None → silence_notes c ≡ []
+pub no_silence : (c : LateChannel) → awaited c.plan c.state ≡ None → silence_notes c ≡ []
 no_silence c none = ap (λ (o : Option Command). end_notes None (exchange_of c.plan.mode None o)) none
 
 pub one_silence : (c : LateChannel) (q : Command) → awaited c.plan c.state ≡ Some q → silence_notes c ≡ note.Silence ∷ []
@@ -239,7 +230,7 @@ one_silence c q is =
     ∙ ap (λ (b : Bool). end_notes None (if b then Some (record { command = q; heard = None }) else None))
     (silence_ends c.plan.mode q)
 
-same_state : (plan : Plan) (s : State) → awaited plan s ≡ None → came_to plan None s ≡ s
+pub same_state : (plan : Plan) (s : State) → awaited plan s ≡ None → came_to plan None s ≡ s
 same_state plan s none =
     ap (λ (o : Option Command). option_map_or (λ e. ended_in plan s.stage e s) (exchange_of plan.mode None o) s) none
 
@@ -251,55 +242,10 @@ asked c notes q run is =
     (ap (λ (o : Option Command). notes ++ option_to_list (option_map (λ x. note.Sent x) o)) is)
     (happened run event.Tick (ap is_some is))
 
-both : (notes : List Note) (one two : Note) → (notes ++ one ∷ []) ++ two ∷ [] ≡ notes ++ (one ∷ two ∷ [])
-both notes one two = append_assoc notes (one ∷ []) (two ∷ [])
-
-pub went : (c : LateChannel) (notes : List Note) (q : Command) (since : List LateEvent) → IsRun c notes
-    → given c.plan c.state ≡ Some q → All IsNoTick since
-    → IsRun (gone_on (after_late_event c event.Tick) (after_late_events c (event.Tick ∷ since)))
-    (notes ++ (note.Sent q ∷ note.Silence ∷ []))
-went c notes q since run is quiet =
-    let d : LateChannel = after_late_event c event.Tick in
-    subst (IsRun (gone_on d (after_late_events d since)))
-    (ap (λ (l : List Note). (notes ++ note.Sent q ∷ []) ++ l)
-    (one_silence d q (given_awaited c.plan c.state.stage c.state q is))
-    ∙ both notes (note.Sent q) note.Silence)
-    (killed (asked c notes q run is) since quiet)
-
-in_vain : (c : LateChannel) (notes : List Note) (q : Command) → IsRun c notes → given c.plan c.state ≡ Some q
-    → IsRun (asked_in_vain c) (notes ++ (note.Sent q ∷ note.Silence ∷ []))
-in_vain c notes q run is =
-    let d : LateChannel = after_late_event c event.Tick in
-    let e : LateChannel = after_late_event d (event.LoseDown (length c.down)) in
-    let lost : IsRun e ((notes ++ note.Sent q ∷ []) ++ []) = happened (asked c notes q run is) (event.LoseDown (length c.down)) tt in
-    subst (IsRun (asked_in_vain c))
-    (ap (λ (l : List Note). l ++ silence_notes e) (append-nil (notes ++ note.Sent q ∷ []))
-    ∙ ap (λ (l : List Note). (notes ++ note.Sent q ∷ []) ++ l)
-    (one_silence e q (given_awaited c.plan c.state.stage c.state q is))
-    ∙ both notes (note.Sent q) note.Silence)
-    (happened lost event.Timeout tt)
-
-pub stayed : (c : LateChannel) (notes : List Note) (q : Command) (since : List LateEvent) → IsRun c notes
-    → given c.plan c.state ≡ Some q → All IsNoTick since
-    → IsRun (asked_in_vain (gone_on c (after_late_events c since))) (notes ++ (note.Sent q ∷ note.Silence ∷ []))
-stayed c notes q since run is quiet =
-    let now : LateChannel = gone_on c (after_late_events c since) in
-    let none = none_awaited c.plan c.state.stage c.state.stop c.state q refl is in
-    let on : IsRun now notes =
-    subst (IsRun now) (ap (λ (l : List Note). notes ++ l) (no_silence c none) ∙ append-nil notes)
-    (killed run since quiet) in
-    in_vain now notes q on
-    (ap (λ (p : Plan). given p now.state) (plan_stays_in c since)
-    ∙ ap (given c.plan) (same_state c.plan c.state none) ∙ is)
-
 -- and each such run is one of a late line's events
-pub run_reached : ((c : LateChannel) (events : List LateEvent) → IsLateReached c → All IsNoTick events
-    → IsLateReached (gone_on c (after_late_events c events)))
-    → ((c : LateChannel) (events : List LateEvent) → IsLateReached c → IsLateReached (after_late_events c events))
-    → (c : LateChannel) (notes : List Note) → IsRun c notes → IsLateReached c
-run_reached goes_on leads _ _ (begun plan port down up can_start) =
+pub run_reached : ((c : LateChannel) (events : List LateEvent) → IsLateReached c
+    → IsLateReached (after_late_events c events)) → (c : LateChannel) (notes : List Note) → IsRun c notes
+    → IsLateReached c
+run_reached leads _ _ (begun plan port down up can_start) =
     record { plan = plan; port = port; down = down; up = up; events = []; can_start = can_start; led = refl }
-run_reached goes_on leads _ _ (happened {c} {notes} run e of_run) =
-    leads c (e ∷ []) (run_reached goes_on leads c notes run)
-run_reached goes_on leads _ _ (killed {c} {notes} run since quiet) =
-    goes_on c since (run_reached goes_on leads c notes run) quiet
+run_reached leads _ _ (happened {c} {notes} run e of_run) = leads c (e ∷ []) (run_reached leads c notes run)

@@ -1,12 +1,12 @@
 -- An automation that is killed goes on as it was when the last of what is safe was noted.
-use Rattle.std.proofs.Common.{◌≡◌, Bool, List, [], ◌∷◌, ◌++◌, map, append_assoc, refl, sym, ap, ap₂, ◌∙◌}
+use Rattle.std.proofs.Common.{◌≡◌, Bool, true, List, [], ◌∷◌, ◌++◌, map, append_assoc, refl, sym, ap, ap₂, subst, ◌∙◌}
 use Rattle.std.specs.Option.{option_map, option_to_list}
 use Rattle.std.specs.Prelude.{IsSome, Option, None, Some, if◌then◌else◌}
 use Rattle.vdcp_value.specs.declared.part.Item.{Item}
 use Rattle.vdcp_port.specs.Clock.{ClockedPort}
 use Rattle.vdcp_auto.specs.Plan.{Plan}
-use Rattle.vdcp_auto.specs.State.{State}
-use Rattle.vdcp_auto.specs.Turn.{awaited, ended_by, exchange_of, given, taken, ticked}
+use Rattle.vdcp_auto.specs.State.{Stage, Ready, Awaiting, Ended, State}
+use Rattle.vdcp_auto.specs.Turn.{awaited, ended_by, exchange_of, given, given_in, is_ready, start, taken, ticked}
 use Rattle.vdcp_auto.specs.declared.exchange.Exchange.{Exchange}
 use Rattle.vdcp_auto.specs.declared.exchange.Heard.{Heard}
 use Rattle.vdcp_journal.specs.declared.row.Note.{Note}
@@ -17,13 +17,17 @@ use Rattle.vdcp_drive.specs.Steps.{end_of, given_notes}
 use Rattle.vdcp_words.specs.declared.command.Command.{Command}
 use Rattle.vdcp_words.specs.declared.command.Command.TheVariants as command
 use Rattle.vdcp_drive.specs.Served.{items_served, port_after}
-use Rattle.vdcp_laws.specs.TwoEnds.{AreJoined, Ends, IsSince, aired_now, at_once, commands_sent, connected_anew, heard_again, later, note_for, notes_ended, notes_given, port_now, went_on, with_command, with_kept}
+use Rattle.vdcp_laws.specs.TwoEnds.{AreJoined, Ends, IsLateChannel, IsSince, aired_now, at_once, commands_sent, connected_anew, heard_again, later, note_for, notes_ended, notes_given, port_now, went_on, with_command, with_kept}
 use Rattle.vdcp_laws.specs.TwoEnds.{gave, came_up, came_down, waited, hung_up, frame, shut, took, halted, resumed, restarted}
 use Rattle.vdcp_laws.specs.Announced.{Announces, came_again, played_notes}
 use Rattle.vdcp_laws.specs.Automation.{end_notes}
-use Rattle.vdcp_laws.proofs.Announced.{ends_again}
+use Rattle.vdcp_laws.proofs.Announced.{ends_again, sent_of}
 use Rattle.vdcp_laws.proofs.Commands.{commands_listens, ends_alone}
-use Rattle.vdcp_laws.proofs.Journaled.{given_awaited}
+use Rattle.vdcp_laws.proofs.Journaled.{given_awaited, rows_make, told}
+use Rattle.vdcp_laws.specs.Kills.{IsRun}
+use Rattle.vdcp_journal.specs.Resume.{AreTold, after_rows}
+use Rattle.vdcp_journal.specs.Thinned.{notes_in}
+use Rattle.vdcp_journal.specs.declared.row.Row.{Row}
 use Rattle.vdcp_laws.proofs.Noting.{heard_is}
 
 -- since then the automation has given nothing more, and the connection is the same
@@ -127,30 +131,48 @@ silent_so plan s q is =
     ∙ ap (λ (b : Bool). map note_for (end_notes (if b then Some (record { command = q; heard = None }) else None)))
     (ends_alone plan.mode q)
 
-flat : (n g : List Note) (w x y z : Note)
-    → ((((n ++ g) ++ w ∷ []) ++ x ∷ []) ++ y ∷ []) ++ z ∷ [] ≡ n ++ (g ++ (w ∷ x ∷ y ∷ z ∷ []))
-flat n g w x y z =
-    append_assoc (((n ++ g) ++ w ∷ []) ++ x ∷ []) (y ∷ []) (z ∷ [])
-    ∙ append_assoc ((n ++ g) ++ w ∷ []) (x ∷ []) (y ∷ z ∷ [])
-    ∙ append_assoc (n ++ g) (w ∷ []) (x ∷ y ∷ z ∷ [])
-    ∙ append_assoc n g (w ∷ x ∷ y ∷ z ∷ [])
+-- and before the PLAY
+pub again_noted : (plan : Plan) (e : Ends) (h : Heard) → Announces plan e.automation.state e.notes h
+    → (heard_again plan h e).notes ≡ e.notes ++ (sent_of (given plan e.automation.state) ++ note.Take ∷ note.Heard h ∷ [])
+again_noted plan e h a =
+    let s : State = e.automation.state in
+    let gives : List Note = sent_of (given plan s) in
+    ap (λ (l : List Note). ((e.notes ++ l) ++ note.Take ∷ []) ++ notes_ended plan (Some h) (taken (ticked s)))
+    (sent_so (given plan s))
+    ∙ ap (λ (l : List Note). ((e.notes ++ gives) ++ note.Take ∷ []) ++ l)
+    (heard_so plan (taken (ticked s)) h (ended_by plan (Some h) (taken (ticked s))) refl (ends_again plan s h a.plays))
+    ∙ append_assoc (e.notes ++ gives) (note.Take ∷ []) (note.Heard h ∷ [])
+    ∙ append_assoc e.notes gives (note.Take ∷ note.Heard h ∷ [])
+
+-- what gives a command is ready
+pub gives_ready : (plan : Plan) (stop : Bool) (stage : Stage) (q : Command) → given_in plan stop stage ≡ Some q
+    → is_ready stage ≡ true
+gives_ready plan stop (Ready p) q is = refl
+gives_ready plan stop (Awaiting p) q is = cc is
+gives_ready plan stop (Ended outcome) q is = cc is
 
 pub played_noted : (plan : Plan) (port : ClockedPort) (e : Ends) (h : Heard)
     → Announces plan e.automation.state e.notes h
     → (connected_anew plan port (with_command plan (heard_again plan h e))).notes
     ≡ e.notes ++ played_notes (given plan e.automation.state) h
 played_noted plan port e h a =
-    let s : State = e.automation.state in
-    let again : State = came_again plan h s in
-    let gives : List Note = option_to_list (option_map (λ c. note.Sent c) (given plan s)) in
-    let hears : List Note = notes_ended plan (Some h) (taken (ticked s)) in
-    let plays : List Note = notes_given plan again in
-    let silent : List Note = notes_ended plan None (ticked again) in
-    ap (λ (l : List Note). ((((e.notes ++ l) ++ note.Take ∷ []) ++ hears) ++ plays) ++ silent) (sent_so (given plan s))
-    ∙ ap (λ (l : List Note). ((((e.notes ++ gives) ++ note.Take ∷ []) ++ l) ++ plays) ++ silent)
-    (heard_so plan (taken (ticked s)) h (ended_by plan (Some h) (taken (ticked s))) refl (ends_again plan s h a.plays))
-    ∙ ap (λ (o : Option Command). ((((e.notes ++ gives) ++ note.Take ∷ []) ++ note.Heard h ∷ [])
-    ++ map note_for (given_notes o)) ++ silent) a.plays
-    ∙ ap (λ (l : List Note). ((((e.notes ++ gives) ++ note.Take ∷ []) ++ note.Heard h ∷ []) ++ note.Sent command.Play ∷ [])
-    ++ l) (silent_so plan (ticked again) command.Play (given_awaited plan again.stage again command.Play a.plays))
-    ∙ flat e.notes gives note.Take (note.Heard h) (note.Sent command.Play) note.Silence
+    let again : State = came_again plan h e.automation.state in
+    let gives : List Note = sent_of (given plan e.automation.state) in
+    ap (λ (l : List Note). (l ++ notes_given plan again) ++ notes_ended plan None (ticked again)) (again_noted plan e h a)
+    ∙ ap (λ (o : Option Command). ((e.notes ++ (gives ++ note.Take ∷ note.Heard h ∷ [])) ++ map note_for (given_notes o))
+    ++ notes_ended plan None (ticked again)) a.plays
+    ∙ ap (λ (l : List Note). ((e.notes ++ (gives ++ note.Take ∷ note.Heard h ∷ [])) ++ note.Sent command.Play ∷ []) ++ l)
+    (silent_so plan (ticked again) command.Play (given_awaited plan again.stage again command.Play a.plays))
+    ∙ append_assoc (e.notes ++ (gives ++ note.Take ∷ note.Heard h ∷ [])) (note.Sent command.Play ∷ []) (note.Silence ∷ [])
+    ∙ append_assoc e.notes (gives ++ note.Take ∷ note.Heard h ∷ []) (note.Sent command.Play ∷ note.Silence ∷ [])
+    ∙ ap (λ (l : List Note). e.notes ++ l)
+    (append_assoc gives (note.Take ∷ note.Heard h ∷ []) (note.Sent command.Play ∷ note.Silence ∷ []))
+
+-- The rows of the notes make the automation's controller, and tell what it does.
+pub made : {plan : Plan} {port : ClockedPort} {e : Ends} → (late : IsLateChannel plan port e) (all : List Row)
+    → notes_in all ≡ e.notes → AreTold plan start all × (after_rows plan start all ≡ e.automation.state)
+made {plan} {port} {e} late all noted =
+    let run : IsRun late.channel (notes_in all) = subst (IsRun late.channel) (sym noted) late.run in (
+      subst (λ (q : Plan). AreTold q start all) late.plan_is (told late.channel all run),
+      ap (λ (q : Plan). after_rows q start all) (sym late.plan_is) ∙ rows_make late.channel all run ∙ late.state_is,
+    )

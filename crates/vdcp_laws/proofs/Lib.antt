@@ -1,4 +1,5 @@
 mod Announced
+mod Held
 mod Journaled
 mod Raised
 mod Bytes
@@ -18,7 +19,7 @@ mod Queues
 mod Same
 mod Serving
 mod SeveralRuns
-mod Twice
+mod Running
 mod Whole
 mod AsrunRows
 mod LossyGoings

@@ -1,6 +1,6 @@
--- Runs over a line that keeps order, whose automation keeps a journal, is killed, and goes on from it.
+-- Runs over a line that keeps order, whose automation keeps a journal; and what goes on from it after a kill.
 use Rattle.std.specs.Option.{option_map, option_to_list}
-use Rattle.std.specs.Prelude.{ℕ, ◌≡◌, ◌⊎◌, IsSome, List, [], ◌∷◌, ◌++◌, All, length, Option, None, Some}
+use Rattle.std.specs.Prelude.{ℕ, ◌≡◌, ◌⊎◌, IsSome, List, [], ◌∷◌, ◌++◌, length, Option, None, Some}
 use Rattle.vdcp_words.specs.declared.reply.Reply.{Reply}
 use Rattle.vdcp_words.specs.declared.reply.Reply.TheVariants.{Ack, Nak}
 use Rattle.vdcp_port.specs.Clock.{ClockedPort}
@@ -18,7 +18,6 @@ use Rattle.vdcp_auto.specs.declared.phase.Mode.TheVariants.{Plain, Confirming}
 use Rattle.vdcp_journal.specs.declared.row.Note.{Note}
 use Rattle.vdcp_journal.specs.declared.row.Note.TheVariants as note
 use Rattle.vdcp_laws.specs.Announced.{came_again}
-use Rattle.vdcp_late.specs.GoingOn.{IsNoTick, gone_on}
 use Rattle.vdcp_late.specs.LateChannel.{LateChannel, CanStart, after_late_event, after_late_events, new_late_channel, oldest}
 use Rattle.vdcp_late.specs.declared.event.LateEvent.{LateEvent}
 use Rattle.vdcp_late.specs.declared.event.LateEvent.TheVariants as event
@@ -62,18 +61,13 @@ IsOfRun c event.Stop = outcome_of c.state.stage ≡ None
 IsOfRun c event.AutomationAnew = ⊥
 IsOfRun c _ = Unit {0}
 
--- Some events, and some kills, lead from a new channel to this one, and these are all its notes. Its journal may leave out
--- what says nothing new.
+-- Some events lead from a new channel to this one, and these are all its notes. Its journal may leave out what says nothing
+-- new.
 pub data IsRun : LateChannel → List Note → Type 0 where
   begun : (plan : Plan) (port : ClockedPort) (down up : List (List ℕ)) → CanStart plan port down up
       → IsRun (new_late_channel plan port down up) []
   happened : {c : LateChannel} {notes : List Note} → IsRun c notes → (e : LateEvent) → IsOfRun c e
       → IsRun (after_late_event c e) (notes ++ notes_of c e)
-  -- The automation was killed, and goes on with the notes that are safe. Since then no command was given out, since its
-  -- note is safe first; all else may have happened. What it awaited has timed out, which is noted. (Of a command that asks
-  -- for the state the note needn't be safe: `asked_in_vain`; nor that of a PLAY that was announced: `played`.)
-  killed : {c : LateChannel} {notes : List Note} → IsRun c notes → (since : List LateEvent) → All IsNoTick since
-      → IsRun (gone_on c (after_late_events c since)) (notes ++ silence_notes c)
 
 -- the next command is given and lost, and times out
 abbrev pub asked_in_vain : LateChannel → LateChannel

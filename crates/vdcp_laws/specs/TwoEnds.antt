@@ -22,6 +22,7 @@ use Rattle.vdcp_drive.specs.Steps.{given_notes}
 use Rattle.vdcp_laws.specs.Automation.{end_notes}
 use Rattle.vdcp_laws.specs.Automation.{Prompt, commands_in, gives, hears, listens, new_prompt, receives}
 use Rattle.vdcp_laws.specs.Announced.{Announces}
+use Rattle.vdcp_laws.specs.Kills.{IsRun}
 use Rattle.vdcp_drive.specs.Reading.{completed, holds}
 use Rattle.vdcp_drive.specs.declared.keep.Kept.{Kept}
 use Rattle.vdcp_drive.specs.declared.keep.Kept.TheVariants as kept
@@ -136,8 +137,8 @@ with_heard plan h e =
 abbrev pub heard_again : Plan → Heard → Ends → Ends
 heard_again plan h e = with_heard plan h (with_take (with_command plan e))
 
--- What an automation goes on as that is killed: what its notes make it; or where what was heard last announces a PLAY, which
--- may have gone out without a note, what it is once that was given.
+-- What a killed automation goes on as: what its notes make it; or, where what was heard last announces a PLAY, which may have
+-- gone out without a note, what it is once that was given.
 pub data GoesOn (plan : Plan) (e : Ends) : Ends → Type 0 where
   as_noted : GoesOn plan e e
   as_announced : (h : Heard) → Announces plan e.automation.state e.notes h → GoesOn plan e (with_command plan (heard_again plan h e))
@@ -214,10 +215,11 @@ pub record CanJoin (plan : Plan) (port : ClockedPort) (asked : List Command) : T
   pub can_start : CanStart plan port [] []
   pub only_asks : All (IsQuestion plan.port) asked
 
--- the two ends are what events of a late channel lead to
+-- the two ends are what events of a late channel lead to, in a run that has their notes
 pub record IsLateChannel (plan : Plan) (port : ClockedPort) (e : Ends) : Type 0 where
   pub channel : LateChannel
   pub reached : IsLateReached channel
+  pub run : IsRun channel e.notes
   pub plan_is : channel.plan ≡ plan
   pub state_is : channel.state ≡ e.automation.state
   pub log_is : channel.log ≡ log_now e

@@ -11,7 +11,7 @@ ghost use Rattle.vdcp_journal.specs.declared.row.Note.{Note};
 ghost use Rattle.vdcp_journal.specs.declared.row.Note.TheVariants as note;
 ghost use Rattle.vdcp_journal.specs.declared.row.Row.{Row};
 ghost use Rattle.vdcp_laws.specs.Announced.{Announces, played_notes};
-ghost use Rattle.vdcp_laws.specs.Kills.{IsRun, MayGoOn, asked_in_vain, played};
+ghost use Rattle.vdcp_laws.specs.Kills.{IsRun, MayGoOn, asked_in_vain, played, silence_notes};
 ghost use Rattle.vdcp_late.specs.GoingOn.{IsNoTick, gone_on};
 ghost use Rattle.vdcp_late.specs.LateChannel.{LateChannel, IsLateReached, after_late_event, after_late_events};
 ghost use Rattle.vdcp_late.specs.LateHeadline.{LateHeadline};
@@ -21,9 +21,13 @@ ghost use Rattle.vdcp_words.specs.declared.command.Command.{Command};
 ghost use Rattle.vdcp_words.specs.declared.command.Command.TheVariants.{Play};
 
 /// Whatever happens on a line that keeps order, and however often the automation is killed and goes on from its
-/// journal, if no command goes out before its row is safe: the headline holds. Each row tells what a new controller does,
-/// and also where the journal leaves out what says nothing new, its rows give that the state of the one that runs.
+/// journal, if no command goes out before its row is safe: the headline holds. A kill is no more than what a line could have
+/// done: since the notes that are safe no command was given out, all else may have happened, and what was awaited has timed
+/// out, which is noted (`goes_on`). Each row tells what a new controller does, and also where the journal leaves out what says
+/// nothing new, its rows give that the state of the one that runs.
 pub fn a_killed_run_keeps_the_headline()
+    ensures goes_on { (c : LateChannel) (notes : List Note) (since : List LateEvent) → IsRun c notes →
+        All IsNoTick since → IsRun (gone_on c (after_late_events c since)) (notes ++ silence_notes c) }
     ensures headline { (c : LateChannel) (notes : List Note) → IsRun c notes → LateHeadline c }
     ensures reached { (c : LateChannel) (notes : List Note) → IsRun c notes → IsLateReached c }
     ensures told { (c : LateChannel) (all rows : List Row) → IsRun c (notes_in all) → AreThinned all rows →

@@ -66,6 +66,8 @@ pub fn two_ends_are_a_late_channel()
 {
     what_is_below();
     vdcp_late::laws::a_killed_automation_goes_on();
+    vdcp_port::laws::the_unit_stays();
+    vdcp_auto::laws::reached_is_lawful();
 }
 
 /// So the headline holds of the two ends: what went to air at the server is a beginning of the playlist, each event once
@@ -224,7 +226,7 @@ pub fn a_journal_makes_the_automation()
         (kept_by plan (auto.log_of at_once plan unit (driver_of e.automation) came)
         (ticked (after at_once plan unit (driver_of e.automation) came).state)) }
 {
-    vdcp_auto::laws::reached_is_lawful();
+    two_ends_are_a_late_channel();
     vdcp_journal::laws::a_thinned_journal_makes_the_same();
 }
 

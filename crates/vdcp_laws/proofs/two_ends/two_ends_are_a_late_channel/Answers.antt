@@ -12,6 +12,13 @@ returns c =
       answered = c.what_is_below.ensures.answered;
       written = c.what_is_below.ensures.written;
       goes_on = c.a_killed_automation_goes_on.ensures.event;
+      stays = (
+        c.the_unit_stays.ensures.burst,
+        c.the_unit_stays.ensures.frame,
+        c.the_unit_stays.ensures.ready,
+        c.the_unit_stays.ensures.ended,
+      );
+      lawful = c.reached_is_lawful.ensures;
     } in
     record {
       ends = are_late_channel law;
