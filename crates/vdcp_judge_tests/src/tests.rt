@@ -5,7 +5,7 @@ ghost use Rattle.std.proofs.lemmas.Grind.{common_steps};
 
 use std::process::Abort;
 use std::test::Fail;
-use vdcp_auto::{Exchange, Heard, Source};
+use vdcp_auto::{Exchange, Heard, Mode, Source};
 use vdcp_judge::{
     Captured, Judge, Ruling, Way, captured_in, exchanges_in, first_forbidden, rulings,
 };
@@ -153,15 +153,9 @@ impl Step {
 /// events are settled.
 type Case = (&'static [Step], Asked, (bool, usize), (bool, usize));
 
-fn check_in(
-    rt: &impl Abort,
-    mode: &str,
-    mut judge: Judge<Clips>,
-    log: &[Step],
-    next: Asked,
-    wanted: (bool, usize),
-) {
+fn check_in(rt: &impl Abort, mode: Mode, log: &[Step], next: Asked, wanted: (bool, usize)) {
     let clips = Clips::new();
+    let mut judge = Judge::new(Clips::new(), mode);
     for step in log {
         judge.add(&step.exchange(&clips));
     }
@@ -169,21 +163,14 @@ fn check_in(
     assert_eq!(rt;
         (judge.allows(&command), judge.settled()),
         wanted,
-        "{mode}: {next:?} after {log:?}"
+        "{mode:?}: {next:?} after {log:?}"
     );
 }
 
 fn check(rt: &impl Abort, cases: &[Case]) {
     for (log, next, plain, confirming) in cases {
-        check_in(rt, "plain", Judge::new(Clips::new()), log, *next, *plain);
-        check_in(
-            rt,
-            "confirm",
-            Judge::confirming(Clips::new()),
-            log,
-            *next,
-            *confirming,
-        );
+        check_in(rt, Mode::Plain, log, *next, *plain);
+        check_in(rt, Mode::Confirming, log, *next, *confirming);
     }
 }
 
@@ -311,7 +298,7 @@ fn what_ends(rt: HostRuntime) {
 // Once a PLAY stands in the log, until an event is settled.
 #[test]
 fn what_may_have_aired_is_seen(rt: HostRuntime) {
-    let mut judge = Judge::new(Clips::new());
+    let mut judge = Judge::new(Clips::new(), Mode::Plain);
     let before = judge.may_have_aired();
     judge.add(&heard(Command::Play, Reply::Nak(0x01)));
     judge.add(&silent(Command::Stop));
@@ -332,8 +319,8 @@ fn the_first_forbidden_command_is_found(rt: HostRuntime) {
         silent(Command::Play),
         silent(Command::Select(1)),
     ];
-    let plain = first_forbidden(Judge::new(clips), &log);
-    let confirming = first_forbidden(Judge::confirming(clips), &log[..3]);
+    let plain = first_forbidden(Judge::new(clips, Mode::Plain), &log);
+    let confirming = first_forbidden(Judge::new(clips, Mode::Confirming), &log[..3]);
     assert_eq!(rt; (plain, confirming), (Some(3), None));
 }
 
@@ -363,7 +350,7 @@ fn each_exchange_is_ruled_on(rt: HostRuntime) -> Result<(), Fail> {
         status(0x01),
         cued,
     ];
-    let ruled = rulings(rt.alloc(), Judge::new(clips), &log)?;
+    let ruled = rulings(rt.alloc(), Judge::new(clips, Mode::Plain), &log)?;
     assert_eq!(rt;
         ruled.as_slice(),
         [ALLOWED, ALLOWED, ALLOWED, SETTLING, FORBIDDEN].as_slice()
@@ -392,8 +379,8 @@ fn a_capture_shows_its_exchanges(rt: HostRuntime) -> Result<(), Fail> {
         Captured::Silence,
         CAME_STATE,
     ];
-    let shown = exchanges_in(rt.alloc(), false, &capture)?;
-    let confirmed = exchanges_in(rt.alloc(), true, &capture)?;
+    let shown = exchanges_in(rt.alloc(), Mode::Plain, &capture)?;
+    let confirmed = exchanges_in(rt.alloc(), Mode::Confirming, &capture)?;
     let acked = heard(Command::Status(1), Reply::Ack);
     let unheard = silent(Command::Status(1));
     let played = heard(Command::Play, Reply::Ack);

@@ -9,6 +9,7 @@ ghost use Rattle.std.specs.Io.KnownBytes.{Appends, Keeps};
 ghost use Rattle.std.specs.Prelude.{ℕ, ◌≡◌, ◌≢◌, ◌⊎◌, ◌<◌, IfErr, IfOk, OnOk};
 ghost use Rattle.vdcp_offline.specs.Judged.{AreWhole, IsJudged, IsToldOnly};
 ghost use Rattle.vdcp_files.specs.Files.{file};
+ghost use Rattle.vdcp_files.specs.Mode.{mode_of};
 ghost use Rattle.vdcp_text.specs.Failure.{status_of};
 ghost use Rattle.vdcp_text.specs.declared.failure.Failure.TheVariants as failures;
 
@@ -17,6 +18,7 @@ use crate::judge::findings::{find, has_message};
 use crate::judge::printing::{forbidden_in, report};
 use std::alloc::Global;
 use std::io;
+use vdcp_auto::Mode;
 use vdcp_files::NamedFile;
 use vdcp_text::Failure;
 
@@ -85,11 +87,22 @@ fn judge<'a, L: io::Read + Drop, C: io::Read + Drop, W: io::Write>(
     if !has_message(pieces.as_slice()) {
         return Err(Failure::Empty(name));
     }
-    let findings = find(alloc, &events, settings.confirming, pieces.as_slice())?;
+    let findings = find(alloc, &events, mode_of(settings), pieces.as_slice())?;
     let text = report(alloc, settings.rate, &events, findings.as_slice())?;
     match write(text.as_bytes(), out) {
         Ok(()) => Ok(forbidden_in(findings.as_slice())),
         Err(_) => Err(Failure::Writer),
+    }
+}
+
+/// The mode of the automation.
+fn mode_of(settings: JudgeSettings) -> Mode
+    ensures { result ≡ mode_of settings.confirming }
+{
+    if settings.confirming {
+        Mode::Confirming
+    } else {
+        Mode::Plain
     }
 }
 

@@ -1,11 +1,10 @@
 //! The exchanges of a capture, each with its line and its ruling.
-ghost use Rattle.std.specs.Prelude.{◌≡◌, List, [], IfOk, length, map};
+ghost use Rattle.std.specs.Prelude.{◌≡◌, List, IfOk, length, map};
 ghost use Rattle.vdcp_offline.specs.Findings.{AreFindings, captured_of, command_lines, has_message, is_message};
-ghost use Rattle.vdcp_judge.specs.Judging.{Knows, mode_of};
 
 use crate::judge::capture::Piece;
 use std::alloc::{AllocError, Global};
-use vdcp_auto::{Exchange, Source};
+use vdcp_auto::{Exchange, Mode, Source};
 use vdcp_judge::{Captured, Judge, Ruling, exchanges_in, rulings};
 
 /// An exchange, with the line of its command, and what the rule book says of it where it stands.
@@ -16,35 +15,21 @@ pub struct Finding {
     pub ruling: Ruling,
 }
 
-/// What is found of the exchanges that the pieces show, of an automation in plain mode or a confirming one that plays
-/// these events.
+/// What is found of the exchanges that the pieces show, of an automation in this mode that plays these events.
 #[tactic(auto, using(crate::proofs::JudgeLoops::each_command_has_its_line))]
 pub fn find<S: Source>(
     alloc: Global,
     events: &S,
-    confirming: bool,
+    mode: Mode,
     pieces: &[Piece],
 ) -> Result<Vec<Finding>, AllocError>
-    ensures { IfOk result (λ findings. AreFindings (mode_of confirming) (S.items events.now) pieces.now findings.items) }
+    ensures { IfOk result (λ findings. AreFindings mode (S.items events.now) pieces.now findings.items) }
 {
     let captured = captured_of(alloc, pieces)?;
-    let log = exchanges_in(alloc, confirming, captured.as_slice())?;
-    let rulings = rulings(alloc, judge_of(events, confirming), log.as_slice())?;
+    let log = exchanges_in(alloc, mode, captured.as_slice())?;
+    let rulings = rulings(alloc, Judge::new(events, mode), log.as_slice())?;
     let lines = command_lines(alloc, pieces)?;
     join(alloc, lines.as_slice(), log.as_slice(), rulings.as_slice())
-}
-
-/// A new judge.
-fn judge_of<S: Source>(events: &S, confirming: bool) -> Judge<&S>
-    ensures source { result.source.now ≡ events.now }
-    ensures mode { result.mode ≡ mode_of confirming }
-    ensures knows { Knows (λ source. S.items source.now) [] result }
-{
-    if confirming {
-        Judge::confirming(events)
-    } else {
-        Judge::new(events)
-    }
 }
 
 /// Whether a piece is a message.
