@@ -1,4 +1,4 @@
 mod CheckLemmas
-mod Consumed
+mod FileLines
 mod VectorLemmas
 mod Examples

@@ -1,4 +1,5 @@
 pub mod Files
+pub mod Lines
 pub mod Check
 pub mod Subcommand
 pub mod Vectors

@@ -6,14 +6,12 @@ ghost use Rattle.vdcp_list.specs.List.{items_of};
 ghost use Rattle.vdcp_list.specs.Playlists.{IsListOf};
 ghost use Rattle.vdcp_text.specs.Failure.{status_of};
 
+use crate::lines::{LONGEST_LINE, Lined, line_failure};
 use std::alloc::Global;
-use std::io;
+use std::io::{self, Read};
 use vdcp_list::{List, ListFault, Table, read_catalogue, read_list};
-use vdcp_text::{Failure, RowFault, ScriptLineFault};
+use vdcp_text::{Failure, RowFault};
 use vdcp_value::Rate;
-
-/// How many bytes a line has at most, without its line feed.
-const LONGEST_LINE: usize = 65_536;
 
 /// A file to read, with its name.
 #[derive(Drop)]
@@ -52,53 +50,16 @@ impl<'a, R: io::Read + Drop> NamedFile<'a, R> {
 
     /// Reads the file, whose lines have 64 KiB each at most. `ScriptLine` if a line has more, which isn't read to its
     /// end; `Read` if the file can't be read, and `Memory`.
-    #[tactic(auto, using(crate::proofs::Consumed::nothing_read, crate::proofs::Consumed::reads_more, crate::proofs::Consumed::reads_none, crate::proofs::Consumed::reads_all))]
     pub fn read_lines(self, alloc: Global) -> Result<Vec<u8>, Failure<'a>>
         ensures bytes { IfOk result (λ bytes. IfSome (R.remaining self.entry.reader) (λ known. known ≡ bytes.items)) }
         ensures refused { IfErr result (IsUnread self.entry.name) }
     {
-        let NamedFile { name, mut reader } = self;
+        let NamedFile { name, reader } = self;
+        let mut reader = Lined::new(reader, LONGEST_LINE);
         let mut bytes = Vec::new(alloc);
-        let mut line = Line { number: 1, size: 0 };
-        let mut piece = [0; 4096];
-        'reads: for _ in 0..u64::MAX {
-            match reader.read(&mut piece) {
-                Ok(0) => return Ok(bytes),
-                Ok(count) => {
-                    bytes.extend_from_slice(&piece[..count])?;
-                    line.go_over(&piece[..count]);
-                    if line.size > LONGEST_LINE {
-                        return Err(Failure::ScriptLine(name, line.number, ScriptLineFault::Long));
-                    }
-                }
-                Err(error) if error.kind() == io::ErrorKind::Interrupted => {}
-                Err(_) => return Err(Failure::Read(name)),
-            }
-        }
-        Err(Failure::Read(name))
-    }
-}
-
-// The line of a text that is being read: its number, from 1, and how many bytes of it there are.
-#[derive(Drop)]
-struct Line {
-    number: usize,
-    size: usize,
-}
-
-impl Line {
-    // Goes over the bytes that come next, to the first line that is too long.
-    fn go_over(&mut self, bytes: &[u8]) {
-        for byte in bytes {
-            if self.size > LONGEST_LINE {
-                return;
-            }
-            if *byte == b'\n' {
-                self.number = self.number.saturating_add(1);
-                self.size = 0;
-            } else {
-                self.size = self.size.saturating_add(1);
-            }
+        match reader.read_to_end(&mut bytes) {
+            Ok(_) => Ok(bytes),
+            Err(error) => Err(line_failure(name, reader.number(), &error)),
         }
     }
 }

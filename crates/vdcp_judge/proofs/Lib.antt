@@ -3,4 +3,3 @@ mod Logs
 mod Cues
 mod Judged
 mod KeptRules
-mod RuledLogs

@@ -55,3 +55,14 @@ exchanges_in mode [] = []
 exchanges_in mode (Sent c ∷ more) = record { command = c; heard = heard_for mode c more } ∷ exchanges_in mode more
 exchanges_in mode (Came h ∷ more) = exchanges_in mode more
 exchanges_in mode (Silence ∷ more) = exchanges_in mode more
+
+abbrev pub sent_in : Captured → Option Command
+sent_in (Sent c) = Some c
+sent_in (Came h) = None
+sent_in Silence = None
+
+-- the exchanges from here on, the first of which is that of a command that is awaited
+abbrev pub exchanges_from : Mode → Option Command → List Captured → List Exchange
+exchanges_from mode None captured = exchanges_in mode captured
+exchanges_from mode (Some c) captured =
+    record { command = c; heard = heard_for mode c captured } ∷ exchanges_in mode captured

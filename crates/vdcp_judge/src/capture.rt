@@ -1,9 +1,10 @@
 //! What a captured line has, and the exchanges that it shows.
-ghost use Rattle.std.specs.Prelude.{◌≡◌, IfOk};
-ghost use Rattle.vdcp_judge.specs.Captures.{exchanges_in, heard_for};
+ghost use Rattle.std.specs.Option.{option_to_list};
+ghost use Rattle.std.specs.Prelude.{◌≡◌, ◌∷◌, ◌++◌, IfSome, List, Some};
+ghost use Rattle.vdcp_judge.specs.Captures.{exchanges_from, sent_in};
+ghost use Rattle.vdcp_judge.specs.declared.capture.Captured.{Captured};
 
 use crate::meaning::is_end;
-use std::alloc::{AllocError, Allocator};
 use vdcp_auto::{Exchange, Heard, Mode};
 use vdcp_words::Command;
 
@@ -18,34 +19,37 @@ pub enum Captured {
     Silence,
 }
 
-/// The exchanges that a capture shows of an automation in this mode.
-pub fn exchanges_in<A: Allocator>(
-    alloc: A,
+/// The exchange that ends with what was captured next, if one does, of an automation in this mode.
+/// `awaited` is the command whose exchange goes on, before and after; at the end of a capture that has heard nothing.
+pub fn exchange_ended(
     mode: Mode,
-    capture: &[Captured],
-) -> Result<Vec<Exchange, A>, AllocError>
-    ensures { IfOk result (λ exchanges. exchanges.items ≡ exchanges_in mode capture.now) }
+    awaited: &mut Option<Command>,
+    next: &Captured,
+) -> Option<Exchange>
+    ensures ended { (more : List Captured) → exchanges_from mode awaited.old (next.now ∷ more)
+        ≡ option_to_list result ++ exchanges_from mode awaited.new more }
+    ensures sent { IfSome (sent_in next.now) (λ c. awaited.new ≡ Some c) }
 {
-    let mut exchanges = Vec::new(alloc);
-    for k in 0..capture.len() {
-        if let Captured::Sent(command) = capture[k] {
-            let heard = heard_for(mode, &command, &capture[k + 1..]);
-            exchanges.push(Exchange { command, heard })?;
-        }
-    }
-    Ok(exchanges)
+    let sent = sent_in(next);
+    let Some(command) = *awaited else {
+        *awaited = sent;
+        return None;
+    };
+    let heard = match next {
+        Captured::Came(heard) if !is_end(mode, &command, heard) => return None,
+        Captured::Came(heard) => Some(*heard),
+        Captured::Sent(_) | Captured::Silence => None,
+    };
+    *awaited = sent;
+    Some(Exchange { command, heard })
 }
 
-/// What the command has heard, of what was captured after it.
-fn heard_for(mode: Mode, command: &Command, after: &[Captured]) -> Option<Heard>
-    ensures { result ≡ heard_for mode command.now after.now }
+/// The command that was sent, if one was.
+fn sent_in(captured: &Captured) -> Option<Command>
+    ensures { result ≡ sent_in captured.now }
 {
-    for captured in after {
-        match captured {
-            Captured::Sent(_) | Captured::Silence => return None,
-            Captured::Came(heard) if is_end(mode, command, heard) => return Some(*heard),
-            Captured::Came(_) => {}
-        }
+    match captured {
+        Captured::Sent(command) => Some(*command),
+        Captured::Came(_) | Captured::Silence => None,
     }
-    None
 }

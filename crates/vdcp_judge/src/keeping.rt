@@ -1,12 +1,9 @@
-//! Whole logs: their rulings, and the first command that is forbidden.
-ghost use Rattle.std.specs.Prelude.{[], IfNone, IfOk, IfSome, IsSomeAnd, slice_get, take};
+//! Whole logs: the first command that is forbidden.
+ghost use Rattle.std.specs.Prelude.{[], IfNone, IfSome, IsSomeAnd, slice_get, take};
 ghost use Rattle.vdcp_auto.specs.RuleBook.{KeepsRules, May};
 ghost use Rattle.vdcp_judge.specs.Judging.{Knows};
-ghost use Rattle.vdcp_judge.specs.Rulings.{AreRulings};
 
-use crate::judge::{Judge, Ruling};
-use std::alloc::{AllocError, Allocator};
-use vdcp_auto::laws::a_log_grows;
+use crate::judge::Judge;
 use vdcp_auto::{Exchange, Source};
 
 /// Where in a whole log the first exchange stands whose command the rule book forbids there, from 0; None if
@@ -26,23 +23,4 @@ pub fn first_forbidden<S: Source + Drop>(mut judge: Judge<S>, log: &[Exchange]) 
         judge.add(exchange);
     }
     None
-}
-
-/// The rulings on a whole log, one for each exchange. The judge is a new one.
-pub fn rulings<S: Source + Drop, A: Allocator>(
-    alloc: A,
-    mut judge: Judge<S>,
-    log: &[Exchange],
-) -> Result<Vec<Ruling, A>, AllocError>
-    requires new { Knows S.items [] judge }
-    ensures { IfOk result (λ rulings. AreRulings judge.mode (S.items judge.source) log.now rulings.items) }
-{
-    a_log_grows();
-    let mut rulings = Vec::new(alloc);
-    for k in 0..log.len() {
-        let exchange = &log[k];
-        rulings.push(judge.rule_on(exchange))?;
-        judge.add(exchange);
-    }
-    Ok(rulings)
 }

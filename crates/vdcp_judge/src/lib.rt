@@ -4,8 +4,8 @@
 //! The calling loop: `allows` tells whether a command may come next, and `add` takes the exchange that ended.
 //! The judge keeps no log, so its memory stays the same however long the log is.
 //!
-//! `rulings` and `first_forbidden` do so for a whole log. `captured_in` says what the bursts of
-//! a captured line are, `captured_as` what one message is, and `exchanges_in` gives the log that these show.
+//! `first_forbidden` does so for a whole log. `captured_in` says what the bursts of a captured line are, `captured_as` what
+//! one message is, and `exchange_ended` gives the exchanges that these show, one after another.
 //!
 //! Files, in reading order: `meaning`, `judge`, `keeping`, `notes`, `burst`, `capture`.
 #![tactic(auto)]
@@ -18,7 +18,7 @@ mod meaning;
 mod notes;
 
 pub use burst::{Way, captured_as, captured_in};
-pub use capture::{Captured, exchanges_in};
+pub use capture::{Captured, exchange_ended};
 pub use judge::{Judge, LastCue, Ruling};
-pub use keeping::{first_forbidden, rulings};
+pub use keeping::first_forbidden;
 pub use notes::Notes;

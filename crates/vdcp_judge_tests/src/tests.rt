@@ -3,12 +3,11 @@ ghost use Rattle.std.specs.Prelude.{None, Some, [], ◌∷◌};
 ghost use Rattle.std.proofs.Common.{rules};
 ghost use Rattle.std.proofs.lemmas.Grind.{common_steps};
 
+use std::alloc::{AllocError, Global};
 use std::process::Abort;
 use std::test::Fail;
 use vdcp_auto::{Exchange, Heard, Mode, Source};
-use vdcp_judge::{
-    Captured, Judge, Ruling, Way, captured_in, exchanges_in, first_forbidden, rulings,
-};
+use vdcp_judge::{Captured, Judge, Ruling, Way, captured_in, exchange_ended, first_forbidden};
 use vdcp_value::{ClipId, Item, Part};
 use vdcp_words::{Command, Reply};
 
@@ -340,22 +339,21 @@ const FORBIDDEN: Ruling = Ruling {
 };
 
 #[test]
-fn each_exchange_is_ruled_on(rt: HostRuntime) -> Result<(), Fail> {
+fn each_exchange_is_ruled_on(rt: HostRuntime) {
     let clips = Clips::new();
     let cued = heard(clips.cue_first(), Reply::Ack);
     let log = [
-        cued,
-        status(0x80),
-        silent(Command::Play),
-        status(0x01),
-        cued,
+        (cued, ALLOWED),
+        (status(0x80), ALLOWED),
+        (silent(Command::Play), ALLOWED),
+        (status(0x01), SETTLING),
+        (cued, FORBIDDEN),
     ];
-    let ruled = rulings(rt.alloc(), Judge::new(clips, Mode::Plain), &log)?;
-    assert_eq!(rt;
-        ruled.as_slice(),
-        [ALLOWED, ALLOWED, ALLOWED, SETTLING, FORBIDDEN].as_slice()
-    );
-    Ok(())
+    let mut judge = Judge::new(clips, Mode::Plain);
+    for (exchange, ruling) in log {
+        assert_eq!(rt; judge.rule_on(&exchange), ruling);
+        judge.add(&exchange);
+    }
 }
 
 const CAME_ACK: Captured = Captured::Came(Heard::Reply(Reply::Ack));
@@ -363,6 +361,25 @@ const CAME_ACK: Captured = Captured::Came(Heard::Reply(Reply::Ack));
 const CAME_STATE: Captured = Captured::Came(Heard::Reply(Reply::State(1, Some(0x80))));
 
 const SENT_STATUS: Captured = Captured::Sent(Command::Status(1));
+
+/// The exchanges that a whole capture shows.
+fn exchanges_in(
+    alloc: Global,
+    mode: Mode,
+    capture: &[Captured],
+) -> Result<Vec<Exchange>, AllocError> {
+    let mut exchanges = Vec::new(alloc);
+    let mut awaited = None;
+    for captured in capture {
+        if let Some(exchange) = exchange_ended(mode, &mut awaited, captured) {
+            exchanges.push(exchange)?;
+        }
+    }
+    if let Some(command) = awaited {
+        exchanges.push(silent(command))?;
+    }
+    Ok(exchanges)
+}
 
 #[test]
 fn a_capture_shows_its_exchanges(rt: HostRuntime) -> Result<(), Fail> {

@@ -1,4 +1,5 @@
 mod JudgeLoops
+mod JudgeSteps
 mod SimNumbered
 mod SimRan
 mod SimRefusals

@@ -1,11 +1,13 @@
 -- What is found of the exchanges that a capture shows, and the text of it.
 use Rattle.std.specs.List.{flat_map, list_any}
 use Rattle.std.specs.Prelude.{ℕ, suc, ◌≡◌, Bool, true, false, not, List, [], ◌∷◌, ◌++◌, codes, count_by, decimal, length, map, Option, None, Some, if◌then◌else◌, slice_get}
+use Rattle.vdcp_auto.specs.Settled.{settled}
+use Rattle.vdcp_auto.specs.declared.exchange.Exchange.{Exchange}
 use Rattle.vdcp_auto.specs.declared.phase.Mode.{Mode}
 use Rattle.vdcp_offline.specs.declared.judge.capture.Piece.{Piece}
 use Rattle.vdcp_offline.specs.declared.judge.findings.Finding.{Finding}
 use Rattle.vdcp_judge.specs.Captures.{exchanges_in}
-use Rattle.vdcp_judge.specs.Rulings.{AreRulings}
+use Rattle.vdcp_judge.specs.Rulings.{IsRuling}
 use Rattle.vdcp_judge.specs.declared.capture.Captured.{Captured}
 use Rattle.vdcp_judge.specs.declared.capture.Captured.TheVariants.{Sent, Came, Silence}
 use Rattle.vdcp_text.specs.Items.{item_text}
@@ -38,11 +40,15 @@ line_of_command Silence number = []
 abbrev pub command_lines : List Piece → List ℕ
 command_lines pieces = flat_map (λ p. line_of_command p.captured p.line) pieces
 
--- each exchange that the pieces show is found, with the line of its command and the ruling of the rule book
-pub record AreFindings (mode : Mode) (items : List Item) (pieces : List Piece) (findings : List Finding) : Type 0 where
-  pub lines : map (λ f. f.line) findings ≡ command_lines pieces
-  pub log : map (λ f. f.exchange) findings ≡ exchanges_in mode (captured_of pieces)
-  pub rulings : AreRulings mode items (exchanges_in mode (captured_of pieces)) (map (λ f. f.ruling) findings)
+abbrev pub exchanges_of : List Finding → List Exchange
+exchanges_of findings = map (λ f. f.exchange) findings
+
+-- each finding has the ruling of the rule book on its exchange, which those before it precede
+pub data AreRuled (mode : Mode) (items : List Item) : List Finding → Type 0 where
+  no_finding : AreRuled mode items []
+  one_more_finding : (findings : List Finding) (f : Finding) → AreRuled mode items findings
+      → IsRuling mode items (exchanges_of findings) f.exchange f.ruling
+      → AreRuled mode items (findings ++ f ∷ [])
 
 abbrev pub is_forbidden : Finding → Bool
 is_forbidden f = not f.ruling.is_allowed
@@ -52,6 +58,14 @@ forbidden_in findings = count_by is_forbidden findings
 
 abbrev pub reported_in : List Finding → ℕ
 reported_in findings = count_by (λ f. f.ruling.settles) findings
+
+-- each exchange that the pieces show is found, with the line of its command and the ruling of the rule book; and as many
+-- events are reported as the exchanges settle
+pub record AreFindings (mode : Mode) (items : List Item) (pieces : List Piece) (findings : List Finding) : Type 0 where
+  pub lines : map (λ f. f.line) findings ≡ command_lines pieces
+  pub log : exchanges_of findings ≡ exchanges_in mode (captured_of pieces)
+  pub ruled : AreRuled mode items findings
+  pub count : reported_in findings ≡ settled mode (exchanges_of findings)
 
 -- ---- its text
 

@@ -1,5 +1,6 @@
 -- What the clauses of this crate cite.
 pub mod Findings
+pub mod Found
 pub mod Judged
 pub mod Rows
 pub mod Sim

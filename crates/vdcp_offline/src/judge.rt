@@ -4,29 +4,28 @@
 //! stand, and which events the exchanges show to be aired. Of the capture it takes nothing but its bytes, so it judges
 //! any automation. It reports a failure to standard error in one line, and gives the exit status.
 //!
-//! Files, in reading order: `settings`, `capture`, `findings`, `printing`.
+//! The capture is read line by line, and only what is told of it is kept.
+//!
+//! Files, in reading order: `settings`, `capture`, `findings`, `told`.
 ghost use Rattle.std.specs.Io.KnownBytes.{Appends, Keeps};
 ghost use Rattle.std.specs.Prelude.{◌≡◌, ◌≢◌, ◌⊎◌, IfErr, IfOk, OnOk};
 ghost use Rattle.vdcp_offline.specs.Judged.{AreWhole, IsJudged, IsToldOnly};
 ghost use Rattle.vdcp_files.specs.Files.{file};
-ghost use Rattle.vdcp_files.specs.Mode.{mode_of};
 ghost use Rattle.vdcp_files.specs.Subcommand.{Counted, IsSubcommand};
 ghost use Rattle.vdcp_text.specs.Failure.{status_of};
 ghost use Rattle.vdcp_text.specs.declared.failure.Failure.TheVariants as failures;
 
 use crate::judge::capture::read_capture;
-use crate::judge::findings::{find, has_message};
-use crate::judge::printing::{forbidden_in, report};
+use crate::judge::findings::Found;
 use std::alloc::Global;
 use std::io;
-use vdcp_auto::Mode;
 use vdcp_files::NamedFile;
 use vdcp_text::Failure;
 
 mod capture;
 mod findings;
-mod printing;
 mod settings;
+mod told;
 
 pub use settings::JudgeSettings;
 
@@ -76,26 +75,17 @@ fn judge<'a, L: io::Read + Drop, C: io::Read + Drop, W: io::Write>(
 {
     let events = list.read_list(alloc, settings.rate)?;
     let name = capture.name;
-    let pieces = read_capture(alloc, capture, settings.unit)?;
-    if !has_message(pieces.as_slice()) {
+    let mut found = Found::new(alloc, &events, settings);
+    read_capture(alloc, capture, settings.unit, &mut found)?;
+    if !found.has_message {
         return Err(Failure::Empty(name));
     }
-    let findings = find(alloc, &events, mode_of(settings), pieces.as_slice())?;
-    let text = report(alloc, settings.rate, &events, findings.as_slice())?;
+    let told = found.end()?;
+    let forbidden = told.forbidden;
+    let text = told.text()?;
     match write(text.as_bytes(), out) {
-        Ok(()) => Ok(forbidden_in(findings.as_slice())),
+        Ok(()) => Ok(forbidden),
         Err(_) => Err(Failure::Writer),
-    }
-}
-
-/// The mode of the automation.
-fn mode_of(settings: JudgeSettings) -> Mode
-    ensures { result ≡ mode_of settings.confirming }
-{
-    if settings.confirming {
-        Mode::Confirming
-    } else {
-        Mode::Plain
     }
 }
 

@@ -1,12 +1,18 @@
 //! How a capture is read.
-ghost use Rattle.std.specs.Prelude.{◌≡◌, ◌++◌, ◌∷◌, ℕ, List, IfErr, IfOk, IfSome, OnOk};
-ghost use Rattle.vdcp_offline.specs.Rows.{IsCapture, IsCaptureOf, Says, SaysMore, numbered, row_text, said_by, way_text};
+ghost use Rattle.std.specs.Prelude.{◌≡◌, ◌++◌, ◌∷◌, [], ℕ, List, IfErr, IfOk, IfSome, OnOk};
+ghost use Rattle.vdcp_offline.specs.Found.{HasFound};
+ghost use Rattle.vdcp_offline.specs.Rows.{IsCaptureOf, Says, numbered, row_text, said_by, way_text};
 ghost use Rattle.vdcp_offline.specs.Judged.{IsCaptureFailure};
+ghost use Rattle.vdcp_offline.specs.declared.judge.capture.Piece.{Piece};
+ghost use Rattle.vdcp_offline.specs.declared.judge.settings.JudgeSettings.{JudgeSettings};
+ghost use Rattle.vdcp_value.specs.declared.part.Item.{Item};
 
+use crate::judge::findings::Found;
 use hex::FromHexError;
 use std::alloc::{AllocError, Global};
-use std::{io, str};
-use vdcp_files::NamedFile;
+use std::io;
+use vdcp_auto::Source;
+use vdcp_files::{NamedFile, lines_in, next_line};
 use vdcp_judge::{Captured, Way, captured_in};
 use vdcp_text::{Failure, ScriptLineFault};
 
@@ -17,54 +23,30 @@ pub struct Piece {
     pub captured: Captured,
 }
 
-/// Reads a capture.
-pub fn read_capture<'a, R: io::Read + Drop>(
+/// Reads a capture, line by line, and gives what each says to what is found.
+pub fn read_capture<'a, R: io::Read + Drop, S: Source>(
     alloc: Global,
     capture: NamedFile<'a, R>,
     unit: u8,
-) -> Result<Vec<Piece>, Failure<'a>>
-    ensures pieces { IfOk result (λ pieces. IsCaptureOf unit (R.remaining capture.entry.reader) pieces.items) }
+    found: &mut Found<'_, S>,
+) -> Result<(), Failure<'a>>
+    ensures found { (settings : JudgeSettings) (items : List Item) → HasFound S.items settings items [] found.old →
+        OnOk result ((pieces : List Piece) × IsCaptureOf unit (R.remaining capture.entry.reader) pieces
+        × HasFound S.items settings items pieces found.new) }
     ensures refused { IfErr result (IsCaptureFailure capture.entry.name) }
 {
-    let name = capture.name;
-    let bytes = capture.read_lines(alloc)?;
-    let Ok(text) = str::from_utf8(bytes.as_slice()) else {
-        return Err(Failure::NotText(name));
+    let NamedFile { name, reader } = capture;
+    let Ok(mut lines) = lines_in(alloc, reader) else {
+        return Err(Failure::Memory);
     };
-    read_lines(alloc, name, text, unit)
-}
-
-/// Reads the lines of the capture of this name.
-fn read_lines<'a>(
-    alloc: Global,
-    name: &'a str,
-    text: &str,
-    unit: u8,
-) -> Result<Vec<Piece>, Failure<'a>>
-    ensures pieces { IfOk result (λ pieces. IsCapture unit text.now pieces.items) }
-    ensures refused { IfErr result (IsCaptureFailure name.entry) }
-{
-    let mut pieces = Vec::new(alloc);
-    'lines: for (before, line) in text.lines().enumerate() {
-        read_line(alloc, unit, name, before + 1, line, &mut pieces)?;
+    'lines: for before in 0..usize::MAX {
+        let Some(text) = next_line(&mut lines, name, before + 1)? else {
+            return Ok(());
+        };
+        let said = said_in(alloc, unit, name, before + 1, text.as_str())?;
+        add(before + 1, said.as_slice(), found)?;
     }
-    Ok(pieces)
-}
-
-/// Adds what a line says, with its number.
-fn read_line<'a>(
-    alloc: Global,
-    unit: u8,
-    name: &'a str,
-    number: usize,
-    text: &str,
-    pieces: &mut Vec<Piece>,
-) -> Result<(), Failure<'a>>
-    ensures says { OnOk result (SaysMore unit number text.now pieces.old.items pieces.new.items) }
-    ensures refused { IfErr result (IsCaptureFailure name.entry) }
-{
-    let said = said_in(alloc, unit, name, number, text)?;
-    Ok(add(number, said.as_slice(), pieces)?)
+    Err(Failure::Read(name))
 }
 
 /// What the line of this number says.
@@ -132,12 +114,18 @@ fn said_by(alloc: Global, unit: u8, way: Way, burst: &[u8]) -> Result<Vec<Captur
     captured_in(alloc, unit, way, burst)
 }
 
-/// Adds what the line of this number says.
-fn add(number: usize, said: &[Captured], pieces: &mut Vec<Piece>) -> Result<(), AllocError>
-    ensures { OnOk result (pieces.new.items ≡ pieces.old.items ++ numbered number said.now) }
+/// Gives what the line of this number says to what is found.
+fn add<S: Source>(
+    number: usize,
+    said: &[Captured],
+    found: &mut Found<'_, S>,
+) -> Result<(), AllocError>
+    ensures { (settings : JudgeSettings) (items : List Item) (pieces : List Piece)
+        → HasFound S.items settings items pieces found.old →
+        OnOk result (HasFound S.items settings items (pieces ++ numbered number said.now) found.new) }
 {
     for k in 0..said.len() {
-        pieces.push(Piece {
+        found.add(&Piece {
             line: number,
             captured: said[k],
         })?;

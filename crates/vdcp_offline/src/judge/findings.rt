@@ -1,11 +1,20 @@
 //! The exchanges of a capture, each with its line and its ruling.
-ghost use Rattle.std.specs.Prelude.{◌≡◌, List, IfOk, length, map};
-ghost use Rattle.vdcp_offline.specs.Findings.{AreFindings, captured_of, command_lines, has_message, is_message};
+ghost use Rattle.std.specs.Prelude.{◌≡◌, ◌++◌, ◌∷◌, List, [], IfOk, OnOk};
+ghost use Rattle.vdcp_files.specs.Mode.{mode_of};
+ghost use Rattle.vdcp_offline.specs.Findings.{AreFindings, is_message};
+ghost use Rattle.vdcp_offline.specs.Found.{HasFound, Tells, last_exchange, line_after};
+ghost use Rattle.vdcp_offline.specs.declared.judge.capture.Piece.{Piece};
+ghost use Rattle.vdcp_offline.specs.declared.judge.findings.Finding.{Finding};
+ghost use Rattle.vdcp_offline.specs.declared.judge.settings.JudgeSettings.{JudgeSettings};
+ghost use Rattle.vdcp_value.specs.declared.part.Item.{Item};
 
 use crate::judge::capture::Piece;
+use crate::judge::settings::JudgeSettings;
+use crate::judge::told::Told;
 use std::alloc::{AllocError, Global};
-use vdcp_auto::{Exchange, Mode, Source};
-use vdcp_judge::{Captured, Judge, Ruling, exchanges_in, rulings};
+use vdcp_auto::{Exchange, Source};
+use vdcp_judge::{Captured, Ruling, exchange_ended};
+use vdcp_words::Command;
 
 /// An exchange, with the line of its command, and what the rule book says of it where it stands.
 #[derive(Clone, Copy, Debug, PartialEq, Eq)]
@@ -15,33 +24,82 @@ pub struct Finding {
     pub ruling: Ruling,
 }
 
-/// What is found of the exchanges that the pieces show, of an automation in this mode that plays these events.
-#[tactic(auto, using(crate::proofs::JudgeLoops::each_command_has_its_line))]
-pub fn find<S: Source>(
-    alloc: Global,
-    events: &S,
-    mode: Mode,
-    pieces: &[Piece],
-) -> Result<Vec<Finding>, AllocError>
-    ensures { IfOk result (λ findings. AreFindings mode (S.items events.now) pieces.now findings.items) }
-{
-    let captured = captured_of(alloc, pieces)?;
-    let log = exchanges_in(alloc, mode, captured.as_slice())?;
-    let rulings = rulings(alloc, Judge::new(events, mode), log.as_slice())?;
-    let lines = command_lines(alloc, pieces)?;
-    join(alloc, lines.as_slice(), log.as_slice(), rulings.as_slice())
+/// What is found of a capture so far.
+#[derive(Drop)]
+pub struct Found<'e, S: Source> {
+    pub told: Told<'e, S>,
+    /// The command whose exchange goes on, and the line of the last command.
+    pub awaited: Option<Command>,
+    pub line: usize,
+    pub has_message: bool,
 }
 
-/// Whether a piece is a message.
-pub fn has_message(pieces: &[Piece]) -> bool
-    ensures { result ≡ has_message pieces.now }
-{
-    for k in 0..pieces.len() {
-        if is_message(&pieces[k].captured) {
-            return true;
+impl<'e, S: Source> Found<'e, S> {
+    /// Nothing is found yet, of an automation that plays these events.
+    pub fn new(alloc: Global, events: &'e S, settings: JudgeSettings) -> Self
+        ensures { HasFound S.items settings (S.items events.now) [] result }
+    {
+        Found {
+            told: Told::new(alloc, events, settings),
+            awaited: None,
+            line: 0,
+            has_message: false,
         }
     }
-    false
+
+    /// Takes the piece that comes next.
+    pub fn add(&mut self, piece: &Piece) -> Result<(), AllocError>
+        ensures { (settings : JudgeSettings) (items : List Item) (pieces : List Piece)
+            → HasFound S.items settings items pieces self.old →
+            OnOk result (HasFound S.items settings items (pieces ++ piece.now ∷ []) self.new) }
+    {
+        let mode = self.told.settings.mode();
+        let captured = piece.captured;
+        let ended = exchange_ended(mode, &mut self.awaited, &captured);
+        self.told.add_ended(self.line, ended)?;
+        self.line = line_after(self.line, piece);
+        self.has_message |= is_message(&captured);
+        Ok(())
+    }
+
+    /// What is told of the whole capture: what has heard nothing by its end hears nothing.
+    pub fn end(self) -> Result<Told<'e, S>, AllocError>
+        ensures { (settings : JudgeSettings) (items : List Item) (pieces : List Piece)
+            → HasFound S.items settings items pieces self.entry → IfOk result (λ told. (findings : List Finding)
+            × Tells S.items settings items findings told × AreFindings (mode_of settings.confirming) items pieces findings) }
+    {
+        let Found {
+            mut told,
+            awaited,
+            line,
+            ..
+        } = self;
+        told.add_ended(line, last_exchange(awaited))?;
+        Ok(told)
+    }
+}
+
+/// The exchange of the command that is awaited, which has heard nothing.
+fn last_exchange(awaited: Option<Command>) -> Option<Exchange>
+    ensures { result ≡ last_exchange awaited }
+{
+    match awaited {
+        Some(command) => Some(Exchange {
+            command,
+            heard: None,
+        }),
+        None => None,
+    }
+}
+
+/// The line of the last command, by a piece and the line before it.
+fn line_after(before: usize, piece: &Piece) -> usize
+    ensures { result ≡ line_after before piece.now }
+{
+    match piece.captured {
+        Captured::Sent(_) => piece.line,
+        Captured::Came(_) | Captured::Silence => before,
+    }
 }
 
 /// It is a message, and no silence.
@@ -49,52 +107,4 @@ fn is_message(captured: &Captured) -> bool
     ensures { result ≡ is_message captured.now }
 {
     matches!(captured, Captured::Sent(_) | Captured::Came(_))
-}
-
-/// What was captured, without the lines.
-fn captured_of(alloc: Global, pieces: &[Piece]) -> Result<Vec<Captured>, AllocError>
-    ensures { IfOk result (λ captured. captured.items ≡ captured_of pieces.now) }
-{
-    let mut captured = Vec::new(alloc);
-    for k in 0..pieces.len() {
-        captured.push(pieces[k].captured)?;
-    }
-    Ok(captured)
-}
-
-/// The lines of the commands.
-fn command_lines(alloc: Global, pieces: &[Piece]) -> Result<Vec<usize>, AllocError>
-    ensures { IfOk result (λ lines. lines.items ≡ command_lines pieces.now) }
-{
-    let mut lines = Vec::new(alloc);
-    for k in 0..pieces.len() {
-        if let Captured::Sent(_) = pieces[k].captured {
-            lines.push(pieces[k].line)?;
-        }
-    }
-    Ok(lines)
-}
-
-/// The findings that these are.
-fn join(
-    alloc: Global,
-    lines: &[usize],
-    log: &[Exchange],
-    rulings: &[Ruling],
-) -> Result<Vec<Finding>, AllocError>
-    requires of_lines { length lines.now ≡ length log.now }
-    requires of_rulings { length rulings.now ≡ length log.now }
-    ensures lines { IfOk result (λ findings. map (λ f. f.line) findings.items ≡ lines.now) }
-    ensures log { IfOk result (λ findings. map (λ f. f.exchange) findings.items ≡ log.now) }
-    ensures rulings { IfOk result (λ findings. map (λ f. f.ruling) findings.items ≡ rulings.now) }
-{
-    let mut findings = Vec::new(alloc);
-    for k in 0..log.len() {
-        findings.push(Finding {
-            line: lines[k],
-            exchange: log[k],
-            ruling: rulings[k],
-        })?;
-    }
-    Ok(findings)
 }
