@@ -1,7 +1,7 @@
 //! What a captured line has, and the exchanges that it shows.
 ghost use Rattle.std.specs.Option.{option_to_list};
-ghost use Rattle.std.specs.Prelude.{◌≡◌, ◌∷◌, ◌++◌, IfSome, List, Some};
-ghost use Rattle.vdcp_judge.specs.Captures.{exchanges_from, sent_in};
+ghost use Rattle.std.specs.Prelude.{◌≡◌, ◌∷◌, ◌++◌, List};
+ghost use Rattle.vdcp_judge.specs.Captures.{awaited_after, ended_at, exchanges_from};
 ghost use Rattle.vdcp_judge.specs.declared.capture.Captured.{Captured};
 
 use crate::meaning::is_end;
@@ -26,11 +26,15 @@ pub fn exchange_ended(
     awaited: &mut Option<Command>,
     next: &Captured,
 ) -> Option<Exchange>
-    ensures ended { (more : List Captured) → exchanges_from mode awaited.old (next.now ∷ more)
+    ensures ended { result ≡ ended_at mode awaited.old next.now }
+    ensures awaited { awaited.new ≡ awaited_after mode awaited.old next.now }
+    ensures more { (more : List Captured) → exchanges_from mode awaited.old (next.now ∷ more)
         ≡ option_to_list result ++ exchanges_from mode awaited.new more }
-    ensures sent { IfSome (sent_in next.now) (λ c. awaited.new ≡ Some c) }
 {
-    let sent = sent_in(next);
+    let sent = match next {
+        Captured::Sent(command) => Some(*command),
+        Captured::Came(_) | Captured::Silence => None,
+    };
     let Some(command) = *awaited else {
         *awaited = sent;
         return None;
@@ -42,14 +46,4 @@ pub fn exchange_ended(
     };
     *awaited = sent;
     Some(Exchange { command, heard })
-}
-
-/// The command that was sent, if one was.
-fn sent_in(captured: &Captured) -> Option<Command>
-    ensures { result ≡ sent_in captured.now }
-{
-    match captured {
-        Captured::Sent(command) => Some(*command),
-        Captured::Came(_) | Captured::Silence => None,
-    }
 }

@@ -14,13 +14,14 @@ returns g c = λ settings items pieces found.
     let call = c.exchange_ended-ended in
     let ends = subst (λ (s : JudgeSettings). Ends (mode_of s.confirming) old.awaited p.captured call.result call.new.awaited)
     found.tells.settings_are
-    (subst (λ m. Ends m old.awaited p.captured call.result call.new.awaited) c.mode-mode.ensures call.ensures.ended) in
+    (subst (λ m. Ends m old.awaited p.captured call.result call.new.awaited) c.mode-mode.ensures
+    (call.ensures.ended, call.ensures.awaited, call.ensures.more)) in
     record {
       findings = added.0;
       tells = added.2;
       shows = rw c.line_after-self.ensures
           (shows_more (mode_of settings.confirming) pieces p found.findings added.0 old.awaited call.new.awaited
-          call.result old.line found.shows ends call.ensures.sent added.1);
+          call.result old.line found.shows ends added.1);
       some_message = ap (λ b. old.has_message || b) c.is_message.ensures
           ∙ ap (λ b. b || is_message p.captured) found.some_message ∙ sym (message_more pieces p);
     }

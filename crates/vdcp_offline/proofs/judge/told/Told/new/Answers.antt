@@ -1,4 +1,4 @@
-use Rattle.std.proofs.Common.{ap, arith, refl, ◌∙◌}
+use Rattle.std.proofs.Common.{ap, refl, ◌∙◌}
 use Rattle.vdcp_offline.specs.Findings.{no_finding}
 use Rattle.vdcp_offline.proofs.judge.told.Told.new.Goals as goal
 
@@ -13,7 +13,6 @@ returns g c = record {
   count = refl;
   exchanges = refl;
   forbidden = refl;
-  few = omega arith;
   forbidden_text_is = c.new-2.ensures.bytes;
   reported_text_is = c.new-3.ensures.bytes;
 }
