@@ -5,7 +5,7 @@ use Rattle.vdcp_value.specs.declared.part.Item.{Item}
 use Rattle.vdcp_auto.specs.declared.exchange.Exchange.{Exchange}
 use Rattle.vdcp_auto.specs.declared.phase.Mode.{Mode}
 use Rattle.vdcp_auto.specs.RuleBook.{May, MayPlay}
-use Rattle.vdcp_judge.specs.Judging.{Knows, CueStands, View, stands, is_done, mode_of}
+use Rattle.vdcp_judge.specs.Judging.{Knows, CueStands, View, stands, is_done}
 use Rattle.vdcp_judge.specs.Notes.{view_of}
 use Rattle.vdcp_judge.specs.declared.notes.Notes.{Notes}
 use Rattle.vdcp_words.specs.declared.command.Command.{Command}
@@ -20,9 +20,9 @@ lent_knows items source list log n same k = record {
   stopped = k.stopped;
   closed = k.closed;
   granted = k.granted;
-  cue_stands = subst (λ (l : List Item). IsTrue (stands n.last_cue) ↔ CueStands (mode_of n.confirming) l log) (sym same)
+  cue_stands = subst (λ (l : List Item). IsTrue (stands n.last_cue) ↔ CueStands n.mode l log) (sym same)
       k.cue_stands;
-  may_play = subst (λ (l : List Item). IsTrue (is_done n.last_cue) ↔ MayPlay (mode_of n.confirming) l log) (sym same)
+  may_play = subst (λ (l : List Item). IsTrue (is_done n.last_cue) ↔ MayPlay n.mode l log) (sym same)
       k.may_play;
 }
 
@@ -35,9 +35,9 @@ knows_lent items source list log n same k = record {
   stopped = k.stopped;
   closed = k.closed;
   granted = k.granted;
-  cue_stands = subst (λ (l : List Item). IsTrue (stands n.last_cue) ↔ CueStands (mode_of n.confirming) l log) same
+  cue_stands = subst (λ (l : List Item). IsTrue (stands n.last_cue) ↔ CueStands n.mode l log) same
       k.cue_stands;
-  may_play = subst (λ (l : List Item). IsTrue (is_done n.last_cue) ↔ MayPlay (mode_of n.confirming) l log) same
+  may_play = subst (λ (l : List Item). IsTrue (is_done n.last_cue) ↔ MayPlay n.mode l log) same
       k.may_play;
 }
 
@@ -55,10 +55,10 @@ no_play mode list = ((λ e. cc e), λ m. absurd (no_join m.before m.cue (m.betwe
 pub ruled : {S : Type 0} (items : S → List Item) (source : S) (list : List Item) (log : List Exchange) (n : Notes)
     (v : View S) (ok : Bool) (c : Command) → items source ≡ list → v ≡ view_of source n
     → (Knows items log v → (IsTrue ok ↔ May v.mode (items v.source) log c)) → KnowsOf list log n
-    → (IsTrue ok ↔ May (mode_of n.confirming) list log c)
+    → (IsTrue ok ↔ May n.mode list log c)
 ruled {S} items source list log n v ok c same is f k =
     let at = subst (λ (w : View S). Knows items log w → (IsTrue ok ↔ May w.mode (items w.source) log c)) is f in
-    subst (λ (l : List Item). IsTrue ok ↔ May (mode_of n.confirming) l log c) same
+    subst (λ (l : List Item). IsTrue ok ↔ May n.mode l log c) same
     (at (lent_knows items source list log n same k))
 
 pub added : {S : Type 0} (items : S → List Item) (source : S) (list : List Item) (n m : Notes) (e : Exchange)

@@ -2,7 +2,7 @@
 use Rattle.std.specs.Prelude.{ℕ, ◌≡◌, ◌<◌, ◌+◌, ◌^◌, List, [], ◌∷◌, ◌++◌, length}
 use Rattle.vdcp_value.specs.declared.part.Item.{Item}
 use Rattle.vdcp_auto.specs.declared.exchange.Exchange.{Exchange}
-use Rattle.vdcp_judge.specs.Judging.{Knows, mode_of}
+use Rattle.vdcp_judge.specs.Judging.{Knows}
 use Rattle.vdcp_judge.specs.Notes.{view_of}
 use Rattle.vdcp_judge.specs.declared.judge.LastCue.{LastCue}
 use Rattle.vdcp_judge.specs.declared.judge.LastCue.TheVariants.{Void, Stands, Done}
@@ -17,7 +17,7 @@ cue_code Stands = 1
 cue_code Done = 2
 
 pub record IsNotes (j : vdcp_judging) (n : Notes) : Type 0 where
-  pub mode : j.mode ≡ mode_code (mode_of n.confirming)
+  pub mode : j.mode ≡ mode_code n.mode
   pub settled : j.settled ≡ n.settled
   pub open_play : j.has_open_play ≡ flag_code n.has_open_play
   pub airing : j.may_have_aired ≡ flag_code n.may_have_aired
@@ -32,5 +32,5 @@ KnowsOf list log n = Knows (λ (l : List Item). l) log (view_of list n)
 
 -- whatever exchanges it was given, it was given this one more
 pub record IsAdded (list : List Item) (n : Notes) (e : Exchange) (m : Notes) : Type 0 where
-  pub mode : mode_of m.confirming ≡ mode_of n.confirming
+  pub mode : m.mode ≡ n.mode
   pub knows : (log : List Exchange) → length log + 1 < 2 ^ 64 → KnowsOf list log n → KnowsOf list (log ++ e ∷ []) m

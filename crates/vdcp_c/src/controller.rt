@@ -147,15 +147,11 @@ fn snapshot_of(c: &vdcp_controller, count: usize) -> Option<Snapshot>
     ensures can { IfSome result (CanStand count) }
     ensures accepts { (s : Snapshot) → StandsAs c.now s → CanStand count s → IsSome result }
 {
-    if c.mode < 1 || c.mode > 2 || c.take > 1 || c.stop > 1 {
+    if c.take > 1 || c.stop > 1 {
         return None;
     }
     let snapshot = Snapshot {
-        mode: if c.mode == 1 {
-            Mode::Plain
-        } else {
-            Mode::Confirming
-        },
+        mode: mode_in(c.mode)?,
         port: c.port,
         limit: c.limit,
         standing: standing_of(c)?,
@@ -180,10 +176,7 @@ fn put_snapshot(s: &Snapshot, c: &mut vdcp_controller)
         Standing::Awaiting(phase) => (2, code_of_phase(phase)),
         Standing::Ended(outcome) => (3, code_of_outcome(outcome)),
     };
-    c.mode = match s.mode {
-        Mode::Plain => 1,
-        Mode::Confirming => 2,
-    };
+    c.mode = code_of_mode(s.mode);
     c.port = s.port;
     c.standing = standing;
     c.phase = phase;
@@ -237,7 +230,7 @@ pub extern "C" fn vdcp_controller_new(
     OK
 }
 
-fn mode_in(code: u8) -> Option<Mode>
+pub fn mode_in(code: u8) -> Option<Mode>
     ensures some { IfSome result (λ mode. mode_code mode ≡ code) }
     ensures accepts { 1 ≤ code → code ≤ 2 → IsSome result }
 {
@@ -245,6 +238,15 @@ fn mode_in(code: u8) -> Option<Mode>
         1 => Some(Mode::Plain),
         2 => Some(Mode::Confirming),
         _ => None,
+    }
+}
+
+pub fn code_of_mode(mode: Mode) -> u8
+    ensures { result ≡ mode_code mode }
+{
+    match mode {
+        Mode::Plain => 1,
+        Mode::Confirming => 2,
     }
 }
 

@@ -6,7 +6,6 @@ ghost use Rattle.vdcp_auto.specs.declared.exchange.Exchange.{Exchange};
 ghost use Rattle.vdcp_frame.specs.Message.{Content};
 ghost use Rattle.vdcp_value.specs.declared.part.Item.{Item};
 ghost use Rattle.vdcp_words.specs.declared.command.Command.{Command};
-ghost use Rattle.vdcp_judge.specs.Judging.{mode_of};
 ghost use Rattle.vdcp_judge.specs.declared.notes.Notes.{Notes};
 ghost use Rattle.vdcp_c.specs.Commands.{IsCommand};
 ghost use Rattle.vdcp_c.specs.Controllers.{mode_code};
@@ -16,10 +15,11 @@ ghost use Rattle.vdcp_c.specs.Told.{IsContent, bad_command, bad_message, bad_sta
 
 use crate::code::{BAD_COMMAND, BAD_MESSAGE, BAD_STATE, BAD_VALUE, OK};
 use crate::command::{command_in, vdcp_command};
+use crate::controller::{code_of_mode, mode_in};
 use crate::item::vdcp_item;
 use crate::list::LentList;
 use crate::message::{message_in, vdcp_message};
-use vdcp_auto::{Exchange, Heard};
+use vdcp_auto::{Exchange, Heard, Mode};
 use vdcp_judge::{Judge, LastCue, Notes};
 use vdcp_words::Command;
 
@@ -52,11 +52,11 @@ fn notes_in(j: &vdcp_judging) -> Option<Notes>
         2 => LastCue::Done,
         _ => return None,
     };
-    if j.mode < 1 || j.mode > 2 || !are_flags(j) {
+    if !are_flags(j) {
         return None;
     }
     Some(Notes {
-        confirming: j.mode == 2,
+        mode: mode_in(j.mode)?,
         settled: j.settled as usize,
         has_open_play: j.has_open_play == 1,
         may_have_aired: j.may_have_aired == 1,
@@ -83,7 +83,7 @@ fn are_flags(j: &vdcp_judging) -> bool
 fn put(notes: &Notes, j: &mut vdcp_judging)
     ensures { IsNotes j.new notes.now }
 {
-    j.mode = if notes.confirming { 2 } else { 1 };
+    j.mode = code_of_mode(notes.mode);
     j.settled = notes.settled as u64;
     j.has_open_play = u8::from(notes.has_open_play);
     j.may_have_aired = u8::from(notes.may_have_aired);
@@ -100,36 +100,25 @@ fn put(notes: &Notes, j: &mut vdcp_judging)
 /// A new judge, which has no exchange yet.
 #[unsafe(no_mangle)]
 pub extern "C" fn vdcp_judging_new(j: &mut vdcp_judging, mode: u8) -> i32
-    ensures new { result ≡ pos 0 → (n : Notes) × IsNotes j.new n × (mode_code (mode_of n.confirming) ≡ mode)
+    ensures new { result ≡ pos 0 → (n : Notes) × IsNotes j.new n × (mode_code n.mode ≡ mode)
         × ((rows : List vdcp_item) → KnowsOf (items_of rows) [] n) }
     ensures accepts { 1 ≤ mode → mode ≤ 2 → result ≡ pos 0 }
     ensures refused { result ≢ pos 0 → (result ≡ bad_value) × (j.new ≡ j.old) }
 {
-    let Some(confirming) = confirms(mode) else {
+    let Some(mode) = mode_in(mode) else {
         return BAD_VALUE;
     };
-    put(&new_notes(confirming), j);
+    put(&new_notes(mode), j);
     OK
 }
 
-fn confirms(mode: u8) -> Option<bool>
-    ensures some { IfSome result (λ confirming. mode_code (mode_of confirming) ≡ mode) }
-    ensures accepts { 1 ≤ mode → mode ≤ 2 → IsSome result }
-{
-    match mode {
-        1 => Some(false),
-        2 => Some(true),
-        _ => None,
-    }
-}
-
 // What a new judge knows.
-fn new_notes(confirming: bool) -> Notes
-    ensures mode { result.confirming ≡ confirming }
+fn new_notes(mode: Mode) -> Notes
+    ensures mode { result.mode ≡ mode }
     ensures knows { (list : List Item) → KnowsOf list [] result }
 {
     Notes {
-        confirming,
+        mode,
         settled: 0,
         has_open_play: false,
         may_have_aired: false,
@@ -150,7 +139,7 @@ pub extern "C" fn vdcp_judging_allows(
 ) -> i32
     ensures ruled { result ≡ pos 0 → (n : Notes) × (c : Command) × IsNotes j.now n × IsCommand command.now c
         × ((log : List Exchange) → KnowsOf (items_of list.now) log n →
-        ((allowed.new ≡ 1) ↔ May (mode_of n.confirming) (items_of list.now) log c)) }
+        ((allowed.new ≡ 1) ↔ May n.mode (items_of list.now) log c)) }
     ensures flag { result ≡ pos 0 → allowed.new ≤ 1 }
     ensures accepts { (n : Notes) (c : Command) → IsNotes j.now n → IsCommand command.now c → result ≡ pos 0 }
     ensures refused { result ≢ pos 0 → allowed.new ≡ allowed.old }
@@ -167,7 +156,7 @@ pub extern "C" fn vdcp_judging_allows(
 
 fn allows(notes: &Notes, list: &[vdcp_item], c: &Command) -> bool
     ensures { (log : List Exchange) → KnowsOf (items_of list.now) log notes.now →
-        (IsTrue result ↔ May (mode_of notes.now.confirming) (items_of list.now) log c.now) }
+        (IsTrue result ↔ May notes.now.mode (items_of list.now) log c.now) }
 {
     Judge::of_notes(LentList::of(list), notes).allows(c)
 }

@@ -1,5 +1,6 @@
 pub mod Files
 pub mod Lines
 pub mod Check
+pub mod Subcommand
 pub mod Vectors
 pub mod Mode

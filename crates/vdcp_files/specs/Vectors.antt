@@ -1,11 +1,12 @@
 -- What the rows of a vector file are found to be, and what is printed of them.
 use Rattle.std.specs.Borrow.{Bor}
-use Rattle.std.specs.Io.KnownBytes.{Appends}
+use Rattle.std.specs.Io.KnownBytes.{Appends, Keeps}
 use Rattle.std.specs.Cmp.Lexicographic.{pointwise}
 use Rattle.std.specs.List.{flat_map}
 use Rattle.std.specs.Prelude.{ℕ, suc, ◌+◌, ◌<◌, ◌==◌, ◌≤◌, ◌≡◌, ◌⊎◌, nat_eq, string_bytes, if◌then◌else◌, decimal, Option, List, [], ◌∷◌, ◌++◌, codes, length, map, Result, Ok, Err}
 use Rattle.hex.specs.Hex.{decode_of}
 use Rattle.hex.specs.declared.error.FromHexError.{FromHexError}
+use Rattle.vdcp_text.specs.Failure.{failure_line}
 use Rattle.vdcp_text.specs.Text.{end_text, line, message_text}
 use Rattle.vdcp_text.specs.declared.failure.Failure.{Failure}
 use Rattle.vdcp_text.specs.declared.failure.Failure.TheVariants.{Memory, Read, Row as RefusedRow}
@@ -127,3 +128,10 @@ abbrev pub IsUntested : Bor (List ℕ) → Option (List ℕ) → Failure → Typ
 IsUntested name file failure =
     (failure ≡ Memory) ⊎ (failure ≡ Read name) ⊎ ((row : ℕ) × (failure ≡ too_long name row))
     ⊎ ((failure ≡ too_many name) × HasTooMany file)
+
+-- a file of this name is refused, since a row is too long or there are too many: one writer gained the line that
+-- reports it, and the other nothing
+abbrev pub RefusesRows : Bor (List ℕ) → Option (List ℕ) → (out out' err err' : Option (List ℕ)) → Type 0
+RefusesRows name file out out' err err' =
+    ((row : ℕ) × Keeps out out' × Appends err err' (failure_line (too_long name row)))
+    ⊎ (HasTooMany file × Keeps out out' × Appends err err' (failure_line (too_many name)))

@@ -4,6 +4,7 @@ ghost use Rattle.std.specs.Prelude.{◌≡◌, ◌≢◌, ◌⊎◌, ◌<◌, If
 ghost use Rattle.vdcp_files.specs.Check.{AreWhole, IsChecked, IsRefused, IsUnchecked, are_playable, check_text, event_text, events_text, fault_of};
 ghost use Rattle.vdcp_text.specs.Failure.{status_of};
 ghost use Rattle.vdcp_files.specs.Files.{file};
+ghost use Rattle.vdcp_files.specs.Subcommand.{IsSubcommand};
 
 use crate::named_file::NamedFile;
 use arrayvec::ArrayString;
@@ -30,23 +31,11 @@ pub fn do_check<L: io::Read + Drop, C: io::Read + Drop, W: io::Write, E: io::Wri
     out: &mut W,
     err: &mut E,
 ) -> u8
-    ensures playable { result ≡ 0 →
-        IsChecked rate (file list.entry.name (L.remaining list.entry.reader))
-        (file catalogue.entry.name (C.remaining catalogue.entry.reader))
-        (W.contents out.old) (W.contents out.new) true }
-    ensures untold { result ≡ 0 → Keeps (E.contents err.old) (E.contents err.new) }
     // The status is 1 for what isn't playable, and for a row that is refused.
-    ensures others { result ≡ 1 →
-        (IsChecked rate (file list.entry.name (L.remaining list.entry.reader))
-        (file catalogue.entry.name (C.remaining catalogue.entry.reader))
-        (W.contents out.old) (W.contents out.new) false × Keeps (E.contents err.old) (E.contents err.new))
-        ⊎ IsRefused rate (file list.entry.name (L.remaining list.entry.reader))
-        (file catalogue.entry.name (C.remaining catalogue.entry.reader))
-        (W.contents out.old) (W.contents out.new) (E.contents err.old) (E.contents err.new) }
-    ensures silent { Keeps (W.contents out.old) (W.contents out.new)
-        ⊎ AreWhole rate (file list.entry.name (L.remaining list.entry.reader))
-        (file catalogue.entry.name (C.remaining catalogue.entry.reader)) }
-    ensures statuses { (result < 2) ⊎ (result ≡ 3) }
+    ensures { let l = file list.entry.name (L.remaining list.entry.reader) in
+        let c = file catalogue.entry.name (C.remaining catalogue.entry.reader) in
+        IsSubcommand (λ playable old new. IsChecked rate l c old new playable) (IsRefused rate l c) (AreWhole rate l c)
+        (W.contents out.old) (W.contents out.new) (E.contents err.old) (E.contents err.new) result }
 {
     match check(alloc, list, catalogue, rate, out) {
         Ok(playable) => status_for(playable),

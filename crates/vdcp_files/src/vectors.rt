@@ -5,7 +5,8 @@ ghost use Rattle.std.specs.Io.KnownBytes.{Appends, Keeps};
 ghost use Rattle.std.specs.Prelude.{◌≡◌, ◌⊎◌, ◌<◌, ◌≤◌, ℕ, ◌≢◌, ◌++◌, ◌∷◌, [], IfErr, IfNone, IfOk, IfSome, List, OnOk, Option, codes, length, string_bytes, true};
 ghost use Rattle.vdcp_text.specs.Failure.{failure_line};
 ghost use Rattle.vdcp_text.specs.Text.{message_text};
-ghost use Rattle.vdcp_files.specs.Vectors.{AreTested, Finding, HasTooMany, IsTally, IsTallyOf, IsUntested, bad_count, finding_of, finding_of_burst, finding_of_row, finding_text, joined_reading, joined_text, too_long, too_many, vectors_text};
+ghost use Rattle.vdcp_files.specs.Subcommand.{Counted, IsSubcommand};
+ghost use Rattle.vdcp_files.specs.Vectors.{AreTested, Finding, HasTooMany, IsTally, IsTallyOf, IsUntested, RefusesRows, bad_count, finding_of, finding_of_burst, finding_of_row, finding_text, joined_reading, joined_text, too_long, too_many, vectors_text};
 ghost use Rattle.vdcp_frame.specs.Burst.{end_of, messages_of};
 ghost use Rattle.vdcp_frame.specs.Message.{content_of};
 ghost use Rattle.vdcp_frame.specs.Walk.{end_seen};
@@ -39,20 +40,11 @@ pub fn do_vectors<R: io::Read + Drop, W: io::Write, E: io::Write>(
     out: &mut W,
     err: &mut E,
 ) -> u8
-    ensures right { result ≡ 0 → AreTested (R.remaining file.entry.reader) (W.contents out.old) (W.contents out.new) 0 }
-    ensures untold { result ≡ 0 → Keeps (E.contents err.old) (E.contents err.new) }
     // The status is 1 if a row is bad, and for a file of too many rows or of one that is too long.
-    ensures bad { result ≡ 1 →
-        (Keeps (E.contents err.old) (E.contents err.new)
-        × (bad : ℕ) × (0 < bad)
-        × AreTested (R.remaining file.entry.reader) (W.contents out.old) (W.contents out.new) bad)
-        ⊎ ((row : ℕ) × Keeps (W.contents out.old) (W.contents out.new)
-        × Appends (E.contents err.old) (E.contents err.new) (failure_line (too_long file.entry.name row)))
-        ⊎ (HasTooMany (R.remaining file.entry.reader) × Keeps (W.contents out.old) (W.contents out.new)
-        × Appends (E.contents err.old) (E.contents err.new) (failure_line (too_many file.entry.name))) }
-    ensures silent { Keeps (W.contents out.old) (W.contents out.new)
-        ⊎ IfSome (R.remaining file.entry.reader) (λ bytes. length (rows_of bytes) ≤ most_rows) }
-    ensures statuses { (result < 2) ⊎ (result ≡ 3) }
+    ensures { let bytes = R.remaining file.entry.reader in
+        IsSubcommand (λ right old new. Counted (AreTested bytes old new) right) (RefusesRows file.entry.name bytes)
+        (IfSome bytes (λ known. length (rows_of known) ≤ most_rows))
+        (W.contents out.old) (W.contents out.new) (E.contents err.old) (E.contents err.new) result }
 {
     match vectors(alloc, file, out) {
         Ok(0) => 0,

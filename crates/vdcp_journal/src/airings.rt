@@ -94,11 +94,7 @@ fn judge_of<S: Source>(controller: &Controller<S>) -> Judge<&S>
     ensures mode { result.mode ≡ controller.now.mode }
     ensures knows { Knows (λ source. S.items source.now) [] result }
 {
-    if controller.is_confirming() {
-        Judge::confirming(controller.source())
-    } else {
-        Judge::new(controller.source())
-    }
+    Judge::new(controller.source(), controller.snapshot().mode)
 }
 
 /// Gives a judge the exchange that a note ends, if it ends one, and notes which command is open.

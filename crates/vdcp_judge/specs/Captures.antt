@@ -56,13 +56,23 @@ exchanges_in mode (Sent c ∷ more) = record { command = c; heard = heard_for mo
 exchanges_in mode (Came h ∷ more) = exchanges_in mode more
 exchanges_in mode (Silence ∷ more) = exchanges_in mode more
 
-abbrev pub sent_in : Captured → Option Command
-sent_in (Sent c) = Some c
-sent_in (Came h) = None
-sent_in Silence = None
-
 -- the exchanges from here on, the first of which is that of a command that is awaited
 abbrev pub exchanges_from : Mode → Option Command → List Captured → List Exchange
 exchanges_from mode None captured = exchanges_in mode captured
 exchanges_from mode (Some c) captured =
     record { command = c; heard = heard_for mode c captured } ∷ exchanges_in mode captured
+
+-- the command that is awaited after this
+abbrev pub awaited_after : Mode → Option Command → Captured → Option Command
+awaited_after mode awaited (Sent c) = Some c
+awaited_after mode awaited Silence = None
+awaited_after mode None (Came h) = None
+awaited_after mode (Some c) (Came h) = if is_end mode c (Some h) then None else Some c
+
+-- the exchange that this ends, if it ends one
+abbrev pub ended_at : Mode → Option Command → Captured → Option Exchange
+ended_at mode None captured = None
+ended_at mode (Some c) (Sent next) = Some (record { command = c; heard = None })
+ended_at mode (Some c) Silence = Some (record { command = c; heard = None })
+ended_at mode (Some c) (Came h) =
+    if is_end mode c (Some h) then Some (record { command = c; heard = Some h }) else None

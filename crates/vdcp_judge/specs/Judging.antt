@@ -4,7 +4,6 @@ use Rattle.std.specs.List.{list_any}
 use Rattle.vdcp_value.specs.declared.part.Item.{Item}
 use Rattle.vdcp_auto.specs.declared.exchange.Exchange.{Exchange}
 use Rattle.vdcp_auto.specs.declared.phase.Mode.{Mode}
-use Rattle.vdcp_auto.specs.declared.phase.Mode.TheVariants.{Plain, Confirming}
 use Rattle.vdcp_auto.specs.Log.{is_cue, is_stop, is_close, is_grant}
 use Rattle.vdcp_auto.specs.RuleBook.{CuesItemAt, IsTaken, MayPlay}
 use Rattle.vdcp_auto.specs.Settled.{has_open_play, may_have_aired, settled}
@@ -22,10 +21,6 @@ pub record View (S : Type 0) : Type 0 where
   pub closed : Bool
   pub granted : Bool
   pub last_cue : LastCue
-
-abbrev pub mode_of : Bool → Mode
-mode_of true = Confirming
-mode_of false = Plain
 
 -- the last cue that was sent is the next item's, and it was taken; since then nothing has settled
 pub record CueStands (mode : Mode) (list : List Item) (log : List Exchange) : Type 0 where

@@ -1,13 +1,13 @@
 -- A judge as plain data.
 use Rattle.vdcp_judge.specs.declared.notes.Notes.{Notes}
-use Rattle.vdcp_judge.specs.Judging.{View, mode_of}
+use Rattle.vdcp_judge.specs.Judging.{View}
 
 -- the judge of a source that knows this
 abbrev pub view_of : {S : Type 0} → S → Notes → View S
 view_of source notes =
     record {
       source = source;
-      mode = mode_of notes.confirming;
+      mode = notes.mode;
       settled = notes.settled;
       has_open_play = notes.has_open_play;
       may_have_aired = notes.may_have_aired;

@@ -1,12 +1,11 @@
 //! What a captured line has, and the exchanges that it shows.
 ghost use Rattle.std.specs.Option.{option_to_list};
-ghost use Rattle.std.specs.Prelude.{◌≡◌, ◌∷◌, ◌++◌, IfSome, List, Some};
-ghost use Rattle.vdcp_judge.specs.Captures.{exchanges_from, sent_in};
-ghost use Rattle.vdcp_judge.specs.Judging.{mode_of};
+ghost use Rattle.std.specs.Prelude.{◌≡◌, ◌∷◌, ◌++◌, List};
+ghost use Rattle.vdcp_judge.specs.Captures.{awaited_after, ended_at, exchanges_from};
 ghost use Rattle.vdcp_judge.specs.declared.capture.Captured.{Captured};
 
 use crate::meaning::is_end;
-use vdcp_auto::{Exchange, Heard};
+use vdcp_auto::{Exchange, Heard, Mode};
 use vdcp_words::Command;
 
 /// What a captured line has, in the order of time.
@@ -20,37 +19,31 @@ pub enum Captured {
     Silence,
 }
 
-/// The exchange that ends with what was captured next, if one does, of an automation in plain mode or of a confirming one.
+/// The exchange that ends with what was captured next, if one does, of an automation in this mode.
 /// `awaited` is the command whose exchange goes on, before and after; at the end of a capture that has heard nothing.
 pub fn exchange_ended(
-    confirming: bool,
+    mode: Mode,
     awaited: &mut Option<Command>,
     next: &Captured,
 ) -> Option<Exchange>
-    ensures ended { (more : List Captured) → exchanges_from (mode_of confirming) awaited.old (next.now ∷ more)
-        ≡ option_to_list result ++ exchanges_from (mode_of confirming) awaited.new more }
-    ensures sent { IfSome (sent_in next.now) (λ c. awaited.new ≡ Some c) }
+    ensures ended { result ≡ ended_at mode awaited.old next.now }
+    ensures awaited { awaited.new ≡ awaited_after mode awaited.old next.now }
+    ensures more { (more : List Captured) → exchanges_from mode awaited.old (next.now ∷ more)
+        ≡ option_to_list result ++ exchanges_from mode awaited.new more }
 {
-    let sent = sent_in(next);
+    let sent = match next {
+        Captured::Sent(command) => Some(*command),
+        Captured::Came(_) | Captured::Silence => None,
+    };
     let Some(command) = *awaited else {
         *awaited = sent;
         return None;
     };
     let heard = match next {
-        Captured::Came(heard) if !is_end(confirming, &command, heard) => return None,
+        Captured::Came(heard) if !is_end(mode, &command, heard) => return None,
         Captured::Came(heard) => Some(*heard),
         Captured::Sent(_) | Captured::Silence => None,
     };
     *awaited = sent;
     Some(Exchange { command, heard })
-}
-
-/// The command that was sent, if one was.
-fn sent_in(captured: &Captured) -> Option<Command>
-    ensures { result ≡ sent_in captured.now }
-{
-    match captured {
-        Captured::Sent(command) => Some(*command),
-        Captured::Came(_) | Captured::Silence => None,
-    }
 }

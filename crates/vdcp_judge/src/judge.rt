@@ -2,11 +2,10 @@
 ghost use Rattle.std.specs.Prelude.{◌≡◌, ◌↔◌, ◌+◌, ◌<◌, ◌^◌, ◌||◌, ◌&&◌, not, if◌then◌else◌, false, IsTrue, List, [], ◌∷◌, ◌++◌, length};
 ghost use Rattle.vdcp_auto.specs.Commands.{is_close_command, is_stop_command};
 ghost use Rattle.vdcp_auto.specs.declared.exchange.Exchange.{Exchange};
-ghost use Rattle.vdcp_auto.specs.declared.phase.Mode.TheVariants.{Plain, Confirming};
 ghost use Rattle.vdcp_auto.specs.Log.{is_done_status, is_play};
 ghost use Rattle.vdcp_auto.specs.RuleBook.{CuesItemAt, IsTaken, May, MayPlay, Rule};
 ghost use Rattle.vdcp_auto.specs.Settled.{has_open_play, may_have_aired, settled, settles};
-ghost use Rattle.vdcp_judge.specs.Judging.{CueStands, Knows, is_done, mode_of, stands};
+ghost use Rattle.vdcp_judge.specs.Judging.{CueStands, Knows, is_done, stands};
 ghost use Rattle.vdcp_judge.specs.Notes.{view_of};
 ghost use Rattle.vdcp_judge.specs.Rulings.{IsRuling};
 
@@ -17,7 +16,7 @@ use crate::meaning::{
 use crate::notes::Notes;
 use std::marker::Model;
 use vdcp_auto::laws::a_log_grows;
-use vdcp_auto::{Exchange, Source};
+use vdcp_auto::{Exchange, Mode, Source};
 use vdcp_frame::laws::a_spelling_is_its_message;
 use vdcp_words::Command;
 use vdcp_words::laws::{command_is_read_first, written_command_is_read};
@@ -51,7 +50,7 @@ pub struct Ruling {
 #[derive(Drop)]
 pub struct Judge<S: Source> {
     source: S,
-    confirming: bool,
+    mode: Mode,
     settled: usize,
     has_open_play: bool,
     may_have_aired: bool,
@@ -62,13 +61,13 @@ pub struct Judge<S: Source> {
 }
 
 impl<S: Source> Model for Judge<S> {
-    ghost use Rattle.vdcp_judge.specs.Judging.{View, mode_of};
+    ghost use Rattle.vdcp_judge.specs.Judging.{View};
 
     ghost Value = { View S };
 
     ghost view = { λ j. record {
       source = j.source;
-      mode = mode_of j.confirming;
+      mode = j.mode;
       settled = j.settled;
       has_open_play = j.has_open_play;
       may_have_aired = j.may_have_aired;
@@ -80,34 +79,15 @@ impl<S: Source> Model for Judge<S> {
 }
 
 impl<S: Source> Judge<S> {
-    /// A judge of an automation that plays this list in plain mode. Its log is empty.
-    pub fn new(source: S) -> Self
+    /// A judge of an automation that plays this list in this mode. Its log is empty.
+    pub fn new(source: S, mode: Mode) -> Self
         ensures source { result.source ≡ source }
-        ensures mode { result.mode ≡ Plain }
-        ensures knows { Knows S.items [] result }
-    {
-        Self::begun(source, false)
-    }
-
-    /// A judge of an automation that plays this list in confirm mode. Its log is empty.
-    pub fn confirming(source: S) -> Self
-        ensures source { result.source ≡ source }
-        ensures mode { result.mode ≡ Confirming }
-        ensures knows { Knows S.items [] result }
-    {
-        Self::begun(source, true)
-    }
-}
-
-impl<S: Source> Judge<S> {
-    fn begun(source: S, confirming: bool) -> Self
-        ensures source { result.source ≡ source }
-        ensures mode { result.mode ≡ mode_of confirming }
+        ensures mode { result.mode ≡ mode }
         ensures knows { Knows S.items [] result }
     {
         Judge {
             source,
-            confirming,
+            mode,
             settled: 0,
             has_open_play: false,
             may_have_aired: false,
@@ -123,7 +103,7 @@ impl<S: Source> Judge<S> {
         ensures { self.now ≡ view_of self.now.source result }
     {
         Notes {
-            confirming: self.confirming,
+            mode: self.mode,
             settled: self.settled,
             has_open_play: self.has_open_play,
             may_have_aired: self.may_have_aired,
@@ -140,7 +120,7 @@ impl<S: Source> Judge<S> {
     {
         Judge {
             source,
-            confirming: notes.confirming,
+            mode: notes.mode,
             settled: notes.settled,
             has_open_play: notes.has_open_play,
             may_have_aired: notes.may_have_aired,
@@ -265,7 +245,7 @@ impl<S: Source> Judge<S> {
             result ≡ settles self.now.mode log exchange.now }
     {
         is_empty_status(exchange) && self.has_open_play
-            || !self.confirming && is_play(exchange) && is_acked(exchange)
+            || matches!(self.mode, Mode::Plain) && is_play(exchange) && is_acked(exchange)
     }
 
     fn has_open_play_after(&self, exchange: &Exchange) -> bool
@@ -340,7 +320,8 @@ impl<S: Source> Judge<S> {
             × IsTaken self.now.mode exchange.now) }
         ensures waits { is_done result ≡ false }
     {
-        if self.cues_next(&exchange.command) && (self.confirming || is_acked(exchange)) {
+        let is_taken = matches!(self.mode, Mode::Confirming) || is_acked(exchange);
+        if self.cues_next(&exchange.command) && is_taken {
             LastCue::Stands
         } else {
             LastCue::Void

@@ -3,9 +3,8 @@ ghost use Rattle.std.specs.Prelude.{◌≡◌, ◌&&◌, Some};
 ghost use Rattle.vdcp_auto.specs.Commands as commands;
 ghost use Rattle.vdcp_auto.specs.Log as log;
 ghost use Rattle.vdcp_auto.specs.Turn as turn;
-ghost use Rattle.vdcp_judge.specs.Judging.{mode_of};
 
-use vdcp_auto::{Exchange, Heard};
+use vdcp_auto::{Exchange, Heard, Mode};
 use vdcp_value::Item;
 use vdcp_words::{Command, Reply};
 
@@ -24,11 +23,16 @@ pub fn cue_of(item: &Item) -> Command
     }
 }
 
-/// What came ends the exchange of the command, in plain mode or in confirm mode.
-pub fn is_end(confirming: bool, command: &Command, heard: &Heard) -> bool
-    ensures { result ≡ turn.is_end (mode_of confirming) command.now (Some heard.now) }
+/// What came ends the exchange of the command in this mode.
+pub fn is_end(mode: Mode, command: &Command, heard: &Heard) -> bool
+    ensures { result ≡ turn.is_end mode command.now (Some heard.now) }
 {
-    !confirming || is_sense(command) && !matches!(heard, Heard::Reply(Reply::Ack | Reply::Nak(_)))
+    match mode {
+        Mode::Plain => true,
+        Mode::Confirming => {
+            is_sense(command) && !matches!(heard, Heard::Reply(Reply::Ack | Reply::Nak(_)))
+        }
+    }
 }
 
 /// A request for a reply of its own. The other commands are answered by ACK.

@@ -1,11 +1,12 @@
 //! A judge as plain data.
 use crate::judge::LastCue;
+use vdcp_auto::Mode;
 
 /// All that a judge knows, but for its list: plain data, which a caller may keep between two calls.
 #[derive(Clone, Copy, Debug, PartialEq, Eq)]
 pub struct Notes {
-    /// The log is that of an automation in confirm mode.
-    pub confirming: bool,
+    /// The mode of the automation whose log it is.
+    pub mode: Mode,
     /// How many events the log settles.
     pub settled: usize,
     /// A PLAY's answer never came, and nothing that shows what became of it has come since.

@@ -6,7 +6,7 @@ ghost use Rattle.std.proofs.lemmas.Grind.{common_steps};
 use std::alloc::{AllocError, Global};
 use std::process::Abort;
 use std::test::Fail;
-use vdcp_auto::{Exchange, Heard, Source};
+use vdcp_auto::{Exchange, Heard, Mode, Source};
 use vdcp_judge::{Captured, Judge, Ruling, Way, captured_in, exchange_ended, first_forbidden};
 use vdcp_value::{ClipId, Item, Part};
 use vdcp_words::{Command, Reply};
@@ -152,15 +152,9 @@ impl Step {
 /// events are settled.
 type Case = (&'static [Step], Asked, (bool, usize), (bool, usize));
 
-fn check_in(
-    rt: &impl Abort,
-    mode: &str,
-    mut judge: Judge<Clips>,
-    log: &[Step],
-    next: Asked,
-    wanted: (bool, usize),
-) {
+fn check_in(rt: &impl Abort, mode: Mode, log: &[Step], next: Asked, wanted: (bool, usize)) {
     let clips = Clips::new();
+    let mut judge = Judge::new(Clips::new(), mode);
     for step in log {
         judge.add(&step.exchange(&clips));
     }
@@ -168,21 +162,14 @@ fn check_in(
     assert_eq!(rt;
         (judge.allows(&command), judge.settled()),
         wanted,
-        "{mode}: {next:?} after {log:?}"
+        "{mode:?}: {next:?} after {log:?}"
     );
 }
 
 fn check(rt: &impl Abort, cases: &[Case]) {
     for (log, next, plain, confirming) in cases {
-        check_in(rt, "plain", Judge::new(Clips::new()), log, *next, *plain);
-        check_in(
-            rt,
-            "confirm",
-            Judge::confirming(Clips::new()),
-            log,
-            *next,
-            *confirming,
-        );
+        check_in(rt, Mode::Plain, log, *next, *plain);
+        check_in(rt, Mode::Confirming, log, *next, *confirming);
     }
 }
 
@@ -310,7 +297,7 @@ fn what_ends(rt: HostRuntime) {
 // Once a PLAY stands in the log, until an event is settled.
 #[test]
 fn what_may_have_aired_is_seen(rt: HostRuntime) {
-    let mut judge = Judge::new(Clips::new());
+    let mut judge = Judge::new(Clips::new(), Mode::Plain);
     let before = judge.may_have_aired();
     judge.add(&heard(Command::Play, Reply::Nak(0x01)));
     judge.add(&silent(Command::Stop));
@@ -331,8 +318,8 @@ fn the_first_forbidden_command_is_found(rt: HostRuntime) {
         silent(Command::Play),
         silent(Command::Select(1)),
     ];
-    let plain = first_forbidden(Judge::new(clips), &log);
-    let confirming = first_forbidden(Judge::confirming(clips), &log[..3]);
+    let plain = first_forbidden(Judge::new(clips, Mode::Plain), &log);
+    let confirming = first_forbidden(Judge::new(clips, Mode::Confirming), &log[..3]);
     assert_eq!(rt; (plain, confirming), (Some(3), None));
 }
 
@@ -362,7 +349,7 @@ fn each_exchange_is_ruled_on(rt: HostRuntime) {
         (status(0x01), SETTLING),
         (cued, FORBIDDEN),
     ];
-    let mut judge = Judge::new(clips);
+    let mut judge = Judge::new(clips, Mode::Plain);
     for (exchange, ruling) in log {
         assert_eq!(rt; judge.rule_on(&exchange), ruling);
         judge.add(&exchange);
@@ -378,13 +365,13 @@ const SENT_STATUS: Captured = Captured::Sent(Command::Status(1));
 /// The exchanges that a whole capture shows.
 fn exchanges_in(
     alloc: Global,
-    confirming: bool,
+    mode: Mode,
     capture: &[Captured],
 ) -> Result<Vec<Exchange>, AllocError> {
     let mut exchanges = Vec::new(alloc);
     let mut awaited = None;
     for captured in capture {
-        if let Some(exchange) = exchange_ended(confirming, &mut awaited, captured) {
+        if let Some(exchange) = exchange_ended(mode, &mut awaited, captured) {
             exchanges.push(exchange)?;
         }
     }
@@ -409,8 +396,8 @@ fn a_capture_shows_its_exchanges(rt: HostRuntime) -> Result<(), Fail> {
         Captured::Silence,
         CAME_STATE,
     ];
-    let shown = exchanges_in(rt.alloc(), false, &capture)?;
-    let confirmed = exchanges_in(rt.alloc(), true, &capture)?;
+    let shown = exchanges_in(rt.alloc(), Mode::Plain, &capture)?;
+    let confirmed = exchanges_in(rt.alloc(), Mode::Confirming, &capture)?;
     let acked = heard(Command::Status(1), Reply::Ack);
     let unheard = silent(Command::Status(1));
     let played = heard(Command::Play, Reply::Ack);

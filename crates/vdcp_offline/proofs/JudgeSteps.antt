@@ -1,25 +1,27 @@
 -- What is found and told of a capture, piece by piece.
-use Rattle.std.proofs.Common.{◌≡◌, ℕ, suc, ◌+◌, ◌<◌, ◌≤◌, ◌^◌, Bool, true, false, cond, List, [], ◌∷◌, ◌++◌, append_assoc, append-nil, get_or, length, refl, sym, ap, subst, take, Global, ◌∙◌, arith}
+use Rattle.std.proofs.Common.{◌≡◌, ℕ, suc, ◌+◌, ◌<◌, ◌^◌, Bool, true, false, cond, List, [], ◌∷◌, ◌++◌, append_assoc, append-nil, get_or, length, refl, sym, ap, subst, take, Global, ◌∙◌, arith}
 use Rattle.std.proofs.lemmas.Grind.{flat_map-append}
 use Rattle.std.proofs.lemmas.List.{length-append, map-append, take_more}
 use Rattle.std.proofs.lemmas.List.Folds.{list_any-append}
-use Rattle.std.proofs.lemmas.List.Sums.{sum_by-append, sum_by_push}
-use Rattle.std.specs.List.{enumerate_from}
+use Rattle.std.proofs.lemmas.List.Sums.{count_by-le-length, sum_by-append, sum_by_push}
 use Rattle.std.specs.Option.{option_to_list}
-use Rattle.std.specs.Prelude.{⊤, IfSome, None, Option, Some, String, if◌then◌else◌, map, string_bytes, ◌||◌}
+use Rattle.std.specs.Prelude.{⊤, None, Option, Some, String, if◌then◌else◌, map, string_bytes, ◌||◌}
 use Rattle.std.specs.Str.Lines.{lines}
 use Rattle.vdcp_auto.specs.Settled.{settled, settles}
+use Rattle.vdcp_auto.specs.Turn.{is_end}
 use Rattle.vdcp_auto.specs.declared.exchange.Exchange.{Exchange}
+use Rattle.vdcp_auto.specs.declared.exchange.Heard.{Heard}
 use Rattle.vdcp_auto.specs.declared.phase.Mode.{Mode}
 use Rattle.vdcp_files.specs.Lines.{TakesLine}
-use Rattle.vdcp_judge.specs.Captures.{exchanges_from, exchanges_in, sent_in}
-use Rattle.vdcp_judge.specs.Judging.{Knows, mode_of}
+use Rattle.vdcp_judge.specs.Captures.{awaited_after, ended_at, exchanges_from, exchanges_in}
+use Rattle.vdcp_files.specs.Mode.{mode_of}
+use Rattle.vdcp_judge.specs.Judging.{Knows}
 use Rattle.vdcp_judge.specs.Rulings.{IsRuling}
 use Rattle.vdcp_judge.specs.declared.capture.Captured.{Captured}
 use Rattle.vdcp_judge.specs.declared.capture.Captured.TheVariants.{Sent, Came, Silence}
 use Rattle.vdcp_offline.specs.Findings.{AreFindings, AreRuled, captured_of, command_lines, event_line, events_text, exchanges_of, forbidden_in, forbidden_line, forbidden_text, has_message, is_forbidden, is_message, line_of_command, one_more_finding, reported_in}
 use Rattle.vdcp_offline.specs.Found.{AreMore, ShowFindings, Tells, awaited_lines, last_exchange, line_after, line_of_last}
-use Rattle.vdcp_offline.specs.Rows.{IsCaptureOf, SayAll, Says, numbered, one_more}
+use Rattle.vdcp_offline.specs.Rows.{IsCapture, IsCaptureOf, SayAll, Says, numbered}
 use Rattle.vdcp_offline.specs.declared.judge.capture.Piece.{Piece}
 use Rattle.vdcp_offline.specs.declared.judge.findings.Finding.{Finding}
 use Rattle.vdcp_offline.specs.declared.judge.settings.JudgeSettings.{JudgeSettings}
@@ -104,10 +106,6 @@ events_push rate items f (g ∷ findings) k =
     events_next rate items k f g findings g.ruling.settles (events_push rate items f findings)
     ∙ ap (λ n. events_text rate items k (g ∷ findings) ++ text_if rate items (k + n) f) (sym (reported_first g findings))
 
-few_more : (b : Bool) (n m : ℕ) → n ≤ m → (if b then n + 1 else n) ≤ m + 1
-few_more true n m few = omega (arith, few)
-few_more false n m few = omega (arith, few)
-
 module _ {S : Type 0} (items_of : S → List Item) where
   pub tells_more : SettledGrows → (settings : JudgeSettings) (items : List Item) (findings : List Finding) (f : Finding)
       (old new : Told S) → Tells items_of settings items findings old
@@ -127,7 +125,7 @@ module _ {S : Type 0} (items_of : S → List Item) where
       forbidden_is reported_is source mode knows =
       let m = mode_of settings.confirming in
       let log = exchanges_of findings in
-      let count_few : old.forbidden + 1 < 2 ^ 64 = omega (arith, tells.few, few_exchanges) in
+      let count_few : old.forbidden + 1 < 2 ^ 64 = omega (arith, tells.forbidden, count_by-le-length is_forbidden findings, tells.exchanges, few_exchanges) in
       let is_ruled : IsRuling m items log f.exchange f.ruling =
       subst (λ l. IsRuling m l log f.exchange f.ruling) tells.source_is
       (subst (λ x. IsRuling x (items_of old.judge.source.now) log f.exchange f.ruling) tells.mode_is ruling) in
@@ -150,9 +148,6 @@ module _ {S : Type 0} (items_of : S → List Item) where
         exchanges = exchanges ∙ ap (λ n. n + 1) tells.exchanges ∙ sym (length-append findings (f ∷ []));
         forbidden = forbidden count_few ∙ ap (λ n. if is_forbidden f then n + 1 else n) tells.forbidden
             ∙ sym (forbidden_push findings f);
-        few = subst (λ n. n ≤ new.exchanges) (sym (forbidden count_few))
-            (subst (λ n. (if is_forbidden f then old.forbidden + 1 else old.forbidden) ≤ n) (sym exchanges)
-            (few_more (is_forbidden f) old.forbidden old.exchanges tells.few));
         forbidden_text_is = forbidden_is
             ∙ ap (λ l. l ++ (if is_forbidden f then forbidden_line f else [])) tells.forbidden_text_is
             ∙ sym (forbidden_text_push findings f);
@@ -180,90 +175,27 @@ abbrev result_lines : Option Exchange → ℕ → List ℕ
 result_lines None number = []
 result_lines (Some e) number = number ∷ []
 
-abbrev count_of : Option Command → ℕ
-count_of None = 0
-count_of (Some c) = 1
+lines_at_end : (c : Command) (h : Heard) (number : ℕ) (b : Bool) → awaited_lines (Some c) number ++ []
+    ≡ result_lines (if b then Some (record { command = c; heard = Some h }) else None) number
+    ++ awaited_lines (if b then None else Some c) number
+lines_at_end c h number true = refl
+lines_at_end c h number false = refl
 
-abbrev count_in : Option Exchange → ℕ
-count_in None = 0
-count_in (Some e) = 1
+lines_of : (mode : Mode) (asked : Option Command) (c : Captured) (number line : ℕ)
+    → awaited_lines asked number ++ line_of_command c line ≡ result_lines (ended_at mode asked c) number
+    ++ awaited_lines (awaited_after mode asked c) (line_of_last number line c)
+lines_of mode None (Sent c) number line = refl
+lines_of mode None (Came h) number line = refl
+lines_of mode None Silence number line = refl
+lines_of mode (Some a) (Sent c) number line = refl
+lines_of mode (Some a) (Came h) number line = lines_at_end a h number (is_end mode a (Some h))
+lines_of mode (Some a) Silence number line = refl
 
-quiet : (asked after : Option Command) (result : Option Exchange) (number : ℕ)
-    → count_of asked ≡ count_in result + count_of after
-    → awaited_lines asked number ≡ result_lines result number ++ awaited_lines after number
-quiet None None None number e = refl
-quiet None (Some b) None number e = absurd (omega (arith, e))
-quiet None after (Some x) number e = absurd (omega (arith, e))
-quiet (Some a) None None number e = absurd (omega (arith, e))
-quiet (Some a) (Some b) None number e = refl
-quiet (Some a) None (Some x) number e = refl
-quiet (Some a) (Some b) (Some x) number e = absurd (omega (arith, e))
-
-none_is_some : (c : Command) → ◌≡◌ {A = Option Command} None (Some c) → ⊥
-none_is_some c e = cc
-
-loud : (asked after : Option Command) (result : Option Exchange) (c : Command) (number line : ℕ)
-    → count_of asked + 1 ≡ count_in result + count_of after → after ≡ Some c
-    → awaited_lines asked number ++ line ∷ [] ≡ result_lines result number ++ awaited_lines after line
-loud asked None result c number line e sent = absurd (none_is_some c sent)
-loud None (Some b) None c number line e sent = refl
-loud None (Some b) (Some x) c number line e sent = absurd (omega (arith, e))
-loud (Some a) (Some b) None c number line e sent = absurd (omega (arith, e))
-loud (Some a) (Some b) (Some x) c number line e sent = refl
-
--- how many exchanges are left, where nothing more is captured
-left : (mode : Mode) (asked : Option Command) → length (exchanges_from mode asked []) ≡ count_of asked
-left mode None = refl
-left mode (Some c) = refl
-
-result_left : (result : Option Exchange) → length (option_to_list result) ≡ count_in result
-result_left None = refl
-result_left (Some e) = refl
-
-after_sent : (mode : Mode) (asked : Option Command) (c : Command)
-    → length (exchanges_from mode asked (Sent c ∷ [])) ≡ count_of asked + 1
-after_sent mode None c = refl
-after_sent mode (Some a) c = refl
-
-after_came : (mode : Mode) (asked : Option Command) (h : _)
-    → length (exchanges_from mode asked (Came h ∷ [])) ≡ count_of asked
-after_came mode None h = refl
-after_came mode (Some a) h = refl
-
-after_silence : (mode : Mode) (asked : Option Command)
-    → length (exchanges_from mode asked (Silence ∷ [])) ≡ count_of asked
-after_silence mode None = refl
-after_silence mode (Some a) = refl
-
+-- a piece ends this exchange, and then this command is awaited
 abbrev pub Ends : Mode → Option Command → Captured → Option Exchange → Option Command → Type 0
-Ends mode asked c result after = (more : List Captured)
-    → exchanges_from mode asked (c ∷ more) ≡ option_to_list result ++ exchanges_from mode after more
-
-counts : (mode : Mode) (asked after : Option Command) (c : Captured) (result : Option Exchange)
-    → Ends mode asked c result after
-    → length (exchanges_from mode asked (c ∷ [])) ≡ count_in result + count_of after
-counts mode asked after c result ends =
-    omega (
-      arith,
-      ap length (ends []),
-      length-append (option_to_list result) (exchanges_from mode after []),
-      result_left result,
-      left mode after,
-    )
-
-lines_of : (mode : Mode) (asked after : Option Command) (c : Captured) (result : Option Exchange) (number line : ℕ)
-    → Ends mode asked c result after → IfSome (sent_in c) (λ x. after ≡ Some x)
-    → awaited_lines asked number ++ line_of_command c line
-    ≡ result_lines result number ++ awaited_lines after (line_of_last number line c)
-lines_of mode asked after (Sent c) result number line ends sent =
-    loud asked after result c number line (sym (after_sent mode asked c) ∙ counts mode asked after (Sent c) result ends)
-    sent
-lines_of mode asked after (Came h) result number line ends sent =
-    append-nil (awaited_lines asked number) ∙ quiet asked after result number
-    (sym (after_came mode asked h) ∙ counts mode asked after (Came h) result ends)
-lines_of mode asked after Silence result number line ends sent =
-    append-nil (awaited_lines asked number) ∙ quiet asked after result number
-    (sym (after_silence mode asked) ∙ counts mode asked after Silence result ends)
+Ends mode asked c result after = (result ≡ ended_at mode asked c) × (after ≡ awaited_after mode asked c)
+    × ((more : List Captured)
+    → exchanges_from mode asked (c ∷ more) ≡ option_to_list result ++ exchanges_from mode after more)
 
 lines_push : (pieces : List Piece) (p : Piece)
     → command_lines (pieces ++ p ∷ []) ≡ command_lines pieces ++ line_of_command p.captured p.line
@@ -290,19 +222,19 @@ more_finding_lines findings more number (Some e) (f, line, is, are) =
 pub shows_more : (mode : Mode) (pieces : List Piece) (p : Piece) (findings more : List Finding)
     (asked after : Option Command) (result : Option Exchange) (number : ℕ)
     → ShowFindings mode pieces findings asked number → Ends mode asked p.captured result after
-    → IfSome (sent_in p.captured) (λ x. after ≡ Some x) → AreMore findings number result more
+    → AreMore findings number result more
     → ShowFindings mode (pieces ++ p ∷ []) more after (line_after number p)
-shows_more mode pieces p findings more asked after result number shows ends sent are = record {
+shows_more mode pieces p findings more asked after result number shows ends are = record {
   log = λ rest.
       ap (λ l. exchanges_in mode (l ++ rest)) (map-append (λ (q : Piece). q.captured) pieces (p ∷ []))
       ∙ ap (exchanges_in mode) (append_assoc (captured_of pieces) (p.captured ∷ []) rest)
-      ∙ shows.log (p.captured ∷ rest) ∙ ap (λ l. exchanges_of findings ++ l) (ends rest)
+      ∙ shows.log (p.captured ∷ rest) ∙ ap (λ l. exchanges_of findings ++ l) (ends.2 rest)
       ∙ sym (append_assoc (exchanges_of findings) (option_to_list result) (exchanges_from mode after rest))
       ∙ ap (λ l. l ++ exchanges_from mode after rest) (sym (more_exchanges findings more number result are));
   lines =
       lines_push pieces p ∙ ap (λ l. l ++ line_of_command p.captured p.line) shows.lines
       ∙ append_assoc (finding_lines findings) (awaited_lines asked number) (line_of_command p.captured p.line)
-      ∙ ap (λ l. finding_lines findings ++ l) (lines_of mode asked after p.captured result number p.line ends sent)
+      ∙ ap (λ l. finding_lines findings ++ l) (rw (ends.0, ends.1) (lines_of mode asked p.captured number p.line))
       ∙ sym (append_assoc (finding_lines findings) (result_lines result number) (awaited_lines after (line_after number p)))
       ∙ ap (λ l. l ++ awaited_lines after (line_after number p)) (sym (more_finding_lines findings more number result are));
 }
@@ -357,61 +289,36 @@ numbered_more pieces number said k x is below =
     ∙ ap (λ l. pieces ++ l) (sym (map-append {A = Captured} (λ c. record { line = number; captured = c }) (take k said) (x ∷ [])))
     ∙ ap (λ l. pieces ++ numbered number l) (sym more)
 
--- of a text these lines were read, and this is left of it; of one that isn't known it says nothing
-abbrev pub AreRead : Option (List ℕ) → Option (List ℕ) → List (List ℕ) → Type 0
-AreRead None left front = ⊤
-AreRead (Some text) left front = (rest : List ℕ) × (left ≡ Some rest) × (lines text ≡ front ++ lines rest)
+-- the pieces are those of a text up to what is left of it, whose first line has this number; of a text that isn't known it
+-- says nothing
+abbrev pub AreUpTo : ℕ → Option (List ℕ) → Option (List ℕ) → ℕ → List Piece → Type 0
+AreUpTo unit None left number pieces = ⊤
+AreUpTo unit (Some text) left number pieces = (rest : List ℕ) × (left ≡ Some rest)
+    × ((more : List Piece) → SayAll unit number (lines rest) more → IsCapture unit text (pieces ++ more))
 
-pub none_read : (all left : Option (List ℕ)) → left ≡ all → AreRead all left []
-none_read None left same = tt
-none_read (Some text) left same = (text, same, refl)
+pub none_read : (unit : ℕ) (all left : Option (List ℕ)) → left ≡ all → AreUpTo unit all left 1 []
+none_read unit None left same = tt
+none_read unit (Some text) left same = (text, same, λ more says. says)
 
-one_line_read : (text rest : List ℕ) (left' : Option (List ℕ)) (front : List (List ℕ)) (line : String Global)
-    → lines text ≡ front ++ lines rest → TakesLine (Some rest) left' (Some line)
-    → AreRead (Some text) left' (front ++ string_bytes line ∷ [])
-one_line_read text rest left' front line is takes = (
-  takes.0,
-  takes.1,
-  is ∙ ap (λ l. front ++ l) takes.2 ∙ sym (append_assoc front (string_bytes line ∷ []) (lines takes.0)),
-)
-
-pub more_read : (all left left' : Option (List ℕ)) (front : List (List ℕ)) (line : String Global)
-    → AreRead all left front → TakesLine left left' (Some line) → AreRead all left' (front ++ string_bytes line ∷ [])
-more_read None left left' front line read takes = tt
-more_read (Some text) left left' front line read takes =
-    one_line_read text read.0 left' front line read.2 (subst (λ o. TakesLine o left' (Some line)) read.1 takes)
-
-enumerated : {X : Type 0} (n : ℕ) (xs : List X) (x : X)
-    → enumerate_from n (xs ++ x ∷ []) ≡ enumerate_from n xs ++ (n + length xs, x) ∷ []
-enumerated n [] x =
-    let same : n ≡ n + 0 = omega arith in ap (λ k. (k, x) ∷ []) same
-enumerated n (y ∷ xs) x =
-    let same : n + 1 + length xs ≡ n + suc (length xs) = omega arith in
-    ap (λ l. (n, y) ∷ l) (enumerated (n + 1) xs x)
-    ∙ ap (λ k. (n, y) ∷ (enumerate_from (n + 1) xs ++ (k, x) ∷ [])) same
-
--- the pieces of one line more
-pub say_more : (unit : ℕ) (front : List (List ℕ)) (line : List ℕ) (number : ℕ) (pieces : List Piece) (said : List Captured)
-    → SayAll unit (enumerate_from 0 front) pieces → Says unit line said → length front ≡ number
-    → SayAll unit (enumerate_from 0 (front ++ line ∷ [])) (pieces ++ numbered (number + 1) said)
-say_more unit front line number pieces said all says count =
-    let place : 0 + length front ≡ number = omega (arith, count) in
-    subst (λ l. SayAll unit l (pieces ++ numbered (number + 1) said))
-    (sym (enumerated 0 front line ∙ ap (λ k. enumerate_from 0 front ++ (k, line) ∷ []) place))
-    (one_more (enumerate_from 0 front) pieces number line (pieces ++ numbered (number + 1) said) all
-    (record { said = said; more_are = refl; says = says }))
-
-all_said : (unit : ℕ) (text rest : List ℕ) (left' : Option (List ℕ)) (front : List (List ℕ)) (pieces : List Piece)
-    → SayAll unit (enumerate_from 0 front) pieces → lines text ≡ front ++ lines rest
-    → TakesLine {A = Global} (Some rest) left' None → IsCaptureOf unit (Some text) pieces
-all_said unit text rest left' front pieces all is none =
-    subst (λ l. SayAll unit (enumerate_from 0 l) pieces)
-    (sym (is ∙ ap (λ l. front ++ l) none ∙ append-nil front)) all
+-- what the next line says follows
+pub one_line_more : (unit : ℕ) (all left left' : Option (List ℕ)) (number : ℕ) (pieces : List Piece) (line : String Global)
+    (said : List Captured) → AreUpTo unit all left number pieces → TakesLine left left' (Some line)
+    → Says unit (string_bytes line) said → AreUpTo unit all left' (number + 1) (pieces ++ numbered number said)
+one_line_more unit None left left' number pieces line said are takes says = tt
+one_line_more unit (Some text) left left' number pieces line said are takes says =
+    let taken = subst (λ o. TakesLine o left' (Some line)) are.1 takes in (
+      taken.0,
+      taken.1,
+      λ more rest. subst (IsCapture unit text) (sym (append_assoc pieces (numbered number said) more))
+          (are.2 (numbered number said ++ more)
+          (subst (λ l. SayAll unit number l (numbered number said ++ more)) (sym taken.2) (said, more, says, rest, refl))),
+    )
 
 -- all lines were read
-pub is_capture : (unit : ℕ) (all left left' : Option (List ℕ)) (front : List (List ℕ)) (pieces : List Piece)
-    → SayAll unit (enumerate_from 0 front) pieces → AreRead all left front → TakesLine {A = Global} left left' None
-    → IsCaptureOf unit all pieces
-is_capture unit None left left' front pieces all read none = tt
-is_capture unit (Some text) left left' front pieces all read none =
-    all_said unit text read.0 left' front pieces all read.2 (subst (λ o. TakesLine {A = Global} o left' None) read.1 none)
+pub is_capture : (unit : ℕ) (all left left' : Option (List ℕ)) (number : ℕ) (pieces : List Piece)
+    → AreUpTo unit all left number pieces → TakesLine {A = Global} left left' None → IsCaptureOf unit all pieces
+is_capture unit None left left' number pieces are none = tt
+is_capture unit (Some text) left left' number pieces are none =
+    let ended = subst (λ o. TakesLine {A = Global} o left' None) are.1 none in
+    subst (IsCapture unit text) (append-nil pieces)
+    (are.2 [] (subst (λ l. SayAll unit number l []) (sym ended) refl))

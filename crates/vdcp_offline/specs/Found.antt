@@ -1,7 +1,8 @@
 -- What is kept of a capture while it is read.
-use Rattle.std.specs.Prelude.{◌≡◌, ℕ, ◌≤◌, List, [], ◌∷◌, ◌++◌, Option, None, Some, length, map, string_bytes}
+use Rattle.std.specs.Prelude.{◌≡◌, ℕ, List, [], ◌∷◌, ◌++◌, Option, None, Some, length, map, string_bytes}
 use Rattle.vdcp_judge.specs.Captures.{exchanges_from, exchanges_in}
-use Rattle.vdcp_judge.specs.Judging.{Knows, mode_of}
+use Rattle.vdcp_files.specs.Mode.{mode_of}
+use Rattle.vdcp_judge.specs.Judging.{Knows}
 use Rattle.vdcp_judge.specs.declared.capture.Captured.{Captured}
 use Rattle.vdcp_judge.specs.declared.capture.Captured.TheVariants.{Sent, Came, Silence}
 use Rattle.vdcp_auto.specs.Settled.{settled}
@@ -28,7 +29,6 @@ pub record Tells {S : Type 0} (items_of : S → List Item) (settings : JudgeSett
   pub count : reported_in findings ≡ settled (mode_of settings.confirming) (exchanges_of findings)
   pub exchanges : told.exchanges ≡ length findings
   pub forbidden : told.forbidden ≡ forbidden_in findings
-  pub few : told.forbidden ≤ told.exchanges
   pub forbidden_text_is : string_bytes told.forbidden_text ≡ forbidden_text findings
   pub reported_text_is : string_bytes told.reported_text ≡ events_text settings.rate items 0 findings
 

@@ -8,7 +8,7 @@ use Rattle.vdcp_offline.specs.declared.judge.capture.Piece.{Piece}
 use Rattle.vdcp_offline.specs.declared.judge.findings.Finding.{Finding}
 use Rattle.vdcp_offline.specs.declared.judge.settings.JudgeSettings.{JudgeSettings}
 use Rattle.vdcp_files.specs.Files.{File, IsWholeList, bytes_of}
-use Rattle.vdcp_judge.specs.Judging.{mode_of}
+use Rattle.vdcp_files.specs.Mode.{mode_of}
 use Rattle.vdcp_list.specs.Playlists.{IsListOf}
 use Rattle.vdcp_text.specs.Failure.{failure_line, status_of}
 use Rattle.vdcp_text.specs.declared.failure.Failure.{Failure}

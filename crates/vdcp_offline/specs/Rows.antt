@@ -1,6 +1,5 @@
 -- What the rows of a capture say.
 use Rattle.hex.specs.Hex.{decode_of}
-use Rattle.std.specs.List.{enumerate_from}
 use Rattle.std.specs.Prelude.{ℕ, ◌≡◌, ◌+◌, ⊤, List, [], ◌∷◌, ◌++◌, codes, map, Ok, Option, None, Some}
 use Rattle.std.specs.Str.Lines.{lines}
 use Rattle.vdcp_offline.specs.declared.judge.capture.Piece.{Piece}
@@ -33,22 +32,15 @@ pub data Says (unit : ℕ) (text : List ℕ) : List Captured → Type 0 where
 abbrev pub numbered : ℕ → List Captured → List Piece
 numbered number said = map (λ c. record { line = number; captured = c }) said
 
--- pieces, and then those that the line of this number says
-pub record SaysMore (unit number : ℕ) (text : List ℕ) (pieces more : List Piece) : Type 0 where
-  pub said : List Captured
-  pub more_are : more ≡ pieces ++ numbered number said
-  pub says : Says unit text said
-
--- the pieces of lines, one after another; before a line stand as many as its place says
-pub data SayAll (unit : ℕ) : List (ℕ × List ℕ) → List Piece → Type 0 where
-  no_line : SayAll unit [] []
-  one_more : (before : List (ℕ × List ℕ)) (pieces : List Piece) (place : ℕ) (text : List ℕ) (more : List Piece)
-      → SayAll unit before pieces → SaysMore unit (place + 1) text pieces more
-      → SayAll unit (before ++ (place, text) ∷ []) more
+-- lines say these pieces, one after another; the first one has this number
+abbrev pub SayAll : ℕ → ℕ → List (List ℕ) → List Piece → Type 0
+SayAll unit number [] pieces = pieces ≡ []
+SayAll unit number (text ∷ more) pieces = (said : List Captured) × (rest : List Piece) × Says unit text said
+    × SayAll unit (number + 1) more rest × (pieces ≡ numbered number said ++ rest)
 
 -- the text is a capture of these pieces
 abbrev pub IsCapture : ℕ → List ℕ → List Piece → Type 0
-IsCapture unit text pieces = SayAll unit (enumerate_from 0 (lines text)) pieces
+IsCapture unit text pieces = SayAll unit 1 (lines text) pieces
 
 -- a file is, if its bytes are known
 abbrev pub IsCaptureOf : ℕ → Option (List ℕ) → List Piece → Type 0

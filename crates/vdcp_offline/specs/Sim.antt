@@ -20,7 +20,7 @@ use Rattle.vdcp_text.specs.Text.{line}
 use Rattle.vdcp_text.specs.declared.failure.Failure.{Failure}
 use Rattle.vdcp_text.specs.declared.failure.Failure.TheVariants as failures
 use Rattle.vdcp_text.specs.declared.failure.ScriptLineFault.{ScriptLineFault}
-use Rattle.vdcp_files.specs.Check.{AreWhole, Refuses}
+use Rattle.vdcp_files.specs.Check.{AreWhole, IsRefused, Refuses}
 use Rattle.vdcp_files.specs.Files.{File, bytes_of}
 use Rattle.vdcp_files.specs.Mode.{mode_of}
 use Rattle.vdcp_world.specs.Channel.{Channel, new_channel, after_events}
@@ -153,3 +153,8 @@ pub record IsScriptRefused (rate : Rate) (list catalogue : File) (name : Bor (Li
   pub of_script : status_of failure ≡ 1
   pub told : Appends err err' (failure_line failure)
   pub silent : Keeps out out'
+
+-- a row of one of the files is refused, or else the script
+abbrev pub RefusesOne : Rate → File → File → Bor (List ℕ) → (out out' err err' : Option (List ℕ)) → Type 0
+RefusesOne rate list catalogue name out out' err err' =
+    IsRefused rate list catalogue out out' err err' ⊎ IsScriptRefused rate list catalogue name out out' err err'

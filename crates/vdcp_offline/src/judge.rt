@@ -8,9 +8,10 @@
 //!
 //! Files, in reading order: `settings`, `capture`, `findings`, `told`.
 ghost use Rattle.std.specs.Io.KnownBytes.{Appends, Keeps};
-ghost use Rattle.std.specs.Prelude.{ℕ, ◌≡◌, ◌≢◌, ◌⊎◌, ◌<◌, IfErr, IfOk, OnOk};
+ghost use Rattle.std.specs.Prelude.{◌≡◌, ◌≢◌, ◌⊎◌, IfErr, IfOk, OnOk};
 ghost use Rattle.vdcp_offline.specs.Judged.{AreWhole, IsJudged, IsToldOnly};
 ghost use Rattle.vdcp_files.specs.Files.{file};
+ghost use Rattle.vdcp_files.specs.Subcommand.{Counted, IsSubcommand};
 ghost use Rattle.vdcp_text.specs.Failure.{status_of};
 ghost use Rattle.vdcp_text.specs.declared.failure.Failure.TheVariants as failures;
 
@@ -44,19 +45,11 @@ pub fn do_judge<L: io::Read + Drop, C: io::Read + Drop, W: io::Write, E: io::Wri
     out: &mut W,
     err: &mut E,
 ) -> u8
-    ensures judged { result ≡ 0 → IsJudged settings (file list.entry.name (L.remaining list.entry.reader))
-        (C.remaining capture.entry.reader) (W.contents out.old) (W.contents out.new) 0 }
-    ensures untold { result ≡ 0 → Keeps (E.contents err.old) (E.contents err.new) }
     // The status is 1 if a command was forbidden, and for a row or a capture that is refused.
-    ensures others { result ≡ 1 →
-        ((forbidden : ℕ) × (0 < forbidden)
-        × IsJudged settings (file list.entry.name (L.remaining list.entry.reader))
-        (C.remaining capture.entry.reader) (W.contents out.old) (W.contents out.new) forbidden
-        × Keeps (E.contents err.old) (E.contents err.new))
-        ⊎ IsToldOnly (W.contents out.old) (W.contents out.new) (E.contents err.old) (E.contents err.new) }
-    ensures silent { Keeps (W.contents out.old) (W.contents out.new)
-        ⊎ AreWhole settings (file list.entry.name (L.remaining list.entry.reader)) (C.remaining capture.entry.reader) }
-    ensures statuses { (result < 2) ⊎ (result ≡ 3) }
+    ensures { let l = file list.entry.name (L.remaining list.entry.reader) in
+        let c = C.remaining capture.entry.reader in
+        IsSubcommand (λ good old new. Counted (IsJudged settings l c old new) good) IsToldOnly (AreWhole settings l c)
+        (W.contents out.old) (W.contents out.new) (E.contents err.old) (E.contents err.new) result }
 {
     match judge(alloc, list, capture, settings, out) {
         Ok(0) => 0,

@@ -4,11 +4,12 @@
 //! world, and prints what went to air and what was reported of it. It reports a failure to standard error in one line,
 //! and gives the exit status.
 ghost use Rattle.std.specs.Io.KnownBytes.{Appends, Keeps};
-ghost use Rattle.std.specs.Prelude.{◌≡◌, ◌≢◌, ◌⊎◌, ◌<◌, ◌≤◌, IfErr, OnOk, false, true};
-ghost use Rattle.vdcp_files.specs.Check.{AreWhole, IsRefused};
+ghost use Rattle.std.specs.Prelude.{◌≡◌, ◌≢◌, ◌⊎◌, ◌≤◌, IfErr, IsTrue, OnOk, false, true};
+ghost use Rattle.vdcp_files.specs.Check.{AreWhole};
 ghost use Rattle.vdcp_files.specs.Files.{file};
+ghost use Rattle.vdcp_files.specs.Subcommand.{IsSubcommand};
 ghost use Rattle.vdcp_late.specs.Joined.{late_of};
-ghost use Rattle.vdcp_offline.specs.Sim.{IsRun, IsRunFailure, IsScriptRefused, IsSimulated, IsUnsimulated};
+ghost use Rattle.vdcp_offline.specs.Sim.{IsRun, IsRunFailure, IsSimulated, IsUnsimulated, RefusesOne};
 ghost use Rattle.vdcp_offline.specs.Sim.{aired_line, aired_text, channel_of, end_text, exchange_line, run_text, trace_text};
 ghost use Rattle.vdcp_text.specs.Failure.{status_of};
 
@@ -55,6 +56,7 @@ pub struct SimSettings {
 /// file can't be read or memory was refused: `err` gets a line of either, and `out` nothing. The list is
 /// read first, and then the catalogue. The status is 3 if a writer failed: nothing more is written to
 /// that one. `out` is flushed after the last line.
+#[tactic(auto, using(crate::proofs::SimRefusals::refused_with_1))]
 pub fn do_sim<
     L: io::Read + Drop,
     C: io::Read + Drop,
@@ -75,23 +77,12 @@ pub fn do_sim<
     requires few { settings.limit ≤ 1000 }
     requires some_frames { 1 ≤ settings.cue_frames }
     requires few_frames { settings.cue_frames ≤ 1000 }
-    ensures simulated { result ≡ 0 →
-        IsSimulated settings (file list.entry.name (L.remaining list.entry.reader))
-        (file catalogue.entry.name (C.remaining catalogue.entry.reader)) (R.remaining script.entry.reader)
-        (W.contents out.old) (W.contents out.new) }
-    ensures untold { result ≡ 0 → Keeps (E.contents err.old) (E.contents err.new) }
     // The status is 1 for a row that is refused, and for a line or the whole of the script.
-    ensures others { result ≡ 1 →
-        IsRefused settings.rate (file list.entry.name (L.remaining list.entry.reader))
-        (file catalogue.entry.name (C.remaining catalogue.entry.reader))
-        (W.contents out.old) (W.contents out.new) (E.contents err.old) (E.contents err.new)
-        ⊎ IsScriptRefused settings.rate (file list.entry.name (L.remaining list.entry.reader))
-        (file catalogue.entry.name (C.remaining catalogue.entry.reader))
-        script.entry.name (W.contents out.old) (W.contents out.new) (E.contents err.old) (E.contents err.new) }
-    ensures silent { Keeps (W.contents out.old) (W.contents out.new)
-        ⊎ AreWhole settings.rate (file list.entry.name (L.remaining list.entry.reader))
-        (file catalogue.entry.name (C.remaining catalogue.entry.reader)) }
-    ensures statuses { (result < 2) ⊎ (result ≡ 3) }
+    ensures { let l = file list.entry.name (L.remaining list.entry.reader) in
+        let c = file catalogue.entry.name (C.remaining catalogue.entry.reader) in
+        IsSubcommand (λ good old new. IsTrue good × IsSimulated settings l c (R.remaining script.entry.reader) old new)
+        (RefusesOne settings.rate l c script.entry.name) (AreWhole settings.rate l c)
+        (W.contents out.old) (W.contents out.new) (E.contents err.old) (E.contents err.new) result }
 {
     match simulate(alloc, list, catalogue, script, settings, out) {
         Ok(()) => 0,

@@ -1,6 +1,6 @@
 //! The exchanges of a capture, each with its line and its ruling.
 ghost use Rattle.std.specs.Prelude.{◌≡◌, ◌++◌, ◌∷◌, List, [], IfOk, OnOk};
-ghost use Rattle.vdcp_judge.specs.Judging.{mode_of};
+ghost use Rattle.vdcp_files.specs.Mode.{mode_of};
 ghost use Rattle.vdcp_offline.specs.Findings.{AreFindings, is_message};
 ghost use Rattle.vdcp_offline.specs.Found.{HasFound, Tells, last_exchange, line_after};
 ghost use Rattle.vdcp_offline.specs.declared.judge.capture.Piece.{Piece};
@@ -53,9 +53,9 @@ impl<'e, S: Source> Found<'e, S> {
             → HasFound S.items settings items pieces self.old →
             OnOk result (HasFound S.items settings items (pieces ++ piece.now ∷ []) self.new) }
     {
-        let confirming = self.told.settings.confirming;
+        let mode = self.told.settings.mode();
         let captured = piece.captured;
-        let ended = exchange_ended(confirming, &mut self.awaited, &captured);
+        let ended = exchange_ended(mode, &mut self.awaited, &captured);
         self.told.add_ended(self.line, ended)?;
         self.line = line_after(self.line, piece);
         self.has_message |= is_message(&captured);

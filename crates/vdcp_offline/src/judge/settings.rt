@@ -1,4 +1,8 @@
 //! What `judge` is told of a capture.
+ghost use Rattle.std.specs.Prelude.{◌≡◌};
+ghost use Rattle.vdcp_files.specs.Mode.{mode_of};
+
+use vdcp_auto::Mode;
 use vdcp_value::Rate;
 
 /// What was captured.
@@ -10,4 +14,17 @@ pub struct JudgeSettings {
     pub rate: Rate,
     /// The automation is in confirm mode.
     pub confirming: bool,
+}
+
+impl JudgeSettings {
+    /// The automation's mode.
+    pub fn mode(self) -> Mode
+        ensures { result ≡ mode_of self.confirming }
+    {
+        if self.confirming {
+            Mode::Confirming
+        } else {
+            Mode::Plain
+        }
+    }
 }

@@ -1,6 +1,5 @@
 //! What is told of the exchanges of a capture, one after another.
 ghost use Rattle.std.specs.Prelude.{◌≡◌, ◌+◌, ◌<◌, ◌^◌, ◌≤◌, ◌++◌, ◌∷◌, [], List, IfOk, OnOk, if◌then◌else◌, slice_get, string_bytes};
-ghost use Rattle.vdcp_judge.specs.Judging.{Knows, mode_of};
 ghost use Rattle.vdcp_offline.specs.Findings.{event_line, forbidden_line, is_forbidden, judged_text};
 ghost use Rattle.vdcp_offline.specs.Found.{AreMore, Tells};
 ghost use Rattle.vdcp_offline.specs.declared.judge.findings.Finding.{Finding};
@@ -41,7 +40,7 @@ impl<'e, S: Source> Told<'e, S> {
         Told {
             settings,
             events,
-            judge: judge_of(events, settings.confirming),
+            judge: Judge::new(events, settings.mode()),
             exchanges: 0,
             forbidden: 0,
             forbidden_text: String::new(alloc),
@@ -112,19 +111,6 @@ impl<'e, S: Source> Told<'e, S> {
         writeln!(text, "forbidden {forbidden}")?;
         writeln!(text, "reported {reported}")?;
         Ok(text)
-    }
-}
-
-/// A new judge.
-fn judge_of<S: Source>(events: &S, confirming: bool) -> Judge<&S>
-    ensures source { result.source.now ≡ events.now }
-    ensures mode { result.mode ≡ mode_of confirming }
-    ensures knows { Knows (λ source. S.items source.now) [] result }
-{
-    if confirming {
-        Judge::confirming(events)
-    } else {
-        Judge::new(events)
     }
 }
 

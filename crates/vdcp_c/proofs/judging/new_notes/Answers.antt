@@ -1,6 +1,5 @@
 -- A new judge knows of no exchange.
 use Rattle.std.proofs.Common.{refl}
-use Rattle.vdcp_judge.specs.Judging.{mode_of}
 use Rattle.vdcp_c.proofs.Judged.{no_cue, no_play}
 use Rattle.vdcp_c.proofs.judging.new_notes.Goals as goal
 
@@ -12,6 +11,6 @@ returns-clause-knows c list = record {
   stopped = refl;
   closed = refl;
   granted = refl;
-  cue_stands = no_cue (mode_of c.args.confirming) list;
-  may_play = no_play (mode_of c.args.confirming) list;
+  cue_stands = no_cue c.args.mode list;
+  may_play = no_play c.args.mode list;
 }

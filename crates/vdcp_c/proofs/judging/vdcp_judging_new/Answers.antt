@@ -1,6 +1,5 @@
 -- A new judge knows of no exchange.
-use Rattle.std.proofs.Common.{Bool, ap, ◌∙◌}
-use Rattle.vdcp_judge.specs.Judging.{mode_of}
+use Rattle.std.proofs.Common.{ap, ◌∙◌}
 use Rattle.vdcp_c.specs.Controllers.{mode_code}
 use Rattle.vdcp_c.specs.Lists.{items_of}
 use Rattle.vdcp_c.proofs.judging.vdcp_judging_new.Goals as goal
@@ -9,6 +8,6 @@ pub returns-clause-new : goal.returns-clause-new
 returns-clause-new c _ = (
   c.new_notes.result,
   c.put.ensures,
-  ap (λ (b : Bool). mode_code (mode_of b)) c.new_notes.ensures.mode ∙ c.in-Some.ensures.some,
+  ap mode_code c.new_notes.ensures.mode ∙ c.in-Some.ensures.some,
   λ rows. c.new_notes.ensures.knows (items_of rows),
 )

@@ -1,4 +1,4 @@
-use Rattle.std.proofs.Common.{ap, arith, refl}
+use Rattle.std.proofs.Common.{ap, refl, ◌∙◌}
 use Rattle.vdcp_offline.specs.Findings.{no_finding}
 use Rattle.vdcp_offline.proofs.judge.told.Told.new.Goals as goal
 
@@ -6,14 +6,13 @@ pub returns : goal.returns
 returns g c = record {
   settings_are = refl;
   events_are = refl;
-  source_is = ap g.S.Source.items c.judge_of.ensures.source;
-  mode_is = c.judge_of.ensures.mode;
-  knows = c.judge_of.ensures.knows;
+  source_is = ap (λ source. g.S.Source.items source.now) c.new.ensures.source;
+  mode_is = c.new.ensures.mode ∙ c.mode.ensures;
+  knows = c.new.ensures.knows;
   ruled = no_finding;
   count = refl;
   exchanges = refl;
   forbidden = refl;
-  few = omega arith;
-  forbidden_text_is = c.new.ensures.bytes;
-  reported_text_is = c.new-2.ensures.bytes;
+  forbidden_text_is = c.new-2.ensures.bytes;
+  reported_text_is = c.new-3.ensures.bytes;
 }

@@ -1,13 +1,12 @@
 use Rattle.std.proofs.Common.{refl}
 use Rattle.vdcp_judge.proofs.Cues.{no_cue_yet, play_stands}
 use Rattle.vdcp_judge.proofs.Judged.{false_is}
-use Rattle.vdcp_judge.specs.Judging.{mode_of}
-use Rattle.vdcp_judge.proofs.judge.Judge.begun.Goals as goal
+use Rattle.vdcp_judge.proofs.judge.Judge.new.Goals as goal
 
 pub returns-clause-knows : goal.returns-clause-knows
 returns-clause-knows g c =
     let list = g.S.Source.items c.args.source in
-    let none = no_cue_yet (mode_of c.args.confirming) list in
+    let none = no_cue_yet c.args.mode list in
     record {
       settled = refl;
       open_play = refl;
