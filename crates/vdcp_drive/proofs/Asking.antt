@@ -5,11 +5,8 @@ use Rattle.std.proofs.lemmas.Bool.{eqb-true, ltb-true}
 use Rattle.std.proofs.lemmas.Grind.{flat_map-append}
 use Rattle.std.proofs.lemmas.List.{map-append}
 use Rattle.std.proofs.lemmas.List.Elements.{All-append, All-nil}
-use Rattle.vdcp_frame.specs.Burst.{messages_of}
-use Rattle.vdcp_frame.specs.Message.{Content, AreOctets}
-use Rattle.vdcp_frame.specs.Progress.{Progress, reading}
-use Rattle.vdcp_frame.specs.Reader.{Follows}
-use Rattle.vdcp_auto.specs.Heard.{heard_first, heard_in}
+use Rattle.vdcp_frame.specs.Message.{AreOctets}
+use Rattle.vdcp_auto.specs.Heard.{heard_in}
 use Rattle.vdcp_auto.specs.declared.exchange.Heard.{Heard}
 use Rattle.vdcp_drive.specs.Bursts.{ended_bursts, open_burst}
 use Rattle.vdcp_drive.specs.Steps.{command_bytes}
@@ -18,7 +15,10 @@ use Rattle.vdcp_auto.specs.declared.exchange.Heard.TheVariants as heard
 use Rattle.vdcp_words.specs.declared.command.Command.{Command}
 use Rattle.vdcp_words.specs.declared.reply.Reply.{Reply}
 use Rattle.vdcp_words.specs.declared.reply.Reply.TheVariants as reply
-use Rattle.vdcp_drive.specs.Vacancy.{HasHeard, heard_by_then, heard_of, IsBetween, HearsBurst, BreaksBurst, vacancy_of, led_by, led_on, unless_led, asking_after, asking_from}
+use Rattle.vdcp_drive.specs.Hearing.{Burst, begun, burst_after, burst_says}
+use Rattle.vdcp_drive.specs.Reading.{holds}
+use Rattle.vdcp_drive.specs.Spelt.{Spelt}
+use Rattle.vdcp_drive.specs.Vacancy.{heard_of, IsBetween, HearsBurst, BreaksBurst, vacancy_of, led_by, led_on, unless_led, asking_after, asking_from}
 use Rattle.vdcp_drive.specs.Vacancy.{asked_from, asked_now, asking_by, questions_by, commands_asked, first_asking, question_command, HasSaid, IsSaid, CameTo, HasAsked, IsPartlyAsked}
 use Rattle.vdcp_drive.specs.declared.vacancy.Asking.{Asking}
 use Rattle.vdcp_drive.specs.declared.vacancy.Asking.TheVariants.{Asks, Over}
@@ -29,9 +29,9 @@ use Rattle.vdcp_drive.specs.declared.vacancy.Vacancy.TheVariants as vacancy
 use Rattle.vdcp_drive.specs.declared.vacancy.Burst.TheVariants as burst
 use Rattle.vdcp_wire.specs.Wires.{Arrival, bytes, silence, close, Told, IfTold, SendsFront, adds_came, adds_drop, adds_sent, came_with, has_closed, nothing_told}
 use Rattle.vdcp_wire.specs.WireLaws.{closed_bytes, closed_silence, closed_close}
-use Rattle.vdcp_drive.proofs.Below.{Read, Fed}
 use Rattle.vdcp_drive.proofs.Cutting.{ended_bytes, open_bytes, ended_silence, open_silence, ended_close}
-use Rattle.vdcp_drive.proofs.Listening.{heard_more}
+use Rattle.vdcp_drive.proofs.Coursing.{bursts_on}
+use Rattle.vdcp_drive.proofs.Firsts.{says_burst}
 
 -- Places of commands.
 
@@ -70,19 +70,18 @@ tells_more t a told told' is h e = e ∙ ap (adds_came a) is
 -- ---- one burst
 
 -- a burst is listened to, which has begun since this was told
-pub record HearsAt (unit total left : ℕ) (t u : Told) (reader : Progress) (heard : Option Heard) : Type 0 where
+pub record HearsAt (unit total left : ℕ) (t u : Told) (ear : Burst) : Type 0 where
   pub sent_is : u.sent ≡ t.sent
   pub drops_are : u.drops ≡ t.drops
   pub no_close : has_closed u.came ≡ false
   pub ended_are : ended_bursts u.came ≡ ended_bursts t.came
   pub bytes_fit : AreOctets (open_burst u.came)
-  pub follows : Follows (open_burst u.came) (messages_of (open_burst u.came)) reader
-  pub hears : heard ≡ heard_first unit (messages_of (open_burst u.came))
+  pub ear_is : ear ≡ burst_after unit (open_burst u.came) (begun (holds []))
   pub listened : length u.came + left ≡ total
 
-pub hears_none : (fed : Fed) (unit left : ℕ) (t : Told) (told : Option Told) → told ≡ Some t → IsBetween t.came
-    → IfTold told (λ u. HearsAt unit (length t.came + left) left t u (reading 0 []) None)
-hears_none fed unit left t told is h = (
+pub hears_none : (unit left : ℕ) (t : Told) (told : Option Told) (ear : Burst) → ear ≡ begun (holds []) → told ≡ Some t
+    → IsBetween t.came → IfTold told (λ u. HearsAt unit (length t.came + left) left t u ear)
+hears_none unit left t told ear new is h = (
   t,
   is,
   record {
@@ -91,8 +90,7 @@ hears_none fed unit left t told is h = (
     no_close = h.no_close;
     ended_are = refl;
     bytes_fit = subst AreOctets (sym h.none_begun) (All-nil (λ b. b < 256));
-    follows = subst (λ (b : List ℕ). Follows b (messages_of b) (reading 0 [])) (sym h.none_begun) fed.start;
-    hears = ap (λ (b : List ℕ). heard_first unit (messages_of b)) (sym h.none_begun);
+    ear_is = new ∙ ap (λ (b : List ℕ). burst_after unit b (begun (holds []))) (sym h.none_begun);
     listened = refl;
   },
 )
@@ -101,21 +99,14 @@ one_more : (came : List Arrival) (a : Arrival) (total left left' : ℕ) → leng
     → length (came ++ a ∷ []) + left' ≡ total
 one_more came a total left left' h less = omega (arith, h, less, length-append came (a ∷ []))
 
-pub hears_bytes : (read : Read) (unit total left left' : ℕ) (t u : Told) (reader : Progress) (heard : Option Heard)
-    (piece : List ℕ)
-    (reader' : Progress) (heard' : Option Heard) (told told' : Option Told)
-    → told ≡ Some u → HearsAt unit total left t u reader heard → left' + 1 ≡ left → AreOctets piece
-    → HasHeard unit reader heard piece reader' heard' → told' ≡ adds_came (bytes piece) told
-    → IfTold told' (λ v. HearsAt unit total left' t v reader' heard')
-hears_bytes read unit total left left' t u reader heard piece reader' heard' told told' is h less fits e more =
-    let begun : List ℕ = open_burst u.came in
-    let mo : List Content = messages_of begun in
+pub hears_bytes : (unit total left left' : ℕ) (t u : Told) (ear ear' : Burst) (piece : List ℕ) (told told' : Option Told)
+    → told ≡ Some u → HearsAt unit total left t u ear → left' + 1 ≡ left → AreOctets piece
+    → ear' ≡ burst_after unit piece ear → told' ≡ adds_came (bytes piece) told
+    → IfTold told' (λ v. HearsAt unit total left' t v ear')
+hears_bytes unit total left left' t u ear ear' piece told told' is h less fits takes more =
+    let was : List ℕ = open_burst u.came in
     let came' : List Arrival = u.came ++ bytes piece ∷ [] in
-    let opened : open_burst came' ≡ begun ++ piece = open_bytes [] u.came piece h.no_close in
-    let all : AreOctets (begun ++ piece) = All-append (λ b. b < 256) begun piece h.bytes_fit fits in
-    let f : Follows (begun ++ piece) (mo ++ e.messages) reader' = e.follows begun mo h.follows in
-    let same : mo ++ e.messages ≡ messages_of (begun ++ piece) =
-    read.messages (begun ++ piece) (mo ++ e.messages) reader' all f in (
+    let opened : open_burst came' ≡ was ++ piece = open_bytes [] u.came piece h.no_close in (
       record { sent = u.sent; came = came'; drops = u.drops },
       tells_more u (bytes piece) told told' is h.no_close more,
       record {
@@ -123,24 +114,19 @@ hears_bytes read unit total left left' t u reader heard piece reader' heard' tol
         drops_are = h.drops_are;
         no_close = closed_bytes u.came piece ∙ h.no_close;
         ended_are = ended_bytes [] u.came piece h.no_close ∙ h.ended_are;
-        bytes_fit = subst AreOctets (sym opened) all;
-        follows = subst (λ (b : List ℕ). Follows b (messages_of b) reader') (sym opened)
-            (subst (λ (l : List Content). Follows (begun ++ piece) l
-            reader') same f);
-        hears = e.hears ∙ ap (λ (x : Option Heard). heard_by_then unit x e.messages) h.hears
-            ∙ heard_more unit mo e.messages
-            ∙ ap (heard_first unit) same
-            ∙ ap (λ (b : List ℕ). heard_first unit (messages_of b)) (sym opened);
+        bytes_fit = subst AreOctets (sym opened) (All-append (λ b. b < 256) was piece h.bytes_fit fits);
+        ear_is = takes ∙ bursts_on unit ear was piece h.ear_is
+            ∙ ap (λ (b : List ℕ). burst_after unit b (begun (holds []))) (sym opened);
         listened = one_more u.came (bytes piece) total left left' h.listened less;
       },
     )
 
-pub hears_silence : (unit listens left left' : ℕ) (t u : Told) (reader : Progress) (heard : Option Heard)
+pub hears_silence : (law : Spelt) (unit listens left left' : ℕ) (t u : Told) (ear : Burst) (heard : Option Heard)
     (told told' : Option Told)
-    → told ≡ Some u → HearsAt unit (length t.came + listens) left t u reader heard → left' + 1 ≡ left
+    → told ≡ Some u → HearsAt unit (length t.came + listens) left t u ear → left' + 1 ≡ left → heard ≡ burst_says ear
     → told' ≡ adds_came silence told
     → IfTold told' (λ v. HearsBurst unit listens left' t v (burst.Ended heard))
-hears_silence unit listens left left' t u reader heard told told' is h less more = (
+hears_silence law unit listens left left' t u ear heard told told' is h less says more = (
   record { sent = u.sent; came = u.came ++ silence ∷ []; drops = u.drops },
   tells_more u silence told told' is h.no_close more,
   record {
@@ -150,18 +136,19 @@ hears_silence unit listens left left' t u reader heard told told' is h less more
       record { no_close = closed_silence u.came ∙ h.no_close; none_begun = open_silence [] u.came h.no_close },
       ap (map (heard_in unit)) (ended_silence [] u.came h.no_close)
           ∙ map-append (heard_in unit) (ended_bursts u.came) (open_burst u.came ∷ [])
-          ∙ ap₂ (λ (bs : List (List ℕ)) (x : Option Heard). map (heard_in unit) bs ++ x ∷ []) h.ended_are (sym h.hears),
+          ∙ ap₂ (λ (bs : List (List ℕ)) (x : Option Heard). map (heard_in unit) bs ++ x ∷ []) h.ended_are
+          (sym (says ∙ ap burst_says h.ear_is ∙ says_burst law unit (open_burst u.came) h.bytes_fit)),
     );
     listened = one_more u.came silence (length t.came + listens) left left' h.listened less;
   },
 )
 
-pub hears_close : (unit listens left left' : ℕ) (t u : Told) (reader : Progress) (heard : Option Heard)
+pub hears_close : (unit listens left left' : ℕ) (t u : Told) (ear : Burst)
     (told told' : Option Told)
-    → told ≡ Some u → HearsAt unit (length t.came + listens) left t u reader heard → left' + 1 ≡ left
+    → told ≡ Some u → HearsAt unit (length t.came + listens) left t u ear → left' + 1 ≡ left
     → told' ≡ adds_came close told
     → IfTold told' (λ v. HearsBurst unit listens left' t v burst.Closed)
-hears_close unit listens left left' t u reader heard told told' is h less more = (
+hears_close unit listens left left' t u ear told told' is h less more = (
   record { sent = u.sent; came = u.came ++ close ∷ []; drops = u.drops },
   tells_more u close told told' is h.no_close more,
   record {
@@ -172,10 +159,10 @@ hears_close unit listens left left' t u reader heard told told' is h less more =
   },
 )
 
-pub hears_spent : (unit listens left : ℕ) (t u : Told) (reader : Progress) (heard : Option Heard) (told : Option Told)
-    → told ≡ Some u → HearsAt unit (length t.came + listens) left t u reader heard → left ≡ 0
+pub hears_spent : (unit listens left : ℕ) (t u : Told) (ear : Burst) (told : Option Told)
+    → told ≡ Some u → HearsAt unit (length t.came + listens) left t u ear → left ≡ 0
     → IfTold told (λ v. HearsBurst unit listens left t v burst.Spent)
-hears_spent unit listens left t u reader heard told is h none = (
+hears_spent unit listens left t u ear told is h none = (
   u,
   is,
   record {
@@ -186,11 +173,11 @@ hears_spent unit listens left t u reader heard told is h none = (
   },
 )
 
-pub breaks_burst : (unit total left : ℕ) (t u : Told) (reader : Progress) (heard : Option Heard)
+pub breaks_burst : (unit total left : ℕ) (t u : Told) (ear : Burst)
     (told told' : Option Told)
-    → told ≡ Some u → HearsAt unit total left t u reader heard → told' ≡ told
+    → told ≡ Some u → HearsAt unit total left t u ear → told' ≡ told
     → IfTold told' (BreaksBurst unit t)
-breaks_burst unit total left t u reader heard told told' is h same =
+breaks_burst unit total left t u ear told told' is h same =
     (u, same ∙ is, record { sent_stays = h.sent_is; heard_stays = ap (map (heard_in unit)) h.ended_are })
 
 -- ---- the questions

@@ -34,12 +34,6 @@ pub record Grows : Type 0 where
   pub first : (ms ns : List Content) (bytes more : List ℕ) (end : End) → SpellsAll ms bytes → length bytes ≤ burst_limit
       → Reads (bytes ++ more) ns end → (others : List Content) × (ns ≡ ms ++ others)
 
--- vdcp_frame::laws::what_is_fed_is_followed
-pub record Fed : Type 0 where
-  pub start : Follows [] [] (reading 0 [])
-  pub next : (burst : List ℕ) (ms : List Content) (answer : Answer) (new : Progress) → FollowsNext burst ms answer new
-      → Follows burst (ms ++ with_message answer []) new
-
 -- vdcp_frame::laws::what_is_followed_is_read, one_reading
 pub record Read : Type 0 where
   pub some : (burst : List ℕ) → AreOctets burst → Reads burst (messages_of burst) (end_of burst)

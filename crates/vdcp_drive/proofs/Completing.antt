@@ -16,19 +16,8 @@ use Rattle.vdcp_frame.specs.declared.message.Fault.TheVariants.{BadStart, BadCou
 use Rattle.vdcp_auto.specs.Heard.{heard_as}
 use Rattle.vdcp_auto.specs.declared.exchange.Heard.{Heard}
 use Rattle.vdcp_drive.specs.HearingLaws.{completed_both, held_both}
+use Rattle.vdcp_drive.specs.Spelt.{Spelt}
 use Rattle.vdcp_drive.specs.Reading.{Held, holds, skips, held_with, held_after, completed, IsReader, HasRead}
-
--- vdcp_frame::laws: no_spelling_begins_another, one_spelling, what_is_spelt_is_bytes, a_spelling_is_its_message,
--- what_is_followed_is_read, one_reading
-pub record Spelt : Type 0 where
-  pub no_other : (m n : Content) (a b rest : List ℕ) → Spells m a → Spells n b → b ≡ a ++ rest → (m ≡ n) × (rest ≡ [])
-  pub only : (m : Content) (bytes : List ℕ) → Spells m bytes → Fits m × (bytes ≡ spelling m)
-  pub octets : (m : Content) (bytes : List ℕ) → Spells m bytes → AreOctets bytes
-  pub size : (m : Content) (bytes : List ℕ) → Spells m bytes → (0 < length bytes) × (length bytes ≤ 258)
-  pub alone : (m : Content) → Fits m → messages_of (spelling m) ≡ m ∷ []
-  pub read : (burst : List ℕ) (ms : List Content) (p : Progress) → Follows burst ms p → ReadsAs burst ms (ended_of p)
-  pub computed : (burst : List ℕ) (ms : List Content) (end : End) → AreOctets burst → Reads burst ms end
-      → (ms ≡ messages_of burst) × (end ≡ end_of burst)
 
 -- Bytes that begin a message and are no whole one.
 
