@@ -81,21 +81,6 @@ pub record Stands {W V : Type 0} (does : Act → W → W → Type 0) (sees : Loo
   pub acted : Chain does (acts_of s came) wire wire'
   pub looked : Chain sees (looks_of s came) watch watch'
 
-pub stands_first : {W V : Type 0} (does : Act → W → W → Type 0) (sees : Look → V → V → Type 0) (s : Service)
-    (reader : Progress) (wire : W) (watch : V) → HasRead s.burst reader
-    → Stands does sees 0 s s.port reader wire wire watch watch false
-stands_first does sees s reader wire watch h = record {
-  came = [];
-  count = refl;
-  closed_is = refl;
-  octets = All-nil AreOctetsIn;
-  closes_last = refl;
-  port_is = refl;
-  has_read = h;
-  acted = refl;
-  looked = refl;
-}
-
 -- the service that a port and a burst are
 same_service : (port : ClockedPort) (s : Service) → port ≡ s.port → record { port = port; burst = s.burst } ≡ s
 same_service port s is = ap (λ (p : ClockedPort). record { port = p; burst = s.burst }) is

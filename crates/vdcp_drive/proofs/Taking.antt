@@ -109,19 +109,6 @@ read_whole piece front rest left count parts leaves none =
     sym (append-nil (front ++ take count rest)) ∙ ap (λ (b : List ℕ). (front ++ take count rest) ++ b) (sym none)
     ∙ sym (parts_on piece front rest left count parts leaves)
 
-pub follows_on : (burst : List ℕ) (ms : List Content) (reader : Progress) → Follows burst ms reader
-    → Follows (burst ++ []) (ms ++ []) reader
-follows_on burst ms reader f =
-    subst (λ (b : List ℕ). Follows b (ms ++ []) reader) (sym (append-nil burst))
-    (subst (λ (l : List Content). Follows burst l reader) (sym (append-nil ms)) f)
-
-pub follows_both : (burst front piece : List ℕ) (ms ns os : List Content) (reader : Progress)
-    → Follows ((burst ++ front) ++ piece) ((ms ++ ns) ++ os) reader
-    → Follows (burst ++ (front ++ piece)) (ms ++ (ns ++ os)) reader
-follows_both burst front piece ms ns os reader f =
-    subst (λ (l : List ℕ). Follows l (ms ++ (ns ++ os)) reader) (append_assoc burst front piece)
-    (subst (λ (l : List Content). Follows ((burst ++ front) ++ piece) l reader) (append_assoc ms ns os) f)
-
 -- Calls after calls.
 
 pub taken_none : {W : Type 0} (does : Act → W → W → Type 0) (s : Service) (reader : Progress) (aired : Option Item)
