@@ -17,7 +17,7 @@ use Rattle.vdcp_words.specs.declared.reply.Reply.{Reply}
 use Rattle.vdcp_words.specs.declared.reply.Reply.TheVariants as reply
 use Rattle.vdcp_drive.specs.Hearing.{Burst, begun, burst_after, burst_says}
 use Rattle.vdcp_drive.specs.Reading.{holds}
-use Rattle.vdcp_drive.specs.Spelt.{Spelt}
+use Rattle.vdcp_drive.specs.Below.{Below}
 use Rattle.vdcp_drive.specs.Vacancy.{heard_of, IsBetween, HearsBurst, BreaksBurst, vacancy_of, led_by, led_on, unless_led, asking_after, asking_from}
 use Rattle.vdcp_drive.specs.Vacancy.{asked_from, asked_now, asking_by, questions_by, commands_asked, first_asking, question_command, HasSaid, IsSaid, CameTo, HasAsked, IsPartlyAsked}
 use Rattle.vdcp_drive.specs.declared.vacancy.Asking.{Asking}
@@ -121,7 +121,7 @@ hears_bytes unit total left left' t u ear ear' piece told told' is h less fits t
       },
     )
 
-pub hears_silence : (law : Spelt) (unit listens left left' : ℕ) (t u : Told) (ear : Burst) (heard : Option Heard)
+pub hears_silence : (law : Below) (unit listens left left' : ℕ) (t u : Told) (ear : Burst) (heard : Option Heard)
     (told told' : Option Told)
     → told ≡ Some u → HearsAt unit (length t.came + listens) left t u ear → left' + 1 ≡ left → heard ≡ burst_says ear
     → told' ≡ adds_came silence told

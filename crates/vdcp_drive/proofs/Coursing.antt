@@ -24,7 +24,7 @@ use Rattle.vdcp_drive.specs.Reading.{holds}
 use Rattle.vdcp_drive.specs.Tells.{BreaksOn, RunsOn}
 use Rattle.vdcp_drive.specs.Traces.{until_close}
 use Rattle.vdcp_drive.specs.declared.line.Ran.{Ran}
-use Rattle.vdcp_drive.specs.Spelt.{Spelt}
+use Rattle.vdcp_drive.specs.Below.{Below}
 use Rattle.vdcp_drive.proofs.Firsts.{says_burst}
 
 ticked_at : (stage : Stage) (s : State) → s.stage ≡ stage → ticked (tick_in stage s) ≡ tick_in stage s
@@ -126,7 +126,7 @@ pub bursts_on : (unit : ℕ) (e : Burst) (burst piece : List ℕ) → e ≡ burs
 bursts_on unit e burst piece is =
     ap (burst_after unit piece) is ∙ sym (at_silences_in_pieces.takes_both unit burst piece fresh)
 
-log_course : (law : Spelt) (plan : Plan) (unit : ℕ) (e : Burst) (s : State) (burst : List ℕ)
+log_course : (law : Below) (plan : Plan) (unit : ℕ) (e : Burst) (s : State) (burst : List ℕ)
     (came : List Arrival) → AreOctets burst → All AreOctetsIn came → until_close came ≡ came
     → e ≡ burst_after unit burst fresh
     → log_of at_silences plan unit (record { ear = e; state = s }) came
@@ -178,7 +178,7 @@ left_ticked plan unit s [] came within =
 left_ticked plan unit s (b ∷ bursts) came within =
     ap (λ (x : State). left_behind plan x (map (input_in unit) bursts) came) (input_ticked plan s (heard_in unit b))
 
-state_left : (law : Spelt) (plan : Plan) (unit : ℕ) (e : Burst) (s : State) (burst : List ℕ)
+state_left : (law : Below) (plan : Plan) (unit : ℕ) (e : Burst) (s : State) (burst : List ℕ)
     (came : List Arrival) → AreOctets burst → All AreOctetsIn came → until_close came ≡ came
     → e ≡ burst_after unit burst fresh
     → (after at_silences plan unit (record { ear = e; state = s }) came).state
@@ -209,7 +209,7 @@ state_left law plan unit e s burst (close ∷ y ∷ later) fits all last is = cc
 
 -- A new automation.
 
-pub new_course : (law : Spelt) (plan : Plan) (unit count : ℕ) (a' : Auto Burst) (r : Ran) (u : Told)
+pub new_course : (law : Below) (plan : Plan) (unit count : ℕ) (a' : Auto Burst) (r : Ran) (u : Told)
     → RunsOn at_silences plan unit count new_auto a' r nothing_told u → HasCourse plan unit u a'.state
 new_course law plan unit count a' r u h =
     let came_is : u.came ≡ h.since = h.came_is in
@@ -248,7 +248,7 @@ course_if law plan unit count a a' told told' (Err f) h = tt
 
 -- The same where the wire failed.
 
-left_so : (law : Spelt) (plan : Plan) (unit : ℕ) (a' : Auto Burst) (came since : List Arrival)
+left_so : (law : Below) (plan : Plan) (unit : ℕ) (a' : Auto Burst) (came since : List Arrival)
     → came ≡ since → All AreOctetsIn since → until_close since ≡ since
     → (a' ≡ after at_silences plan unit new_auto since) ⊎ (a' ≡ gives (after at_silences plan unit new_auto since))
     → (a'.state ≡ left_behind plan start (inputs_behind unit [] came) came)
@@ -262,7 +262,7 @@ left_so law plan unit a' came since same fits last (inr is) =
     ∙ ap ticked (state_left law plan unit fresh start [] since (All-nil (λ b. b < 256)) fits last refl
     ∙ ap (λ (l : List Arrival). left_behind plan start (inputs_behind unit [] l) l) (sym same)))
 
-pub new_broken : (law : Spelt) (plan : Plan) (unit : ℕ) (a' : Auto Burst) (u : Told)
+pub new_broken : (law : Below) (plan : Plan) (unit : ℕ) (a' : Auto Burst) (u : Told)
     → BreaksOn at_silences plan unit new_auto a' nothing_told u → HasCourseBroken plan unit u a'.state
 new_broken law plan unit a' u h =
     let came_is : u.came ≡ h.since = h.came_is in

@@ -10,7 +10,7 @@ use Rattle.vdcp_auto.specs.Heard.{heard_as, heard_first, heard_in}
 use Rattle.vdcp_drive.specs.Hearing.{begun, burst_after, burst_says, burst_with}
 use Rattle.vdcp_drive.specs.HearingLaws.{completed_both}
 use Rattle.vdcp_drive.specs.Reading.{Held, holds, skips, held_with, held_after, completed}
-use Rattle.vdcp_drive.specs.Spelt.{Spelt}
+use Rattle.vdcp_drive.specs.Below.{Below}
 use Rattle.vdcp_drive.proofs.Completing.{completes, completes_nothing}
 
 -- a burst that reads as some message first begins with a spelling of it
@@ -20,7 +20,7 @@ record BeginsWith (burst : List ℕ) (m : Content) : Type 0 where
   spelt : Spells m first
   parts : burst ≡ first ++ more
 
-begins_with : (law : Spelt) (burst : List ℕ) (m : Content) (ms : List Content) → AreOctets burst
+begins_with : (law : Below) (burst : List ℕ) (m : Content) (ms : List Content) → AreOctets burst
     → messages_of burst ≡ m ∷ ms → BeginsWith burst m
 begins_with law burst m ms fits is =
     let r : Reads burst (m ∷ ms) (end_of burst) =
@@ -44,7 +44,7 @@ octets_back : (xs ys : List ℕ) → AreOctets (xs ++ ys) → AreOctets ys
 octets_back xs ys h = subst AreOctets (drop-append_seam xs ys) (All-drop (λ b. b < 256) (length xs) (xs ++ ys) h)
 
 -- with more bytes it still does
-first_stays : (law : Spelt) (burst more : List ℕ) (m : Content) (ms : List Content)
+first_stays : (law : Below) (burst more : List ℕ) (m : Content) (ms : List Content)
     → AreOctets (burst ++ more) → messages_of burst ≡ m ∷ ms
     → (others : List Content) × (messages_of (burst ++ more) ≡ m ∷ others)
 first_stays law burst more m ms fits is =
@@ -57,7 +57,7 @@ first_stays law burst more m ms fits is =
     (f.0, ap messages_of parts ∙ f.1)
 
 -- what is completed first is read first
-by_end : (law : Spelt) (b xs : List ℕ) (m : Content) (ms ns : List Content) (end : End)
+by_end : (law : Below) (b xs : List ℕ) (m : Content) (ms ns : List Content) (end : End)
     → AreOctets (b ++ xs) → messages_of b ≡ ns → ns ++ completed (held_with b ns end) xs ≡ m ∷ ms
     → (completed (holds b) xs ≡ m ∷ ms → (others : List Content) × (messages_of (b ++ xs) ≡ m ∷ others))
     → (others : List Content) × (messages_of (b ++ xs) ≡ m ∷ others)
@@ -70,7 +70,7 @@ by_end law b xs m ms [] (cut count) fits are is later = later is
 by_end law b xs m ms [] (fault which place) fits are is later =
     let none : completed skips xs ≡ [] = (completes_nothing xs).0 in cc
 
-completed_first : (law : Spelt) (held xs : List ℕ) (m : Content) (ms : List Content)
+completed_first : (law : Below) (held xs : List ℕ) (m : Content) (ms : List Content)
     → AreOctets (held ++ xs) → completed (holds held) xs ≡ m ∷ ms
     → (others : List Content) × (messages_of (held ++ xs) ≡ m ∷ others)
 completed_first law held [] m ms fits is = cc
@@ -83,7 +83,7 @@ completed_first law held (x ∷ xs) m ms fits is =
     (r.0, ap messages_of (sym all) ∙ r.1)
 
 -- and the other way round
-read_first : (law : Spelt) (xs : List ℕ) (m : Content) (ms : List Content) → AreOctets xs
+read_first : (law : Below) (xs : List ℕ) (m : Content) (ms : List Content) → AreOctets xs
     → messages_of xs ≡ m ∷ ms → (others : List Content) × (completed (holds []) xs ≡ m ∷ others)
 read_first law xs m ms fits is =
     let b = begins_with law xs m ms fits is in
@@ -94,7 +94,7 @@ read_first law xs m ms fits is =
     )
 
 -- so the same is heard first
-same_first : (law : Spelt) (unit : ℕ) (xs : List ℕ) (cs ms : List Content) → AreOctets xs
+same_first : (law : Below) (unit : ℕ) (xs : List ℕ) (cs ms : List Content) → AreOctets xs
     → completed (holds []) xs ≡ cs → messages_of xs ≡ ms → heard_first unit cs ≡ heard_first unit ms
 same_first law unit xs [] [] fits are is = refl
 same_first law unit xs [] (m ∷ ms) fits are is = let r = read_first law xs m ms fits is in cc (are, r.1)
@@ -108,7 +108,7 @@ said_first unit held [] = refl
 said_first unit held (c ∷ cs) = refl
 
 -- what an ear says of a burst is what is heard in it
-pub says_burst : (law : Spelt) (unit : ℕ) (burst : List ℕ) → AreOctets burst
+pub says_burst : (law : Below) (unit : ℕ) (burst : List ℕ) → AreOctets burst
     → burst_says (burst_after unit burst (begun (holds []))) ≡ heard_in unit burst
 says_burst law unit burst fits =
     said_first unit (held_after (holds []) burst) (completed (holds []) burst)

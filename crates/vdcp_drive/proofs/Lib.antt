@@ -1,5 +1,4 @@
 mod Examples
-pub mod Below
 pub mod Cutting
 pub mod Chains
 pub mod Taking

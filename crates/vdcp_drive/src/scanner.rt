@@ -72,7 +72,7 @@ fn read_some(unit: u8, reader: &mut Option<Reader>, piece: &[u8]) -> (usize, Opt
     ensures reads { HasRead unit reader.old (take result.0 piece.now) reader.new result.1 }
     ensures reader { IsReader reader.new }
 {
-    laws::what_is_spelt();
+    laws::laws_below();
     let Some(begun) = reader else {
         return (piece.len(), None);
     };

@@ -168,7 +168,7 @@ fn hear_burst<W: Wire>(unit: u8, left: &mut u32, wire: &mut W) -> Result<Burst, 
     ensures works { OnOk result (W.failures wire.new ≡ 0) }
     ensures failed { OnErr result (W.failures wire.new ≡ 1) }
 {
-    laws::what_is_spelt();
+    laws::laws_below();
     let mut ear = AtSilences::new();
     let mut buffer = [0; PIECE];
     'burst: while *left > 0 {

@@ -14,7 +14,7 @@ returns-in_default-clause-reads c =
 
 pub returns-in-Message-clause-reads : goal.returns-in-Message-clause-reads
 returns-in-Message-clause-reads c =
-    let law = c.what_is_spelt.ensures in
+    let law = c.laws_below.ensures in
     let n : ℕ = c.feed.result.0 in
     let m : Content = content_of c.in-Message.message in
     let begun : IsReader (Some c.in-Some.begun) = subst IsReader c.in-Some.is c.requires in
@@ -31,7 +31,7 @@ returns-in-Message-clause-reads c =
 
 pub returns-in-More-clause-reads : goal.returns-in-More-clause-reads
 returns-in-More-clause-reads c =
-    let law = c.what_is_spelt.ensures in
+    let law = c.laws_below.ensures in
     let n : ℕ = c.feed.result.0 in
     let p : Progress = c.in-Some.begun in
     let begun : IsReader (Some p) = subst IsReader c.in-Some.is c.requires in
@@ -46,7 +46,7 @@ returns-in-More-clause-reads c =
 
 pub returns-in-Fault-clause-reads : goal.returns-in-Fault-clause-reads
 returns-in-Fault-clause-reads c =
-    let law = c.what_is_spelt.ensures in
+    let law = c.laws_below.ensures in
     let n : ℕ = c.feed.result.0 in
     let p : Progress = c.in-Some.begun in
     let a : Answer = wrong c.in-Fault.field-0 c.in-Fault.field-1 in

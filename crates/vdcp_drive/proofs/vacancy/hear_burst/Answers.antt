@@ -32,7 +32,7 @@ burst-preserved g c = record {
 pub returns-in-Silence-clause-hears : goal.returns-in-Silence-clause-hears
 returns-in-Silence-clause-hears g c t is between =
     let h = c.burst.invariant.hears t is between in
-    hears_silence c.what_is_spelt.ensures c.args.unit _ _ _ t h.0 _ _ _ _ h.1 h.2 (omega (arith, c.burst-test.true))
+    hears_silence c.laws_below.ensures c.args.unit _ _ _ t h.0 _ _ _ _ h.1 h.2 (omega (arith, c.burst-test.true))
     c.rest.ensures.says
     (c.in_ok-n.ensures.came ∙ ap (λ (k : Came). adds_came (arrival_of k c.listen.new.buffer)
     (g.W.Wire.told c.burst.wire)) c.in-Silence.is)
