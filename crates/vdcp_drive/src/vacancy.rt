@@ -130,7 +130,7 @@ pub fn ask_port<W: Wire>(
     let mut unanswered = 0;
     'asking: loop {
         wire.drop_waiting()?;
-        send_command(&question.command(port), unit, wire)?;
+        send_question(question, port, unit, wire)?;
         let heard = match hear_burst(unit, left, wire)? {
             Burst::Ended(heard) => heard,
             Burst::Closed => return Ok(Vacancy::Closed),
@@ -182,16 +182,23 @@ fn hear_burst<W: Wire>(unit: u8, left: &mut u32, wire: &mut W) -> Result<Burst, 
     Ok(Burst::Spent)
 }
 
-// Sends the bytes of a command.
-fn send_command<W: Wire>(command: &Command, unit: u8, wire: &mut W) -> Result<(), WireFault>
+// Sends the command that asks it.
+fn send_question<W: Wire>(
+    question: Question,
+    port: u8,
+    unit: u8,
+    wire: &mut W,
+) -> Result<(), WireFault>
     requires unit { unit ≤ 15 }
     requires works { W.failures wire.old ≡ 0 }
-    ensures sent { OnOk result (W.told wire.new ≡ adds_sent (command_bytes unit command.now) (W.told wire.old)) }
-    ensures front { OnErr result (SendsFront (command_bytes unit command.now) (W.told wire.old) (W.told wire.new)) }
+    ensures sent { OnOk result (W.told wire.new ≡ adds_sent (command_bytes unit (question_command port question))
+        (W.told wire.old)) }
+    ensures front { OnErr result (SendsFront (command_bytes unit (question_command port question)) (W.told wire.old)
+        (W.told wire.new)) }
     ensures works { OnOk result (W.failures wire.new ≡ 0) }
     ensures failed { OnErr result (W.failures wire.new ≡ 1) }
 {
-    wire.send(command.encode(unit).as_slice())
+    wire.send(question.command(port).encode(unit).as_slice())
 }
 
 // Has the ear take all these bytes.

@@ -77,9 +77,6 @@ returns-in_err-answer-in-Message-clause-broken g c burst h =
     (answers.airs ∙ ap (λ (items : List Item). last_aired p.aired items) (sym (c.one_alone.ensures.aired p.port m)))
     answers.front))
 
-pub returns-in_err-answer-in-Message-clause-fits : goal.returns-in_err-answer-in-Message-clause-fits
-returns-in_err-answer-in-Message-clause-fits g c = fitting c.args.piece.now (λ i. omega (arith, c.type_inv.piece i))
-
 pub piece-preserved : goal.piece-preserved
 piece-preserved g c =
     let law = c.laws_below.ensures in
@@ -121,6 +118,3 @@ returns-in-More-clause-taken g c burst h =
     (read_whole s.piece.now i.1 rest left r.count i.2 r.leaves c.in-More.ensures.shorter)
     (taken_on does law at p.port p.port p.reader new s.aired.now p.aired p.aired s.wire.now p.wire p.wire i.1
     rest left more h.octets (i.3 burst h) r (All-take (λ b. b < 256) r.count rest fits) refl refl refl)
-
-pub returns-in-More-clause-fits : goal.returns-in-More-clause-fits
-returns-in-More-clause-fits g c = fitting c.args.piece.now (λ i. omega (arith, c.type_inv.piece i))
