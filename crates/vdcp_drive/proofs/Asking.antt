@@ -228,57 +228,6 @@ passed_more question.Status hs h (a, b, c, e) = (
       ∙ ap (λ (l : List (Option Heard)). a ++ granted ∷ l) (append_assoc b (acked ∷ c) (h ∷ [])),
 )
 
--- what an answer to a question says, and where it leads
-abbrev IsLed : Question → Option Heard → Asking → Type 0
-IsLed question.Open h (Asks q n) = (h ≡ granted) × (q ≡ question.Select) × (n ≡ 0)
-IsLed question.Select h (Asks q n) = (h ≡ acked) × (q ≡ question.Status) × (n ≡ 0)
-IsLed question.Status h (Asks q n) = ⊥
-IsLed question.Open h (Over v) = v ≡ vacancy.Denied
-IsLed question.Select h (Over v) = ⊥
-IsLed question.Status h (Over v) =
-    (groups : ℕ) × (state : ℕ) × (h ≡ Some (heard.Reply (reply.State groups (Some state)))) × (v ≡ vacancy_of state)
-
-of_some : (a b : Asking) → Some a ≡ Some b → a ≡ b
-of_some a b e = cc
-
-led_open : (given : Bool) (next : Asking) → led_by question.Open (reply.Opened given) ≡ Some next
-    → IsLed question.Open (Some (heard.Reply (reply.Opened given))) next
-led_open true next e = subst (IsLed question.Open granted) (of_some (Asks question.Select 0) next e) (refl, refl, refl)
-led_open false next e =
-    subst (IsLed question.Open (Some (heard.Reply (reply.Opened false)))) (of_some (Over vacancy.Denied) next e) refl
-
-led_reply : (q : Question) (r : Reply) (next : Asking) → led_by q r ≡ Some next → IsLed q (Some (heard.Reply r)) next
-led_reply question.Open (reply.Opened given) next e = led_open given next e
-led_reply question.Open reply.Ack next e = cc
-led_reply question.Open (reply.Nak b) next e = cc
-led_reply question.Open (reply.State g s) next e = cc
-led_reply question.Open (reply.Active id) next e = cc
-led_reply question.Open (reply.Present p) next e = cc
-led_reply question.Open (reply.Size s) next e = cc
-led_reply question.Select reply.Ack next e =
-    subst (IsLed question.Select acked) (of_some (Asks question.Status 0) next e) (refl, refl, refl)
-led_reply question.Select (reply.Opened given) next e = cc
-led_reply question.Select (reply.Nak b) next e = cc
-led_reply question.Select (reply.State g s) next e = cc
-led_reply question.Select (reply.Active id) next e = cc
-led_reply question.Select (reply.Present p) next e = cc
-led_reply question.Select (reply.Size s) next e = cc
-led_reply question.Status (reply.State g (Some s)) next e =
-    subst (IsLed question.Status (Some (heard.Reply (reply.State g (Some s))))) (of_some (Over (vacancy_of s)) next e)
-    (g, s, refl, refl)
-led_reply question.Status (reply.State g None) next e = cc
-led_reply question.Status reply.Ack next e = cc
-led_reply question.Status (reply.Opened given) next e = cc
-led_reply question.Status (reply.Nak b) next e = cc
-led_reply question.Status (reply.Active id) next e = cc
-led_reply question.Status (reply.Present p) next e = cc
-led_reply question.Status (reply.Size s) next e = cc
-
-led_heard : (q : Question) (h : Option Heard) (next : Asking) → led_on q h ≡ Some next → IsLed q h next
-led_heard q None next e = cc
-led_heard q (Some heard.Other) next e = cc
-led_heard q (Some (heard.Reply r)) next e = led_reply q r next e
-
 -- what holds after one exchange more, in which this was heard
 abbrev HoldsOn : ℕ → List (Option Heard) → ℕ → Asking → Type 0
 HoldsOn limit hs count (Asks q n) = (n < limit) × (count ≤ room limit q + n) × Passed q hs
@@ -301,53 +250,58 @@ said_so : (b : Bool) (state : ℕ) (hs : List (Option Heard)) → nat_eq state 1
 said_so true state hs is said = subst (HasSaid hs) (eqb-true state 1 is) said
 said_so false state hs is said = said
 
-led_so : (limit : ℕ) (q : Question) (n count : ℕ) (hs : List (Option Heard)) (h : Option Heard) (next : Asking)
-    → IsLed q h next → n < limit → count ≤ room limit q + n → Passed q hs
-    → HoldsOn limit (hs ++ h ∷ []) (count + 1) next
-led_so limit question.Open n count hs h (Asks q m) (heard_is, q_is, m_is) less few passed =
-    subst (λ (q' : Question). HoldsOn limit (hs ++ h ∷ []) (count + 1) (Asks q' m)) (sym q_is) (
-      omega (arith, m_is, less),
-      omega (arith, m_is, less, few),
-      (hs, [], ap (λ (x : Option Heard). hs ++ x ∷ []) heard_is),
-    )
-led_so limit question.Select n count hs h (Asks q m) (heard_is, q_is, m_is) less few (a, b, e) =
-    subst (λ (q' : Question). HoldsOn limit (hs ++ h ∷ []) (count + 1) (Asks q' m)) (sym q_is) (
-      omega (arith, m_is, less),
-      omega (arith, m_is, less, few),
-      (
-        a,
-        b,
-        [],
-        ap₂ (λ (l : List (Option Heard)) (x : Option Heard). l ++ x ∷ []) e heard_is
-            ∙ append_assoc a (granted ∷ b) (acked ∷ []),
-      ),
-    )
-led_so limit question.Status n count hs h (Asks q m) led less few passed = absurd led
-led_so limit question.Open n count hs h (Over v) led less few passed =
-    subst (λ (v' : Vacancy). HoldsOn limit (hs ++ h ∷ []) (count + 1) (Over v')) (sym led)
+missed : (limit : ℕ) (q : Question) (n count : ℕ) (hs : List (Option Heard)) (h : Option Heard) → n < limit
+    → count ≤ room limit q + n → Passed q hs → HoldsOn limit (hs ++ h ∷ []) (count + 1) (unless_led limit q n None)
+missed limit q n count hs h = missed_by (nat_lt (n + 1) limit) limit q n count hs h refl
+
+replied : (limit : ℕ) (q : Question) (n count : ℕ) (hs : List (Option Heard)) (r : Reply) → n < limit
+    → count ≤ room limit q + n → Passed q hs
+    → HoldsOn limit (hs ++ Some (heard.Reply r) ∷ []) (count + 1) (unless_led limit q n (led_by q r))
+replied limit question.Open n count hs (reply.Opened true) less few passed =
+    (omega (arith, less), omega (arith, less, few), (hs, [], refl))
+replied limit question.Open n count hs (reply.Opened false) less few passed =
     (within limit question.Open n count less few, tt)
-led_so limit question.Select n count hs h (Over v) led less few passed = absurd led
-led_so limit question.Status n count hs h (Over v) (groups, state, heard_is, v_is) less few (a, b, c, e) =
+replied limit question.Select n count hs reply.Ack less few (a, b, e) = (
+  omega (arith, less),
+  omega (arith, less, few),
+  (a, b, [], ap (λ (l : List (Option Heard)). l ++ acked ∷ []) e ∙ append_assoc a (granted ∷ b) (acked ∷ [])),
+)
+replied limit question.Status n count hs (reply.State groups (Some state)) less few (a, b, c, e) =
+    let h : Option Heard = Some (heard.Reply (reply.State groups (Some state))) in
     let said : HasSaid (hs ++ h ∷ []) state = record {
       before = a;
       opened = b;
       selected = c;
       groups = groups;
-      parts = ap₂ (λ (l : List (Option Heard)) (x : Option Heard). l ++ x ∷ []) e heard_is
-          ∙ append_assoc a (granted ∷ (b ++ acked ∷ c)) (Some (heard.Reply (reply.State groups (Some state))) ∷ [])
-          ∙ ap (λ (l : List (Option Heard)). a ++ granted ∷ l)
-          (append_assoc b (acked ∷ c) (Some (heard.Reply (reply.State groups (Some state))) ∷ []));
+      parts = ap (λ (l : List (Option Heard)). l ++ h ∷ []) e ∙ append_assoc a (granted ∷ (b ++ acked ∷ c)) (h ∷ [])
+          ∙ ap (λ (l : List (Option Heard)). a ++ granted ∷ l) (append_assoc b (acked ∷ c) (h ∷ []));
     } in
-    subst (λ (v' : Vacancy). HoldsOn limit (hs ++ h ∷ []) (count + 1) (Over v')) (sym v_is)
     (within limit question.Status n count less few, said_so (nat_eq state 1) state (hs ++ h ∷ []) refl said)
+replied limit question.Open n count hs reply.Ack less few passed = missed limit question.Open n count hs _ less few passed
+replied limit question.Open n count hs (reply.Nak b) less few passed = missed limit question.Open n count hs _ less few passed
+replied limit question.Open n count hs (reply.State g s) less few passed = missed limit question.Open n count hs _ less few passed
+replied limit question.Open n count hs (reply.Active id) less few passed = missed limit question.Open n count hs _ less few passed
+replied limit question.Open n count hs (reply.Present p) less few passed = missed limit question.Open n count hs _ less few passed
+replied limit question.Open n count hs (reply.Size s) less few passed = missed limit question.Open n count hs _ less few passed
+replied limit question.Select n count hs (reply.Opened given) less few passed = missed limit question.Select n count hs _ less few passed
+replied limit question.Select n count hs (reply.Nak b) less few passed = missed limit question.Select n count hs _ less few passed
+replied limit question.Select n count hs (reply.State g s) less few passed = missed limit question.Select n count hs _ less few passed
+replied limit question.Select n count hs (reply.Active id) less few passed = missed limit question.Select n count hs _ less few passed
+replied limit question.Select n count hs (reply.Present p) less few passed = missed limit question.Select n count hs _ less few passed
+replied limit question.Select n count hs (reply.Size s) less few passed = missed limit question.Select n count hs _ less few passed
+replied limit question.Status n count hs (reply.State g None) less few passed = missed limit question.Status n count hs _ less few passed
+replied limit question.Status n count hs reply.Ack less few passed = missed limit question.Status n count hs _ less few passed
+replied limit question.Status n count hs (reply.Opened given) less few passed = missed limit question.Status n count hs _ less few passed
+replied limit question.Status n count hs (reply.Nak b) less few passed = missed limit question.Status n count hs _ less few passed
+replied limit question.Status n count hs (reply.Active id) less few passed = missed limit question.Status n count hs _ less few passed
+replied limit question.Status n count hs (reply.Present p) less few passed = missed limit question.Status n count hs _ less few passed
+replied limit question.Status n count hs (reply.Size s) less few passed = missed limit question.Status n count hs _ less few passed
 
-holds_by : (limit : ℕ) (q : Question) (n count : ℕ) (hs : List (Option Heard)) (h : Option Heard) (o : Option Asking)
-    → led_on q h ≡ o → n < limit → count ≤ room limit q + n → Passed q hs
-    → HoldsOn limit (hs ++ h ∷ []) (count + 1) (unless_led limit q n o)
-holds_by limit q n count hs h None is less few passed =
-    missed_by (nat_lt (n + 1) limit) limit q n count hs h refl less few passed
-holds_by limit q n count hs h (Some next) is less few passed =
-    led_so limit q n count hs h next (led_heard q h next is) less few passed
+holds_by : (limit : ℕ) (q : Question) (n count : ℕ) (hs : List (Option Heard)) (h : Option Heard) → n < limit
+    → count ≤ room limit q + n → Passed q hs → HoldsOn limit (hs ++ h ∷ []) (count + 1) (asking_after limit q n h)
+holds_by limit q n count hs None = missed limit q n count hs None
+holds_by limit q n count hs (Some heard.Other) = missed limit q n count hs (Some heard.Other)
+holds_by limit q n count hs (Some (heard.Reply r)) = replied limit q n count hs r
 
 -- some exchanges that come before a question
 passes : (q : Question) → (hs : List (Option Heard)) × Passed q hs
@@ -359,7 +313,7 @@ pub stays_under : (limit : ℕ) (q q' : Question) (n n' : ℕ) (h : Option Heard
     → n < limit → n' < limit
 stays_under limit q q' n n' h is less =
     let p = passes q in
-    let held = holds_by limit q n 0 p.0 h (led_on q h) refl less (omega arith) p.1 in
+    let held = holds_by limit q n 0 p.0 h less (omega arith) p.1 in
     (subst (HoldsOn limit (p.0 ++ h ∷ []) 1) is held).0
 
 -- the questions of the exchanges that ended, and their commands
@@ -374,25 +328,23 @@ abbrev commands_heard : ℕ → ℕ → List (Option Heard) → List Command
 commands_heard port limit hs =
     map (question_command port) (asked_from limit hs first_asking ++ asked_now (asking_from limit hs first_asking))
 
--- a question is to be asked
-pub record AsksAt (unit port limit listens left : ℕ) (q : Question) (n : ℕ) (u : Told) : Type 0 where
+-- a question is asked next, where these commands went out
+pub record Stands (commands : List Arrival → List Command) (unit limit listens left : ℕ) (q : Question) (n : ℕ) (u : Told) :
+    Type 0 where
   pub asking_is : asking_by unit limit u.came ≡ Asks q n
-  pub sent_is : u.sent ≡ bytes_of unit (ended_commands unit port limit u.came)
-  pub drops_are : u.drops ≡ starts_behind unit 0 (ended_commands unit port limit u.came)
+  pub sent_is : u.sent ≡ bytes_of unit (commands u.came)
+  pub drops_are : u.drops ≡ starts_behind unit 0 (commands u.came)
   pub between : IsBetween u.came
   pub listened : length u.came + left ≡ listens
   pub few : length (ended_questions unit limit u.came) ≤ room limit q + n
   pub passed : Passed q (heard_of unit u.came)
 
--- it is asked, and its answer not listened to yet
-pub record AskedAt (unit port limit listens left : ℕ) (q : Question) (n : ℕ) (u : Told) : Type 0 where
-  pub asking_is : asking_by unit limit u.came ≡ Asks q n
-  pub sent_is : u.sent ≡ bytes_of unit (commands_asked unit port limit u.came)
-  pub drops_are : u.drops ≡ starts_behind unit 0 (commands_asked unit port limit u.came)
-  pub between : IsBetween u.came
-  pub listened : length u.came + left ≡ listens
-  pub few : length (ended_questions unit limit u.came) ≤ room limit q + n
-  pub passed : Passed q (heard_of unit u.came)
+-- it is to be asked; and it is asked, and its answer not listened to yet
+abbrev pub AsksAt : (unit port limit listens left : ℕ) → Question → ℕ → Told → Type 0
+AsksAt unit port limit listens left q n u = Stands (ended_commands unit port limit) unit limit listens left q n u
+
+abbrev pub AskedAt : (unit port limit listens left : ℕ) → Question → ℕ → Told → Type 0
+AskedAt unit port limit listens left q n u = Stands (commands_asked unit port limit) unit limit listens left q n u
 
 pub asks_first : (unit port limit listens : ℕ) → AsksAt unit port limit listens listens question.Open 0 nothing_told
 asks_first unit port limit listens = record {
@@ -506,8 +458,7 @@ after_burst unit port limit listens left left' q n h u v less a b =
     sym (length-append (ended_questions unit limit u.came) (q ∷ []))
     ∙ ap (λ (x : Asking). length (ended_questions unit limit u.came ++ asked_now x)) (sym a.asking_is)
     ∙ ap length (sym asked_is) in
-    let held = holds_by limit q n (length (ended_questions unit limit u.came)) hs h (led_on q h) refl less a.few
-    a.passed in record {
+    let held = holds_by limit q n (length (ended_questions unit limit u.came)) hs h less a.few a.passed in record {
       asking_is = ap (λ (l : List (Option Heard)). asking_from limit l first_asking) heard_is
           ∙ asking_push limit hs h first_asking
           ∙ ap (asking_from limit (h ∷ [])) a.asking_is;
