@@ -5,11 +5,8 @@ use Rattle.std.proofs.lemmas.Bool.{eqb-true, ltb-true}
 use Rattle.std.proofs.lemmas.Grind.{flat_map-append}
 use Rattle.std.proofs.lemmas.List.{map-append}
 use Rattle.std.proofs.lemmas.List.Elements.{All-append, All-nil}
-use Rattle.vdcp_frame.specs.Burst.{messages_of}
-use Rattle.vdcp_frame.specs.Message.{Content, AreOctets}
-use Rattle.vdcp_frame.specs.Progress.{Progress, reading}
-use Rattle.vdcp_frame.specs.Reader.{Follows}
-use Rattle.vdcp_auto.specs.Heard.{heard_first, heard_in}
+use Rattle.vdcp_frame.specs.Message.{AreOctets}
+use Rattle.vdcp_auto.specs.Heard.{heard_in}
 use Rattle.vdcp_auto.specs.declared.exchange.Heard.{Heard}
 use Rattle.vdcp_drive.specs.Bursts.{ended_bursts, open_burst}
 use Rattle.vdcp_drive.specs.Steps.{command_bytes}
@@ -18,7 +15,10 @@ use Rattle.vdcp_auto.specs.declared.exchange.Heard.TheVariants as heard
 use Rattle.vdcp_words.specs.declared.command.Command.{Command}
 use Rattle.vdcp_words.specs.declared.reply.Reply.{Reply}
 use Rattle.vdcp_words.specs.declared.reply.Reply.TheVariants as reply
-use Rattle.vdcp_drive.specs.Vacancy.{HasHeard, heard_by_then, heard_of, IsBetween, HearsBurst, BreaksBurst, vacancy_of, led_by, led_on, unless_led, asking_after, asking_from}
+use Rattle.vdcp_drive.specs.Hearing.{Burst, begun, burst_after, burst_says}
+use Rattle.vdcp_drive.specs.Reading.{holds}
+use Rattle.vdcp_drive.specs.Below.{Below}
+use Rattle.vdcp_drive.specs.Vacancy.{heard_of, IsBetween, HearsBurst, BreaksBurst, vacancy_of, led_by, led_on, unless_led, asking_after, asking_from}
 use Rattle.vdcp_drive.specs.Vacancy.{asked_from, asked_now, asking_by, questions_by, commands_asked, first_asking, question_command, HasSaid, IsSaid, CameTo, HasAsked, IsPartlyAsked}
 use Rattle.vdcp_drive.specs.declared.vacancy.Asking.{Asking}
 use Rattle.vdcp_drive.specs.declared.vacancy.Asking.TheVariants.{Asks, Over}
@@ -29,9 +29,9 @@ use Rattle.vdcp_drive.specs.declared.vacancy.Vacancy.TheVariants as vacancy
 use Rattle.vdcp_drive.specs.declared.vacancy.Burst.TheVariants as burst
 use Rattle.vdcp_wire.specs.Wires.{Arrival, bytes, silence, close, Told, IfTold, SendsFront, adds_came, adds_drop, adds_sent, came_with, has_closed, nothing_told}
 use Rattle.vdcp_wire.specs.WireLaws.{closed_bytes, closed_silence, closed_close}
-use Rattle.vdcp_drive.proofs.Below.{Read, Fed}
 use Rattle.vdcp_drive.proofs.Cutting.{ended_bytes, open_bytes, ended_silence, open_silence, ended_close}
-use Rattle.vdcp_drive.proofs.Listening.{heard_more}
+use Rattle.vdcp_drive.proofs.Coursing.{bursts_on}
+use Rattle.vdcp_drive.proofs.Firsts.{says_burst}
 
 -- Places of commands.
 
@@ -70,19 +70,18 @@ tells_more t a told told' is h e = e ∙ ap (adds_came a) is
 -- ---- one burst
 
 -- a burst is listened to, which has begun since this was told
-pub record HearsAt (unit total left : ℕ) (t u : Told) (reader : Progress) (heard : Option Heard) : Type 0 where
+pub record HearsAt (unit total left : ℕ) (t u : Told) (ear : Burst) : Type 0 where
   pub sent_is : u.sent ≡ t.sent
   pub drops_are : u.drops ≡ t.drops
   pub no_close : has_closed u.came ≡ false
   pub ended_are : ended_bursts u.came ≡ ended_bursts t.came
   pub bytes_fit : AreOctets (open_burst u.came)
-  pub follows : Follows (open_burst u.came) (messages_of (open_burst u.came)) reader
-  pub hears : heard ≡ heard_first unit (messages_of (open_burst u.came))
+  pub ear_is : ear ≡ burst_after unit (open_burst u.came) (begun (holds []))
   pub listened : length u.came + left ≡ total
 
-pub hears_none : (fed : Fed) (unit left : ℕ) (t : Told) (told : Option Told) → told ≡ Some t → IsBetween t.came
-    → IfTold told (λ u. HearsAt unit (length t.came + left) left t u (reading 0 []) None)
-hears_none fed unit left t told is h = (
+pub hears_none : (unit left : ℕ) (t : Told) (told : Option Told) (ear : Burst) → ear ≡ begun (holds []) → told ≡ Some t
+    → IsBetween t.came → IfTold told (λ u. HearsAt unit (length t.came + left) left t u ear)
+hears_none unit left t told ear new is h = (
   t,
   is,
   record {
@@ -91,8 +90,7 @@ hears_none fed unit left t told is h = (
     no_close = h.no_close;
     ended_are = refl;
     bytes_fit = subst AreOctets (sym h.none_begun) (All-nil (λ b. b < 256));
-    follows = subst (λ (b : List ℕ). Follows b (messages_of b) (reading 0 [])) (sym h.none_begun) fed.start;
-    hears = ap (λ (b : List ℕ). heard_first unit (messages_of b)) (sym h.none_begun);
+    ear_is = new ∙ ap (λ (b : List ℕ). burst_after unit b (begun (holds []))) (sym h.none_begun);
     listened = refl;
   },
 )
@@ -101,21 +99,14 @@ one_more : (came : List Arrival) (a : Arrival) (total left left' : ℕ) → leng
     → length (came ++ a ∷ []) + left' ≡ total
 one_more came a total left left' h less = omega (arith, h, less, length-append came (a ∷ []))
 
-pub hears_bytes : (read : Read) (unit total left left' : ℕ) (t u : Told) (reader : Progress) (heard : Option Heard)
-    (piece : List ℕ)
-    (reader' : Progress) (heard' : Option Heard) (told told' : Option Told)
-    → told ≡ Some u → HearsAt unit total left t u reader heard → left' + 1 ≡ left → AreOctets piece
-    → HasHeard unit reader heard piece reader' heard' → told' ≡ adds_came (bytes piece) told
-    → IfTold told' (λ v. HearsAt unit total left' t v reader' heard')
-hears_bytes read unit total left left' t u reader heard piece reader' heard' told told' is h less fits e more =
-    let begun : List ℕ = open_burst u.came in
-    let mo : List Content = messages_of begun in
+pub hears_bytes : (unit total left left' : ℕ) (t u : Told) (ear ear' : Burst) (piece : List ℕ) (told told' : Option Told)
+    → told ≡ Some u → HearsAt unit total left t u ear → left' + 1 ≡ left → AreOctets piece
+    → ear' ≡ burst_after unit piece ear → told' ≡ adds_came (bytes piece) told
+    → IfTold told' (λ v. HearsAt unit total left' t v ear')
+hears_bytes unit total left left' t u ear ear' piece told told' is h less fits takes more =
+    let was : List ℕ = open_burst u.came in
     let came' : List Arrival = u.came ++ bytes piece ∷ [] in
-    let opened : open_burst came' ≡ begun ++ piece = open_bytes [] u.came piece h.no_close in
-    let all : AreOctets (begun ++ piece) = All-append (λ b. b < 256) begun piece h.bytes_fit fits in
-    let f : Follows (begun ++ piece) (mo ++ e.messages) reader' = e.follows begun mo h.follows in
-    let same : mo ++ e.messages ≡ messages_of (begun ++ piece) =
-    read.messages (begun ++ piece) (mo ++ e.messages) reader' all f in (
+    let opened : open_burst came' ≡ was ++ piece = open_bytes [] u.came piece h.no_close in (
       record { sent = u.sent; came = came'; drops = u.drops },
       tells_more u (bytes piece) told told' is h.no_close more,
       record {
@@ -123,24 +114,19 @@ hears_bytes read unit total left left' t u reader heard piece reader' heard' tol
         drops_are = h.drops_are;
         no_close = closed_bytes u.came piece ∙ h.no_close;
         ended_are = ended_bytes [] u.came piece h.no_close ∙ h.ended_are;
-        bytes_fit = subst AreOctets (sym opened) all;
-        follows = subst (λ (b : List ℕ). Follows b (messages_of b) reader') (sym opened)
-            (subst (λ (l : List Content). Follows (begun ++ piece) l
-            reader') same f);
-        hears = e.hears ∙ ap (λ (x : Option Heard). heard_by_then unit x e.messages) h.hears
-            ∙ heard_more unit mo e.messages
-            ∙ ap (heard_first unit) same
-            ∙ ap (λ (b : List ℕ). heard_first unit (messages_of b)) (sym opened);
+        bytes_fit = subst AreOctets (sym opened) (All-append (λ b. b < 256) was piece h.bytes_fit fits);
+        ear_is = takes ∙ bursts_on unit ear was piece h.ear_is
+            ∙ ap (λ (b : List ℕ). burst_after unit b (begun (holds []))) (sym opened);
         listened = one_more u.came (bytes piece) total left left' h.listened less;
       },
     )
 
-pub hears_silence : (unit listens left left' : ℕ) (t u : Told) (reader : Progress) (heard : Option Heard)
+pub hears_silence : (law : Below) (unit listens left left' : ℕ) (t u : Told) (ear : Burst) (heard : Option Heard)
     (told told' : Option Told)
-    → told ≡ Some u → HearsAt unit (length t.came + listens) left t u reader heard → left' + 1 ≡ left
+    → told ≡ Some u → HearsAt unit (length t.came + listens) left t u ear → left' + 1 ≡ left → heard ≡ burst_says ear
     → told' ≡ adds_came silence told
     → IfTold told' (λ v. HearsBurst unit listens left' t v (burst.Ended heard))
-hears_silence unit listens left left' t u reader heard told told' is h less more = (
+hears_silence law unit listens left left' t u ear heard told told' is h less says more = (
   record { sent = u.sent; came = u.came ++ silence ∷ []; drops = u.drops },
   tells_more u silence told told' is h.no_close more,
   record {
@@ -150,18 +136,19 @@ hears_silence unit listens left left' t u reader heard told told' is h less more
       record { no_close = closed_silence u.came ∙ h.no_close; none_begun = open_silence [] u.came h.no_close },
       ap (map (heard_in unit)) (ended_silence [] u.came h.no_close)
           ∙ map-append (heard_in unit) (ended_bursts u.came) (open_burst u.came ∷ [])
-          ∙ ap₂ (λ (bs : List (List ℕ)) (x : Option Heard). map (heard_in unit) bs ++ x ∷ []) h.ended_are (sym h.hears),
+          ∙ ap₂ (λ (bs : List (List ℕ)) (x : Option Heard). map (heard_in unit) bs ++ x ∷ []) h.ended_are
+          (sym (says ∙ ap burst_says h.ear_is ∙ says_burst law unit (open_burst u.came) h.bytes_fit)),
     );
     listened = one_more u.came silence (length t.came + listens) left left' h.listened less;
   },
 )
 
-pub hears_close : (unit listens left left' : ℕ) (t u : Told) (reader : Progress) (heard : Option Heard)
+pub hears_close : (unit listens left left' : ℕ) (t u : Told) (ear : Burst)
     (told told' : Option Told)
-    → told ≡ Some u → HearsAt unit (length t.came + listens) left t u reader heard → left' + 1 ≡ left
+    → told ≡ Some u → HearsAt unit (length t.came + listens) left t u ear → left' + 1 ≡ left
     → told' ≡ adds_came close told
     → IfTold told' (λ v. HearsBurst unit listens left' t v burst.Closed)
-hears_close unit listens left left' t u reader heard told told' is h less more = (
+hears_close unit listens left left' t u ear told told' is h less more = (
   record { sent = u.sent; came = u.came ++ close ∷ []; drops = u.drops },
   tells_more u close told told' is h.no_close more,
   record {
@@ -172,10 +159,10 @@ hears_close unit listens left left' t u reader heard told told' is h less more =
   },
 )
 
-pub hears_spent : (unit listens left : ℕ) (t u : Told) (reader : Progress) (heard : Option Heard) (told : Option Told)
-    → told ≡ Some u → HearsAt unit (length t.came + listens) left t u reader heard → left ≡ 0
+pub hears_spent : (unit listens left : ℕ) (t u : Told) (ear : Burst) (told : Option Told)
+    → told ≡ Some u → HearsAt unit (length t.came + listens) left t u ear → left ≡ 0
     → IfTold told (λ v. HearsBurst unit listens left t v burst.Spent)
-hears_spent unit listens left t u reader heard told is h none = (
+hears_spent unit listens left t u ear told is h none = (
   u,
   is,
   record {
@@ -186,11 +173,11 @@ hears_spent unit listens left t u reader heard told is h none = (
   },
 )
 
-pub breaks_burst : (unit total left : ℕ) (t u : Told) (reader : Progress) (heard : Option Heard)
+pub breaks_burst : (unit total left : ℕ) (t u : Told) (ear : Burst)
     (told told' : Option Told)
-    → told ≡ Some u → HearsAt unit total left t u reader heard → told' ≡ told
+    → told ≡ Some u → HearsAt unit total left t u ear → told' ≡ told
     → IfTold told' (BreaksBurst unit t)
-breaks_burst unit total left t u reader heard told told' is h same =
+breaks_burst unit total left t u ear told told' is h same =
     (u, same ∙ is, record { sent_stays = h.sent_is; heard_stays = ap (map (heard_in unit)) h.ended_are })
 
 -- ---- the questions
@@ -241,57 +228,6 @@ passed_more question.Status hs h (a, b, c, e) = (
       ∙ ap (λ (l : List (Option Heard)). a ++ granted ∷ l) (append_assoc b (acked ∷ c) (h ∷ [])),
 )
 
--- what an answer to a question says, and where it leads
-abbrev IsLed : Question → Option Heard → Asking → Type 0
-IsLed question.Open h (Asks q n) = (h ≡ granted) × (q ≡ question.Select) × (n ≡ 0)
-IsLed question.Select h (Asks q n) = (h ≡ acked) × (q ≡ question.Status) × (n ≡ 0)
-IsLed question.Status h (Asks q n) = ⊥
-IsLed question.Open h (Over v) = v ≡ vacancy.Denied
-IsLed question.Select h (Over v) = ⊥
-IsLed question.Status h (Over v) =
-    (groups : ℕ) × (state : ℕ) × (h ≡ Some (heard.Reply (reply.State groups (Some state)))) × (v ≡ vacancy_of state)
-
-of_some : (a b : Asking) → Some a ≡ Some b → a ≡ b
-of_some a b e = cc
-
-led_open : (given : Bool) (next : Asking) → led_by question.Open (reply.Opened given) ≡ Some next
-    → IsLed question.Open (Some (heard.Reply (reply.Opened given))) next
-led_open true next e = subst (IsLed question.Open granted) (of_some (Asks question.Select 0) next e) (refl, refl, refl)
-led_open false next e =
-    subst (IsLed question.Open (Some (heard.Reply (reply.Opened false)))) (of_some (Over vacancy.Denied) next e) refl
-
-led_reply : (q : Question) (r : Reply) (next : Asking) → led_by q r ≡ Some next → IsLed q (Some (heard.Reply r)) next
-led_reply question.Open (reply.Opened given) next e = led_open given next e
-led_reply question.Open reply.Ack next e = cc
-led_reply question.Open (reply.Nak b) next e = cc
-led_reply question.Open (reply.State g s) next e = cc
-led_reply question.Open (reply.Active id) next e = cc
-led_reply question.Open (reply.Present p) next e = cc
-led_reply question.Open (reply.Size s) next e = cc
-led_reply question.Select reply.Ack next e =
-    subst (IsLed question.Select acked) (of_some (Asks question.Status 0) next e) (refl, refl, refl)
-led_reply question.Select (reply.Opened given) next e = cc
-led_reply question.Select (reply.Nak b) next e = cc
-led_reply question.Select (reply.State g s) next e = cc
-led_reply question.Select (reply.Active id) next e = cc
-led_reply question.Select (reply.Present p) next e = cc
-led_reply question.Select (reply.Size s) next e = cc
-led_reply question.Status (reply.State g (Some s)) next e =
-    subst (IsLed question.Status (Some (heard.Reply (reply.State g (Some s))))) (of_some (Over (vacancy_of s)) next e)
-    (g, s, refl, refl)
-led_reply question.Status (reply.State g None) next e = cc
-led_reply question.Status reply.Ack next e = cc
-led_reply question.Status (reply.Opened given) next e = cc
-led_reply question.Status (reply.Nak b) next e = cc
-led_reply question.Status (reply.Active id) next e = cc
-led_reply question.Status (reply.Present p) next e = cc
-led_reply question.Status (reply.Size s) next e = cc
-
-led_heard : (q : Question) (h : Option Heard) (next : Asking) → led_on q h ≡ Some next → IsLed q h next
-led_heard q None next e = cc
-led_heard q (Some heard.Other) next e = cc
-led_heard q (Some (heard.Reply r)) next e = led_reply q r next e
-
 -- what holds after one exchange more, in which this was heard
 abbrev HoldsOn : ℕ → List (Option Heard) → ℕ → Asking → Type 0
 HoldsOn limit hs count (Asks q n) = (n < limit) × (count ≤ room limit q + n) × Passed q hs
@@ -314,53 +250,58 @@ said_so : (b : Bool) (state : ℕ) (hs : List (Option Heard)) → nat_eq state 1
 said_so true state hs is said = subst (HasSaid hs) (eqb-true state 1 is) said
 said_so false state hs is said = said
 
-led_so : (limit : ℕ) (q : Question) (n count : ℕ) (hs : List (Option Heard)) (h : Option Heard) (next : Asking)
-    → IsLed q h next → n < limit → count ≤ room limit q + n → Passed q hs
-    → HoldsOn limit (hs ++ h ∷ []) (count + 1) next
-led_so limit question.Open n count hs h (Asks q m) (heard_is, q_is, m_is) less few passed =
-    subst (λ (q' : Question). HoldsOn limit (hs ++ h ∷ []) (count + 1) (Asks q' m)) (sym q_is) (
-      omega (arith, m_is, less),
-      omega (arith, m_is, less, few),
-      (hs, [], ap (λ (x : Option Heard). hs ++ x ∷ []) heard_is),
-    )
-led_so limit question.Select n count hs h (Asks q m) (heard_is, q_is, m_is) less few (a, b, e) =
-    subst (λ (q' : Question). HoldsOn limit (hs ++ h ∷ []) (count + 1) (Asks q' m)) (sym q_is) (
-      omega (arith, m_is, less),
-      omega (arith, m_is, less, few),
-      (
-        a,
-        b,
-        [],
-        ap₂ (λ (l : List (Option Heard)) (x : Option Heard). l ++ x ∷ []) e heard_is
-            ∙ append_assoc a (granted ∷ b) (acked ∷ []),
-      ),
-    )
-led_so limit question.Status n count hs h (Asks q m) led less few passed = absurd led
-led_so limit question.Open n count hs h (Over v) led less few passed =
-    subst (λ (v' : Vacancy). HoldsOn limit (hs ++ h ∷ []) (count + 1) (Over v')) (sym led)
+missed : (limit : ℕ) (q : Question) (n count : ℕ) (hs : List (Option Heard)) (h : Option Heard) → n < limit
+    → count ≤ room limit q + n → Passed q hs → HoldsOn limit (hs ++ h ∷ []) (count + 1) (unless_led limit q n None)
+missed limit q n count hs h = missed_by (nat_lt (n + 1) limit) limit q n count hs h refl
+
+replied : (limit : ℕ) (q : Question) (n count : ℕ) (hs : List (Option Heard)) (r : Reply) → n < limit
+    → count ≤ room limit q + n → Passed q hs
+    → HoldsOn limit (hs ++ Some (heard.Reply r) ∷ []) (count + 1) (unless_led limit q n (led_by q r))
+replied limit question.Open n count hs (reply.Opened true) less few passed =
+    (omega (arith, less), omega (arith, less, few), (hs, [], refl))
+replied limit question.Open n count hs (reply.Opened false) less few passed =
     (within limit question.Open n count less few, tt)
-led_so limit question.Select n count hs h (Over v) led less few passed = absurd led
-led_so limit question.Status n count hs h (Over v) (groups, state, heard_is, v_is) less few (a, b, c, e) =
+replied limit question.Select n count hs reply.Ack less few (a, b, e) = (
+  omega (arith, less),
+  omega (arith, less, few),
+  (a, b, [], ap (λ (l : List (Option Heard)). l ++ acked ∷ []) e ∙ append_assoc a (granted ∷ b) (acked ∷ [])),
+)
+replied limit question.Status n count hs (reply.State groups (Some state)) less few (a, b, c, e) =
+    let h : Option Heard = Some (heard.Reply (reply.State groups (Some state))) in
     let said : HasSaid (hs ++ h ∷ []) state = record {
       before = a;
       opened = b;
       selected = c;
       groups = groups;
-      parts = ap₂ (λ (l : List (Option Heard)) (x : Option Heard). l ++ x ∷ []) e heard_is
-          ∙ append_assoc a (granted ∷ (b ++ acked ∷ c)) (Some (heard.Reply (reply.State groups (Some state))) ∷ [])
-          ∙ ap (λ (l : List (Option Heard)). a ++ granted ∷ l)
-          (append_assoc b (acked ∷ c) (Some (heard.Reply (reply.State groups (Some state))) ∷ []));
+      parts = ap (λ (l : List (Option Heard)). l ++ h ∷ []) e ∙ append_assoc a (granted ∷ (b ++ acked ∷ c)) (h ∷ [])
+          ∙ ap (λ (l : List (Option Heard)). a ++ granted ∷ l) (append_assoc b (acked ∷ c) (h ∷ []));
     } in
-    subst (λ (v' : Vacancy). HoldsOn limit (hs ++ h ∷ []) (count + 1) (Over v')) (sym v_is)
     (within limit question.Status n count less few, said_so (nat_eq state 1) state (hs ++ h ∷ []) refl said)
+replied limit question.Open n count hs reply.Ack less few passed = missed limit question.Open n count hs _ less few passed
+replied limit question.Open n count hs (reply.Nak b) less few passed = missed limit question.Open n count hs _ less few passed
+replied limit question.Open n count hs (reply.State g s) less few passed = missed limit question.Open n count hs _ less few passed
+replied limit question.Open n count hs (reply.Active id) less few passed = missed limit question.Open n count hs _ less few passed
+replied limit question.Open n count hs (reply.Present p) less few passed = missed limit question.Open n count hs _ less few passed
+replied limit question.Open n count hs (reply.Size s) less few passed = missed limit question.Open n count hs _ less few passed
+replied limit question.Select n count hs (reply.Opened given) less few passed = missed limit question.Select n count hs _ less few passed
+replied limit question.Select n count hs (reply.Nak b) less few passed = missed limit question.Select n count hs _ less few passed
+replied limit question.Select n count hs (reply.State g s) less few passed = missed limit question.Select n count hs _ less few passed
+replied limit question.Select n count hs (reply.Active id) less few passed = missed limit question.Select n count hs _ less few passed
+replied limit question.Select n count hs (reply.Present p) less few passed = missed limit question.Select n count hs _ less few passed
+replied limit question.Select n count hs (reply.Size s) less few passed = missed limit question.Select n count hs _ less few passed
+replied limit question.Status n count hs (reply.State g None) less few passed = missed limit question.Status n count hs _ less few passed
+replied limit question.Status n count hs reply.Ack less few passed = missed limit question.Status n count hs _ less few passed
+replied limit question.Status n count hs (reply.Opened given) less few passed = missed limit question.Status n count hs _ less few passed
+replied limit question.Status n count hs (reply.Nak b) less few passed = missed limit question.Status n count hs _ less few passed
+replied limit question.Status n count hs (reply.Active id) less few passed = missed limit question.Status n count hs _ less few passed
+replied limit question.Status n count hs (reply.Present p) less few passed = missed limit question.Status n count hs _ less few passed
+replied limit question.Status n count hs (reply.Size s) less few passed = missed limit question.Status n count hs _ less few passed
 
-holds_by : (limit : ℕ) (q : Question) (n count : ℕ) (hs : List (Option Heard)) (h : Option Heard) (o : Option Asking)
-    → led_on q h ≡ o → n < limit → count ≤ room limit q + n → Passed q hs
-    → HoldsOn limit (hs ++ h ∷ []) (count + 1) (unless_led limit q n o)
-holds_by limit q n count hs h None is less few passed =
-    missed_by (nat_lt (n + 1) limit) limit q n count hs h refl less few passed
-holds_by limit q n count hs h (Some next) is less few passed =
-    led_so limit q n count hs h next (led_heard q h next is) less few passed
+holds_by : (limit : ℕ) (q : Question) (n count : ℕ) (hs : List (Option Heard)) (h : Option Heard) → n < limit
+    → count ≤ room limit q + n → Passed q hs → HoldsOn limit (hs ++ h ∷ []) (count + 1) (asking_after limit q n h)
+holds_by limit q n count hs None = missed limit q n count hs None
+holds_by limit q n count hs (Some heard.Other) = missed limit q n count hs (Some heard.Other)
+holds_by limit q n count hs (Some (heard.Reply r)) = replied limit q n count hs r
 
 -- some exchanges that come before a question
 passes : (q : Question) → (hs : List (Option Heard)) × Passed q hs
@@ -372,7 +313,7 @@ pub stays_under : (limit : ℕ) (q q' : Question) (n n' : ℕ) (h : Option Heard
     → n < limit → n' < limit
 stays_under limit q q' n n' h is less =
     let p = passes q in
-    let held = holds_by limit q n 0 p.0 h (led_on q h) refl less (omega arith) p.1 in
+    let held = holds_by limit q n 0 p.0 h less (omega arith) p.1 in
     (subst (HoldsOn limit (p.0 ++ h ∷ []) 1) is held).0
 
 -- the questions of the exchanges that ended, and their commands
@@ -387,25 +328,23 @@ abbrev commands_heard : ℕ → ℕ → List (Option Heard) → List Command
 commands_heard port limit hs =
     map (question_command port) (asked_from limit hs first_asking ++ asked_now (asking_from limit hs first_asking))
 
--- a question is to be asked
-pub record AsksAt (unit port limit listens left : ℕ) (q : Question) (n : ℕ) (u : Told) : Type 0 where
+-- a question is asked next, where these commands went out
+pub record Stands (commands : List Arrival → List Command) (unit limit listens left : ℕ) (q : Question) (n : ℕ) (u : Told) :
+    Type 0 where
   pub asking_is : asking_by unit limit u.came ≡ Asks q n
-  pub sent_is : u.sent ≡ bytes_of unit (ended_commands unit port limit u.came)
-  pub drops_are : u.drops ≡ starts_behind unit 0 (ended_commands unit port limit u.came)
+  pub sent_is : u.sent ≡ bytes_of unit (commands u.came)
+  pub drops_are : u.drops ≡ starts_behind unit 0 (commands u.came)
   pub between : IsBetween u.came
   pub listened : length u.came + left ≡ listens
   pub few : length (ended_questions unit limit u.came) ≤ room limit q + n
   pub passed : Passed q (heard_of unit u.came)
 
--- it is asked, and its answer not listened to yet
-pub record AskedAt (unit port limit listens left : ℕ) (q : Question) (n : ℕ) (u : Told) : Type 0 where
-  pub asking_is : asking_by unit limit u.came ≡ Asks q n
-  pub sent_is : u.sent ≡ bytes_of unit (commands_asked unit port limit u.came)
-  pub drops_are : u.drops ≡ starts_behind unit 0 (commands_asked unit port limit u.came)
-  pub between : IsBetween u.came
-  pub listened : length u.came + left ≡ listens
-  pub few : length (ended_questions unit limit u.came) ≤ room limit q + n
-  pub passed : Passed q (heard_of unit u.came)
+-- it is to be asked; and it is asked, and its answer not listened to yet
+abbrev pub AsksAt : (unit port limit listens left : ℕ) → Question → ℕ → Told → Type 0
+AsksAt unit port limit listens left q n u = Stands (ended_commands unit port limit) unit limit listens left q n u
+
+abbrev pub AskedAt : (unit port limit listens left : ℕ) → Question → ℕ → Told → Type 0
+AskedAt unit port limit listens left q n u = Stands (commands_asked unit port limit) unit limit listens left q n u
 
 pub asks_first : (unit port limit listens : ℕ) → AsksAt unit port limit listens listens question.Open 0 nothing_told
 asks_first unit port limit listens = record {
@@ -519,8 +458,7 @@ after_burst unit port limit listens left left' q n h u v less a b =
     sym (length-append (ended_questions unit limit u.came) (q ∷ []))
     ∙ ap (λ (x : Asking). length (ended_questions unit limit u.came ++ asked_now x)) (sym a.asking_is)
     ∙ ap length (sym asked_is) in
-    let held = holds_by limit q n (length (ended_questions unit limit u.came)) hs h (led_on q h) refl less a.few
-    a.passed in record {
+    let held = holds_by limit q n (length (ended_questions unit limit u.came)) hs h less a.few a.passed in record {
       asking_is = ap (λ (l : List (Option Heard)). asking_from limit l first_asking) heard_is
           ∙ asking_push limit hs h first_asking
           ∙ ap (asking_from limit (h ∷ [])) a.asking_is;

@@ -16,19 +16,8 @@ use Rattle.vdcp_frame.specs.declared.message.Fault.TheVariants.{BadStart, BadCou
 use Rattle.vdcp_auto.specs.Heard.{heard_as}
 use Rattle.vdcp_auto.specs.declared.exchange.Heard.{Heard}
 use Rattle.vdcp_drive.specs.HearingLaws.{completed_both, held_both}
+use Rattle.vdcp_drive.specs.Below.{Below}
 use Rattle.vdcp_drive.specs.Reading.{Held, holds, skips, held_with, held_after, completed, IsReader, HasRead}
-
--- vdcp_frame::laws: no_spelling_begins_another, one_spelling, what_is_spelt_is_bytes, a_spelling_is_its_message,
--- what_is_followed_is_read, one_reading
-pub record Spelt : Type 0 where
-  pub no_other : (m n : Content) (a b rest : List ℕ) → Spells m a → Spells n b → b ≡ a ++ rest → (m ≡ n) × (rest ≡ [])
-  pub only : (m : Content) (bytes : List ℕ) → Spells m bytes → Fits m × (bytes ≡ spelling m)
-  pub octets : (m : Content) (bytes : List ℕ) → Spells m bytes → AreOctets bytes
-  pub size : (m : Content) (bytes : List ℕ) → Spells m bytes → (0 < length bytes) × (length bytes ≤ 258)
-  pub alone : (m : Content) → Fits m → messages_of (spelling m) ≡ m ∷ []
-  pub read : (burst : List ℕ) (ms : List Content) (p : Progress) → Follows burst ms p → ReadsAs burst ms (ended_of p)
-  pub computed : (burst : List ℕ) (ms : List Content) (end : End) → AreOctets burst → Reads burst ms end
-      → (ms ≡ messages_of burst) × (end ≡ end_of burst)
 
 -- Bytes that begin a message and are no whole one.
 
@@ -46,16 +35,16 @@ front_unfinished xs ys u = record {
       (ap (λ (l : List ℕ). l ++ ys) is ∙ append_assoc front rest ys);
 }
 
-unfinished_octets : (law : Spelt) (xs : List ℕ) → IsUnfinished xs → AreOctets xs
+unfinished_octets : (law : Below) (xs : List ℕ) → IsUnfinished xs → AreOctets xs
 unfinished_octets law xs u =
     octets_front xs u.begins.more (law.octets u.begins.message (xs ++ u.begins.more) u.begins.spelt)
 
-unfinished_size : (law : Spelt) (xs : List ℕ) → IsUnfinished xs → length xs ≤ 258
+unfinished_size : (law : Below) (xs : List ℕ) → IsUnfinished xs → length xs ≤ 258
 unfinished_size law xs u =
     omega (arith, (law.size u.begins.message (xs ++ u.begins.more) u.begins.spelt).1, length-append xs u.begins.more)
 
 -- a reader that holds them follows them
-pub follows_held : (law : Spelt) (held : List ℕ) → IsUnfinished held → Follows held [] (reading (length held) held)
+pub follows_held : (law : Below) (held : List ℕ) → IsUnfinished held → Follows held [] (reading (length held) held)
 follows_held law held u = record {
   whole = [];
   parts = refl;
@@ -65,7 +54,7 @@ follows_held law held u = record {
   limit = omega (arith, unfinished_size law held u);
 }
 
-reads_as : (law : Spelt) (xs : List ℕ) → IsUnfinished xs
+reads_as : (law : Below) (xs : List ℕ) → IsUnfinished xs
     → (end : End) × (Reads xs [] end) × (held_with xs [] end ≡ holds xs)
 reads_as law [] u = (clean, law.read [] [] (reading 0 []) (follows_held law [] u), refl)
 reads_as law (x ∷ xs) u = (
@@ -74,7 +63,7 @@ reads_as law (x ∷ xs) u = (
   refl,
 )
 
-reads_unfinished : (law : Spelt) (xs : List ℕ) → IsUnfinished xs
+reads_unfinished : (law : Below) (xs : List ℕ) → IsUnfinished xs
     → (messages_of xs ≡ []) × (held_with xs (messages_of xs) (end_of xs) ≡ holds xs)
 reads_unfinished law xs u =
     let r = reads_as law xs u in
@@ -88,7 +77,7 @@ record AreHeld (held xs : List ℕ) : Type 0 where
   none : completed (holds held) xs ≡ []
   all : held_after (holds held) xs ≡ holds (held ++ xs)
 
-are_held : (law : Spelt) (held xs : List ℕ) → IsUnfinished (held ++ xs) → AreHeld held xs
+are_held : (law : Below) (held xs : List ℕ) → IsUnfinished (held ++ xs) → AreHeld held xs
 are_held law held [] u = record { none = refl; all = ap holds (sym (append-nil held)) }
 are_held law held (x ∷ xs) u =
     let v : IsUnfinished ((held ++ x ∷ []) ++ xs) = subst IsUnfinished (sym (append_assoc held (x ∷ []) xs)) u in
@@ -103,7 +92,7 @@ record IsDecided (held xs : List ℕ) : Type 0 where
   gives : completed (holds held) xs ≡ messages_of (held ++ xs)
   leaves : held_after (holds held) xs ≡ held_with (held ++ xs) (messages_of (held ++ xs)) (end_of (held ++ xs))
 
-decided_last : (law : Spelt) (held xs : List ℕ) (x : ℕ) → IsUnfinished (held ++ xs) → IsDecided held (xs ++ x ∷ [])
+decided_last : (law : Below) (held xs : List ℕ) (x : ℕ) → IsUnfinished (held ++ xs) → IsDecided held (xs ++ x ∷ [])
 decided_last law held xs x u =
     let h = are_held law held xs u in
     let all : (held ++ xs) ++ x ∷ [] ≡ held ++ (xs ++ x ∷ []) = append_assoc held xs (x ∷ []) in record {
@@ -132,7 +121,7 @@ has_last : (xs : List ℕ) → 0 < length xs → Last xs
 has_last [] h = absurd (omega (arith, h))
 has_last (x ∷ xs) h = last_of x xs
 
-decided : (law : Spelt) (held xs : List ℕ) (l : Last xs) → IsUnfinished (held ++ l.before) → IsDecided held xs
+decided : (law : Below) (held xs : List ℕ) (l : Last xs) → IsUnfinished (held ++ l.before) → IsDecided held xs
 decided law held xs l u = subst (IsDecided held) (sym l.parts) (decided_last law held l.before l.last u)
 
 parts_of : (held xs : List ℕ) (l : Last xs) → held ++ xs ≡ (held ++ l.before) ++ l.last ∷ []
@@ -140,7 +129,7 @@ parts_of held xs l = ap (λ (b : List ℕ). held ++ b) l.parts ∙ sym (append_a
 
 -- What a reader took, by its answer.
 
-spelling_unfinished : (law : Spelt) (m : Content) (xs : List ℕ) (x : ℕ) → Spells m (xs ++ x ∷ []) → IsUnfinished xs
+spelling_unfinished : (law : Below) (m : Content) (xs : List ℕ) (x : ℕ) → Spells m (xs ++ x ∷ []) → IsUnfinished xs
 spelling_unfinished law m xs x s = record {
   begins = record { message = m; more = x ∷ []; spelt = s };
   no_front = λ n front rest t is.
@@ -150,7 +139,7 @@ spelling_unfinished law m xs x s = record {
 }
 
 -- the bytes finish this message
-pub completes : (law : Spelt) (held xs : List ℕ) (m : Content) → 0 < length xs → Spells m (held ++ xs)
+pub completes : (law : Below) (held xs : List ℕ) (m : Content) → 0 < length xs → Spells m (held ++ xs)
     → (completed (holds held) xs ≡ m ∷ []) × (held_after (holds held) xs ≡ holds [])
 completes law held xs m some s =
     let l = has_last xs some in
@@ -161,7 +150,7 @@ completes law held xs m some s =
     (d.gives ∙ is, d.leaves ∙ ap (λ (ms : List Content). held_with (held ++ xs) ms (end_of (held ++ xs))) is)
 
 -- they finish none
-pub completes_none : (law : Spelt) (held xs : List ℕ) → IsUnfinished (held ++ xs)
+pub completes_none : (law : Below) (held xs : List ℕ) → IsUnfinished (held ++ xs)
     → (completed (holds held) xs ≡ []) × (held_after (holds held) xs ≡ holds (held ++ xs))
 completes_none law held xs u = let h = are_held law held xs u in (h.none, h.all)
 
@@ -175,7 +164,7 @@ wrong_unfinished xs x which n is w = record {
       (ap (λ (l : List ℕ). l ++ x ∷ []) parts ∙ append_assoc front rest (x ∷ []));
 }
 
-pub completes_fault : (law : Spelt) (held xs : List ℕ) (which : Fault) (place : ℕ) → 0 < length xs
+pub completes_fault : (law : Below) (held xs : List ℕ) (which : Fault) (place : ℕ) → 0 < length xs
     → AreOctets (held ++ xs)
     → IsWrong (held ++ xs) which (length (held ++ xs)) → Reads (held ++ xs) [] (fault which place)
     → (completed (holds held) xs ≡ []) × (held_after (holds held) xs ≡ skips)
@@ -190,7 +179,7 @@ completes_fault law held xs which place some fits w r =
     (d.gives ∙ sym same.0, d.leaves ∙ ap₂ (held_with (held ++ xs)) (sym same.0) (sym same.1))
 
 -- no burst is too long
-pub never_long : (law : Spelt) (taken n : ℕ) (held piece : List ℕ) → taken ≡ length held → TakesLong taken held piece n
+pub never_long : (law : Below) (taken n : ℕ) (held piece : List ℕ) → taken ≡ length held → TakesLong taken held piece n
     → ⊥
 never_long law taken n held piece is t =
     omega (
@@ -219,7 +208,7 @@ read_none unit reader reader' xs is then_is = subst (λ (r : Option Progress). H
       holds_then = sym (completes_nothing xs).1;
     }))
 
-pub read_message : (law : Spelt) (unit : ℕ) (p : Progress) (piece : List ℕ) (n : ℕ) (m : Content) (h : Heard)
+pub read_message : (law : Below) (unit : ℕ) (p : Progress) (piece : List ℕ) (n : ℕ) (m : Content) (h : Heard)
     → IsReader (Some p)
     → Gives p piece n (message m) → h ≡ heard_as unit m
     → HasRead unit (Some p) (take n piece) (Some (reading 0 [])) (Some h)
@@ -231,14 +220,14 @@ read_message law unit (reading taken held) piece n m h begun t is =
     }
 read_message law unit failed piece n m h begun t is = absurd begun
 
-pub read_more : (law : Spelt) (unit : ℕ) (p : Progress) (piece : List ℕ) (n : ℕ) → IsReader (Some p)
+pub read_more : (law : Below) (unit : ℕ) (p : Progress) (piece : List ℕ) (n : ℕ) → IsReader (Some p)
     → Gives p piece n more → HasRead unit (Some p) (take n piece) (Some (fed p piece n more)) None
 read_more law unit (reading taken held) piece n begun t =
     let c = completes_none law held (take n piece) t.unfinished in
     record { hears = ap (map (heard_as unit)) c.0; holds_then = sym c.1 }
 read_more law unit failed piece n begun t = absurd begun
 
-wrong_so : (law : Spelt) (unit : ℕ) (taken : ℕ) (held piece : List ℕ) (n : ℕ) (which : Fault) (place : ℕ)
+wrong_so : (law : Below) (unit : ℕ) (taken : ℕ) (held piece : List ℕ) (n : ℕ) (which : Fault) (place : ℕ)
     → IsUnfinished held → AreOctets piece
     → TakesWrong taken held piece n which → Reads (held ++ take n piece) [] (fault which place)
     → HasRead unit (Some (reading taken held)) (take n piece) None None
@@ -250,7 +239,7 @@ wrong_so law unit taken held piece n which place u fits t r =
     all t.first r in
     record { hears = ap (map (heard_as unit)) c.0; holds_then = sym c.1 }
 
-wrong_by : (law : Spelt) (unit : ℕ) (taken : ℕ) (held piece : List ℕ) (n : ℕ) (which : Fault) (place : ℕ)
+wrong_by : (law : Below) (unit : ℕ) (taken : ℕ) (held piece : List ℕ) (n : ℕ) (which : Fault) (place : ℕ)
     → taken ≡ length held → IsUnfinished held
     → AreOctets piece → TakesFault taken held piece n which → Reads (held ++ take n piece) [] (fault which place)
     → HasRead unit (Some (reading taken held)) (take n piece) None None
@@ -262,7 +251,7 @@ wrong_by law unit taken held piece n BadSum place is u fits t r =
     wrong_so law unit taken held piece n BadSum place u fits t r
 wrong_by law unit taken held piece n Long place is u fits t r = absurd (never_long law taken n held piece is t)
 
-pub read_wrong : (law : Spelt) (unit : ℕ) (p : Progress) (piece : List ℕ) (n : ℕ) (which : Fault) (place : ℕ)
+pub read_wrong : (law : Below) (unit : ℕ) (p : Progress) (piece : List ℕ) (n : ℕ) (which : Fault) (place : ℕ)
     (then_is : Progress) → IsReader (Some p)
     → AreOctets piece → Gives p piece n (wrong which place)
     → ((burst : List ℕ) (ms : List Content) → Follows burst ms p
@@ -286,7 +275,7 @@ begun_more failed piece n begun t = absurd begun
 
 -- whole messages, and then a beginning of one
 
-pub completes_all : (law : Spelt) (ms : List Content) (xs rest : List ℕ) → SpellsAll ms xs → IsUnfinished rest
+pub completes_all : (law : Below) (ms : List Content) (xs rest : List ℕ) → SpellsAll ms xs → IsUnfinished rest
     → (completed (holds []) (xs ++ rest) ≡ ms) × (held_after (holds []) (xs ++ rest) ≡ holds rest)
 completes_all law [] xs rest s u =
     subst (λ (l : List ℕ). (completed (holds []) (l ++ rest) ≡ []) × (held_after (holds []) (l ++ rest) ≡ holds rest))

@@ -14,7 +14,7 @@ use Rattle.vdcp_auto.specs.declared.exchange.Exchange.{Exchange}
 use Rattle.vdcp_auto.specs.declared.exchange.Heard.{Heard}
 use Rattle.vdcp_auto.specs.declared.exchange.Input.{Input}
 use Rattle.vdcp_wire.specs.Wires.{Arrival, bytes, silence, close, IfTold, Told, has_closed, nothing_told}
-use Rattle.vdcp_drive.specs.Auto.{Auto, after, gives, log_of}
+use Rattle.vdcp_drive.specs.Auto.{Auto, after, ended, gives, log_of}
 use Rattle.vdcp_drive.specs.Bursts.{finished_behind, is_within_burst}
 use Rattle.vdcp_drive.specs.Courses.{HasCourse, HasCourseBroken, input_of, inputs_behind, left_behind, new_auto}
 use Rattle.vdcp_drive.specs.Hearing.{Burst, begun, at_silences, burst_after, burst_says}
@@ -24,8 +24,8 @@ use Rattle.vdcp_drive.specs.Reading.{holds}
 use Rattle.vdcp_drive.specs.Tells.{BreaksOn, RunsOn}
 use Rattle.vdcp_drive.specs.Traces.{until_close}
 use Rattle.vdcp_drive.specs.declared.line.Ran.{Ran}
-use Rattle.vdcp_drive.proofs.Completing.{Spelt}
-use Rattle.vdcp_drive.proofs.Firsts.{Firsts, says_burst}
+use Rattle.vdcp_drive.specs.Below.{Below}
+use Rattle.vdcp_drive.proofs.Firsts.{says_burst}
 
 ticked_at : (stage : Stage) (s : State) → s.stage ≡ stage → ticked (tick_in stage s) ≡ tick_in stage s
 ticked_at (Ready p) s is = refl
@@ -58,33 +58,25 @@ idle plan h s none =
     let ends : ended_by plan h s ≡ None = ap (exchange_of plan.mode h) none in
     record { ends = ends; stays = ap (λ (o : Option Exchange). option_map_or (λ e. ended_in plan s.stage e s) o s) ends }
 
+-- at a silence or the close
+idle_end : (plan : Plan) (e : Burst) (s : State) (rest : State → List Exchange) → awaited plan (ticked s) ≡ None
+    → rest (ticked s) ≡ []
+    → ended plan (burst_says e ∷ []) (ticked s) ++ rest (came_to plan (burst_says e) (ticked s)) ≡ []
+idle_end plan e s rest none more =
+    let i = idle plan (burst_says e) (ticked s) none in
+    ap₂ (λ (o : Option Exchange) (t : State). (option_to_list o ++ []) ++ rest t) i.ends i.stays ∙ more
+
 idle_log : (plan : Plan) (unit : ℕ) (e : Burst) (s : State) (came : List Arrival) → awaited plan (ticked s) ≡ None
     → log_of at_silences plan unit (record { ear = e; state = s }) came ≡ []
 idle_log plan unit e s [] none = refl
 idle_log plan unit e s (bytes piece ∷ later) none =
     idle_log plan unit (burst_after unit piece e) (ticked s) later (ap (awaited plan) (ticked_twice s) ∙ none)
-idle_log plan unit e s (silence ∷ later) none = idle_end plan unit e s later none
-    (λ t same. idle_log plan unit (begun (holds [])) t later (ap (λ (x : State). awaited plan (ticked x)) same
-    ∙ ap (awaited plan) (ticked_twice s) ∙ none)) where
-      idle_end : (plan : Plan) (unit : ℕ) (e : Burst) (s : State) (later : List Arrival) → awaited plan (ticked s) ≡ None
-          → ((t : State) → t ≡ ticked s → log_of at_silences plan unit (record { ear = begun (holds []); state = t }) later ≡ [])
-          → log_of at_silences plan unit (record { ear = e; state = s }) (silence ∷ later) ≡ []
-      idle_end plan unit e s later none more =
-          let i = idle plan (burst_says e) (ticked s) none in
-          ap (λ (o : Option Exchange). (option_to_list o ++ []) ++ log_of at_silences plan unit
-          (record { ear = begun (holds []); state = came_to plan (burst_says e) (ticked s) }) later) i.ends
-          ∙ more (came_to plan (burst_says e) (ticked s)) i.stays
-idle_log plan unit e s (close ∷ later) none = idle_end plan unit e s later none
-    (λ t same. idle_log plan unit (begun (holds [])) t later (ap (λ (x : State). awaited plan (ticked x)) same
-    ∙ ap (awaited plan) (ticked_twice s) ∙ none)) where
-      idle_end : (plan : Plan) (unit : ℕ) (e : Burst) (s : State) (later : List Arrival) → awaited plan (ticked s) ≡ None
-          → ((t : State) → t ≡ ticked s → log_of at_silences plan unit (record { ear = begun (holds []); state = t }) later ≡ [])
-          → log_of at_silences plan unit (record { ear = e; state = s }) (close ∷ later) ≡ []
-      idle_end plan unit e s later none more =
-          let i = idle plan (burst_says e) (ticked s) none in
-          ap (λ (o : Option Exchange). (option_to_list o ++ []) ++ log_of at_silences plan unit
-          (record { ear = begun (holds []); state = came_to plan (burst_says e) (ticked s) }) later) i.ends
-          ∙ more (came_to plan (burst_says e) (ticked s)) i.stays
+idle_log plan unit e s (silence ∷ later) none =
+    idle_end plan e s (λ t. log_of at_silences plan unit (record { ear = begun (holds []); state = t }) later) none
+    (idle_log plan unit (begun (holds [])) (ticked s) later (ap (awaited plan) (ticked_twice s) ∙ none))
+idle_log plan unit e s (close ∷ later) none =
+    idle_end plan e s (λ t. log_of at_silences plan unit (record { ear = begun (holds []); state = t }) later) none
+    (idle_log plan unit (begun (holds [])) (ticked s) later (ap (awaited plan) (ticked_twice s) ∙ none))
 
 -- Bursts.
 
@@ -129,34 +121,34 @@ fresh = begun (holds [])
 tail_so : (x : Arrival) (xs ys : List Arrival) → x ∷ xs ≡ x ∷ ys → xs ≡ ys
 tail_so x xs ys is = cc
 
-bursts_on : (unit : ℕ) (e : Burst) (burst piece : List ℕ) → e ≡ burst_after unit burst fresh
+pub bursts_on : (unit : ℕ) (e : Burst) (burst piece : List ℕ) → e ≡ burst_after unit burst fresh
     → burst_after unit piece e ≡ burst_after unit (burst ++ piece) fresh
 bursts_on unit e burst piece is =
     ap (burst_after unit piece) is ∙ sym (at_silences_in_pieces.takes_both unit burst piece fresh)
 
-log_course : (law : Firsts) (only : Spelt) (plan : Plan) (unit : ℕ) (e : Burst) (s : State) (burst : List ℕ)
+log_course : (law : Below) (plan : Plan) (unit : ℕ) (e : Burst) (s : State) (burst : List ℕ)
     (came : List Arrival) → AreOctets burst → All AreOctetsIn came → until_close came ≡ came
     → e ≡ burst_after unit burst fresh
     → log_of at_silences plan unit (record { ear = e; state = s }) came
     ≡ course_from plan s (inputs_behind unit burst came)
-log_course law only plan unit e s burst [] fits all last is = refl
-log_course law only plan unit e s burst (bytes piece ∷ later) fits all last is =
-    log_course law only plan unit (burst_after unit piece e) (ticked s) (burst ++ piece) later
+log_course law plan unit e s burst [] fits all last is = refl
+log_course law plan unit e s burst (bytes piece ∷ later) fits all last is =
+    log_course law plan unit (burst_after unit piece e) (ticked s) (burst ++ piece) later
     (All-append (λ b. b < 256) burst piece fits (All-head AreOctetsIn (bytes piece) later all))
     (All-tail AreOctetsIn (bytes piece) later all) (tail_so (bytes piece) (until_close later) later last)
     (bursts_on unit e burst piece is)
     ∙ course_ticked plan unit s (finished_behind (burst ++ piece) later)
-log_course law only plan unit e s burst (silence ∷ later) fits all last is =
-    let says : burst_says e ≡ heard_in unit burst = ap burst_says is ∙ says_burst law only unit burst fits in
+log_course law plan unit e s burst (silence ∷ later) fits all last is =
+    let says : burst_says e ≡ heard_in unit burst = ap burst_says is ∙ says_burst law unit burst fits in
     let t : State = came_to plan (burst_says e) (ticked s) in
     one_burst plan s (burst_says e) (heard_in unit burst) (inputs_behind unit [] later)
     (log_of at_silences plan unit (record { ear = fresh; state = t }) later) says
-    (log_course law only plan unit fresh t [] later (All-nil (λ b. b < 256)) (All-tail AreOctetsIn silence later all)
+    (log_course law plan unit fresh t [] later (All-nil (λ b. b < 256)) (All-tail AreOctetsIn silence later all)
     (tail_so silence (until_close later) later last) refl)
     (λ none. let i = idle plan (burst_says e) (ticked s) none in idle_log plan unit fresh t later
     (ap (λ (x : State). awaited plan (ticked x)) i.stays ∙ ap (awaited plan) (ticked_twice s) ∙ none))
-log_course law only plan unit e s burst (close ∷ later) fits all last is =
-    let says : burst_says e ≡ heard_in unit burst = ap burst_says is ∙ says_burst law only unit burst fits in
+log_course law plan unit e s burst (close ∷ later) fits all last is =
+    let says : burst_says e ≡ heard_in unit burst = ap burst_says is ∙ says_burst law unit burst fits in
     let t : State = came_to plan (burst_says e) (ticked s) in
     let none : log_of at_silences plan unit (record { ear = fresh; state = t }) later ≡ [] =
     ap (log_of at_silences plan unit (record { ear = fresh; state = t })) (sym (tail_so close [] later last)) in
@@ -186,45 +178,45 @@ left_ticked plan unit s [] came within =
 left_ticked plan unit s (b ∷ bursts) came within =
     ap (λ (x : State). left_behind plan x (map (input_in unit) bursts) came) (input_ticked plan s (heard_in unit b))
 
-state_left : (law : Firsts) (only : Spelt) (plan : Plan) (unit : ℕ) (e : Burst) (s : State) (burst : List ℕ)
+state_left : (law : Below) (plan : Plan) (unit : ℕ) (e : Burst) (s : State) (burst : List ℕ)
     (came : List Arrival) → AreOctets burst → All AreOctetsIn came → until_close came ≡ came
     → e ≡ burst_after unit burst fresh
     → (after at_silences plan unit (record { ear = e; state = s }) came).state
     ≡ left_behind plan s (inputs_behind unit burst came) came
-state_left law only plan unit e s burst [] fits all last is = refl
-state_left law only plan unit e s burst (bytes piece ∷ []) fits all last is = refl
-state_left law only plan unit e s burst (bytes piece ∷ y ∷ later) fits all last is =
-    state_left law only plan unit (burst_after unit piece e) (ticked s) (burst ++ piece) (y ∷ later)
+state_left law plan unit e s burst [] fits all last is = refl
+state_left law plan unit e s burst (bytes piece ∷ []) fits all last is = refl
+state_left law plan unit e s burst (bytes piece ∷ y ∷ later) fits all last is =
+    state_left law plan unit (burst_after unit piece e) (ticked s) (burst ++ piece) (y ∷ later)
     (All-append (λ b. b < 256) burst piece fits (All-head AreOctetsIn (bytes piece) (y ∷ later) all))
     (All-tail AreOctetsIn (bytes piece) (y ∷ later) all)
     (tail_so (bytes piece) (until_close (y ∷ later)) (y ∷ later) last) (bursts_on unit e burst piece is)
     ∙ left_ticked plan unit s (finished_behind (burst ++ piece) (y ∷ later)) (y ∷ later)
     (none_within (burst ++ piece) y later)
-state_left law only plan unit e s burst (silence ∷ []) fits all last is =
-    ap (λ (h : Option Heard). came_to plan h (ticked s)) (ap burst_says is ∙ says_burst law only unit burst fits)
+state_left law plan unit e s burst (silence ∷ []) fits all last is =
+    ap (λ (h : Option Heard). came_to plan h (ticked s)) (ap burst_says is ∙ says_burst law unit burst fits)
     ∙ sym (after_one plan s (heard_in unit burst))
-state_left law only plan unit e s burst (silence ∷ y ∷ later) fits all last is =
-    state_left law only plan unit fresh (came_to plan (burst_says e) (ticked s)) [] (y ∷ later)
+state_left law plan unit e s burst (silence ∷ y ∷ later) fits all last is =
+    state_left law plan unit fresh (came_to plan (burst_says e) (ticked s)) [] (y ∷ later)
     (All-nil (λ b. b < 256)) (All-tail AreOctetsIn silence (y ∷ later) all)
     (tail_so silence (until_close (y ∷ later)) (y ∷ later) last) refl
     ∙ ap (λ (t : State). left_behind plan t (inputs_behind unit [] (y ∷ later)) (y ∷ later))
-    (ap (λ (h : Option Heard). came_to plan h (ticked s)) (ap burst_says is ∙ says_burst law only unit burst fits)
+    (ap (λ (h : Option Heard). came_to plan h (ticked s)) (ap burst_says is ∙ says_burst law unit burst fits)
     ∙ sym (after_one plan s (heard_in unit burst)))
-state_left law only plan unit e s burst (close ∷ []) fits all last is =
-    ap (λ (h : Option Heard). came_to plan h (ticked s)) (ap burst_says is ∙ says_burst law only unit burst fits)
+state_left law plan unit e s burst (close ∷ []) fits all last is =
+    ap (λ (h : Option Heard). came_to plan h (ticked s)) (ap burst_says is ∙ says_burst law unit burst fits)
     ∙ sym (after_one plan s (heard_in unit burst))
-state_left law only plan unit e s burst (close ∷ y ∷ later) fits all last is = cc
+state_left law plan unit e s burst (close ∷ y ∷ later) fits all last is = cc
 
 -- A new automation.
 
-pub new_course : (law : Firsts) (only : Spelt) (plan : Plan) (unit count : ℕ) (a' : Auto Burst) (r : Ran) (u : Told)
+pub new_course : (law : Below) (plan : Plan) (unit count : ℕ) (a' : Auto Burst) (r : Ran) (u : Told)
     → RunsOn at_silences plan unit count new_auto a' r nothing_told u → HasCourse plan unit u a'.state
-new_course law only plan unit count a' r u h =
+new_course law plan unit count a' r u h =
     let came_is : u.came ≡ h.since = h.came_is in
-    let log = log_course law only plan unit fresh start [] h.since (All-nil (λ b. b < 256)) h.octets h.closes_last refl in
+    let log = log_course law plan unit fresh start [] h.since (All-nil (λ b. b < 256)) h.octets h.closes_last refl in
     record {
       state_is = ap (λ (x : Auto Burst). x.state) h.auto_is
-          ∙ state_left law only plan unit fresh start [] h.since (All-nil (λ b. b < 256)) h.octets h.closes_last refl
+          ∙ state_left law plan unit fresh start [] h.since (All-nil (λ b. b < 256)) h.octets h.closes_last refl
           ∙ ap (λ (l : List Arrival). left_behind plan start (inputs_behind unit [] l) l) (sym came_is);
       commands = h.commands;
       commands_are = h.commands_are
@@ -256,27 +248,27 @@ course_if law plan unit count a a' told told' (Err f) h = tt
 
 -- The same where the wire failed.
 
-left_so : (law : Firsts) (only : Spelt) (plan : Plan) (unit : ℕ) (a' : Auto Burst) (came since : List Arrival)
+left_so : (law : Below) (plan : Plan) (unit : ℕ) (a' : Auto Burst) (came since : List Arrival)
     → came ≡ since → All AreOctetsIn since → until_close since ≡ since
     → (a' ≡ after at_silences plan unit new_auto since) ⊎ (a' ≡ gives (after at_silences plan unit new_auto since))
     → (a'.state ≡ left_behind plan start (inputs_behind unit [] came) came)
     ⊎ (a'.state ≡ ticked (left_behind plan start (inputs_behind unit [] came) came))
-left_so law only plan unit a' came since same fits last (inl is) =
+left_so law plan unit a' came since same fits last (inl is) =
     inl (ap (λ (x : Auto Burst). x.state) is
-    ∙ state_left law only plan unit fresh start [] since (All-nil (λ b. b < 256)) fits last refl
+    ∙ state_left law plan unit fresh start [] since (All-nil (λ b. b < 256)) fits last refl
     ∙ ap (λ (l : List Arrival). left_behind plan start (inputs_behind unit [] l) l) (sym same))
-left_so law only plan unit a' came since same fits last (inr is) =
+left_so law plan unit a' came since same fits last (inr is) =
     inr (ap (λ (x : Auto Burst). x.state) is
-    ∙ ap ticked (state_left law only plan unit fresh start [] since (All-nil (λ b. b < 256)) fits last refl
+    ∙ ap ticked (state_left law plan unit fresh start [] since (All-nil (λ b. b < 256)) fits last refl
     ∙ ap (λ (l : List Arrival). left_behind plan start (inputs_behind unit [] l) l) (sym same)))
 
-pub new_broken : (law : Firsts) (only : Spelt) (plan : Plan) (unit : ℕ) (a' : Auto Burst) (u : Told)
+pub new_broken : (law : Below) (plan : Plan) (unit : ℕ) (a' : Auto Burst) (u : Told)
     → BreaksOn at_silences plan unit new_auto a' nothing_told u → HasCourseBroken plan unit u a'.state
-new_broken law only plan unit a' u h =
+new_broken law plan unit a' u h =
     let came_is : u.came ≡ h.since = h.came_is in
-    let log = log_course law only plan unit fresh start [] h.since (All-nil (λ b. b < 256)) h.octets h.closes_last refl in
+    let log = log_course law plan unit fresh start [] h.since (All-nil (λ b. b < 256)) h.octets h.closes_last refl in
     record {
-      state_is = left_so law only plan unit a' u.came h.since came_is h.octets h.closes_last h.auto_is;
+      state_is = left_so law plan unit a' u.came h.since came_is h.octets h.closes_last h.auto_is;
       commands = h.commands;
       commands_are = h.commands_are
           ∙ ap (λ (l : List Exchange). map (λ e. e.command) l ++ option_to_list (awaited plan a'.state)) log

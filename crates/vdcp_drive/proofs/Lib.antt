@@ -1,8 +1,5 @@
 mod Examples
-pub mod Below
 pub mod Cutting
-pub mod Listening
-pub mod Asking
 pub mod Chains
 pub mod Taking
 pub mod Running
@@ -19,3 +16,4 @@ pub mod Keeping
 pub mod Operating
 pub mod Serving
 pub mod Served
+pub mod Asking

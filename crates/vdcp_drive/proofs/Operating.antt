@@ -4,9 +4,9 @@ use Rattle.std.specs.Prelude.{◌↔◌, Option, Some, None, Result, Ok, Err, Is
 use Rattle.vdcp_value.specs.declared.part.Item.{Item}
 use Rattle.vdcp_auto.specs.Course.{Reached, Take, Stop}
 use Rattle.vdcp_auto.specs.Course as course
-use Rattle.vdcp_auto.specs.Plan.{Plan, plan_of}
-use Rattle.vdcp_auto.specs.State.{State, Stage, Ready, Awaiting, Ended}
-use Rattle.vdcp_auto.specs.Turn.{given, given_in, outcome_of}
+use Rattle.vdcp_auto.specs.Plan.{Plan, View, plan_of}
+use Rattle.vdcp_auto.specs.State.{State}
+use Rattle.vdcp_auto.specs.Turn.{outcome_of}
 use Rattle.vdcp_auto.specs.declared.outcome.Outcome.{Outcome}
 use Rattle.vdcp_drive.specs.Auto.{Driving, IsReachedFrom}
 use Rattle.vdcp_drive.specs.Operated.{Scene, Parts, called, Gives, Asks, Rounds, Runs, LastRound, spent, ended, run_over, missed, IsOperated}
@@ -77,45 +77,48 @@ missed_over parts made count s t u fault h few is m same watched =
     over parts made (count - made) count s t u (Err fault) h (omega (arith, few))
     (missed m.0 (omega (arith, few)) (ap (λ (f : KeptFault). Err f) is) m.1 m.2 same watched)
 
-pub call_led : (plan : Plan) (c : Call) (s : State) → IsReachedFrom plan s (called c s)
+call_led : (plan : Plan) (c : Call) (s : State) → IsReachedFrom plan s (called c s)
 call_led plan call.Take s log h = ([], subst (Reached plan (called call.Take s)) (sym (append-nil log)) (course.called h Take))
 call_led plan call.Stop s log h = ([], subst (Reached plan (called call.Stop s)) (sym (append-nil log)) (course.called h Stop))
 
--- a call changes neither whether the controller has ended nor anything but its state
-pub call_going : (c : Call) (s : State) → outcome_of (called c s).stage ≡ outcome_of s.stage
-call_going call.Take s = refl
-call_going call.Stop s = refl
-
--- what the operator said, and what came of it
-pub said_led : {S E W K : Type 0} (items : S → List Item) (calls : Call → K → K → Type 0) (said : Option Call)
-    (d d' : Driving S E W) (k k' : K) → Gives calls said d d' k k'
-    → (d'.controller ≡ record d.controller { state = d'.controller.state }) × (d'.unit ≡ d.unit)
-    × (outcome_of d'.controller.state.stage ≡ outcome_of d.controller.state.stage)
-    × IsReachedFrom (plan_of items d.controller) d.controller.state d'.controller.state
-said_led {S} {E} {W} items calls None d d' k k' h =
-    subst (λ (x : Driving S E W). (x.controller ≡ record d.controller { state = x.controller.state }) × (x.unit ≡ d.unit)
-    × (outcome_of x.controller.state.stage ≡ outcome_of d.controller.state.stage)
-    × IsReachedFrom (plan_of items d.controller) d.controller.state x.controller.state) (sym h.0)
-    (refl, refl, refl, λ log r. ([], subst (Reached (plan_of items d.controller) d.controller.state) (sym (append-nil log)) r))
-said_led {S} {E} {W} items calls (Some c) d d' k k' h =
-    subst (λ (x : Driving S E W). (x.controller ≡ record d.controller { state = x.controller.state }) × (x.unit ≡ d.unit)
-    × (outcome_of x.controller.state.stage ≡ outcome_of d.controller.state.stage)
-    × IsReachedFrom (plan_of items d.controller) d.controller.state x.controller.state) (sym h.1)
-    (refl, refl, call_going c d.controller.state, call_led (plan_of items d.controller) c d.controller.state)
-
-pub led_on : (plan : Plan) (s t u : State) → IsReachedFrom plan s t → IsReachedFrom plan t u → IsReachedFrom plan s u
+led_on : (plan : Plan) (s t u : State) → IsReachedFrom plan s t → IsReachedFrom plan t u → IsReachedFrom plan s u
 led_on plan s t u h k = λ log r.
     let x = h log r in let y = k (log ++ x.0) x.1 in
     (x.0 ++ y.0, subst (Reached plan u) (append_assoc log x.0 y.0) y.1)
 
--- where a command is given the controller hasn't ended
-gives_none : (plan : Plan) (stop : Bool) (stage : Stage) → IsSome (given_in plan stop stage) → outcome_of stage ≡ None
-gives_none plan stop (Ready p) h = refl
-gives_none plan stop (Awaiting p) h = refl
-gives_none plan stop (Ended o) h = cc
+-- what stays of a driver, and where its controller was led
+pub record Went {S E W : Type 0} (items : S → List Item) (d d' : Driving S E W) : Type 0 where
+  pub controller : d'.controller ≡ record d.controller { state = d'.controller.state }
+  pub unit : d'.unit ≡ d.unit
+  pub reached : IsReachedFrom (plan_of items d.controller) d.controller.state d'.controller.state
 
-pub going_on : (plan : Plan) (s : State) → IsSome (given plan s) → outcome_of s.stage ≡ None
-going_on plan s h = gives_none plan s.stop s.stage h
+went_on : {S E W : Type 0} (items : S → List Item) (d e f : Driving S E W) → Went items d e → Went items e f → Went items d f
+went_on {S} items d e f a b = record {
+  controller = b.controller ∙ ap (λ (v : View S). record v { state = f.controller.state }) a.controller;
+  unit = b.unit ∙ a.unit;
+  reached = led_on (plan_of items d.controller) d.controller.state e.controller.state f.controller.state a.reached
+      (subst (λ (p : Plan). IsReachedFrom p e.controller.state f.controller.state) (ap (plan_of items) a.controller) b.reached);
+}
+
+-- by what the operator said
+said_went : {S E W K : Type 0} (items : S → List Item) (calls : Call → K → K → Type 0) (said : Option Call)
+    (d d' : Driving S E W) (k k' : K) → Gives calls said d d' k k' → Went items d d'
+said_went items calls None d d' k k' h = subst (Went items d) (sym h.0) (record {
+  controller = refl;
+  unit = refl;
+  reached = λ log r. ([], subst (Reached (plan_of items d.controller) d.controller.state) (sym (append-nil log)) r);
+})
+said_went items calls (Some c) d d' k k' h = subst (Went items d) (sym h.1) (record {
+  controller = refl;
+  unit = refl;
+  reached = call_led (plan_of items d.controller) c d.controller.state;
+})
+
+-- and by a run after that
+pub round_went : {S E W K : Type 0} (items : S → List Item) (calls : Call → K → K → Type 0) (said : Option Call)
+    (d e f g : Driving S E W) (k k' : K) → Went items d e → Gives calls said e f k k' → Went items f g → Went items d g
+round_went items calls said d e f g k k' before given ran =
+    went_on items d f g (went_on items d e f before (said_went items calls said e f k k' given)) ran
 
 none_of : (o : Option Outcome) → (IsSome o → ⊥) → o ≡ None
 none_of None h = refl

@@ -14,6 +14,7 @@ use Rattle.vdcp_port.specs.Clock.{ClockedPort, after_frame, answer_to}
 use Rattle.vdcp_port.specs.Port as slots
 use Rattle.vdcp_wire.specs.Acts.{Act, brings, fails, sends}
 use Rattle.vdcp_wire.specs.Wires.{Arrival, bytes, silence, close, has_closed}
+use Rattle.vdcp_drive.specs.Below.{Below}
 use Rattle.vdcp_drive.specs.Bursts.{ended_bursts, open_burst}
 use Rattle.vdcp_drive.specs.Leaves.{AreOctetsIn}
 use Rattle.vdcp_drive.specs.ServeLeaves.{ServeEnding, by_itself, cut_short}
@@ -22,16 +23,10 @@ use Rattle.vdcp_drive.specs.Serving.{IsCutShort, Look, Service, acts_of, airs, a
 use Rattle.vdcp_drive.specs.Traces.{came_in, sent_in, until_close}
 use Rattle.vdcp_drive.specs.declared.line.DriveFault.{DriveFault}
 use Rattle.vdcp_drive.specs.declared.line.Ran.{Ran}
-use Rattle.vdcp_drive.proofs.Below.{Grows, InOrder, OneItem}
 use Rattle.vdcp_drive.proofs.Cutting.{ended_bytes, ended_close, ended_silence, open_bytes, open_close, open_silence}
 use Rattle.vdcp_drive.proofs.Running.{closed_more}
 use Rattle.vdcp_drive.proofs.Taking.{messages_grow}
 use Rattle.vdcp_drive.proofs.Tracing.{came_both, sent_both}
-
-pub record Laws : Type 0 where
-  pub order : InOrder
-  pub grows : Grows
-  pub item : OneItem
 
 -- One more ended burst.
 
@@ -60,7 +55,7 @@ last_of : (items : List Item) (cued : Item → Type 0) → (items ≡ []) ⊎ ((
 last_of items cued (inl e) = ap (λ (l : List Item). option_to_list (last_aired None l)) e ∙ sym e
 last_of items cued (inr e) = ap (λ (l : List Item). option_to_list (last_aired None l)) e.2 ∙ sym e.2
 
-last_is_all : (law : OneItem) (p : ClockedPort) (ms : List Content)
+last_is_all : (law : Below) (p : ClockedPort) (ms : List Content)
     → option_to_list (last_aired None (aired_on_way p ms)) ≡ aired_on_way p ms
 last_is_all law p ms = last_of (aired_on_way p ms) (λ item. p.state.cued ≡ slots.done item) (law.one p ms)
 
@@ -92,7 +87,7 @@ served_by p ended ms = sent_for_bursts p ended ++ bytes_for_all (after_bursts p 
 abbrev items_by : ClockedPort → List (List ℕ) → List Content → List Item
 items_by p ended ms = items_for_bursts p ended ++ aired_on_way (after_bursts p ended) ms
 
-one_more : (law : Laws) (p : ClockedPort) (before : List Arrival) (what : Arrival) → IsOpen before → AreOctetsIn what
+one_more : (law : Below) (p : ClockedPort) (before : List Arrival) (what : Arrival) → IsOpen before → AreOctetsIn what
     → OneMore p before what
 one_more law p before (bytes piece) o fits =
     let e : List (List ℕ) = ended_bursts before in
@@ -105,19 +100,19 @@ one_more law p before (bytes piece) o fits =
     let goes : open_burst (before ++ bytes piece ∷ []) ≡ b ++ piece = open_bytes [] before piece o.still in
     let fit : AreOctets (b ++ piece) = All-append (λ x. x < 256) b piece o.octets fits in
     let reads : messages_of (open_burst (before ++ bytes piece ∷ [])) ≡ ms ++ ns =
-    ap messages_of goes ∙ messages_grow law.grows b piece o.octets fit in
+    ap messages_of goes ∙ messages_grow law b piece o.octets fit in
     record {
       sent = ap₂ (served_by p) same reads
-          ∙ ap (λ (l : List ℕ). sent_for_bursts p e ++ l) (law.order.sent q ms ns)
+          ∙ ap (λ (l : List ℕ). sent_for_bursts p e ++ l) (law.sent q ms ns)
           ∙ sym (append_assoc (sent_for_bursts p e) (bytes_for_all q ms) (bytes_for_all now ns))
           ∙ ap (λ (l : List ℕ). served p before ++ l) (sym (sending_sent now.state.unit (answers_to now ns)));
       items = ap₂ (items_by p) same reads
-          ∙ ap (λ (l : List Item). items_for_bursts p e ++ l) (law.order.aired q ms ns)
+          ∙ ap (λ (l : List Item). items_for_bursts p e ++ l) (law.aired q ms ns)
           ∙ sym (append_assoc (items_for_bursts p e) (aired_on_way q ms) (aired_on_way now ns))
-          ∙ ap (λ (l : List Item). items_served p before ++ l) (sym (last_is_all law.item now ns));
+          ∙ ap (λ (l : List Item). items_served p before ++ l) (sym (last_is_all law now ns));
       stands = ap₂ service
           (ap₂ (λ (x : List (List ℕ)) (l : List Content). after_messages (after_bursts p x) l) same reads
-          ∙ law.order.next q ms ns) goes;
+          ∙ law.next q ms ns) goes;
       octets = subst AreOctets (sym goes) fit;
     }
 one_more law p before silence o fits =
@@ -135,7 +130,7 @@ one_more law p before silence o fits =
           ∙ ap (λ (l : List ℕ). sent_for_bursts p e ++ l)
           (flat_map-append (reply_bytes q.state.unit) (answers_to q ms) (end_answers (end_of b)))
           ∙ sym (append_assoc (sent_for_bursts p e) (bytes_for_all q ms) (answer_bytes q.state.unit (end_answers (end_of b))))
-          ∙ ap (λ (n : ℕ). served p before ++ answer_bytes n (end_answers (end_of b))) (sym (law.order.unit q ms))
+          ∙ ap (λ (n : ℕ). served p before ++ answer_bytes n (end_answers (end_of b))) (sym (law.unit q ms))
           ∙ ap (λ (l : List ℕ). served p before ++ l) (sym (sending_sent now.state.unit (end_answers (end_of b))));
       items = ap₂ (items_by p) same reads
           ∙ append-nil (items_for_bursts p (e ++ b ∷ [])) ∙ items_push p e b ∙ sym (append-nil (items_served p before));
@@ -161,7 +156,7 @@ drop_one [] = []
 drop_one (what ∷ later) = later
 
 -- more may come after it, or nothing comes after it
-goes_on : (law : Laws) (p : ClockedPort) (before : List Arrival) (what : Arrival) (later : List Arrival) → IsOpen before
+goes_on : (law : Below) (p : ClockedPort) (before : List Arrival) (what : Arrival) (later : List Arrival) → IsOpen before
     → AreOctetsIn what → until_close (what ∷ later) ≡ what ∷ later
     → (IsOpen (before ++ what ∷ []) × (until_close later ≡ later)) ⊎ ((has_closed (what ∷ later) ≡ true) × (later ≡ []))
 goes_on law p before (bytes piece) later o fits is = inl (
@@ -206,7 +201,7 @@ served_none p before =
       left = ap (stands_at p) (sym same);
     }
 
-served_further : (law : Laws) (p : ClockedPort) (before : List Arrival) (what : Arrival) (later : List Arrival)
+served_further : (law : Below) (p : ClockedPort) (before : List Arrival) (what : Arrival) (later : List Arrival)
     → OneMore p before what → AllServed p (before ++ what ∷ []) later → AllServed p before (what ∷ later)
 served_further law p before what later m h =
     let s : Service = stands_at p before in
@@ -228,7 +223,7 @@ either : {A B C : Type 0} → (A → C) → (B → C) → A ⊎ B → C
 either f h (inl a) = f a
 either f h (inr b) = h b
 
-pub all_served : (law : Laws) (p : ClockedPort) (before came : List Arrival) → IsOpen before → All AreOctetsIn came
+pub all_served : (law : Below) (p : ClockedPort) (before came : List Arrival) → IsOpen before → All AreOctetsIn came
     → until_close came ≡ came → AllServed p before came
 all_served law p before [] o fits is = served_none p before
 all_served law p before (what ∷ later) o fits is =
@@ -238,7 +233,7 @@ all_served law p before (what ∷ later) o fits is =
     (λ h. subst (AllServed p (before ++ what ∷ [])) (sym h.1) (served_none p (before ++ what ∷ [])))
     (goes_on law p before what later o fit is))
 
-opens : (law : Laws) (p : ClockedPort) (before came : List Arrival) → IsOpen before → All AreOctetsIn came
+opens : (law : Below) (p : ClockedPort) (before came : List Arrival) → IsOpen before → All AreOctetsIn came
     → has_closed came ≡ false → IsOpen (before ++ came)
 opens law p before [] o fits is = subst IsOpen (sym (append-nil before)) o
 opens law p before (bytes piece ∷ later) o fits is =
@@ -315,20 +310,20 @@ within p before what ss (a ∷ some) behind more m none parts is =
     })
 
 -- of the answers to messages, up to a beginning of one
-front_sent : (order : InOrder) (q : ClockedPort) (ms : List Content) (m : Content) (others : List Content)
+front_sent : (law : Below) (q : ClockedPort) (ms : List Content) (m : Content) (others : List Content)
     (front rest : List ℕ) → bytes_for (after_messages q ms) m ≡ front ++ rest
     → (more : List ℕ) × (answer_bytes q.state.unit (answers_to q (ms ++ m ∷ others))
     ≡ sent_in (sending q.state.unit (answers_to q ms) ++ sends front ∷ []) ++ more)
-front_sent order q ms m others front rest parts =
+front_sent law q ms m others front rest parts =
     let now : ClockedPort = after_messages q ms in
     let later : List ℕ = bytes_for_all (after_messages now (m ∷ [])) others in
     let out : List Act = sending q.state.unit (answers_to q ms) in
     let one : bytes_for_all now (m ∷ others) ≡ front ++ (rest ++ later) =
-    order.sent now (m ∷ []) others
+    law.sent now (m ∷ []) others
     ∙ ap (λ (l : List Reply). answer_bytes now.state.unit l ++ later) (append-nil (option_to_list (answer_to now m)))
     ∙ ap (λ (l : List ℕ). l ++ later) parts ∙ append_assoc front rest later in (
       rest ++ later,
-      order.sent q ms (m ∷ others)
+      law.sent q ms (m ∷ others)
           ∙ ap₂ (λ (x y : List ℕ). x ++ y) (sym (sending_sent q.state.unit (answers_to q ms))) one
           ∙ sym (append_assoc (sent_in out) front (rest ++ later))
           ∙ ap (λ (l : List ℕ). l ++ (rest ++ later))
@@ -336,7 +331,7 @@ front_sent order q ms m others front rest parts =
     )
 
 -- where the wire failed
-cut_served : (law : Laws) (p : ClockedPort) (before : List Arrival) (done some behind : List Act) (port : ClockedPort)
+cut_served : (law : Below) (p : ClockedPort) (before : List Arrival) (done some behind : List Act) (port : ClockedPort)
     (aired : Option Item) → IsOpen before → IsCutShort (stands_at p before) done port aired → done ≡ some ++ behind
     → SendsServed p before some
 cut_served law p before done some behind port aired o (in_listen is port_is aired_is) parts =
@@ -347,7 +342,7 @@ cut_served law p before done some behind port aired o
     (in_answer piece ms m others front rest fits messages part is port_is aired_is) parts =
     let s : Service = stands_at p before in
     let out : List Act = sending s.port.state.unit (answers_to s.port ms) ++ sends front ∷ [] in
-    let f = front_sent law.order s.port ms m others front rest part in
+    let f = front_sent law s.port ms m others front rest part in
     within p before (bytes piece) out some behind f.0 (one_more law p before (bytes piece) o fits)
     (came_both (sending s.port.state.unit (answers_to s.port ms)) (sends front ∷ [])
     ∙ append-nil (came_in (sending s.port.state.unit (answers_to s.port ms)))
@@ -407,7 +402,7 @@ beyond p before what zs some m none is h =
           (sym (append_assoc (sent_in out) (sent_in zs) h.rest) ∙ ap (λ (l : List ℕ). l ++ h.rest) (sym sent));
     }
 
-pub moments_served : (law : Laws) (p : ClockedPort) (before came : List Arrival) (done some behind : List Act)
+pub moments_served : (law : Below) (p : ClockedPort) (before came : List Arrival) (done some behind : List Act)
     → IsOpen before → All AreOctetsIn came → until_close came ≡ came
     → HasStopped (left_by (stands_at p before) came) (has_closed came) done
     → acts_of (stands_at p before) came ++ done ≡ some ++ behind → SendsServed p before some
@@ -442,7 +437,7 @@ pub record AirsServed (p : ClockedPort) (before : List Arrival) (all : List Act)
   pub rest : List Item
   pub is : items_served p (before ++ came_in all) ≡ items_served p before ++ (items ++ rest)
 
-cut_items : (law : Laws) (p : ClockedPort) (before : List Arrival) (done : List Act) (port : ClockedPort)
+cut_items : (law : Below) (p : ClockedPort) (before : List Arrival) (done : List Act) (port : ClockedPort)
     (aired : Option Item) → IsOpen before → IsCutShort (stands_at p before) done port aired
     → AirsServed p before done (option_to_list aired)
 cut_items law p before done port aired o (in_listen is port_is aired_is) = record {
@@ -465,10 +460,10 @@ cut_items law p before done port aired o (in_answer piece ms m others front rest
           ∙ ap (λ (l : List Arrival). items_served p (before ++ bytes piece ∷ l)) no_came
           ∙ (one_more law p before (bytes piece) o fits).items
           ∙ ap (λ (l : List Item). items_served p before ++ l)
-          (last_is_all law.item q (completed (open_burst before) piece)
-          ∙ ap (aired_on_way q) all ∙ law.order.aired q (ms ++ m ∷ []) others
+          (last_is_all law q (completed (open_burst before) piece)
+          ∙ ap (aired_on_way q) all ∙ law.aired q (ms ++ m ∷ []) others
           ∙ ap (λ (l : List Item). l ++ more)
-          (sym (last_is_all law.item q (ms ++ m ∷ [])) ∙ ap option_to_list (sym aired_is)));
+          (sym (last_is_all law q (ms ++ m ∷ [])) ∙ ap option_to_list (sym aired_is)));
     }
 cut_items law p before done port aired o (at_end front rest part is port_is aired_is) = record {
   rest = [];
@@ -483,7 +478,7 @@ items_both (x ∷ xs) ys =
     ap (λ (l : List Item). option_to_list x.aired ++ l) (items_both xs ys)
     ∙ sym (append_assoc (option_to_list x.aired) (items_in xs) (items_in ys))
 
-pub items_by_then : (law : Laws) (p : ClockedPort) (before came : List Arrival) (count : ℕ) (answer : Result Ran DriveFault)
+pub items_by_then : (law : Below) (p : ClockedPort) (before came : List Arrival) (count : ℕ) (answer : Result Ran DriveFault)
     (done : List Act) (seen : List Look) (port : ClockedPort) (reader : Progress) → IsOpen before
     → All AreOctetsIn came → until_close came ≡ came
     → ServeEnding count came (left_by (stands_at p before) came) answer done seen port reader

@@ -16,6 +16,7 @@ use Rattle.vdcp_wire.specs.Wires.{Arrival, has_closed}
 use Rattle.vdcp_wire.specs.Acts.{Act, brings}
 use Rattle.vdcp_drive.specs.Leaves.{AreOctetsIn}
 use Rattle.vdcp_drive.specs.ServeLeaves.{HasServed, HasTurned, ServeLeaves, Serves, ServesTo, by_itself, cut_short}
+use Rattle.vdcp_drive.specs.Below.{Below}
 use Rattle.vdcp_drive.specs.Serving.{HasRead, IsCutShort, Look, Service, Serving, acts_of, airs, items_in, left_by, looks_of, replies, sending, serves}
 use Rattle.vdcp_drive.specs.Steps.{Chain}
 use Rattle.vdcp_drive.specs.Traces.{until_close}
@@ -25,7 +26,6 @@ use Rattle.vdcp_drive.specs.declared.line.DriveFault.TheVariants.{Device}
 use Rattle.vdcp_drive.specs.declared.line.Line.{Line}
 use Rattle.vdcp_drive.specs.declared.line.Ran.{Ran}
 use Rattle.vdcp_drive.specs.declared.line.Ran.TheVariants as ran
-use Rattle.vdcp_drive.proofs.Below.{Read}
 use Rattle.vdcp_drive.proofs.Chains.{chain_both}
 use Rattle.vdcp_drive.proofs.Running.{closing, closed_more, last_more}
 
@@ -40,13 +40,13 @@ cut_so does s wire (Ok l) port' reader' aired' wire' is done cut acted = absurd 
 cut_so does s wire (Err e) port' reader' aired' wire' is done cut acted = (done, cut, acted)
 
 -- a reader's end is that of its burst
-pub ends_alike : (read : Read) (one : (burst : List ℕ) (ms ns : List Content) (end : End) (ended : Ended)
+pub ends_alike : (law : Below) (one : (burst : List ℕ) (ms ns : List Content) (end : End) (ended : Ended)
     → Reads burst ms end → ReadsAs burst ns ended → end_answers end ≡ option_to_list (reply_at_end ended))
     → (burst : List ℕ) (reader : Progress) → HasRead burst reader
     → end_answers (end_of burst) ≡ option_to_list (reply_at_end (ended_of reader))
-ends_alike read one burst reader h =
-    one burst (messages_of burst) (messages_of burst) (end_of burst) (ended_of reader) (read.some burst h.octets)
-    (read.read burst (messages_of burst) reader h.follows)
+ends_alike law one burst reader h =
+    one burst (messages_of burst) (messages_of burst) (end_of burst) (ended_of reader) (law.some burst h.octets)
+    (law.read burst (messages_of burst) reader h.follows)
 
 -- One after another.
 
@@ -80,21 +80,6 @@ pub record Stands {W V : Type 0} (does : Act → W → W → Type 0) (sees : Loo
   pub has_read : HasRead (left_by s came).burst reader
   pub acted : Chain does (acts_of s came) wire wire'
   pub looked : Chain sees (looks_of s came) watch watch'
-
-pub stands_first : {W V : Type 0} (does : Act → W → W → Type 0) (sees : Look → V → V → Type 0) (s : Service)
-    (reader : Progress) (wire : W) (watch : V) → HasRead s.burst reader
-    → Stands does sees 0 s s.port reader wire wire watch watch false
-stands_first does sees s reader wire watch h = record {
-  came = [];
-  count = refl;
-  closed_is = refl;
-  octets = All-nil AreOctetsIn;
-  closes_last = refl;
-  port_is = refl;
-  has_read = h;
-  acted = refl;
-  looked = refl;
-}
 
 -- the service that a port and a burst are
 same_service : (port : ClockedPort) (s : Service) → port ≡ s.port → record { port = port; burst = s.burst } ≡ s

@@ -16,10 +16,10 @@ use Rattle.vdcp_words.specs.declared.reply.Reply.{Reply}
 use Rattle.vdcp_port.specs.Answers.{after_messages, aired_on_way, answers_to, bytes_for, reply_bytes}
 use Rattle.vdcp_port.specs.Clock.{ClockedPort}
 use Rattle.vdcp_wire.specs.Acts.{Act, sends, OfFront}
+use Rattle.vdcp_drive.specs.Below.{Below}
 use Rattle.vdcp_drive.specs.ServeLeaves.{HasBroken, HasTaken}
 use Rattle.vdcp_drive.specs.Serving.{HasRead, Service, completed, last_aired, sending}
 use Rattle.vdcp_drive.specs.Steps.{Chain}
-use Rattle.vdcp_drive.proofs.Below.{Grows, InOrder, Read}
 use Rattle.vdcp_drive.proofs.Chains.{chain_both}
 
 -- Messages.
@@ -37,7 +37,7 @@ front_within whole rest bytes is =
     let few : min burst_limit (length bytes) ≤ burst_limit = grind (arith, common_steps) in omega (arith, n, m, few)
 
 -- more bytes complete more messages
-pub messages_grow : (law : Grows) (burst piece : List ℕ) → AreOctets burst → AreOctets (burst ++ piece)
+pub messages_grow : (law : Below) (burst piece : List ℕ) → AreOctets burst → AreOctets (burst ++ piece)
     → messages_of (burst ++ piece) ≡ messages_of burst ++ completed burst piece
 messages_grow law burst piece fits both =
     let r : Reads burst (messages_of burst) (end_of burst) = law.some burst fits in
@@ -54,7 +54,7 @@ messages_grow law burst piece fits both =
     (law.some (burst ++ piece) both)) in
     o.1 ∙ ap (λ (l : List Content). messages_of burst ++ l) (sym (completed_so burst piece o.0 o.1))
 
-pub completed_both : (law : Grows) (burst xs ys : List ℕ) → AreOctets burst → AreOctets (burst ++ xs)
+pub completed_both : (law : Below) (burst xs ys : List ℕ) → AreOctets burst → AreOctets (burst ++ xs)
     → AreOctets ((burst ++ xs) ++ ys) → completed burst (xs ++ ys) ≡ completed burst xs ++ completed (burst ++ xs) ys
 completed_both law burst xs ys a b c =
     completed_so burst (xs ++ ys) (completed burst xs ++ completed (burst ++ xs) ys)
@@ -73,7 +73,7 @@ pub last_of_both : (o : Option Item) (xs ys : List Item) → last_aired (last_ai
 last_of_both o [] ys = refl
 last_of_both o (x ∷ xs) ys = last_of_both (Some x) xs ys
 
-aired_both : (law : InOrder) (port : ClockedPort) (ms ns : List Content) (o : Option Item)
+aired_both : (law : Below) (port : ClockedPort) (ms ns : List Content) (o : Option Item)
     → last_aired (last_aired o (aired_on_way port ms)) (aired_on_way (after_messages port ms) ns)
     ≡ last_aired o (aired_on_way port (ms ++ ns))
 aired_both law port ms ns o =
@@ -83,7 +83,7 @@ aired_both law port ms ns o =
 pub sending_both : (unit : ℕ) (xs ys : List Reply) → sending unit (xs ++ ys) ≡ sending unit xs ++ sending unit ys
 sending_both unit xs ys = map-append (λ (reply : Reply). sends (reply_bytes unit reply)) xs ys
 
-answering_both : (law : InOrder) (port : ClockedPort) (ms ns : List Content)
+answering_both : (law : Below) (port : ClockedPort) (ms ns : List Content)
     → sending port.state.unit (answers_to port ms)
     ++ sending (after_messages port ms).state.unit (answers_to (after_messages port ms) ns)
     ≡ sending port.state.unit (answers_to port (ms ++ ns))
@@ -109,19 +109,6 @@ read_whole piece front rest left count parts leaves none =
     sym (append-nil (front ++ take count rest)) ∙ ap (λ (b : List ℕ). (front ++ take count rest) ++ b) (sym none)
     ∙ sym (parts_on piece front rest left count parts leaves)
 
-pub follows_on : (burst : List ℕ) (ms : List Content) (reader : Progress) → Follows burst ms reader
-    → Follows (burst ++ []) (ms ++ []) reader
-follows_on burst ms reader f =
-    subst (λ (b : List ℕ). Follows b (ms ++ []) reader) (sym (append-nil burst))
-    (subst (λ (l : List Content). Follows burst l reader) (sym (append-nil ms)) f)
-
-pub follows_both : (burst front piece : List ℕ) (ms ns os : List Content) (reader : Progress)
-    → Follows ((burst ++ front) ++ piece) ((ms ++ ns) ++ os) reader
-    → Follows (burst ++ (front ++ piece)) (ms ++ (ns ++ os)) reader
-follows_both burst front piece ms ns os reader f =
-    subst (λ (l : List ℕ). Follows l (ms ++ (ns ++ os)) reader) (append_assoc burst front piece)
-    (subst (λ (l : List Content). Follows ((burst ++ front) ++ piece) l reader) (append_assoc ms ns os) f)
-
 -- Calls after calls.
 
 pub taken_none : {W : Type 0} (does : Act → W → W → Type 0) (s : Service) (reader : Progress) (aired : Option Item)
@@ -141,24 +128,24 @@ record Further (s : Service) (front piece : List ℕ) (ns : List Content) (reade
   all : completed s.burst (front ++ piece) ≡ completed s.burst front ++ ns
   has_read : HasRead (s.burst ++ (front ++ piece)) reader
 
-further : (read : Read) (grows : Grows) (s : Service) (front piece : List ℕ) (reader reader' : Progress)
+further : (law : Below) (s : Service) (front piece : List ℕ) (reader reader' : Progress)
     (ns : List Content) → AreOctets s.burst → AreOctets piece → HasRead (s.burst ++ front) reader
     → Follows ((s.burst ++ front) ++ piece) (messages_of (s.burst ++ front) ++ ns) reader'
     → Further s front piece ns reader'
-further read grows s front piece reader reader' ns begun fits h f =
+further law s front piece reader reader' ns begun fits h f =
     let b : List ℕ = s.burst ++ front in
     let octets : AreOctets (b ++ piece) = All-append (λ x. x < 256) b piece h.octets fits in
     let same : messages_of b ++ ns ≡ messages_of (b ++ piece) =
-    read.messages (b ++ piece) (messages_of b ++ ns) reader' octets f in
+    law.messages (b ++ piece) (messages_of b ++ ns) reader' octets f in
     let whole : HasRead (b ++ piece) reader' =
     record { octets = octets; follows = subst (λ (l : List Content). Follows (b ++ piece) l reader') same f } in
     record {
-      all = completed_both grows s.burst front piece begun h.octets octets
+      all = completed_both law s.burst front piece begun h.octets octets
           ∙ ap (λ (l : List Content). completed s.burst front ++ l) (completed_so b piece ns (sym same));
       has_read = subst (λ (l : List ℕ). HasRead l reader') (append_assoc s.burst front piece) whole;
     }
 
-pub taken_on : {W : Type 0} (does : Act → W → W → Type 0) (law : InOrder) (read : Read) (grows : Grows) (s : Service)
+pub taken_on : {W : Type 0} (does : Act → W → W → Type 0) (law : Below) (s : Service)
     (port₁ port₂ : ClockedPort) (reader₁ reader₂ : Progress) (aired₀ aired₁ aired₂ : Option Item) (wire₀ wire₁ wire₂ : W)
     (front rest left : List ℕ) (answer : Answer) → AreOctets s.burst
     → HasTaken does s aired₀ wire₀ front port₁ reader₁ aired₁ wire₁
@@ -167,13 +154,13 @@ pub taken_on : {W : Type 0} (does : Act → W → W → Type 0) (law : InOrder) 
     → aired₂ ≡ last_aired aired₁ (aired_on_way port₁ (with_message answer []))
     → Chain does (sending port₁.state.unit (answers_to port₁ (with_message answer []))) wire₁ wire₂
     → HasTaken does s aired₀ wire₀ (front ++ take r.count rest) port₂ reader₂ aired₂ wire₂
-taken_on {W} does law read grows s port₁ port₂ reader₁ reader₂ aired₀ aired₁ aired₂ wire₀ wire₁ wire₂ front rest left
+taken_on {W} does law s port₁ port₂ reader₁ reader₂ aired₀ aired₁ aired₂ wire₀ wire₁ wire₂ front rest left
     answer begun a r fits leaves puts sent =
     let ns : List Content = with_message answer [] in
     let piece : List ℕ = take r.count rest in
     let c : List Content = completed s.burst front in
     let q : ClockedPort = after_messages s.port c in
-    let m : Further s front piece ns reader₂ = further read grows s front piece reader₁ reader₂ ns begun fits a.has_read
+    let m : Further s front piece ns reader₂ = further law s front piece reader₁ reader₂ ns begun fits a.has_read
     (r.follows (s.burst ++ front) (messages_of (s.burst ++ front)) a.has_read.follows) in
     record {
       has_read = m.has_read;
@@ -193,7 +180,7 @@ taken_on {W} does law read grows s port₁ port₂ reader₁ reader₂ aired₀ 
     }
 
 -- the wire fails in the answer
-pub broken_on : {W : Type 0} (does : Act → W → W → Type 0) (law : InOrder) (read : Read) (grows : Grows) (s : Service)
+pub broken_on : {W : Type 0} (does : Act → W → W → Type 0) (law : Below) (s : Service)
     (port₁ port₂ : ClockedPort) (reader₁ reader₂ : Progress) (aired₀ aired₁ aired₂ : Option Item) (wire₀ wire₁ wire₂ : W)
     (front rest left : List ℕ) (m : Content) → AreOctets s.burst
     → HasTaken does s aired₀ wire₀ front port₁ reader₁ aired₁ wire₁
@@ -202,12 +189,12 @@ pub broken_on : {W : Type 0} (does : Act → W → W → Type 0) (law : InOrder)
     → aired₂ ≡ last_aired aired₁ (aired_on_way port₁ (m ∷ []))
     → OfFront (bytes_for port₁ m) (λ b. does (sends b) wire₁ wire₂)
     → HasBroken does s aired₀ wire₀ (front ++ rest) port₂ aired₂ wire₂
-broken_on {W} does law read grows s port₁ port₂ reader₁ reader₂ aired₀ aired₁ aired₂ wire₀ wire₁ wire₂ front rest left m
+broken_on {W} does law s port₁ port₂ reader₁ reader₂ aired₀ aired₁ aired₂ wire₀ wire₁ wire₂ front rest left m
     begun a r fits fits_left leaves puts sent =
     let ns : List Content = m ∷ [] in
     let piece : List ℕ = take r.count rest in
     let c : List Content = completed s.burst front in
-    let w : Further s front piece ns reader₂ = further read grows s front piece reader₁ reader₂ ns begun fits a.has_read
+    let w : Further s front piece ns reader₂ = further law s front piece reader₁ reader₂ ns begun fits a.has_read
     (r.follows (s.burst ++ front) (messages_of (s.burst ++ front)) a.has_read.follows) in
     let b : List ℕ = s.burst ++ (front ++ piece) in
     let others : List Content = completed b left in
@@ -219,7 +206,7 @@ broken_on {W} does law read grows s port₁ port₂ reader₁ reader₂ aired₀
       last = m;
       others = others;
       messages = ap (completed s.burst) parts
-          ∙ completed_both grows s.burst (front ++ piece) left begun w.has_read.octets octets
+          ∙ completed_both law s.burst (front ++ piece) left begun w.has_read.octets octets
           ∙ ap (λ (l : List Content). l ++ others) w.all ∙ append_assoc c ns others;
       port_is = leaves ∙ ap (λ (p : ClockedPort). after_messages p ns) a.port_is ∙ sym (law.next s.port c ns);
       aired_is = puts

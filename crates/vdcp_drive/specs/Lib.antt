@@ -6,6 +6,7 @@ pub mod Serving
 pub mod Served
 pub mod Ears
 pub mod Reading
+pub mod Below
 pub mod Hearing
 pub mod HearingLaws
 pub mod Auto

@@ -1,14 +1,11 @@
 -- What a port is asked before anything is played through it, and what is made of its answers: is something cued, or
 -- does something play?
 use Rattle.std.specs.Prelude.{ℕ, ◌≡◌, ◌≤◌, ◌<◌, ◌+◌, ◌*◌, nat_eq, nat_lt, true, false, IsTrue, List, [], ◌∷◌, ◌++◌, length, map, Option, None, Some, if◌then◌else◌}
-use Rattle.vdcp_frame.specs.Message.{Content}
-use Rattle.vdcp_frame.specs.Progress.{Progress}
-use Rattle.vdcp_frame.specs.Reader.{Follows}
 use Rattle.vdcp_words.specs.declared.command.Command.{Command}
 use Rattle.vdcp_words.specs.declared.command.Command.TheVariants as command
 use Rattle.vdcp_words.specs.declared.reply.Reply.{Reply}
 use Rattle.vdcp_words.specs.declared.reply.Reply.TheVariants as reply
-use Rattle.vdcp_auto.specs.Heard.{heard_first, heard_in}
+use Rattle.vdcp_auto.specs.Heard.{heard_in}
 use Rattle.vdcp_auto.specs.declared.exchange.Heard.{Heard}
 use Rattle.vdcp_auto.specs.declared.exchange.Heard.TheVariants as heard
 use Rattle.vdcp_drive.specs.Bursts.{ended_bursts, open_burst}
@@ -123,20 +120,6 @@ pub record HasAsked (unit port limit listens left : ℕ) (told : Told) (answer :
 abbrev pub IsPartlyAsked : ℕ → ℕ → ℕ → Told → Type 0
 IsPartlyAsked unit port limit told =
     (rest : List ℕ) × (bytes_of unit (commands_asked unit port limit told.came) ≡ told.sent ++ rest)
-
--- what is heard first: already, or in these messages
-abbrev pub heard_by_then : ℕ → Option Heard → List Content → Option Heard
-heard_by_then unit (Some h) ms = Some h
-heard_by_then unit None ms = heard_first unit ms
-
--- the reader took these bytes of a burst, and the first message is heard
-pub record HasHeard (unit : ℕ) (reader : Progress) (heard : Option Heard) (piece : List ℕ) (reader' : Progress)
-    (heard' : Option Heard) : Type 0 where
-  pub messages : List Content
-  -- whatever the burst so far and its messages are, the reader has then followed these too
-  pub follows : (burst : List ℕ) (ms : List Content) → Follows burst ms reader →
-      Follows (burst ++ piece) (ms ++ messages) reader'
-  pub hears : heard' ≡ heard_by_then unit heard messages
 
 -- no burst has begun
 pub record IsBetween (came : List Arrival) : Type 0 where

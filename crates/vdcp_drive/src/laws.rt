@@ -28,6 +28,7 @@ ghost use Rattle.vdcp_drive.specs.ServeLeaves.{ServeEnding};
 ghost use Rattle.vdcp_drive.specs.Served.{IsOpen, items_served, served, stands_at};
 ghost use Rattle.vdcp_drive.specs.Serving.{Look, Service, acts_of, items_in, left_by, looks_of};
 ghost use Rattle.vdcp_drive.specs.Safe.{AreSafe, IsCut};
+ghost use Rattle.vdcp_drive.specs.Below.{Below};
 ghost use Rattle.vdcp_drive.specs.Steps.{Chain, Happens, Step, World, steps_of};
 ghost use Rattle.vdcp_drive.specs.Traces.{acts_in, kept_in, sent_in, came_in, commands_kept, bytes_of, kept_of, awaited_notes, until_close};
 ghost use Rattle.vdcp_drive.specs.Watching.{tells_airing};
@@ -43,6 +44,22 @@ use vdcp_frame::laws as bursts;
 use vdcp_port::{Catalogue, laws as answers};
 use vdcp_wire::Wire;
 
+/// The laws of the crates below that proofs of this one take.
+pub(crate) fn laws_below()
+    ensures { Below }
+{
+    bursts::no_spelling_begins_another();
+    bursts::one_spelling();
+    bursts::what_is_spelt_is_bytes();
+    bursts::a_spelling_is_its_message();
+    bursts::what_is_followed_is_read();
+    bursts::one_reading();
+    bursts::written_is_read();
+    answers::messages_after_messages();
+    answers::the_unit_stays();
+    answers::a_burst_airs_at_most_the_cued_item();
+}
+
 /// What a run of a new automation that hears at silences adds to a fresh wire is the course of its bursts: the commands
 /// that were sent are those of the exchanges of the course, and then the one that is awaited, each after a drop.
 pub fn a_new_run_is_a_course()
@@ -52,12 +69,7 @@ pub fn a_new_run_is_a_course()
     ensures broken { (plan : Plan) (unit : ℕ) (a' : Auto Burst) (u : Told) →
         BreaksOn at_silences plan unit new_auto a' nothing_told u → HasCourseBroken plan unit u a'.state }
 {
-    bursts::no_spelling_begins_another();
-    bursts::one_spelling();
-    bursts::what_is_spelt_is_bytes();
-    bursts::a_spelling_is_its_message();
-    bursts::what_is_followed_is_read();
-    bursts::one_reading();
+    laws_below();
 }
 
 /// What holds of every controller and its log holds of the controller that such a run leaves and of the course of what
@@ -172,12 +184,7 @@ pub fn what_is_spelt_is_completed()
     ensures pieces_held { (at : Held) (piece more : List ℕ) →
         held_after at (piece ++ more) ≡ held_after (held_after at piece) more }
 {
-    bursts::no_spelling_begins_another();
-    bursts::one_spelling();
-    bursts::what_is_spelt_is_bytes();
-    bursts::a_spelling_is_its_message();
-    bursts::what_is_followed_is_read();
-    bursts::one_reading();
+    laws_below();
 }
 
 /// What one arrival more makes of the bursts that came: bytes are added to the open one, a silence ends it, and a close
@@ -207,11 +214,7 @@ pub fn turns_are_served()
         until_close came ≡ came → left_by (stands_at p before) came ≡ stands_at p (before ++ came) }
     ensures came { (s : Service) (came : List Arrival) → came_in (acts_of s came) ≡ came }
 {
-    bursts::one_reading();
-    bursts::written_is_read();
-    answers::messages_after_messages();
-    answers::the_unit_stays();
-    answers::a_burst_airs_at_most_the_cued_item();
+    laws_below();
 }
 
 /// At each moment of a server's turns, also in an answer that the wire cuts short, what went out is a beginning of what is
@@ -230,11 +233,7 @@ pub fn what_goes_out_is_served()
         × (items_served p (before ++ came_in (acts_of (stands_at p before) came ++ done)) ≡ items_served p before
         ++ (items_in (looks_of (stands_at p before) came ++ seen) ++ rest)) }
 {
-    bursts::one_reading();
-    bursts::written_is_read();
-    answers::messages_after_messages();
-    answers::the_unit_stays();
-    answers::a_burst_airs_at_most_the_cued_item();
+    laws_below();
 }
 
 /// Turns that go on where others left a server are one.

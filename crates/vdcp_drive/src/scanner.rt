@@ -4,9 +4,10 @@ ghost use Rattle.std.specs.Option.{option_to_list};
 ghost use Rattle.vdcp_auto.specs.Heard.{heard_as};
 ghost use Rattle.vdcp_drive.specs.Reading.{IsReader, HasRead, completed, held_after, held_after_silence, held_by, holds};
 
+use crate::laws;
 use std::marker::Model;
 use vdcp_auto::Heard;
-use vdcp_frame::{Got, Reader, laws as bursts};
+use vdcp_frame::{Got, Reader};
 
 /// Reads messages as they come on a line, one after another.
 #[derive(Drop)]
@@ -71,12 +72,7 @@ fn read_some(unit: u8, reader: &mut Option<Reader>, piece: &[u8]) -> (usize, Opt
     ensures reads { HasRead unit reader.old (take result.0 piece.now) reader.new result.1 }
     ensures reader { IsReader reader.new }
 {
-    bursts::no_spelling_begins_another();
-    bursts::one_spelling();
-    bursts::what_is_spelt_is_bytes();
-    bursts::a_spelling_is_its_message();
-    bursts::what_is_followed_is_read();
-    bursts::one_reading();
+    laws::laws_below();
     let Some(begun) = reader else {
         return (piece.len(), None);
     };

@@ -13,6 +13,7 @@ ghost use Rattle.vdcp_drive.specs.Steps.{Chain};
 ghost use Rattle.vdcp_drive.specs.Watching.{tells_airing};
 ghost use Rattle.vdcp_wire.specs.Acts.{OfFront, sends};
 
+use crate::laws;
 use crate::line::{DriveFault, Line, Ran};
 use crate::watch::WatchPort;
 use std::marker::Model;
@@ -156,9 +157,8 @@ fn hear<C: Catalogue, W: Wire>(
     ensures works { OnOk result (W.failures wire.new ≡ 0) }
     ensures failed { OnErr result (W.failures wire.new ≡ 1) }
 {
+    laws::laws_below();
     bursts::what_is_fed_is_followed();
-    bursts::what_is_followed_is_read();
-    bursts::one_reading();
     answers::one_answer_to_the_end();
     *aired = None;
     let mut buffer = [0; PIECE];
@@ -193,11 +193,7 @@ fn take_piece<C: Catalogue, W: Wire>(
     ensures works { OnOk result (W.failures wire.new ≡ 0) }
     ensures failed { OnErr result (W.failures wire.new ≡ 1) }
 {
-    bursts::written_is_read();
-    bursts::what_is_followed_is_read();
-    bursts::one_reading();
-    answers::messages_after_messages();
-    answers::the_unit_stays();
+    laws::laws_below();
     answers::one_alone();
     let mut rest = piece;
     'piece: loop {

@@ -1,13 +1,15 @@
 //! The questions to a port: is anything cued or playing there?
-ghost use Rattle.std.specs.Prelude.{◌≡◌, ◌≤◌, ◌<◌, ◌∷◌, [], IfOk, OnOk, OnErr, Some};
-ghost use Rattle.vdcp_frame.specs.Message.{content_of, AreOctets};
+ghost use Rattle.std.specs.Prelude.{◌≡◌, ◌≤◌, ◌<◌, IfOk, OnOk, OnErr, Some};
+ghost use Rattle.vdcp_frame.specs.Message.{AreOctets};
 ghost use Rattle.vdcp_drive.specs.Steps.{command_bytes};
 ghost use Rattle.vdcp_drive.specs.Vacancy.{question_command, vacancy_of, led_on, asking_after, HasAsked, IsPartlyAsked};
-ghost use Rattle.vdcp_drive.specs.Vacancy.{HasHeard, IsBetween, HearsBurst, BreaksBurst, Lowers, heard_by_then};
+ghost use Rattle.vdcp_drive.specs.Vacancy.{IsBetween, HearsBurst, BreaksBurst, Lowers};
 ghost use Rattle.vdcp_wire.specs.Wires.{IfTold, SendsFront, Told, adds_sent, nothing_told};
 
+use crate::at_silences::AtSilences;
+use crate::ear::Ear;
+use crate::laws;
 use vdcp_auto::Heard;
-use vdcp_frame::{Got, Message, Reader, laws as bursts};
 use vdcp_wire::{Came, PIECE, Wire, WireFault};
 use vdcp_words::{Command, Reply};
 
@@ -128,7 +130,7 @@ pub fn ask_port<W: Wire>(
     let mut unanswered = 0;
     'asking: loop {
         wire.drop_waiting()?;
-        send_command(&question.command(port), unit, wire)?;
+        send_question(question, port, unit, wire)?;
         let heard = match hear_burst(unit, left, wire)? {
             Burst::Ended(heard) => heard,
             Burst::Closed => return Ok(Vacancy::Closed),
@@ -166,55 +168,47 @@ fn hear_burst<W: Wire>(unit: u8, left: &mut u32, wire: &mut W) -> Result<Burst, 
     ensures works { OnOk result (W.failures wire.new ≡ 0) }
     ensures failed { OnErr result (W.failures wire.new ≡ 1) }
 {
-    bursts::one_reading();
-    bursts::what_is_followed_is_read();
-    bursts::what_is_fed_is_followed();
-    let mut reader = Reader::new();
-    let mut heard = None;
+    laws::laws_below();
+    let mut ear = AtSilences::new();
     let mut buffer = [0; PIECE];
     'burst: while *left > 0 {
         *left -= 1;
         match wire.listen(&mut buffer)? {
-            Came::Bytes(n) => take_piece(unit, &mut reader, &mut heard, &buffer[..n]),
-            Came::Silence => return Ok(Burst::Ended(heard)),
+            Came::Bytes(n) => take_piece(unit, &mut ear, &buffer[..n]),
+            Came::Silence => return Ok(Burst::Ended(ear.rest())),
             Came::Closed => return Ok(Burst::Closed),
         }
     }
     Ok(Burst::Spent)
 }
 
-// Sends the bytes of a command.
-fn send_command<W: Wire>(command: &Command, unit: u8, wire: &mut W) -> Result<(), WireFault>
+// Sends the command that asks it.
+fn send_question<W: Wire>(
+    question: Question,
+    port: u8,
+    unit: u8,
+    wire: &mut W,
+) -> Result<(), WireFault>
     requires unit { unit ≤ 15 }
     requires works { W.failures wire.old ≡ 0 }
-    ensures sent { OnOk result (W.told wire.new ≡ adds_sent (command_bytes unit command.now) (W.told wire.old)) }
-    ensures front { OnErr result (SendsFront (command_bytes unit command.now) (W.told wire.old) (W.told wire.new)) }
+    ensures sent { OnOk result (W.told wire.new ≡ adds_sent (command_bytes unit (question_command port question))
+        (W.told wire.old)) }
+    ensures front { OnErr result (SendsFront (command_bytes unit (question_command port question)) (W.told wire.old)
+        (W.told wire.new)) }
     ensures works { OnOk result (W.failures wire.new ≡ 0) }
     ensures failed { OnErr result (W.failures wire.new ≡ 1) }
 {
-    wire.send(command.encode(unit).as_slice())
+    wire.send(question.command(port).encode(unit).as_slice())
 }
 
-// Takes bytes of a burst, and keeps what is heard first.
-fn take_piece(unit: u8, reader: &mut Reader, heard: &mut Option<Heard>, piece: &[u8])
-    ensures heard { HasHeard unit reader.old heard.old piece.now reader.new heard.new }
+// Has the ear take all these bytes.
+fn take_piece<E: Ear>(unit: u8, ear: &mut E, piece: &[u8])
+    ensures takes { ear.new ≡ E.fold.takes unit piece.now ear.old }
     ensures fits { AreOctets piece.now }
 {
-    let mut rest = piece;
-    'piece: loop {
-        match reader.next(&mut rest) {
-            Got::Message(message) => keep_first(&message, unit, heard),
-            Got::Fault(_, _) => {}
-            Got::More => return,
-        }
-    }
-}
-
-// Keeps what is heard in a message, unless one was heard before.
-fn keep_first(message: &Message, unit: u8, heard: &mut Option<Heard>)
-    ensures { heard.new ≡ heard_by_then unit heard.old (content_of message.now ∷ []) }
-{
-    if heard.is_none() {
-        *heard = Some(Heard::of_message(message, unit));
+    let mut at = 0;
+    'piece: while at < piece.len() {
+        let (taken, _) = ear.read(unit, &piece[at..]);
+        at += taken;
     }
 }

@@ -386,7 +386,7 @@ fn first_text(alloc: Global, time: &Moment, heading: &Heading) -> Result<Vec<u8>
     }
 }
 
-// Writes what is left, and then a row, if there is one, in one.
+// Writes what is left, and then a row, if there is one, in one, and makes that safe.
 fn write_rows<F: Disk>(
     alloc: Global,
     unit: u8,
@@ -404,7 +404,13 @@ fn write_rows<F: Disk>(
     ensures refused { (fault : RecordFault) → left ≡ Failed fault → (result ≡ Err fault) × (file.new ≡ file.old) }
 {
     let text = text_of(alloc, unit, left, last)?;
-    append(file, text.as_slice())
+    if text.is_empty() {
+        return Ok(());
+    }
+    match append_safely(file, text.as_slice()) {
+        Ok(()) => Ok(()),
+        Err(_) => Err(RecordFault::Device),
+    }
 }
 
 // The text of what is left, and of a row after it, if there is one.
@@ -422,20 +428,4 @@ fn text_of(
     left.add_to(alloc, unit, &mut text)?;
     add_row(alloc, unit, last, &mut text)?;
     Ok(text)
-}
-
-// Appends bytes, if there are any, and makes them safe.
-fn append<F: Disk>(file: &mut F, bytes: &[u8]) -> Result<(), RecordFault>
-    requires { F.safe file.old ≡ F.written file.old }
-    ensures all { OnOk result (Appends (F.safe file.old) (F.safe file.new) bytes.now) }
-    ensures synced { OnOk result (F.safe file.new ≡ F.written file.new) }
-    ensures beginning { OnErr result (AppendsBeginning (F.safe file.old) (F.safe file.new) bytes.now) }
-{
-    if bytes.is_empty() {
-        return Ok(());
-    }
-    match append_safely(file, bytes) {
-        Ok(()) => Ok(()),
-        Err(_) => Err(RecordFault::Device),
-    }
 }

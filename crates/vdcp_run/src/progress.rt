@@ -171,7 +171,7 @@ impl<'a, R: Clock, V: io::Write + Drop> Progress<'a, R, V> {
         Ok(())
     }
 
-    // So many events are reported now.
+    // Notes how many events are reported, and when that number last changed.
     fn note_reported(&self, reported: usize) {
         match self.reported.get() {
             None => self.reported.set(Some((reported, None))),

@@ -124,7 +124,7 @@ fn play_over<
     }
 }
 
-// Plays a list over a wire, and shows what is to be shown meanwhile, and captures what is to be, if anything is.
+// Plays a list over a wire, whose messages are read on the way if something is shown of them, or captured.
 fn play_shown<
     'a,
     R: Files + Clock + AllocGlobal,
@@ -150,11 +150,9 @@ fn play_shown<
         (over wire recorder.entry) tt result }
     ensures end { EndsRun settings.entry (journal_of recorder.entry) S.items controller result }
 {
-    match showing {
-        Showing {
-            shown: Shown::Lines(Telling::Nothing),
-            capture: None,
-        } => play_asked(
+    let Showing { shown, capture } = showing;
+    match (shown, capture) {
+        (Shown::Lines(Telling::Nothing), None) => play_asked(
             rt,
             controller,
             recorder,
@@ -163,39 +161,7 @@ fn play_shown<
             settings,
             hand,
         ),
-        showing => play_told(rt, controller, recorder, wire, settings, showing, hand),
-    }
-}
-
-// Plays a list over a wire whose messages are read on the way.
-fn play_told<
-    'a,
-    R: Files + Clock + AllocGlobal,
-    S: Source + Copy,
-    W: Wire + Drop,
-    V: io::Write + Drop,
-    F: Disk + Drop,
-    I: io::Read + Drop,
-    O: io::Write,
->(
-    rt: &R,
-    controller: Controller<Rest<S>>,
-    recorder: Option<Recorder<'a, '_, R, F>>,
-    wire: W,
-    settings: RunSettings<'a>,
-    showing: Showing<V>,
-    hand: &mut Hand<'_, R, I, O>,
-) -> RunEnd<'a>
-    requires unit { settings.unit ≤ 15 }
-    requires some { 1 ≤ settings.limit }
-    requires works { W.failures wire ≡ 0 }
-    ensures session { HasTried W.told W.does F.safe unseen settings.entry (start_of S.items controller)
-        (over wire recorder.entry) tt result }
-    ensures end { EndsRun settings.entry (journal_of recorder.entry) S.items controller result }
-{
-    let Showing { shown, capture } = showing;
-    match shown {
-        Shown::Progress(terminal) => {
+        (Shown::Progress(terminal), capture) => {
             let log = Log::new(Telling::Nothing, capture, Side::Automation);
             let logged = Logged::new(wire, &log, settings.hearing);
             let progress = Progress::new(rt, terminal, settings.silence);
@@ -212,7 +178,7 @@ fn play_told<
             progress.clear();
             end
         }
-        Shown::Lines(telling) => {
+        (Shown::Lines(telling), capture) => {
             let log = Log::new(telling, capture, Side::Automation);
             let wire = Logged::new(wire, &log, settings.hearing);
             play_asked(

@@ -5,7 +5,7 @@ use Rattle.vdcp_frame.specs.Progress.{Progress}
 use Rattle.vdcp_frame.specs.Reader.{Answer, answer_of, Follows, FollowsNext, Gives, fed, message, more, wrong}
 use Rattle.vdcp_frame.specs.Message.{content_of}
 use Rattle.vdcp_drive.specs.Reading.{HasRead, IsReader}
-use Rattle.vdcp_drive.proofs.Completing.{Spelt, begun_more, fitting, read_none, read_message, read_more, read_wrong}
+use Rattle.vdcp_drive.proofs.Completing.{begun_more, fitting, read_none, read_message, read_more, read_wrong}
 use Rattle.vdcp_drive.proofs.scanner.read_some.Goals as goal
 
 pub returns-in_default-clause-reads : goal.returns-in_default-clause-reads
@@ -14,15 +14,7 @@ returns-in_default-clause-reads c =
 
 pub returns-in-Message-clause-reads : goal.returns-in-Message-clause-reads
 returns-in-Message-clause-reads c =
-    let law : Spelt = record {
-      no_other = c.no_spelling_begins_another.ensures;
-      only = c.one_spelling.ensures.only;
-      octets = c.what_is_spelt_is_bytes.ensures.message;
-      size = c.what_is_spelt_is_bytes.ensures.size;
-      alone = c.a_spelling_is_its_message.ensures.messages;
-      read = c.what_is_followed_is_read.ensures.read;
-      computed = c.one_reading.ensures.computed;
-    } in
+    let law = c.laws_below.ensures in
     let n : ℕ = c.feed.result.0 in
     let m : Content = content_of c.in-Message.message in
     let begun : IsReader (Some c.in-Some.begun) = subst IsReader c.in-Some.is c.requires in
@@ -39,15 +31,7 @@ returns-in-Message-clause-reads c =
 
 pub returns-in-More-clause-reads : goal.returns-in-More-clause-reads
 returns-in-More-clause-reads c =
-    let law : Spelt = record {
-      no_other = c.no_spelling_begins_another.ensures;
-      only = c.one_spelling.ensures.only;
-      octets = c.what_is_spelt_is_bytes.ensures.message;
-      size = c.what_is_spelt_is_bytes.ensures.size;
-      alone = c.a_spelling_is_its_message.ensures.messages;
-      read = c.what_is_followed_is_read.ensures.read;
-      computed = c.one_reading.ensures.computed;
-    } in
+    let law = c.laws_below.ensures in
     let n : ℕ = c.feed.result.0 in
     let p : Progress = c.in-Some.begun in
     let begun : IsReader (Some p) = subst IsReader c.in-Some.is c.requires in
@@ -62,15 +46,7 @@ returns-in-More-clause-reads c =
 
 pub returns-in-Fault-clause-reads : goal.returns-in-Fault-clause-reads
 returns-in-Fault-clause-reads c =
-    let law : Spelt = record {
-      no_other = c.no_spelling_begins_another.ensures;
-      only = c.one_spelling.ensures.only;
-      octets = c.what_is_spelt_is_bytes.ensures.message;
-      size = c.what_is_spelt_is_bytes.ensures.size;
-      alone = c.a_spelling_is_its_message.ensures.messages;
-      read = c.what_is_followed_is_read.ensures.read;
-      computed = c.one_reading.ensures.computed;
-    } in
+    let law = c.laws_below.ensures in
     let n : ℕ = c.feed.result.0 in
     let p : Progress = c.in-Some.begun in
     let a : Answer = wrong c.in-Fault.field-0 c.in-Fault.field-1 in

@@ -11,7 +11,6 @@ use Rattle.vdcp_wire.specs.Acts.{brings, fails, sends}
 use Rattle.vdcp_wire.specs.Wires.{arrival_of, bytes, silence}
 use Rattle.vdcp_drive.specs.Serving.{Service, at_end, in_answer, in_listen, sending}
 use Rattle.vdcp_drive.specs.Steps.{Chain}
-use Rattle.vdcp_drive.proofs.Below.{Read}
 use Rattle.vdcp_drive.proofs.Serving.{cut_so, ends_alike}
 use Rattle.vdcp_drive.proofs.server.hear.Goals as goal
 
@@ -42,14 +41,8 @@ pub returns-in_err-end_burst-in-Silence-clause-serves : goal.returns-in_err-end_
 returns-in_err-end_burst-in-Silence-clause-serves g c burst h =
     let does = g.W.Wire.does in
     let at : Service = record { port = c.args.port.now; burst = burst } in
-    let read : Read = record {
-      some = c.one_reading.ensures.some;
-      read = c.what_is_followed_is_read.ensures.read;
-      messages = c.what_is_followed_is_read.ensures.messages;
-      further = c.what_is_followed_is_read.ensures.further;
-    } in
     let ends : end_answers (end_of burst) ≡ option_to_list (reply_at_end (ended_of c.args.reader.now)) =
-    ends_alike read c.one_answer_to_the_end.ensures burst c.args.reader.now h in
+    ends_alike c.laws_below.ensures c.one_answer_to_the_end.ensures burst c.args.reader.now h in
     let brought : does (brings silence) c.args.wire.now c.listen.new.self =
     subst (λ (x : Came). does (brings (arrival_of x c.listen.new.buffer)) c.args.wire.now c.listen.new.self) c.in-Silence.is
     c.in_ok-n.ensures.brings in
@@ -64,14 +57,8 @@ returns-in_err-end_burst-in-Silence-clause-serves g c burst h =
 pub returns-in_ok-end_burst-in-Silence-clause-serves : goal.returns-in_ok-end_burst-in-Silence-clause-serves
 returns-in_ok-end_burst-in-Silence-clause-serves g c burst h =
     let does = g.W.Wire.does in
-    let read : Read = record {
-      some = c.one_reading.ensures.some;
-      read = c.what_is_followed_is_read.ensures.read;
-      messages = c.what_is_followed_is_read.ensures.messages;
-      further = c.what_is_followed_is_read.ensures.further;
-    } in
     let ends : end_answers (end_of burst) ≡ option_to_list (reply_at_end (ended_of c.args.reader.now)) =
-    ends_alike read c.one_answer_to_the_end.ensures burst c.args.reader.now h in
+    ends_alike c.laws_below.ensures c.one_answer_to_the_end.ensures burst c.args.reader.now h in
     let brought : does (brings silence) c.args.wire.now c.listen.new.self =
     subst (λ (x : Came). does (brings (arrival_of x c.listen.new.buffer)) c.args.wire.now c.listen.new.self) c.in-Silence.is
     c.in_ok-n.ensures.brings in

@@ -11,7 +11,6 @@ use Rattle.vdcp_port.specs.Clock.{answer_to}
 use Rattle.vdcp_drive.specs.ServeLeaves.{HasTaken, HasBroken}
 use Rattle.vdcp_drive.specs.Serving.{Service, last_aired, sending}
 use Rattle.vdcp_drive.specs.Steps.{Chain}
-use Rattle.vdcp_drive.proofs.Below.{Grows, InOrder, Read}
 use Rattle.vdcp_drive.proofs.Taking.{behind, broken_on, fitting, on_err_of, parts_on, read_whole, taken_none, taken_on}
 use Rattle.vdcp_drive.proofs.server.take_piece.Goals as goal
 
@@ -26,20 +25,7 @@ piece-init g c = (
 
 pub piece-preserved-in-Continue-1 : goal.piece-preserved-in-Continue-1
 piece-preserved-in-Continue-1 g c =
-    let law : InOrder = record {
-      answers = c.messages_after_messages.ensures.answers;
-      sent = c.messages_after_messages.ensures.sent;
-      aired = c.messages_after_messages.ensures.aired;
-      next = c.messages_after_messages.ensures.next;
-      unit = c.the_unit_stays.ensures.messages;
-    } in
-    let read : Read = record {
-      some = c.one_reading.ensures.some;
-      read = c.what_is_followed_is_read.ensures.read;
-      messages = c.what_is_followed_is_read.ensures.messages;
-      further = c.what_is_followed_is_read.ensures.further;
-    } in
-    let grows : Grows = record { some = c.one_reading.ensures.some; first = c.written_is_read.ensures.first } in
+    let law = c.laws_below.ensures in
     let does = g.W.Wire.does in
     let m : Content = content_of c.in-Message.message in
     let i = c.piece.invariant in
@@ -57,7 +43,7 @@ piece-preserved-in-Continue-1 g c =
       answers.works,
       i.1 ++ take r.count rest,
       parts_on s.piece.now i.1 rest left r.count i.2 r.leaves,
-      λ burst h. taken_on does law read grows (record { port = s.port.now; burst = burst }) p.port t.port p.reader new
+      λ burst h. taken_on does law (record { port = s.port.now; burst = burst }) p.port t.port p.reader new
           s.aired.now p.aired t.aired s.wire.now p.wire t.wire i.1 rest left (message m) h.octets (i.3 burst h) r
           (All-take (λ b. b < 256) r.count rest fits) answers.next
           (answers.airs ∙ ap (λ (items : List Item). last_aired p.aired items) (sym (c.one_alone.ensures.aired p.port m)))
@@ -67,20 +53,7 @@ piece-preserved-in-Continue-1 g c =
 
 pub returns-in_err-answer-in-Message-clause-broken : goal.returns-in_err-answer-in-Message-clause-broken
 returns-in_err-answer-in-Message-clause-broken g c burst h =
-    let law : InOrder = record {
-      answers = c.messages_after_messages.ensures.answers;
-      sent = c.messages_after_messages.ensures.sent;
-      aired = c.messages_after_messages.ensures.aired;
-      next = c.messages_after_messages.ensures.next;
-      unit = c.the_unit_stays.ensures.messages;
-    } in
-    let read : Read = record {
-      some = c.one_reading.ensures.some;
-      read = c.what_is_followed_is_read.ensures.read;
-      messages = c.what_is_followed_is_read.ensures.messages;
-      further = c.what_is_followed_is_read.ensures.further;
-    } in
-    let grows : Grows = record { some = c.one_reading.ensures.some; first = c.written_is_read.ensures.first } in
+    let law = c.laws_below.ensures in
     let does = g.W.Wire.does in
     let m : Content = content_of c.in-Message.message in
     let i = c.piece.invariant in
@@ -98,31 +71,15 @@ returns-in_err-answer-in-Message-clause-broken g c burst h =
     let at : Service = record { port = s.port.now; burst = burst } in
     on_err_of c.from_residual.result
     (subst (λ (b : List ℕ). HasBroken does at s.aired.now s.wire.now b t.port t.aired t.wire) (sym i.2)
-    (broken_on does law read grows at p.port t.port p.reader new s.aired.now p.aired t.aired s.wire.now p.wire t.wire i.1
+    (broken_on does law at p.port t.port p.reader new s.aired.now p.aired t.aired s.wire.now p.wire t.wire i.1
     rest left m h.octets (i.3 burst h) r (All-take (λ b. b < 256) r.count rest fits)
     (subst AreOctets (sym r.leaves) (All-drop (λ b. b < 256) r.count rest fits)) answers.next
     (answers.airs ∙ ap (λ (items : List Item). last_aired p.aired items) (sym (c.one_alone.ensures.aired p.port m)))
     answers.front))
 
-pub returns-in_err-answer-in-Message-clause-fits : goal.returns-in_err-answer-in-Message-clause-fits
-returns-in_err-answer-in-Message-clause-fits g c = fitting c.args.piece.now (λ i. omega (arith, c.type_inv.piece i))
-
 pub piece-preserved : goal.piece-preserved
 piece-preserved g c =
-    let law : InOrder = record {
-      answers = c.messages_after_messages.ensures.answers;
-      sent = c.messages_after_messages.ensures.sent;
-      aired = c.messages_after_messages.ensures.aired;
-      next = c.messages_after_messages.ensures.next;
-      unit = c.the_unit_stays.ensures.messages;
-    } in
-    let read : Read = record {
-      some = c.one_reading.ensures.some;
-      read = c.what_is_followed_is_read.ensures.read;
-      messages = c.what_is_followed_is_read.ensures.messages;
-      further = c.what_is_followed_is_read.ensures.further;
-    } in
-    let grows : Grows = record { some = c.one_reading.ensures.some; first = c.written_is_read.ensures.first } in
+    let law = c.laws_below.ensures in
     let fault : Answer = wrong c.in-Fault.field-0 c.in-Fault.field-1 in
     let i = c.piece.invariant in
     let s = c.args in
@@ -137,27 +94,14 @@ piece-preserved g c =
       i.0,
       i.1 ++ take r.count rest,
       parts_on s.piece.now i.1 rest left r.count i.2 r.leaves,
-      λ burst h. taken_on g.W.Wire.does law read grows (record { port = s.port.now; burst = burst }) p.port p.port
+      λ burst h. taken_on g.W.Wire.does law (record { port = s.port.now; burst = burst }) p.port p.port
           p.reader new s.aired.now p.aired p.aired s.wire.now p.wire p.wire i.1 rest left fault h.octets (i.3 burst h) r
           (All-take (λ b. b < 256) r.count rest fits) refl refl refl,
     )
 
 pub returns-in-More-clause-taken : goal.returns-in-More-clause-taken
 returns-in-More-clause-taken g c burst h =
-    let law : InOrder = record {
-      answers = c.messages_after_messages.ensures.answers;
-      sent = c.messages_after_messages.ensures.sent;
-      aired = c.messages_after_messages.ensures.aired;
-      next = c.messages_after_messages.ensures.next;
-      unit = c.the_unit_stays.ensures.messages;
-    } in
-    let read : Read = record {
-      some = c.one_reading.ensures.some;
-      read = c.what_is_followed_is_read.ensures.read;
-      messages = c.what_is_followed_is_read.ensures.messages;
-      further = c.what_is_followed_is_read.ensures.further;
-    } in
-    let grows : Grows = record { some = c.one_reading.ensures.some; first = c.written_is_read.ensures.first } in
+    let law = c.laws_below.ensures in
     let does = g.W.Wire.does in
     let i = c.piece.invariant in
     let s = c.args in
@@ -172,8 +116,5 @@ returns-in-More-clause-taken g c burst h =
     let at : Service = record { port = s.port.now; burst = burst } in
     subst (λ (b : List ℕ). HasTaken does at s.aired.now s.wire.now b p.port new p.aired p.wire)
     (read_whole s.piece.now i.1 rest left r.count i.2 r.leaves c.in-More.ensures.shorter)
-    (taken_on does law read grows at p.port p.port p.reader new s.aired.now p.aired p.aired s.wire.now p.wire p.wire i.1
+    (taken_on does law at p.port p.port p.reader new s.aired.now p.aired p.aired s.wire.now p.wire p.wire i.1
     rest left more h.octets (i.3 burst h) r (All-take (λ b. b < 256) r.count rest fits) refl refl refl)
-
-pub returns-in-More-clause-fits : goal.returns-in-More-clause-fits
-returns-in-More-clause-fits g c = fitting c.args.piece.now (λ i. omega (arith, c.type_inv.piece i))

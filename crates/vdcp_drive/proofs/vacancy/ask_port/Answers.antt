@@ -22,22 +22,18 @@ returns-in_err-drop_waiting-clause-breaks g c is =
     on_err_of c.from_residual.result (partly_dropped c.args.unit c.args.port c.args.limit _ _ _ _ h.0 _ _ h.1 h.2
     c.in_err-drop_waiting.ensures.kept)
 
-pub returns-in_err-send_command-clause-breaks : goal.returns-in_err-send_command-clause-breaks
-returns-in_err-send_command-clause-breaks g c is =
+pub returns-in_err-send_question-clause-breaks : goal.returns-in_err-send_question-clause-breaks
+returns-in_err-send_question-clause-breaks g c is =
     let h = c.asking.invariant.asks is in
-    on_err_of c.from_residual-in_err-send_command.result
+    on_err_of c.from_residual-in_err-send_question.result
     (partly_sent c.args.unit c.args.port c.args.limit _ _ _ _ h.0 _ _ _ h.1 h.2 c.in_ok-drop_waiting.ensures.dropped
-    (subst (λ (k : Command). SendsFront (command_bytes c.args.unit k) (g.W.Wire.told c.drop_waiting.new.self)
-    (g.W.Wire.told c.send_command.new.wire))
-    c.command.ensures c.in_err-send_command.ensures.front))
+    c.in_err-send_question.ensures.front)
 
 pub returns-in_err-heard-clause-breaks : goal.returns-in_err-heard-clause-breaks
 returns-in_err-heard-clause-breaks g c is =
     let h = c.asking.invariant.asks is in
     let a = asked_so c.args.unit c.args.port c.args.limit _ _ _ _ h.0 _ _ _ h.1 h.2 c.in_ok-drop_waiting.ensures.dropped
-    (c.in_ok-send_command.ensures.sent
-    ∙ ap (λ (k : Command). adds_sent (command_bytes c.args.unit k) (g.W.Wire.told c.drop_waiting.new.self))
-    c.command.ensures) in
+    c.in_ok-send_question.ensures.sent in
     on_err_of c.from_residual-in_err-heard.result
     (partly_heard c.args.unit c.args.port c.args.limit _ _ _ _ a.0 _ a.2
     (c.in_err-heard.ensures.breaks a.0 a.1 a.2.between))
@@ -46,9 +42,7 @@ pub returns-in-Closed-clause-asks : goal.returns-in-Closed-clause-asks
 returns-in-Closed-clause-asks g c is =
     let h = c.asking.invariant.asks is in
     let a = asked_so c.args.unit c.args.port c.args.limit _ _ _ _ h.0 _ _ _ h.1 h.2 c.in_ok-drop_waiting.ensures.dropped
-    (c.in_ok-send_command.ensures.sent
-    ∙ ap (λ (k : Command). adds_sent (command_bytes c.args.unit k) (g.W.Wire.told c.drop_waiting.new.self))
-    c.command.ensures) in
+    c.in_ok-send_question.ensures.sent in
     let e = subst (λ (b : Burst). IfTold (g.W.Wire.told c.hear_burst.new.wire)
     (λ v. HearsBurst c.args.unit c.asking.left c.hear_burst.new.left a.0 v b))
     c.in-Closed.is (c.in_ok-heard.ensures.hears a.0 a.1 a.2.between) in
@@ -58,9 +52,7 @@ pub returns-in-Spent-clause-asks : goal.returns-in-Spent-clause-asks
 returns-in-Spent-clause-asks g c is =
     let h = c.asking.invariant.asks is in
     let a = asked_so c.args.unit c.args.port c.args.limit _ _ _ _ h.0 _ _ _ h.1 h.2 c.in_ok-drop_waiting.ensures.dropped
-    (c.in_ok-send_command.ensures.sent
-    ∙ ap (λ (k : Command). adds_sent (command_bytes c.args.unit k) (g.W.Wire.told c.drop_waiting.new.self))
-    c.command.ensures) in
+    c.in_ok-send_question.ensures.sent in
     let e = subst (λ (b : Burst). IfTold (g.W.Wire.told c.hear_burst.new.wire)
     (λ v. HearsBurst c.args.unit c.asking.left c.hear_burst.new.left a.0 v b))
     c.in-Spent.is (c.in_ok-heard.ensures.hears a.0 a.1 a.2.between) in
@@ -75,9 +67,7 @@ asking-preserved g c =
           let h = c.asking.invariant.asks is in
           let a = asked_so c.args.unit c.args.port c.args.limit _ _ _ _ h.0 _ _ _ h.1 h.2
           c.in_ok-drop_waiting.ensures.dropped
-          (c.in_ok-send_command.ensures.sent
-          ∙ ap (λ (k : Command). adds_sent (command_bytes c.args.unit k) (g.W.Wire.told c.drop_waiting.new.self))
-          c.command.ensures) in
+          c.in_ok-send_question.ensures.sent in
           let e = subst (λ (b : Burst). IfTold (g.W.Wire.told c.hear_burst.new.wire)
           (λ v. HearsBurst c.args.unit c.asking.left
           c.hear_burst.new.left a.0 v b)) c.in-Ended.is (c.in_ok-heard.ensures.hears a.0 a.1 a.2.between) in
@@ -88,9 +78,7 @@ pub returns-in-Over-clause-asks : goal.returns-in-Over-clause-asks
 returns-in-Over-clause-asks g c is =
     let h = c.asking.invariant.asks is in
     let a = asked_so c.args.unit c.args.port c.args.limit _ _ _ _ h.0 _ _ _ h.1 h.2 c.in_ok-drop_waiting.ensures.dropped
-    (c.in_ok-send_command.ensures.sent
-    ∙ ap (λ (k : Command). adds_sent (command_bytes c.args.unit k) (g.W.Wire.told c.drop_waiting.new.self))
-    c.command.ensures) in
+    c.in_ok-send_question.ensures.sent in
     let e = subst (λ (b : Burst). IfTold (g.W.Wire.told c.hear_burst.new.wire)
     (λ v. HearsBurst c.args.unit c.asking.left c.hear_burst.new.left a.0 v b))
     c.in-Ended.is (c.in_ok-heard.ensures.hears a.0 a.1 a.2.between) in

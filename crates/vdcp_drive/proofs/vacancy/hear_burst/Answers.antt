@@ -1,66 +1,50 @@
-use Rattle.std.proofs.Common.{ap, arith, sym, subst, ◌∙◌, ◌+◌, length, None}
-use Rattle.vdcp_frame.specs.Progress.{Progress}
-use Rattle.vdcp_drive.proofs.Asking.{HearsAt, hears_none, hears_bytes, hears_silence, hears_close, hears_spent, breaks_burst}
-use Rattle.vdcp_drive.proofs.Below.{Read, Fed}
+use Rattle.std.proofs.Common.{ap, arith, ◌∙◌}
+use Rattle.vdcp_drive.proofs.Asking.{hears_none, hears_bytes, hears_silence, hears_close, hears_spent, breaks_burst}
 use Rattle.vdcp_drive.proofs.Taking.{on_err_of}
 use Rattle.vdcp_drive.proofs.vacancy.hear_burst.Goals as goal
-use Rattle.vdcp_wire.specs.Wires.{IfTold, adds_came, arrival_of}
+use Rattle.vdcp_wire.specs.Wires.{adds_came, arrival_of}
 use Rattle.vdcp_wire.specs.declared.wire.Came.{Came}
 
 pub burst-init : goal.burst-init
-burst-init g c =
-    let fed : Fed = record {
-      start =
-          c.what_is_fed_is_followed.ensures.start;
-      next = c.what_is_fed_is_followed.ensures.next;
-    } in record {
-      works = c.requires;
-      within = omega arith;
-      hears = λ t is between.
-          subst (λ (r : Progress). IfTold (g.W.Wire.told c.args.wire.now)
-          (λ u. HearsAt c.args.unit (length t.came + c.args.left.now) c.args.left.now t u
-          r None)) (sym c.new-reader.ensures.new) (hears_none fed c.args.unit c.args.left.now t _ is between);
-    }
+burst-init g c = record {
+  works = c.requires;
+  within = omega arith;
+  hears = λ t is between. hears_none c.args.unit c.args.left.now t _ _ c.new-ear.ensures is between;
+}
 
 pub returns-in_err-n-clause-breaks : goal.returns-in_err-n-clause-breaks
 returns-in_err-n-clause-breaks g c t is between =
     let h = c.burst.invariant.hears t is between in
-    on_err_of c.from_residual.result (breaks_burst c.args.unit _ _ t h.0 _ _ _ _ h.1 h.2 c.in_err-n.ensures.kept)
+    on_err_of c.from_residual.result (breaks_burst c.args.unit _ _ t h.0 _ _ _ h.1 h.2 c.in_err-n.ensures.kept)
 
 pub burst-preserved : goal.burst-preserved
-burst-preserved g c =
-    let read : Read = record {
-      some = c.one_reading.ensures.some;
-      read = c.what_is_followed_is_read.ensures.read;
-      messages = c.what_is_followed_is_read.ensures.messages;
-      further = c.what_is_followed_is_read.ensures.further;
-    } in record {
-      works = c.in_ok-n.ensures.works;
-      within = omega (arith, c.burst.invariant.within);
-      hears = λ t is between.
-          let h = c.burst.invariant.hears t is between in
-          hears_bytes read c.args.unit _ _ _ t h.0 _ _ _ _ _ _ _ h.1 h.2 (omega (arith, c.burst-test.true))
-          c.take_piece.ensures.fits
-          c.take_piece.ensures.heard
-          (c.in_ok-n.ensures.came ∙ ap (λ (k : Came). adds_came (arrival_of k c.listen.new.buffer)
-          (g.W.Wire.told c.burst.wire)) c.in-Bytes.is);
-    }
+burst-preserved g c = record {
+  works = c.in_ok-n.ensures.works;
+  within = omega (arith, c.burst.invariant.within);
+  hears = λ t is between.
+      let h = c.burst.invariant.hears t is between in
+      hears_bytes c.args.unit _ _ _ t h.0 _ _ _ _ _ h.1 h.2 (omega (arith, c.burst-test.true)) c.take_piece.ensures.fits
+      c.take_piece.ensures.takes
+      (c.in_ok-n.ensures.came ∙ ap (λ (k : Came). adds_came (arrival_of k c.listen.new.buffer)
+      (g.W.Wire.told c.burst.wire)) c.in-Bytes.is);
+}
 
 pub returns-in-Silence-clause-hears : goal.returns-in-Silence-clause-hears
 returns-in-Silence-clause-hears g c t is between =
     let h = c.burst.invariant.hears t is between in
-    hears_silence c.args.unit _ _ _ t h.0 _ _ _ _ h.1 h.2 (omega (arith, c.burst-test.true))
+    hears_silence c.laws_below.ensures c.args.unit _ _ _ t h.0 _ _ _ _ h.1 h.2 (omega (arith, c.burst-test.true))
+    c.rest.ensures.says
     (c.in_ok-n.ensures.came ∙ ap (λ (k : Came). adds_came (arrival_of k c.listen.new.buffer)
     (g.W.Wire.told c.burst.wire)) c.in-Silence.is)
 
 pub returns-in-Closed-clause-hears : goal.returns-in-Closed-clause-hears
 returns-in-Closed-clause-hears g c t is between =
     let h = c.burst.invariant.hears t is between in
-    hears_close c.args.unit _ _ _ t h.0 _ _ _ _ h.1 h.2 (omega (arith, c.burst-test.true))
+    hears_close c.args.unit _ _ _ t h.0 _ _ _ h.1 h.2 (omega (arith, c.burst-test.true))
     (c.in_ok-n.ensures.came ∙ ap (λ (k : Came). adds_came (arrival_of k c.listen.new.buffer)
     (g.W.Wire.told c.burst.wire)) c.in-Closed.is)
 
 pub returns-clause-hears : goal.returns-clause-hears
 returns-clause-hears g c t is between =
     let h = c.burst.invariant.hears t is between in
-    hears_spent c.args.unit _ _ t h.0 _ _ _ h.1 h.2 (omega (arith, c.burst-test.false))
+    hears_spent c.args.unit _ _ t h.0 _ _ h.1 h.2 (omega (arith, c.burst-test.false))

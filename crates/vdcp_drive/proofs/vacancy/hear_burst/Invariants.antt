@@ -10,7 +10,7 @@ invariant-burst g l = record {
   works : g.W.Wire.failures l.wire ≡ 0;
   within : l.left ≤ l.fn.left;
   hears : (t : Told) → g.W.Wire.told l.fn.wire ≡ Some t → IsBetween t.came → IfTold (g.W.Wire.told l.wire) (λ u.
-      HearsAt l.fn.unit (length t.came + l.fn.left) l.left t u l.reader l.heard);
+      HearsAt l.fn.unit (length t.came + l.fn.left) l.left t u l.ear);
 }
 
 abbrev pub decreases-burst : goal.decreases-burst
