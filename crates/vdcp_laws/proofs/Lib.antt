@@ -10,6 +10,7 @@ mod Ended
 mod Examples
 mod Exchanging
 mod Headline
+mod Connecting
 mod Joining
 mod Killed
 mod Logging

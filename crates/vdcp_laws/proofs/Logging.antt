@@ -26,11 +26,11 @@ use Rattle.vdcp_laws.specs.TwoEnds.{Ends, GoesOn, as_announced, as_noted, log_no
 use Rattle.vdcp_laws.proofs.Commands.{awaits_none_in, ends_alone, exchange_is, hears_comes}
 
 -- the command that is open after notes, and the exchanges that they end
-abbrev open_through : Option Command → List Note → Option Command
+abbrev pub open_through : Option Command → List Note → Option Command
 open_through asked [] = asked
 open_through asked (n ∷ notes) = open_through (open_after asked n) notes
 
-abbrev closed_from : Option Command → List Note → List Exchange
+abbrev pub closed_from : Option Command → List Note → List Exchange
 closed_from asked [] = []
 closed_from asked (n ∷ notes) = ended_at asked n (closed_from (open_after asked n) notes)
 
@@ -49,7 +49,7 @@ ended_more asked note.Stop xs ys = refl
 ended_more asked (note.End outcome) xs ys = refl
 ended_more asked (note.From k) xs ys = refl
 
-closed_more : (asked : Option Command) (notes more : List Note)
+pub closed_more : (asked : Option Command) (notes more : List Note)
     → closed_from asked (notes ++ more) ≡ closed_from asked notes ++ closed_from (open_through asked notes) more
 closed_more asked [] more = refl
 closed_more asked (n ∷ notes) more =
@@ -57,12 +57,12 @@ closed_more asked (n ∷ notes) more =
     ∙ ended_more asked n (closed_from (open_after asked n) notes)
     (closed_from (open_through (open_after asked n) notes) more)
 
-open_more : (asked : Option Command) (notes more : List Note)
+pub open_more : (asked : Option Command) (notes more : List Note)
     → open_through asked (notes ++ more) ≡ open_through (open_through asked notes) more
 open_more asked [] more = refl
 open_more asked (n ∷ notes) more = open_more (open_after asked n) notes more
 
-of_rows : (asked : Option Command) (rows : List Row)
+pub of_rows : (asked : Option Command) (rows : List Row)
     → log_from asked rows ≡ closed_from asked (map (λ row. row.note) rows)
     ++ exchange_with None (open_through asked (map (λ row. row.note) rows)) []
 of_rows asked [] = refl

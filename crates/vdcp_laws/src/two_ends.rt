@@ -41,7 +41,7 @@ ghost use Rattle.vdcp_laws.specs.Below.{Answered, Arrived, Completed, Spelt, Wri
 ghost use Rattle.vdcp_laws.specs.Carried.{AreCarried, driver_of};
 ghost use Rattle.vdcp_laws.specs.EndsHeadline.{EndsHeadline};
 ghost use Rattle.vdcp_laws.specs.OneConnection.{ComesWhole, HasCome, IsFresh, ends_of};
-ghost use Rattle.vdcp_laws.specs.SeveralRuns.{HaveAired};
+ghost use Rattle.vdcp_laws.specs.SeveralRuns.{AsksAtMost, HaveAired};
 ghost use Rattle.vdcp_laws.specs.TwoEnds.{AreJoined, AreLed, CanJoin, Ends, IsLateChannel, IsSince, aired_now, connected_anew, heard_again, log_now, new_ends, note_for, port_now, with_command, with_kept};
 ghost use Rattle.vdcp_laws.specs.Undisturbed.{AreUndisturbed, CanPlay, IsDone, most_exchanges};
 
@@ -162,14 +162,16 @@ pub fn nothing_airs_after_a_complete_end()
 /// of that list.
 pub fn several_runs_air_a_beginning()
     ensures list { (list aired : List Item) → HaveAired list aired → (more : List Item) × (list ≡ aired ++ more) }
-    // that number is what a run's journal settles, where it shows that no event more may have aired
-    ensures next { (plan : Plan) (port : ClockedPort) (asked : List Command) (e : Ends) (all rows : List Row) →
-        CanJoin plan port asked → AreJoined plan port asked e → notes_in all ≡ e.notes → AreThinned all rows →
-        may_have_aired plan.mode (log_of rows) ≡ false → length (aired_now e) ≡ settled_in plan.mode rows }
+    // that number is what a run's journal settles, where it shows that no event more may have aired, also as a kill left it
+    ensures next { (plan : Plan) (port : ClockedPort) (asked : List Command) (kept now : Ends) (all rows asks : List Row) →
+        CanJoin plan port asked → AreJoined plan port asked kept → IsSince plan port.state.unit kept now →
+        notes_in all ≡ kept.notes → AreThinned all (rows ++ asks) → AsksAtMost asks →
+        may_have_aired plan.mode (log_of rows) ≡ false → length (aired_now now) ≡ settled_in plan.mode rows }
 {
     two_ends_are_a_late_channel();
     vdcp_late::laws::a_late_line_keeps_the_headline();
     vdcp_journal::laws::a_thinned_journal_makes_the_same();
+    vdcp_auto::laws::a_log_grows();
 }
 
 /// Exchanges that nothing disturbs bring a list to its end, from two new ends: in plain mode five for each event, and

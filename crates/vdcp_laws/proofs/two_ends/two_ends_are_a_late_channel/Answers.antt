@@ -1,5 +1,6 @@
 use Rattle.vdcp_laws.specs.OneConnection.{ends_of}
-use Rattle.vdcp_laws.proofs.Joining.{Laws, are_late_channel}
+use Rattle.vdcp_laws.proofs.Connecting.{are_late_channel}
+use Rattle.vdcp_laws.proofs.Joining.{Laws}
 use Rattle.vdcp_laws.proofs.OneRun.{anew_fresh, are_joined}
 use Rattle.vdcp_laws.proofs.two_ends.two_ends_are_a_late_channel.Goals as goal
 

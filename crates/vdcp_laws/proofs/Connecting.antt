@@ -1,0 +1,327 @@
+-- The two ends, over one connection after another and over kills, and the late channel beside them.
+use Rattle.std.proofs.Common.{ℕ, ◌≡◌, ◌<◌, ◌≤◌, inl, inr, All, List, [], ◌∷◌, ◌++◌, length, map, refl, sym, ap, ap₂, subst, ◌∙◌, append-nil, lit<}
+use Rattle.std.proofs.lemmas.Bool.{cases_lt}
+use Rattle.std.proofs.lemmas.List.Elements.{All-cons, All-head, All-nil, All-tail}
+use Rattle.std.specs.Option.{option_to_list}
+use Rattle.std.specs.Prelude.{Option, Some, None, is_some}
+use Rattle.vdcp_frame.specs.Message.{Content, Fits, spelling}
+use Rattle.vdcp_frame.specs.Reading.{burst_limit}
+use Rattle.vdcp_words.specs.Commands.{command_message, IsWritableCommand}
+use Rattle.vdcp_words.specs.declared.command.Command.{Command}
+use Rattle.vdcp_words.specs.declared.command.Command.TheVariants as command
+use Rattle.vdcp_port.specs.Clock.{ClockedPort}
+use Rattle.vdcp_auto.specs.Course.{logged}
+use Rattle.vdcp_auto.specs.Plan.{Plan}
+use Rattle.vdcp_auto.specs.State.{State}
+use Rattle.vdcp_auto.specs.Turn.{came_to, ended_by, given, is_ready, outcome_of, stopped, taken, ticked}
+use Rattle.vdcp_auto.specs.declared.exchange.Exchange.{Exchange}
+use Rattle.vdcp_auto.specs.declared.exchange.Heard.{Heard}
+use Rattle.vdcp_journal.specs.declared.row.Note.{Note}
+use Rattle.vdcp_journal.specs.declared.row.Note.TheVariants as note
+use Rattle.vdcp_wire.specs.Wires.{Arrival, silence, close}
+use Rattle.vdcp_drive.specs.Bursts.{open_burst}
+use Rattle.vdcp_laws.specs.Announced.{Announces, came_again}
+use Rattle.vdcp_laws.specs.Kills as kills
+use Rattle.vdcp_laws.specs.Kills.{IsRun, happened, silence_notes}
+use Rattle.vdcp_drive.specs.Reading.{held_after_silence}
+use Rattle.vdcp_late.specs.LateChannel.{AsksOnly, LateChannel, IsQuestion, after_late_event, command_bursts, made_anew, new_late_channel}
+use Rattle.vdcp_late.specs.declared.event.LateEvent.TheVariants as event
+use Rattle.vdcp_laws.specs.TwoEnds.{AreJoined, begun, went_on, gave, came_up, came_down, waited, hung_up, frame, shut, took, halted, resumed, restarted}
+use Rattle.vdcp_laws.specs.TwoEnds.{GoesOn, as_announced, as_noted}
+use Rattle.vdcp_laws.specs.TwoEnds.{CanJoin, Ends, IsLateChannel, aired_now, bytes_in, commands_sent, connected_anew, log_now, new_ends, port_now, with_command, with_take, heard_again}
+use Rattle.vdcp_laws.specs.Below.{Spelt}
+use Rattle.vdcp_laws.proofs.Bytes.{nothing_unfinished}
+use Rattle.vdcp_laws.proofs.Commands.{commands_receives, timed_out}
+use Rattle.vdcp_laws.proofs.Noting.{are_reached}
+use Rattle.vdcp_laws.proofs.Queues.{IsOnWay, bytes_to, comes_on, logged_behind, loses_down, loses_up, messages_to, with_queues}
+use Rattle.vdcp_laws.proofs.Announced.{again_of, plays_so, sent_of}
+use Rattle.vdcp_laws.proofs.Held.{ahead}
+use Rattle.vdcp_laws.proofs.Journaled.{run_reached}
+use Rattle.vdcp_laws.proofs.Killed.{again_noted, gives_ready}
+use Rattle.vdcp_laws.proofs.Running.{loses_down_so, loses_up_so, no_notes, silent_so}
+use Rattle.vdcp_laws.proofs.Joining.{AreBeside, IsBeside, IsDown, IsUp, Laws, comes_down, comes_up, gives_next, passes, same_down, shuts, times_out, wishes}
+
+-- Connections.
+
+nothing_on_way : (law : Spelt) → IsOnWay [] [] [] []
+nothing_on_way law = record {
+  fits = All-nil Fits;
+  done = [];
+  left = [];
+  all_is = refl;
+  came_is = refl;
+  unfinished = nothing_unfinished law;
+  queue_is = refl;
+}
+
+-- nothing is on its way, and the automation awaits nothing
+nothing_down : (law : Spelt) (plan : Plan) (unit : ℕ) (e : Ends) → e.downs ≡ [] → commands_sent plan e ≡ []
+    → IsDown plan unit e []
+nothing_down law plan unit e none no_commands = record {
+  held = [];
+  on_way = subst (λ (l : List Arrival). IsOnWay (messages_to unit (commands_sent plan e)) (bytes_in l) [] [])
+      (sym none) (subst (λ (l : List Command). IsOnWay (messages_to unit l) [] [] []) (sym no_commands)
+      (nothing_on_way law));
+  whole = [];
+  fits = All-nil Fits;
+  open_is = ap open_burst none;
+}
+
+-- what is asked can be written, and is all that may be on its way at the start
+pub record AreAsked (plan : Plan) (unit : ℕ) (asked : List Command) : Type 0 where
+  pub fits : All Fits (messages_to unit asked)
+  pub only : All (AsksOnly plan unit) (map spelling (messages_to unit asked))
+
+writable : (port : ℕ) (c : Command) → port < 256 → IsQuestion port c → IsWritableCommand c
+writable port c small (inl is) = subst IsWritableCommand (sym is) (small, lit< tt)
+writable port c small (inr (inl is)) = subst IsWritableCommand (sym is) small
+writable port c small (inr (inr is)) = subst IsWritableCommand (sym is) (lit< tt)
+
+are_asked : (law : Laws) (plan : Plan) (unit : ℕ) (asked : List Command) → unit ≤ 15 → plan.port < 256
+    → All (IsQuestion plan.port) asked → AreAsked plan unit asked
+are_asked law plan unit [] small port only =
+    record { fits = All-nil Fits; only = All-nil (AsksOnly plan unit) }
+are_asked law plan unit (c ∷ cs) small port only =
+    let rest = are_asked law plan unit cs small port (All-tail (IsQuestion plan.port) c cs only) in
+    let q = All-head (IsQuestion plan.port) c cs only in
+    let m : Content = command_message unit c in
+    let fit : Fits m = law.written.command unit c small (writable plan.port c port q) in
+    record {
+      fits = All-cons Fits m (messages_to unit cs) fit rest.fits;
+      only = All-cons (AsksOnly plan unit) (spelling m) (map spelling (messages_to unit cs))
+          (inr (c, q, law.spelt.alone m fit)) rest.only;
+    }
+
+begins : (law : Laws) (plan : Plan) (port : ClockedPort) (asked : List Command) → CanJoin plan port asked
+    → AreBeside plan port (new_ends port asked)
+begins law plan port asked can =
+    let unit : ℕ = port.state.unit in
+    let new : Ends = new_ends port asked in
+    let sent : List Command = commands_sent plan new in
+    let q = are_asked law plan unit sent can.can_start.unit_fits can.can_start.port_fits
+    (subst (All (IsQuestion plan.port)) (sym (append-nil asked)) can.only_asks) in
+    record {
+      channel = new_late_channel plan port (map spelling (messages_to unit sent)) [];
+      beside = record {
+        run = kills.begun plan port (map spelling (messages_to unit sent)) [] (record {
+          some = can.can_start.some;
+          few = can.can_start.few;
+          unit_fits = can.can_start.unit_fits;
+          port_fits = can.can_start.port_fits;
+          of_bytes = can.can_start.of_bytes;
+          nothing_cued = can.can_start.nothing_cued;
+          asked = q.only;
+          answered = can.can_start.answered;
+        });
+        plan_is = refl;
+        unit_is = refl;
+        clips_are = refl;
+        state_is = refl;
+        log_is = refl;
+        port_is = refl;
+        aired_is = refl;
+        downwards = record {
+          held = [];
+          on_way = record {
+            fits = q.fits;
+            done = [];
+            left = messages_to unit sent;
+            all_is = refl;
+            came_is = refl;
+            unfinished = nothing_unfinished law.spelt;
+            queue_is = refl;
+          };
+          whole = [];
+          fits = All-nil Fits;
+          open_is = refl;
+        };
+        upwards = record { said = []; said_is = refl; held = []; on_way = nothing_on_way law.spelt; held_is = refl };
+      };
+    }
+
+-- the channel whose queues are lost, and whose time is up
+abbrev lost : LateChannel → LateChannel
+lost c = after_late_event (with_queues c [] []) event.Timeout
+
+lost_so : (c : LateChannel) (notes : List Note) → IsRun c notes → IsRun (lost c) (notes ++ silence_notes c)
+lost_so c notes run =
+    happened (subst (λ (x : LateChannel). IsRun x notes) (loses_up [] c.up c)
+    (loses_up_so c.up (with_queues c [] c.up) notes (subst (λ (x : LateChannel). IsRun x notes) (loses_down c.down c.up c)
+    (loses_down_so c.down c notes run)))) event.Timeout tt
+
+connects : (law : Laws) (plan : Plan) (port : ClockedPort) (e : Ends) (c d : LateChannel) (q : ClockedPort)
+    → IsBeside plan port e c → IsRun d (e.notes ++ silence_notes c) → d ≡ record (lost c) { port = d.port } → d.port ≡ q
+    → d.port.state.unit ≡ port.state.unit → d.port.clips ≡ port.clips
+    → IsBeside plan port (connected_anew plan q e) d
+connects law plan port e c d q b run same is unit clips =
+    let s : State = e.automation.state in
+    let anew : Ends = connected_anew plan q e in
+    let time : came_to c.plan None c.state ≡ came_to plan None s =
+    ap₂ (λ (m : Plan) (t : State). came_to m None t) b.plan_is b.state_is in
+    let ended : logged c.log (ended_by c.plan None c.state) ≡ log_now anew =
+    ap₂ (λ (m : Plan) (t : State). logged c.log (ended_by m None t)) b.plan_is b.state_is
+    ∙ ap (λ (l : List Exchange). logged l (ended_by plan None s)) b.log_is
+    ∙ logged_behind e.log_before e.automation.log (ended_by plan None s)
+    ∙ sym (append-nil (e.log_before ++ logged e.automation.log (ended_by plan None s))) in
+    record {
+      run = subst (λ (l : List Note). IsRun d (e.notes ++ l)) (silent_so c plan s b.plan_is b.state_is) run;
+      plan_is = ap (λ (x : LateChannel). x.plan) same ∙ b.plan_is;
+      unit_is = unit;
+      clips_are = clips;
+      state_is = ap (λ (x : LateChannel). x.state) same ∙ time;
+      log_is = ap (λ (x : LateChannel). x.log) same ∙ ended;
+      port_is = is;
+      aired_is = ap (λ (x : LateChannel). x.aired) same ∙ b.aired_is ∙ sym (append-nil (aired_now e));
+      downwards = subst (IsDown plan port.state.unit anew) (sym (ap (λ (x : LateChannel). x.down) same))
+          (nothing_down law.spelt plan port.state.unit anew refl
+          (ap (λ (x : Option Command). option_to_list x) (timed_out plan s)));
+      upwards = subst (IsUp anew) (sym (ap (λ (x : LateChannel). x.up) same))
+          (record { said = []; said_is = refl; held = []; on_way = nothing_on_way law.spelt; held_is = refl });
+    }
+
+-- What an automation goes on as that is killed.
+
+takes : (law : Laws) (plan : Plan) (port : ClockedPort) (e : Ends) (c : LateChannel)
+    → outcome_of e.automation.state.stage ≡ None → IsBeside plan port e c
+    → IsBeside plan port (with_take e) (after_late_event c event.Take)
+takes law plan port e c on b =
+    wishes law plan port e c event.Take (taken e.automation.state) (note.Take ∷ []) b refl (ap taken b.state_is) refl
+    (happened b.run event.Take (ap (λ (s : State). outcome_of s.stage) b.state_is ∙ on))
+
+-- what was heard last is heard once more, after a take
+hears_again : (law : Laws) (plan : Plan) (port : ClockedPort) (asked : List Command) (e : Ends) (c : LateChannel)
+    (h : Heard) → CanJoin plan port asked
+    → is_some (given plan e.automation.state) ≡ is_ready e.automation.state.stage
+    → Announces plan e.automation.state e.notes h → IsBeside plan port e c → AreBeside plan port (heard_again plan h e)
+hears_again law plan port asked e c h can ready a b =
+    let unit : ℕ = port.state.unit in
+    let s : State = e.automation.state in
+    let g = gives_next law plan port asked e c can ready b in
+    let d : LateChannel =
+    ahead c (came_to c.plan (Some h) (taken (ticked c.state)))
+    (logged c.log (ended_by c.plan (Some h) (taken (ticked c.state))))
+    (command_bursts c.port.state.unit (given c.plan c.state)) in
+    let notes : sent_of (given c.plan c.state) ≡ sent_of (given plan s) = ap sent_of (ap₂ given b.plan_is b.state_is) in
+    record {
+      channel = d;
+      beside = record {
+        run = subst (IsRun d)
+            (ap (λ (l : List Note). e.notes ++ (l ++ note.Take ∷ note.Heard h ∷ [])) notes ∙ sym (again_noted plan e h a))
+            (again_of law.stays h c e.notes b.run a.last
+            (plays_so h c.plan plan c.state s (sym b.plan_is) (sym b.state_is) a.plays));
+        plan_is = b.plan_is;
+        unit_is = b.unit_is;
+        clips_are = b.clips_are;
+        state_is = ap₂ (λ (q : Plan) (x : State). came_to q (Some h) (taken (ticked x))) b.plan_is b.state_is;
+        log_is = ap₂ (λ (q : Plan) (x : State). logged c.log (ended_by q (Some h) (taken (ticked x)))) b.plan_is b.state_is
+            ∙ ap (λ (l : List Exchange). logged l (ended_by plan (Some h) (taken (ticked s)))) b.log_is
+            ∙ logged_behind e.log_before e.automation.log (ended_by plan (Some h) (taken (ticked s)));
+        port_is = b.port_is;
+        aired_is = b.aired_is;
+        downwards = same_down plan unit (with_command plan e) (heard_again plan h e) d.down d.down g.downwards refl
+            (ap (λ (l : List Command). e.asked ++ l)
+            (commands_receives plan (Some h) (with_take (with_command plan e)).automation)) refl;
+        upwards = record {
+          said = b.upwards.said;
+          said_is = b.upwards.said_is;
+          held = b.upwards.held;
+          on_way = b.upwards.on_way;
+          held_is = b.upwards.held_is;
+        };
+      };
+    }
+
+goes_beside : (law : Laws) (plan : Plan) (port : ClockedPort) (asked : List Command) (e on : Ends) (c : LateChannel)
+    → CanJoin plan port asked → is_some (given plan e.automation.state) ≡ is_ready e.automation.state.stage
+    → IsBeside plan port e c → GoesOn plan e on → AreBeside plan port on
+goes_beside law plan port asked e _ c can ready b as_noted = record { channel = c; beside = b }
+goes_beside law plan port asked e _ c can ready b (as_announced h a) =
+    let r = hears_again law plan port asked e c h can ready a b in
+    let s : State = came_again plan h e.automation.state in record {
+      channel = _;
+      beside = gives_next law plan port asked (heard_again plan h e) r.channel can
+          (ap is_some a.plays ∙ sym (gives_ready plan s.stop s.stage command.Play a.plays)) r.beside;
+    }
+
+-- what is given next, as all calls of a controller lead to it
+ready : (law : Laws) (plan : Plan) (port : ClockedPort) (asked : List Command) (e : Ends) → CanJoin plan port asked
+    → AreJoined plan port asked e → is_some (given plan e.automation.state) ≡ is_ready e.automation.state.stage
+ready law plan port asked e can j =
+    (law.lawful plan e.automation.state (log_now e) (are_reached plan port asked e can j)).gives
+
+-- All steps.
+
+pub beside : (law : Laws) (plan : Plan) (port : ClockedPort) (asked : List Command) (e : Ends) → CanJoin plan port asked
+    → AreJoined plan port asked e → AreBeside plan port e
+beside law plan port asked _ can begun = begins law plan port asked can
+beside law plan port asked _ can (went_on {e} j gave) =
+    let r = beside law plan port asked e can j in
+    record { channel = _; beside = gives_next law plan port asked e r.channel can (ready law plan port asked e can j) r.beside }
+beside law plan port asked _ can (went_on {e} j (came_up piece rest is)) =
+    let r = beside law plan port asked e can j in
+    let u = r.beside.upwards in
+    let on = comes_on law.spelt u.said e.ups u.held r.channel.up u.on_way piece rest (sym u.said_is ∙ is) in
+    record { channel = _; beside = comes_up law plan port e piece r.channel r.beside on }
+beside law plan port asked _ can (went_on {e} j (came_down piece rest is no_close)) =
+    let r = beside law plan port asked e can j in
+    comes_down law plan port asked e piece r.channel can r.beside no_close rest
+    (sym (bytes_to port.state.unit (commands_sent plan e)) ∙ is) (cases_lt burst_limit (length (open_burst e.downs)))
+beside law plan port asked _ can (went_on {e} j waited) =
+    let r = beside law plan port asked e can j in record {
+      channel = _;
+      beside = times_out law plan port e r.channel silence r.beside refl refl
+          (ap held_after_silence r.beside.upwards.held_is);
+    }
+beside law plan port asked _ can (went_on {e} j hung_up) =
+    let r = beside law plan port asked e can j in record {
+      channel = _;
+      beside = times_out law plan port e r.channel close r.beside refl refl
+          (ap held_after_silence r.beside.upwards.held_is);
+    }
+beside law plan port asked _ can (went_on {e} j (frame no_close all)) =
+    let r = beside law plan port asked e can j in
+    passes law plan port e r.channel r.beside no_close all (cases_lt burst_limit (length (open_burst e.downs)))
+beside law plan port asked _ can (went_on {e} j shut) =
+    let r = beside law plan port asked e can j in
+    record { channel = r.channel; beside = shuts law plan port e r.channel r.beside }
+beside law plan port asked _ can (went_on {e} j (took on)) =
+    let r = beside law plan port asked e can j in record { channel = _; beside = takes law plan port e r.channel on r.beside }
+beside law plan port asked _ can (went_on {e} j (halted on)) =
+    let r = beside law plan port asked e can j in record {
+      channel = _;
+      beside = wishes law plan port e r.channel event.Stop (stopped e.automation.state) (note.Stop ∷ []) r.beside refl
+          (ap stopped r.beside.state_is) refl
+          (happened r.beside.run event.Stop (ap (λ (s : State). outcome_of s.stage) r.beside.state_is ∙ on));
+    }
+beside law plan port asked _ can (went_on {e} j (resumed {on} goes)) =
+    let r = beside law plan port asked e can j in
+    let g = goes_beside law plan port asked e on r.channel can (ready law plan port asked e can j) r.beside goes in
+    let c : LateChannel = g.channel in record {
+      channel = lost c;
+      beside = connects law plan port on c (lost c) (port_now on) g.beside (lost_so c on.notes g.beside.run) refl
+          g.beside.port_is g.beside.unit_is g.beside.clips_are;
+    }
+beside law plan port asked _ can (went_on {e} j (restarted {on} goes)) =
+    let r = beside law plan port asked e can j in
+    let g = goes_beside law plan port asked e on r.channel can (ready law plan port asked e can j) r.beside goes in
+    let c : LateChannel = g.channel in record {
+      channel = after_late_event (lost c) event.ServerAnew;
+      beside = connects law plan port on c (after_late_event (lost c) event.ServerAnew) (made_anew (port_now on)) g.beside
+          (no_notes (happened (lost_so c on.notes g.beside.run) event.ServerAnew tt)) refl
+          (ap made_anew g.beside.port_is) g.beside.unit_is g.beside.clips_are;
+    }
+
+pub are_late_channel : (law : Laws) (plan : Plan) (port : ClockedPort) (asked : List Command) (e : Ends) → CanJoin plan port asked
+    → AreJoined plan port asked e → IsLateChannel plan port e
+are_late_channel law plan port asked e can j =
+    let r = beside law plan port asked e can j in record {
+      channel = r.channel;
+      reached = run_reached law.goes_on r.channel e.notes r.beside.run;
+      run = r.beside.run;
+      plan_is = r.beside.plan_is;
+      state_is = r.beside.state_is;
+      log_is = r.beside.log_is;
+      port_is = r.beside.port_is;
+      clips_are = r.beside.clips_are;
+      aired_is = r.beside.aired_is;
+    }
