@@ -1,4 +1,4 @@
--- What lines say, one after another; the lines of commands; and events that a list hasn't got.
+-- What a line says, and events that a list hasn't got.
 use Rattle.hex.specs.Hex.{decode_of}
 use Rattle.std.proofs.Common.{◌≡◌, ℕ, ◌≤◌, zero, suc, List, [], ◌∷◌, ◌++◌, length, refl, sym, ap, subst, ◌∙◌, arith}
 use Rattle.std.specs.Prelude.{Ok, Option, None, slice_get}
