@@ -118,25 +118,11 @@ impl<'a, 'r, R: Clock + AllocGlobal, F: Disk + Drop> Recorder<'a, 'r, R, F> {
         if asks_state(&row.note) {
             return self.hold(row);
         }
-        if self.hold_play(row) {
+        if let Some(held) = self.pending.with_play(row) {
+            self.pending = held;
             return Ok(());
         }
         self.write(Some(row))
-    }
-
-    // Holds back the row of a PLAY, with all that is pending, if it is announced.
-    fn hold_play(&mut self, row: Row) -> bool
-        ensures held { IsTrue result → (is_announced self.old.pending row.note ≡ true)
-            × (self.new ≡ record self.old { pending = with_play self.old.pending row }) }
-        ensures unannounced { IsFalse result → (is_announced self.old.pending row.note ≡ false) × (self.new ≡ self.old) }
-    {
-        match self.pending.with_play(row) {
-            Some(held) => {
-                self.pending = held;
-                true
-            }
-            None => false,
-        }
     }
 
     // Holds back the row of a command that asks for the state, and makes what is pending safe unless it says nothing new.
@@ -403,7 +389,9 @@ fn write_rows<F: Disk>(
         (rows_text unit (rows_left left ++ option_to_list last))) }
     ensures refused { (fault : RecordFault) → left ≡ Failed fault → (result ≡ Err fault) × (file.new ≡ file.old) }
 {
-    let text = text_of(alloc, unit, left, last)?;
+    let mut text = Vec::new(alloc);
+    left.add_to(alloc, unit, &mut text)?;
+    add_row(alloc, unit, last, &mut text)?;
     if text.is_empty() {
         return Ok(());
     }
@@ -411,21 +399,4 @@ fn write_rows<F: Disk>(
         Ok(()) => Ok(()),
         Err(_) => Err(RecordFault::Device),
     }
-}
-
-// The text of what is left, and of a row after it, if there is one.
-fn text_of(
-    alloc: Global,
-    unit: u8,
-    left: Pending,
-    last: Option<Row>,
-) -> Result<Vec<u8>, RecordFault>
-    requires { unit ≤ 15 }
-    ensures text { IfOk result (λ text. text.items ≡ rows_text unit (rows_left left ++ option_to_list last)) }
-    ensures refused { (fault : RecordFault) → left ≡ Failed fault → result ≡ Err fault }
-{
-    let mut text = Vec::new(alloc);
-    left.add_to(alloc, unit, &mut text)?;
-    add_row(alloc, unit, last, &mut text)?;
-    Ok(text)
 }

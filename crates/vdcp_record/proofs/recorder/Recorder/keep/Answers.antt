@@ -1,7 +1,11 @@
-use Rattle.std.proofs.Common.{sym}
+use Rattle.std.proofs.Common.{◌≡◌, ap, false, refl, subst, sym, true}
 use Rattle.std.proofs.lemmas.Result.{on_ok_weaker}
-use Rattle.vdcp_record.proofs.Chains.{keeps_row, loses_row, on_err_both, play_kept, write_kept, write_lost}
+use Rattle.vdcp_record.proofs.Chains.{announced_may_hold, keeps_row, loses_row, on_err_both, play_kept, write_kept, write_lost}
+use Rattle.vdcp_record.proofs.Disking.{synced_with_play}
 use Rattle.vdcp_record.proofs.recorder.Recorder.keep.Goals as goal
+use Rattle.vdcp_record.specs.Recorded.{MayHold}
+use Rattle.vdcp_record.specs.Recording.{IsSynced, Recording, is_announced, with_play}
+use Rattle.vdcp_record.specs.declared.pending.Pending.{Pending}
 
 pub returns-then-asks_state-clause-kept : goal.returns-then-asks_state-clause-kept
 returns-then-asks_state-clause-kept g c =
@@ -13,22 +17,41 @@ returns-then-asks_state-clause-torn g c =
     on_err_both c.hold.result _ _ _ (λ fault p q. loses_row g.F.Disk.safe c.args.note c.row_now-row.result
     c.args.self.now c.hold.new.self fault c.row_now-row.ensures p q) c.hold.ensures.torn c.hold.ensures.failed
 
-pub returns-then-hold_play-clause-kept : goal.returns-then-hold_play-clause-kept
-returns-then-hold_play-clause-kept g c =
-    let held = c.hold_play.ensures.held c.if-hold_play.true in
-    play_kept g.F.Disk.safe c.args.note c.row_now-row.result c.args.self.now c.hold_play.new.self
-    c.row_now-row.ensures held.0 held.1
+pub invariant_of-self : goal.invariant_of-self
+invariant_of-self g c =
+    let before = c.self.inside in (
+      c.self.invariant.0,
+      subst MayHold (sym c.in-Some.ensures.held.0)
+          (announced_may_hold before.pending c.row_now-row.result c.in-Some.ensures.held.1 c.self.invariant.1),
+      subst (λ (p : Pending). IsSynced p (g.F.Disk.safe before.file) (g.F.Disk.written before.file))
+          (sym c.in-Some.ensures.held.0)
+          (synced_with_play before.pending c.row_now-row.result (g.F.Disk.safe before.file) (g.F.Disk.written before.file)
+          c.in-Some.ensures.held.1 c.self.invariant.2),
+    )
+
+pub returns-in-Some-clause-kept : goal.returns-in-Some-clause-kept
+returns-in-Some-clause-kept g c =
+    let held = c.in-Some.ensures.held in
+    let row = c.row_now-row.result in
+    let before = c.self.inside in
+    let new : Recording _ = record { name = before.name; unit = before.unit; file = before.file; pending = c.in-Some.held } in
+    play_kept g.F.Disk.safe c.args.note row c.args.self.now new c.row_now-row.ensures
+    (subst (λ (r : Recording _). is_announced r.pending row.note ≡ true) c.self.view_is held.1)
+    (subst (λ (r : Recording _). new ≡ record r { pending = with_play r.pending row }) c.self.view_is
+    (ap {B = Recording _} (λ (p : Pending). record { name = before.name; unit = before.unit; file = before.file; pending = p }) held.0))
 
 pub returns-clause-kept : goal.returns-clause-kept
 returns-clause-kept g c =
-    let plain = c.hold_play.ensures.unannounced c.if-hold_play.false in
-    write_kept c.write.result g.F.Disk.safe c.args.note c.row_now-row.result c.args.self.now c.hold_play.new.self
-    c.write.new.self c.row_now-row.ensures (sym c.if-asks_state.ensures) plain.0 plain.1 c.write.ensures.written
+    let plain = subst (λ (r : Recording _). is_announced r.pending c.row_now-row.result.note ≡ false) c.self.view_is
+    c.in_default.ensures.unannounced in
+    write_kept c.write.result g.F.Disk.safe c.args.note c.row_now-row.result c.args.self.now c.args.self.now
+    c.write.new.self c.row_now-row.ensures (sym c.if-asks_state.ensures) plain refl c.write.ensures.written
     c.write.ensures.rest
 
 pub returns-clause-torn : goal.returns-clause-torn
 returns-clause-torn g c =
-    let plain = c.hold_play.ensures.unannounced c.if-hold_play.false in
-    write_lost c.write.result g.F.Disk.safe c.args.note c.row_now-row.result c.args.self.now c.hold_play.new.self
-    c.write.new.self c.row_now-row.ensures (sym c.if-asks_state.ensures) plain.0 plain.1 c.write.ensures.torn
+    let plain = subst (λ (r : Recording _). is_announced r.pending c.row_now-row.result.note ≡ false) c.self.view_is
+    c.in_default.ensures.unannounced in
+    write_lost c.write.result g.F.Disk.safe c.args.note c.row_now-row.result c.args.self.now c.args.self.now
+    c.write.new.self c.row_now-row.ensures (sym c.if-asks_state.ensures) plain refl c.write.ensures.torn
     c.write.ensures.failed
