@@ -53,7 +53,8 @@ use vdcp_wire::Wire;
 /// An automation that hears at once and a server, joined by two streams of bytes that keep order, are a late channel: in
 /// whatever pieces and however late the bytes come, with time-outs at any moment, after questions to the port whose
 /// bytes and answers may still be on their way, and over one connection after another, where the automation was killed
-/// and went on, or the server was started anew.
+/// and went on from its journal, also with the PLAY that this announces, or the server was started anew. It is a run that
+/// has the journal's notes.
 pub fn two_ends_are_a_late_channel()
     ensures ends { (plan : Plan) (port : ClockedPort) (asked : List Command) (e : Ends) → CanJoin plan port asked →
         AreJoined plan port asked e → IsLateChannel plan port e }
