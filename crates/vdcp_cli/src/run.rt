@@ -7,7 +7,7 @@ use std::time::Duration;
 use vdcp_log::{Hearing, Screen, Telling};
 use vdcp_operator::{Hand, Keys, open_page, start_of};
 use vdcp_options::{
-    LISTENS, Output, POLL, RUN_SILENCE, System, capture_of, from_of, limit_of, number_of,
+    LISTENS, Output, POLL, RUN_SILENCE, System, capture_of, from_of, limit_of, mode_of, number_of,
     open_file, port_of, rate_of, unit_of,
 };
 use vdcp_run::{RunJournal, RunSettings, Showing, Shown, do_run};
@@ -118,7 +118,7 @@ fn run_settings_of<'a>(matches: &'a ArgMatches<'_>) -> RunSettings<'a>
         unit: unit_of(matches),
         port: port_of(matches),
         limit: run_limit_of(matches),
-        confirm: matches.get_flag("confirm"),
+        mode: mode_of(matches),
         ask: matches.get_flag("ask"),
         rate: rate_of(matches),
         silence: number_of(matches, &RUN_SILENCE),

@@ -3,4 +3,3 @@ pub mod Lines
 pub mod Check
 pub mod Subcommand
 pub mod Vectors
-pub mod Mode

@@ -5,6 +5,8 @@ use Rattle.std.proofs.Common.{◌≡◌, ℕ, zero, suc, Bool, true, false, List
 use Rattle.std.proofs.Math.Bool.{and-eq-true_iff}
 use Rattle.std.proofs.lemmas.Bool.Decides.{nat_tests}
 use Rattle.std.specs.Prelude.{◌==◌, if◌then◌else◌, codes}
+use Rattle.vdcp_auto.specs.declared.phase.Mode.{Mode}
+use Rattle.vdcp_auto.specs.declared.phase.Mode.TheVariants.{Plain, Confirming}
 use Rattle.vdcp_journal.proofs.CsvRows.{ArePlain, AreRows, are_lines, no_mark, rows-read}
 use Rattle.vdcp_journal.proofs.FieldTexts.{IdTexts, encoded, note_plain, numeral}
 use Rattle.vdcp_journal.proofs.Lines.{all-whole, beginning, both-false, has_feed, joined, or-left, or-right}
@@ -76,9 +78,9 @@ no_bom (byte ∷ text) u = no_mark byte text u
 
 -- ---- the rows of a journal
 
-mode_plain : (confirming : Bool) → has_feed (mode_text confirming) ≡ false
-mode_plain true = refl
-mode_plain false = refl
+mode_plain : (mode : Mode) → has_feed (mode_text mode) ≡ false
+mode_plain Plain = refl
+mode_plain Confirming = refl
 
 heading_plain : (time : Moment) (heading : Heading) → IsWritableHeading heading → ArePlain (heading_fields time heading)
 heading_plain time heading h = (
@@ -88,7 +90,7 @@ heading_plain time heading h = (
     (
       encoded heading.digest,
       (
-        mode_plain heading.confirming,
+        mode_plain heading.mode,
         (
           numeral heading.unit (omega (arith, h.unit)),
           (numeral heading.port (omega (arith, h.port)), (numeral heading.limit (omega (arith, h.limit)), tt)),

@@ -1,6 +1,6 @@
 -- Which journal lines are, and which of them is refused.
 use Rattle.hex.specs.Hex.{encode_lower}
-use Rattle.std.specs.Prelude.{◌≡◌, ◌≢◌, ℕ, ◌+◌, ◌<◌, ◌≤◌, ◌^◌, ◌⊎◌, ⊤, Bool, Some, List, [], ◌∷◌, codes, decimal, drop, length, take, slice_get}
+use Rattle.std.specs.Prelude.{◌≡◌, ◌≢◌, ℕ, ◌+◌, ◌<◌, ◌≤◌, ◌^◌, ◌⊎◌, ⊤, Some, List, [], ◌∷◌, codes, decimal, drop, length, take, slice_get}
 use Rattle.vdcp_journal.specs.Reading.{AreWritable, IsWritableHeading, IsWritableNote, whole_lines}
 use Rattle.vdcp_journal.specs.Rows.{Fields, heading_fields, journal_fields, mode_text, note_fields, row_fields}
 use Rattle.vdcp_journal.specs.Times.{moment_text}
@@ -13,6 +13,7 @@ use Rattle.vdcp_journal.specs.declared.read.Journal.{Journal}
 use Rattle.vdcp_journal.specs.declared.row.Heading.{Heading}
 use Rattle.vdcp_journal.specs.declared.row.Note.{Note}
 use Rattle.vdcp_journal.specs.declared.row.Row.{Row}
+use Rattle.vdcp_auto.specs.declared.phase.Mode.{Mode}
 use Rattle.vdcp_list.specs.Rows.{rows_of}
 use Rattle.vdcp_value.specs.Bytes.{AreBytes}
 
@@ -33,7 +34,7 @@ IsHeadingFault fields wrong.Time = HasNoTime fields
 IsHeadingFault fields wrong.Word = slice_get fields 1 ≢ Some (codes "list")
 IsHeadingFault fields wrong.Digest =
     (digest : List ℕ) → AreBytes 32 digest → slice_get fields 2 ≢ Some (encode_lower digest)
-IsHeadingFault fields wrong.Mode = (confirming : Bool) → slice_get fields 3 ≢ Some (mode_text confirming)
+IsHeadingFault fields wrong.Mode = (mode : Mode) → slice_get fields 3 ≢ Some (mode_text mode)
 IsHeadingFault fields wrong.Number = (unit port limit : ℕ) → unit ≤ 15 → port < 256 → limit < 2 ^ 32 →
     drop 4 fields ≢ decimal unit ∷ decimal port ∷ decimal limit ∷ []
 IsHeadingFault fields _ = ⊥

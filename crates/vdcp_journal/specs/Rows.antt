@@ -2,11 +2,13 @@
 use Rattle.csv.specs.Writing.{default_writer, row_text}
 use Rattle.hex.specs.Hex.{encode_lower}
 use Rattle.std.specs.Io.KnownBytes.{Appends}
-use Rattle.std.specs.Prelude.{ℕ, Bool, true, false, Option, List, [], ◌∷◌, ◌++◌, codes, decimal, map, take}
+use Rattle.std.specs.Prelude.{ℕ, Option, List, [], ◌∷◌, ◌++◌, codes, decimal, map, take}
 use Rattle.std.specs.List.{flat_map}
 use Rattle.vdcp_auto.specs.declared.exchange.Heard.TheVariants as heard
 use Rattle.vdcp_auto.specs.declared.outcome.Outcome.{Outcome}
 use Rattle.vdcp_auto.specs.declared.outcome.Outcome.TheVariants.{Done, Stopped, Lost, Denied, Missing, Refused, Foreign, Strange}
+use Rattle.vdcp_auto.specs.declared.phase.Mode.{Mode}
+use Rattle.vdcp_auto.specs.declared.phase.Mode.TheVariants.{Plain, Confirming}
 use Rattle.vdcp_frame.specs.Message.{spelling}
 use Rattle.vdcp_journal.specs.Times.{moment_text}
 use Rattle.vdcp_journal.specs.declared.moment.Moment.{Moment}
@@ -48,14 +50,14 @@ note_fields unit (note.From k) = codes "from" ∷ decimal k ∷ [] ∷ []
 abbrev pub row_fields : ℕ → Row → Fields
 row_fields unit row = moment_text row.time ∷ note_fields unit row.note
 
-abbrev pub mode_text : Bool → List ℕ
-mode_text false = codes "plain"
-mode_text true = codes "confirm"
+abbrev pub mode_text : Mode → List ℕ
+mode_text Plain = codes "plain"
+mode_text Confirming = codes "confirm"
 
 -- when the journal was begun, and what it is of
 abbrev pub heading_fields : Moment → Heading → Fields
 heading_fields time heading =
-    moment_text time ∷ codes "list" ∷ encode_lower heading.digest ∷ mode_text heading.confirming
+    moment_text time ∷ codes "list" ∷ encode_lower heading.digest ∷ mode_text heading.mode
     ∷ decimal heading.unit ∷ decimal heading.port ∷ decimal heading.limit ∷ []
 
 -- a row as CSV: commas, quotes only where needed, a line feed

@@ -1,6 +1,7 @@
 //! How a journal is read from its bytes.
 ghost use Rattle.csv.specs.Records.{fields_of};
-ghost use Rattle.std.specs.Prelude.{Bool, List, ◌≡◌, ◌≢◌, ◌≤◌, ◌<◌, ◌^◌, ◌∷◌, ◌↔◌, [], ℕ, IfErr, IfOk, IfSome, IfNone, IsTrue, Some, codes, decimal, length, slice_get, take};
+ghost use Rattle.std.specs.Prelude.{List, ◌≡◌, ◌≢◌, ◌≤◌, ◌<◌, ◌^◌, ◌∷◌, ◌↔◌, [], ℕ, IfErr, IfOk, IfSome, IfNone, IsTrue, Some, codes, decimal, length, slice_get, take};
+ghost use Rattle.vdcp_auto.specs.declared.phase.Mode.{Mode};
 ghost use Rattle.vdcp_journal.specs.Journals.{AreLinesOf, IsFaultOfWord, IsHeading, IsHeadingFault, IsJournal, IsJournalFault, IsLinesFault, IsRow, IsRowFault};
 ghost use Rattle.vdcp_journal.specs.Reading.{IsWritableNote, whole_lines};
 ghost use Rattle.vdcp_journal.specs.Rows.{mode_text, note_fields};
@@ -16,6 +17,7 @@ use crate::texts::{digest_in, note_in, number_in};
 use csv::ByteRecord;
 use std::alloc::Global;
 use std::io::Read;
+use vdcp_auto::Mode;
 use vdcp_list::laws::rows_are_read_in_order;
 use vdcp_list::{ListFault, next_row, rows_in};
 
@@ -96,13 +98,13 @@ fn number_up_to(text: &[u8], most: usize) -> Option<usize>
 }
 
 /// The mode that a field names.
-fn is_confirming(text: &[u8]) -> Option<bool>
-    ensures some { IfSome result (λ confirming. mode_text confirming ≡ text.now) }
-    ensures none { IfNone result ((confirming : Bool) → mode_text confirming ≢ text.now) }
+fn mode_in(text: &[u8]) -> Option<Mode>
+    ensures some { IfSome result (λ mode. mode_text mode ≡ text.now) }
+    ensures none { IfNone result ((mode : Mode) → mode_text mode ≢ text.now) }
 {
     match text {
-        b"plain" => Some(false),
-        b"confirm" => Some(true),
+        b"plain" => Some(Mode::Plain),
+        b"confirm" => Some(Mode::Confirming),
         _ => None,
     }
 }
@@ -131,7 +133,7 @@ fn heading_of(
     let Some(digest) = digest_in(digest) else {
         return Err(JournalRowFault::Digest);
     };
-    let Some(confirming) = is_confirming(mode) else {
+    let Some(mode) = mode_in(mode) else {
         return Err(JournalRowFault::Mode);
     };
     let Some(unit) = number_up_to(unit, 15) else {
@@ -145,7 +147,7 @@ fn heading_of(
     };
     let heading = Heading {
         digest,
-        confirming,
+        mode,
         unit: unit as u8,
         port: port as u8,
         limit: limit as u32,

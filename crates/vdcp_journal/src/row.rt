@@ -1,6 +1,6 @@
 //! The heading, the rows and the notes of a journal.
 use crate::moment::Moment;
-use vdcp_auto::{Heard, Outcome};
+use vdcp_auto::{Heard, Mode, Outcome};
 use vdcp_words::Command;
 
 /// What a journal is of: a journal of anything else can't go on as this one.
@@ -8,8 +8,8 @@ use vdcp_words::Command;
 pub struct Heading {
     /// The SHA-256 digest of the list's events.
     pub digest: [u8; 32],
-    /// The controller is in confirm mode.
-    pub confirming: bool,
+    /// The controller's mode.
+    pub mode: Mode,
     /// The unit address of the server.
     pub unit: u8,
     /// The number of the server's port.

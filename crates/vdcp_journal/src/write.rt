@@ -13,6 +13,7 @@ use arrayvec::ArrayString;
 use csv::WriterBuilder;
 use std::alloc::Allocator;
 use std::io::{ErrorKind, Write};
+use vdcp_auto::Mode;
 
 /// Appends the first row of a journal. What an error leaves is as for `write_row`.
 pub fn write_heading<W: Write, A: Allocator>(
@@ -36,7 +37,7 @@ pub fn write_heading<W: Write, A: Allocator>(
     push_number(&mut port, usize::from(heading.port));
     let mut limit = ArrayString::new();
     push_number(&mut limit, heading.limit as usize);
-    let mode = mode_text(heading.confirming);
+    let mode = mode_text(heading.mode);
     write_fields(
         alloc,
         &[
@@ -52,10 +53,13 @@ pub fn write_heading<W: Write, A: Allocator>(
     )
 }
 
-fn mode_text<'a>(confirming: bool) -> &'a str
-    ensures { result.now ≡ mode_text confirming }
+fn mode_text<'a>(mode: Mode) -> &'a str
+    ensures { result.now ≡ mode_text mode }
 {
-    if confirming { "confirm" } else { "plain" }
+    match mode {
+        Mode::Plain => "plain",
+        Mode::Confirming => "confirm",
+    }
 }
 
 /// Appends a row of a journal of the server at this unit, 0 to 15, and flushes the writer.

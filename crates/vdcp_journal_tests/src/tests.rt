@@ -5,7 +5,7 @@ ghost use Rattle.vdcp_auto.specs.Turn.{start};
 
 use std::alloc::Global;
 use std::process::Abort;
-use vdcp_auto::{Controller, Heard, Outcome, Source};
+use vdcp_auto::{Controller, Heard, Mode, Outcome, Source};
 use vdcp_journal::{
     Airing, Heading, JournalWriteFault, Moment, Note, ResumeFault, Resumed, Row, are_lost, is_loss,
     limit_after, resume, runs_in, write_heading, write_row,
@@ -125,7 +125,7 @@ fn a_heading_names_what_is_played(rt: HostRuntime) {
     let alloc = rt.alloc();
     let plain = Heading {
         digest: [0x0f; 32],
-        confirming: false,
+        mode: Mode::Plain,
         unit: 0,
         port: 1,
         limit: 3,
@@ -133,7 +133,7 @@ fn a_heading_names_what_is_played(rt: HostRuntime) {
     let mut written = Vec::new(alloc);
     let wrote_plain = write_heading(alloc, &time(&rt), &plain, &mut written);
     let confirming = Heading {
-        confirming: true,
+        mode: Mode::Confirming,
         unit: 15,
         port: 255,
         limit: 1000,

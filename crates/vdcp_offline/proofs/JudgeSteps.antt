@@ -14,7 +14,6 @@ use Rattle.vdcp_auto.specs.declared.exchange.Heard.{Heard}
 use Rattle.vdcp_auto.specs.declared.phase.Mode.{Mode}
 use Rattle.vdcp_files.specs.Lines.{TakesLine}
 use Rattle.vdcp_judge.specs.Captures.{awaited_after, ended_at, exchanges_from, exchanges_in}
-use Rattle.vdcp_files.specs.Mode.{mode_of}
 use Rattle.vdcp_judge.specs.Judging.{Knows}
 use Rattle.vdcp_judge.specs.Rulings.{IsRuling}
 use Rattle.vdcp_judge.specs.declared.capture.Captured.{Captured}
@@ -123,7 +122,7 @@ module _ {S : Type 0} (items_of : S → List Item) where
       → Tells items_of settings items (findings ++ f ∷ []) new
   tells_more law settings items findings f old new tells ruling settings_are events_are exchanges few_exchanges forbidden
       forbidden_is reported_is source mode knows =
-      let m = mode_of settings.confirming in
+      let m = settings.mode in
       let log = exchanges_of findings in
       let count_few : old.forbidden + 1 < 2 ^ 64 = omega (arith, tells.forbidden, count_by-le-length is_forbidden findings, tells.exchanges, few_exchanges) in
       let is_ruled : IsRuling m items log f.exchange f.ruling =
@@ -259,12 +258,12 @@ last_lines None number = refl
 last_lines (Some c) number = refl
 
 pub are_findings : (settings : JudgeSettings) (items : List Item) (pieces : List Piece) (findings more : List Finding)
-    (asked : Option Command) (number : ℕ) → ShowFindings (mode_of settings.confirming) pieces findings asked number
-    → AreMore findings number (last_exchange asked) more → AreRuled (mode_of settings.confirming) items more
-    → reported_in more ≡ settled (mode_of settings.confirming) (exchanges_of more)
-    → AreFindings (mode_of settings.confirming) items pieces more
+    (asked : Option Command) (number : ℕ) → ShowFindings settings.mode pieces findings asked number
+    → AreMore findings number (last_exchange asked) more → AreRuled settings.mode items more
+    → reported_in more ≡ settled settings.mode (exchanges_of more)
+    → AreFindings settings.mode items pieces more
 are_findings settings items pieces findings more asked number shows are ruled count =
-    let mode = mode_of settings.confirming in
+    let mode = settings.mode in
     record {
       lines =
           more_finding_lines findings more number (last_exchange asked) are

@@ -1,7 +1,6 @@
 -- What is kept of a capture while it is read.
 use Rattle.std.specs.Prelude.{◌≡◌, ℕ, List, [], ◌∷◌, ◌++◌, Option, None, Some, length, map, string_bytes}
 use Rattle.vdcp_judge.specs.Captures.{exchanges_from, exchanges_in}
-use Rattle.vdcp_files.specs.Mode.{mode_of}
 use Rattle.vdcp_judge.specs.Judging.{Knows}
 use Rattle.vdcp_judge.specs.declared.capture.Captured.{Captured}
 use Rattle.vdcp_judge.specs.declared.capture.Captured.TheVariants.{Sent, Came, Silence}
@@ -23,10 +22,10 @@ pub record Tells {S : Type 0} (items_of : S → List Item) (settings : JudgeSett
   pub settings_are : told.settings ≡ settings
   pub events_are : items_of told.events.now ≡ items
   pub source_is : items_of told.judge.source.now ≡ items
-  pub mode_is : told.judge.mode ≡ mode_of settings.confirming
+  pub mode_is : told.judge.mode ≡ settings.mode
   pub knows : Knows (λ source. items_of source.now) (exchanges_of findings) told.judge
-  pub ruled : AreRuled (mode_of settings.confirming) items findings
-  pub count : reported_in findings ≡ settled (mode_of settings.confirming) (exchanges_of findings)
+  pub ruled : AreRuled settings.mode items findings
+  pub count : reported_in findings ≡ settled settings.mode (exchanges_of findings)
   pub exchanges : told.exchanges ≡ length findings
   pub forbidden : told.forbidden ≡ forbidden_in findings
   pub forbidden_text_is : string_bytes told.forbidden_text ≡ forbidden_text findings
@@ -70,5 +69,5 @@ pub record HasFound {S : Type 0} (items_of : S → List Item) (settings : JudgeS
     (pieces : List Piece) (found : Found S) : Type 0 where
   pub findings : List Finding
   pub tells : Tells items_of settings items findings found.told
-  pub shows : ShowFindings (mode_of settings.confirming) pieces findings found.awaited found.line
+  pub shows : ShowFindings settings.mode pieces findings found.awaited found.line
   pub some_message : found.has_message ≡ has_message pieces

@@ -8,7 +8,6 @@ use Rattle.vdcp_offline.specs.declared.judge.capture.Piece.{Piece}
 use Rattle.vdcp_offline.specs.declared.judge.findings.Finding.{Finding}
 use Rattle.vdcp_offline.specs.declared.judge.settings.JudgeSettings.{JudgeSettings}
 use Rattle.vdcp_files.specs.Files.{File, IsWholeList, bytes_of}
-use Rattle.vdcp_files.specs.Mode.{mode_of}
 use Rattle.vdcp_list.specs.Playlists.{IsListOf}
 use Rattle.vdcp_text.specs.Failure.{failure_line, status_of}
 use Rattle.vdcp_text.specs.declared.failure.Failure.{Failure}
@@ -26,7 +25,7 @@ pub record IsJudged (settings : JudgeSettings) (list : File) (capture old new : 
   pub is_capture : IsCaptureOf settings.unit capture pieces
   pub some_message : has_message pieces ≡ true
   pub findings : List Finding
-  pub are_findings : AreFindings (mode_of settings.confirming) items pieces findings
+  pub are_findings : AreFindings settings.mode items pieces findings
   pub gained : Appends old new (judged_text settings.rate items findings)
   pub forbidden_are : forbidden ≡ forbidden_in findings
 

@@ -22,7 +22,6 @@ use Rattle.vdcp_text.specs.declared.failure.Failure.TheVariants as failures
 use Rattle.vdcp_text.specs.declared.failure.ScriptLineFault.{ScriptLineFault}
 use Rattle.vdcp_files.specs.Check.{AreWhole, IsRefused, Refuses}
 use Rattle.vdcp_files.specs.Files.{File, bytes_of}
-use Rattle.vdcp_files.specs.Mode.{mode_of}
 use Rattle.vdcp_world.specs.Channel.{Channel, new_channel, after_events}
 use Rattle.vdcp_world.specs.Headline.{Headline}
 use Rattle.vdcp_world.specs.Script.{IsScript, NoOwn, same_event}
@@ -77,7 +76,7 @@ channel_text trace rate c = run_text trace rate c.log c.aired c.state.settled (o
 -- what the controller is made with for these items
 abbrev pub plan_for : SimSettings → List Item → Plan
 plan_for settings items =
-    record { mode = mode_of settings.confirm; list = items; port = settings.port; limit = settings.limit }
+    record { mode = settings.mode; list = items; port = settings.port; limit = settings.limit }
 
 -- the new channel of a playlist and a catalogue
 abbrev pub channel_of : SimSettings → List Item → List (ClipId × Timecode) → Channel

@@ -16,7 +16,7 @@ ghost use Rattle.vdcp_text.specs.Failure.{status_of};
 use crate::sim::script::read_events;
 use std::alloc::Global;
 use std::io;
-use vdcp_auto::{Exchange, Outcome, Source};
+use vdcp_auto::{Exchange, Mode, Outcome, Source};
 use vdcp_files::NamedFile;
 use vdcp_late::LateWorld;
 use vdcp_port::{Catalogue, Port};
@@ -37,8 +37,8 @@ pub struct SimSettings {
     pub limit: u32,
     /// The length of a cue in frames, 1 to 1,000.
     pub cue_frames: u32,
-    /// The controller is in confirm mode, and receipts may come from nowhere.
-    pub confirm: bool,
+    /// The controller's mode. In confirm mode receipts may come from nowhere.
+    pub mode: Mode,
     /// The line keeps order, and bursts wait in it however long; else it holds one burst each way.
     pub late: bool,
     /// The frame rate of time codes.
@@ -205,10 +205,11 @@ fn new_world<S: Source, C: Catalogue>(
         cue_frames,
         ..
     } = settings;
-    if settings.confirm {
-        World::confirming(alloc, source, catalogue, unit, port, limit, cue_frames)
-    } else {
-        World::with_clock(alloc, source, catalogue, unit, port, limit, cue_frames)
+    match settings.mode {
+        Mode::Plain => World::with_clock(alloc, source, catalogue, unit, port, limit, cue_frames),
+        Mode::Confirming => {
+            World::confirming(alloc, source, catalogue, unit, port, limit, cue_frames)
+        }
     }
 }
 
@@ -234,10 +235,9 @@ fn new_late_world<S: Source, C: Catalogue>(
         ..
     } = settings;
     let port = Port::with_clock(catalogue, unit, port, cue_frames);
-    if settings.confirm {
-        LateWorld::confirming(alloc, source, port, limit)
-    } else {
-        LateWorld::new(alloc, source, port, limit)
+    match settings.mode {
+        Mode::Plain => LateWorld::new(alloc, source, port, limit),
+        Mode::Confirming => LateWorld::confirming(alloc, source, port, limit),
     }
 }
 

@@ -3,6 +3,7 @@ use crate::files::file;
 use crate::run::{Run, expect_run};
 use std::alloc::Global;
 use std::io;
+use vdcp_auto::Mode;
 use vdcp_offline::{JudgeSettings, do_judge};
 use vdcp_testing::{FailingReader, FailingWriter, Fails};
 use vdcp_value::Rate;
@@ -10,7 +11,7 @@ use vdcp_value::Rate;
 const SETTINGS: JudgeSettings = JudgeSettings {
     unit: 0,
     rate: Rate::F25,
-    confirming: false,
+    mode: Mode::Plain,
 };
 
 /// Judges this capture of the list of CLIP0001.

@@ -6,6 +6,7 @@ use crate::run::{Run, expect_run};
 use std::alloc::Global;
 use std::io;
 use std::process::Abort;
+use vdcp_auto::Mode;
 use vdcp_offline::{SimSettings, do_sim};
 use vdcp_testing::{FailingReader, FailingWriter, Fails};
 use vdcp_value::Rate;
@@ -17,7 +18,7 @@ const PLAIN: SimSettings = SimSettings {
     port: 1,
     limit: 3,
     cue_frames: 1,
-    confirm: false,
+    mode: Mode::Plain,
     late: false,
     rate: Rate::F25,
     trace: false,
@@ -29,7 +30,7 @@ const TRACED: SimSettings = SimSettings {
 };
 
 const CONFIRMING: SimSettings = SimSettings {
-    confirm: true,
+    mode: Mode::Confirming,
     ..PLAIN
 };
 

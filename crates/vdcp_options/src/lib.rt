@@ -4,7 +4,7 @@
 //! `command` is what the command line may be, and `run_named` runs the subcommand that `clap` has found in it, but `run`,
 //! over a `System`. For `run`, which its caller runs, `open_file` opens the file that an argument names, `capture_of`
 //! makes that of `--capture`, and `number_of`,
-//! `unit_of`, `port_of`, `limit_of`, `from_of` and `rate_of` give one option's value.
+//! `unit_of`, `port_of`, `limit_of`, `from_of`, `rate_of` and `mode_of` give one option's value.
 //!
 //! Files, in reading order: `number` (options that are numbers, each a `NumberOption`), `rate`, `args` (each subcommand's
 //! arguments), `settings` (a subcommand's options), `file`, `output`,
@@ -27,5 +27,6 @@ pub use number::{
 };
 pub use output::{Output, capture_of};
 pub use rate::rate_of;
+pub use settings::mode_of;
 pub use subcommands::run_named;
 pub use system::System;

@@ -7,11 +7,21 @@ use crate::number::{
 };
 use crate::rate::rate_of;
 use clap::ArgMatches;
+use vdcp_auto::Mode;
 use vdcp_lossy::{Chances, LossySettings};
 use vdcp_offline::{JudgeSettings, SimSettings};
 use vdcp_probe::{AskSettings, Only, ProbeSettings};
 use vdcp_record::AsrunSettings;
 use vdcp_serve::{Pace, ServeSettings};
+
+/// The mode that `--confirm` asks for, or plain.
+pub fn mode_of(matches: &ArgMatches) -> Mode {
+    if matches.get_flag("confirm") {
+        Mode::Confirming
+    } else {
+        Mode::Plain
+    }
+}
 
 /// What the options say of a channel, and of what is printed of it.
 pub fn sim_settings_of(matches: &ArgMatches) -> SimSettings
@@ -26,7 +36,7 @@ pub fn sim_settings_of(matches: &ArgMatches) -> SimSettings
         port: port_of(matches),
         limit: limit_of(matches),
         cue_frames: cue_frames_of(matches),
-        confirm: matches.get_flag("confirm"),
+        mode: mode_of(matches),
         late: matches.get_flag("late"),
         rate: rate_of(matches),
         trace: matches.get_flag("trace"),
@@ -112,7 +122,7 @@ pub fn judge_settings_of(matches: &ArgMatches) -> JudgeSettings {
     JudgeSettings {
         unit: unit_of(matches),
         rate: rate_of(matches),
-        confirming: matches.get_flag("confirm"),
+        mode: mode_of(matches),
     }
 }
 

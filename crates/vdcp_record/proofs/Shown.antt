@@ -6,7 +6,6 @@ use Rattle.vdcp_auto.specs.Law.{IsLawful}
 use Rattle.vdcp_auto.specs.Plan.{Plan}
 use Rattle.vdcp_auto.specs.State.{State}
 use Rattle.vdcp_auto.specs.declared.phase.Mode.{Mode}
-use Rattle.vdcp_files.specs.Mode.{mode_of}
 use Rattle.vdcp_journal.specs.Airings.{AreAirings, may_have_played, settled_in}
 use Rattle.vdcp_journal.specs.Journals.{IsJournal}
 use Rattle.vdcp_journal.specs.Resume.{WereLost, log_of}
@@ -65,7 +64,7 @@ unsettled_counts_in : (items : List Item) (heading : Heading) (run : Run) (plan 
     → AreAirings plan.mode run.rows airings event → reported ≡ state.settled → reported ≤ length plan.list
     → run.from ≤ length items → length items < 2 ^ 64 → IfSome event (λ k. run.from + k < 2 ^ 64)
 unsettled_counts_in items heading run plan state reported airings event resumed are count within listed few =
-    let mode_is : plan.mode ≡ mode_of heading.confirming = ap (λ (p : Plan). p.mode) resumed.plan_is in
+    let mode_is : plan.mode ≡ heading.mode = ap (λ (p : Plan). p.mode) resumed.plan_is in
     let settled_is : state.settled ≡ settled_in plan.mode run.rows =
     resumed.lawful.is_settled ∙ ap (λ (m : Mode). settled_in m run.rows) (sym mode_is) in
     let left : length plan.list ≡ length items - run.from =

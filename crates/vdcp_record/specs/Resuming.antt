@@ -7,7 +7,6 @@ use Rattle.vdcp_auto.specs.State.{State}
 use Rattle.vdcp_auto.specs.Turn.{awaited, outcome_of, start}
 use Rattle.vdcp_auto.specs.declared.outcome.Outcome.{Outcome}
 use Rattle.vdcp_auto.specs.declared.outcome.Outcome.TheVariants.{Done, Stopped}
-use Rattle.vdcp_files.specs.Mode.{mode_of}
 use Rattle.vdcp_journal.specs.Airings.{may_have_played, settled_in}
 use Rattle.vdcp_journal.specs.Journals.{IsJournal, IsJournalFault}
 use Rattle.vdcp_journal.specs.Resume.{AreTold, IsFalseLoss, IsLostAfter, IsResumeFault, WereLost, after_rows, is_loss, log_of, plan_after, timed_out}
@@ -32,7 +31,7 @@ use Rattle.vdcp_words.specs.declared.command.Command.{Command}
 -- the plan of a controller that plays these items, by a journal's heading
 abbrev pub plan_in : Heading → List Item → Plan
 plan_in heading items = record {
-  mode = mode_of heading.confirming;
+  mode = heading.mode;
   list = items;
   port = heading.port;
   limit = heading.limit;
@@ -99,14 +98,14 @@ untold_failure name before (refused.Outcome k) = failures.JournalRow name (befor
 -- where a heading differs first from the one that is wanted
 abbrev pub Differs : Heading → Heading → JournalFault → Type 0
 Differs found wanted fault.List = found.digest ≢ wanted.digest
-Differs found wanted fault.Mode = (found.digest ≡ wanted.digest) × (found.confirming ≢ wanted.confirming)
+Differs found wanted fault.Mode = (found.digest ≡ wanted.digest) × (found.mode ≢ wanted.mode)
 Differs found wanted fault.Unit =
-    (found.digest ≡ wanted.digest) × (found.confirming ≡ wanted.confirming) × (found.unit ≢ wanted.unit)
+    (found.digest ≡ wanted.digest) × (found.mode ≡ wanted.mode) × (found.unit ≢ wanted.unit)
 Differs found wanted fault.Port =
-    (found.digest ≡ wanted.digest) × (found.confirming ≡ wanted.confirming) × (found.unit ≡ wanted.unit)
+    (found.digest ≡ wanted.digest) × (found.mode ≡ wanted.mode) × (found.unit ≡ wanted.unit)
     × (found.port ≢ wanted.port)
 Differs found wanted fault.Limit =
-    (found.digest ≡ wanted.digest) × (found.confirming ≡ wanted.confirming) × (found.unit ≡ wanted.unit)
+    (found.digest ≡ wanted.digest) × (found.mode ≡ wanted.mode) × (found.unit ≡ wanted.unit)
     × (found.port ≡ wanted.port) × (found.limit ≢ wanted.limit)
 Differs found wanted _ = ⊥
 
@@ -176,11 +175,11 @@ pub data IsUnresumed (items : List Item) (name : Bor (List ℕ)) (wanted : Headi
 
 -- the first event that a run doesn't report, by its number in the list
 abbrev pub next_event : Heading → Run → ℕ
-next_event heading run = run.from + settled_in (mode_of heading.confirming) run.rows
+next_event heading run = run.from + settled_in heading.mode run.rows
 
 -- that event may have aired
 abbrev pub next_may_have_aired : Heading → Run → Bool
-next_may_have_aired heading run = may_have_played (mode_of heading.confirming) run.rows
+next_may_have_aired heading run = may_have_played heading.mode run.rows
 
 -- the event with which a controller begins after a run: the one that the operator says, or else the first that the run
 -- doesn't report, which can't have aired

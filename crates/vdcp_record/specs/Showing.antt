@@ -6,7 +6,6 @@ use Rattle.std.specs.Prelude.{ℕ, ◌≡◌, ◌≤◌, ◌+◌, ◌∷◌, ◌
 use Rattle.vdcp_auto.specs.Law.{IsLawful}
 use Rattle.vdcp_auto.specs.Turn.{start}
 use Rattle.vdcp_files.specs.Files.{File, bytes_of}
-use Rattle.vdcp_files.specs.Mode.{mode_of}
 use Rattle.vdcp_journal.specs.Airings.{AreAirings}
 use Rattle.vdcp_journal.specs.Journals.{IsJournal}
 use Rattle.vdcp_journal.specs.Resume.{AreTold, WereLost, log_of}
@@ -60,7 +59,7 @@ pub record ShowsRun (settings : AsrunSettings) (items : List Item) (heading : He
       (log_of run.rows)
   pub airings : List Airing
   pub may_have_aired : Option ℕ
-  pub are_airings : AreAirings (mode_of heading.confirming) run.rows airings may_have_aired
+  pub are_airings : AreAirings heading.mode run.rows airings may_have_aired
   pub text_is : text ≡ reported_text settings items run.from
       (state_after (plan_of_run heading items run) run.rows).settled airings
   pub told_is : told ≡ open_text run.from may_have_aired

@@ -2,7 +2,6 @@
 ghost use Rattle.std.specs.Prelude.{◌≡◌, ◌↔◌, ◌+◌, ◌<◌, ◌≤◌, length, IfErr, IfOk, IfNone, IfSome, IsFalse, IsTrue, OnOk};
 ghost use Rattle.vdcp_auto.specs.Plan.{plan_of};
 ghost use Rattle.vdcp_auto.specs.Turn.{new_controller, start};
-ghost use Rattle.vdcp_files.specs.Mode.{mode_of};
 ghost use Rattle.vdcp_journal.specs.Journals.{IsJournal, IsJournalFault};
 ghost use Rattle.vdcp_journal.specs.Resume.{IsFalseLoss, IsLostAfter, IsResumeFault, WereLost, limit_after, losses};
 ghost use Rattle.vdcp_journal.specs.Runs.{run_at};
@@ -15,7 +14,7 @@ ghost use Rattle.vdcp_text.specs.declared.failure.Failure.TheVariants as failure
 
 use std::alloc::{AllocError, Global};
 use std::io;
-use vdcp_auto::{Controller, Source};
+use vdcp_auto::{Controller, Mode, Source};
 use vdcp_files::NamedFile;
 use vdcp_journal::{
     Heading, Journal, JournalReadFault, JournalRowFault, JournalRun, Note, ResumeFault, Resumed,
@@ -189,12 +188,11 @@ fn from_row(rows: &[Row], run: JournalRun) -> usize
 pub(crate) fn controller_of<S: Source>(events: S, heading: &Heading) -> Controller<S>
     requires some { 1 ≤ heading.now.limit }
     requires few { heading.now.limit ≤ 1000 }
-    ensures { result ≡ new_controller events (mode_of heading.now.confirming) heading.now.port heading.now.limit }
+    ensures { result ≡ new_controller events heading.now.mode heading.now.port heading.now.limit }
 {
-    if heading.confirming {
-        Controller::confirming(events, heading.port, heading.limit)
-    } else {
-        Controller::new(events, heading.port, heading.limit)
+    match heading.mode {
+        Mode::Plain => Controller::new(events, heading.port, heading.limit),
+        Mode::Confirming => Controller::confirming(events, heading.port, heading.limit),
     }
 }
 
@@ -273,7 +271,7 @@ fn difference(found: &Heading, wanted: &Heading) -> Option<JournalFault>
     if found.digest != wanted.digest {
         return Some(JournalFault::List);
     }
-    if found.confirming != wanted.confirming {
+    if found.mode != wanted.mode {
         return Some(JournalFault::Mode);
     }
     if found.unit != wanted.unit {

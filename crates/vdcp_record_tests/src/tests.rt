@@ -6,7 +6,7 @@ use std::fs::File;
 use std::process::Abort;
 use std::test::Fail;
 use std::{env, fs, process};
-use vdcp_auto::{Controller, Outcome, Source};
+use vdcp_auto::{Controller, Mode, Outcome, Source};
 use vdcp_drive::{AutoDriver, Unpaced, Unwatched};
 use vdcp_files::NamedFile;
 use vdcp_journal::{Heading, digest_of};
@@ -55,14 +55,14 @@ fn list(rt: &HostRuntime) -> Result<List, Fail> {
 }
 
 /// What a journal of the list in this mode has first.
-fn heading(rt: &HostRuntime, confirming: bool) -> Result<Heading, Fail>
+fn heading(rt: &HostRuntime, mode: Mode) -> Result<Heading, Fail>
     ensures unit { IfOk result (λ heading. heading.unit ≡ 0) }
     ensures limit { IfOk result (λ heading. heading.limit ≡ 3) }
 {
     let list = list(rt)?;
     Ok(Heading {
         digest: digest_of(rt.alloc(), &list, Rate::F25)?,
-        confirming,
+        mode,
         unit: 0,
         port: 1,
         limit: 3,
@@ -108,23 +108,19 @@ fn begun<'a, 'r>(
     rt: &'r HostRuntime,
     name: &'a str,
 ) -> Result<Recorder<'a, 'r, HostRuntime, File>, Fail> {
-    let heading = heading(rt, false)?;
+    let heading = heading(rt, Mode::Plain)?;
     Ok(begin_journal(rt, name, &heading, None).ok().ok_or("begun")?)
 }
 
 /// Why no journal of this name can be begun.
 fn unbegun<'a>(rt: &HostRuntime, name: &'a str) -> Result<Option<Failure<'a>>, Fail> {
-    let heading = heading(rt, false)?;
+    let heading = heading(rt, Mode::Plain)?;
     Ok(begin_journal(rt, name, &heading, None).err())
 }
 
 /// Why the journal of this name can't be gone on with in this mode.
-fn unresumed<'a>(
-    rt: &HostRuntime,
-    name: &'a str,
-    confirming: bool,
-) -> Result<Option<Failure<'a>>, Fail> {
-    let heading = heading(rt, confirming)?;
+fn unresumed<'a>(rt: &HostRuntime, name: &'a str, mode: Mode) -> Result<Option<Failure<'a>>, Fail> {
+    let heading = heading(rt, mode)?;
     Ok(resume_journal(rt, name, &heading, list(rt)?).err())
 }
 
@@ -143,7 +139,7 @@ fn play(rt: &HostRuntime, name: &str, listens: u64) -> Result<usize, Fail> {
 
 /// The journal of this name is gone on with, and ends: how many events are settled by it.
 fn end(rt: &HostRuntime, name: &str, outcome: Outcome) -> Result<usize, Fail> {
-    let heading = heading(rt, false)?;
+    let heading = heading(rt, Mode::Plain)?;
     let resumed = resume_journal(rt, name, &heading, list(rt)?)
         .ok()
         .ok_or("resumed")?;
@@ -159,7 +155,7 @@ fn open_again<'a>(
     name: &'a str,
     event: usize,
 ) -> Result<Result<usize, Failure<'a>>, Fail> {
-    let heading = heading(rt, false)?;
+    let heading = heading(rt, Mode::Plain)?;
     let list = list(rt)?;
     match begin_again(rt, name, &heading, &list, Some(event)) {
         Ok(again) => {
@@ -216,13 +212,13 @@ fn a_killed_run_goes_on(rt: HostRuntime) -> Result<(), Fail> {
     let name = temporary(&rt, "killed")?;
     let name = name.as_str();
     let played = play(&rt, name, 12)?;
-    let other_mode = unresumed(&rt, name, true)?;
+    let other_mode = unresumed(&rt, name, Mode::Confirming)?;
     // (PLAY was answered, and that isn't written yet: it counts as unanswered)
     let resumed = end(&rt, name, Outcome::Lost)?;
     let mode = Failure::JournalRow(name, 1, JournalFault::Mode);
     assert_eq!(rt; (played, other_mode, resumed), (1, Some(mode), 0));
     // (the controller hasn't come to that)
-    let outcome = unresumed(&rt, name, false)?;
+    let outcome = unresumed(&rt, name, Mode::Plain)?;
     assert!(rt;
         matches!(
             outcome,
@@ -238,7 +234,10 @@ fn a_journal_in_use_is_refused(rt: HostRuntime) -> Result<(), Fail> {
     let name = temporary(&rt, "in_use")?;
     let name = name.as_str();
     let recorder = begun(&rt, name)?;
-    assert_eq!(rt; unresumed(&rt, name, false)?, Some(Failure::InUse(name)));
+    assert_eq!(rt;
+        unresumed(&rt, name, Mode::Plain)?,
+        Some(Failure::InUse(name))
+    );
     drop(recorder);
     fs::remove_file(&rt, name)?;
     Ok(())

@@ -19,7 +19,6 @@ use Rattle.vdcp_text.specs.declared.failure.Failure.{Failure}
 use Rattle.vdcp_text.specs.declared.failure.Failure.TheVariants as failures
 use Rattle.vdcp_text.specs.declared.failure.JournalFault.TheVariants as wrong
 use Rattle.vdcp_files.specs.Files.{File, IsWholeList, RefusesList, bytes_of, file}
-use Rattle.vdcp_files.specs.Mode.{mode_of}
 use Rattle.vdcp_journal.specs.declared.row.Heading.{Heading}
 use Rattle.vdcp_journal.specs.Runs.{Run}
 use Rattle.vdcp_list.specs.Asrun.{events_text, has_part}
@@ -42,7 +41,7 @@ use Rattle.vdcp_run.specs.declared.settings.RunSettings.{RunSettings}
 -- what the controller is made with for these items
 abbrev pub plan_for : RunSettings → List Item → Plan
 plan_for settings items = record {
-  mode = mode_of settings.confirm;
+  mode = settings.mode;
   list = items;
   port = settings.port;
   limit = settings.limit;
@@ -55,7 +54,7 @@ first_event from = unwrap_or from 0
 -- the new controller of a list
 abbrev pub new_controller : {S : Type 0} → RunSettings → S → View (FromEvent S)
 new_controller settings source = turns.new_controller (record { source = source; from = first_event settings.from })
-    (mode_of settings.confirm) settings.port settings.limit
+    settings.mode settings.port settings.limit
 
 -- ---- how the line ended
 
@@ -131,7 +130,7 @@ journal_of recorder = option_map (λ r. r.name) recorder
 abbrev pub heading_for : RunSettings → List Item → Heading
 heading_for settings items = record {
   digest = digest_of settings.rate items;
-  confirming = settings.confirm;
+  mode = settings.mode;
   unit = settings.unit;
   port = settings.port;
   limit = settings.limit;

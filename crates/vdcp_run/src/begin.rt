@@ -8,7 +8,7 @@ use crate::place::{test_apart, test_place};
 use crate::settings::{RunJournal, RunSettings};
 use std::fs::{self, File};
 use std::rt::{Clock, Files};
-use vdcp_auto::{Controller, Source};
+use vdcp_auto::{Controller, Mode, Source};
 use vdcp_journal::{Heading, digest_of};
 use vdcp_list::Rest;
 use vdcp_record::{Resumption, begin_again, begin_journal, resume_journal};
@@ -103,10 +103,9 @@ fn new_controller<S: Source>(source: S, settings: RunSettings<'_>) -> Controller
     ensures { result ≡ new_controller settings.entry source }
 {
     let rest = Rest::new(source, settings.from.unwrap_or(0));
-    if settings.confirm {
-        Controller::confirming(rest, settings.port, settings.limit)
-    } else {
-        Controller::new(rest, settings.port, settings.limit)
+    match settings.mode {
+        Mode::Plain => Controller::new(rest, settings.port, settings.limit),
+        Mode::Confirming => Controller::confirming(rest, settings.port, settings.limit),
     }
 }
 
@@ -125,7 +124,7 @@ fn heading_of<'a, R: AllocGlobal, S: Source>(
     };
     Ok(Heading {
         digest,
-        confirming: settings.confirm,
+        mode: settings.mode,
         unit: settings.unit,
         port: settings.port,
         limit: settings.limit,

@@ -2,6 +2,7 @@
 ghost use Rattle.std.specs.Prelude.{◌≡◌};
 ghost use Rattle.vdcp_run.specs.Run.{name_of};
 
+use vdcp_auto::Mode;
 use vdcp_log::{Hearing, Telling};
 use vdcp_value::Rate;
 
@@ -14,8 +15,8 @@ pub struct RunSettings<'a> {
     pub port: u8,
     /// How many unanswered exchanges in a row make the controller give up, 1 to 1,000.
     pub limit: u32,
-    /// The controller is in confirm mode.
-    pub confirm: bool,
+    /// The controller's mode.
+    pub mode: Mode,
     /// The port is asked first whether it is empty, and the list is begun only if it is.
     pub ask: bool,
     /// The frame rate of time codes.

@@ -1,6 +1,5 @@
 //! The exchanges of a capture, each with its line and its ruling.
 ghost use Rattle.std.specs.Prelude.{◌≡◌, ◌++◌, ◌∷◌, List, [], IfOk, OnOk};
-ghost use Rattle.vdcp_files.specs.Mode.{mode_of};
 ghost use Rattle.vdcp_offline.specs.Findings.{AreFindings, is_message};
 ghost use Rattle.vdcp_offline.specs.Found.{HasFound, Tells, last_exchange, line_after};
 ghost use Rattle.vdcp_offline.specs.declared.judge.capture.Piece.{Piece};
@@ -53,7 +52,7 @@ impl<'e, S: Source> Found<'e, S> {
             → HasFound S.items settings items pieces self.old →
             OnOk result (HasFound S.items settings items (pieces ++ piece.now ∷ []) self.new) }
     {
-        let mode = self.told.settings.mode();
+        let mode = self.told.settings.mode;
         let captured = piece.captured;
         let ended = exchange_ended(mode, &mut self.awaited, &captured);
         self.told.add_ended(self.line, ended)?;
@@ -66,7 +65,7 @@ impl<'e, S: Source> Found<'e, S> {
     pub fn end(self) -> Result<Told<'e, S>, AllocError>
         ensures { (settings : JudgeSettings) (items : List Item) (pieces : List Piece)
             → HasFound S.items settings items pieces self.entry → IfOk result (λ told. (findings : List Finding)
-            × Tells S.items settings items findings told × AreFindings (mode_of settings.confirming) items pieces findings) }
+            × Tells S.items settings items findings told × AreFindings settings.mode items pieces findings) }
     {
         let Found {
             mut told,

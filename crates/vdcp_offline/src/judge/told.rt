@@ -40,7 +40,7 @@ impl<'e, S: Source> Told<'e, S> {
         Told {
             settings,
             events,
-            judge: Judge::new(events, settings.mode()),
+            judge: Judge::new(events, settings.mode),
             exchanges: 0,
             forbidden: 0,
             forbidden_text: String::new(alloc),

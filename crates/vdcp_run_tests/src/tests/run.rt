@@ -3,6 +3,7 @@ use super::expecting::{expect, expect_row};
 use std::io::Write;
 use std::net::{Ipv4Addr, SocketAddr, TcpListener};
 use std::test::Fail;
+use vdcp_auto::Mode;
 use vdcp_files::NamedFile;
 use vdcp_log::{Hearing, Telling};
 use vdcp_operator::Hand;
@@ -49,7 +50,7 @@ fn run_operated<V: Write + Drop, W: Write, E: Write>(
         unit: 0,
         port: 1,
         limit: 3,
-        confirm: false,
+        mode: Mode::Plain,
         ask: false,
         rate: Rate::F25,
         silence,

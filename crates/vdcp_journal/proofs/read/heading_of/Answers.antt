@@ -23,7 +23,7 @@ returns-clause-heading c =
             c.in-Some.ensures.read,
             word,
             c.in-Some-digest_in.ensures.some,
-            c.in-Some-is_confirming.ensures.some,
+            c.in-Some-mode_in.ensures.some,
             unit.0,
             port.0,
             limit.0,
