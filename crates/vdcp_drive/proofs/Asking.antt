@@ -18,7 +18,7 @@ use Rattle.vdcp_words.specs.declared.reply.Reply.TheVariants as reply
 use Rattle.vdcp_drive.specs.Hearing.{Burst, begun, burst_after, burst_says}
 use Rattle.vdcp_drive.specs.Reading.{holds}
 use Rattle.vdcp_drive.specs.Below.{Below}
-use Rattle.vdcp_drive.specs.Vacancy.{heard_of, IsBetween, HearsBurst, BreaksBurst, vacancy_of, led_by, led_on, unless_led, asking_after, asking_from}
+use Rattle.vdcp_drive.specs.Vacancy.{heard_of, IsBetween, HearsBurst, BreaksBurst, led_by, unless_led, asking_after, asking_from}
 use Rattle.vdcp_drive.specs.Vacancy.{asked_from, asked_now, asking_by, questions_by, commands_asked, first_asking, question_command, HasSaid, IsSaid, CameTo, HasAsked, IsPartlyAsked}
 use Rattle.vdcp_drive.specs.declared.vacancy.Asking.{Asking}
 use Rattle.vdcp_drive.specs.declared.vacancy.Asking.TheVariants.{Asks, Over}

@@ -7,9 +7,9 @@ use Rattle.std.proofs.lemmas.List.Elements.{All-append, All-take, All-from_get_o
 use Rattle.std.specs.Prelude.{Option, Some, None}
 use Rattle.vdcp_frame.specs.Burst.{messages_of, end_of}
 use Rattle.vdcp_frame.specs.Head.{IsWrong}
-use Rattle.vdcp_frame.specs.Message.{Content, AreOctets, Fits, Spells, spelling}
+use Rattle.vdcp_frame.specs.Message.{Content, AreOctets, Spells}
 use Rattle.vdcp_frame.specs.Progress.{Progress, reading, failed}
-use Rattle.vdcp_frame.specs.Reader.{message, more, wrong, Gives, fed, Follows, FollowsNext, ReadsAs, ended_of, TakesFault, TakesWrong, TakesLong}
+use Rattle.vdcp_frame.specs.Reader.{message, more, wrong, Gives, fed, Follows, FollowsNext, TakesFault, TakesWrong, TakesLong}
 use Rattle.vdcp_frame.specs.Reading.{End, clean, cut, fault, Reads, Begins, IsUnfinished, SpellsAll}
 use Rattle.vdcp_frame.specs.declared.message.Fault.{Fault}
 use Rattle.vdcp_frame.specs.declared.message.Fault.TheVariants.{BadStart, BadCount, BadSum, Long}

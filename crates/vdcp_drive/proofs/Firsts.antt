@@ -4,7 +4,7 @@ use Rattle.std.proofs.Math.Seq.{take-append_seam, drop-append_seam}
 use Rattle.std.proofs.lemmas.List.{take-append-drop}
 use Rattle.std.proofs.lemmas.List.Elements.{All-take, All-drop}
 use Rattle.vdcp_frame.specs.Burst.{messages_of, end_of}
-use Rattle.vdcp_frame.specs.Message.{Content, AreOctets, Fits, Spells, spelling}
+use Rattle.vdcp_frame.specs.Message.{Content, AreOctets, Spells, spelling}
 use Rattle.vdcp_frame.specs.Reading.{End, clean, cut, fault, Reads, burst_limit}
 use Rattle.vdcp_auto.specs.Heard.{heard_as, heard_first, heard_in}
 use Rattle.vdcp_drive.specs.Hearing.{begun, burst_after, burst_says, burst_with}

@@ -1,5 +1,5 @@
 -- A run with an operator, move by move.
-use Rattle.std.proofs.Common.{ℕ, ◌≡◌, ◌+◌, ◌-◌, ◌<◌, ◌≢◌, Bool, List, [], ◌∷◌, ◌++◌, length, refl, sym, ap, subst, ◌∙◌, arith, append-nil, append_assoc, length-append}
+use Rattle.std.proofs.Common.{ℕ, ◌≡◌, ◌+◌, ◌-◌, ◌<◌, ◌≢◌, List, [], ◌∷◌, ◌++◌, length, refl, sym, ap, subst, ◌∙◌, arith, append-nil, append_assoc, length-append}
 use Rattle.std.specs.Prelude.{◌↔◌, Option, Some, None, Result, Ok, Err, IsSome}
 use Rattle.vdcp_value.specs.declared.part.Item.{Item}
 use Rattle.vdcp_auto.specs.Course.{Reached, Take, Stop}

@@ -1,13 +1,11 @@
-use Rattle.std.proofs.Common.{arith, ap, sym, subst, ◌∙◌}
-use Rattle.vdcp_words.specs.declared.command.Command.{Command}
-use Rattle.vdcp_drive.specs.Steps.{command_bytes}
+use Rattle.std.proofs.Common.{arith, sym, subst, ◌∙◌}
 use Rattle.vdcp_drive.specs.Vacancy.{HearsBurst}
 use Rattle.vdcp_drive.specs.declared.vacancy.Burst.{Burst}
 use Rattle.vdcp_drive.proofs.Asking.{asks_first, asked_so, partly_dropped, partly_sent, partly_heard, asks_on, asks_out}
 use Rattle.vdcp_drive.proofs.Asking.{asks_closed, asks_spent, stays_under}
 use Rattle.vdcp_drive.proofs.Taking.{on_err_of}
 use Rattle.vdcp_drive.proofs.vacancy.ask_port.Goals as goal
-use Rattle.vdcp_wire.specs.Wires.{IfTold, SendsFront, adds_sent}
+use Rattle.vdcp_wire.specs.Wires.{IfTold}
 
 pub asking-init : goal.asking-init
 asking-init g c = record {
