@@ -1,2 +1,4 @@
 pub mod Typed
 pub mod Seen
+pub mod Hands
+pub mod Starts

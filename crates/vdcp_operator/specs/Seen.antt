@@ -1,5 +1,5 @@
 -- What the page of a run is told.
-use Rattle.std.specs.Prelude.{ℕ, ◌≡◌, ◌+◌, ◌-◌, ◌^◌, min, List, codes, map, Option, None, Some}
+use Rattle.std.specs.Prelude.{ℕ, ◌≡◌, ◌+◌, ◌*◌, ◌-◌, ◌/◌, ◌^◌, min, List, codes, map, Option, None, Some, if◌then◌else◌}
 use Rattle.serde_json.specs.Data.{Data, array, boolean, member, no_members, null, number, object, string, unsigned}
 use Rattle.serde_json.specs.View.{items_of}
 use Rattle.serde_json.specs.Written.{compact_text}
@@ -15,9 +15,17 @@ use Rattle.vdcp_operator.specs.declared.seen.RunSeen.{RunSeen}
 use Rattle.vdcp_panel.specs.Seen.{ServesSome}
 use Rattle.vdcp_panel.specs.declared.call.Call.{Call}
 use Rattle.vdcp_panel.specs.declared.panel.Names.{Names}
+use Rattle.vdcp_port.specs.Clips.{length_of}
 use Rattle.vdcp_text.specs.Items.{item_text}
 use Rattle.vdcp_text.specs.Outcome.{outcome_text}
+use Rattle.vdcp_value.specs.Bcd.{frames_in, is_time}
+use Rattle.vdcp_value.specs.Timecodes.{frames_of, rate_of}
+use Rattle.vdcp_value.specs.declared.clip_id.ClipId.{ClipId}
+use Rattle.vdcp_value.specs.declared.part.Item.{Item}
+use Rattle.vdcp_value.specs.declared.part.Part.{Part}
 use Rattle.vdcp_value.specs.declared.rate.Rate.{Rate}
+use Rattle.vdcp_value.specs.declared.rate.Rate.TheVariants.{F24, F25, F30, D30}
+use Rattle.vdcp_value.specs.declared.timecode.Timecode.{Timecode}
 
 abbrev pub phase_text : Phase → List ℕ
 phase_text phase.Open = codes "opening"
@@ -39,15 +47,36 @@ stage_text (standing.Ready p) = phase_text p
 stage_text (standing.Awaiting p) = phase_text p
 stage_text (standing.Ended outcome) = codes "ended"
 
-abbrev pub time_data : Option ℕ → Data
-time_data None = null
-time_data (Some time) = number (unsigned time)
+abbrev pub number_data : Option ℕ → Data
+number_data None = null
+number_data (Some n) = number (unsigned n)
 
-abbrev pub row_data : Rate → EventSeen → Data
-row_data rate e =
-    object (member (codes "at") (time_data e.at)
+-- how long frames last, in milliseconds, if a second has 24, 25, 30 or 30000/1001 of them
+abbrev pub millis_of : Rate → ℕ → ℕ
+millis_of F24 n = n * 1000 / 24
+millis_of F25 n = n * 1000 / 25
+millis_of F30 n = n * 1000 / 30
+millis_of D30 n = n * 1001 / 30
+
+-- the same of a clip of this length, or of a part of it
+abbrev pub length_if : Option Timecode → Option Part → Option ℕ
+length_if None part = None
+length_if (Some clip) None = Some (millis_of (rate_of clip) (frames_of clip))
+length_if (Some clip) (Some part) =
+    if is_time (rate_of clip) part.duration
+    then Some (millis_of (rate_of clip) (frames_in (rate_of clip) part.duration)) else None
+
+-- the same of an item by a catalogue, if there is one with its clip
+abbrev pub length_by : Option (List (ClipId × Timecode)) → Item → Option ℕ
+length_by None item = None
+length_by (Some clips) item = length_if (length_of clips item.id) item.part
+
+abbrev pub row_data : Rate → Option (List (ClipId × Timecode)) → EventSeen → Data
+row_data rate clips e =
+    object (member (codes "at") (number_data e.at)
     (member (codes "item") (string (item_text rate e.item))
-    (member (codes "number") (number (unsigned e.number)) no_members)))
+    (member (codes "length") (number_data (length_by clips e.item))
+    (member (codes "number") (number (unsigned e.number)) no_members))))
 
 abbrev pub seen_data : RunSeen → Data
 seen_data v =
@@ -55,9 +84,9 @@ seen_data v =
     (member (codes "event") (number (unsigned v.event))
     (member (codes "events") (number (unsigned v.events))
     (member (codes "outcome") (string (outcome_text v.outcome))
-    (member (codes "rows") (array (items_of (map (row_data v.rate) v.rows.now)))
+    (member (codes "rows") (array (items_of (map (row_data v.rate v.clips.now) v.rows.now)))
     (member (codes "stage") (string (stage_text v.snapshot.standing))
-    (member (codes "start") (time_data v.start)
+    (member (codes "start") (number_data v.start)
     (member (codes "stop") (boolean v.snapshot.stop)
     (member (codes "take") (boolean v.snapshot.take)
     (member (codes "unanswered") (number (unsigned v.snapshot.unanswered)) no_members))))))))))
@@ -76,9 +105,12 @@ about v = Some v.event
 abbrev pub event_of : {S : Type 0} → View (FromEvent S) → ℕ
 event_of c = min (c.source.from + c.state.settled) (2 ^ 64 - 1)
 
--- who asked was answered by the controller as it is, and a call that is held is about the event that is next
-pub record ShowsRun {S : Type 0} (c : View (FromEvent S)) (names : Names) (calls calls' : List Call) : Type 0 where
+-- who asked was answered by the controller as it is and by these clips, and a call that is held is about the event that is
+-- next
+pub record ShowsRun {S : Type 0} (c : View (FromEvent S)) (clips : Option (List (ClipId × Timecode))) (names : Names)
+    (calls calls' : List Call) : Type 0 where
   pub view : RunSeen
+  pub clips_are : view.clips.now ≡ clips
   pub all : c ≡ view_of c.source view.snapshot
   pub event : view.event ≡ event_of c
   pub served : ServesSome page_bytes state_bytes about names view calls calls'

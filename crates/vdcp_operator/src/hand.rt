@@ -1,4 +1,10 @@
 //! The operator in a driver's turns: calls are taken, and commands wait.
+ghost use Rattle.std.specs.Duration.{as_nanos};
+ghost use Rattle.std.specs.Prelude.{◌≡◌, ◌≢◌, IsSome, None, Some};
+ghost use Rattle.vdcp_drive.specs.declared.operator.Call.{Call};
+ghost use Rattle.vdcp_operator.specs.Hands.{Asks, IsNext, PageCalls, TypedCalls, as_call, wait_nanos};
+ghost use Rattle.vdcp_words.specs.declared.command.Command.{Command};
+
 use crate::shown::RunPage;
 use crate::typed::{Said, Typed};
 use std::io::{Read, Write};
@@ -68,20 +74,17 @@ impl<'a, R: Clock, I: Read + Drop, E: Write> Hand<'a, R, I, E> {
         }
     }
 
-    /// Waits until it is time to connect: two seconds before the start, if that is said, or at a call.
-    pub fn await_lead<S: Source>(&mut self, controller: &Controller<Rest<S>>) {
-        let Some(start) = self.start else {
+    /// Waits until it is time to connect: two seconds before the start, if that is said, or at a call, which is held.
+    pub fn await_lead<S: Source>(&mut self, controller: &Controller<Rest<S>>)
+        ensures asks { self.old.held ≡ None →
+            Asks I.remaining controller.now self.old.page self.old.typed self.new.held self.new.page self.new.typed }
+        ensures holds { (call : Call) → self.old.held ≡ Some call → self.new ≡ self.old }
+    {
+        let (Some(start), None) = (self.start, self.held) else {
             return;
         };
         let lead = start.saturating_sub(Duration::from_millis(LEAD));
-        for _ in 0..u64::MAX {
-            self.held = self.next(controller);
-            let left = self.until(lead);
-            if self.held.is_some() || left.is_zero() {
-                return;
-            }
-            self.sleep(left);
-        }
+        self.held = self.ask_until(controller, Some(lead));
     }
 
     /// Shows how the run ended, for a second.
@@ -99,35 +102,84 @@ impl<'a, R: Clock, I: Read + Drop, E: Write> Hand<'a, R, I, E> {
         }
     }
 
-    // The next call that was made, if there is one. Who asks for the page is answered.
-    fn next<S: Source>(&mut self, controller: &Controller<Rest<S>>) -> Option<Call> {
-        if let Some(page) = &mut self.page {
-            let start = millis_of(self.start);
-            page.show(self.clock, controller, None, self.commands, start);
-            if let Some(call) = page.next_call() {
-                return Some(call_of(call));
+    // The next call, if one is made before this time since 1970, or else before the command that is to be sent may go out.
+    fn ask_until<S: Source>(
+        &mut self,
+        controller: &Controller<Rest<S>>,
+        time: Option<Duration>,
+    ) -> Option<Call>
+        ensures asks { Asks I.remaining controller.now self.old.page self.old.typed result self.new.page self.new.typed }
+        ensures held { self.new.held ≡ self.old.held }
+    {
+        'asks: for _ in 0..u64::MAX {
+            match self.next(controller) {
+                Some(call) => return Some(call),
+                None => {}
             }
+            let left = match time {
+                Some(time) => self.until(time),
+                None => self.left(controller),
+            };
+            if left.is_zero() {
+                return None;
+            }
+            self.sleep(left);
         }
-        match self.typed.as_mut()?.next()? {
-            Said::Call(call) => Some(call),
-            Said::Other => {
+        None
+    }
+
+    // The next call that was made, if there is one. Who asks for the page is answered.
+    fn next<S: Source>(&mut self, controller: &Controller<Rest<S>>) -> Option<Call>
+        ensures next { IsNext I.remaining controller.now self.old.page self.old.typed result self.new.page self.new.typed }
+        ensures held { self.new.held ≡ self.old.held }
+        ensures start { self.new.start ≡ self.old.start }
+    {
+        match self.page_call(controller) {
+            Some(call) => Some(call_of(call)),
+            None => self.typed_call(),
+        }
+    }
+
+    // The next call from the page, which is shown first.
+    fn page_call<S: Source>(&mut self, controller: &Controller<Rest<S>>) -> Option<panel::Call>
+        ensures page { PageCalls controller.now self.old.page result self.new.page }
+        ensures rest { self.new ≡ record self.old { page = self.new.page } }
+    {
+        let start = millis_of(self.start);
+        let Some(page) = &mut self.page else {
+            return None;
+        };
+        page.show(self.clock, controller, None, self.commands, start);
+        page.next_call()
+    }
+
+    // The next call that is typed, if what was typed is one; if it is none, that is told.
+    fn typed_call(&mut self) -> Option<Call>
+        ensures typed { TypedCalls I.remaining self.old.typed result self.new.typed }
+        ensures rest { self.new ≡ record self.old { typed = self.new.typed; told = self.new.told } }
+    {
+        let Some(typed) = &mut self.typed else {
+            return None;
+        };
+        match typed.next() {
+            Some(Said::Call(call)) => Some(call),
+            Some(Said::Other) => {
                 let _ = self.told.write_all(b"vdcp: no call: take, stop\n");
                 let _ = self.told.flush();
                 None
             }
+            None => None,
         }
     }
 
     // How long the command that is to be sent has to wait.
     fn left<S: Source>(&self, controller: &Controller<Rest<S>>) -> Duration {
-        match (controller.to_send(), self.start, self.last) {
-            (Some(Command::Play), Some(start), _) => self.until(start),
-            (Some(Command::Status(_)), _, Some(last)) => match Instant::now(self.clock) {
-                Ok(now) => self.poll.saturating_sub(now.duration_since(last)),
-                Err(_) => Duration::ZERO,
-            },
-            _ => Duration::ZERO,
-        }
+        let now = self.clock.since_1970().ok();
+        let since = match self.last {
+            Some(last) => last.elapsed(self.clock).ok(),
+            None => None,
+        };
+        wait_for(controller.to_send(), self.start, now, self.poll, since)
     }
 
     // How long it is until this time since 1970. (By a clock that can't be read it is that time.)
@@ -143,8 +195,24 @@ impl<'a, R: Clock, I: Read + Drop, E: Write> Hand<'a, R, I, E> {
         self.clock.sleep(left.min(Duration::from_millis(PIECE)));
     }
 
+    // A call is made now.
+    fn note_call<S: Source>(&mut self, controller: &Controller<Rest<S>>)
+        ensures { self.new ≡ record self.old { start = None; commands = self.new.commands } }
+    {
+        self.start = None;
+        self.commands = self
+            .commands
+            .saturating_add(u64::from(controller.is_ready()));
+    }
+
     // This command goes out now.
-    fn note_sent(&mut self, command: Command) {
+    fn note_sent(&mut self, command: Command)
+        ensures page { self.new.page ≡ self.old.page }
+        ensures typed { self.new.typed ≡ self.old.typed }
+        ensures held { self.new.held ≡ self.old.held }
+        ensures play { command ≡ Command.Play → self.new.start ≡ None }
+        ensures other { command ≢ Command.Play → self.new.start ≡ self.old.start }
+    {
         self.commands = self.commands.saturating_add(1);
         match command {
             Command::Play => self.start = None,
@@ -154,12 +222,31 @@ impl<'a, R: Clock, I: Read + Drop, E: Write> Hand<'a, R, I, E> {
     }
 }
 
+// How long a command waits, by the time since 1970 and that since the last STATUS. For a time that isn't known none waits.
+fn wait_for(
+    command: Option<Command>,
+    start: Option<Duration>,
+    now: Option<Duration>,
+    poll: Duration,
+    since: Option<Duration>,
+) -> Duration
+    ensures { as_nanos result ≡ wait_nanos command start now poll since }
+{
+    match (command, start, now, since) {
+        (Some(Command::Play), Some(start), Some(now), _) => start.saturating_sub(now),
+        (Some(Command::Status(_)), _, _, Some(since)) => poll.saturating_sub(since),
+        _ => Duration::ZERO,
+    }
+}
+
 // A time in milliseconds.
 fn millis_of(time: Option<Duration>) -> Option<u64> {
     u64::try_from(time?.as_millis()).ok()
 }
 
-fn call_of(call: panel::Call) -> Call {
+fn call_of(call: panel::Call) -> Call
+    ensures { result ≡ as_call call }
+{
     match call {
         panel::Call::Take => Call::Take,
         panel::Call::Stop => Call::Stop,
@@ -168,24 +255,22 @@ fn call_of(call: panel::Call) -> Call {
 
 impl<S: Source, R: Clock, I: Read + Drop, E: Write> Operator<Rest<S>> for Hand<'_, R, I, E> {
     // (a call ends the wait, also that for the start: the next event goes to air as soon as it can)
-    fn call(&mut self, controller: &Controller<Rest<S>>) -> Option<Call> {
-        let mut call = self.held.take();
-        for _ in 0..u64::MAX {
-            if call.is_none() {
-                call = self.next(controller);
-            }
-            if call.is_some() {
-                self.start = None;
-                self.commands = self
-                    .commands
-                    .saturating_add(u64::from(controller.is_ready()));
-                return call;
-            }
-            let left = self.left(controller);
-            if left.is_zero() {
-                break;
-            }
-            self.sleep(left);
+    fn call(&mut self, controller: &Controller<Rest<S>>) -> Option<Call>
+        // What is held is given; else what is asked for then.
+        ensures held { (call : Call) → self.old.held ≡ Some call →
+            (result ≡ Some call) × (self.new.page ≡ self.old.page) × (self.new.typed ≡ self.old.typed) }
+        ensures asks { self.old.held ≡ None →
+            Asks I.remaining controller.now self.old.page self.old.typed result self.new.page self.new.typed }
+        ensures once { self.new.held ≡ None }
+        ensures start { IsSome result → self.new.start ≡ None }
+    {
+        if let Some(call) = self.held.take() {
+            self.note_call(controller);
+            return Some(call);
+        }
+        if let Some(call) = self.ask_until(controller, None) {
+            self.note_call(controller);
+            return Some(call);
         }
         if let Some(command) = controller.to_send() {
             self.note_sent(command);

@@ -90,6 +90,13 @@ function slot(name, item, text, kind) {
   $(name).className = item === null ? '' : kind;
 }
 
+// For how long it has been on air, and how long it goes on, if its length is known.
+function played(row) {
+  if (!row || row.at === null) return '';
+  const on = Date.now() - row.at;
+  return 'for ' + time(on) + (row.length === null ? '' : ', ' + time(row.length - on + 999) + ' left');
+}
+
 const isCued = run => run.stage === 'waiting' || run.stage === 'starting';
 const isOver = run => run.stage === 'ended' || run.outcome !== 'open';
 
@@ -134,7 +141,7 @@ function show(run) {
   seen = run;
   const air = run.rows.find(r => r.number === run.event - 1 && state(run, r)[1] === 'air');
   const next = isOver(run) ? undefined : run.rows.find(r => r.number === run.event);
-  slot('air', air ? air.item : null, air && air.at !== null ? 'for ' + time(Date.now() - air.at) : '', 'air');
+  slot('air', air ? air.item : null, played(air), 'air');
   slot('next', next ? next.item : null, run.start !== null ? 'in ' + time(run.start - Date.now() + 999) : next ? (isCued(run) ? 'cued' : run.stage) : '', isCued(run) ? 'ready' : '');
   put('stage', run.stage + (run.take ? ', to take' : '') + (run.stop ? ', to stop' : ''));
   put('commands', String(run.commands));

@@ -3,14 +3,16 @@ ghost use Rattle.std.specs.Prelude.{◌≡◌, IfOk, map};
 ghost use Rattle.serde_json.specs.Data.{array, boolean, string};
 ghost use Rattle.serde_json.specs.View.{items_of, view};
 ghost use Rattle.vdcp_text.specs.Outcome.{outcome_text};
-ghost use Rattle.vdcp_operator.specs.Seen.{row_data, seen_data, stage_text, time_data};
+ghost use Rattle.vdcp_operator.specs.Seen.{length_by, millis_of, number_data, row_data, seen_data, stage_text};
 
 use serde_json::{Value, json};
 use std::alloc::{AllocError, Global};
 use vdcp_auto::{Outcome, Phase, Snapshot, Standing};
+use vdcp_list::Table;
 use vdcp_panel::View;
+use vdcp_port::Catalogue;
 use vdcp_text::{ItemText, OutcomeText};
-use vdcp_value::{Item, Rate};
+use vdcp_value::{Item, Rate, Timecode};
 
 /// An event of a list.
 #[derive(Clone, Copy, Debug)]
@@ -27,6 +29,8 @@ pub struct EventSeen {
 pub struct RunSeen<'a> {
     pub page: &'static str,
     pub rate: Rate,
+    /// The clips of a catalogue, if there is one.
+    pub clips: &'a Option<Table>,
     /// All that the controller knows.
     pub snapshot: Snapshot,
     /// How it ended, if it has, with the number that the event has in the list.
@@ -75,9 +79,9 @@ impl RunSeen<'_> {
             "event": self.event,
             "events": self.events,
             "outcome": outcome_of(alloc, self.outcome)?,
-            "rows": rows_of(alloc, self.rate, self.rows)?,
+            "rows": rows_of(alloc, self.rate, self.clips, self.rows)?,
             "stage": stage_text(self.snapshot.standing),
-            "start": time_or_null(self.start),
+            "start": number_or_null(self.start),
             "stop": flag(self.snapshot.stop),
             "take": flag(self.snapshot.take),
             "unanswered": self.snapshot.unanswered
@@ -119,34 +123,70 @@ fn stage_text(standing: Standing) -> &'static str
     }
 }
 
-fn time_or_null(time: Option<u64>) -> Value
-    ensures { view result ≡ time_data time }
+fn number_or_null(number: Option<u64>) -> Value
+    ensures { view result ≡ number_data number }
 {
-    match time {
-        Some(time) => Value::from(time),
+    match number {
+        Some(number) => Value::from(number),
         None => Value::Null,
     }
 }
 
-fn rows_of(alloc: Global, rate: Rate, events: &[EventSeen]) -> Result<Value, AllocError>
-    ensures { IfOk result (λ v. view v ≡ array (items_of (map (row_data rate) events.now))) }
+fn rows_of(
+    alloc: Global,
+    rate: Rate,
+    clips: &Option<Table>,
+    events: &[EventSeen],
+) -> Result<Value, AllocError>
+    ensures { IfOk result (λ v. view v ≡ array (items_of (map (row_data rate clips.now) events.now))) }
 {
     let mut rows = Vec::new(alloc);
     for k in 0..events.len() {
-        let row = row_of(alloc, rate, &events[k])?;
+        let row = row_of(alloc, rate, clips, &events[k])?;
         rows.push(row)?;
     }
     Ok(Value::Array(rows))
 }
 
-fn row_of(alloc: Global, rate: Rate, event: &EventSeen) -> Result<Value, AllocError>
-    ensures { IfOk result (λ v. view v ≡ row_data rate event.now) }
+fn row_of(
+    alloc: Global,
+    rate: Rate,
+    clips: &Option<Table>,
+    event: &EventSeen,
+) -> Result<Value, AllocError>
+    ensures { IfOk result (λ v. view v ≡ row_data rate clips.now event.now) }
 {
     let text = ItemText {
         rate,
         item: event.item,
     };
     let item = format!(in alloc; "{text}")?;
-    let at = time_or_null(event.at);
-    json!(in alloc; {"at": at, "item": item.as_str(), "number": event.number})
+    let at = number_or_null(event.at);
+    let length = number_or_null(length_by(clips, event.item));
+    json!(in alloc; {"at": at, "item": item.as_str(), "length": length, "number": event.number})
+}
+
+// How long an item lasts by a catalogue, in milliseconds, if there is one with its clip.
+fn length_by(clips: &Option<Table>, item: Item) -> Option<u64>
+    ensures { result ≡ length_by clips.now item }
+{
+    let clip = clips.as_ref()?.length(&item.id)?;
+    let length = match item.part {
+        None => clip,
+        Some(part) => Timecode::from_bcd(clip.rate(), part.duration).ok()?,
+    };
+    Some(millis_of(clip.rate(), length.frames()))
+}
+
+// How long frames last, in milliseconds.
+fn millis_of(rate: Rate, frames: u32) -> u64
+    ensures { result ≡ millis_of rate frames }
+{
+    let frames = u64::from(frames);
+    match rate {
+        Rate::F24 => frames * 1000 / 24,
+        Rate::F25 => frames * 1000 / 25,
+        Rate::F30 => frames * 1000 / 30,
+        Rate::D30 => frames * 1001 / 30,
+    }
 }

@@ -1,5 +1,6 @@
-//! How the page of a run is opened, follows it and takes calls.
-ghost use Rattle.std.specs.Prelude.{◌≡◌, ◌≤◌, IfErr, min};
+//! How the page of a run follows it and takes calls.
+ghost use Rattle.std.specs.Option.{option_to_list};
+ghost use Rattle.std.specs.Prelude.{◌≡◌, ◌≤◌, ◌++◌, IfErr};
 ghost use Rattle.vdcp_operator.specs.Seen.{ShowsRun, event_of};
 
 use crate::page::PAGE;
@@ -10,8 +11,8 @@ use std::random::RandomSource;
 use std::rt::Clock;
 use std::{io, mem};
 use vdcp_auto::{Controller, Outcome, Source};
-use vdcp_list::Rest;
-use vdcp_panel::{Call, Calls, Panel, loopback_address};
+use vdcp_list::{Rest, Table};
+use vdcp_panel::{Call, Calls, Panel, open_panel};
 use vdcp_value::Rate;
 
 /// How many events before the one that is next are shown, and how many from it on.
@@ -19,10 +20,7 @@ const BEFORE: usize = 20;
 
 const AFTER: usize = 40;
 
-/// Opens the page of a run at this address: an IPv4 address of this machine alone, a colon and a TCP port (0: the system
-/// chooses one). `err` gets the page's address, followed by `#` and the token that a call needs; what follows a `#` a
-/// browser keeps to itself. If the page can't be opened, `err` gets the reason, and the error is the status: 2 if the text
-/// is no such address, 3 if it can't be listened at or the writer failed.
+/// Opens the page of a run, as `open_panel` does, with calls.
 pub fn open_page<R: Net + AllocGlobal + RandomSource + Clock, E: io::Write>(
     rt: &R,
     text: &str,
@@ -31,27 +29,8 @@ pub fn open_page<R: Net + AllocGlobal + RandomSource + Clock, E: io::Write>(
 ) -> Result<RunPage, u8>
     ensures { IfErr result (λ status. (2 ≤ status) × (status ≤ 3)) }
 {
-    let Some(address) = loopback_address(text) else {
-        return Err(told(writeln!(err, "vdcp: panel address"), 2));
-    };
-    let Ok(panel) = Panel::bind(rt, address) else {
-        return Err(told(writeln!(err, "vdcp: panel: cannot bind"), 3));
-    };
-    match writeln!(err, "panel http://{}/#{}", panel.address(), panel.token()) {
-        Ok(()) => Ok(RunPage::new(rt.alloc(), panel, rate)),
-        Err(_) => Err(3),
-    }
-}
-
-// The status, or 3 where its line wasn't told.
-fn told(line: io::Result<()>, status: u8) -> u8
-    requires { (2 ≤ status) × (status ≤ 3) }
-    ensures { (2 ≤ result) × (result ≤ 3) }
-{
-    match line {
-        Ok(()) => status,
-        Err(_) => 3,
-    }
+    let panel = open_panel(rt, text, true, err)?;
+    Ok(RunPage::new(rt.alloc(), panel, rate, None))
 }
 
 /// A page that shows a run.
@@ -60,6 +39,7 @@ pub struct RunPage {
     alloc: Global,
     panel: Panel,
     rate: Rate,
+    clips: Option<Table>,
     // Those round the event that is next, and which that is.
     rows: Vec<EventSeen>,
     event: Option<u64>,
@@ -67,12 +47,13 @@ pub struct RunPage {
 }
 
 impl RunPage {
-    /// A page that nobody has seen yet.
-    pub fn new(alloc: Global, panel: Panel, rate: Rate) -> RunPage {
+    /// A page that nobody has seen yet. With the clips of a catalogue it shows how long what is on air goes on.
+    pub fn new(alloc: Global, panel: Panel, rate: Rate, clips: Option<Table>) -> RunPage {
         RunPage {
             alloc,
             panel,
             rate,
+            clips,
             rows: Vec::new(alloc),
             event: None,
             calls: Calls::new(),
@@ -88,13 +69,14 @@ impl RunPage {
         commands: u64,
         start: Option<u64>,
     )
-        ensures { ShowsRun controller.now self.old.panel.names self.old.calls.items self.new.calls.items }
+        ensures { ShowsRun controller.now self.old.clips self.old.panel.names self.old.calls.items self.new.calls.items }
     {
         let event = event_of(controller);
         self.follow(clock, controller.source().whole(), event);
         let seen = RunSeen {
             page: PAGE,
             rate: self.rate,
+            clips: &self.clips,
             snapshot: controller.snapshot(),
             outcome,
             event,
@@ -106,8 +88,11 @@ impl RunPage {
         self.panel.serve_some(clock, &seen, &mut self.calls);
     }
 
-    /// The call that was asked for first.
-    pub fn next_call(&mut self) -> Option<Call> {
+    /// The call that was asked for first, which is held no more.
+    pub fn next_call(&mut self) -> Option<Call>
+        ensures calls { self.old.calls.items ≡ option_to_list result ++ self.new.calls.items }
+        ensures rest { self.new ≡ record self.old { calls = self.new.calls } }
+    {
         if self.calls.is_empty() {
             return None;
         }
@@ -117,6 +102,7 @@ impl RunPage {
     // Shows the events round this one, which is next. Those before it that weren't seen to go to air before went now.
     fn follow<R: Clock, S: Source>(&mut self, clock: &R, list: &S, event: u64)
         ensures panel { self.new.panel ≡ self.old.panel }
+        ensures clips { self.new.clips ≡ self.old.clips }
         ensures calls { self.new.calls ≡ self.old.calls }
     {
         if self.event == Some(event) {

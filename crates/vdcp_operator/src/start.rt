@@ -1,7 +1,11 @@
 //! The time at which the first event goes to air, from its text.
+ghost use Rattle.std.specs.Duration.{as_nanos};
+ghost use Rattle.std.specs.Prelude.{◌≡◌, ◌<ℤ◌, IfOk, IfSome, pos};
+ghost use Rattle.vdcp_operator.specs.Starts.{IsMeant, IsTimeAt};
+
 use jiff::Timestamp;
-use jiff::civil::Time;
-use jiff::tz::{SystemTimeZone, TimeZoneDatabase};
+use jiff::civil::{Date, Time};
+use jiff::tz::{SystemTimeZone, TimeZone, TimeZoneDatabase};
 use std::rt::{Clock, Env, Files};
 use std::str::FromStr;
 use std::time::Duration;
@@ -24,21 +28,59 @@ pub enum StartFault {
 pub fn start_of<R: Env + Files + Clock + AllocGlobal + Clone + Drop>(
     rt: &R,
     text: &str,
-) -> Result<Duration, StartFault> {
+) -> Result<Duration, StartFault>
+    ensures { IfOk result (λ start. IsMeant text.now (pos (as_nanos start))) }
+{
     let Ok(now) = Timestamp::now(rt) else {
         return Err(StartFault::NoZone);
     };
-    let time = match (Timestamp::from_str(text), Time::from_str(text)) {
-        (Ok(time), _) => time,
-        (Err(_), Ok(time)) if text.len() == 8 => next_at(rt, now, time)?,
-        (Err(_), _) => return Err(StartFault::NoTime),
-    };
+    let time = meant_by(rt, now, text)?;
     if time.as_nanosecond() <= now.as_nanosecond() {
         return Err(StartFault::Past);
     }
+    match since_1970(time) {
+        Some(start) => Ok(start),
+        None => Err(StartFault::NoTime),
+    }
+}
+
+// The time that a text means, where it is this time now.
+fn meant_by<R: Env + Files + AllocGlobal + Clone + Drop>(
+    rt: &R,
+    now: Timestamp,
+    text: &str,
+) -> Result<Timestamp, StartFault>
+    ensures { IfOk result (λ then. IsMeant text.now then.nanosecond) }
+{
+    match Timestamp::from_str(text) {
+        Ok(time) => Ok(time),
+        Err(_) => time_of_day(rt, now, text),
+    }
+}
+
+fn since_1970(time: Timestamp) -> Option<Duration>
+    ensures { IfSome result (λ start. pos (as_nanos start) ≡ time.nanosecond) }
+{
     match u64::try_from(time.as_nanosecond()) {
-        Ok(nanoseconds) => Ok(Duration::from_nanos(nanoseconds)),
-        Err(_) => Err(StartFault::NoTime),
+        Ok(nanoseconds) => Some(Duration::from_nanos(nanoseconds)),
+        Err(_) => None,
+    }
+}
+
+// The next time after this one at which a clock shows this text.
+fn time_of_day<R: Env + Files + AllocGlobal + Clone + Drop>(
+    rt: &R,
+    now: Timestamp,
+    text: &str,
+) -> Result<Timestamp, StartFault>
+    ensures { IfOk result (λ then. IsMeant text.now then.nanosecond) }
+{
+    match Time::from_str(text) {
+        Ok(time) if text.len() == 8 => {
+            let then = next_at(rt, now, time)?;
+            Ok(then)
+        }
+        _ => Err(StartFault::NoTime),
     }
 }
 
@@ -47,7 +89,10 @@ fn next_at<R: Env + Files + AllocGlobal + Clone + Drop>(
     rt: &R,
     now: Timestamp,
     time: Time,
-) -> Result<Timestamp, StartFault> {
+) -> Result<Timestamp, StartFault>
+    ensures shown { IfOk result (λ then. IsTimeAt time then.nanosecond) }
+    ensures later { IfOk result (λ then. now.nanosecond <ℤ then.nanosecond) }
+{
     let (Ok(database), Ok(system)) = (TimeZoneDatabase::from_env(rt), SystemTimeZone::read(rt))
     else {
         return Err(StartFault::NoZone);
@@ -60,11 +105,21 @@ fn next_at<R: Env + Files + AllocGlobal + Clone + Drop>(
         return Err(StartFault::NoTime);
     };
     for day in [today, tomorrow] {
-        if let Ok(then) = day.to_datetime(time).to_zoned(zone) {
-            if then.timestamp().as_nanosecond() > now.as_nanosecond() {
-                return Ok(then.timestamp());
+        if let Some(then) = on_day(day, time, zone) {
+            if then.as_nanosecond() > now.as_nanosecond() {
+                return Ok(then);
             }
         }
     }
     Err(StartFault::NoTime)
+}
+
+// When a clock of a zone shows this time on that day, if there is such an instant.
+fn on_day(day: Date, time: Time, zone: TimeZone<'_>) -> Option<Timestamp>
+    ensures { IfSome result (λ then. IsTimeAt time then.nanosecond) }
+{
+    match day.to_datetime(time).to_zoned(zone) {
+        Ok(then) => Some(then.timestamp()),
+        Err(_) => None,
+    }
 }

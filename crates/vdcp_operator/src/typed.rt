@@ -1,12 +1,14 @@
 //! How the lines that are typed become calls.
-ghost use Rattle.std.specs.Prelude.{◌≡◌};
-ghost use Rattle.vdcp_operator.specs.Typed.{said_in};
+ghost use Rattle.std.specs.Io.KnownBytes.{Consumes, IsAtEnd, Keeps};
+ghost use Rattle.std.specs.Option.{option_to_list};
+ghost use Rattle.std.specs.Prelude.{◌≡◌, ◌<◌, ◌≤◌, ◌∷◌, ◌++◌, [], IfOk, None, OnErr, length};
+ghost use Rattle.vdcp_operator.specs.Typed.{SaysOn, left, said_by, said_from, said_in};
 
 use arrayvec::ArrayVec;
-use std::io::{ErrorKind, Read};
+use std::io::{self, Read};
 use vdcp_drive::Call;
 
-/// Most bytes of a line; a longer one says nothing.
+/// Most bytes of a line that are held; a longer one says nothing.
 const MOST_BYTES: usize = 64;
 
 /// What a line says.
@@ -17,13 +19,22 @@ pub enum Said {
     Other,
 }
 
+/// What comes of one byte.
+#[derive(Clone, Copy, Debug, PartialEq, Eq)]
+enum Got {
+    Line(Said),
+    /// No line is whole yet.
+    Part,
+    Nothing,
+}
+
 /// Calls that are typed, a line each: `take` and `stop`.
 #[derive(Drop)]
 pub struct Typed<I> {
-    // None once it has ended, or failed.
+    // None once it has ended.
     reader: Option<I>,
+    // How the line begins that isn't whole yet.
     line: ArrayVec<u8, MOST_BYTES>,
-    is_long: bool,
 }
 
 impl<I: Read + Drop> Typed<I> {
@@ -32,55 +43,91 @@ impl<I: Read + Drop> Typed<I> {
         Typed {
             reader: Some(reader),
             line: ArrayVec::new(),
-            is_long: false,
         }
     }
 
     /// What the next line says, if it has come whole; the end of the input ends the last one. It reads 64 bytes at most, and
     /// what doesn't wait.
-    pub fn next(&mut self) -> Option<Said> {
-        for _ in 0..MOST_BYTES {
-            let Some(reader) = &mut self.reader else {
-                return None;
-            };
-            let mut byte = [0];
-            match reader.read(&mut byte) {
-                Ok(0) => return self.end(),
-                Ok(_) if byte[0] == b'\n' => return Some(self.take_line()),
-                Ok(_) => self.hold(byte[0]),
-                Err(error) if error.kind() == ErrorKind::WouldBlock => return None,
-                Err(error) if error.kind() == ErrorKind::Interrupted => {}
-                Err(_) => return self.end(),
+    #[tactic(auto, using(crate::proofs::Typing::says_more, crate::proofs::Typing::says_nothing))]
+    pub fn next(&mut self) -> Option<Said>
+        ensures { SaysOn self.old.line.items (left I.remaining self.old.reader) (option_to_list result)
+            self.new.line.items (left I.remaining self.new.reader) }
+    {
+        'bytes: for _ in 0..MOST_BYTES {
+            match self.read_byte() {
+                Got::Line(said) => return Some(said),
+                Got::Part => {}
+                Got::Nothing => return None,
             }
         }
         None
     }
 
-    fn hold(&mut self, byte: u8) {
-        if self.line.try_push(byte).is_err() {
-            self.is_long = true;
+    // Reads a byte, if one has come.
+    #[tactic(auto, using(crate::proofs::Typing::read_part))]
+    fn read_byte(&mut self) -> Got
+        ensures { SaysOn self.old.line.items (left I.remaining self.old.reader) (said_by result)
+            self.new.line.items (left I.remaining self.new.reader) }
+    {
+        let Some(reader) = &mut self.reader else {
+            return Got::Nothing;
+        };
+        match next_byte(reader) {
+            Ok(None) => self.end(),
+            Ok(Some(b'\n')) => Got::Line(self.take_line()),
+            Ok(Some(byte)) => {
+                self.hold(byte);
+                Got::Part
+            }
+            // (nothing waits there)
+            Err(_) => Got::Nothing,
         }
     }
 
+    // Holds one more byte of a line, if there is room.
+    fn hold(&mut self, byte: u8)
+        ensures short { length self.old.line.items < 64 → self.new.line.items ≡ self.old.line.items ++ byte ∷ [] }
+        ensures full { 64 ≤ length self.old.line.items → self.new.line.items ≡ self.old.line.items }
+        ensures reader { self.new.reader ≡ self.old.reader }
+    {
+        let _ = self.line.try_push(byte);
+    }
+
     // The line that has come.
-    fn take_line(&mut self) -> Said {
-        let said = if self.is_long {
-            Said::Other
-        } else {
-            said_in(self.line.as_slice())
-        };
+    fn take_line(&mut self) -> Said
+        ensures said { result ≡ said_in self.old.line.items }
+        ensures line { self.new.line.items ≡ [] }
+        ensures reader { self.new.reader ≡ self.old.reader }
+    {
+        let said = said_in(self.line.as_slice());
         self.line.clear();
-        self.is_long = false;
         said
     }
 
     // Nothing more comes.
-    fn end(&mut self) -> Option<Said> {
+    fn end(&mut self) -> Got
+        ensures said { said_by result ≡ said_from self.old.line.items [] }
+        ensures line { self.new.line.items ≡ [] }
+        ensures reader { self.new.reader ≡ None }
+    {
         self.reader = None;
         if self.line.is_empty() {
-            return None;
+            return Got::Nothing;
         }
-        Some(self.take_line())
+        Got::Line(self.take_line())
+    }
+}
+
+// The next byte of a reader; None at its end.
+fn next_byte<I: Read>(reader: &mut I) -> io::Result<Option<u8>>
+    ensures byte { IfOk result (λ byte. Consumes (I.remaining reader.old) (I.remaining reader.new) (option_to_list byte)) }
+    ensures end { IfOk result (λ byte. byte ≡ None → IsAtEnd (I.remaining reader.new)) }
+    ensures none { OnErr result (Keeps (I.remaining reader.old) (I.remaining reader.new)) }
+{
+    let mut byte = [0];
+    match reader.read(&mut byte)? {
+        0 => Ok(None),
+        _ => Ok(Some(byte[0])),
     }
 }
 

@@ -3,3 +3,4 @@ pub mod Wishes
 pub mod Answered
 pub mod Turned
 pub mod Seen
+pub mod Opened

@@ -4,7 +4,7 @@
 //! waiting, bounded in each call, and returns; so nobody who asks can hold the loop up.
 //!
 //! ```text
-//! let mut panel = Panel::bind(&rt, address)?;
+//! let mut panel = Panel::bind(&rt, address)?; // or `open_panel`, which tells where the page is
 //! loop {
 //!     ..
 //!     panel.serve_some(&rt, &view, &mut calls);
@@ -12,12 +12,13 @@
 //! }
 //! ```
 //!
-//! Files, in reading order: `view`, `call`, `gate`, `wish`, `desk`, `peer`, `peers`, `panel`.
+//! Files, in reading order: `view`, `call`, `gate`, `wish`, `desk`, `peer`, `peers`, `panel`, `open`.
 #![tactic(auto)]
 
 mod call;
 mod desk;
 mod gate;
+mod open;
 mod panel;
 mod peer;
 mod peers;
@@ -27,7 +28,8 @@ mod wish;
 pub use call::{Call, Calls, MOST_CALLS};
 pub use desk::Desk;
 pub use gate::{Gate, Name};
-pub use panel::{Names, Panel, loopback_address};
+pub use open::open_panel;
+pub use panel::{Names, Panel};
 pub use peer::Peer;
 pub use peers::{MOST_PEERS, Peers};
 pub use view::View;

@@ -227,11 +227,3 @@ fn token<R: AllocGlobal + RandomSource>(rt: &R) -> io::Result<String> {
     }
     Ok(text)
 }
-
-/// The address that a text writes, an IPv4 address, a colon and a TCP port, if it is one that this machine alone reaches.
-pub fn loopback_address(text: &str) -> Option<SocketAddrV4> {
-    match SocketAddrV4::parse_ascii(text.as_bytes()) {
-        Ok(address) if address.ip().is_loopback() => Some(address),
-        Ok(_) | Err(_) => None,
-    }
-}

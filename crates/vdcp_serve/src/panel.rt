@@ -1,4 +1,4 @@
-//! How the page of a port is opened, and what it is told.
+//! What the page of a port is told.
 ghost use Rattle.std.specs.Prelude.{◌≡◌, ◌≤◌, IfErr, IfOk, map, string_bytes};
 ghost use Rattle.serde_json.specs.Data.{array};
 ghost use Rattle.serde_json.specs.View.{items_of, view};
@@ -14,7 +14,7 @@ use std::net::{Net, SocketAddr};
 use std::random::RandomSource;
 use std::rt::Clock;
 use std::time::SystemTime;
-use vdcp_panel::{Calls, Panel, View, loopback_address};
+use vdcp_panel::{Calls, Panel, View};
 use vdcp_port::{Access, Catalogue, Clip, Kept, Port};
 use vdcp_text::ItemText;
 use vdcp_value::{Item, Rate};
@@ -46,9 +46,7 @@ pub struct PortView<'a> {
     pub from: &'a Option<String>,
 }
 
-/// Opens the page of a port at this address: an IPv4 address of this machine alone, a colon and a TCP port (0: the system
-/// chooses one). `err` gets the page's address. If the page can't be opened, `err` gets the reason, and the error is the
-/// status: 2 if the text is no such address, 3 if it can't be listened at or the writer failed.
+/// Opens the page of a port, as `vdcp_panel` does, without calls.
 pub fn open_panel<R: Net + AllocGlobal + RandomSource + Clock, E: io::Write>(
     rt: &R,
     text: &str,
@@ -56,27 +54,7 @@ pub fn open_panel<R: Net + AllocGlobal + RandomSource + Clock, E: io::Write>(
 ) -> Result<Panel, u8>
     ensures { IfErr result (λ status. (2 ≤ status) × (status ≤ 3)) }
 {
-    let Some(address) = loopback_address(text) else {
-        return Err(told(writeln!(err, "vdcp: panel address"), 2));
-    };
-    let Ok(panel) = Panel::bind(rt, address) else {
-        return Err(told(writeln!(err, "vdcp: panel: cannot bind"), 3));
-    };
-    match writeln!(err, "panel http://{}/", panel.address()) {
-        Ok(()) => Ok(panel),
-        Err(_) => Err(3),
-    }
-}
-
-// The status, or 3 where its line wasn't told.
-fn told(line: io::Result<()>, status: u8) -> u8
-    requires { (2 ≤ status) × (status ≤ 3) }
-    ensures { (2 ≤ result) × (result ≤ 3) }
-{
-    match line {
-        Ok(()) => status,
-        Err(_) => 3,
-    }
+    vdcp_panel::open_panel(rt, text, false, err)
 }
 
 /// A panel that shows a port.

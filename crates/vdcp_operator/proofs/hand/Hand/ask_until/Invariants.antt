@@ -1,0 +1,11 @@
+-- They were asked, and made no call.
+use Rattle.std.proofs.Common.{◌≡◌}
+use Rattle.std.specs.Prelude.{None}
+use Rattle.vdcp_operator.proofs.hand.Hand.ask_until.Given as goal
+use Rattle.vdcp_operator.specs.Hands.{Asks}
+
+abbrev pub invariant-asks : goal.invariant-asks
+invariant-asks g l = record {
+  held : l.self.held ≡ l.initial.self.held;
+  asked : Asks g.I.Read.remaining l.controller l.initial.self.page l.initial.self.typed None l.self.page l.self.typed;
+}

@@ -1,0 +1,74 @@
+-- The calls that an operator's hand makes: each that was asked for once, and no other.
+use Rattle.std.specs.Duration.{as_nanos}
+use Rattle.std.specs.Option.{option_to_list}
+use Rattle.std.specs.Prelude.{ℕ, ◌≡◌, ◌-◌, Option, None, Some, List, ◌++◌}
+use Rattle.std.specs.declared.time.Duration.{Duration}
+use Rattle.vdcp_auto.specs.Plan.{View}
+use Rattle.vdcp_drive.specs.declared.operator.Call.{Call}
+use Rattle.vdcp_drive.specs.declared.operator.Call.TheVariants.{Take, Stop}
+use Rattle.vdcp_list.specs.Rests.{FromEvent}
+use Rattle.vdcp_operator.specs.Seen.{ShowsRun}
+use Rattle.vdcp_operator.specs.Typed.{SaysOn, left}
+use Rattle.vdcp_operator.specs.declared.shown.RunPage.{RunPage}
+use Rattle.vdcp_operator.specs.declared.typed.Said.{Said}
+use Rattle.vdcp_operator.specs.declared.typed.Said.TheVariants as said
+use Rattle.vdcp_operator.specs.declared.typed.Typed.{Typed}
+use Rattle.vdcp_panel.specs.declared.call.Call.{Call as Asked}
+use Rattle.vdcp_panel.specs.declared.call.Call.TheVariants as asked
+use Rattle.vdcp_words.specs.declared.command.Command.{Command}
+use Rattle.vdcp_words.specs.declared.command.Command.TheVariants as command
+
+-- a call from a page, as a driver has it
+abbrev pub as_call : Asked → Call
+as_call asked.Take = Take
+as_call asked.Stop = Stop
+
+-- a page, if there is one, was shown, and of the calls that it held then the first is this, if it held one; the others it
+-- holds still
+abbrev pub PageCalls : {S : Type 0} → View (FromEvent S) → Option RunPage → Option Asked → Option RunPage → Type 0
+PageCalls c None call None = call ≡ None
+PageCalls c None call (Some page') = ⊥
+PageCalls c (Some page) call None = ⊥
+PageCalls c (Some page) call (Some page') = (shown : List Asked)
+    × ShowsRun c page.clips page.panel.names page.calls.items shown
+    × (shown ≡ option_to_list call ++ page'.calls.items)
+
+abbrev pub called_by : Option Said → Option Call
+called_by None = None
+called_by (Some (said.Call call)) = Some call
+called_by (Some said.Other) = None
+
+-- of what is typed, if it is read, the next line is this call, if it has come and is one
+abbrev pub TypedCalls : {I : Type 0} → (I → Option (List ℕ)) → Option (Typed I) → Option Call → Option (Typed I) → Type 0
+TypedCalls remaining None call None = call ≡ None
+TypedCalls remaining None call (Some typed') = ⊥
+TypedCalls remaining (Some typed) call None = ⊥
+TypedCalls remaining (Some typed) call (Some typed') = (says : Option Said) × (call ≡ called_by says)
+    × SaysOn typed.line.items (left remaining typed.reader) (option_to_list says)
+    typed'.line.items (left remaining typed'.reader)
+
+-- the page's call goes first; what is typed waits then
+abbrev pub FollowsPage : {I : Type 0} → (I → Option (List ℕ)) → Option Asked → Option (Typed I) → Option Call
+    → Option (Typed I) → Type 0
+FollowsPage remaining (Some first) typed call typed' = (call ≡ Some (as_call first)) × (typed' ≡ typed)
+FollowsPage remaining None typed call typed' = TypedCalls remaining typed call typed'
+
+abbrev pub IsNext : {S I : Type 0} → (I → Option (List ℕ)) → View (FromEvent S) → Option RunPage → Option (Typed I)
+    → Option Call → Option RunPage → Option (Typed I) → Type 0
+IsNext remaining c page typed call page' typed' = (first : Option Asked) × PageCalls c page first page'
+    × FollowsPage remaining first typed call typed'
+
+-- they were asked again and again, up to this call or none
+pub data Asks {S I : Type 0} (remaining : I → Option (List ℕ)) (c : View (FromEvent S)) (page : Option RunPage)
+    (typed : Option (Typed I)) : Option Call → Option RunPage → Option (Typed I) → Type 0 where
+  unasked : Asks remaining c page typed None page typed
+  once_more : {page' page'' : Option RunPage} {typed' typed'' : Option (Typed I)} {call : Option Call}
+      → Asks remaining c page typed None page' typed' → IsNext remaining c page' typed' call page'' typed''
+      → Asks remaining c page typed call page'' typed''
+
+-- how long a command waits, in nanoseconds, by the time since 1970 and that since the last STATUS: PLAY up to the start, if
+-- one is said, and STATUS as long as the port isn't to be asked
+abbrev pub wait_nanos : Option Command → (start now : Option Duration) → (poll : Duration) → (since : Option Duration) → ℕ
+wait_nanos (Some command.Play) (Some start) (Some now) poll since = as_nanos start - as_nanos now
+wait_nanos (Some (command.Status groups)) start now poll (Some since) = as_nanos poll - as_nanos since
+wait_nanos _ _ _ _ _ = 0

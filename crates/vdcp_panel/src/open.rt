@@ -1,0 +1,66 @@
+//! How a panel is opened at the address that a text writes.
+ghost use Rattle.std.specs.Io.KnownBytes.{Appends};
+ghost use Rattle.std.specs.Prelude.{◌≤◌, IfErr, IfOk, OnOk};
+ghost use Rattle.vdcp_panel.specs.Opened.{page_line};
+
+use crate::panel::Panel;
+use std::io;
+use std::net::{Net, SocketAddrV4};
+use std::random::RandomSource;
+use std::rt::Clock;
+
+/// Opens a panel at this address: an IPv4 address of this machine alone, a colon and a TCP port (0: the system chooses
+/// one). `err` gets the page's address, where calls are taken with `#` and the token that they need; what follows a `#` a
+/// browser keeps to itself. If the panel can't be opened, `err` gets the reason, and the error is the status: 2 if the text
+/// is no such address, 3 if it can't be listened at or the writer failed.
+pub fn open_panel<R: Net + AllocGlobal + RandomSource + Clock, E: io::Write>(
+    rt: &R,
+    text: &str,
+    takes_calls: bool,
+    err: &mut E,
+) -> Result<Panel, u8>
+    ensures told { IfOk result (λ panel. Appends (E.contents err.old) (E.contents err.new)
+        (page_line takes_calls panel.names)) }
+    ensures statuses { IfErr result (λ status. (2 ≤ status) × (status ≤ 3)) }
+{
+    let Some(address) = loopback_address(text) else {
+        return Err(told(writeln!(err, "vdcp: panel address"), 2));
+    };
+    let Ok(panel) = Panel::bind(rt, address) else {
+        return Err(told(writeln!(err, "vdcp: panel: cannot bind"), 3));
+    };
+    match tell_page(&panel, takes_calls, err) {
+        Ok(()) => Ok(panel),
+        Err(_) => Err(3),
+    }
+}
+
+// Tells where the page of a panel is, and where it takes calls what they need.
+fn tell_page<E: io::Write>(panel: &Panel, takes_calls: bool, err: &mut E) -> io::Result<()>
+    ensures { OnOk result (Appends (E.contents err.old) (E.contents err.new) (page_line takes_calls panel.now.names)) }
+{
+    let address = panel.address();
+    if takes_calls {
+        return writeln!(err, "panel http://{address}/#{}", panel.token());
+    }
+    writeln!(err, "panel http://{address}/")
+}
+
+// The status, or 3 where its line wasn't told.
+fn told(line: io::Result<()>, status: u8) -> u8
+    requires { (2 ≤ status) × (status ≤ 3) }
+    ensures { (2 ≤ result) × (result ≤ 3) }
+{
+    match line {
+        Ok(()) => status,
+        Err(_) => 3,
+    }
+}
+
+// The address that a text writes, if it is one that this machine alone reaches.
+fn loopback_address(text: &str) -> Option<SocketAddrV4> {
+    match SocketAddrV4::parse_ascii(text.as_bytes()) {
+        Ok(address) if address.ip().is_loopback() => Some(address),
+        Ok(_) | Err(_) => None,
+    }
+}
