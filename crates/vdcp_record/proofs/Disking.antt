@@ -1,5 +1,5 @@
 -- What writes in a row do to a disk's bytes.
-use Rattle.std.proofs.Common.{ℕ, ◌≡◌, true, true≢false, ◌+◌, ◌-◌, List, [], ◌++◌, length, take, drop, inl, inr, sym, ap, subst, ◌∙◌, append_assoc, append-nil}
+use Rattle.std.proofs.Common.{ℕ, ◌≡◌, true, true≢false, ◌+◌, ◌-◌, List, [], ◌++◌, length, take, drop, inl, inr, sym, ap, subst, ◌∙◌, append_assoc}
 use Rattle.std.proofs.KnownBytes.{Appends-kept, Appends-nil, Appends-trans}
 use Rattle.std.proofs.Math.Seq.{take-add, take-length, take-append_seam}
 use Rattle.std.proofs.lemmas.List.{append_cancel_left, take_rest, take-append-drop}

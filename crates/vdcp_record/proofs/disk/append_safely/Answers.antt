@@ -1,4 +1,3 @@
-use Rattle.std.proofs.Common.{sym}
 use Rattle.std.proofs.lemmas.Result.{on_err_weaker}
 use Rattle.vdcp_record.proofs.Disking.{begins_whole, on_err_of, spilled, spills_more}
 use Rattle.vdcp_record.proofs.disk.append_safely.Goals as goal
