@@ -25,7 +25,7 @@ _vdcp() {
         fi
         case $rest$word in
         --) rest=1 ;;
-        --unit | --rate | --silence | --port | --limit | --cue-frames | --turns | --idle | --panel | --capture | --listens | --poll | --asrun | --journal | --resume | --from | --at | --only | --seed | --lose | --copy | --cut | --damage | --forge | --within) wish=$word ;;
+        --unit | --rate | --silence | --port | --limit | --cue-frames | --turns | --idle | --panel | --capture | --listens | --poll | --asrun | --journal | --resume | --from | --at | --catalogue | --only | --seed | --lose | --copy | --cut | --damage | --forge | --within) wish=$word ;;
         -*) ;;
         *) if [[ -z $subcommand ]]; then subcommand=$word; else ((++place)); fi ;;
         esac
@@ -47,14 +47,14 @@ _vdcp() {
     ask:-) offers="--unit --rate --silence -h --help" ;;
     sim:-) offers="--unit --port --limit --rate --trace --cue-frames --confirm --late -h --help" ;;
     serve:-) offers="--unit --port --rate --cue-frames --silence --turns --real-time --stay --idle --panel --log --capture -h --help" ;;
-    run:-) offers="--unit --port --limit --rate --confirm --ask --silence --listens --prompt --poll --asrun --journal --resume --open-again --from --operator --at --panel --log --capture -h --help" ;;
+    run:-) offers="--unit --port --limit --rate --confirm --ask --silence --listens --prompt --poll --asrun --journal --resume --open-again --from --operator --at --panel --catalogue --log --capture -h --help" ;;
     asrun:-) offers="--rate --times -h --help" ;;
     judge:-) offers="--unit --rate --confirm -h --help" ;;
     probe:-) offers="--yes-it-may-stop --only --unit --port --rate --silence -h --help" ;;
     lossy:-) offers="--seed --lose --copy --cut --damage --forge --silence --within --turns --capture -h --help" ;;
     vectors:-) offers="-h --help" ;;
     make:1) offers="open close select cue cue-data play stop status active exists size" ;;
-    check:1 | check:2 | ask:2 | sim:1 | sim:2 | sim:3 | serve:2 | serve:--capture | run:2 | run:--asrun | run:--journal | run:--resume | run:--capture | asrun:2 | judge:1 | judge:2 | probe:2 | lossy:--capture | vectors:1) offers="files" ;;
+    check:1 | check:2 | ask:2 | sim:1 | sim:2 | sim:3 | serve:2 | serve:--capture | run:2 | run:--asrun | run:--journal | run:--resume | run:--catalogue | run:--capture | asrun:2 | judge:1 | judge:2 | probe:2 | lossy:--capture | vectors:1) offers="files" ;;
     check:--rate | ask:--rate | sim:--rate | serve:--rate | run:--rate | asrun:--rate | judge:--rate | probe:--rate) offers="24 25 30 30df" ;;
     probe:--only) offers="safe unsafe" ;;
     esac

@@ -1,6 +1,7 @@
 #!/usr/bin/env python3
 """operator_page.py URL: opens the page of a run in headless Chromium, takes by a click and by a key, stops by a key that is
 asked twice, and fails if the page doesn't show each of these. With a last word --picture=FILE it draws it."""
+import re
 import sys
 import time
 
@@ -30,6 +31,12 @@ def awaits(driver, what, holds, seconds=15):
         time.sleep(0.05)
 
 
+def lasts(said, seconds):
+    """What the page says of the time on air, and of the time that is left, is as long as this in all."""
+    times = re.fullmatch(r"for 00:00:(\d\d), 00:00:(\d\d) left", said)
+    return times is not None and int(times[1]) + int(times[2]) in (seconds, seconds + 1)
+
+
 def shows(driver, air, following):
     awaits(driver, f"{air} and {following}", lambda d: text(d, "air-item") == air and text(d, "next-item") == following)
 
@@ -45,6 +52,7 @@ def main():
         driver.get(URL)
         shows(driver, "CLIP0001", "CLIP0002")
         awaits(driver, "that the next one is cued", lambda d: text(d, "next-time") == "cued")
+        awaits(driver, "for how long still it plays", lambda d: lasts(text(d, "air-time"), 30))
         for picture in PICTURES:
             driver.save_screenshot(picture)
         driver.find_element(By.ID, "take").click()

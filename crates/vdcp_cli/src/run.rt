@@ -4,14 +4,17 @@ ghost use Rattle.std.specs.Prelude.{◌≤◌};
 use clap::ArgMatches;
 use std::io::{IsTerminal, Stderr, Stdin, Write};
 use std::time::Duration;
+use vdcp_list::Table;
 use vdcp_log::{Hearing, Screen, Telling};
-use vdcp_operator::{Hand, Keys, open_page, start_of};
+use vdcp_operator::{Hand, Keys, RunPage, start_of};
 use vdcp_options::{
     LISTENS, Output, POLL, RUN_SILENCE, System, capture_of, from_of, limit_of, mode_of, number_of,
     open_file, port_of, rate_of, unit_of,
 };
+use vdcp_panel::open_panel;
 use vdcp_run::{RunJournal, RunSettings, Showing, Shown, do_run};
 use vdcp_text::Failure;
+use vdcp_value::Rate;
 
 /// Runs it, and gives the exit status; a failure isn't told yet.
 pub fn run_run<'a, W: Write, E: Write>(
@@ -23,11 +26,16 @@ pub fn run_run<'a, W: Write, E: Write>(
     let list = open_file(system, matches, "LIST")?;
     let address = matches.get_str("ADDR").unwrap_or("");
     let settings = run_settings_of(matches);
-    let mut hand = match hand_of(system, matches, settings, err) {
+    let clips = clips_of(system, matches, settings.rate)?;
+    let mut hand = match hand_of(system, matches, settings, clips, err) {
         Ok(hand) => hand,
         Err(status) => return Ok(status),
     };
-    let capture = capture_of(system, matches, &["LIST", "asrun", "journal", "resume"])?;
+    let capture = capture_of(
+        system,
+        matches,
+        &["LIST", "asrun", "journal", "resume", "catalogue"],
+    )?;
     let stderr = system.rt.stderr();
     let is_terminal = stderr.is_terminal();
     let shown = if matches.get_flag("log") {
@@ -56,11 +64,27 @@ pub fn run_run<'a, W: Write, E: Write>(
     Ok(status)
 }
 
+// The clips of the catalogue, if one is named.
+fn clips_of<'a>(
+    system: &System<'_>,
+    matches: &'a ArgMatches<'_>,
+    rate: Rate,
+) -> Result<Option<Table>, Failure<'a>> {
+    match matches.get_str("catalogue") {
+        Some(_) => {
+            let catalogue = open_file(system, matches, "catalogue")?;
+            Ok(Some(catalogue.read_catalogue(system.alloc(), rate)?))
+        }
+        None => Ok(None),
+    }
+}
+
 // The operator's hand in a run; or the status, where its page or its start is refused.
 fn hand_of<'a, E: Write>(
     system: &'a System<'_>,
     matches: &ArgMatches<'_>,
     settings: RunSettings<'_>,
+    clips: Option<Table>,
     err: &mut E,
 ) -> Result<Hand<'a, System<'a>, Keys<Stdin>, Screen<Stderr>>, u8> {
     let start = match matches.get_str("at") {
@@ -68,7 +92,10 @@ fn hand_of<'a, E: Write>(
         None => None,
     };
     let page = match matches.get_str("panel") {
-        Some(text) => Some(open_page(system.rt, text, settings.rate, err)?),
+        Some(text) => {
+            let panel = open_panel(system.rt, text, true, err)?;
+            Some(RunPage::new(system.alloc(), panel, settings.rate, clips))
+        }
         None => None,
     };
     let keys = if matches.get_flag("operator") {

@@ -17,6 +17,6 @@ mod typed;
 pub use hand::Hand;
 pub use keys::Keys;
 pub use seen::{EventSeen, RunSeen};
-pub use shown::{RunPage, open_page};
+pub use shown::RunPage;
 pub use start::{StartFault, start_of};
 pub use typed::{Said, Typed};

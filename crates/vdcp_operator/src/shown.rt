@@ -1,37 +1,22 @@
 //! How the page of a run follows it and takes calls.
 ghost use Rattle.std.specs.Option.{option_to_list};
-ghost use Rattle.std.specs.Prelude.{◌≡◌, ◌≤◌, ◌++◌, IfErr};
+ghost use Rattle.std.specs.Prelude.{◌≡◌, ◌++◌};
 ghost use Rattle.vdcp_operator.specs.Seen.{ShowsRun, event_of};
 
 use crate::page::PAGE;
 use crate::seen::{EventSeen, RunSeen};
 use std::alloc::Global;
-use std::net::Net;
-use std::random::RandomSource;
+use std::mem;
 use std::rt::Clock;
-use std::{io, mem};
 use vdcp_auto::{Controller, Outcome, Source};
 use vdcp_list::{Rest, Table};
-use vdcp_panel::{Call, Calls, Panel, open_panel};
+use vdcp_panel::{Call, Calls, Panel};
 use vdcp_value::Rate;
 
 /// How many events before the one that is next are shown, and how many from it on.
 const BEFORE: usize = 20;
 
 const AFTER: usize = 40;
-
-/// Opens the page of a run, as `open_panel` does, with calls.
-pub fn open_page<R: Net + AllocGlobal + RandomSource + Clock, E: io::Write>(
-    rt: &R,
-    text: &str,
-    rate: Rate,
-    err: &mut E,
-) -> Result<RunPage, u8>
-    ensures { IfErr result (λ status. (2 ≤ status) × (status ≤ 3)) }
-{
-    let panel = open_panel(rt, text, true, err)?;
-    Ok(RunPage::new(rt.alloc(), panel, rate, None))
-}
 
 /// A page that shows a run.
 #[derive(Drop)]

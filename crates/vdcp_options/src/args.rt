@@ -58,6 +58,8 @@ enum Argument {
     Flag(&'static str, &'static str),
     // An option with a value: its name, and what the value is called.
     Value(&'static str, &'static str, &'static str),
+    // One that needs another option: its name, what the value is called, and the other one's name.
+    ValueWith(&'static str, &'static str, &'static str, &'static str),
     Number(&'static NumberOption),
     Rate,
     RunLimit,
@@ -67,7 +69,6 @@ enum Argument {
     Only,
     Resume,
     OpenAgain,
-    Panel,
 }
 
 const LIST: Argument = Argument::Required("LIST", "The playlist's file");
@@ -169,7 +170,12 @@ static SERVE: Subcommand = Subcommand {
             "Keeps the port when a connection ends, and takes the next one",
         ),
         Argument::Idle,
-        Argument::Panel,
+        Argument::ValueWith(
+            "panel",
+            "ADDR",
+            "stay",
+            "With --stay, shows the port in a browser on this machine: where the page is, as 127.0.0.1:7480",
+        ),
         Argument::Flag(
             "log",
             "Tells standard error of each message, and of each item that goes to air",
@@ -227,6 +233,12 @@ static RUN: Subcommand = Subcommand {
             "panel",
             "ADDR",
             "Shows the run in a browser on this machine, and takes calls there: where the page is, as 127.0.0.1:7480",
+        ),
+        Argument::ValueWith(
+            "catalogue",
+            "FILE",
+            "panel",
+            "With --panel, shows there for how long still what is on air plays, by this catalogue",
         ),
         Argument::Flag("log", "Tells standard error of each message"),
         CAPTURE,
@@ -400,6 +412,9 @@ fn argument_of<'a>(alloc: Global, argument: &Argument) -> Result<Arg<'a>, AllocE
         Argument::Words(name, help) => Ok(Arg::new(alloc, name).num_args(0..).help(help)),
         Argument::Flag(name, help) => Ok(flag(alloc, name, help)),
         Argument::Value(name, value, help) => Ok(option(alloc, name, value, help)),
+        Argument::ValueWith(name, value, needed, help) => {
+            option(alloc, name, value, help).requires_arg(needed)
+        }
         Argument::Number(number) => Ok(number_option(alloc, number)),
         Argument::Rate => Ok(rate_option(alloc)),
         Argument::RunLimit => Ok(run_limit_option(alloc)),
@@ -409,7 +424,6 @@ fn argument_of<'a>(alloc: Global, argument: &Argument) -> Result<Arg<'a>, AllocE
         Argument::Only => Ok(only(alloc)),
         Argument::Resume => resume(alloc),
         Argument::OpenAgain => open_again(alloc),
-        Argument::Panel => panel(alloc),
     }
 }
 
@@ -455,14 +469,4 @@ fn open_again<'a>(alloc: Global) -> Result<Arg<'a>, AllocError> {
     )
     .requires_arg("resume")?
     .conflicts_with("journal")
-}
-
-fn panel<'a>(alloc: Global) -> Result<Arg<'a>, AllocError> {
-    option(
-        alloc,
-        "panel",
-        "ADDR",
-        "With --stay, shows the port in a browser on this machine: where the page is, as 127.0.0.1:7480",
-    )
-    .requires_arg("stay")
 }

@@ -14,9 +14,10 @@ use vdcp_files::{do_check, do_vectors};
 use vdcp_log::{Lines, Screen, Telling};
 use vdcp_lossy::do_lossy;
 use vdcp_offline::{do_judge, do_sim};
+use vdcp_panel::open_panel;
 use vdcp_probe::{do_ask, do_probe, rows};
 use vdcp_record::do_asrun;
-use vdcp_serve::{do_serve, open_panel};
+use vdcp_serve::do_serve;
 use vdcp_text::{Failure, do_make, do_show};
 
 /// Runs the subcommand of this name, which isn't `run`, and gives its exit status. What is printed goes to `out` and to
@@ -107,7 +108,7 @@ fn run_serve<'a, W: Write, E: Write>(
     let address = matches.get_str("ADDR").unwrap_or("");
     let settings = serve_settings_of(matches);
     let panel = match matches.get_str("panel") {
-        Some(text) => match open_panel(system.rt, text, err) {
+        Some(text) => match open_panel(system.rt, text, false, err) {
             Ok(panel) => Some(panel),
             Err(status) => return Ok(status),
         },

@@ -17,5 +17,4 @@ mod stay;
 mod watcher;
 
 pub use paced::Pace;
-pub use panel::open_panel;
 pub use serve::{ServeSettings, do_serve};

@@ -1,5 +1,5 @@
 //! What the page of a port is told.
-ghost use Rattle.std.specs.Prelude.{◌≡◌, ◌≤◌, IfErr, IfOk, map, string_bytes};
+ghost use Rattle.std.specs.Prelude.{◌≡◌, IfOk, map, string_bytes};
 ghost use Rattle.serde_json.specs.Data.{array};
 ghost use Rattle.serde_json.specs.View.{items_of, view};
 ghost use Rattle.vdcp_text.specs.Items.{item_text};
@@ -10,8 +10,7 @@ use crate::page::PAGE;
 use serde_json::{Value, json};
 use std::alloc::{AllocError, Global};
 use std::io;
-use std::net::{Net, SocketAddr};
-use std::random::RandomSource;
+use std::net::SocketAddr;
 use std::rt::Clock;
 use std::time::SystemTime;
 use vdcp_panel::{Calls, Panel, View};
@@ -44,17 +43,6 @@ pub struct PortView<'a> {
     pub aired: &'a [Airing],
     /// Who is connected.
     pub from: &'a Option<String>,
-}
-
-/// Opens the page of a port, as `vdcp_panel` does, without calls.
-pub fn open_panel<R: Net + AllocGlobal + RandomSource + Clock, E: io::Write>(
-    rt: &R,
-    text: &str,
-    err: &mut E,
-) -> Result<Panel, u8>
-    ensures { IfErr result (λ status. (2 ≤ status) × (status ≤ 3)) }
-{
-    vdcp_panel::open_panel(rt, text, false, err)
 }
 
 /// A panel that shows a port.
