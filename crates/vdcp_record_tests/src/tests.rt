@@ -179,7 +179,7 @@ fn shows_all(rt: &impl Abort, alloc: Global, journal: &[u8]) {
     let (status, out, err) = shown(alloc, journal, true);
     let begins = out
         .as_slice()
-        .starts_with(b"number,id,played,known\n0,CLIP0001,20");
+        .starts_with(b"number,id,played,known,ended\n0,CLIP0001,20");
     assert_eq!(rt; (status, begins, err.len()), (0, true, 0));
 }
 
