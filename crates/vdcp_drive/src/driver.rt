@@ -213,7 +213,7 @@ impl<S: Source, E: Ear, W: Wire> Driver<S, E, W> {
     }
 }
 
-// Runs an automation for so many listens.
+// Runs an automation until it has ended or has listened this many times.
 fn run_rounds<S: Source, E: Ear, W: Wire, V: Watch<S>, K: Keep, P: Pace<S>>(
     controller: &mut Controller<S>,
     unit: u8,

@@ -11,7 +11,7 @@ use vdcp_text::{Failure, ScriptLineFault};
 /// How many bytes a line has at most, without its line feed.
 pub(crate) const LONGEST_LINE: usize = 65_536;
 
-/// What a reader gives, up to the first line that is too long: reads behind it fail.
+/// A reader that ends with an error at the first line that is too long.
 #[derive(Drop)]
 pub struct Lined<R> {
     reader: R,
