@@ -1,3 +1,4 @@
+-- The lemmas, file by file.
 mod Examples
 mod HeardRows
 mod PhaseTable
@@ -16,3 +17,8 @@ pub mod Courses
 pub mod Receipts
 pub mod Law
 mod Forbidden
+mod Commands
+mod Logs
+mod Cues
+mod Judged
+mod KeptRules

@@ -1,3 +1,4 @@
+-- The definitions, file by file.
 pub mod Replies
 pub mod Commands
 pub mod Heard
@@ -13,3 +14,7 @@ pub mod Turn
 pub mod Course
 pub mod Law
 pub mod Snapshots
+pub mod Judging
+pub mod Captures
+pub mod Rulings
+pub mod Notes

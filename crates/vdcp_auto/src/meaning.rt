@@ -1,5 +1,5 @@
 //! What replies, commands and exchanges mean to a controller.
-ghost use Rattle.std.specs.Prelude.{◌≡◌};
+ghost use Rattle.std.specs.Prelude.{◌≡◌, ◌&&◌};
 ghost use Rattle.vdcp_auto.specs.Replies as replies;
 ghost use Rattle.vdcp_auto.specs.Commands as commands;
 ghost use Rattle.vdcp_auto.specs.Log as log;
@@ -176,5 +176,84 @@ pub fn is_end(mode: Mode, command: &Command, came: &Option<Heard>) -> bool
         (Mode::Confirming, None) => true,
         (Mode::Confirming, Some(Heard::Other)) => is_sense(command),
         (Mode::Confirming, Some(Heard::Reply(reply))) => is_sense(command) && !is_receipt(reply),
+    }
+}
+
+pub fn is_cue(exchange: &Exchange) -> bool
+    ensures { result ≡ log.is_cue exchange.now }
+{
+    matches!(
+        exchange.command,
+        Command::PlayCue(_) | Command::CueData(_, _, _)
+    )
+}
+
+pub fn is_play(exchange: &Exchange) -> bool
+    ensures { result ≡ log.is_play exchange.now }
+{
+    matches!(exchange.command, Command::Play)
+}
+
+pub fn is_stop(exchange: &Exchange) -> bool
+    ensures { result ≡ log.is_stop exchange.now }
+{
+    matches!(exchange.command, Command::Stop)
+}
+
+pub fn is_close(exchange: &Exchange) -> bool
+    ensures { result ≡ log.is_close exchange.now }
+{
+    matches!(exchange.command, Command::Close(_))
+}
+
+/// Heard ACK.
+pub fn is_acked(exchange: &Exchange) -> bool
+    ensures { result ≡ log.is_acked exchange.now }
+{
+    matches!(exchange.heard, Some(Heard::Reply(Reply::Ack)))
+}
+
+/// A PLAY that has an answer: ACK or NAK 01.
+pub fn is_answered_play(exchange: &Exchange) -> bool
+    ensures { result ≡ (log.is_play exchange.now && log.is_answered exchange.now) }
+{
+    is_play(exchange)
+        && matches!(
+            exchange.heard,
+            Some(Heard::Reply(Reply::Ack | Reply::Nak(0x01)))
+        )
+}
+
+/// An OPEN that heard granted.
+pub fn is_grant(exchange: &Exchange) -> bool
+    ensures { result ≡ log.is_grant exchange.now }
+{
+    matches!(
+        (exchange.command, exchange.heard),
+        (Command::Open(_, _), Some(Heard::Reply(Reply::Opened(true))))
+    )
+}
+
+/// A status that heard that the cue is done.
+pub fn is_done_status(exchange: &Exchange) -> bool
+    ensures { result ≡ log.is_done_status exchange.now }
+{
+    match (exchange.command, exchange.heard) {
+        (Command::Status(_), Some(Heard::Reply(Reply::State(_, Some(byte))))) => {
+            byte & CUE_DONE != 0
+        }
+        _ => false,
+    }
+}
+
+/// A status that heard that nothing is cued, nor being cued.
+pub fn is_empty_status(exchange: &Exchange) -> bool
+    ensures { result ≡ log.is_empty_status exchange.now }
+{
+    match (exchange.command, exchange.heard) {
+        (Command::Status(_), Some(Heard::Reply(Reply::State(_, Some(byte))))) => {
+            byte & CUEING == 0 && byte & CUE_DONE == 0
+        }
+        _ => false,
     }
 }

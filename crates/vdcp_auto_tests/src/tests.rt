@@ -1,4 +1,4 @@
-//! The worked courses of a controller, over a small source.
+//! The worked courses of a controller, over a small source; and the rule book on small logs.
 mod clips;
 mod course;
 mod courses;
@@ -6,5 +6,6 @@ mod desk;
 mod ends;
 mod equality;
 mod heard;
+mod judge;
 mod memory;
 mod wishes;

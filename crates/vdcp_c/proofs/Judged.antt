@@ -5,9 +5,9 @@ use Rattle.vdcp_value.specs.declared.part.Item.{Item}
 use Rattle.vdcp_auto.specs.declared.exchange.Exchange.{Exchange}
 use Rattle.vdcp_auto.specs.declared.phase.Mode.{Mode}
 use Rattle.vdcp_auto.specs.RuleBook.{May, MayPlay}
-use Rattle.vdcp_judge.specs.Judging.{Knows, CueStands, View, stands, is_done}
-use Rattle.vdcp_judge.specs.Notes.{view_of}
-use Rattle.vdcp_judge.specs.declared.notes.Notes.{Notes}
+use Rattle.vdcp_auto.specs.Judging.{Knows, CueStands, View, stands, is_done}
+use Rattle.vdcp_auto.specs.Notes.{view_of}
+use Rattle.vdcp_auto.specs.declared.notes.Notes.{Notes}
 use Rattle.vdcp_words.specs.declared.command.Command.{Command}
 use Rattle.vdcp_c.specs.Judgings.{IsAdded, KnowsOf}
 

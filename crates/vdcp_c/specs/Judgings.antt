@@ -2,11 +2,11 @@
 use Rattle.std.specs.Prelude.{ℕ, ◌≡◌, ◌<◌, ◌+◌, ◌^◌, List, [], ◌∷◌, ◌++◌, length}
 use Rattle.vdcp_value.specs.declared.part.Item.{Item}
 use Rattle.vdcp_auto.specs.declared.exchange.Exchange.{Exchange}
-use Rattle.vdcp_judge.specs.Judging.{Knows}
-use Rattle.vdcp_judge.specs.Notes.{view_of}
-use Rattle.vdcp_judge.specs.declared.judge.LastCue.{LastCue}
-use Rattle.vdcp_judge.specs.declared.judge.LastCue.TheVariants.{Void, Stands, Done}
-use Rattle.vdcp_judge.specs.declared.notes.Notes.{Notes}
+use Rattle.vdcp_auto.specs.Judging.{Knows}
+use Rattle.vdcp_auto.specs.Notes.{view_of}
+use Rattle.vdcp_auto.specs.declared.judge.LastCue.{LastCue}
+use Rattle.vdcp_auto.specs.declared.judge.LastCue.TheVariants.{Void, Stands, Done}
+use Rattle.vdcp_auto.specs.declared.notes.Notes.{Notes}
 use Rattle.vdcp_c.specs.Commands.{flag_code}
 use Rattle.vdcp_c.specs.Controllers.{mode_code}
 use Rattle.vdcp_c.specs.declared.judging.vdcp_judging.{vdcp_judging}

@@ -6,7 +6,7 @@ ghost use Rattle.vdcp_auto.specs.declared.exchange.Exchange.{Exchange};
 ghost use Rattle.vdcp_frame.specs.Message.{Content};
 ghost use Rattle.vdcp_value.specs.declared.part.Item.{Item};
 ghost use Rattle.vdcp_words.specs.declared.command.Command.{Command};
-ghost use Rattle.vdcp_judge.specs.declared.notes.Notes.{Notes};
+ghost use Rattle.vdcp_auto.specs.declared.notes.Notes.{Notes};
 ghost use Rattle.vdcp_c.specs.Commands.{IsCommand};
 ghost use Rattle.vdcp_c.specs.Controllers.{mode_code};
 ghost use Rattle.vdcp_c.specs.Judgings.{IsAdded, IsNotes, KnowsOf};
@@ -19,8 +19,7 @@ use crate::controller::{code_of_mode, mode_in};
 use crate::item::vdcp_item;
 use crate::list::LentList;
 use crate::message::{message_in, vdcp_message};
-use vdcp_auto::{Exchange, Heard, Mode};
-use vdcp_judge::{Judge, LastCue, Notes};
+use vdcp_auto::{Exchange, Heard, Judge, LastCue, Mode, Notes};
 use vdcp_words::Command;
 
 /// A judge: all that it knows of the exchanges that it was given.

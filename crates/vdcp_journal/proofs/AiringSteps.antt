@@ -330,18 +330,6 @@ pub record SoFar (mode : Mode) (rows : List Row) (asked : Option Command) (playe
   pub ended : HaveEnded airings
   pub over : all_ended airings ≡ false → Unplayed (ended_from None rows) asked
 
-pub none_yet : (mode : Mode) → SoFar mode [] None None []
-none_yet mode = record {
-  asked_is = refl;
-  few = omega arith;
-  one_each = refl;
-  are = λ k airing at. cc at;
-  last = tt;
-  unplayed = λ e. record { shut = refl; unasked = refl };
-  ended = tt;
-  over = λ e. record { shut = refl; unasked = refl };
-}
-
 -- an exchange that ends was open
 with_room : (came : Option Heard) (asked : Option Command)
     → length (exchange_with came asked []) ≡ length (exchange_with None asked [])

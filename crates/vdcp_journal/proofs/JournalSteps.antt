@@ -88,18 +88,6 @@ so_far_next more file left left' n time heading rows fields row h t r =
       size = omega (arith, h.size, length-append rows (row ∷ []));
     }
 
--- none is left: they are all
-pub so_far_all : AllRead → (file : Option (List ℕ)) (left left' : Left) (n : ℕ) (time : Moment) (heading : Heading)
-    (rows : List Row) (row : Fields)
-    → ReadSoFar file left n time heading rows → TakesRow left left' false row
-    → HasRows file (λ lines. AreLinesOf lines time heading rows)
-so_far_all all file left left' n time heading rows row h t =
-    let of = all file left left' (journal_fields time heading rows) row h.is_front t in (
-      journal_fields time heading rows,
-      of,
-      record { writable_heading = h.writable_heading; unit = h.unit; writable = h.writable; lines_are = refl },
-    )
-
 pub none_of : NoneRead → AllRead → (file : Option (List ℕ)) (left left' : Left) (row : Fields)
     → left ≡ option_map rows_of file
     → TakesRow left left' false row → HasRows file (λ lines. lines ≡ [])

@@ -118,18 +118,3 @@ begins rows k runs run d from below some h =
       within = All-push (λ earlier. (earlier.begin ≤ earlier.end) × (earlier.end ≤ length rows)) runs run h.within
           (omega (arith, h.begins, h.ends), omega (arith, h.ends, below));
     }
-
--- after the last row
-pub all_runs : (rows : List Row) (k : ℕ) (runs : List JournalRun) (run : JournalRun) → drop k rows ≡ []
-    → SoFar rows k runs run → map (run_at rows) (runs ++ run ∷ []) ≡ runs_of rows
-all_runs rows k runs run none h =
-    map_push (run_at rows) runs run
-    ∙ sym (ap (λ rs. map (run_at rows) runs ++ runs_after (run_at rows run) rs) none)
-    ∙ h.are
-
-pub all_within : (rows : List Row) (k : ℕ) (runs : List JournalRun) (run : JournalRun) → k ≤ length rows
-    → SoFar rows k runs run
-    → All (λ r. (r.begin ≤ r.end) × (r.end ≤ length rows)) (runs ++ run ∷ [])
-all_within rows k runs run within h =
-    All-push (λ r. (r.begin ≤ r.end) × (r.end ≤ length rows)) runs run h.within
-    (omega (arith, h.begins, h.ends), omega (arith, h.ends, within))

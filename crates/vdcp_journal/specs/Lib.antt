@@ -1,3 +1,4 @@
+-- The definitions, file by file.
 pub mod Moments
 pub mod Times
 pub mod Clocks

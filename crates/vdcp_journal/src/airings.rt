@@ -5,14 +5,13 @@ ghost use Rattle.vdcp_auto.specs.Log.{hears};
 ghost use Rattle.vdcp_auto.specs.Replies.{has_off, is_done, is_playing};
 ghost use Rattle.vdcp_journal.specs.Airings.{AreAirings, announces_after, announces_from, ended_by, is_play_row, shows_end};
 ghost use Rattle.vdcp_journal.specs.Resume.{ended_at, exchange_with, open_after};
-ghost use Rattle.vdcp_judge.specs.Judging.{Knows};
+ghost use Rattle.vdcp_auto.specs.Judging.{Knows};
 
 use crate::moment::Moment;
 use crate::row::{Note, Row};
 use std::alloc::{AllocError, Global};
 use vdcp_auto::laws::a_log_grows;
-use vdcp_auto::{Controller, Exchange, Heard, Source};
-use vdcp_judge::Judge;
+use vdcp_auto::{Controller, Exchange, Heard, Judge, Source};
 use vdcp_list::Timed;
 use vdcp_words::{Command, Reply};
 

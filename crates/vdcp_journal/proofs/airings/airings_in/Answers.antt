@@ -7,7 +7,7 @@ use Rattle.vdcp_journal.proofs.airings.airings_in.Goals as goal
 use Rattle.vdcp_journal.specs.Airings.{AreAirings, announces_from}
 use Rattle.vdcp_journal.specs.Resume.{ended_at, exchange_with}
 use Rattle.vdcp_journal.specs.declared.row.Row.{Row}
-use Rattle.vdcp_judge.specs.Judging.{Knows}
+use Rattle.vdcp_auto.specs.Judging.{Knows}
 
 pub loop-k-preserved : goal.loop-k-preserved
 loop-k-preserved g c =

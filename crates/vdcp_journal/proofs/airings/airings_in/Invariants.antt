@@ -2,7 +2,7 @@
 use Rattle.std.proofs.Common.{◌≡◌, take}
 use Rattle.vdcp_journal.proofs.AiringSteps.{SoFar, ended_from}
 use Rattle.vdcp_journal.proofs.airings.airings_in.Given as goal
-use Rattle.vdcp_judge.specs.Judging.{Knows}
+use Rattle.vdcp_auto.specs.Judging.{Knows}
 use Rattle.std.specs.Prelude.{None}
 
 abbrev pub invariant-loop-k : goal.invariant-loop-k

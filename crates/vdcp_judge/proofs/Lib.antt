@@ -1,5 +1,0 @@
-mod Commands
-mod Logs
-mod Cues
-mod Judged
-mod KeptRules

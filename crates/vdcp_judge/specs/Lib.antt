@@ -1,4 +1,0 @@
-pub mod Judging
-pub mod Captures
-pub mod Rulings
-pub mod Notes
