@@ -23,10 +23,10 @@ use Rattle.vdcp_laws.proofs.Journaled.{asked, given_awaited, one_silence, plan_s
 use Rattle.vdcp_laws.proofs.Running.{given_last, last_more, no_notes}
 use Rattle.vdcp_laws.specs.Announced.{Announces, came_again, heard_last, played_notes}
 use Rattle.vdcp_laws.specs.Kills.{IsRun, begun, happened, heard_notes, end_notes, notes_of, played, silence_notes, stray_notes}
-use Rattle.vdcp_late.specs.GoingOn.{IsNoTick, gone_on}
-use Rattle.vdcp_late.specs.LateChannel.{LateChannel, after_late_event, after_late_events, command_bursts, oldest}
-use Rattle.vdcp_late.specs.declared.event.LateEvent.{LateEvent}
-use Rattle.vdcp_late.specs.declared.event.LateEvent.TheVariants as event
+use Rattle.vdcp_world.specs.LateLine.GoingOn.{IsNoTick, gone_on}
+use Rattle.vdcp_world.specs.LateLine.LateChannel.{LateChannel, after_late_event, after_late_events, command_bursts, oldest}
+use Rattle.vdcp_world.specs.declared.late.event.LateEvent.{LateEvent}
+use Rattle.vdcp_world.specs.declared.late.event.LateEvent.TheVariants as event
 use Rattle.vdcp_port.specs.Answers.{after_burst}
 use Rattle.vdcp_port.specs.Clock.{ClockedPort, after_ended, after_frame, after_ready}
 use Rattle.vdcp_words.specs.declared.command.Command.{Command}
@@ -67,11 +67,6 @@ unit_stays stays c event.ServerAnew = refl
 unit_stays stays c event.AutomationAnew = refl
 unit_stays stays c event.StrayAck = refl
 unit_stays stays c (event.StrayNak byte) = refl
-
-units_stay : UnitStays → (c : LateChannel) (events : List LateEvent)
-    → (after_late_events c events).port.state.unit ≡ c.port.state.unit
-units_stay stays c [] = refl
-units_stay stays c (e ∷ events) = units_stay stays (after_late_event c e) events ∙ unit_stays stays c e
 
 -- The state is asked, and what was heard last is heard again, after a take: with the request, which may still be on its way.
 

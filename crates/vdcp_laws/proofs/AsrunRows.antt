@@ -9,9 +9,9 @@ use Rattle.vdcp_auto.specs.declared.outcome.Outcome.TheVariants as outcome
 use Rattle.vdcp_world.specs.Channel.{Channel}
 use Rattle.vdcp_world.specs.Headline as in_time
 use Rattle.vdcp_world.specs.Headline.{AreReported, Headline, Means, is_complete}
-use Rattle.vdcp_late.specs.LateChannel.{LateChannel}
-use Rattle.vdcp_late.specs.LateHeadline as late
-use Rattle.vdcp_late.specs.LateHeadline.{LateHeadline, is_late_complete}
+use Rattle.vdcp_world.specs.LateLine.LateChannel.{LateChannel}
+use Rattle.vdcp_world.specs.LateLine.LateHeadline as late
+use Rattle.vdcp_world.specs.LateLine.LateHeadline.{LateHeadline, is_late_complete}
 use Rattle.vdcp_laws.specs.AsrunLaw.{IsOfAired, IsOfAllAired, rows_for}
 
 -- what went to air is a beginning, and no more than that where it is no longer

@@ -11,7 +11,7 @@ use Rattle.vdcp_auto.specs.Turn.{came_to, outcome_of, taken, tick_in, ticked}
 use Rattle.vdcp_auto.specs.declared.outcome.Outcome.{Outcome}
 use Rattle.vdcp_laws.specs.Automation.{Prompt, hears, hears_all}
 use Rattle.vdcp_drive.specs.Reading.{completed}
-use Rattle.vdcp_late.specs.LateHeadline.{is_late_complete}
+use Rattle.vdcp_world.specs.LateLine.LateHeadline.{is_late_complete}
 use Rattle.vdcp_laws.specs.TwoEnds.{AreJoined, AreLed, CanJoin, Ends, GoesOn, Step, aired_now, as_announced, as_noted, begun, went_on}
 use Rattle.vdcp_laws.specs.TwoEnds.{gave, came_up, came_down, waited, hung_up, frame, shut, took, halted, resumed, restarted}
 use Rattle.vdcp_laws.proofs.Commands.{hears_comes, still}

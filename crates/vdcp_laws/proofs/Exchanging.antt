@@ -38,7 +38,7 @@ use Rattle.vdcp_drive.specs.Traces.{bytes_of}
 use Rattle.vdcp_laws.specs.Automation.{Prompt, commands_in, gives, hears_all}
 use Rattle.vdcp_drive.specs.Reading.{Held, holds, completed, held_after, held_after_silence}
 use Rattle.vdcp_drive.specs.Served.{items_served}
-use Rattle.vdcp_late.specs.LateChannel.{CanStart}
+use Rattle.vdcp_world.specs.LateLine.LateChannel.{CanStart}
 use Rattle.vdcp_laws.specs.TwoEnds as two
 use Rattle.vdcp_laws.specs.TwoEnds.{AreJoined, Ends, aired_now, bytes_in, commands_sent, new_ends, port_now, sent_down, sent_up, with_command, with_down}
 use Rattle.vdcp_laws.specs.Undisturbed.{AreUndisturbed, CanPlay, IsDone, exchanged, first, most_exchanges, none, with_all_down, with_all_up, with_frames, with_piece_up, with_time_out}

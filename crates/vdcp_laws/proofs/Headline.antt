@@ -11,12 +11,12 @@ use Rattle.vdcp_auto.specs.State.{State, Stage, Ready, Awaiting, Ended}
 use Rattle.vdcp_auto.specs.Turn.{outcome_of, tick_in, ticked}
 use Rattle.vdcp_auto.specs.declared.exchange.Exchange.{Exchange}
 use Rattle.vdcp_auto.specs.declared.outcome.Outcome.{Outcome}
-use Rattle.vdcp_late.specs.LateChannel.{LateChannel, IsLateReached}
-use Rattle.vdcp_late.specs.LateHeadline.{LateHeadline, LateMeans, is_late_complete}
+use Rattle.vdcp_world.specs.LateLine.LateChannel.{LateChannel, IsLateReached}
+use Rattle.vdcp_world.specs.LateLine.LateHeadline.{LateHeadline, LateMeans, is_late_complete}
 use Rattle.vdcp_laws.specs.EndsHeadline.{EndsHeadline}
 use Rattle.vdcp_laws.specs.TwoEnds.{AreJoined, CanJoin, Ends, IsLateChannel, aired_now, log_now}
 
--- laws::two_ends_are_a_late_channel, and vdcp_late::laws::a_late_line_keeps_the_headline
+-- laws::two_ends_are_a_late_channel, and vdcp_world::late::laws::a_late_line_keeps_the_headline
 pub record Laws : Type 0 where
   pub ends : (plan : Plan) (port : ClockedPort) (asked : List Command) (e : Ends) → CanJoin plan port asked
       → AreJoined plan port asked e

@@ -12,11 +12,11 @@ use Rattle.vdcp_journal.specs.declared.row.Note.TheVariants as note
 use Rattle.vdcp_laws.proofs.Journaled.{asked, given_awaited, no_silence, none_awaited, one_silence, plan_stays_in, same_state}
 use Rattle.vdcp_laws.proofs.Running.{no_notes}
 use Rattle.vdcp_laws.specs.Kills.{asked_in_vain, IsRun, happened, end_notes, silence_notes}
-use Rattle.vdcp_late.specs.Damage.{can_become, is_junk_down, replaced, with_damage, with_junk}
-use Rattle.vdcp_late.specs.GoingOn.{IsNoTick, gone_on}
-use Rattle.vdcp_late.specs.LateChannel.{LateChannel, after_late_event, after_late_events, bursts_of, oldest, without_oldest}
-use Rattle.vdcp_late.specs.declared.event.LateEvent.{LateEvent}
-use Rattle.vdcp_late.specs.declared.event.LateEvent.TheVariants as event
+use Rattle.vdcp_world.specs.LateLine.Damage.{can_become, is_junk_down, replaced, with_damage, with_junk}
+use Rattle.vdcp_world.specs.LateLine.GoingOn.{IsNoTick, gone_on}
+use Rattle.vdcp_world.specs.LateLine.LateChannel.{LateChannel, after_late_event, after_late_events, bursts_of, oldest, without_oldest}
+use Rattle.vdcp_world.specs.declared.late.event.LateEvent.{LateEvent}
+use Rattle.vdcp_world.specs.declared.late.event.LateEvent.TheVariants as event
 use Rattle.vdcp_port.specs.Answers.{after_burst, aired_for, sent_for}
 use Rattle.vdcp_value.specs.declared.part.Item.{Item}
 use Rattle.vdcp_words.specs.declared.command.Command.{Command}

@@ -1,3 +1,4 @@
+-- The lemmas, file by file.
 mod Announced
 mod Held
 mod Journaled

@@ -27,9 +27,6 @@ use Rattle.vdcp_laws.proofs.Serving.{bytes_close, bytes_more, bytes_silence}
 
 -- A connection that begins.
 
-pub new_fresh : (plan : Plan) (port : ClockedPort) (asked : List Command) → IsFresh plan (new_ends port asked)
-new_fresh plan port asked = record { no_log = refl; awaits_none = refl }
-
 pub anew_fresh : (plan : Plan) (port : ClockedPort) (e : Ends) → IsFresh plan (connected_anew plan port e)
 anew_fresh plan port e = record { no_log = refl; awaits_none = timed_out plan e.automation.state }
 

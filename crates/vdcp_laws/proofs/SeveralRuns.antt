@@ -21,8 +21,8 @@ use Rattle.vdcp_journal.specs.Thinned.{asks_state}
 use Rattle.vdcp_journal.specs.declared.row.Note.{Note}
 use Rattle.vdcp_journal.specs.declared.row.Note.TheVariants as note
 use Rattle.vdcp_journal.specs.declared.row.Row.{Row}
-use Rattle.vdcp_late.specs.LateChannel.{LateChannel}
-use Rattle.vdcp_late.specs.LateHeadline.{reported_of}
+use Rattle.vdcp_world.specs.LateLine.LateChannel.{LateChannel}
+use Rattle.vdcp_world.specs.LateLine.LateHeadline.{reported_of}
 use Rattle.vdcp_laws.specs.SeveralRuns.{AsksAtMost, HaveAired, none, nothing, once, ran}
 use Rattle.vdcp_laws.specs.TwoEnds.{AreJoined, CanJoin, Ends, aired_now, as_noted, connected_anew, port_now, resumed, went_on}
 use Rattle.vdcp_laws.proofs.Commands.{timed_out}

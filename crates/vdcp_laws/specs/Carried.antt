@@ -1,4 +1,4 @@
--- The same of one connection, by what the wires of both ends do, one act after another.
+-- One connection between both ends, by what the wire of each does, one act after another.
 use Rattle.std.specs.Prelude.{ℕ, ◌≡◌, false, List, [], ◌∷◌, ◌++◌}
 use Rattle.vdcp_frame.specs.Reading.{AreMessages}
 use Rattle.vdcp_wire.specs.Acts.{Act, sends, brings, fails}

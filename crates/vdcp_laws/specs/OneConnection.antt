@@ -1,4 +1,4 @@
--- The same of one connection, by what came to either end since a run began there: what a driver and a server run on.
+-- One connection between both ends, by what came to either since a run began there: what a driver and a server run on.
 use Rattle.std.specs.Prelude.{ℕ, ◌≡◌, false, List, [], ◌∷◌, ◌++◌, map, None}
 use Rattle.vdcp_frame.specs.Reading.{AreMessages}
 use Rattle.vdcp_auto.specs.Plan.{Plan}

@@ -27,7 +27,7 @@ use Rattle.vdcp_drive.specs.Reading.{completed, holds}
 use Rattle.vdcp_drive.specs.declared.keep.Kept.{Kept}
 use Rattle.vdcp_drive.specs.declared.keep.Kept.TheVariants as kept
 use Rattle.vdcp_drive.specs.Served.{served, port_after, items_served}
-use Rattle.vdcp_late.specs.LateChannel.{LateChannel, CanStart, IsLateReached, IsQuestion, made_anew}
+use Rattle.vdcp_world.specs.LateLine.LateChannel.{LateChannel, CanStart, IsLateReached, IsQuestion, made_anew}
 
 -- Both ends of a connection: what was asked over it before the run; the automation, with the exchanges since it began,
 -- and the bytes that came up to it; the port with which it began at the server, and what came down. Of the connections

@@ -10,7 +10,7 @@ use Rattle.vdcp_auto.specs.declared.phase.Mode.TheVariants.{Plain, Confirming}
 use Rattle.vdcp_wire.specs.Wires.{bytes, silence}
 use Rattle.vdcp_laws.specs.Automation.{listens}
 use Rattle.vdcp_drive.specs.Reading.{completed}
-use Rattle.vdcp_late.specs.LateChannel.{CanStart}
+use Rattle.vdcp_world.specs.LateLine.LateChannel.{CanStart}
 use Rattle.vdcp_laws.specs.TwoEnds.{Ends, aired_now, bytes_in, notes_ended, notes_heard, port_now, sent_down, sent_up, with_automation, with_command, with_down, with_up}
 
 -- what was awaited has timed out, if anything was

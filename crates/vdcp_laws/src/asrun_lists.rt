@@ -3,8 +3,8 @@
 //! The functions do nothing: their contracts are the laws, and a caller whose proof needs one calls it.
 ghost use Rattle.std.specs.Prelude.{IfSome, IsTrue};
 ghost use Rattle.vdcp_auto.specs.Turn.{outcome_of};
-ghost use Rattle.vdcp_late.specs.LateChannel.{LateChannel, IsLateReached};
-ghost use Rattle.vdcp_late.specs.LateHeadline.{is_late_complete};
+ghost use Rattle.vdcp_world.specs.LateLine.LateChannel.{LateChannel, IsLateReached};
+ghost use Rattle.vdcp_world.specs.LateLine.LateHeadline.{is_late_complete};
 ghost use Rattle.vdcp_laws.specs.AsrunLaw.{IsOfAired, IsOfAllAired};
 ghost use Rattle.vdcp_value.specs.declared.rate.Rate.{Rate};
 ghost use Rattle.vdcp_world.specs.Channel.{Channel, IsReached};
@@ -31,5 +31,5 @@ pub fn an_asrun_list_of_a_late_line_is_of_what_aired()
         (λ outcome. IsTrue (is_late_complete c.plan.mode outcome) →
         IsOfAllAired rate c.plan.list c.aired c.state.settled) }
 {
-    vdcp_late::laws::a_late_line_keeps_the_headline();
+    vdcp_world::late::laws::a_late_line_keeps_the_headline();
 }

@@ -35,7 +35,7 @@ ghost use Rattle.vdcp_drive.specs.ServeLeaves.{HasServed};
 ghost use Rattle.vdcp_drive.specs.Served.{IsOpen, items_served, stands_at};
 ghost use Rattle.vdcp_drive.specs.Serving.{Serving, acts_of};
 ghost use Rattle.vdcp_drive.specs.Watching.{tells_airing};
-ghost use Rattle.vdcp_late.specs.LateHeadline.{is_late_complete};
+ghost use Rattle.vdcp_world.specs.LateLine.LateHeadline.{is_late_complete};
 ghost use Rattle.vdcp_laws.specs.Announced.{Announces, played_notes};
 ghost use Rattle.vdcp_laws.specs.Below.{Answered, Arrived, Completed, Spelt, Written};
 ghost use Rattle.vdcp_laws.specs.Carried.{AreCarried, driver_of};
@@ -66,7 +66,7 @@ pub fn two_ends_are_a_late_channel()
     ensures fresh { (plan : Plan) (port : ClockedPort) (e : Ends) → IsFresh plan (connected_anew plan port e) }
 {
     what_is_below();
-    vdcp_late::laws::a_killed_automation_goes_on();
+    vdcp_world::late::laws::a_killed_automation_goes_on();
     vdcp_port::laws::the_unit_stays();
     vdcp_auto::laws::reached_is_lawful();
 }
@@ -79,7 +79,7 @@ pub fn two_ends_keep_the_headline()
         AreJoined plan port asked e → EndsHeadline plan port.clips e.automation.state (log_now e) (aired_now e) }
 {
     two_ends_are_a_late_channel();
-    vdcp_late::laws::a_late_line_keeps_the_headline();
+    vdcp_world::late::laws::a_late_line_keeps_the_headline();
 }
 
 /// Of a driver and a server, new or gone on, whatever ends their runs, what came to either by any act of their wires is of
@@ -139,7 +139,7 @@ pub fn a_carried_run_keeps_the_headline<
         (e.downs ++ came_in (acts_of (stands_at e.port e.downs) serving.came ++ serving.done))) }
 {
     two_ends_are_a_late_channel();
-    vdcp_late::laws::a_late_line_keeps_the_headline();
+    vdcp_world::late::laws::a_late_line_keeps_the_headline();
     vdcp_drive::laws::what_goes_out_is_served();
 }
 
@@ -156,7 +156,7 @@ pub fn nothing_airs_after_a_complete_end()
         aired_now later ≡ aired_now e }
 {
     two_ends_are_a_late_channel();
-    vdcp_late::laws::a_late_line_keeps_the_headline();
+    vdcp_world::late::laws::a_late_line_keeps_the_headline();
 }
 
 /// What aired over several runs of a list, each of which begins with the number of all that aired before, is a beginning
@@ -170,7 +170,7 @@ pub fn several_runs_air_a_beginning()
         may_have_aired plan.mode (log_of rows) ≡ false → length (aired_now now) ≡ settled_in plan.mode rows }
 {
     two_ends_are_a_late_channel();
-    vdcp_late::laws::a_late_line_keeps_the_headline();
+    vdcp_world::late::laws::a_late_line_keeps_the_headline();
     vdcp_journal::laws::a_thinned_journal_makes_the_same();
     vdcp_auto::laws::a_log_grows();
 }

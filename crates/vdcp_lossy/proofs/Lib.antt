@@ -1,3 +1,4 @@
+-- The lemmas, file by file.
 mod Sending
 mod Uncarried
 mod Reading

@@ -22,7 +22,7 @@ use Rattle.vdcp_auto.specs.State.{Ready, Awaiting, Ended}
 use Rattle.vdcp_world.specs.AtEnd.{AreSlotsEmpty, IsAtRest, LeavesPort}
 use Rattle.vdcp_world.specs.Channel.{Channel, Make, IsReached, after_events, new_channel}
 use Rattle.vdcp_world.specs.declared.event.Event.{Event}
-use Rattle.vdcp_world.proofs.Below.{Below}
+use Rattle.vdcp_world.specs.Below.{Below}
 use Rattle.vdcp_world.proofs.Claims.{Closed, Takes, claim_events}
 use Rattle.vdcp_world.proofs.HeadlineProof.{kept_new}
 use Rattle.vdcp_world.proofs.Reached.{make_after_all}

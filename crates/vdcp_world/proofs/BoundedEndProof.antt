@@ -38,7 +38,7 @@ use Rattle.vdcp_world.specs.Channel.{Channel, Make, IsReached, after_events, sta
 use Rattle.vdcp_world.specs.InStep.{IsReadyFor, HasExecuted, IsInStep}
 use Rattle.vdcp_world.specs.Rounds.{round, good_round, times}
 use Rattle.vdcp_world.specs.declared.event.Event.TheVariants as event
-use Rattle.vdcp_world.proofs.Below.{Below}
+use Rattle.vdcp_world.specs.Below.{Below}
 use Rattle.vdcp_world.proofs.ConfirmedRounds.{left_before, left_behind, left_from, senses, sense_of, before_stays, Steps, sense_steps, Stays, receipt_stays}
 use Rattle.vdcp_world.proofs.Exchanges.{sent_place, turn_by}
 use Rattle.vdcp_world.proofs.GoodRound.{Exchanged, exchanged, exchange, waits_still, hears_still, waits_over, ticks_on, gives_own, turns_on}

@@ -40,7 +40,7 @@ use Rattle.vdcp_world.specs.Channel.{Channel, Make, make_of, after_event, after_
 use Rattle.vdcp_world.specs.NoCut.{is_take}
 use Rattle.vdcp_world.specs.declared.event.Event.{Event}
 use Rattle.vdcp_world.specs.declared.event.Event.TheVariants as event
-use Rattle.vdcp_world.proofs.Below.{Below}
+use Rattle.vdcp_world.specs.Below.{Below}
 use Rattle.vdcp_world.proofs.Beginnings.{is_beginning_of}
 use Rattle.vdcp_world.proofs.Exchanges.{turn_by, tick_place, fits_asked, either, no_receipt, no_refusal, on_refused, on_replied}
 use Rattle.vdcp_world.proofs.Kept.{IsKept, kept_event, delivered}

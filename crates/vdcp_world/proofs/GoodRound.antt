@@ -31,7 +31,7 @@ use Rattle.vdcp_auto.specs.declared.phase.Transition.TheVariants.{Ends}
 use Rattle.vdcp_world.specs.Channel.{Channel, after_events, down_behind, up_behind, answered, state_hearing, state_waiting}
 use Rattle.vdcp_world.specs.Rounds.{round}
 use Rattle.vdcp_world.specs.declared.event.Event.TheVariants as event
-use Rattle.vdcp_world.proofs.Below.{Below}
+use Rattle.vdcp_world.specs.Below.{Below}
 use Rattle.vdcp_world.proofs.Kept.{IsKept, keeps_unit}
 use Rattle.vdcp_world.proofs.OnTheWay.{ReadsCommand}
 use Rattle.vdcp_world.proofs.WayLemmas.{reads_command}

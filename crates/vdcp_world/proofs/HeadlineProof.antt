@@ -34,7 +34,7 @@ use Rattle.vdcp_auto.specs.Heard.{heard_in}
 use Rattle.vdcp_world.specs.Headline.{IsUnknownAt, IsOutside, IsRefusedIn, AreReported, Means, is_complete, reported_of, Headline}
 use Rattle.vdcp_world.specs.declared.event.Event.{Event}
 use Rattle.vdcp_world.specs.declared.event.Event.TheVariants as event
-use Rattle.vdcp_world.proofs.Below.{Below}
+use Rattle.vdcp_world.specs.Below.{Below}
 use Rattle.vdcp_world.proofs.Exchanges.{near, taken, sent_place}
 use Rattle.vdcp_world.proofs.Kept.{IsKept, kept_event}
 use Rattle.vdcp_world.proofs.PhaseTable.{Aired, Near, PlaceAt, PlaceEnded, FirmIn, knows, refuses}

@@ -30,7 +30,7 @@ use Rattle.vdcp_world.specs.Channel.{Channel, IsReached, after_events}
 use Rattle.vdcp_world.specs.InStep.{IsReadyFor, GoesInStep, CanCatchUp, rounds_in_step, InStepEnd}
 use Rattle.vdcp_world.specs.Rounds.{round, good_round, times}
 use Rattle.vdcp_world.specs.declared.event.Event.TheVariants as event
-use Rattle.vdcp_world.proofs.Below.{Below}
+use Rattle.vdcp_world.specs.Below.{Below}
 use Rattle.vdcp_world.proofs.BoundedEndProof.{Ahead, sensed, times_out, is_done, still_playable, ready_slot, waited_kept, confirmed_behind, confirmed_ready, confirmed_rounds}
 use Rattle.vdcp_world.proofs.ConfirmedRounds.{left_from, left_before, Steps, slot_stays}
 use Rattle.vdcp_world.proofs.Exchanges.{turn_by}

@@ -1,7 +1,7 @@
+-- The lemmas, file by file.
 mod Examples
 pub mod Beginnings
 pub mod Reached
-pub mod Below
 pub mod PhaseTable
 pub mod Exchanges
 pub mod Readings
@@ -22,3 +22,4 @@ pub mod Opened
 pub mod InStepProof
 pub mod NoCutProof
 pub mod ScriptLemmas
+pub mod LateLine

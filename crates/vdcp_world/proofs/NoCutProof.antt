@@ -29,7 +29,7 @@ use Rattle.vdcp_world.specs.Channel.{Channel, IsReached, after_event, after_even
 use Rattle.vdcp_world.specs.NoCut.{is_take, Cuts, CutsUnasked, NoCut}
 use Rattle.vdcp_world.specs.declared.event.Event.{Event}
 use Rattle.vdcp_world.specs.declared.event.Event.TheVariants as event
-use Rattle.vdcp_world.proofs.Below.{Below}
+use Rattle.vdcp_world.specs.Below.{Below}
 use Rattle.vdcp_world.proofs.Claims.{Closed, Holds, ToldOf, told_none, claim_events}
 use Rattle.vdcp_world.proofs.ConfirmedRounds.{slot_stays}
 use Rattle.vdcp_world.proofs.HeadlineProof.{reached_kept}

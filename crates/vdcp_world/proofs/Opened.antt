@@ -18,7 +18,7 @@ use Rattle.vdcp_auto.specs.declared.phase.Phase.TheVariants as phase
 use Rattle.vdcp_auto.specs.State.{Stage}
 use Rattle.vdcp_auto.specs.State.{Ready, Awaiting, Ended}
 use Rattle.vdcp_world.specs.Channel.{Channel, IsReached, new_channel}
-use Rattle.vdcp_world.proofs.Below.{Below}
+use Rattle.vdcp_world.specs.Below.{Below}
 use Rattle.vdcp_world.proofs.Claims.{Closed, claim_events}
 use Rattle.vdcp_world.proofs.HeadlineProof.{kept_new}
 use Rattle.vdcp_world.proofs.PhaseTable.{is_asked, port_after, answer_after}

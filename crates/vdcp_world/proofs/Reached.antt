@@ -74,10 +74,10 @@ one_more c es i e below is =
     take_more es i e below ∙ ap (λ x. take i es ++ x ∷ []) (sym is) in
     ap (after_events c) taken ∙ after_all c (take i es) (e ∷ [])
 
--- the events before one of a list, it, and those after it
-split_at_event : (es : List Event) (i : ℕ) (e : Event) → i < length es → e ≡ get_or es i e
+-- the elements before one of a list, it, and those after it
+pub split_at : {A : Type 0} (es : List A) (i : ℕ) (e : A) → i < length es → e ≡ get_or es i e
     → es ≡ take i es ++ e ∷ drop (i + 1) es
-split_at_event es i e below is =
+split_at es i e below is =
     let taken : take (i + 1) es ≡ take i es ++ e ∷ [] =
     take_more es i e below ∙ ap (λ x. take i es ++ x ∷ []) (sym is) in
     sym (take-append-drop (i + 1) es) ∙ ap (λ front. front ++ drop (i + 1) es) taken
@@ -92,7 +92,7 @@ in_part (Err x) old now es i e below is happened = record {
   done = take i es;
   refused = e;
   left = drop (i + 1) es;
-  in_order = split_at_event es i e below is;
+  in_order = split_at es i e below is;
   happened = happened;
 }
 
@@ -105,7 +105,7 @@ all_happened c now es i low high is =
 
 -- ---- what a channel was made with stays
 
-abbrev port_make : Plan → ClockedPort → Make
+abbrev pub port_make : Plan → ClockedPort → Make
 port_make plan p =
     record { plan = plan; clips = p.clips; unit = p.state.unit; number = p.state.number; cue_frames = p.cue_frames }
 
@@ -119,7 +119,7 @@ make_change plan (cues item) p = refl
 make_change plan (airs item) p = refl
 make_change plan stops p = refl
 
-make_messages : (plan : Plan) (ms : List Content) (p : ClockedPort)
+pub make_messages : (plan : Plan) (ms : List Content) (p : ClockedPort)
     → port_make plan (after_messages p ms) ≡ port_make plan p
 make_messages plan [] p = refl
 make_messages plan (m ∷ ms) p = make_messages plan ms (after_message p m) ∙ make_change plan (row_at p m).change p
@@ -129,7 +129,7 @@ make_if : (plan : Plan) (b : Bool) (p q : ClockedPort) → port_make plan q ≡ 
 make_if plan true p q e = e
 make_if plan false p q e = refl
 
-make_frame : (plan : Plan) (p : ClockedPort) → port_make plan (after_frame p) ≡ port_make plan p
+pub make_frame : (plan : Plan) (p : ClockedPort) → port_make plan (after_frame p) ≡ port_make plan p
 make_frame plan p =
     let cued : ClockedPort = if completes_cue p then after_ready (counted_down p) else counted_down p in
     make_if plan (ends_clip p) cued (after_ended cued) refl

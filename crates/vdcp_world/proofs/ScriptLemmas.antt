@@ -1,10 +1,10 @@
 -- What lines say, one after another.
-use Rattle.std.proofs.Common.{◌≡◌, ℕ, zero, suc, ◌+◌, Bool, true, List, [], ◌∷◌, ◌++◌, length, refl, sym, ap, subst, ◌∙◌, arith, append-nil, append_assoc}
+use Rattle.std.proofs.Common.{◌≡◌, ℕ, zero, suc, ◌+◌, true, List, [], ◌∷◌, ◌++◌, refl, sym, ap, subst, ◌∙◌, arith, append-nil, append_assoc}
 use Rattle.std.specs.List.{enumerate_from}
 use Rattle.std.specs.Prelude.{Option, map}
 use Rattle.std.specs.Borrow.{Bor}
 use Rattle.vdcp_world.specs.Rounds.{times}
-use Rattle.vdcp_world.specs.Script.{Says, SaysMore, SayAll, skipped, own, word, repeats, one_more, Counts, IsLineOf, is_skipped, repeated_events, repeated_word, worded}
+use Rattle.vdcp_world.specs.Script.{SaysMore, SayAll, skipped, own, word, repeats, one_more, Counts, IsLineOf, is_skipped, repeated_events, repeated_word, worded}
 use Rattle.vdcp_world.specs.declared.event.Event.{Event}
 use Rattle.vdcp_world.specs.declared.script.Repeated.{Repeated}
 

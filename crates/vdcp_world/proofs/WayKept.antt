@@ -22,7 +22,7 @@ use Rattle.vdcp_world.specs.Beginnings.{is_beginning}
 use Rattle.vdcp_auto.specs.Heard.{heard_in, heard_first, hears_receipt}
 use Rattle.vdcp_world.proofs.OnTheWay.{IsQuiet, Way}
 use Rattle.vdcp_world.proofs.Beginnings.{is_beginning_of}
-use Rattle.vdcp_world.proofs.Below.{Below}
+use Rattle.vdcp_world.specs.Below.{Below}
 
 -- ---- a tick
 

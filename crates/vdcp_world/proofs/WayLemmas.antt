@@ -17,7 +17,7 @@ use Rattle.vdcp_port.specs.Clock.{ClockedPort, after_change}
 use Rattle.vdcp_port.specs.Row.{Row, on_air}
 use Rattle.vdcp_auto.specs.Heard.{heard_by, heard_as, heard_first, heard_in}
 use Rattle.vdcp_auto.specs.declared.exchange.Heard.TheVariants as heard
-use Rattle.vdcp_world.proofs.Below.{Below}
+use Rattle.vdcp_world.specs.Below.{Below}
 use Rattle.vdcp_world.proofs.OnTheWay.{ReadsNothing, ReadsCommand}
 
 abbrev IsByte : ℕ → Type 0

@@ -1,3 +1,4 @@
+-- The definitions, file by file.
 pub mod Beginnings
 pub mod Channel
 pub mod Rounds
@@ -7,3 +8,5 @@ pub mod BoundedEnd
 pub mod AtEnd
 pub mod InStep
 pub mod NoCut
+pub mod LateLine
+pub mod Below

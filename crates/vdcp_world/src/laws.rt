@@ -1,8 +1,9 @@
-//! The laws of the definitions that the contracts of this crate cite. The functions do nothing: their
+//! The laws of a line that holds one burst each way. The functions do nothing: their
 //! contracts are the laws, and a caller whose proof needs one calls it.
 ghost use Rattle.std.specs.Prelude.{IfSome};
 ghost use Rattle.vdcp_auto.specs.Turn.{outcome_of};
 ghost use Rattle.vdcp_world.specs.AtEnd.{LeavesPort};
+ghost use Rattle.vdcp_world.specs.Below.{Below};
 ghost use Rattle.vdcp_world.specs.BoundedEnd.{BoundedEnd};
 ghost use Rattle.vdcp_world.specs.Channel.{Channel, IsReached};
 ghost use Rattle.vdcp_world.specs.Headline.{Headline};
@@ -25,18 +26,7 @@ ghost use Rattle.vdcp_world.specs.NoCut.{NoCut};
 pub fn reached_keeps_the_headline()
     ensures { (c : Channel) → IsReached c → Headline c }
 {
-    vdcp_frame::laws::a_spelling_is_its_message();
-    vdcp_words::laws::command_is_read_first();
-    vdcp_words::laws::reply_is_read_first();
-    vdcp_words::laws::written_reply_is_read();
-    vdcp_port::laws::a_command_has_its_own_row();
-    vdcp_port::laws::a_command_is_answered();
-    vdcp_port::laws::a_burst_without_a_message();
-    vdcp_port::laws::a_burst_with_one_message();
-    vdcp_port::laws::the_unit_stays();
-    vdcp_auto::laws::commands_can_be_written();
-    vdcp_auto::laws::a_receipt_confirms_nothing();
-    vdcp_auto::laws::reached_is_lawful();
+    crates_below();
 }
 
 /// In plain mode, from whatever channel that events have led to, as long as the controller hasn't ended and
@@ -48,18 +38,7 @@ pub fn reached_keeps_the_headline()
 pub fn good_rounds_bring_all_to_air()
     ensures { (c : Channel) → IsReached c → BoundedEnd c }
 {
-    vdcp_frame::laws::a_spelling_is_its_message();
-    vdcp_words::laws::command_is_read_first();
-    vdcp_words::laws::reply_is_read_first();
-    vdcp_words::laws::written_reply_is_read();
-    vdcp_port::laws::a_command_has_its_own_row();
-    vdcp_port::laws::a_command_is_answered();
-    vdcp_port::laws::a_burst_without_a_message();
-    vdcp_port::laws::a_burst_with_one_message();
-    vdcp_port::laws::the_unit_stays();
-    vdcp_auto::laws::commands_can_be_written();
-    vdcp_auto::laws::a_receipt_confirms_nothing();
-    vdcp_auto::laws::reached_is_lawful();
+    crates_below();
 }
 
 /// In confirm mode, from whatever channel that events have led to, if each item of the playlist is in the
@@ -72,6 +51,31 @@ pub fn good_rounds_bring_all_to_air()
 pub fn good_rounds_bring_the_rest_to_air()
     ensures { (c : Channel) → IsReached c → InStepEnd c }
 {
+    crates_below();
+}
+
+/// Whatever happened on the line from a new channel on: in plain mode Done and Stopped leave the port closed, with
+/// nothing cued and nothing playing. In confirm mode Done leaves nothing cued and nothing playing; whether the port
+/// has closed nothing shows, and after Stopped anything may play, since STOP and CLOSE may have been lost.
+pub fn an_end_leaves_the_port_at_rest()
+    ensures { (c : Channel) → IsReached c → IfSome (outcome_of c.state.stage) (LeavesPort c.plan.mode c.port.state) }
+{
+    crates_below();
+}
+
+/// Whatever happened on the line from a new channel on, a PLAY cuts short a clip that is on air only if the
+/// operator took: never if he hasn't taken at all; and otherwise he has taken since the PLAY went out last that put
+/// that clip on air.
+pub fn no_cut_without_a_take()
+    ensures { (c : Channel) → IsReached c → NoCut c }
+{
+    crates_below();
+}
+
+/// What the laws of this crate take from those of the crates below.
+pub(crate) fn crates_below()
+    ensures { Below }
+{
     vdcp_frame::laws::a_spelling_is_its_message();
     vdcp_words::laws::command_is_read_first();
     vdcp_words::laws::reply_is_read_first();
@@ -84,42 +88,5 @@ pub fn good_rounds_bring_the_rest_to_air()
     vdcp_auto::laws::commands_can_be_written();
     vdcp_auto::laws::a_receipt_confirms_nothing();
     vdcp_auto::laws::reached_is_lawful();
-}
-
-/// Whatever happened on the line from a new channel on: in plain mode Done and Stopped leave the port closed, with
-/// nothing cued and nothing playing. In confirm mode Done leaves nothing cued and nothing playing; whether the port
-/// has closed nothing shows, and after Stopped anything may play, since STOP and CLOSE may have been lost.
-pub fn an_end_leaves_the_port_at_rest()
-    ensures { (c : Channel) → IsReached c → IfSome (outcome_of c.state.stage) (LeavesPort c.plan.mode c.port.state) }
-{
-    vdcp_frame::laws::a_spelling_is_its_message();
-    vdcp_words::laws::command_is_read_first();
-    vdcp_words::laws::reply_is_read_first();
-    vdcp_words::laws::written_reply_is_read();
-    vdcp_port::laws::a_command_has_its_own_row();
-    vdcp_port::laws::a_command_is_answered();
-    vdcp_port::laws::a_burst_without_a_message();
-    vdcp_port::laws::a_burst_with_one_message();
-    vdcp_port::laws::the_unit_stays();
-    vdcp_auto::laws::commands_can_be_written();
-    vdcp_auto::laws::a_receipt_confirms_nothing();
-}
-
-/// Whatever happened on the line from a new channel on, a PLAY cuts short a clip that is on air only if the
-/// operator took: never if he hasn't taken at all; and otherwise he has taken since the PLAY went out last that put
-/// that clip on air.
-pub fn no_cut_without_a_take()
-    ensures { (c : Channel) → IsReached c → NoCut c }
-{
-    vdcp_frame::laws::a_spelling_is_its_message();
-    vdcp_words::laws::command_is_read_first();
-    vdcp_words::laws::reply_is_read_first();
-    vdcp_words::laws::written_reply_is_read();
-    vdcp_port::laws::a_command_has_its_own_row();
-    vdcp_port::laws::a_command_is_answered();
-    vdcp_port::laws::a_burst_without_a_message();
-    vdcp_port::laws::a_burst_with_one_message();
-    vdcp_port::laws::the_unit_stays();
-    vdcp_auto::laws::commands_can_be_written();
-    vdcp_auto::laws::a_receipt_confirms_nothing();
+    vdcp_auto::laws::a_log_grows();
 }

@@ -9,7 +9,8 @@
 //! world.aired(), world.reported(), world.log(), world.outcome()
 //! ```
 //!
-//! An event that can't happen changes nothing. `read_script` makes events of a text, also another line's
+//! An event that can't happen changes nothing. `late` has the line that keeps order but may be late, with ends that are
+//! restarted. `read_script` makes events of a text, also another line's
 //! (`ScriptEvent`), and `can_become` says what damage may make of a burst.
 #![tactic(auto)]
 
@@ -17,6 +18,7 @@ mod burst;
 mod damage;
 mod event;
 mod heard;
+pub mod late;
 pub mod laws;
 mod link;
 mod script;

@@ -2,6 +2,7 @@
 mod bound;
 mod clips;
 mod headline;
+mod late;
 mod memory;
 mod nothing;
 mod rows;

@@ -1,27 +1,7 @@
-use Rattle.vdcp_world.proofs.Below.{Below}
 use Rattle.vdcp_world.proofs.BoundedEndProof.{bounded_end}
 use Rattle.vdcp_world.proofs.laws.good_rounds_bring_all_to_air.Goals as goal
 
 pub returns : goal.returns
 returns c =
-    let below : Below = record {
-      alone = c.a_spelling_is_its_message.ensures.messages;
-      before = c.a_spelling_is_its_message.ensures.before;
-      command_fits = c.command_is_read_first.ensures.fits;
-      reply_fits = c.reply_is_read_first.ensures.fits;
-      reply_read = c.written_reply_is_read.ensures.computed;
-      own_row = c.a_command_has_its_own_row.ensures;
-      answered = c.a_command_is_answered.ensures;
-      none_sent = c.a_burst_without_a_message.ensures.sent;
-      none_aired = c.a_burst_without_a_message.ensures.aired;
-      none_left = c.a_burst_without_a_message.ensures.next;
-      one_sent = c.a_burst_with_one_message.ensures.sent;
-      one_aired = c.a_burst_with_one_message.ensures.aired;
-      one_left = c.a_burst_with_one_message.ensures.next;
-      unit_frame = c.the_unit_stays.ensures.frame;
-      awaited_written = c.commands_can_be_written.ensures.awaited;
-      given_written = c.commands_can_be_written.ensures.given;
-      receipt_stays = c.a_receipt_confirms_nothing.ensures.changes;
-    } in
     λ channel reached.
-    bounded_end below c.reached_is_lawful.ensures channel reached
+    bounded_end c.crates_below.ensures c.crates_below.ensures.lawful channel reached

@@ -1,9 +1,0 @@
--- What the clauses of this crate cite, file by file.
-pub mod Damage
-pub mod LateChannel
-pub mod Pipe
-pub mod LateHeadline
-pub mod Runs
-pub mod GoingOn
-pub mod Joined
-pub mod LateScript

@@ -1,0 +1,37 @@
+-- Lemmas of the late line.
+pub mod Thinning
+pub mod Pipes
+pub mod Places
+pub mod Executed
+pub mod Stretches
+pub mod Delivering
+pub mod DeliveringPlay
+pub mod Safety
+pub mod Closing
+pub mod Standing
+pub mod Exactness
+pub mod ExactPlaces
+pub mod Endings
+pub mod Passing
+pub mod Hearing
+pub mod Executing
+pub mod Carrying
+pub mod Claims
+pub mod Coming
+pub mod Kept
+pub mod KeptEvents
+pub mod HeadlineProof
+pub mod PlainCovers
+pub mod ConfirmedPlaces
+pub mod ConfirmedReads
+pub mod ConfirmedStanding
+pub mod ConfirmedHearing
+pub mod ConfirmedComing
+pub mod ConfirmedCovers
+pub mod Started
+pub mod LateReached
+pub mod LateController
+mod Premises
+pub mod Joining
+pub mod Happened
+pub mod GoingOn

@@ -1,0 +1,152 @@
+-- The headline, from what holds of the clips that went to air, and from the law of the controller.
+use Rattle.std.proofs.Common.{ℕ, zero, suc, ◌+◌, ◌≡◌, ◌<◌, ◌≤◌, Bool, false, List, [], ◌∷◌, ◌++◌, length, take, drop, refl, arith, sym, ap, subst, ◌∙◌, take-append-drop, length-drop}
+use Rattle.std.proofs.Math.Seq.{take-length}
+use Rattle.std.specs.Prelude.{Option, None, Some, IsTrue, IfSome, IsSomeAnd, slice_get}
+use Rattle.vdcp_value.specs.declared.clip_id.ClipId.{ClipId}
+use Rattle.vdcp_value.specs.declared.part.Item.{Item}
+use Rattle.vdcp_value.specs.declared.timecode.Timecode.{Timecode}
+use Rattle.vdcp_port.specs.Clips.{is_known}
+use Rattle.vdcp_auto.specs.Endings.{IsRefused}
+use Rattle.vdcp_auto.specs.Law.{IsLawful}
+use Rattle.vdcp_auto.specs.Plan.{Plan}
+use Rattle.vdcp_auto.specs.Settled.{may_have_aired, settled}
+use Rattle.vdcp_auto.specs.Turn.{outcome_of}
+use Rattle.vdcp_auto.specs.declared.exchange.Exchange.{Exchange}
+use Rattle.vdcp_auto.specs.declared.outcome.Outcome.{Outcome}
+use Rattle.vdcp_auto.specs.declared.outcome.Outcome.TheVariants as outcome
+use Rattle.vdcp_auto.specs.declared.phase.Mode.{Mode}
+use Rattle.vdcp_auto.specs.declared.phase.Mode.TheVariants.{Plain, Confirming}
+use Rattle.vdcp_auto.specs.State.{Stage}
+use Rattle.vdcp_auto.specs.State.{Ready, Awaiting, Ended}
+use Rattle.vdcp_world.specs.Headline.{IsUnknownAt, AreReported}
+use Rattle.vdcp_world.specs.LateLine.LateChannel.{LateChannel}
+use Rattle.vdcp_world.specs.LateLine.LateHeadline.{IsLateRefused, LateMeans, LateHeadline, is_late_complete, log_so_far, reported_of}
+use Rattle.vdcp_world.proofs.LateLine.Delivering.{no_item}
+use Rattle.vdcp_world.proofs.LateLine.Endings.{Misses, complete_settles, knows, settled_at}
+use Rattle.vdcp_world.proofs.LateLine.Places.{At, Near}
+use Rattle.vdcp_world.proofs.LateLine.Safety.{taken}
+
+-- what an end says of the clips that went to air
+abbrev pub EndHolds : Mode → List Item → List (ClipId × Timecode) → List Item → ℕ → Outcome → Type 0
+EndHolds mode list clips aired settled o =
+    IfSome (settled_at mode (length list) o) (At list aired settled) × Misses list clips o
+
+abbrev pub EndHoldsAt : Mode → List Item → List (ClipId × Timecode) → List Item → ℕ → Stage → Type 0
+EndHoldsAt mode list clips aired settled (Ended o) = EndHolds mode list clips aired settled o
+EndHoldsAt mode list clips aired settled _ = Unit {0}
+
+-- what a channel's clips have to keep
+pub record Airs (mode : Mode) (list : List Item) (clips : List (ClipId × Timecode)) (aired : List Item) (settled : ℕ)
+    (may : Bool) (stage : Stage) : Type 0 where
+  pub near : Near list aired settled
+  pub exact : may ≡ false → aired ≡ take settled list
+  pub end_holds : EndHoldsAt mode list clips aired settled stage
+
+abbrev pub AirsIn : LateChannel → Type 0
+AirsIn c =
+    Airs c.plan.mode c.plan.list c.port.clips c.aired c.state.settled (may_have_aired c.plan.mode (log_so_far c))
+    c.state.stage
+
+-- ---- lists
+
+take_within : {A : Type 0} → (s a : ℕ) (xs : List A) → s ≤ a → take s (take a xs) ≡ take s xs
+take_within zero a xs l = refl
+take_within (suc s) zero xs l = absurd (omega arith)
+take_within (suc s) (suc a) [] l = refl
+take_within (suc s) (suc a) (x ∷ xs) l = ap (λ ys. x ∷ ys) (take_within s a xs (omega arith))
+
+begins : (list aired : List Item) (settled : ℕ) → Near list aired settled → (more : List Item) × (list ≡ aired ++ more)
+begins list aired settled n = (
+  drop (length aired) list,
+  sym (take-append-drop (length aired) list) ∙ ap
+      (λ (front : List Item). front ++ drop (length aired) list) (sym n.aired_is),
+)
+
+reports : (list aired : List Item) (settled : ℕ) → Near list aired settled
+    → (last : List Item) × (aired ≡ take settled list ++ last) × (length last ≤ 1)
+reports list aired settled n =
+    let front : take settled aired ≡ take settled list = ap (take settled) n.aired_is ∙ take_within settled
+    (length aired) list n.low in
+    let size : length (drop settled aired) + settled ≡ length aired =
+    omega (arith, length-drop settled aired, n.low) in (
+      drop settled aired,
+      sym (take-append-drop settled aired) ∙ ap (λ (x : List Item). x ++ drop settled aired) front,
+      omega (arith, size, n.high),
+    )
+
+-- ---- what the outcome means
+
+unknown_at : (clips : List (ClipId × Timecode)) (list : List Item) (k : ℕ) (o : Option Item) → slice_get list k ≡ o
+    → k < length list
+    → knows clips o ≡ false → IsUnknownAt clips list k
+unknown_at clips list k None is below e = absurd (no_item list k below is)
+unknown_at clips list k (Some item) is below e =
+    subst (λ (o : Option Item). IsSomeAnd o (λ item. is_known clips item.id ≡ false)) (sym is) e
+
+exactly : (plan : Plan) (aired : List Item) (log : List Exchange) (reported k : ℕ) → At plan.list aired reported k
+    → reported ≡ settled plan.mode log
+    → AreReported plan aired log k
+exactly plan aired log reported k a counted = record {
+  aired_count = ap length a.aired_is ∙ taken plan.list k a.within;
+  reported_count = sym counted ∙ a.settled_is;
+}
+
+refused_in : (mode : Mode) (plan : Plan) (aired : List Item) (log : List Exchange) (reported k : ℕ)
+    → IfSome (settled_at mode (length plan.list) (outcome.Refused k)) (At plan.list aired reported)
+    → reported ≡ settled plan.mode log
+    → (mode ≡ Confirming → IsRefused plan.list plan.limit log k)
+    → IsLateRefused mode plan aired log k
+refused_in Plain plan aired log reported k h counted by_log = tt
+refused_in Confirming plan aired log reported k h counted by_log =
+    (by_log refl, exactly plan aired log reported k h counted)
+
+means : (c : LateChannel) (o : Outcome) → EndHolds c.plan.mode c.plan.list c.port.clips c.aired c.state.settled o
+    → IsLawful c.plan c.state c.log
+    → outcome_of c.state.stage ≡ Some o → LateMeans c.port.clips c.plan c.aired c.log o
+means c outcome.Done h l e = (
+  h.0.aired_is ∙ take-length c.plan.list,
+  exactly c.plan c.aired c.log c.state.settled (length c.plan.list) h.0 l.is_settled,
+)
+means c outcome.Stopped h l e = tt
+means c outcome.Lost h l e = l.is_lost.0 e
+means c outcome.Denied h l e = exactly c.plan c.aired c.log c.state.settled 0 h.0 l.is_settled
+means c (outcome.Missing k) h l e = (
+  unknown_at c.port.clips c.plan.list k (slice_get c.plan.list k) refl h.1.0 h.1.1,
+  exactly c.plan c.aired c.log c.state.settled k h.0 l.is_settled,
+)
+means c (outcome.Refused k) h l e = refused_in c.plan.mode c.plan c.aired c.log c.state.settled k h.0 l.is_settled
+    (λ confirms. l.is_refused confirms k e)
+means c (outcome.Foreign k) h l e = exactly c.plan c.aired c.log c.state.settled (k + 1) h.0 l.is_settled
+means c (outcome.Strange k) h l e = exactly c.plan c.aired c.log c.state.settled k h.0 l.is_settled
+
+means_at : (c : LateChannel) (stage : Stage) → c.state.stage ≡ stage
+    → EndHoldsAt c.plan.mode c.plan.list c.port.clips c.aired c.state.settled stage
+    → IsLawful c.plan c.state c.log
+    → IfSome (outcome_of stage) (LateMeans c.port.clips c.plan c.aired c.log)
+means_at c (Ready q) e h l = tt
+means_at c (Awaiting q) e h l = tt
+means_at c (Ended o) e h l = means c o h l (ap outcome_of e)
+
+-- all that went to air is reported
+complete_at : (c : LateChannel) (stage : Stage)
+    → EndHoldsAt c.plan.mode c.plan.list c.port.clips c.aired c.state.settled stage
+    → IfSome (outcome_of stage) (λ outcome. IsTrue (is_late_complete c.plan.mode outcome) → c.aired ≡ reported_of c)
+complete_at c (Ready q) h = tt
+complete_at c (Awaiting q) h = tt
+complete_at c (Ended o) h = λ e.
+    let (k, at) = complete_settles c.plan.mode (length c.plan.list) o e h.0 in
+    at.aired_is ∙ ap (λ (n : ℕ). take n c.plan.list) (sym at.settled_is)
+
+pub headline : (c : LateChannel) → AirsIn c
+    → IsLawful c.plan c.state c.log → LateHeadline c
+headline c a l = record {
+  beginning = begins c.plan.list c.aired c.state.settled a.near;
+  reported = reports c.plan.list c.aired c.state.settled a.near;
+  exact = a.exact;
+  count = taken c.plan.list c.state.settled (omega (arith, a.near.low, a.near.within));
+  is_settled = l.is_settled;
+  keeps_rules = l.keeps_rules;
+  may_await = l.may_await;
+  ended = means_at c c.state.stage refl a.end_holds l;
+  complete = complete_at c c.state.stage a.end_holds;
+}
