@@ -1,4 +1,3 @@
-mod CheckLemmas
+-- The lemmas, file by file.
+mod PlayableLemmas
 mod FileLines
-mod VectorLemmas
-mod Examples

@@ -1,5 +1,5 @@
+-- The definitions, file by file.
 pub mod Files
 pub mod Lines
-pub mod Check
+pub mod Playable
 pub mod Subcommand
-pub mod Vectors

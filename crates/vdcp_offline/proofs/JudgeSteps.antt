@@ -13,11 +13,11 @@ use Rattle.vdcp_auto.specs.declared.exchange.Exchange.{Exchange}
 use Rattle.vdcp_auto.specs.declared.exchange.Heard.{Heard}
 use Rattle.vdcp_auto.specs.declared.phase.Mode.{Mode}
 use Rattle.vdcp_files.specs.Lines.{TakesLine}
-use Rattle.vdcp_judge.specs.Captures.{awaited_after, ended_at, exchanges_from, exchanges_in}
-use Rattle.vdcp_judge.specs.Judging.{Knows}
-use Rattle.vdcp_judge.specs.Rulings.{IsRuling}
-use Rattle.vdcp_judge.specs.declared.capture.Captured.{Captured}
-use Rattle.vdcp_judge.specs.declared.capture.Captured.TheVariants.{Sent, Came, Silence}
+use Rattle.vdcp_auto.specs.Captures.{awaited_after, ended_at, exchanges_from, exchanges_in}
+use Rattle.vdcp_auto.specs.Judging.{Knows}
+use Rattle.vdcp_auto.specs.Rulings.{IsRuling}
+use Rattle.vdcp_auto.specs.declared.capture.Captured.{Captured}
+use Rattle.vdcp_auto.specs.declared.capture.Captured.TheVariants.{Sent, Came, Silence}
 use Rattle.vdcp_offline.specs.Findings.{AreFindings, AreRuled, captured_of, command_lines, event_line, events_text, exchanges_of, forbidden_in, forbidden_line, forbidden_text, has_message, is_forbidden, is_message, line_of_command, one_more_finding, reported_in}
 use Rattle.vdcp_offline.specs.Found.{AreMore, ShowFindings, Tells, awaited_lines, last_exchange, line_after, line_of_last}
 use Rattle.vdcp_offline.specs.Rows.{IsCapture, IsCaptureOf, SayAll, Says, numbered}

@@ -12,11 +12,11 @@ use Rattle.vdcp_world.specs.Channel.{Channel, after_events}
 use Rattle.vdcp_world.specs.Headline.{Headline}
 use Rattle.vdcp_world.specs.Script.{NoOwn, same_event}
 use Rattle.vdcp_world.specs.declared.event.Event.{Event}
-use Rattle.vdcp_late.specs.Joined.{late_of}
-use Rattle.vdcp_late.specs.LateChannel.{LateChannel, after_late_events}
-use Rattle.vdcp_late.specs.LateHeadline.{LateHeadline}
-use Rattle.vdcp_late.specs.LateScript.{IsLateLineOf, late_event}
-use Rattle.vdcp_late.specs.declared.event.LateEvent.{LateEvent}
+use Rattle.vdcp_world.specs.LateLine.Joined.{late_of}
+use Rattle.vdcp_world.specs.LateLine.LateChannel.{LateChannel, after_late_events}
+use Rattle.vdcp_world.specs.LateLine.LateHeadline.{LateHeadline}
+use Rattle.vdcp_world.specs.LateLine.LateScript.{IsLateLineOf, late_event}
+use Rattle.vdcp_world.specs.declared.late.event.LateEvent.{LateEvent}
 use Rattle.vdcp_offline.specs.Sim as sim
 use Rattle.vdcp_offline.specs.Sim.{IsRun, IsScriptOf, channel_of, run_text}
 use Rattle.vdcp_offline.specs.declared.sim.SimSettings.{SimSettings}

@@ -2,17 +2,13 @@
 use Rattle.std.proofs.Common.{◌≡◌, ℕ, ◌<◌, List, sym, ap, ◌∙◌, arith, inl, inr, ◌⊎◌, Bor}
 use Rattle.std.specs.Io.KnownBytes.{Appends}
 use Rattle.std.specs.Prelude.{Option}
-use Rattle.vdcp_files.specs.Check.{IsRefused}
+use Rattle.vdcp_offline.specs.Check.{IsRefused}
 use Rattle.vdcp_files.specs.Files.{File}
+use Rattle.vdcp_offline.proofs.CheckLemmas.{status_1}
 use Rattle.vdcp_offline.specs.Sim.{IsScriptRefused, IsUnsimulated, no_files, no_script, writer_failed}
 use Rattle.vdcp_text.specs.Failure.{failure_line, status_of}
 use Rattle.vdcp_text.specs.declared.failure.Failure.{Failure}
 use Rattle.vdcp_value.specs.declared.rate.Rate.{Rate}
-
-status_1 : (failure : Failure) (status : ℕ) → (status ≡ status_of failure) ⊎ (status ≡ 3) → status ≡ 1
-    → status_of failure ≡ 1
-status_1 failure status (inl e) one = sym e ∙ one
-status_1 failure status (inr three) one = absurd (omega (arith, three, one))
 
 pub refused_with_1 : (rate : Rate) (list catalogue : File) (name : Bor (List ℕ)) (out out' err err' : Option (List ℕ))
     (failure : Failure) (status : ℕ)

@@ -6,10 +6,10 @@ use Rattle.vdcp_auto.specs.declared.exchange.Exchange.{Exchange}
 use Rattle.vdcp_auto.specs.declared.phase.Mode.{Mode}
 use Rattle.vdcp_offline.specs.declared.judge.capture.Piece.{Piece}
 use Rattle.vdcp_offline.specs.declared.judge.findings.Finding.{Finding}
-use Rattle.vdcp_judge.specs.Captures.{exchanges_in}
-use Rattle.vdcp_judge.specs.Rulings.{IsRuling}
-use Rattle.vdcp_judge.specs.declared.capture.Captured.{Captured}
-use Rattle.vdcp_judge.specs.declared.capture.Captured.TheVariants.{Sent, Came, Silence}
+use Rattle.vdcp_auto.specs.Captures.{exchanges_in}
+use Rattle.vdcp_auto.specs.Rulings.{IsRuling}
+use Rattle.vdcp_auto.specs.declared.capture.Captured.{Captured}
+use Rattle.vdcp_auto.specs.declared.capture.Captured.TheVariants.{Sent, Came, Silence}
 use Rattle.vdcp_text.specs.Items.{item_text}
 use Rattle.vdcp_text.specs.Text.{line}
 use Rattle.vdcp_value.specs.declared.part.Item.{Item}

@@ -1,9 +1,9 @@
 -- What is kept of a capture while it is read.
 use Rattle.std.specs.Prelude.{◌≡◌, ℕ, List, [], ◌∷◌, ◌++◌, Option, None, Some, length, map, string_bytes}
-use Rattle.vdcp_judge.specs.Captures.{exchanges_from, exchanges_in}
-use Rattle.vdcp_judge.specs.Judging.{Knows}
-use Rattle.vdcp_judge.specs.declared.capture.Captured.{Captured}
-use Rattle.vdcp_judge.specs.declared.capture.Captured.TheVariants.{Sent, Came, Silence}
+use Rattle.vdcp_auto.specs.Captures.{exchanges_from, exchanges_in}
+use Rattle.vdcp_auto.specs.Judging.{Knows}
+use Rattle.vdcp_auto.specs.declared.capture.Captured.{Captured}
+use Rattle.vdcp_auto.specs.declared.capture.Captured.TheVariants.{Sent, Came, Silence}
 use Rattle.vdcp_auto.specs.Settled.{settled}
 use Rattle.vdcp_auto.specs.declared.exchange.Exchange.{Exchange}
 use Rattle.vdcp_auto.specs.declared.phase.Mode.{Mode}

@@ -4,3 +4,5 @@ pub mod Found
 pub mod Judged
 pub mod Rows
 pub mod Sim
+pub mod Check
+pub mod Vectors

@@ -3,11 +3,11 @@ use Rattle.hex.specs.Hex.{decode_of}
 use Rattle.std.specs.Prelude.{ℕ, ◌≡◌, ◌+◌, ⊤, List, [], ◌∷◌, ◌++◌, codes, map, Ok, Option, None, Some}
 use Rattle.std.specs.Str.Lines.{lines}
 use Rattle.vdcp_offline.specs.declared.judge.capture.Piece.{Piece}
-use Rattle.vdcp_judge.specs.Captures.{captured_in}
-use Rattle.vdcp_judge.specs.declared.burst.Way.{Way}
-use Rattle.vdcp_judge.specs.declared.burst.Way.TheVariants.{Down, Up}
-use Rattle.vdcp_judge.specs.declared.capture.Captured.{Captured}
-use Rattle.vdcp_judge.specs.declared.capture.Captured.TheVariants.{Silence}
+use Rattle.vdcp_auto.specs.Captures.{captured_in}
+use Rattle.vdcp_auto.specs.declared.burst.Way.{Way}
+use Rattle.vdcp_auto.specs.declared.burst.Way.TheVariants.{Down, Up}
+use Rattle.vdcp_auto.specs.declared.capture.Captured.{Captured}
+use Rattle.vdcp_auto.specs.declared.capture.Captured.TheVariants.{Silence}
 
 abbrev pub way_text : Way → List ℕ
 way_text Down = codes "down"

@@ -20,17 +20,17 @@ use Rattle.vdcp_text.specs.Text.{line}
 use Rattle.vdcp_text.specs.declared.failure.Failure.{Failure}
 use Rattle.vdcp_text.specs.declared.failure.Failure.TheVariants as failures
 use Rattle.vdcp_text.specs.declared.failure.ScriptLineFault.{ScriptLineFault}
-use Rattle.vdcp_files.specs.Check.{AreWhole, IsRefused, Refuses}
+use Rattle.vdcp_offline.specs.Check.{AreWhole, IsRefused, Refuses}
 use Rattle.vdcp_files.specs.Files.{File, bytes_of}
 use Rattle.vdcp_world.specs.Channel.{Channel, new_channel, after_events}
 use Rattle.vdcp_world.specs.Headline.{Headline}
 use Rattle.vdcp_world.specs.Script.{IsScript, NoOwn, same_event}
 use Rattle.vdcp_world.specs.declared.event.Event.{Event}
-use Rattle.vdcp_late.specs.Joined.{late_of}
-use Rattle.vdcp_late.specs.LateChannel.{LateChannel, after_late_events}
-use Rattle.vdcp_late.specs.LateHeadline.{LateHeadline}
-use Rattle.vdcp_late.specs.LateScript.{IsLateLineOf, late_event}
-use Rattle.vdcp_late.specs.declared.event.LateEvent.{LateEvent}
+use Rattle.vdcp_world.specs.LateLine.Joined.{late_of}
+use Rattle.vdcp_world.specs.LateLine.LateChannel.{LateChannel, after_late_events}
+use Rattle.vdcp_world.specs.LateLine.LateHeadline.{LateHeadline}
+use Rattle.vdcp_world.specs.LateLine.LateScript.{IsLateLineOf, late_event}
+use Rattle.vdcp_world.specs.declared.late.event.LateEvent.{LateEvent}
 use Rattle.vdcp_offline.specs.declared.sim.SimSettings.{SimSettings}
 
 -- ---- lines

@@ -1,11 +1,16 @@
-//! The subcommands `judge` and `sim`, which touch no line: a captured line, or a script of one, is run through.
+//! The subcommands that touch no line: `check` holds a playlist against a catalogue, `vectors` tests each row of a file
+//! of bursts and their readings, `judge` holds a captured line against the rule book, and `sim` runs a script of a line.
 //!
 //! Each is a function `do_NAME` over any readers and writers, in a module of its name. It reports a failure to standard error
 //! in one line, and gives the exit status.
 #![tactic(auto)]
 
+mod check;
 mod judge;
 mod sim;
+mod vectors;
 
+pub use check::do_check;
 pub use judge::{JudgeSettings, do_judge};
 pub use sim::{SimSettings, do_sim};
+pub use vectors::do_vectors;

@@ -5,10 +5,10 @@
 //! and gives the exit status.
 ghost use Rattle.std.specs.Io.KnownBytes.{Appends, Keeps};
 ghost use Rattle.std.specs.Prelude.{◌≡◌, ◌≢◌, ◌⊎◌, ◌≤◌, IfErr, IsTrue, OnOk, false, true};
-ghost use Rattle.vdcp_files.specs.Check.{AreWhole};
+ghost use Rattle.vdcp_offline.specs.Check.{AreWhole};
 ghost use Rattle.vdcp_files.specs.Files.{file};
 ghost use Rattle.vdcp_files.specs.Subcommand.{IsSubcommand};
-ghost use Rattle.vdcp_late.specs.Joined.{late_of};
+ghost use Rattle.vdcp_world.specs.LateLine.Joined.{late_of};
 ghost use Rattle.vdcp_offline.specs.Sim.{IsRun, IsRunFailure, IsSimulated, IsUnsimulated, RefusesOne};
 ghost use Rattle.vdcp_offline.specs.Sim.{aired_line, aired_text, channel_of, end_text, exchange_line, run_text, trace_text};
 ghost use Rattle.vdcp_text.specs.Failure.{status_of};
@@ -18,11 +18,11 @@ use std::alloc::Global;
 use std::io;
 use vdcp_auto::{Exchange, Mode, Outcome, Source};
 use vdcp_files::NamedFile;
-use vdcp_late::LateWorld;
 use vdcp_port::{Catalogue, Port};
 use vdcp_text::{ExchangeText, Failure, ItemText, OutcomeText};
 use vdcp_value::{Item, Rate};
 use vdcp_world::World;
+use vdcp_world::late::LateWorld;
 
 mod script;
 
@@ -56,7 +56,6 @@ pub struct SimSettings {
 /// file can't be read or memory was refused: `err` gets a line of either, and `out` nothing. The list is
 /// read first, and then the catalogue. The status is 3 if a writer failed: nothing more is written to
 /// that one. `out` is flushed after the last line.
-#[tactic(auto, using(crate::proofs::SimRefusals::refused_with_1))]
 pub fn do_sim<
     L: io::Read + Drop,
     C: io::Read + Drop,

@@ -4,7 +4,7 @@ use crate::run::{Run, copies, expect_last, expect_run, expect_whole, has_failed}
 use std::alloc::Global;
 use std::io;
 use std::process::Abort;
-use vdcp_files::do_check;
+use vdcp_offline::do_check;
 use vdcp_testing::{FailingReader, FailingWriter, Fails};
 use vdcp_value::Rate;
 

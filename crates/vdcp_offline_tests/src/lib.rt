@@ -1,4 +1,4 @@
-//! Tests of `check`, `vectors`, `judge` and `sim`, by the public calls of `vdcp_files` and `vdcp_offline`.
+//! Tests of `check`, `vectors`, `judge` and `sim`, by the public calls of `vdcp_offline`.
 #![tactic(auto)]
 
 #[cfg(test)]

@@ -7,8 +7,8 @@ use std::alloc::{AllocError, Global};
 use std::fmt::Write;
 use std::io;
 use std::process::Abort;
-use vdcp_files::do_vectors;
 use vdcp_frame::{End, Ended, Got, Reader};
+use vdcp_offline::do_vectors;
 use vdcp_testing::{FailingReader, FailingWriter, Fails};
 use vdcp_text::{EndText, HexText, MessageText};
 

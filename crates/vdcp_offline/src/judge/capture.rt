@@ -11,9 +11,8 @@ use crate::judge::findings::Found;
 use hex::FromHexError;
 use std::alloc::{AllocError, Global};
 use std::io;
-use vdcp_auto::Source;
+use vdcp_auto::{Captured, Source, Way, captured_in};
 use vdcp_files::{NamedFile, lines_in, next_line};
-use vdcp_judge::{Captured, Way, captured_in};
 use vdcp_text::{Failure, ScriptLineFault};
 
 /// Something captured, with the number of its line, from 1.

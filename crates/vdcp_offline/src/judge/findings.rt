@@ -11,8 +11,7 @@ use crate::judge::capture::Piece;
 use crate::judge::settings::JudgeSettings;
 use crate::judge::told::Told;
 use std::alloc::{AllocError, Global};
-use vdcp_auto::{Exchange, Source};
-use vdcp_judge::{Captured, Ruling, exchange_ended};
+use vdcp_auto::{Captured, Exchange, Ruling, Source, exchange_ended};
 use vdcp_words::Command;
 
 /// An exchange, with the line of its command, and what the rule book says of it where it stands.

@@ -4,7 +4,7 @@ ghost use Rattle.vdcp_offline.specs.Findings.{event_line, forbidden_line, is_for
 ghost use Rattle.vdcp_offline.specs.Found.{AreMore, Tells};
 ghost use Rattle.vdcp_offline.specs.declared.judge.findings.Finding.{Finding};
 ghost use Rattle.vdcp_offline.specs.declared.judge.settings.JudgeSettings.{JudgeSettings};
-ghost use Rattle.vdcp_judge.specs.declared.judge.Ruling.{Ruling};
+ghost use Rattle.vdcp_auto.specs.declared.judge.Ruling.{Ruling};
 ghost use Rattle.vdcp_value.specs.declared.part.Item.{Item};
 
 use crate::judge::findings::Finding;
@@ -13,8 +13,7 @@ use arrayvec::ArrayString;
 use std::alloc::{AllocError, Global};
 use std::fmt::Write;
 use vdcp_auto::laws::a_log_grows;
-use vdcp_auto::{Exchange, Source};
-use vdcp_judge::Judge;
+use vdcp_auto::{Exchange, Judge, Source};
 use vdcp_text::ItemText;
 use vdcp_value::{Item, Rate};
 

@@ -1,5 +1,5 @@
-use Rattle.vdcp_files.proofs.CheckLemmas.{appends_event, playable_after}
-use Rattle.vdcp_files.proofs.check.write_events.Goals as goal
+use Rattle.vdcp_files.proofs.PlayableLemmas.{appends_event, playable_after}
+use Rattle.vdcp_files.proofs.playable.write_events.Goals as goal
 
 pub loop-k-preserved : goal.loop-k-preserved
 loop-k-preserved g c =

@@ -1,7 +1,7 @@
 use Rattle.std.proofs.Common.{◌+◌, ap, refl}
-use Rattle.vdcp_files.proofs.VectorLemmas.{tally_push}
-use Rattle.vdcp_files.proofs.vectors.Tally.add.Goals as goal
-use Rattle.vdcp_files.specs.Vectors.{finding_of}
+use Rattle.vdcp_offline.proofs.VectorLemmas.{tally_push}
+use Rattle.vdcp_offline.proofs.vectors.Tally.add.Goals as goal
+use Rattle.vdcp_offline.specs.Vectors.{finding_of}
 
 pub returns : goal.returns
 returns c findings h =

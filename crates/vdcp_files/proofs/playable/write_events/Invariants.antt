@@ -1,7 +1,7 @@
 use Rattle.std.proofs.Common.{◌≡◌, take}
 use Rattle.std.specs.Io.KnownBytes.{Appends}
-use Rattle.vdcp_files.specs.Check.{are_playable, events_text}
-use Rattle.vdcp_files.proofs.check.write_events.Given as goal
+use Rattle.vdcp_files.specs.Playable.{are_playable, events_text}
+use Rattle.vdcp_files.proofs.playable.write_events.Given as goal
 
 -- the lines of the events so far are written
 abbrev pub invariant-loop-k : goal.invariant-loop-k

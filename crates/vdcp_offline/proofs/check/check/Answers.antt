@@ -1,8 +1,8 @@
 use Rattle.std.proofs.Common.{inl, inr}
 use Rattle.std.proofs.lemmas.Result.{err_from_is_err_and}
-use Rattle.vdcp_files.proofs.CheckLemmas.{kept}
-use Rattle.vdcp_files.proofs.check.check.Goals as goal
-use Rattle.vdcp_files.specs.Check.{no_files}
+use Rattle.vdcp_offline.proofs.CheckLemmas.{kept}
+use Rattle.vdcp_offline.proofs.check.check.Goals as goal
+use Rattle.vdcp_offline.specs.Check.{no_files}
 use Rattle.vdcp_list.specs.List.{items_of}
 
 pub returns-in_err-events-clause-unchecked : goal.returns-in_err-events-clause-unchecked

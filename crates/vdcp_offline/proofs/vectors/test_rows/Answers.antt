@@ -2,9 +2,9 @@ use Rattle.csv.specs.Records.{fields_of}
 use Rattle.std.proofs.Common.{◌≡◌, ◌<◌, ◌-◌, true, false, refl, inr, arith}
 use Rattle.std.proofs.lemmas.Grind.{common_steps}
 use Rattle.std.specs.Prelude.{Ok}
-use Rattle.vdcp_files.proofs.VectorLemmas.{counted, counts_one, if_ok, tested_all, tested_first, tested_next, tested_too_many}
-use Rattle.vdcp_files.proofs.vectors.test_rows.Goals as goal
-use Rattle.vdcp_files.specs.Vectors.{finding_of}
+use Rattle.vdcp_offline.proofs.VectorLemmas.{counted, counts_one, if_ok, tested_all, tested_first, tested_next, tested_too_many}
+use Rattle.vdcp_offline.proofs.vectors.test_rows.Goals as goal
+use Rattle.vdcp_offline.specs.Vectors.{finding_of}
 use Rattle.vdcp_list.specs.Reading.{IsSet, TakesRow, rows_left}
 use Rattle.vdcp_list.specs.Rows.{most_rows}
 

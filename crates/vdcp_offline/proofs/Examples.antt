@@ -5,7 +5,7 @@ use Rattle.std.specs.Char.{encode_utf8}
 use Rattle.std.specs.Fmt.{digits}
 use Rattle.std.specs.Prelude.{codes}
 use Rattle.std.specs.Str.{chars}
-use Rattle.vdcp_files.specs.Vectors.{columns, finding_of_row, findings_of, got, hex, right, too_many, vectors_text}
+use Rattle.vdcp_offline.specs.Vectors.{columns, finding_of_row, findings_of, got, hex, right, too_many, vectors_text}
 use Rattle.vdcp_text.specs.Failure.{failure_line}
 
 abbrev file_name : Bor (List ℕ)

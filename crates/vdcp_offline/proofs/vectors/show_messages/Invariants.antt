@@ -4,8 +4,8 @@ use Rattle.std.specs.Prelude.{string_bytes}
 use Rattle.vdcp_frame.specs.Burst.{messages_of}
 use Rattle.vdcp_frame.specs.Message.{Content}
 use Rattle.vdcp_frame.specs.Walk.{coming}
-use Rattle.vdcp_files.specs.Vectors.{joined_text}
-use Rattle.vdcp_files.proofs.vectors.show_messages.Given as goal
+use Rattle.vdcp_offline.specs.Vectors.{joined_text}
+use Rattle.vdcp_offline.proofs.vectors.show_messages.Given as goal
 
 abbrev pub invariant-messages : goal.invariant-messages
 invariant-messages l = record {

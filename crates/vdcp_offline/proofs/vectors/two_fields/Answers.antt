@@ -1,7 +1,7 @@
 use Rattle.csv.specs.Records.{fields_of}
 use Rattle.std.proofs.Common.{◌≡◌, length, arith}
-use Rattle.vdcp_files.proofs.VectorLemmas as lemmas
-use Rattle.vdcp_files.proofs.vectors.two_fields.Goals as goal
+use Rattle.vdcp_offline.proofs.VectorLemmas as lemmas
+use Rattle.vdcp_offline.proofs.vectors.two_fields.Goals as goal
 
 pub returns-in_err-get-clause-none : goal.returns-in_err-get-clause-none
 returns-in_err-get-clause-none c =

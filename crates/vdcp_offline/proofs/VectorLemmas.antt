@@ -6,10 +6,10 @@ use Rattle.std.proofs.lemmas.Grind.{flat_map-append}
 use Rattle.std.proofs.lemmas.List.{length-append, length-map, map-append}
 use Rattle.std.specs.Prelude.{IfNone, IfOk, Result, Ok, Err, Option, None, Some, codes, option_map, string_bytes}
 use Rattle.vdcp_files.specs.Files.{file_failure}
-use Rattle.vdcp_files.specs.Vectors.{Finding, HasTooMany, IsTally, IsTallyOf, IsUntested, bad_count, columns, finding_of_row}
-use Rattle.vdcp_files.specs.Vectors.{finding_text, findings_of, findings_text, got, joined_text, hex, right}
+use Rattle.vdcp_offline.specs.Vectors.{Finding, HasTooMany, IsTally, IsTallyOf, IsUntested, bad_count, columns, finding_of_row}
+use Rattle.vdcp_offline.specs.Vectors.{finding_text, findings_of, findings_text, got, joined_text, hex, right}
 use Rattle.vdcp_text.specs.Text.{message_text}
-use Rattle.vdcp_files.specs.declared.vectors.Tally.{Tally}
+use Rattle.vdcp_offline.specs.declared.vectors.Tally.{Tally}
 use Rattle.vdcp_frame.specs.Message.{Content}
 use Rattle.vdcp_list.specs.Reading.{IsFront, IsReadFault, TakesRow}
 use Rattle.vdcp_list.specs.Rows.{AreRowsOf, FileRow, HasRows, most_rows, rows_of}

@@ -11,9 +11,9 @@ use Rattle.vdcp_text.specs.Text.{end_text, line, message_text}
 use Rattle.vdcp_text.specs.declared.failure.Failure.{Failure}
 use Rattle.vdcp_text.specs.declared.failure.Failure.TheVariants.{Memory, Read, Row as RefusedRow}
 use Rattle.vdcp_text.specs.declared.failure.RowFault.TheVariants.{Long, TooMany}
-use Rattle.vdcp_files.specs.declared.vectors.Tally.{Tally}
-use Rattle.vdcp_files.specs.declared.vectors.Verdict.{Verdict}
-use Rattle.vdcp_files.specs.declared.vectors.Verdict.TheVariants.{Right, Other, Columns, Hex}
+use Rattle.vdcp_offline.specs.declared.vectors.Tally.{Tally}
+use Rattle.vdcp_offline.specs.declared.vectors.Verdict.{Verdict}
+use Rattle.vdcp_offline.specs.declared.vectors.Verdict.TheVariants.{Right, Other, Columns, Hex}
 use Rattle.vdcp_frame.specs.Burst.{messages_of, end_of}
 use Rattle.vdcp_frame.specs.Message.{Content}
 use Rattle.vdcp_list.specs.Rows.{AreRowsOf, FileRow, HasRows, most_rows}

@@ -1,6 +1,6 @@
 use Rattle.std.proofs.Common.{◌-◌}
-use Rattle.vdcp_files.proofs.VectorLemmas.{Tested}
-use Rattle.vdcp_files.proofs.vectors.test_rows.Given as goal
+use Rattle.vdcp_offline.proofs.VectorLemmas.{Tested}
+use Rattle.vdcp_offline.proofs.vectors.test_rows.Given as goal
 use Rattle.vdcp_list.specs.Reading.{IsSet, rows_left}
 use Rattle.vdcp_list.specs.Rows.{most_rows}
 

@@ -4,11 +4,11 @@ use Rattle.std.proofs.Common.{add-zero, zero-add, append_assoc, append-nil}
 use Rattle.std.proofs.Math.Seq.{take-suc}
 use Rattle.std.proofs.lemmas.List.Folds.{list_all-append}
 use Rattle.std.proofs.lemmas.Option.{get_or_from_slice_get, slice_get_within}
-use Rattle.std.specs.Io.KnownBytes.{Appends, Keeps}
+use Rattle.std.specs.Io.KnownBytes.{Appends}
 use Rattle.std.specs.Prelude.{Option, None, Some, is_none, is_some, not, slice_get, ◌&&◌, if◌then◌else◌}
-use Rattle.vdcp_files.specs.declared.check.EventFault.TheVariants.{Outside}
-use Rattle.vdcp_files.specs.declared.check.EventFault.{EventFault}
-use Rattle.vdcp_files.specs.Check.{are_playable, event_text, events_text, fault_in, fault_of}
+use Rattle.vdcp_files.specs.declared.playable.EventFault.TheVariants.{Outside}
+use Rattle.vdcp_files.specs.declared.playable.EventFault.{EventFault}
+use Rattle.vdcp_files.specs.Playable.{are_playable, event_text, events_text, fault_in, fault_of}
 use Rattle.vdcp_port.specs.Clips.{can_cue, is_playable, length_of}
 use Rattle.vdcp_value.specs.Parts.{part_fits}
 use Rattle.vdcp_value.specs.declared.clip_id.ClipId.{ClipId}
@@ -108,7 +108,3 @@ pub playable_after : (clips : List (ClipId × Timecode)) (items : List Item) (k 
 playable_after clips items k item before fault none at e is same =
     ap (λ n. before && n) (none_is fault (fault_of clips item) none is same)
     ∙ playable_more clips items k item before at e
-
-pub kept : (bytes : Option (List ℕ)) → Keeps bytes bytes
-kept None = tt
-kept (Some xs) = refl

@@ -6,19 +6,19 @@ ghost use Rattle.std.specs.Prelude.{◌≡◌, ◌⊎◌, ◌<◌, ◌≤◌, �
 ghost use Rattle.vdcp_text.specs.Failure.{failure_line};
 ghost use Rattle.vdcp_text.specs.Text.{message_text};
 ghost use Rattle.vdcp_files.specs.Subcommand.{Counted, IsSubcommand};
-ghost use Rattle.vdcp_files.specs.Vectors.{AreTested, Finding, HasTooMany, IsTally, IsTallyOf, IsUntested, RefusesRows, bad_count, finding_of, finding_of_burst, finding_of_row, finding_text, joined_reading, joined_text, too_long, too_many, vectors_text};
+ghost use Rattle.vdcp_offline.specs.Vectors.{AreTested, Finding, HasTooMany, IsTally, IsTallyOf, IsUntested, RefusesRows, bad_count, finding_of, finding_of_burst, finding_of_row, finding_text, joined_reading, joined_text, too_long, too_many, vectors_text};
 ghost use Rattle.vdcp_frame.specs.Burst.{end_of, messages_of};
 ghost use Rattle.vdcp_frame.specs.Message.{content_of};
 ghost use Rattle.vdcp_frame.specs.Walk.{end_seen};
 ghost use Rattle.vdcp_list.specs.Reading.{IsSet, TakesRow, rows_left};
 ghost use Rattle.vdcp_list.specs.Rows.{most_rows, rows_of};
 
-use crate::named_file::{NamedFile, file_failure};
 use csv::{ByteRecord, Reader};
 use hex::FromHexError;
 use std::alloc::{AllocError, Global};
 use std::fmt::Write;
 use std::{fmt, io};
+use vdcp_files::{NamedFile, file_failure};
 use vdcp_frame::{End, Message, Messages};
 use vdcp_list::laws::rows_are_read_in_order;
 use vdcp_list::{Bounded, MAX_ROWS, next_row, rows_in};
@@ -310,7 +310,7 @@ struct CountText {
 
 impl fmt::Display for CountText {
     ghost use Rattle.std.specs.Prelude.{Some};
-    ghost use Rattle.vdcp_files.specs.Vectors.{count_text};
+    ghost use Rattle.vdcp_offline.specs.Vectors.{count_text};
 
     ghost output = { λ c. Some (count_text c.rows c.bad) };
 

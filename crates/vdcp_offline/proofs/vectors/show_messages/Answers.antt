@@ -1,7 +1,7 @@
 -- The next message comes, and its line is written.
 use Rattle.std.proofs.Common.{◌≡◌, List, [], ◌∷◌, ◌++◌, sym, ap, ◌∙◌, append_assoc}
-use Rattle.vdcp_files.proofs.VectorLemmas.{joined_text-push}
-use Rattle.vdcp_files.proofs.vectors.show_messages.Goals as goal
+use Rattle.vdcp_offline.proofs.VectorLemmas.{joined_text-push}
+use Rattle.vdcp_offline.proofs.vectors.show_messages.Goals as goal
 use Rattle.vdcp_frame.specs.Message.{Content, content_of}
 use Rattle.vdcp_frame.specs.Walk.{coming}
 use Rattle.vdcp_text.specs.Text.{message_text}
