@@ -1,0 +1,19 @@
+use Rattle.std.proofs.Common.{subst, sym}
+use Rattle.vdcp_journal_file.specs.Recorded.{MayHold}
+use Rattle.vdcp_journal_file.specs.Recording.{IsSynced}
+use Rattle.vdcp_journal_file.specs.declared.pending.Pending.{Pending}
+use Rattle.vdcp_journal_file.proofs.Chains.{ended_may_hold}
+use Rattle.vdcp_journal_file.proofs.Disking.{synced_at_end}
+use Rattle.vdcp_journal_file.proofs.recorder.Recorder.note_row.Goals as goal
+
+pub invariant_of-self : goal.invariant_of-self
+invariant_of-self g c =
+    let before = c.self.inside in (
+      c.self.invariant.0,
+      subst (λ (p : Pending). MayHold p) (sym c.ended-self-inside.ensures)
+          (ended_may_hold before.pending c.args.row c.requires c.self.invariant.1),
+      subst (λ (p : Pending). IsSynced p (g.F.Disk.safe before.file) (g.F.Disk.written before.file))
+          (sym c.ended-self-inside.ensures)
+          (synced_at_end before.pending c.args.row (g.F.Disk.safe before.file) (g.F.Disk.written before.file)
+          c.self.invariant.2),
+    )

@@ -1,0 +1,155 @@
+-- What a journal has of the run of an automation that has its exchanges kept there.
+use Rattle.std.specs.Io.KnownBytes.{Appends}
+use Rattle.std.specs.List.{flat_map}
+use Rattle.std.specs.Prelude.{ℕ, ◌≡◌, ◌⊎◌, ◌≤◌, IsTrue, false, not, List, [], ◌∷◌, ◌++◌, filter, length, map, Option, None, Some, Result, Ok, Err}
+use Rattle.vdcp_auto.specs.Commands.{is_status_command}
+use Rattle.vdcp_auto.specs.Plan.{Plan}
+use Rattle.vdcp_auto.specs.Turn.{awaited}
+use Rattle.vdcp_auto.specs.declared.exchange.Heard.{Heard}
+use Rattle.vdcp_drive.specs.Auto.{Auto, log_of}
+use Rattle.vdcp_drive.specs.Ears.{Fold}
+use Rattle.vdcp_drive.specs.Keeping.{notes_of}
+use Rattle.vdcp_drive.specs.Traces.{bytes_of}
+use Rattle.vdcp_drive.specs.declared.keep.Kept.{Kept}
+use Rattle.vdcp_drive.specs.declared.keep.Kept.TheVariants as kept
+use Rattle.vdcp_drive.specs.declared.keep.KeptFault.{KeptFault}
+use Rattle.vdcp_drive.specs.declared.keep.KeptFault.TheVariants as fault
+use Rattle.vdcp_drive.specs.declared.line.Ran.{Ran}
+use Rattle.vdcp_drive.specs.declared.operator.Call.{Call}
+use Rattle.vdcp_drive.specs.declared.operator.Call.TheVariants as call
+use Rattle.vdcp_journal.specs.Rows.{rows_text}
+use Rattle.vdcp_journal.specs.Thinned.{IsThinned, asks_state, hears_waiting, notes_in}
+use Rattle.vdcp_journal.specs.declared.moment.Moment.{Moment}
+use Rattle.vdcp_journal.specs.declared.row.Note.{Note}
+use Rattle.vdcp_journal.specs.declared.row.Note.TheVariants as note
+use Rattle.vdcp_journal.specs.declared.row.Row.{Row}
+use Rattle.vdcp_journal_file.specs.Recording.{MakesBeginning, MakesSafe, Recording, after_row, announces, end_note, ended, notes_seen, rows_due, rows_left, seen_before}
+use Rattle.vdcp_journal_file.specs.declared.pending.Pending.{Pending}
+use Rattle.vdcp_journal_file.specs.declared.pending.Pending.TheVariants as pending
+use Rattle.vdcp_journal_file.specs.declared.pending.RecordFault.{RecordFault}
+use Rattle.vdcp_wire.specs.Wires.{Arrival, IfTold, Told, has_closed}
+use Rattle.vdcp_words.specs.declared.command.Command.{Command}
+use Rattle.vdcp_words.specs.declared.command.Command.TheVariants as command
+
+-- the note of what is kept
+abbrev pub note_for : Kept → Note
+note_for (kept.Sent command) = note.Sent command
+note_for (kept.Heard heard) = note.Heard heard
+note_for kept.Silence = note.Silence
+
+abbrev pub commands_of_note : Note → List Command
+commands_of_note (note.Sent command) = command ∷ []
+commands_of_note (note.Heard heard) = []
+commands_of_note note.Silence = []
+commands_of_note note.Take = []
+commands_of_note note.Stop = []
+commands_of_note (note.From event) = []
+commands_of_note (note.End outcome) = []
+
+-- the commands of rows
+abbrev pub commands_of_rows : List Row → List Command
+commands_of_rows rows = flat_map (λ row. commands_of_note row.note) rows
+
+-- those of commands that do more than ask for the state
+abbrev pub acting : List Command → List Command
+acting commands = filter (λ c. not (is_status_command c)) commands
+
+abbrev pub IsNoAct : Row → Type 0
+IsNoAct row = acting (commands_of_note row.note) ≡ []
+
+-- of commands, only those that ask for the state are still to be written, and a PLAY that is announced
+abbrev pub MayHold : Pending → Type 0
+MayHold pending.Nothing = Unit {0}
+MayHold (pending.End row) = IsNoAct row
+MayHold (pending.Asked before asks) = IsNoAct asks
+MayHold (pending.Answered before asks hears) = IsNoAct asks × IsNoAct hears
+MayHold (pending.Played before asks hears plays) =
+    IsTrue (announces (Some before)) × (plays.note ≡ note.Sent command.Play) × IsNoAct asks × IsNoAct hears
+MayHold (pending.Over before asks hears plays row) =
+    IsTrue (announces (Some before)) × (plays.note ≡ note.Sent command.Play) × IsNoAct asks × IsNoAct hears × IsNoAct row
+MayHold (pending.Failed fault) = Unit {0}
+
+-- these notes end with a state that was heard with the cue done, while a clip plays: a PLAY may go out before its row is safe
+pub record Announces (notes : List Note) : Type 0 where
+  pub before : List Note
+  pub asks : Note
+  pub hears : Note
+  pub end_so : notes ≡ before ++ (asks ∷ hears ∷ [])
+  pub asked : IsTrue (asks_state asks)
+  pub waiting : IsTrue (hears_waiting hears)
+
+-- of these commands nothing is still to be written after those notes, or a PLAY that they announce
+abbrev pub MayBeLeft : List Note → List Command → Type 0
+MayBeLeft notes left = (left ≡ []) ⊎ ((left ≡ command.Play ∷ []) × Announces notes)
+
+abbrev pub NotesEnd : {F : Type 0} → Option Heard → Recording F → Recording F → Type 0
+NotesEnd heard old new = (time : Moment)
+    × (new ≡ record old { pending = ended old.pending (record { time = time; note = end_note heard }) })
+
+-- Before this goes out or is given, the rows are safe that are due.
+abbrev pub KeepsRow : {F : Type 0} → (F → Option (List ℕ)) → Note → Recording F → Recording F → Type 0
+KeepsRow safe one old new = (time : Moment)
+    × MakesSafe safe old new (rows_due old.pending (record { time = time; note = one }))
+    × (new ≡ record old
+    { file = new.file; pending = after_row old.pending (record { time = time; note = one }) })
+
+-- it fails to keep it
+abbrev pub LosesRow : {F : Type 0} → (F → Option (List ℕ)) → Note → Recording F → Recording F → Type 0
+LosesRow safe one old new = (time : Moment) × (fault : RecordFault)
+    × MakesBeginning safe old new (rows_due old.pending (record { time = time; note = one }))
+    × (new ≡ record old { file = new.file; pending = pending.Failed fault })
+
+-- from one of its states to the next a recorder keeps this: a command; or an end, which is pending then
+abbrev pub Notes : {F : Type 0} → (F → Option (List ℕ)) → Kept → Recording F → Recording F → Type 0
+Notes safe (kept.Sent command) old new = KeepsRow safe (note.Sent command) old new
+Notes safe (kept.Heard heard) old new = NotesEnd (Some heard) old new
+Notes safe kept.Silence old new = NotesEnd None old new
+
+abbrev pub Loses : {F : Type 0} → (F → Option (List ℕ)) → Command → Recording F → Recording F → Type 0
+Loses safe command old new = LosesRow safe (note.Sent command) old new
+
+-- the note of a call
+abbrev pub call_note : Call → Note
+call_note call.Take = note.Take
+call_note call.Stop = note.Stop
+
+-- a beginning of the text of these rows, and of one more
+abbrev pub IsTorn : ℕ → List Row → List ℕ → Type 0
+IsTorn unit rows torn = (one : Row) × (rest : List ℕ) × (torn ++ rest ≡ rows_text unit (rows ++ one ∷ []))
+
+-- what more is in the file than whole rows, and how much of it was noted last: something only where a command couldn't be
+-- kept, a beginning of that and of what was noted last
+abbrev pub IsTornBy : Result Ran KeptFault → ℕ → List Row → List ℕ → Type 0
+IsTornBy (Ok ran) unit last torn = torn ≡ []
+IsTornBy (Err fault.Device) unit last torn = torn ≡ []
+IsTornBy (Err fault.Unkept) unit last torn = IsTorn unit last torn
+
+-- a run of any automation gave this answer: these rows are safe in the file since, and they have each command of which
+-- a byte went out and that does more than ask for the state, but for a PLAY that they announce. It holds wherever a call of
+-- the wire or of the file fails, so at each moment
+pub record IsRecorded {E W F : Type 0} (safe : F → Option (List ℕ)) (told : W → Option Told) (fold : Fold E) (plan : Plan)
+    (unit : ℕ) (a a' : Auto E) (wire wire' : W) (answer : Result Ran KeptFault) (old new : Recording F) : Type 0 where
+  pub came : List Arrival
+  pub rows : List Row
+  -- what was noted after them, and is safe with a later command: a state that is asked, a PLAY that was announced, what
+  -- was heard last
+  pub last : List Row
+  pub few : length last ≤ 4
+  pub torn : List ℕ
+  pub safe_since : Appends (safe old.file) (safe new.file) (rows_text old.unit rows ++ torn)
+  pub torn_by : IsTornBy answer old.unit last torn
+  -- what went out since is the bytes of these commands, or a beginning of them
+  pub commands : List Command
+  pub sends : (t : Told) → told wire ≡ Some t → IfTold (told wire') (λ u. (unsent : List ℕ)
+      × (u.sent ++ unsent ≡ t.sent ++ bytes_of unit commands))
+  pub left : List Command
+  pub kept : acting (commands_of_rows (rows_left old.pending)) ++ acting commands ≡ acting (commands_of_rows rows) ++ left
+  pub unkept : MayBeLeft (notes_seen (seen_before old.pending) ++ notes_in rows) left
+  pub comes : (t : Told) → told wire ≡ Some t → has_closed t.came ≡ false
+      → IfTold (told wire') (λ u. u.came ≡ t.came ++ came)
+  -- where nothing was awaited before, the rows are just what came shows, each command and what ended its exchange, but for
+  -- what says nothing new
+  pub shows : awaited plan a.state ≡ None
+      → IsThinned (notes_seen (seen_before old.pending) ++ (notes_in (rows_left old.pending)
+      ++ map note_for (notes_of plan (log_of fold plan unit a came) a'.state answer)))
+      (notes_seen (seen_before old.pending) ++ notes_in (rows ++ last))

@@ -1,0 +1,222 @@
+-- What goes on from a journal, and why nothing does.
+use Rattle.std.specs.Borrow.{Bor}
+use Rattle.std.specs.Prelude.{ℕ, ◌≡◌, ◌≢◌, ◌⊎◌, ◌+◌, ◌≤◌, ◌<◌, Bool, IsFalse, IsTrue, List, [], ◌∷◌, ◌++◌, Option, None, Some, drop, length, slice_get, take}
+use Rattle.vdcp_auto.specs.Law.{IsLawful}
+use Rattle.vdcp_auto.specs.Plan.{Plan}
+use Rattle.vdcp_auto.specs.State.{State}
+use Rattle.vdcp_auto.specs.Turn.{awaited, outcome_of, start}
+use Rattle.vdcp_auto.specs.declared.outcome.Outcome.{Outcome}
+use Rattle.vdcp_auto.specs.declared.outcome.Outcome.TheVariants.{Done, Stopped}
+use Rattle.vdcp_journal.specs.Airings.{may_have_played, settled_in}
+use Rattle.vdcp_journal.specs.Journals.{IsJournal, IsJournalFault}
+use Rattle.vdcp_journal.specs.Resume.{AreTold, IsFalseLoss, IsLostAfter, IsResumeFault, WereLost, after_rows, is_loss, log_of, plan_after, timed_out}
+use Rattle.vdcp_journal.specs.Runs.{Run, runs_of}
+use Rattle.vdcp_journal.specs.declared.faults.JournalReadFault.{JournalReadFault}
+use Rattle.vdcp_journal.specs.declared.faults.JournalReadFault.TheVariants as unread
+use Rattle.vdcp_journal.specs.declared.faults.JournalRowFault.{JournalRowFault}
+use Rattle.vdcp_journal.specs.declared.faults.JournalRowFault.TheVariants as wrong
+use Rattle.vdcp_journal.specs.declared.faults.ResumeFault.{ResumeFault}
+use Rattle.vdcp_journal.specs.declared.faults.ResumeFault.TheVariants as refused
+use Rattle.vdcp_journal.specs.declared.read.Journal.{Journal}
+use Rattle.vdcp_journal.specs.declared.row.Heading.{Heading}
+use Rattle.vdcp_journal.specs.declared.row.Row.{Row}
+use Rattle.vdcp_journal_file.specs.Recording.{IsUnopened, IsUnwritten}
+use Rattle.vdcp_text.specs.declared.failure.Failure.{Failure}
+use Rattle.vdcp_text.specs.declared.failure.Failure.TheVariants as failures
+use Rattle.vdcp_text.specs.declared.failure.JournalFault.{JournalFault}
+use Rattle.vdcp_text.specs.declared.failure.JournalFault.TheVariants as fault
+use Rattle.vdcp_value.specs.declared.part.Item.{Item}
+use Rattle.vdcp_words.specs.declared.command.Command.{Command}
+
+-- the plan of a controller that plays these items, by a journal's heading
+abbrev pub plan_in : Heading → List Item → Plan
+plan_in heading items = record {
+  mode = heading.mode;
+  list = items;
+  port = heading.port;
+  limit = heading.limit;
+}
+
+-- the plan with which one of a journal's runs of this list was begun: it plays the events from its first one on
+abbrev pub plan_begun : Heading → List Item → Run → Plan
+plan_begun heading items run = plan_in heading (drop run.from items)
+
+-- the plan under which it goes on: wherever it was lost its limit was raised
+abbrev pub plan_of_run : Heading → List Item → Run → Plan
+plan_of_run heading items run = plan_after (plan_begun heading items run) run.rows
+
+-- where a controller is after the rows, with the open exchange timed out
+abbrev pub state_after : Plan → List Row → State
+state_after plan rows = timed_out plan (after_rows plan start rows)
+
+-- the command whose exchange is open after them
+abbrev pub open_after : Plan → List Row → Option Command
+open_after plan rows = awaited plan (after_rows plan start rows)
+
+-- each row tells what a new controller of this plan does, and the one with this plan and state goes on from there. So its
+-- log is the one that the rows show, with all that holds of a controller and its log
+pub record IsResumed (plan : Plan) (rows : List Row) (plan' : Plan) (state : State) : Type 0 where
+  pub told : AreTold plan start rows
+  pub plan_is : plan' ≡ plan
+  pub state_is : state ≡ state_after plan rows
+  pub lawful : IsLawful plan state (log_of rows)
+
+-- the last of the runs that the rows of a journal are of
+abbrev pub IsLastRun : List Row → Run → Type 0
+IsLastRun rows run = (before : List Run) × (runs_of rows ≡ before ++ run ∷ [])
+
+-- the word of what is wrong with a row
+abbrev pub row_fault : JournalRowFault → JournalFault
+row_fault wrong.Fields = fault.Columns
+row_fault wrong.Time = fault.Time
+row_fault wrong.Word = fault.Word
+row_fault wrong.Command = fault.Command
+row_fault wrong.Reply = fault.Reply
+row_fault wrong.Outcome = fault.Outcome
+row_fault wrong.Detail = fault.Detail
+row_fault wrong.Digest = fault.Digest
+row_fault wrong.Mode = fault.Mode
+row_fault wrong.Number = fault.Number
+row_fault wrong.Event = fault.Event
+
+-- the failure of a journal of this name whose bytes are none
+abbrev pub read_failure : Bor (List ℕ) → JournalReadFault → Failure
+read_failure name unread.Empty = failures.JournalRow name 1 fault.Empty
+read_failure name (unread.Heading wrong) = failures.JournalRow name 1 (row_fault wrong)
+read_failure name (unread.Row row wrong) = failures.JournalRow name row (row_fault wrong)
+read_failure name (unread.Long row) = failures.JournalRow name row fault.Long
+read_failure name unread.Memory = failures.Memory
+read_failure name unread.Device = failures.Read name
+
+-- the failure of a journal of this name with a run whose rows don't tell what its controller does. The heading is row 1,
+-- and this many rows stand before those of the run
+abbrev pub untold_failure : Bor (List ℕ) → ℕ → ResumeFault → Failure
+untold_failure name before (refused.Command k) = failures.JournalRow name (before + k + 2) fault.Command
+untold_failure name before (refused.Unawaited k) = failures.JournalRow name (before + k + 2) fault.Unawaited
+untold_failure name before (refused.Outcome k) = failures.JournalRow name (before + k + 2) fault.Outcome
+
+-- where a heading differs first from the one that is wanted
+abbrev pub Differs : Heading → Heading → JournalFault → Type 0
+Differs found wanted fault.List = found.digest ≢ wanted.digest
+Differs found wanted fault.Mode = (found.digest ≡ wanted.digest) × (found.mode ≢ wanted.mode)
+Differs found wanted fault.Unit =
+    (found.digest ≡ wanted.digest) × (found.mode ≡ wanted.mode) × (found.unit ≢ wanted.unit)
+Differs found wanted fault.Port =
+    (found.digest ≡ wanted.digest) × (found.mode ≡ wanted.mode) × (found.unit ≡ wanted.unit)
+    × (found.port ≢ wanted.port)
+Differs found wanted fault.Limit =
+    (found.digest ≡ wanted.digest) × (found.mode ≡ wanted.mode) × (found.unit ≡ wanted.unit)
+    × (found.port ≡ wanted.port) × (found.limit ≢ wanted.limit)
+Differs found wanted _ = ⊥
+
+-- which row a fault names, the heading apart
+abbrev pub place_of : ResumeFault → ℕ
+place_of (refused.Command k) = k
+place_of (refused.Unawaited k) = k
+place_of (refused.Outcome k) = k
+
+-- row k, where it says that the run was lost, stands where it was
+abbrev pub TellsLoss : Plan → List Row → ℕ → Type 0
+TellsLoss plan rows k =
+    (row : Row) → slice_get rows k ≡ Some row → IsTrue (is_loss row.note) → IsLostAfter plan (take k rows)
+
+-- why a row of a run of these items is none of a controller: it doesn't tell what that does, or says that it was lost where
+-- it wasn't
+abbrev pub IsUntold : List Item → Heading → Run → ResumeFault → Type 0
+IsUntold items heading run wrong = IsResumeFault (plan_of_run heading items run) start run.rows wrong
+    ⊎ IsFalseLoss (plan_begun heading items run) run.rows wrong
+
+-- why a run of a journal of this name is none of these items: it begins with no event of them, or a row is none of its
+-- controller
+pub data IsRunRefused (items : List Item) (name : Bor (List ℕ)) (heading : Heading) (run : Run) (failure : Failure)
+    : Type 0 where
+  no_event : length items < run.from → failure ≡ failures.JournalRow name (run.begin + 1) fault.Event
+      → IsRunRefused items name heading run failure
+  untold : (wrong : ResumeFault) → IsUntold items heading run wrong → failure ≡ untold_failure name run.begin wrong → IsRunRefused items name heading run failure
+
+-- why bytes are no journal of what is wanted, whose last run goes on with these items
+pub data IsRefused (items : List Item) (name : Bor (List ℕ)) (wanted : Heading) (bytes : List ℕ) (failure : Failure)
+    : Type 0 where
+  no_journal : (wrong : JournalReadFault) → IsJournalFault bytes wrong → failure ≡ read_failure name wrong
+      → IsRefused items name wanted bytes failure
+  of_other : (journal : Journal) → IsJournal bytes journal → (differs : JournalFault)
+      → Differs journal.heading wanted differs → failure ≡ failures.JournalRow name 1 differs
+      → IsRefused items name wanted bytes failure
+  bad_run : (journal : Journal) → IsJournal bytes journal → (run : Run) → IsLastRun journal.rows.items run
+      → IsRunRefused items name wanted run failure → IsRefused items name wanted bytes failure
+  no_memory : failure ≡ failures.Memory → IsRefused items name wanted bytes failure
+
+-- the bytes are a journal of what is wanted, this is its last run, and the controller with this plan and state goes on
+-- from there
+pub record IsReplayed (items : List Item) (wanted : Heading) (bytes : List ℕ) (run : Run) (plan : Plan) (state : State)
+    (whole : ℕ) : Type 0 where
+  pub journal : Journal
+  pub reads : IsJournal bytes journal
+  pub wanted_is : journal.heading ≡ wanted
+  pub last : IsLastRun journal.rows.items run
+  pub within : run.from ≤ length items
+  pub lost : WereLost (plan_begun wanted items run) run.rows
+  pub resumes : IsResumed (plan_of_run wanted items run) run.rows plan state
+  pub whole_is : whole ≡ journal.whole
+
+-- why the journal of this name isn't read: a row is too long, or the file can't be read
+abbrev pub IsUnread : Bor (List ℕ) → Failure → Type 0
+IsUnread name failure = ((row : ℕ) × (failure ≡ failures.JournalRow name row fault.Long))
+    ⊎ ((failure ≡ failures.Read name) ⊎ (failure ≡ failures.Memory))
+
+-- why nothing goes on from the journal of this name: its file can't be had, read or written, or it is refused
+pub data IsUnresumed (items : List Item) (name : Bor (List ℕ)) (wanted : Heading) (failure : Failure) : Type 0 where
+  no_file : IsUnopened name failure → IsUnresumed items name wanted failure
+  not_read : IsUnread name failure → IsUnresumed items name wanted failure
+  kept : IsUnwritten name failure → IsUnresumed items name wanted failure
+  bad : (bytes : List ℕ) → IsRefused items name wanted bytes failure → IsUnresumed items name wanted failure
+
+-- ---- a journal that is opened again
+
+-- the first event that a run doesn't report, by its number in the list
+abbrev pub next_event : Heading → Run → ℕ
+next_event heading run = run.from + settled_in heading.mode run.rows
+
+-- that event may have aired
+abbrev pub next_may_have_aired : Heading → Run → Bool
+next_may_have_aired heading run = may_have_played heading.mode run.rows
+
+-- the event with which a controller begins after a run: the one that the operator says, or else the first that the run
+-- doesn't report, which can't have aired
+abbrev pub BeginsAfter : Heading → Run → Option ℕ → ℕ → Type 0
+BeginsAfter heading run (Some word) from = from ≡ word
+BeginsAfter heading run None from = (from ≡ next_event heading run) × IsFalse (next_may_have_aired heading run)
+
+-- why no controller begins after a run
+pub data IsNoBeginning (items : List Item) (heading : Heading) (run : Run) (word : Option ℕ) (failure : Failure)
+    : Type 0 where
+  may_have : word ≡ None → IsTrue (next_may_have_aired heading run) → failure ≡ failures.MayHaveAired (next_event heading run)
+      → IsNoBeginning items heading run word failure
+  not_listed : (k : ℕ) → word ≡ Some k → length items < k → failure ≡ failures.NoEvent k
+      → IsNoBeginning items heading run word failure
+  out_of_memory : failure ≡ failures.Memory → IsNoBeginning items heading run word failure
+
+-- a run came to its end, and nothing is to be sent after it
+abbrev pub IsOver : Option Outcome → Type 0
+IsOver outcome = (outcome ≡ Some Done) ⊎ (outcome ≡ Some Stopped)
+
+-- after the last run of a journal of what is wanted, the controller with this plan and state goes on, which plays the
+-- items from an event on: a new one; or, where that run is over and the operator says nothing, the one of that run
+pub data IsOpenedAgain (items : List Item) (wanted : Heading) (word : Option ℕ) (from : ℕ) (plan : Plan) (state : State)
+    : Type 0 where
+  begins : (bytes : List ℕ) (run : Run) (ended : Plan) (end : State) (whole : ℕ)
+      → IsReplayed items wanted bytes run ended end whole → from ≤ length items → BeginsAfter wanted run word from
+      → plan ≡ plan_in wanted (drop from items) → state ≡ start → IsOpenedAgain items wanted word from plan state
+  is_over : word ≡ None → (bytes : List ℕ) (run : Run) (whole : ℕ) → IsReplayed items wanted bytes run plan state whole
+      → from ≡ run.from → IsOver (outcome_of state.stage) → IsOpenedAgain items wanted word from plan state
+
+-- why no controller begins after the last run of the journal of this name: nothing goes on from it, its next event may
+-- have aired, or there is no event of the number that the operator says
+pub data IsUnopenedAgain (items : List Item) (name : Bor (List ℕ)) (wanted : Heading) (word : Option ℕ) (failure : Failure)
+    : Type 0 where
+  unresumed : IsUnresumed items name wanted failure → IsUnopenedAgain items name wanted word failure
+  unsettled : word ≡ None → (bytes : List ℕ) (run : Run) (ended : Plan) (end : State) (whole : ℕ)
+      → IsReplayed items wanted bytes run ended end whole → IsTrue (next_may_have_aired wanted run)
+      → failure ≡ failures.MayHaveAired (next_event wanted run) → IsUnopenedAgain items name wanted word failure
+  no_event : (k : ℕ) → word ≡ Some k → length items < k → failure ≡ failures.NoEvent k
+      → IsUnopenedAgain items name wanted word failure

@@ -1,0 +1,119 @@
+-- The as-run list that a journal shows.
+use Rattle.csv.specs.Writing.{default_writer, row_text}
+use Rattle.sha2.specs.Sha256.{sha256}
+use Rattle.std.specs.Io.KnownBytes.{Appends, Keeps}
+use Rattle.std.specs.Prelude.{ℕ, ◌≡◌, ◌≤◌, ◌+◌, ◌∷◌, ◌++◌, List, [], Option, None, Some, IfSome, false, codes, decimal, drop, if◌then◌else◌, length, take}
+use Rattle.vdcp_auto.specs.Law.{IsLawful}
+use Rattle.vdcp_auto.specs.Turn.{start}
+use Rattle.vdcp_files.specs.Files.{File, bytes_of}
+use Rattle.vdcp_journal.specs.Airings.{AreAirings}
+use Rattle.vdcp_journal.specs.Journals.{IsJournal}
+use Rattle.vdcp_journal.specs.Resume.{AreTold, WereLost, log_of}
+use Rattle.vdcp_journal.specs.Runs.{Run, runs_of}
+use Rattle.vdcp_journal.specs.Times.{moment_text, moment_text_if}
+use Rattle.vdcp_journal.specs.declared.airings.Airing.{Airing}
+use Rattle.vdcp_journal.specs.declared.read.Journal.{Journal}
+use Rattle.vdcp_journal.specs.declared.row.Heading.{Heading}
+use Rattle.vdcp_journal.specs.declared.row.Row.{Row}
+use Rattle.vdcp_list.specs.Asrun.{asrun_text, events_text, has_part}
+use Rattle.vdcp_list.specs.Playlists.{IsListOf}
+use Rattle.vdcp_list.specs.Timed.{timed_heading, timed_rows, times_of}
+use Rattle.vdcp_journal_file.specs.Resuming.{plan_begun, plan_of_run, state_after}
+use Rattle.vdcp_journal_file.specs.declared.asrun.AsrunSettings.{AsrunSettings}
+use Rattle.vdcp_text.specs.Failure.{failure_line, status_of}
+use Rattle.vdcp_text.specs.Text.{line}
+use Rattle.vdcp_text.specs.declared.failure.Failure.{Failure}
+use Rattle.vdcp_value.specs.declared.part.Item.{Item}
+use Rattle.vdcp_value.specs.declared.rate.Rate.{Rate}
+
+-- the digest of a list: of its as-run list, if all of it has aired
+abbrev pub digest_of : Rate → List Item → List ℕ
+digest_of rate items = sha256 (asrun_text rate items (length items))
+
+-- the rows of the events that a run reports, from this one of the list on, plain or with the times of each event
+abbrev pub reported_text : AsrunSettings → List Item → ℕ → ℕ → List Airing → List ℕ
+reported_text settings items from reported airings =
+    if settings.times
+    then timed_rows (times_of (λ airing. moment_text airing.played) (λ airing. moment_text airing.known)
+    (λ airing. moment_text_if airing.ended)) settings.rate (has_part items) from (drop from items) airings
+    else events_text settings.rate (has_part items) from (take reported (drop from items))
+
+-- what stands above them
+abbrev pub heading_text : AsrunSettings → List Item → List ℕ
+heading_text settings items = if settings.times then row_text default_writer (timed_heading (has_part items)) else []
+
+-- what is told of the event that may have aired though the run doesn't report it, by its number in the run
+abbrev pub open_text : ℕ → Option ℕ → List ℕ
+open_text from None = []
+open_text from (Some k) = codes "vdcp: event " ++ decimal (from + k) ++ line (codes " may have aired")
+
+-- a run of a journal of these items shows this text, and this is told of it: its rows are those of a controller of the
+-- items from its first event on, and the text is the rows of what that one reports; its count is what the log of the
+-- rows shows. The event that may have aired besides is told
+pub record ShowsRun (settings : AsrunSettings) (items : List Item) (heading : Heading) (run : Run)
+    (text told : List ℕ) : Type 0 where
+  pub within : run.from ≤ length items
+  pub lost : WereLost (plan_begun heading items run) run.rows
+  pub are_told : AreTold (plan_of_run heading items run) start run.rows
+  pub lawful : IsLawful (plan_of_run heading items run) (state_after (plan_of_run heading items run) run.rows)
+      (log_of run.rows)
+  pub airings : List Airing
+  pub may_have_aired : Option ℕ
+  pub are_airings : AreAirings heading.mode run.rows airings may_have_aired
+  pub text_is : text ≡ reported_text settings items run.from
+      (state_after (plan_of_run heading items run) run.rows).settled airings
+  pub told_is : told ≡ open_text run.from may_have_aired
+
+-- the texts of these runs are one after another this text, and what is told of them is this
+abbrev pub ShowRuns : AsrunSettings → List Item → Heading → List Run → List ℕ → List ℕ → Type 0
+ShowRuns settings items heading [] text told = (text ≡ []) × (told ≡ [])
+ShowRuns settings items heading (run ∷ runs) text told = (first first_told rest rest_told : List ℕ)
+    × ShowsRun settings items heading run first first_told × ShowRuns settings items heading runs rest rest_told
+    × (text ≡ first ++ rest) × (told ≡ first_told ++ rest_told)
+
+-- the rows are those of controllers of these items, and a writer gained the as-run list of their runs
+pub record ShowsRows (settings : AsrunSettings) (items : List Item) (heading : Heading) (rows : List Row)
+    (old new : Option (List ℕ)) (told : List ℕ) : Type 0 where
+  pub text : List ℕ
+  pub runs : ShowRuns settings items heading (runs_of rows) text told
+  pub printed : Appends old new (heading_text settings items ++ text)
+
+-- the text is the as-run list, without times, of some journal of these items
+pub record IsAsrunOf (rate : Rate) (items : List Item) (text : List ℕ) : Type 0 where
+  pub bytes : List ℕ
+  pub read : Journal
+  pub is_journal : IsJournal bytes read
+  pub told : List ℕ
+  pub shows : ShowsRows (record { rate = rate; times = false }) items read.heading
+      read.rows.items (Some []) (Some text) told
+
+-- a journal with this heading is of these items: of those of a playlist, if one is given. If none is they are any of
+-- whose controllers the rows are: by the rule book each PLAY is of the item that was cued last, so the rows alone say what
+-- was played
+abbrev pub AreItemsOf : AsrunSettings → Option File → Heading → List Item → Type 0
+AreItemsOf settings None heading items = Unit {0}
+AreItemsOf settings (Some list) heading items =
+    IsListOf settings.rate (bytes_of list) items × (heading.digest ≡ digest_of settings.rate items)
+
+-- the files are an optional playlist and a journal of it, and a writer gained the as-run list that this shows
+pub record IsShown (settings : AsrunSettings) (list : Option File) (journal : File) (old new : Option (List ℕ))
+    (told : List ℕ) : Type 0 where
+  pub items : List Item
+  pub read : Journal
+  pub are_items : AreItemsOf settings list read.heading items
+  pub is_journal : IfSome (bytes_of journal) (λ bytes. IsJournal bytes read)
+  pub shows : ShowsRows settings items read.heading read.rows.items old new told
+
+-- and another writer gained what is told of the events that may have aired
+pub record IsShownAndTold (settings : AsrunSettings) (list : Option File) (journal : File)
+    (out out' err err' : Option (List ℕ)) : Type 0 where
+  pub told : List ℕ
+  pub shown : IsShown settings list journal out out' told
+  pub tells : Appends err err' told
+
+-- a row of a file is refused: one writer gained the line that says so, and the other nothing
+pub record IsToldOnly (out out' err err' : Option (List ℕ)) : Type 0 where
+  pub failure : Failure
+  pub of_row : status_of failure ≡ 1
+  pub told : Appends err err' (failure_line failure)
+  pub silent : Keeps out out'

@@ -1,0 +1,92 @@
+//! What a journal's file has to do: bytes are appended, and made safe.
+ghost use Rattle.std.specs.Io.KnownBytes.{Appends, WriteAppends};
+ghost use Rattle.std.specs.Io.{WritesAtMost};
+ghost use Rattle.std.specs.Prelude.{◌≡◌, OnErr, OnOk};
+ghost use Rattle.vdcp_journal.specs.Rows.{AppendsBeginning};
+ghost use Rattle.vdcp_journal_file.specs.Disks.{Spills};
+
+use std::fs::OpenFile;
+use std::io::{self, ErrorKind, Write};
+
+/// A file that grows. What is written to it is safe, also when the power fails, once it was synced; before that a beginning
+/// of it may be.
+///
+/// Each file is one, whose bytes no contract names.
+pub trait Disk {
+    ghost use Rattle.std.specs.Io.KnownBytes.{Keeps, WriteAppends};
+    ghost use Rattle.std.specs.Io.{WritesAtMost};
+    ghost use Rattle.std.specs.Prelude.{◌≡◌, ℕ, List, None, OnErr, OnOk, Option};
+    ghost use Rattle.vdcp_journal_file.specs.Disks.{Spills};
+
+    /// The bytes that were written, if they are known.
+    ghost written: { Self → Option (List ℕ) } = { λ _. None };
+
+    /// Those of them that are safe, if they are known.
+    ghost safe: { Self → Option (List ℕ) } = { λ _. None };
+
+    /// Appends the first of these bytes, and gives how many, as `Write` does.
+    fn write_some(&mut self, bytes: &[u8]) -> io::Result<usize>
+        ensures bound { WritesAtMost result bytes.now }
+        ensures bytes { WriteAppends (written self.old) (written self.new) result bytes.now }
+        ensures spills { Spills (safe self.old) (safe self.new) (written self.new) };
+
+    /// Makes all of it safe.
+    fn sync(&mut self) -> io::Result<()>
+        ensures bytes { Keeps (written self.old) (written self.new) }
+        ensures synced { OnOk result (safe self.new ≡ written self.new) }
+        ensures spills { OnErr result (Spills (safe self.old) (safe self.new) (written self.new)) };
+}
+
+impl<F: Write + OpenFile> Disk for F {
+    fn write_some(&mut self, bytes: &[u8]) -> io::Result<usize> {
+        self.write(bytes)
+    }
+
+    fn sync(&mut self) -> io::Result<()> {
+        self.sync_data()
+    }
+}
+
+/// Appends bytes and makes them safe, with all before. If it fails, a beginning of them may be there.
+pub fn append_safely<D: Disk>(disk: &mut D, bytes: &[u8]) -> io::Result<()>
+    ensures all { OnOk result (Appends (D.written disk.old) (D.safe disk.new) bytes.now) }
+    ensures synced { OnOk result (D.safe disk.new ≡ D.written disk.new) }
+    ensures beginning { D.safe disk.old ≡ D.written disk.old →
+        OnErr result (AppendsBeginning (D.safe disk.old) (D.safe disk.new) bytes.now) }
+{
+    append(disk, bytes)?;
+    disk.sync()
+}
+
+// Appends these bytes, or a beginning of them if it fails.
+fn append<D: Disk>(disk: &mut D, bytes: &[u8]) -> io::Result<()>
+    ensures all { OnOk result (Appends (D.written disk.old) (D.written disk.new) bytes.now) }
+    ensures beginning { OnErr result (AppendsBeginning (D.written disk.old) (D.written disk.new) bytes.now) }
+    ensures spills { D.safe disk.old ≡ D.written disk.old →
+        Spills (D.safe disk.old) (D.safe disk.new) (D.written disk.new) }
+{
+    let mut at = 0;
+    'writes: for _ in 0..u32::MAX {
+        if at == bytes.len() {
+            return Ok(());
+        }
+        at += append_some(disk, &bytes[at..])?;
+    }
+    Err(io::Error::from(ErrorKind::TimedOut))
+}
+
+// Appends some of these bytes: none if that is interrupted.
+fn append_some<D: Disk>(disk: &mut D, bytes: &[u8]) -> io::Result<usize>
+    ensures bound { WritesAtMost result bytes.now }
+    ensures bytes { WriteAppends (D.written disk.old) (D.written disk.new) result bytes.now }
+    ensures spills { Spills (D.safe disk.old) (D.safe disk.new) (D.written disk.new) }
+{
+    match disk.write_some(bytes) {
+        Ok(0) => Err(io::Error::from(ErrorKind::WriteZero)),
+        Ok(n) => Ok(n),
+        Err(error) => match error.kind() {
+            ErrorKind::Interrupted => Ok(0),
+            _ => Err(error),
+        },
+    }
+}

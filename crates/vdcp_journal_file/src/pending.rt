@@ -1,0 +1,229 @@
+//! The rows that are held back, and why rows aren't written.
+ghost use Rattle.std.specs.Option.{option_to_list};
+ghost use Rattle.std.specs.Prelude.{◌≡◌, ◌≤◌, ◌++◌, Err, IfNone, IfOk, IfSome, OnOk, Some, false, true};
+ghost use Rattle.vdcp_journal.specs.Rows.{rows_text};
+ghost use Rattle.vdcp_journal_file.specs.Recording.{announces, ended, failure_of, is_announced, rows_left, says_nothing_new, seen_before, seen_last, seen_of, is_again, with_play};
+ghost use Rattle.vdcp_journal_file.specs.declared.pending.Pending.TheVariants.{Failed};
+ghost use Rattle.vdcp_journal_file.specs.declared.pending.RecordFault.{RecordFault};
+
+use std::alloc::Global;
+use thiserror::Error;
+use vdcp_auto::Heard;
+use vdcp_journal::{Note, Row, write_row};
+use vdcp_text::Failure;
+use vdcp_words::{Command, Reply};
+
+// The bits of a state byte that say that the cue is done, and that a clip plays.
+pub(crate) const CUE_DONE: u8 = 0x80;
+
+pub(crate) const PLAYING: u8 = 0x04;
+
+/// A state that was asked for and heard.
+#[derive(Clone, Copy)]
+pub struct Seen {
+    /// The groups that were asked for, as a bitmap.
+    pub asked: u8,
+    /// Those that came.
+    pub groups: u8,
+    /// The state byte.
+    pub state: u8,
+}
+
+/// What is still to be written to a journal.
+#[derive(Clone, Copy)]
+pub enum Pending {
+    Nothing,
+    /// What ended the last exchange, or the event that the run begins with.
+    End(Row),
+    /// The state is asked for. What was seen when it was asked just before stands last in the file, if anything was.
+    Asked(Option<Seen>, Row),
+    /// The same, and what was heard.
+    Answered(Option<Seen>, Row, Row),
+    /// The same, and a PLAY, which what stands last in the file announces.
+    Played(Seen, Row, Row, Row),
+    /// The same, and what ended its exchange.
+    Over(Seen, Row, Row, Row, Row),
+    /// Nothing, whatever comes: this befell the journal.
+    Failed(RecordFault),
+}
+
+impl Pending {
+    /// After the end of an exchange, which is noted in place of another one.
+    pub(crate) fn ended(self, row: Row) -> Pending
+        ensures { result ≡ ended self row }
+    {
+        match self {
+            Pending::Nothing | Pending::End(_) => Pending::End(row),
+            Pending::Asked(before, asks) | Pending::Answered(before, asks, _) => {
+                Pending::Answered(before, asks, row)
+            }
+            Pending::Played(before, asks, hears, plays)
+            | Pending::Over(before, asks, hears, plays, _) => {
+                Pending::Over(before, asks, hears, plays, row)
+            }
+            Pending::Failed(fault) => Pending::Failed(fault),
+        }
+    }
+
+    /// Adds the text of the rows that are still to be written.
+    pub(crate) fn add_to(
+        self,
+        alloc: Global,
+        unit: u8,
+        text: &mut Vec<u8>,
+    ) -> Result<(), RecordFault>
+        requires { unit ≤ 15 }
+        ensures added { OnOk result (text.new.items ≡ text.old.items ++ rows_text unit (rows_left self)) }
+        ensures refused { (fault : RecordFault) → self ≡ Failed fault → result ≡ Err fault }
+    {
+        match self {
+            Pending::Nothing => Ok(()),
+            Pending::End(row) | Pending::Asked(_, row) => add_row(alloc, unit, Some(row), text),
+            Pending::Answered(_, asks, hears) => {
+                add_row(alloc, unit, Some(asks), text)?;
+                add_row(alloc, unit, Some(hears), text)
+            }
+            Pending::Played(_, asks, hears, plays) => {
+                add_row(alloc, unit, Some(asks), text)?;
+                add_row(alloc, unit, Some(hears), text)?;
+                add_row(alloc, unit, Some(plays), text)
+            }
+            Pending::Over(_, asks, hears, plays, row) => {
+                add_row(alloc, unit, Some(asks), text)?;
+                add_row(alloc, unit, Some(hears), text)?;
+                add_row(alloc, unit, Some(plays), text)?;
+                add_row(alloc, unit, Some(row), text)
+            }
+            Pending::Failed(fault) => Err(fault),
+        }
+    }
+
+    /// The state that was seen last, if that is pending.
+    pub(crate) fn seen_last(self) -> Option<Seen>
+        ensures { result ≡ seen_last self }
+    {
+        match self {
+            Pending::Answered(_, asks, hears) => seen_of(asks.note, hears.note),
+            Pending::Nothing
+            | Pending::End(_)
+            | Pending::Asked(_, _)
+            | Pending::Played(_, _, _, _)
+            | Pending::Over(_, _, _, _, _)
+            | Pending::Failed(_) => None,
+        }
+    }
+
+    /// The state that was seen before what is pending, and stands last in the file.
+    fn seen_before(self) -> Option<Seen>
+        ensures { result ≡ seen_before self }
+    {
+        match self {
+            Pending::Asked(before, _) | Pending::Answered(before, _, _) => before,
+            Pending::Played(before, _, _, _) | Pending::Over(before, _, _, _, _) => Some(before),
+            Pending::Nothing | Pending::End(_) | Pending::Failed(_) => None,
+        }
+    }
+
+    /// Whether what is pending says nothing new where this goes out next: the same was seen twice, and is asked again.
+    pub(crate) fn says_nothing_new(self, next: Note) -> bool
+        ensures { result ≡ says_nothing_new self next }
+    {
+        is_again(self.seen_before(), self.seen_last(), next)
+    }
+
+    /// With this row, where it is of a PLAY that goes out next, and is announced.
+    pub(crate) fn with_play(self, row: Row) -> Option<Pending>
+        ensures held { IfSome result (λ held. (held ≡ with_play self row) × (is_announced self row.note ≡ true)) }
+        ensures unannounced { IfNone result (is_announced self row.note ≡ false) }
+    {
+        match (self, row.note) {
+            (Pending::Answered(Some(before), asks, hears), Note::Sent(Command::Play))
+                if before.is_waiting() => { Some(Pending::Played(before, asks, hears, row)) }
+            _ => None,
+        }
+    }
+}
+
+impl Seen {
+    // Whether the cue was done while a clip played.
+    fn is_waiting(self) -> bool
+        ensures { result ≡ announces (Some self) }
+    {
+        self.state & CUE_DONE != 0 && self.state & PLAYING != 0
+    }
+}
+
+// Whether the same was seen twice, and is asked again.
+fn is_again(before: Option<Seen>, last: Option<Seen>, next: Note) -> bool
+    ensures { result ≡ is_again before last next }
+{
+    match (before, last, next) {
+        (Some(before), Some(last), Note::Sent(Command::Status(asked))) => {
+            before.asked == last.asked
+                && before.groups == last.groups
+                && before.state == last.state
+                && asked == before.asked
+        }
+        _ => false,
+    }
+}
+
+// The state that these notes ask for and hear, if they do.
+fn seen_of(asks: Note, hears: Note) -> Option<Seen>
+    ensures { result ≡ seen_of asks hears }
+{
+    match (asks, hears) {
+        (
+            Note::Sent(Command::Status(asked)),
+            Note::Heard(Heard::Reply(Reply::State(groups, Some(state)))),
+        ) => {
+            Some(Seen {
+                asked,
+                groups,
+                state,
+            })
+        }
+        _ => None,
+    }
+}
+
+/// Adds a row's text, if there is a row.
+pub(crate) fn add_row(
+    alloc: Global,
+    unit: u8,
+    row: Option<Row>,
+    text: &mut Vec<u8>,
+) -> Result<(), RecordFault>
+    requires { unit ≤ 15 }
+    ensures { OnOk result (text.new.items ≡ text.old.items ++ rows_text unit (option_to_list row)) }
+{
+    let Some(row) = row else {
+        return Ok(());
+    };
+    match write_row(alloc, unit, &row, text) {
+        Ok(()) => Ok(()),
+        Err(_) => Err(RecordFault::Memory),
+    }
+}
+
+/// Why rows aren't written. The journal ends there.
+#[derive(Clone, Copy, Debug, PartialEq, Eq, Error)]
+pub enum RecordFault {
+    /// The file failed. A beginning of the rows may be there.
+    #[error("the file failed")]
+    Device,
+    #[error("out of memory")]
+    Memory,
+}
+
+impl RecordFault {
+    /// The failure of the journal of this name.
+    pub(crate) fn failure<'a>(self, name: &'a str) -> Failure<'a>
+        ensures { result ≡ failure_of name.entry self }
+    {
+        match self {
+            RecordFault::Device => Failure::Write(name),
+            RecordFault::Memory => Failure::Memory,
+        }
+    }
+}

@@ -1,0 +1,402 @@
+//! The recorder of a run, which writes the rows.
+ghost use Rattle.std.specs.Io.KnownBytes.{Appends};
+ghost use Rattle.std.specs.Option.{option_to_list};
+ghost use Rattle.std.specs.Prelude.{◌≡◌, ◌≢◌, ◌≤◌, ◌∷◌, [], ◌++◌, Err, IfErr, IfOk, IsFalse, IsTrue, OnErr, OnOk, false, true};
+ghost use Rattle.vdcp_journal.specs.Rows.{AppendsBeginning, fields_text, heading_fields, rows_text};
+ghost use Rattle.vdcp_journal.specs.declared.moment.Moment.{Moment};
+ghost use Rattle.vdcp_auto.specs.Plan.{plan_of};
+ghost use Rattle.vdcp_drive.specs.Auto.{auto_of};
+ghost use Rattle.vdcp_drive.specs.Leaves.{RunLeaves};
+ghost use Rattle.vdcp_journal.specs.Thinned.{asks_state};
+ghost use Rattle.vdcp_journal_file.specs.Recorded.{IsNoAct, IsRecorded, KeepsRow, Loses, LosesRow, MayHold, Notes, call_note};
+ghost use Rattle.vdcp_journal_file.specs.Recording.{Adds, AddsBeginning, IsSynced, IsUnwritten, MakesBeginning, MakesSafe, NotesFrom, Recording, after_row, end_note, ended, is_announced, outcome_rows, rows_due, rows_left, with_play};
+ghost use Rattle.vdcp_journal_file.specs.declared.pending.Pending.TheVariants.{Failed, Nothing};
+ghost use Rattle.vdcp_journal_file.specs.declared.pending.RecordFault.{RecordFault};
+
+use crate::disk::{Disk, append_safely};
+use crate::pending::{Pending, RecordFault, add_row};
+use std::alloc::Global;
+use std::marker::Model;
+use std::rt::Clock;
+use vdcp_auto::{Heard, Outcome, Source};
+use vdcp_drive::{Call, Driver, Ear, Keep, KeepFault, KeptFault, Pace, Ran, Watch, Wire, laws};
+use vdcp_journal::{Heading, Moment, Note, Row, write_heading};
+use vdcp_text::Failure;
+use vdcp_words::Command;
+
+/// Writes a journal's rows, that of each command before it goes out.
+///
+/// What ended an exchange is made safe before the next command goes out, in one with the row of that command. The row of
+/// a command that asks for the state is held back: it is written before the next command goes out, with what was heard,
+/// or left out where the same was asked and heard just before and is asked again. So a clip that plays on writes nothing.
+/// Where a state with the cue done, while a clip plays, stands last in the file, it announces a PLAY: that goes out at
+/// once, and its row is written before the next command.
+/// After a failure nothing more is written.
+#[derive(Drop)]
+pub struct Recorder<'a, 'r, R, F: Disk> {
+    rt: &'r R,
+    name: &'a str,
+    unit: u8,
+    file: F,
+    pending: Pending,
+}
+
+impl<'a, 'r, R, F: Disk> Model for Recorder<'a, 'r, R, F> {
+    ghost use Rattle.std.specs.Prelude.{◌≤◌};
+    ghost use Rattle.vdcp_journal_file.specs.Recorded.{MayHold};
+    ghost use Rattle.vdcp_journal_file.specs.Recording.{IsSynced, Recording};
+
+    ghost Value = { Recording F };
+
+    ghost view = { λ r. record { name = r.name; unit = r.unit; file = r.file; pending = r.pending } };
+
+    ghost invariant = { λ r. (r.unit ≤ 15) × MayHold r.pending
+        × IsSynced r.pending (F.safe r.file) (F.written r.file) };
+}
+
+impl<'a, 'r, R: Clock + AllocGlobal, F: Disk + Drop> Recorder<'a, 'r, R, F> {
+    /// Begins a journal in an empty file: writes the first row.
+    pub fn begin(
+        rt: &'r R,
+        name: &'a str,
+        heading: &Heading,
+        mut file: F,
+    ) -> Result<Recorder<'a, 'r, R, F>, Failure<'a>>
+        requires { heading.now.unit ≤ 15 }
+        ensures begun { IfOk result (λ r. (time : Moment) × Appends (F.written file) (F.safe r.file)
+            (fields_text (heading_fields time heading.now))) }
+        ensures new { IfOk result (λ r. r ≡ record
+            { name = name.entry; unit = heading.now.unit; file = r.file; pending = Nothing }) }
+        ensures unwritten { IfErr result (IsUnwritten name.entry) }
+    {
+        match write_first(rt.alloc(), &now(rt), heading, &mut file) {
+            Ok(()) => Ok(Recorder::after(rt, name, heading.unit, file, Pending::Nothing)),
+            Err(fault) => Err(fault.failure(name)),
+        }
+    }
+
+    /// Goes on with a journal, of the server at this unit, in a file that has all but what is pending, and safe.
+    pub(crate) fn after(
+        rt: &'r R,
+        name: &'a str,
+        unit: u8,
+        file: F,
+        pending: Pending,
+    ) -> Recorder<'a, 'r, R, F>
+        requires unit { unit ≤ 15 }
+        requires ends { MayHold pending }
+        requires synced { F.safe file ≡ F.written file }
+        ensures { result ≡ record { name = name.entry; unit = unit; file = file; pending = pending } }
+    {
+        Recorder {
+            rt,
+            name,
+            unit,
+            file,
+            pending,
+        }
+    }
+
+    /// The journal's name.
+    pub fn name(&self) -> &'a str
+        ensures { result ≡ self.now.name }
+    {
+        self.name
+    }
+
+    /// Makes safe what is due before a command goes out, or a call is given: all that is pending but what says nothing
+    /// new, and its own row, which is held back where it asks for the state. A PLAY that is announced waits for nothing.
+    pub fn keep(&mut self, note: Note) -> Result<(), RecordFault>
+        ensures kept { OnOk result (KeepsRow F.safe note self.old self.new) }
+        ensures torn { OnErr result (LosesRow F.safe note self.old self.new) }
+        ensures failed { IfErr result (λ fault. self.new ≡ record self.old
+            { file = self.new.file; pending = Failed fault }) }
+        ensures stays { (fault : RecordFault) → self.old.pending ≡ Failed fault →
+            (result ≡ Err fault) × (self.new ≡ self.old) }
+    {
+        let row = row_now(self.rt, note);
+        if asks_state(&row.note) {
+            return self.hold(row);
+        }
+        if let Some(held) = self.pending.with_play(row) {
+            self.pending = held;
+            return Ok(());
+        }
+        self.write(Some(row))
+    }
+
+    // Holds back the row of a command that asks for the state, and makes what is pending safe unless it says nothing new.
+    fn hold(&mut self, row: Row) -> Result<(), RecordFault>
+        requires { IsTrue (asks_state row.note) }
+        ensures kept { OnOk result (MakesSafe F.safe self.old self.new (rows_due self.old.pending row)
+            × (self.new ≡ record self.old { file = self.new.file; pending = after_row self.old.pending row })) }
+        ensures torn { OnErr result (MakesBeginning F.safe self.old self.new (rows_due self.old.pending row)) }
+        ensures failed { IfErr result (λ fault. self.new ≡ record self.old
+            { file = self.new.file; pending = Failed fault }) }
+        ensures stays { (fault : RecordFault) → self.old.pending ≡ Failed fault →
+            (result ≡ Err fault) × (self.new ≡ self.old) }
+    {
+        let last = self.pending.seen_last();
+        if !self.pending.says_nothing_new(row.note) {
+            self.write(None)?;
+        }
+        self.pending = Pending::Asked(last, row);
+        Ok(())
+    }
+
+    /// Notes what ended an exchange, in place of what was pending.
+    pub fn note(&mut self, heard: Option<Heard>)
+        ensures { (time : Moment) × (self.new ≡ record self.old
+            { pending = ended self.old.pending (record { time = time; note = end_note heard }) }) }
+    {
+        let time = now(self.rt);
+        self.note_row(Row {
+            time,
+            note: note_of(heard),
+        });
+    }
+
+    /// Notes the event that the run begins with, if it is said. It is written with the first command.
+    pub(crate) fn note_from(&mut self, event: Option<usize>)
+        requires { self.old.pending ≡ Nothing }
+        ensures noted { NotesFrom event self.new.pending }
+        ensures rest { self.new ≡ record self.old { pending = self.new.pending } }
+    {
+        if let Some(event) = event {
+            let time = now(self.rt);
+            self.note_row(Row {
+                time,
+                note: Note::From(event),
+            });
+        }
+    }
+
+    fn note_row(&mut self, row: Row)
+        requires { IsNoAct row }
+        ensures { self.new ≡ record self.old { pending = ended self.old.pending row } }
+    {
+        self.pending = self.pending.ended(row);
+    }
+
+    /// Writes what is pending, and how the controller ended, if it has ended. The failure is that of the first row
+    /// that wasn't written.
+    pub fn finish(&mut self, outcome: Option<Outcome>) -> Result<(), Failure<'a>>
+        ensures written { OnOk result ((time : Moment) × Adds F.safe self.old self.new (outcome_rows time outcome)) }
+        ensures torn { OnErr result ((time : Moment) × AddsBeginning F.safe self.old self.new
+            (outcome_rows time outcome)) }
+        ensures rest { OnOk result (self.new ≡ record self.old { file = self.new.file; pending = Nothing }) }
+        ensures failure { IfErr result (IsUnwritten self.old.name) }
+    {
+        let time = now(self.rt);
+        if let Err(fault) = self.write(outcome_row(time, outcome)) {
+            return Err(fault.failure(self.name));
+        }
+        Ok(())
+    }
+
+    /// Runs an automation, and keeps each of its commands before it goes out. At each moment the rows that are safe have
+    /// every command of which a byte went out, but for those that ask for the state, and a PLAY that they announce.
+    pub fn run<S: Source, E: Ear, W: Wire, V: Watch<S>, P: Pace<S>>(
+        &mut self,
+        driver: &mut Driver<S, E, W>,
+        listens: u64,
+        watch: &mut V,
+        pace: &mut P,
+    ) -> Result<Ran, KeptFault>
+        ensures leaves { RunLeaves S.items (record
+            { does = W.does; adds = Notes F.safe; loses = Loses F.safe; sees = V.sees }) E.fold W.failures listens
+            driver.old driver.new self.old self.new watch.old watch.new result }
+        ensures recorded { W.failures driver.old.wire ≡ 0 → IsRecorded F.safe W.told E.fold
+            (plan_of S.items driver.old.controller) driver.old.unit (auto_of driver.old) (auto_of driver.new)
+            driver.old.wire driver.new.wire result self.old self.new }
+    {
+        let _ = &self.pending;
+        laws::what_a_run_keeps::<S, E, W, V, Self>();
+        driver.run_with(listens, watch, self, pace)
+    }
+
+    // Writes what is pending, and then a row, if there is one.
+    fn write(&mut self, last: Option<Row>) -> Result<(), RecordFault>
+        ensures written { OnOk result (Adds F.safe self.old self.new (option_to_list last)) }
+        ensures rest { OnOk result (self.new ≡ record self.old { file = self.new.file; pending = Nothing }) }
+        ensures torn { OnErr result (AddsBeginning F.safe self.old self.new (option_to_list last)) }
+        ensures failed { IfErr result (λ fault. self.new ≡ record self.old
+            { file = self.new.file; pending = Failed fault }) }
+        ensures stays { (fault : RecordFault) → self.old.pending ≡ Failed fault →
+            (result ≡ Err fault) × (self.new ≡ self.old) }
+    {
+        match write_rows(
+            self.rt.alloc(),
+            self.unit,
+            self.pending,
+            last,
+            &mut self.file,
+        ) {
+            Ok(()) => {
+                self.pending = Pending::Nothing;
+                Ok(())
+            }
+            Err(fault) => {
+                self.pending = Pending::Failed(fault);
+                Err(fault)
+            }
+        }
+    }
+}
+
+impl<R: Clock + AllocGlobal, F: Disk + Drop> Keep for Recorder<'_, '_, R, F> {
+    ghost use Rattle.vdcp_journal_file.specs.Recorded.{KeepsRow, Loses, LosesRow, Notes, call_note};
+
+    ghost adds = { Notes F.safe };
+
+    ghost loses = { Loses F.safe };
+
+    ghost calls = { λ call. KeepsRow F.safe (call_note call) };
+
+    ghost misses = { λ call. LosesRow F.safe (call_note call) };
+
+    fn keep_sent(&mut self, command: &Command) -> Result<(), KeepFault> {
+        match self.keep(Note::Sent(*command)) {
+            Ok(()) => Ok(()),
+            Err(_) => Err(KeepFault),
+        }
+    }
+
+    fn note_end(&mut self, heard: Option<Heard>) {
+        self.note(heard);
+    }
+
+    fn keep_call(&mut self, call: Call) -> Result<(), KeepFault> {
+        match self.keep(note_of_call(call)) {
+            Ok(()) => Ok(()),
+            Err(_) => Err(KeepFault),
+        }
+    }
+}
+
+// The row of how the controller ended, if it has ended.
+fn outcome_row(time: Moment, outcome: Option<Outcome>) -> Option<Row>
+    ensures { option_to_list result ≡ outcome_rows time outcome }
+{
+    match outcome {
+        Some(outcome) => Some(Row {
+            time,
+            note: Note::End(outcome),
+        }),
+        None => None,
+    }
+}
+
+// Whether the state is asked for.
+fn asks_state(note: &Note) -> bool
+    ensures { result ≡ asks_state note.now }
+{
+    matches!(note, Note::Sent(Command::Status(_)))
+}
+
+// The note of a call.
+fn note_of_call(call: Call) -> Note
+    ensures { result ≡ call_note call }
+{
+    match call {
+        Call::Take => Note::Take,
+        Call::Stop => Note::Stop,
+    }
+}
+
+// The note of what ended an exchange.
+fn note_of(heard: Option<Heard>) -> Note
+    ensures { result ≡ end_note heard }
+{
+    match heard {
+        Some(heard) => Note::Heard(heard),
+        None => Note::Silence,
+    }
+}
+
+/// A row of now.
+pub(crate) fn row_now<R: Clock>(rt: &R, note: Note) -> Row
+    ensures { result.note ≡ note }
+{
+    Row {
+        time: now(rt),
+        note,
+    }
+}
+
+// A clock that fails shows 1970.
+fn now<R: Clock>(rt: &R) -> Moment {
+    let millis = match rt.since_1970() {
+        Ok(time) => u64::try_from(time.as_millis()).unwrap_or(u64::MAX),
+        Err(_) => 0,
+    };
+    Moment::of_unix_millis(millis)
+}
+
+// Writes the first row.
+fn write_first<F: Disk>(
+    alloc: Global,
+    time: &Moment,
+    heading: &Heading,
+    file: &mut F,
+) -> Result<(), RecordFault>
+    ensures first { OnOk result (Appends (F.written file.old) (F.safe file.new)
+        (fields_text (heading_fields time.now heading.now))) }
+    ensures synced { OnOk result (F.safe file.new ≡ F.written file.new) }
+{
+    let text = first_text(alloc, time, heading)?;
+    match append_safely(file, text.as_slice()) {
+        Ok(()) => Ok(()),
+        Err(_) => Err(RecordFault::Device),
+    }
+}
+
+/// The text of the first row of a journal that is begun now.
+pub(crate) fn heading_text<R: Clock + AllocGlobal>(
+    rt: &R,
+    heading: &Heading,
+) -> Result<Vec<u8>, RecordFault>
+    ensures { IfOk result (λ text. (time : Moment)
+        × (text.items ≡ fields_text (heading_fields time heading.now))) }
+{
+    first_text(rt.alloc(), &now(rt), heading)
+}
+
+fn first_text(alloc: Global, time: &Moment, heading: &Heading) -> Result<Vec<u8>, RecordFault>
+    ensures { IfOk result (λ text. text.items ≡ fields_text (heading_fields time.now heading.now)) }
+{
+    let mut text = Vec::new(alloc);
+    match write_heading(alloc, time, heading, &mut text) {
+        Ok(()) => Ok(text),
+        Err(_) => Err(RecordFault::Memory),
+    }
+}
+
+// Writes what is left, and then a row, if there is one, in one, and makes that safe.
+fn write_rows<F: Disk>(
+    alloc: Global,
+    unit: u8,
+    left: Pending,
+    last: Option<Row>,
+    file: &mut F,
+) -> Result<(), RecordFault>
+    requires unit { unit ≤ 15 }
+    requires synced { IsSynced left (F.safe file.old) (F.written file.old) }
+    ensures all { OnOk result (Appends (F.safe file.old) (F.safe file.new)
+        (rows_text unit (rows_left left ++ option_to_list last))) }
+    ensures synced { OnOk result (F.safe file.new ≡ F.written file.new) }
+    ensures beginning { OnErr result (AppendsBeginning (F.safe file.old) (F.safe file.new)
+        (rows_text unit (rows_left left ++ option_to_list last))) }
+    ensures refused { (fault : RecordFault) → left ≡ Failed fault → (result ≡ Err fault) × (file.new ≡ file.old) }
+{
+    let mut text = Vec::new(alloc);
+    left.add_to(alloc, unit, &mut text)?;
+    add_row(alloc, unit, last, &mut text)?;
+    if text.is_empty() {
+        return Ok(());
+    }
+    match append_safely(file, text.as_slice()) {
+        Ok(()) => Ok(()),
+        Err(_) => Err(RecordFault::Device),
+    }
+}

@@ -1,5 +1,0 @@
-pub mod Chains
-pub mod Losses
-pub mod OpenedAgain
-pub mod Shown
-mod Disking

@@ -1,5 +1,0 @@
-use Rattle.std.proofs.lemmas.Result.{IfOk-weaker}
-use Rattle.vdcp_record.proofs.recorder.heading_text.Goals as goal
-
-pub returns : goal.returns
-returns g c = IfOk-weaker c.first_text.result _ _ (λ text is. (c.now.result, is)) c.first_text.ensures
