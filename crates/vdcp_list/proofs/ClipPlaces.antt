@@ -8,7 +8,7 @@ use Rattle.std.specs.Cmp.Lexicographic.{on_texts_equal, same_text}
 use Rattle.std.specs.Cmp.{IsEquivalence}
 use Rattle.std.specs.Int.{from_be_bytes, to_be_bytes, w64}
 use Rattle.std.specs.Prelude.{◌≢◌, Option, None, Some, is_some, option_map, if◌then◌else◌, nat_eq}
-use Rattle.vdcp_list.proofs.Values.{IdLaws}
+use Rattle.vdcp_list.specs.Values.{IdLaws}
 use Rattle.vdcp_list.specs.Places.{key_of, place_of}
 use Rattle.vdcp_port.specs.Clips.{length_of}
 use Rattle.vdcp_value.specs.Ids.{is_same_id, id_bytes}

@@ -4,7 +4,7 @@ use Rattle.std.proofs.Common.{zero, suc, true≢false, inl, inr}
 use Rattle.std.proofs.lemmas.Bool.Decides.{eqb_tells}
 use Rattle.std.specs.Prelude.{◌≢◌, ◌⊎◌, eqb, Option, None, Some, slice_index}
 use Rattle.vdcp_list.proofs.ItemRows.{no_frames, no_part, own_is_lawful, own_text, part_read, time_of}
-use Rattle.vdcp_list.proofs.Values.{TextLaws, TimeLaws}
+use Rattle.vdcp_list.specs.Values.{FieldLaws, TextLaws, TimeLaws}
 use Rattle.vdcp_list.specs.Playlists.{CanName, part_fields, time_text}
 use Rattle.vdcp_value.specs.Bcd.{bcd_byte, bcd_of_label, is_time}
 use Rattle.vdcp_value.specs.Bytes.{are_bytes}
@@ -17,12 +17,6 @@ use Rattle.vdcp_value.specs.declared.label.Label.{Label}
 use Rattle.vdcp_value.specs.declared.part.Part.{Part}
 use Rattle.vdcp_value.specs.declared.rate.Rate.{Rate}
 use Rattle.vdcp_value.specs.declared.timecode.Timecode.{Timecode}
-
--- what texts say of IDs and of time codes
-pub record FieldLaws : Type 0 where
-  pub ids : TextLaws
-  pub times : TimeLaws
-  pub one_time : (a b : Timecode) → rate_of a ≡ rate_of b → text_of a ≡ text_of b → a ≡ b
 
 pub either : (b : Bool) → (b ≡ true) ⊎ (b ≡ false)
 either true = inl refl

@@ -3,7 +3,7 @@ use Rattle.csv.specs.Records.{field_at}
 use Rattle.std.proofs.Common.{◌≡◌, ℕ, ◌≤◌, Bool, true, List, [], ◌∷◌, length, refl, sym, ap, ap₂, subst, ◌∙◌, arith, zero, suc}
 use Rattle.std.proofs.Math.Bool.{and-eq-true_iff}
 use Rattle.std.specs.Prelude.{Option, None, Some, drop, slice_get, ◌≢◌, ◌&&◌}
-use Rattle.vdcp_list.proofs.Values.{TimeLaws}
+use Rattle.vdcp_list.specs.Values.{TimeLaws}
 use Rattle.vdcp_list.specs.Playlists.{CanName, has_parts, item_row, part_fields, time_text}
 use Rattle.vdcp_list.specs.Rows.{FileRow}
 use Rattle.vdcp_value.specs.Bcd.{frames_in, is_time, label_of_bcd}

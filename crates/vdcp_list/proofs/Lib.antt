@@ -1,7 +1,7 @@
+-- The lemmas, file by file.
 mod RowsLeft
 mod Reading
 mod Texts
-mod Values
 mod Listings
 mod Steps
 mod ItemRows

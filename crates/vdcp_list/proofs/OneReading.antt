@@ -1,38 +1,31 @@
 -- Rows have one reading: a playlist of one list of items or one fault, and not both.
-use Rattle.std.proofs.Common.{◌≡◌, ℕ, ◌+◌, ◌-◌, ◌<◌, Bool, true, false, cond, List, [], ◌∷◌, length, map}
+use Rattle.std.proofs.Common.{◌≡◌, ℕ, ◌-◌, ◌<◌, Bool, true, false, cond, List, [], ◌∷◌, ◌++◌, length, map}
 use Rattle.std.proofs.Common.{take, refl, sym, ap, ap₂, subst, ◌∙◌, arith, zero, suc, true≢false, inl, inr, All}
 use Rattle.std.proofs.Math.Bool.{and-eq-true_iff}
 use Rattle.std.proofs.lemmas.List.{take_all}
 use Rattle.std.proofs.lemmas.List.Elements.{All-head, All-tail}
-use Rattle.std.specs.Prelude.{Option, None, Some, slice_get, ◌⊎◌}
+use Rattle.std.specs.Prelude.{Option, None, Some, slice_get}
 use Rattle.vdcp_list.proofs.ItemRows.{time_of}
-use Rattle.vdcp_list.proofs.Values.{TimeLaws}
-use Rattle.vdcp_list.specs.Playlists.{CanName, IsItemFault, IsPlaylist, IsPlaylistFault, Names}
-use Rattle.vdcp_list.specs.Playlists.{RefusesRow, columns_of, has_parts, is_of_columns, item_row, part_fields, time_text}
-use Rattle.vdcp_list.specs.Reading.{IsReadFault}
+use Rattle.vdcp_list.specs.Values.{FieldLaws}
+use Rattle.vdcp_list.specs.Playlists.{CanName, IsItemFault, IsNextFault, IsPlaylist, IsPlaylistFault, NameItems, Names}
+use Rattle.vdcp_list.specs.Playlists.{columns_of, has_parts, is_of_columns, item_row, part_fields, time_text}
+use Rattle.vdcp_list.specs.Reading.{HasTooMany, IsReadFault, RefusesRow}
 use Rattle.vdcp_list.specs.Rows.{FileRow, HasId, most_rows}
 use Rattle.vdcp_list.specs.declared.faults.ListFault.TheVariants.{Columns, Id, Time, Twice, TooMany, Long, Memory, Read}
 use Rattle.vdcp_list.specs.declared.faults.ListFault.{ListFault}
 use Rattle.vdcp_value.specs.Bcd.{is_time}
 use Rattle.vdcp_value.specs.Bytes.{AreBytes}
 use Rattle.vdcp_value.specs.Ids.{text_of_id}
-use Rattle.vdcp_value.specs.Timecodes.{bcd_of, rate_of, text_of}
+use Rattle.vdcp_value.specs.Timecodes.{bcd_of, text_of}
 use Rattle.vdcp_value.specs.declared.clip_id.ClipId.{ClipId}
 use Rattle.vdcp_value.specs.declared.part.Item.{Item}
 use Rattle.vdcp_value.specs.declared.part.Part.{Part}
 use Rattle.vdcp_value.specs.declared.rate.Rate.{Rate}
 use Rattle.vdcp_value.specs.declared.timecode.Timecode.{Timecode}
 
--- what texts say of IDs and of time codes
-pub record OneText : Type 0 where
-  pub times : TimeLaws
-  pub one_id : (a b : ClipId) → text_of_id a ≡ text_of_id b → a ≡ b
-  pub one_time : (a b : Timecode) → rate_of a ≡ rate_of b → text_of a ≡ text_of b → a ≡ b
-  pub eleven : (time : Timecode) → length (text_of time) ≡ 11
-
 -- ---- one list
 
-one_bytes : OneText → (rate : Rate) (a b : List ℕ) → AreBytes 4 a → AreBytes 4 b → is_time rate a ≡ true
+one_bytes : FieldLaws → (rate : Rate) (a b : List ℕ) → AreBytes 4 a → AreBytes 4 b → is_time rate a ≡ true
     → is_time rate b ≡ true
     → time_text rate a ≡ time_text rate b → a ≡ b
 one_bytes v rate a b p q l m e =
@@ -41,7 +34,7 @@ one_bytes v rate a b p q l m e =
     let same = v.one_time s.time t.time (s.same_rate ∙ sym t.same_rate) (s.text ∙ e ∙ sym t.text) in
     sym s.bytes_are ∙ ap (λ (x : Timecode). bcd_of x) same ∙ t.bytes_are
 
-not_empty : OneText → (rate : Rate) (bytes : List ℕ) → AreBytes 4 bytes → is_time rate bytes ≡ true
+not_empty : FieldLaws → (rate : Rate) (bytes : List ℕ) → AreBytes 4 bytes → is_time rate bytes ≡ true
     → time_text rate bytes ≡ [] → ⊥
 not_empty v rate bytes p l e =
     let t = time_of v.times rate bytes p l in
@@ -58,7 +51,7 @@ lawful_both rate part with_parts can = (and-eq-true_iff (is_time rate part.start
 abbrev part_with : List ℕ → List ℕ → Option Part
 part_with start duration = Some (record { start = start; duration = duration })
 
-one_part : OneText → (rate : Rate) (p q : Option Part) → CanName rate true p → CanName rate true q
+one_part : FieldLaws → (rate : Rate) (p q : Option Part) → CanName rate true p → CanName rate true q
     → part_fields rate p ≡ part_fields rate q → p ≡ q
 one_part v rate None None cp cq e = refl
 one_part v rate None (Some q) cp cq e =
@@ -82,7 +75,7 @@ first_field a b row other e = (cc, cc)
 abbrev item_with : ClipId → Option Part → Item
 item_with id part = record { id = id; part = part }
 
-one_item : OneText → (rate : Rate) (with_parts : Bool) (i j : ClipId) (p q : Option Part) → CanName rate with_parts p
+one_item : FieldLaws → (rate : Rate) (with_parts : Bool) (i j : ClipId) (p q : Option Part) → CanName rate with_parts p
     → CanName rate with_parts q
     → item_row rate with_parts (item_with i p) ≡ item_row rate with_parts (item_with j q)
     → item_with i p ≡ item_with j q
@@ -101,7 +94,7 @@ first_row : (a b : FileRow) (rows others : List FileRow) → ◌≡◌ {A = List
     → (a ≡ b) × (rows ≡ others)
 first_row a b rows others e = (cc, cc)
 
-same_items : OneText → (rate : Rate) (with_parts : Bool) (a b : List Item) → AllNamed rate with_parts a
+same_items : FieldLaws → (rate : Rate) (with_parts : Bool) (a b : List Item) → AllNamed rate with_parts a
     → AllNamed rate with_parts b
     → map (item_row rate with_parts) a ≡ map (item_row rate with_parts) b → a ≡ b
 same_items v rate w [] [] p q e = refl
@@ -115,7 +108,7 @@ same_items v rate w (x ∷ xs) (y ∷ ys) p q e =
     (same_items v rate w xs ys (All-tail (λ (i : Item). CanName rate w i.part) x xs p)
     (All-tail (λ (i : Item). CanName rate w i.part) y ys q) h.1)
 
-pub one_list : OneText → (rate : Rate) (rows : List FileRow) (a b : List Item) → IsPlaylist rate rows a
+pub one_list : FieldLaws → (rate : Rate) (rows : List FileRow) (a b : List Item) → IsPlaylist rate rows a
     → IsPlaylist rate rows b → a ≡ b
 one_list v rate rows a b h g =
     same_items v rate (has_parts (columns_of rows)) a b h.named.can_name g.named.can_name
@@ -200,29 +193,28 @@ not_refused rate rows n k items row fault h below e f = by_fault fault f
 
 -- ---- one fault
 
--- the first row too many
-record HasOneMore (rate : Rate) (rows : List FileRow) (fault : ListFault) : Type 0 where
-  pub fault_is : fault ≡ TooMany (most_rows + 1)
-  pub many : most_rows < length rows
-  pub items : List Item
-  pub named : Names rate (has_parts (columns_of rows)) (take most_rows rows) items
+-- the columns of the first rows are those of all
+named_in_front : (rate : Rate) (rows : List FileRow) (n : ℕ) (items : List Item) → 0 < n
+    → Names rate (has_parts (columns_of (take n rows))) (take n rows) items
+    → Names rate (has_parts (columns_of rows)) (take n rows) items
+named_in_front rate rows zero items some h = absurd (omega (arith, some))
+named_in_front rate [] (suc n) items some h = h
+named_in_front rate (row ∷ rows) (suc n) items some h = h
 
--- the row at which a fault stands
-abbrev Stands : Rate → List FileRow → ListFault → Type 0
-Stands rate rows fault = ((k : ℕ) × RefusesRow rate rows k fault) ⊎ HasOneMore rate rows fault
+columns_at : (rows : List FileRow) (n : ℕ) (row : FileRow) → slice_get rows n ≡ Some row
+    → columns_of (take n rows ++ row ∷ []) ≡ columns_of rows
+columns_at [] n row e = cc e
+columns_at (first ∷ rows) zero row e = let same : first ≡ row = cc e in ap length (sym same)
+columns_at (first ∷ rows) (suc n) row e = refl
 
-stands : (rate : Rate) (rows : List FileRow) (fault : ListFault) → IsPlaylistFault rate rows fault
-    → (IsReadFault fault → ⊥) → Stands rate rows fault
-stands rate rows (Columns k) h other = inl (k, h)
-stands rate rows (Id k) h other = inl (k, h)
-stands rate rows (Time k) h other = inl (k, h)
-stands rate rows (Twice k) h other = absurd h
-stands rate rows (TooMany k) h other =
-    let (e, many, items, named) = h in
-    inr (record { fault_is = ap TooMany e; many = many; items = items; named = named })
-stands rate rows (Long j) h other = absurd (other tt)
-stands rate rows Memory h other = absurd (other tt)
-stands rate rows Read h other = absurd (other tt)
+-- row k is refused
+abbrev IsRefused : Rate → List FileRow → ℕ → ListFault → Type 0
+IsRefused rate rows k fault = RefusesRow (NameItems rate) (IsNextFault rate) rows k fault
+
+item_fault : (rate : Rate) (rows : List FileRow) (k : ℕ) (fault : ListFault) (h : IsRefused rate rows k fault)
+    → IsItemFault rate (columns_of rows) h.row k fault
+item_fault rate rows k fault h =
+    subst (λ n. IsItemFault rate n h.row k fault) (columns_at rows (k - 1) h.row h.next) h.refused
 
 one_row : (a b : FileRow) (o : Option FileRow) → o ≡ Some a → o ≡ Some b → a ≡ b
 one_row a b o e h = let same : ◌≡◌ {A = Option FileRow} (Some a) (Some b) = sym e ∙ h in cc same
@@ -250,57 +242,53 @@ same_fault rate columns k row (Long j) b f g = absurd f
 same_fault rate columns k row Memory b f g = absurd f
 same_fault rate columns k row Read b f g = absurd f
 
-earlier : (rate : Rate) (rows : List FileRow) (j k : ℕ) (a b : ListFault) → RefusesRow rate rows j a
-    → RefusesRow rate rows k b → j < k → ⊥
-earlier rate rows j k a b (row, next, f) (row', next', f') below =
-    let (items, named) = next'.fine in
-    not_refused rate rows (k - 1) j items row a named (omega (arith, below, next.counted)) next.next f
+earlier : (rate : Rate) (rows : List FileRow) (j k : ℕ) (a b : ListFault) → IsRefused rate rows j a
+    → IsRefused rate rows k b → j < k → ⊥
+earlier rate rows j k a b f g below =
+    let (items, named) = g.fine in
+    not_refused rate rows (k - 1) j items f.row a
+    (named_in_front rate rows (k - 1) items (omega (arith, below, f.counted)) named)
+    (omega (arith, below, f.counted)) f.next (item_fault rate rows j a f)
 
 ordered : (j k : ℕ) → (j < k → ⊥) → (k < j → ⊥) → j ≡ k
 ordered j k below above = grind (arith, below, above)
 
-at_one_row : (rate : Rate) (rows : List FileRow) (k : ℕ) (a b : ListFault) → RefusesRow rate rows k a
-    → RefusesRow rate rows k b → a ≡ b
-at_one_row rate rows k a b (row, next, f) (row', next', f') =
-    let same = one_row row' row (slice_get rows (k - 1)) next'.next next.next in
-    same_fault rate (columns_of rows) k row a b f (subst (λ r. IsItemFault rate (columns_of rows) r k b) same f')
+at_one_row : (rate : Rate) (rows : List FileRow) (k : ℕ) (a b : ListFault) → IsRefused rate rows k a
+    → IsRefused rate rows k b → a ≡ b
+at_one_row rate rows k a b f g =
+    let same = one_row g.row f.row (slice_get rows (k - 1)) g.next f.next in
+    same_fault rate (columns_of rows) k f.row a b (item_fault rate rows k a f)
+    (subst (λ r. IsItemFault rate (columns_of rows) r k b) same (item_fault rate rows k b g))
 
-within : (rate : Rate) (rows : List FileRow) (k : ℕ) (a b : ListFault) → RefusesRow rate rows k a
-    → HasOneMore rate rows b → ⊥
-within rate rows k a b (row, next, f) h =
-    not_refused rate rows most_rows k h.items row a h.named (omega (arith, next.counted, next.within)) next.next f
-
-one_stands : (rate : Rate) (rows : List FileRow) (a b : ListFault) → Stands rate rows a → Stands rate rows b → a ≡ b
-one_stands rate rows a b (inl (j, f)) (inl (k, g)) =
-    let same = ordered j k (earlier rate rows j k a b f g) (earlier rate rows k j b a g f) in
-    at_one_row rate rows k a b (subst (λ n. RefusesRow rate rows n a) same f) g
-one_stands rate rows a b (inl (j, f)) (inr g) = absurd (within rate rows j a b f g)
-one_stands rate rows a b (inr f) (inl (k, g)) = absurd (within rate rows k b a g f)
-one_stands rate rows a b (inr f) (inr g) = f.fault_is ∙ sym g.fault_is
+within : (rate : Rate) (rows : List FileRow) (k : ℕ) (a b : ListFault) → IsRefused rate rows k a
+    → HasTooMany (NameItems rate) rows b → ⊥
+within rate rows k a b f h =
+    let (items, named) = h.fine in
+    not_refused rate rows most_rows k items f.row a
+    (named_in_front rate rows most_rows items (omega (arith, f.counted, f.within)) named)
+    (omega (arith, f.counted, f.within)) f.next (item_fault rate rows k a f)
 
 pub one_fault : (rate : Rate) (rows : List FileRow) (a b : ListFault) → IsPlaylistFault rate rows a
     → IsPlaylistFault rate rows b
     → (IsReadFault a → ⊥) → (IsReadFault b → ⊥) → a ≡ b
-one_fault rate rows a b f g p q = one_stands rate rows a b (stands rate rows a f p) (stands rate rows b g q)
+one_fault rate rows a b (inl f) g p q = absurd (p f)
+one_fault rate rows a b f (inl g) p q = absurd (q g)
+one_fault rate rows a b (inr (inr (j, f))) (inr (inr (k, g))) p q =
+    let same = ordered j k (earlier rate rows j k a b f g) (earlier rate rows k j b a g f) in
+    at_one_row rate rows k a b (subst (λ n. IsRefused rate rows n a) same f) g
+one_fault rate rows a b (inr (inr (j, f))) (inr (inl g)) p q = absurd (within rate rows j a b f g)
+one_fault rate rows a b (inr (inl f)) (inr (inr (k, g))) p q = absurd (within rate rows k b a g f)
+one_fault rate rows a b (inr (inl f)) (inr (inl g)) p q = f.fault_is ∙ sym g.fault_is
 
 -- ---- not both
 
-refused_none : (rate : Rate) (rows : List FileRow) (items : List Item) (k : ℕ) (fault : ListFault)
-    → IsPlaylist rate rows items
-    → RefusesRow rate rows k fault → ⊥
-refused_none rate rows items k fault h (row, next, f) =
-    not_refused rate rows most_rows k items row fault
-    (subst (λ front. Names rate (has_parts (columns_of rows)) front items) (sym (take_all most_rows rows h.few))
-    h.named)
-    (omega (arith, next.counted, next.within)) next.next f
-
 pub not_both : (rate : Rate) (rows : List FileRow) (items : List Item) (fault : ListFault) → IsPlaylist rate rows items
     → IsPlaylistFault rate rows fault → IsReadFault fault
-not_both rate rows items (Columns k) h f = refused_none rate rows items k (Columns k) h f
-not_both rate rows items (Id k) h f = refused_none rate rows items k (Id k) h f
-not_both rate rows items (Time k) h f = refused_none rate rows items k (Time k) h f
-not_both rate rows items (Twice k) h f = f
-not_both rate rows items (TooMany k) h f = let few = h.few in let many = f.1 in omega (arith, few, many)
-not_both rate rows items (Long j) h f = tt
-not_both rate rows items Memory h f = tt
-not_both rate rows items Read h f = tt
+not_both rate rows items fault h (inl f) = f
+not_both rate rows items fault h (inr (inl f)) =
+    let few = h.few in let many = f.many in absurd (omega (arith, few, many))
+not_both rate rows items fault h (inr (inr (k, f))) =
+    absurd (not_refused rate rows most_rows k items f.row fault
+    (subst (λ front. Names rate (has_parts (columns_of rows)) front items) (sym (take_all most_rows rows h.few))
+    h.named)
+    (omega (arith, f.counted, f.within)) f.next (item_fault rate rows k fault f))

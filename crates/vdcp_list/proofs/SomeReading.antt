@@ -3,14 +3,16 @@ use Rattle.std.proofs.Common.{◌≡◌, ℕ, ◌+◌, ◌<◌, ◌≤◌, true,
 use Rattle.std.proofs.Common.{append-nil, inl, inr}
 use Rattle.std.proofs.lemmas.Bool.Decides.{eqb_tells}
 use Rattle.std.specs.Prelude.{◌≢◌, ◌⊎◌, eqb, Option, None, Some}
-use Rattle.vdcp_list.proofs.FieldTexts.{FieldLaws, IsIds, IsParts, id_or_none, part_or_none}
+use Rattle.vdcp_list.specs.Values.{FieldLaws}
+use Rattle.vdcp_list.proofs.FieldTexts.{IsIds, IsParts, id_or_none, part_or_none}
 use Rattle.vdcp_list.proofs.ItemRows.{one_some}
-use Rattle.vdcp_list.proofs.PlaylistSteps.{names_push, next_row, no_names, of_row, too_many}
-use Rattle.vdcp_list.proofs.Steps.{one_more}
-use Rattle.vdcp_list.specs.Playlists.{CanName, IsItemFault, IsPlaylist, IsPlaylistFault, Names, columns_of, has_parts, is_of_columns, item_row, part_fields}
-use Rattle.vdcp_list.specs.Reading.{IsReadFault}
+use Rattle.vdcp_list.proofs.PlaylistSteps.{named_now, names_push, no_names}
+use Rattle.vdcp_list.proofs.Steps.{Fine, Refusal, one_more, refused_row, too_many}
+use Rattle.vdcp_list.specs.Playlists.{CanName, IsItemFault, IsNextFault, IsPlaylist, IsPlaylistFault, NameItems}
+use Rattle.vdcp_list.specs.Playlists.{columns_of, has_parts, is_of_columns, item_row, part_fields}
+use Rattle.vdcp_list.specs.Reading.{IsReadFault, IsRowsFault}
 use Rattle.vdcp_list.specs.Rows.{FileRow, most_rows}
-use Rattle.vdcp_list.specs.declared.faults.ListFault.TheVariants.{Columns, Id, Time, Twice, TooMany, Long, Memory, Read}
+use Rattle.vdcp_list.specs.declared.faults.ListFault.TheVariants.{Columns, Id, Time, TooMany}
 use Rattle.vdcp_list.specs.declared.faults.ListFault.{ListFault}
 use Rattle.vdcp_value.specs.Ids.{text_of_id}
 use Rattle.vdcp_value.specs.declared.clip_id.ClipId.{ClipId}
@@ -26,7 +28,7 @@ HasItem rate columns row = (item : Item) × (item_row rate (has_parts columns) i
     × CanName rate (has_parts columns) item.part
 
 abbrev HasItemFault : Rate → ℕ → FileRow → Type 0
-HasItemFault rate columns row = (k : ℕ) → (fault : ListFault) × IsItemFault rate columns row k fault
+HasItemFault rate columns row = (k : ℕ) → (fault : ListFault) × IsItemFault rate columns row k fault × ¬ IsReadFault fault
 
 abbrev IsRead : Rate → ℕ → FileRow → Type 0
 IsRead rate columns row = HasItem rate columns row ⊎ HasItemFault rate columns row
@@ -44,7 +46,7 @@ read_whole v rate (first ∷ []) size = by (id_or_none v.ids first)
   where
     by : IsIds first → IsRead rate 1 (first ∷ [])
     by (inl (id, e)) = inl (item_with id None, ap (λ (t : List ℕ). t ∷ []) (sym e), tt)
-    by (inr n) = inr (λ k. (Id k, (refl, refl, λ h. n h.0 (one_some first (text_of_id h.0) h.1))))
+    by (inr n) = inr (λ k. (Id k, (refl, refl, λ h. n h.0 (one_some first (text_of_id h.0) h.1)), λ h. h))
 
 read_part : FieldLaws → (rate : Rate) (row : FileRow) → length row ≡ 3 → IsRead rate 3 row
 read_part v rate [] size = absurd (omega (arith, size))
@@ -67,8 +69,9 @@ read_part v rate (first ∷ start ∷ duration ∷ []) size = by (id_or_none v.i
                 n item.part can (tails (text_of_id item.id) first (part_fields rate item.part) (start ∷ duration ∷ [])
                 f),
           ),
+          λ h. h,
         ))
-    by (inr n) p = inr (λ k. (Id k, (refl, refl, λ h. n h.0 (one_some first (text_of_id h.0) h.1))))
+    by (inr n) p = inr (λ k. (Id k, (refl, refl, λ h. n h.0 (one_some first (text_of_id h.0) h.1)), λ h. h))
 
 abbrev IsSized : ℕ → FileRow → ℕ → Type 0
 IsSized columns row n = (length row ≡ columns) × (columns ≡ n)
@@ -93,25 +96,9 @@ read_row v rate columns row = by (sizes columns row)
     by : (IsSized columns row 1 ⊎ IsSized columns row 3) ⊎ (is_of_columns columns row ≡ false) → IsRead rate columns row
     by (inl (inl (size, one))) = subst (λ n. IsRead rate n row) (sym one) (read_whole v rate row (size ∙ one))
     by (inl (inr (size, three))) = subst (λ n. IsRead rate n row) (sym three) (read_part v rate row (size ∙ three))
-    by (inr other) = inr (λ k. (Columns k, (refl, other)))
+    by (inr other) = inr (λ k. (Columns k, (refl, other), λ h. h))
 
 -- ---- all rows
-
-abbrev pub HasReading : Rate → List FileRow → Type 0
-HasReading rate rows =
-    ((items : List Item) × IsPlaylist rate rows items)
-    ⊎ ((fault : ListFault) × IsPlaylistFault rate rows fault × ¬ IsReadFault fault)
-
-of_rows : (rate : Rate) (columns : ℕ) (row : FileRow) (k : ℕ) (fault : ListFault) → IsItemFault rate columns row k fault
-    → IsReadFault fault → ⊥
-of_rows rate columns row k (Columns j) f h = h
-of_rows rate columns row k (Id j) f h = h
-of_rows rate columns row k (Time j) f h = h
-of_rows rate columns row k (Twice j) f h = h
-of_rows rate columns row k (TooMany j) f h = h
-of_rows rate columns row k (Long j) f h = f
-of_rows rate columns row k Memory f h = f
-of_rows rate columns row k Read f h = f
 
 pub room : (n most : ℕ) → n ≤ most → (n < most) ⊎ (n ≡ most)
 room n most few = by (eqb_tells n most)
@@ -120,48 +107,75 @@ room n most few = by (eqb_tells n most)
     by (inl (t, e)) = inr e
     by (inr (f, n)) = inl (grind (arith, few, n))
 
--- the rows are these in front, and those that are left
-abbrev IsFrontOf : List FileRow → List FileRow → List FileRow → Type 0
-IsFrontOf rows front left = rows ≡ front ++ left
+-- all rows are fine, or they have a fault
+abbrev pub IsReadAll : Fine → Refusal → List FileRow → Type 0
+IsReadAll IsFine Refuses rows =
+    ((length rows ≤ most_rows) × IsFine rows)
+    ⊎ ((fault : ListFault) × IsRowsFault IsFine Refuses rows fault × ¬ IsReadFault fault)
 
-read_from : FieldLaws → (rate : Rate) (rows front left : List FileRow) (items : List Item) → IsFrontOf rows front left
-    → length front ≤ most_rows
-    → Names rate (has_parts (columns_of rows)) front items → HasReading rate rows
-read_from v rate rows front [] items is few named =
+-- the next row is fine after these, or refused
+abbrev pub IsReadNext : Fine → Refusal → List FileRow → FileRow → Type 0
+IsReadNext IsFine Refuses front row =
+    IsFine (front ++ row ∷ [])
+    ⊎ ((fault : ListFault) × Refuses front row (length front + 1) fault × ¬ IsReadFault fault)
+
+read_from : (IsFine : Fine) (Refuses : Refusal)
+    → ((front : List FileRow) (row : FileRow) → IsFine front → IsReadNext IsFine Refuses front row)
+    → (rows front left : List FileRow) → rows ≡ front ++ left → length front ≤ most_rows → IsFine front
+    → IsReadAll IsFine Refuses rows
+read_from IsFine Refuses step rows front [] is few fine =
     let all : rows ≡ front = is ∙ append-nil front in
-    inl (
-      items,
-      record {
-        few = subst (λ (fs : List FileRow). length fs ≤ most_rows) (sym all) few;
-        named = subst (λ (fs : List FileRow). Names rate (has_parts (columns_of rows)) fs items) (sym all) named;
-      },
-    )
-read_from v rate rows front (row ∷ left) items is few named =
-    by (room (length front) most_rows few) (read_row v rate (columns_of rows) row)
-    (λ item. read_from v rate rows (front ++ row ∷ []) left (items ++ item ∷ []) begins)
+    inl (subst (λ (fs : List FileRow). length fs ≤ most_rows) (sym all) few, subst IsFine (sym all) fine)
+read_from IsFine Refuses step rows front (row ∷ left) is few fine =
+    by (room (length front) most_rows few) (step front row fine)
+    (read_from IsFine Refuses step rows (front ++ row ∷ []) left begins)
   where
     begins : rows ≡ (front ++ row ∷ []) ++ left
     begins = is ∙ sym (append_assoc front (row ∷ []) left)
 
-    by : (length front < most_rows) ⊎ (length front ≡ most_rows) → IsRead rate (columns_of rows) row
-        → ((item : Item) → length (front ++ row ∷ []) ≤ most_rows
-        → Names rate (has_parts (columns_of rows)) (front ++ row ∷ []) (items ++ item ∷ []) → HasReading rate rows)
-        → HasReading rate rows
+    by : (length front < most_rows) ⊎ (length front ≡ most_rows) → IsReadNext IsFine Refuses front row
+        → (length (front ++ row ∷ []) ≤ most_rows → IsFine (front ++ row ∷ []) → IsReadAll IsFine Refuses rows)
+        → IsReadAll IsFine Refuses rows
     by (inr full) r next =
-        inr (TooMany (most_rows + 1), too_many rate front rows items row (left, begins) full named, λ h. h)
-    by (inl below) (inl (item, e, can)) next =
-        next item (let size = one_more front row in omega (arith, size, below))
-        (names_push rate (has_parts (columns_of rows)) front items row item named e can)
-    by (inl below) (inr f) next =
-        let (fault, h) = f (length front + 1) in
+        inr (TooMany (most_rows + 1), inr (inl (too_many IsFine front rows row (left, begins) full fine)), λ h. h)
+    by (inl below) (inl more) next = next (let size = one_more front row in omega (arith, size, below)) more
+    by (inl below) (inr (fault, f, other)) next =
         inr (
           fault,
-          of_row rate rows (length front + 1) (columns_of rows) row fault
-              (next_row rate front rows (length front + 1) items row (left, begins) refl (omega (arith, below)) named)
-              refl h,
-          of_rows rate (columns_of rows) row (length front + 1) fault h,
+          inr (inr (
+            length front + 1,
+            refused_row IsFine Refuses front rows row fault (left, begins) below fine f,
+          )),
+          other,
         )
 
-pub has_reading : FieldLaws → (rate : Rate) (rows : List FileRow) → HasReading rate rows
-has_reading v rate rows = read_from v rate rows [] rows [] refl (omega arith)
-    (no_names rate (has_parts (columns_of rows)))
+-- so rows are fine, or they have a fault
+pub read_all : (IsFine : Fine) (Refuses : Refusal)
+    → ((front : List FileRow) (row : FileRow) → IsFine front → IsReadNext IsFine Refuses front row) → IsFine []
+    → (rows : List FileRow) → IsReadAll IsFine Refuses rows
+read_all IsFine Refuses step none rows = read_from IsFine Refuses step rows [] rows refl (omega arith) none
+
+pub has_reading : FieldLaws → (rate : Rate) (rows : List FileRow)
+    → ((items : List Item) × IsPlaylist rate rows items)
+    ⊎ ((fault : ListFault) × IsPlaylistFault rate rows fault × ¬ IsReadFault fault)
+has_reading v rate rows = by (read_all (NameItems rate) (IsNextFault rate) step ([], no_names rate false) rows)
+  where
+    step : (front : List FileRow) (row : FileRow) → NameItems rate front
+        → IsReadNext (NameItems rate) (IsNextFault rate) front row
+    step front row (items, named) = next (read_row v rate (columns_of (front ++ row ∷ [])) row)
+      where
+        next : IsRead rate (columns_of (front ++ row ∷ [])) row
+            → IsReadNext (NameItems rate) (IsNextFault rate) front row
+        next (inl (item, e, can)) =
+            inl (
+              items ++ item ∷ [],
+              names_push rate (has_parts (columns_of (front ++ row ∷ []))) front items row item
+                  (named_now rate front row items named) e can,
+            )
+        next (inr f) = inr (f (length front + 1))
+
+    by : IsReadAll (NameItems rate) (IsNextFault rate) rows
+        → ((items : List Item) × IsPlaylist rate rows items)
+        ⊎ ((fault : ListFault) × IsPlaylistFault rate rows fault × ¬ IsReadFault fault)
+    by (inl (few, (items, named))) = inl (items, record { few = few; named = named })
+    by (inr f) = inr f

@@ -1,9 +1,12 @@
 -- The rows read so far, those that are left, and the whole of a file.
-use Rattle.std.proofs.Common.{◌≡◌, ℕ, ◌<◌, true, false, List, [], ◌∷◌, ◌++◌, length, take, refl, sym, ap, ◌∙◌, arith, suc, append_assoc, append-nil}
+use Rattle.std.proofs.Common.{◌≡◌, ℕ, ◌+◌, ◌-◌, ◌<◌, ◌≤◌, true, false, List, [], ◌∷◌, ◌++◌, length, take, refl, sym, ap, subst, ◌∙◌, arith, suc, append_assoc}
+use Rattle.std.proofs.Common.{append-nil, inl, inr}
 use Rattle.std.proofs.lemmas.List.{length-append}
-use Rattle.std.specs.Prelude.{Option, None, Some, option_map, slice_get}
-use Rattle.vdcp_list.specs.Reading.{IsFront, TakesRow}
-use Rattle.vdcp_list.specs.Rows.{AreRowsOf, FileRow, HasRows, rows_of}
+use Rattle.std.specs.Prelude.{◌⊎◌, Option, None, Some, option_map, slice_get}
+use Rattle.vdcp_list.specs.Reading.{HasTooMany, IsFront, IsReadFault, IsRowsFault, RefusesRow, TakesRow}
+use Rattle.vdcp_list.specs.Rows.{AreRowsOf, FileRow, HasRows, most_rows, rows_of}
+use Rattle.vdcp_list.specs.declared.faults.ListFault.TheVariants.{TooMany}
+use Rattle.vdcp_list.specs.declared.faults.ListFault.{ListFault}
 
 -- before the first read no row was read
 pub front_first : (all : Option (List FileRow)) → IsFront all all []
@@ -61,3 +64,110 @@ next_of front rows row (more, e) =
 
 pub one_more : (front : List FileRow) (row : FileRow) → length (front ++ row ∷ []) ≡ suc (length front)
 one_more front row = let size = length-append front (row ∷ []) in omega (arith, size)
+
+-- of rows and a fault: what is fine, and why the next row is refused
+abbrev pub Fine : Type 1
+Fine = List FileRow → Type 0
+
+abbrev pub Refusal : Type 1
+Refusal = List FileRow → FileRow → ℕ → ListFault → Type 0
+
+pub refused_row : (IsFine : Fine) (Refuses : Refusal) (front rows : List FileRow) (row : FileRow) (fault : ListFault)
+    → Begins (front ++ row ∷ []) rows → length front < most_rows → IsFine front
+    → Refuses front row (length front + 1) fault → RefusesRow IsFine Refuses rows (length front + 1) fault
+refused_row IsFine Refuses front rows row fault b few fine refused =
+    let s = next_of front rows row b in
+    let back : length front + 1 - 1 ≡ length front = omega arith in
+    let before : take (length front + 1 - 1) rows ≡ front = ap (λ m. take m rows) back ∙ s.before in
+    record {
+      counted = omega arith;
+      within = omega (arith, few);
+      fine = subst IsFine (sym before) fine;
+      row = row;
+      next = ap (slice_get rows) back ∙ s.here;
+      refused = subst (λ fs. Refuses fs row (length front + 1) fault) (sym before) refused;
+    }
+
+pub too_many : (IsFine : Fine) (front rows : List FileRow) (row : FileRow) → Begins (front ++ row ∷ []) rows
+    → length front ≡ most_rows → IsFine front → HasTooMany IsFine rows (TooMany (most_rows + 1))
+too_many IsFine front rows row b full fine =
+    let s = next_of front rows row b in
+    record {
+      fault_is = refl;
+      many = subst (λ m. m < length rows) full s.below;
+      fine = subst IsFine (sym (ap (λ m. take m rows) (sym full) ∙ s.before)) fine;
+    }
+
+-- n rows of a file were read, of which this holds
+pub record ReadSoFar (Holds : List FileRow → Type 0) (file : Option (List ℕ)) (left : Option (List FileRow)) (n : ℕ)
+    : Type 0 where
+  pub front : List FileRow
+  pub is_front : IsFront (option_map rows_of file) left front
+  pub size : n ≡ length front
+  pub holds : Holds front
+
+pub read_first : (Holds : Fine) (file : Option (List ℕ)) → Holds []
+    → ReadSoFar Holds file (option_map rows_of file) 0
+read_first Holds file h =
+    record { front = []; is_front = front_first (option_map rows_of file); size = refl; holds = h }
+
+-- one more row
+pub read_next : (Old New : Fine) (file : Option (List ℕ)) (left left' : Option (List FileRow)) (n : ℕ) (row : FileRow)
+    → ReadSoFar Old file left n → TakesRow left left' true row
+    → ((front : List FileRow) → Old front → n + 1 ≡ length front + 1 → New (front ++ row ∷ []))
+    → ReadSoFar New file left' (n + 1)
+read_next Old New file left left' n row h t made = record {
+  front = h.front ++ row ∷ [];
+  is_front = front_next (option_map rows_of file) left left' h.front row h.is_front t;
+  size = omega (arith, h.size, one_more h.front row);
+  holds = made h.front h.holds (omega (arith, h.size));
+}
+
+-- no row is left
+pub read_all : (Holds : Fine) (file : Option (List ℕ)) (left left' : Option (List FileRow)) (n : ℕ) (row : FileRow)
+    → ReadSoFar Holds file left n → TakesRow left left' false row → n ≤ most_rows
+    → HasRows file (λ rows. (length rows ≤ most_rows) × Holds rows)
+read_all Holds file left left' n row h t few = (
+  h.front,
+  front_all file left left' h.front row h.is_front t,
+  (subst (λ m. m ≤ most_rows) h.size few, h.holds),
+)
+
+-- a row is refused
+pub read_refused : (IsFine : Fine) (Refuses : Refusal) (Holds : Fine) (file : Option (List ℕ))
+    → (left left' : Option (List FileRow)) (n : ℕ) (row : FileRow) (fault : ListFault)
+    → ((front : List FileRow) → Holds front → IsFine front) → ReadSoFar Holds file left n
+    → TakesRow left left' true row → n < most_rows
+    → ((front : List FileRow) → Holds front → n + 1 ≡ length front + 1
+    → IsReadFault fault ⊎ Refuses front row (n + 1) fault)
+    → HasRows file (λ rows. IsRowsFault IsFine Refuses rows fault)
+read_refused IsFine Refuses Holds file left left' n row fault fine h t few refused =
+    let (rows, are, b) = front_begins file left' (h.front ++ row ∷ [])
+    (front_next (option_map rows_of file) left left' h.front row h.is_front t) in
+    (rows, are, by rows b (refused h.front h.holds (omega (arith, h.size))))
+  where
+    by : (rows : List FileRow) → Begins (h.front ++ row ∷ []) rows
+        → IsReadFault fault ⊎ Refuses h.front row (n + 1) fault → IsRowsFault IsFine Refuses rows fault
+    by rows b (inl failed) = inl failed
+    by rows b (inr f) =
+        inr (inr (
+          length h.front + 1,
+          refused_row IsFine Refuses h.front rows row fault b (subst (λ m. m < most_rows) h.size few)
+              (fine h.front h.holds) (subst (λ m. Refuses h.front row (m + 1) fault) h.size f),
+        ))
+
+-- there is a row too many
+pub read_too_many : (IsFine : Fine) (Refuses : Refusal) (Holds : Fine) (file : Option (List ℕ))
+    → (left left' : Option (List FileRow)) (n : ℕ) (row : FileRow)
+    → ((front : List FileRow) → Holds front → IsFine front) → ReadSoFar Holds file left n
+    → TakesRow left left' true row → n ≡ most_rows
+    → HasRows file (λ rows. IsRowsFault IsFine Refuses rows (TooMany (most_rows + 1)))
+read_too_many IsFine Refuses Holds file left left' n row fine h t full =
+    let (rows, are, b) = front_begins file left' (h.front ++ row ∷ [])
+    (front_next (option_map rows_of file) left left' h.front row h.is_front t) in
+    (rows, are, inr (inl (too_many IsFine h.front rows row b (sym h.size ∙ full) (fine h.front h.holds))))
+
+-- the reader or memory failed
+pub read_failed : (IsFine : Fine) (Refuses : Refusal) (file : Option (List ℕ)) (fault : ListFault) → IsReadFault fault
+    → HasRows file (λ rows. IsRowsFault IsFine Refuses rows fault)
+read_failed IsFine Refuses file fault h = let (rows, are) = some_rows file in (rows, are, inl h)

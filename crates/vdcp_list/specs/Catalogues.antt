@@ -1,7 +1,8 @@
 -- The clips that the rows of a catalogue give, and which row is refused.
 use Rattle.std.specs.List.{IsDistinct}
-use Rattle.std.specs.Prelude.{ℕ, ◌+◌, ◌-◌, ◌<◌, ◌≤◌, ◌≡◌, ◌≢◌, ⊤, Option, Some, List, [], ◌∷◌, All, Contains, map, length, take, slice_get}
-use Rattle.vdcp_list.specs.Rows.{FileRow, HasId, HasRows, Reaches, most_rows}
+use Rattle.std.specs.Prelude.{ℕ, ◌≤◌, ◌≡◌, ◌≢◌, Option, Some, List, [], ◌∷◌, All, Contains, map, length, slice_get}
+use Rattle.vdcp_list.specs.Reading.{IsRowsFault}
+use Rattle.vdcp_list.specs.Rows.{FileRow, HasId, HasRows, most_rows}
 use Rattle.vdcp_list.specs.declared.faults.ListFault.TheVariants.{Columns, Id, Time, Twice, TooMany, Long, Memory, Read}
 use Rattle.vdcp_list.specs.declared.faults.ListFault.{ListFault}
 use Rattle.vdcp_value.specs.Ids.{is_same_id, text_of_id}
@@ -32,47 +33,33 @@ pub record IsCatalogue (rate : Rate) (rows : List FileRow) (clips : List (ClipId
   pub few : length rows ≤ most_rows
   pub given : Gives rate rows clips
 
--- row k is the next one: the rows before it are a catalogue's
-abbrev pub IsNextRow : Rate → List FileRow → ℕ → FileRow → Type 0
-IsNextRow rate rows k row = Reaches (λ front. (clips : List (ClipId × Timecode)) × Gives rate front clips) rows k row
-
 -- no clip that a catalogue can give has this row
 abbrev pub IsNoClip : Rate → FileRow → Type 0
 IsNoClip rate row = (clip : ClipId × Timecode) → CanLast rate clip.1 → clip_row clip ≢ row
-
--- why a row of a catalogue is refused, whatever stands before it: the first that applies
-abbrev pub IsClipFault : Rate → FileRow → ℕ → ListFault → Type 0
-IsClipFault rate row k (Columns j) = (j ≡ k) × (length row ≢ 2)
-IsClipFault rate row k (Id j) = (j ≡ k) × (length row ≡ 2) × ¬ HasId row
-IsClipFault rate row k (Time j) = (j ≡ k) × (length row ≡ 2) × HasId row × IsNoClip rate row
-IsClipFault rate row k (Twice j) = ⊥
-IsClipFault rate row k (TooMany j) = ⊥
-IsClipFault rate row k (Long j) = ⊥
-IsClipFault rate row k Memory = ⊥
-IsClipFault rate row k Read = ⊥
 
 -- the clip's ID stands in one of these rows
 abbrev pub StandsIn : List FileRow → ClipId → Type 0
 StandsIn rows id = Contains (map (λ row. slice_get row 0) rows) (Some (text_of_id id))
 
--- row k is the first that is refused, with this fault
-abbrev pub RefusesRow : Rate → List FileRow → ℕ → ListFault → Type 0
-RefusesRow rate rows k fault = (row : FileRow) × IsNextRow rate rows k row × IsClipFault rate row k fault
+-- why row k of a catalogue is refused after those before it: the first that applies
+abbrev pub IsClipFault : Rate → List FileRow → FileRow → ℕ → ListFault → Type 0
+IsClipFault rate before row k (Columns j) = (j ≡ k) × (length row ≢ 2)
+IsClipFault rate before row k (Id j) = (j ≡ k) × (length row ≡ 2) × ¬ HasId row
+IsClipFault rate before row k (Time j) = (j ≡ k) × (length row ≡ 2) × HasId row × IsNoClip rate row
+IsClipFault rate before row k (Twice j) =
+    (j ≡ k) × (clip : ClipId × Timecode) × (clip_row clip ≡ row) × CanLast rate clip.1 × StandsIn before clip.0
+IsClipFault rate before row k (TooMany j) = ⊥
+IsClipFault rate before row k (Long j) = ⊥
+IsClipFault rate before row k Memory = ⊥
+IsClipFault rate before row k Read = ⊥
 
--- why the rows are no catalogue: rows are tested one after another, and the first refusal counts
+-- these rows give clips
+abbrev pub GiveClips : Rate → List FileRow → Type 0
+GiveClips rate rows = (clips : List (ClipId × Timecode)) × Gives rate rows clips
+
+-- why the rows are no catalogue
 abbrev pub IsCatalogueFault : Rate → List FileRow → ListFault → Type 0
-IsCatalogueFault rate rows (Columns k) = RefusesRow rate rows k (Columns k)
-IsCatalogueFault rate rows (Id k) = RefusesRow rate rows k (Id k)
-IsCatalogueFault rate rows (Time k) = RefusesRow rate rows k (Time k)
-IsCatalogueFault rate rows (Twice k) =
-    (clip : ClipId × Timecode) × IsNextRow rate rows k (clip_row clip) × CanLast rate clip.1
-    × StandsIn (take (k - 1) rows) clip.0
-IsCatalogueFault rate rows (TooMany k) =
-    (k ≡ most_rows + 1) × (most_rows < length rows)
-    × (clips : List (ClipId × Timecode)) × Gives rate (take most_rows rows) clips
-IsCatalogueFault rate rows (Long j) = ⊤
-IsCatalogueFault rate rows Memory = ⊤
-IsCatalogueFault rate rows Read = ⊤
+IsCatalogueFault rate rows fault = IsRowsFault (GiveClips rate) (IsClipFault rate) rows fault
 
 -- a file is a catalogue of these clips
 abbrev pub IsCatalogueOf : Rate → Option (List ℕ) → List (ClipId × Timecode) → Type 0

@@ -1,3 +1,4 @@
+-- The definitions, file by file.
 pub mod Asrun
 pub mod Catalogues
 pub mod List
@@ -10,3 +11,4 @@ pub mod RestLaws
 pub mod Rests
 pub mod Rows
 pub mod Timed
+pub mod Values

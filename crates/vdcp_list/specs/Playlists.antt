@@ -1,6 +1,7 @@
 -- The items that the rows of a playlist name, and which row is refused.
-use Rattle.std.specs.Prelude.{ℕ, ◌+◌, ◌<◌, ◌≤◌, ◌≡◌, ◌≢◌, ◌==◌, ◌&&◌, ◌||◌, ⊤, Bool, true, false, IsTrue, IsFalse, List, [], ◌∷◌, All, map, length, take, Option, None, Some}
-use Rattle.vdcp_list.specs.Rows.{FileRow, HasId, HasRows, Reaches, most_rows}
+use Rattle.std.specs.Prelude.{ℕ, ◌≤◌, ◌≡◌, ◌≢◌, ◌==◌, ◌&&◌, ◌||◌, ⊤, Bool, true, false, IsTrue, IsFalse, List, [], ◌∷◌, ◌++◌, All, map, length, Option, None, Some}
+use Rattle.vdcp_list.specs.Reading.{IsRowsFault}
+use Rattle.vdcp_list.specs.Rows.{FileRow, HasId, HasRows, most_rows}
 use Rattle.vdcp_list.specs.declared.faults.ListFault.TheVariants.{Columns, Id, Time, Twice, TooMany, Long, Memory, Read}
 use Rattle.vdcp_list.specs.declared.faults.ListFault.{ListFault}
 use Rattle.vdcp_value.specs.Bcd.{is_time, label_of_bcd, frames_in}
@@ -57,11 +58,6 @@ pub record IsPlaylist (rate : Rate) (rows : List FileRow) (items : List Item) : 
   pub few : length rows ≤ most_rows
   pub named : Names rate (has_parts (columns_of rows)) rows items
 
--- row k is the next one: the rows before it are a playlist's
-abbrev pub IsNextRow : Rate → List FileRow → ℕ → FileRow → Type 0
-IsNextRow rate rows k row =
-    Reaches (λ front. (items : List Item) × Names rate (has_parts (columns_of rows)) front items) rows k row
-
 -- why a row of a playlist is refused: the first that applies, row k being the one at hand
 abbrev pub IsItemFault : Rate → ℕ → FileRow → ℕ → ListFault → Type 0
 IsItemFault rate columns row k (Columns j) = (j ≡ k) × IsFalse (is_of_columns columns row)
@@ -75,23 +71,17 @@ IsItemFault rate columns row k (Long j) = ⊥
 IsItemFault rate columns row k Memory = ⊥
 IsItemFault rate columns row k Read = ⊥
 
--- row k is the first that is refused, with this fault
-abbrev pub RefusesRow : Rate → List FileRow → ℕ → ListFault → Type 0
-RefusesRow rate rows k fault = (row : FileRow) × IsNextRow rate rows k row
-    × IsItemFault rate (columns_of rows) row k fault
+-- these rows name items
+abbrev pub NameItems : Rate → List FileRow → Type 0
+NameItems rate rows = (items : List Item) × Names rate (has_parts (columns_of rows)) rows items
 
--- why the rows are no playlist: rows are tested one after another, and the first refusal counts
+-- why row k is refused after those before it
+abbrev pub IsNextFault : Rate → List FileRow → FileRow → ℕ → ListFault → Type 0
+IsNextFault rate before row k fault = IsItemFault rate (columns_of (before ++ row ∷ [])) row k fault
+
+-- why the rows are no playlist
 abbrev pub IsPlaylistFault : Rate → List FileRow → ListFault → Type 0
-IsPlaylistFault rate rows (Columns k) = RefusesRow rate rows k (Columns k)
-IsPlaylistFault rate rows (Id k) = RefusesRow rate rows k (Id k)
-IsPlaylistFault rate rows (Time k) = RefusesRow rate rows k (Time k)
-IsPlaylistFault rate rows (Twice k) = ⊥
-IsPlaylistFault rate rows (TooMany k) =
-    (k ≡ most_rows + 1) × (most_rows < length rows)
-    × (items : List Item) × Names rate (has_parts (columns_of rows)) (take most_rows rows) items
-IsPlaylistFault rate rows (Long j) = ⊤
-IsPlaylistFault rate rows Memory = ⊤
-IsPlaylistFault rate rows Read = ⊤
+IsPlaylistFault rate rows fault = IsRowsFault (NameItems rate) (IsNextFault rate) rows fault
 
 -- a file is a playlist of these items
 abbrev pub IsListOf : Rate → Option (List ℕ) → List Item → Type 0

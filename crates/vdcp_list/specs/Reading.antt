@@ -4,8 +4,8 @@ use Rattle.csv.specs.declared.error.ErrorKind.TheVariants as kinds
 use Rattle.csv.specs.declared.error.ErrorKind.{ErrorKind}
 use Rattle.csv.specs.declared.reader.Reader.{Reader}
 use Rattle.csv.specs.declared.reader.Trim.TheVariants as trim
-use Rattle.std.specs.Prelude.{ℕ, ◌≡◌, ⊤, Bool, true, false, List, [], ◌∷◌, ◌++◌, Option, None, Some, option_map}
-use Rattle.vdcp_list.specs.Rows.{FileRow, rows_from}
+use Rattle.std.specs.Prelude.{ℕ, ◌+◌, ◌-◌, ◌<◌, ◌≤◌, ◌≡◌, ◌⊎◌, ⊤, Bool, true, false, List, [], ◌∷◌, ◌++◌, Option, None, Some, length, option_map, slice_get, take}
+use Rattle.vdcp_list.specs.Rows.{FileRow, most_rows, rows_from}
 use Rattle.vdcp_list.specs.declared.faults.ListFault.TheVariants.{Columns, Id, Time, Twice, TooMany, Long, Memory, Read}
 use Rattle.vdcp_list.specs.declared.faults.ListFault.{ListFault}
 use Rattle.vdcp_list.specs.declared.bounded.Bounded.{Bounded}
@@ -42,6 +42,28 @@ IsReadFault (TooMany k) = ⊥
 IsReadFault (Long j) = ⊤
 IsReadFault Memory = ⊤
 IsReadFault Read = ⊤
+
+-- row k, counted from 1, is refused, after rows that are fine
+pub record RefusesRow (IsFine : List FileRow → Type 0) (Refuses : List FileRow → FileRow → ℕ → ListFault → Type 0)
+    (rows : List FileRow) (k : ℕ) (fault : ListFault) : Type 0 where
+  pub counted : 1 ≤ k
+  pub within : k ≤ most_rows
+  pub fine : IsFine (take (k - 1) rows)
+  pub row : FileRow
+  pub next : slice_get rows (k - 1) ≡ Some row
+  pub refused : Refuses (take (k - 1) rows) row k fault
+
+-- the first row past the limit is refused, after rows that are fine
+pub record HasTooMany (IsFine : List FileRow → Type 0) (rows : List FileRow) (fault : ListFault) : Type 0 where
+  pub fault_is : fault ≡ TooMany (most_rows + 1)
+  pub many : most_rows < length rows
+  pub fine : IsFine (take most_rows rows)
+
+-- why rows aren't fine: they are tested one after another, each after those before it, and the first refusal counts
+abbrev pub IsRowsFault : (List FileRow → Type 0) → (List FileRow → FileRow → ℕ → ListFault → Type 0) → List FileRow
+    → ListFault → Type 0
+IsRowsFault IsFine Refuses rows fault =
+    IsReadFault fault ⊎ (HasTooMany IsFine rows fault ⊎ ((k : ℕ) × RefusesRow IsFine Refuses rows k fault))
 
 -- which fault an error of csv is: the others but Io don't come, since rows may have any length and are read as bytes
 abbrev pub fault_of_kind : ErrorKind → ListFault

@@ -2,7 +2,7 @@
 use Rattle.csv.specs.Reading.{default_config, records_from, strip_bom}
 use Rattle.csv.specs.declared.parser.State.TheVariants.{StartRecord}
 use Rattle.csv.specs.declared.parser.State.{State}
-use Rattle.std.specs.Prelude.{ℕ, ◌+◌, ◌-◌, ◌≤◌, ◌≡◌, ⊤, List, length, take, slice_get, Option, None, Some}
+use Rattle.std.specs.Prelude.{ℕ, ◌+◌, ◌≡◌, ⊤, List, length, slice_get, Option, None, Some}
 use Rattle.vdcp_value.specs.Ids.{text_of_id}
 use Rattle.vdcp_value.specs.declared.clip_id.ClipId.{ClipId}
 
@@ -38,10 +38,3 @@ most_rows = 10_000
 -- an ID's text is the row's first field
 abbrev pub HasId : FileRow → Type 0
 HasId row = (id : ClipId) × (slice_get row 0 ≡ Some (text_of_id id))
-
--- row k, counted from 1, is the first that can be refused: the rows before it are fine
-pub record Reaches (IsFine : List FileRow → Type 0) (rows : List FileRow) (k : ℕ) (row : FileRow) : Type 0 where
-  pub counted : 1 ≤ k
-  pub within : k ≤ most_rows
-  pub fine : IsFine (take (k - 1) rows)
-  pub next : slice_get rows (k - 1) ≡ Some row

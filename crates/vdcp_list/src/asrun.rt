@@ -1,7 +1,7 @@
 //! How an as-run list is written.
 ghost use Rattle.csv.specs.Writing.{default_writer, fields_written, has_written, row_text, text_written, writer_setup};
 ghost use Rattle.std.specs.Io.KnownBytes.{Appends, Keeps};
-ghost use Rattle.std.specs.Prelude.{◌≡◌, ◌≢◌, ◌↔◌, ◌≤◌, ◌+◌, ◌∷◌, [], Err, IfErr, IfOk, IsTrue, OnErr, OnOk, decimal, drop, false, length, string_bytes, take, ℕ};
+ghost use Rattle.std.specs.Prelude.{◌≡◌, ◌≢◌, ◌↔◌, ◌≤◌, ◌+◌, ◌∷◌, [], Err, IfErr, IfOk, IsTrue, OnErr, OnOk, Some, decimal, drop, false, length, string_bytes, take, ℕ};
 ghost use Rattle.vdcp_list.specs.Asrun.{AppendsBeginning, IsUnlawful, are_lawful, asrun_text, events_text, has_part, is_lawful_event};
 ghost use Rattle.vdcp_list.specs.Playlists.{item_row, part_fields, time_text};
 ghost use Rattle.vdcp_list.specs.declared.faults.WriteFault.TheVariants.{Device, Time};
@@ -179,14 +179,60 @@ fn events_text<'a, S: Source, A: Allocator>(
 {
     let mut rows = WriterBuilder::new().from_writer(Vec::new(alloc));
     let mut number = String::new(alloc);
+    let is_written = write_rows(
+        source,
+        rate,
+        with_parts,
+        from,
+        count,
+        &mut number,
+        &mut rows,
+    );
+    text_in(rows, is_written)
+}
+
+/// Writes the rows of these events, each number in place of a text, unless memory is refused.
+fn write_rows<S: Source, A: Allocator>(
+    source: &S,
+    rate: Rate,
+    with_parts: bool,
+    from: usize,
+    count: usize,
+    number: &mut String<A>,
+    rows: &mut Writer<Vec<u8, A>>,
+) -> bool
+    requires within { from + count ≤ length (S.items source.now) }
+    requires lawful { IsTrue (are_lawful rate (take (from + count) (S.items source.now))) }
+    requires setup { writer_setup rows.old ≡ default_writer }
+    requires ended { fields_written rows.old ≡ 0 }
+    requires clean { has_written rows.old ≡ false }
+    requires empty { text_written (λ text. Some text.items) rows.old ≡ Some [] }
+    ensures { IsTrue result → text_written (λ text. Some text.items) rows.new ≡ Some
+        (events_text rate with_parts from (take count (drop from (S.items source.now)))) }
+{
     for k in 0..count {
-        if show_number(from + k, &mut number).is_err() {
-            return Err(WriteFault::Memory);
+        if show_number(from + k, number).is_err() {
+            return false;
         }
         let item = source.at(from + k);
-        if write_event(&mut rows, number.as_str(), &item, rate, with_parts).is_err() {
-            return Err(WriteFault::Memory);
+        if write_event(rows, number.as_str(), &item, rate, with_parts).is_err() {
+            return false;
         }
+    }
+    true
+}
+
+/// The text that was written to memory, if it was.
+pub(crate) fn text_in<A: Allocator>(
+    rows: Writer<Vec<u8, A>>,
+    is_written: bool,
+) -> Result<Vec<u8, A>, WriteFault>
+    ensures written { OnOk result (IsTrue is_written) }
+    ensures text { IfOk result (λ text. Keeps (text_written (λ t. Some t.items) rows) (Some text.items)) }
+    ensures memory { IfErr result (λ fault. fault ≡ WriteFault.Memory) }
+{
+    if !is_written {
+        return Err(WriteFault::Memory);
     }
     match rows.into_inner() {
         Ok(text) => Ok(text),

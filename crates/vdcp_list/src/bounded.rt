@@ -1,4 +1,4 @@
-// A source that isn't read on if a row doesn't end.
+//! A source that isn't read on if a row doesn't end.
 ghost use Rattle.std.specs.Prelude.{◌≡◌};
 
 use std::cell::Cell;

@@ -1,18 +1,16 @@
 //! How a catalogue is read.
 ghost use Rattle.csv.specs.Records.{fields_of};
-ghost use Rattle.std.specs.Prelude.{◌≡◌, ◌≢◌, [], ◌∷◌, IfErr, IfNone, IfOk, IfSome, OnOk, drop, length, option_map};
+ghost use Rattle.std.specs.Prelude.{◌≡◌, ◌≢◌, [], ◌∷◌, IfErr, IfNone, IfOk, IfSome, List, drop, length};
 ghost use Rattle.vdcp_list.specs.Catalogues.{CanLast, IsCatalogueFaultOf, IsCatalogueOf, IsClipFault, clip_row};
-ghost use Rattle.vdcp_list.specs.Reading.{IsSet, rows_left};
-ghost use Rattle.vdcp_list.specs.Rows.{FileBytes, rows_of};
+ghost use Rattle.vdcp_list.specs.Rows.{FileRow};
 ghost use Rattle.vdcp_value.specs.Timecodes.{text_of};
 ghost use Rattle.vdcp_value.specs.declared.timecode.Timecode.{Timecode};
 
-use crate::bounded::Bounded;
 use crate::faults::ListFault;
 use crate::fields::{field_at, first_id, time_in};
-use crate::rows::{MAX_ROWS, next_row, rows_in};
+use crate::rows::{MadeOfRows, add_rows, rows_in};
 use crate::table::Table;
-use csv::{ByteRecord, Reader};
+use csv::ByteRecord;
 use std::alloc::Global;
 use std::io::Read;
 use vdcp_value::laws::{a_time_code_is_one, an_id_is_its_bytes};
@@ -22,7 +20,7 @@ use vdcp_value::{ClipId, Rate, Timecode};
 fn clip_in(row: &ByteRecord, rate: Rate, place: usize) -> Result<(ClipId, Timecode), ListFault>
     ensures row { IfOk result (λ clip. clip_row clip ≡ fields_of row.now) }
     ensures can_last { IfOk result (λ clip. CanLast rate clip.1) }
-    ensures fault { IfErr result (IsClipFault rate (fields_of row.now) place) }
+    ensures fault { (before : List FileRow) → IfErr result (IsClipFault rate before (fields_of row.now) place) }
 {
     if row.len() != 2 {
         return Err(ListFault::Columns(place));
@@ -81,36 +79,24 @@ pub fn read_catalogue<R: Read + Drop>(
     }
 }
 
-/// Adds the clips of the rows that are left to a table of none, apart from what `read_catalogue` owns.
-fn add_rows<R: Read>(
-    rows: &mut Reader<Bounded<R>>,
-    row: &mut ByteRecord,
-    table: &mut Table,
-    rate: Rate,
-) -> Result<(), ListFault>
-    requires set { IsSet rows.old }
-    requires empty { table.old ≡ [] }
-    ensures clips { (file : FileBytes) → rows_left R.remaining rows.old ≡ option_map rows_of file
-        → OnOk result (IsCatalogueOf rate file table.new) }
-    ensures refused { (file : FileBytes) → rows_left R.remaining rows.old ≡ option_map rows_of file
-        → IfErr result (IsCatalogueFaultOf rate file) }
-{
-    for read in 0..MAX_ROWS {
-        if !next_row(rows, row)? {
-            return Ok(());
-        }
-        let (id, length) = clip_in(row, rate, read + 1)?;
-        match table.add(id, length) {
-            Ok(true) => {}
-            Ok(false) => {
-                an_id_is_its_bytes();
-                return Err(ListFault::Twice(read + 1));
-            }
-            Err(_) => return Err(ListFault::Memory),
+impl MadeOfRows for Table {
+    ghost use Rattle.vdcp_list.specs.Catalogues.{GiveClips, Gives, IsClipFault};
+
+    ghost makes = { Gives };
+
+    ghost make_some = { GiveClips };
+
+    ghost refuses = { IsClipFault };
+
+    fn add_row(&mut self, row: &ByteRecord, rate: Rate, place: usize) -> Result<(), ListFault> {
+        an_id_is_its_bytes();
+        let (id, length) = clip_in(row, rate, place)?;
+        match self.add(id, length) {
+            Ok(true) => Ok(()),
+            Ok(false) => Err(ListFault::Twice(place)),
+            Err(_) => Err(ListFault::Memory),
         }
     }
-    if next_row(rows, row)? {
-        return Err(ListFault::TooMany(MAX_ROWS + 1));
-    }
-    Ok(())
+
+    ghost makes_some = { λ rate rows clips h. (clips, h) };
 }

@@ -2,13 +2,18 @@
 ghost use Rattle.std.specs.Prelude.{◌≡◌, ◌≢◌, IfNone, IfSome, Some, option_copied, slice_get};
 ghost use Rattle.csv.specs.Records.{fields_of};
 ghost use Rattle.vdcp_list.specs.Rows.{HasId};
+ghost use Rattle.vdcp_list.specs.Values.{FieldLaws};
 ghost use Rattle.vdcp_value.specs.Ids.{text_of_id};
 ghost use Rattle.vdcp_value.specs.Timecodes.{rate_of, text_of};
 ghost use Rattle.vdcp_value.specs.declared.clip_id.ClipId.{ClipId};
 ghost use Rattle.vdcp_value.specs.declared.timecode.Timecode.{Timecode};
 
 use csv::ByteRecord;
-use vdcp_value::laws::{a_refused_text_is_no_ids, an_id_has_one_text};
+use vdcp_value::laws::{
+    a_refused_text_is_no_ids, a_text_is_of_one_id, a_text_says_its_id,
+    a_time_code_has_lawful_bytes, a_time_code_is_one, an_id_has_one_text,
+    lawful_bytes_are_a_time_codes, the_text_of_a_time_code_is_eleven_bytes,
+};
 use vdcp_value::{ClipId, Rate, Timecode};
 
 /// The field at a place of a row.
@@ -52,4 +57,17 @@ pub(crate) fn time_in(field: &[u8], rate: Rate) -> Option<Timecode>
         Ok(time) => Some(time),
         Err(_) => None,
     }
+}
+
+/// What the laws of vdcp_value say of the fields' texts.
+pub(crate) fn fields_say_values()
+    ensures { FieldLaws }
+{
+    a_text_is_of_one_id();
+    a_text_says_its_id();
+    an_id_has_one_text();
+    a_time_code_has_lawful_bytes();
+    lawful_bytes_are_a_time_codes();
+    a_time_code_is_one();
+    the_text_of_a_time_code_is_eleven_bytes();
 }

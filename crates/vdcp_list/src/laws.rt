@@ -13,11 +13,8 @@ ghost use Rattle.vdcp_value.specs.declared.part.Item.{Item};
 ghost use Rattle.vdcp_value.specs.declared.rate.Rate.{Rate};
 ghost use Rattle.vdcp_value.specs.declared.timecode.Timecode.{Timecode};
 
-use vdcp_value::laws::{
-    a_text_is_of_one_id, a_text_says_its_id, a_time_code_has_lawful_bytes, a_time_code_is_one,
-    an_id_has_one_text, an_id_is_its_bytes, lawful_bytes_are_a_time_codes,
-    the_text_of_a_time_code_is_eleven_bytes,
-};
+use crate::fields::fields_say_values;
+use vdcp_value::laws::an_id_is_its_bytes;
 
 /// The rows that were read of a file are its first, in order: none before the first read, one more
 /// with each row that is taken, and all of them if none is left.
@@ -55,13 +52,7 @@ pub fn rows_have_one_reading()
         → IsPlaylist rate rows items →
         IsPlaylistFault rate rows fault → IsReadFault fault }
 {
-    a_text_is_of_one_id();
-    a_text_says_its_id();
-    an_id_has_one_text();
-    a_time_code_has_lawful_bytes();
-    lawful_bytes_are_a_time_codes();
-    a_time_code_is_one();
-    the_text_of_a_time_code_is_eleven_bytes();
+    fields_say_values();
 }
 
 /// Rows have a reading as a catalogue: of some clips, or a fault, which isn't one of the reader or of
@@ -70,10 +61,6 @@ pub fn rows_are_a_catalogue_or_have_a_fault()
     ensures { (rate : Rate) (rows : List FileRow) → ((clips : List (ClipId × Timecode)) × IsCatalogue rate rows clips)
         ⊎ ((fault : ListFault) × IsCatalogueFault rate rows fault × ¬ IsReadFault fault) }
 {
-    a_text_says_its_id();
-    an_id_has_one_text();
+    fields_say_values();
     an_id_is_its_bytes();
-    a_time_code_has_lawful_bytes();
-    lawful_bytes_are_a_time_codes();
-    a_time_code_is_one();
 }

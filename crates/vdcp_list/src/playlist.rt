@@ -1,24 +1,18 @@
 //! How a playlist is read.
 ghost use Rattle.csv.specs.Records.{fields_of};
-ghost use Rattle.std.specs.Prelude.{◌≡◌, ◌≢◌, [], ◌∷◌, drop, length, option_map, true, IfErr, IfNone, IfOk, IfSome, IsTrue, OnOk, Option, Some, slice_get};
-ghost use Rattle.vdcp_list.specs.Playlists.{CanName, IsItemFault, IsListFaultOf, IsListOf, has_parts, is_of_columns, item_row, part_fields};
+ghost use Rattle.std.specs.Prelude.{◌≡◌, ◌≢◌, [], ◌∷◌, drop, length, true, IfErr, IfNone, IfOk, IfSome, Option, Some, slice_get};
+ghost use Rattle.vdcp_list.specs.Playlists.{CanName, IsItemFault, IsListFaultOf, IsListOf, has_parts, item_row, part_fields};
 ghost use Rattle.vdcp_list.specs.List.{items_of};
-ghost use Rattle.vdcp_list.specs.Reading.{IsSet, rows_left};
-ghost use Rattle.vdcp_list.specs.Rows.{FileBytes, rows_of};
 ghost use Rattle.vdcp_value.specs.Ids.{text_of_id};
 ghost use Rattle.vdcp_value.specs.declared.part.Part.{Part};
 
-use crate::bounded::Bounded;
 use crate::faults::ListFault;
-use crate::fields::{field_at, first_id, id_text, time_in};
+use crate::fields::{field_at, fields_say_values, first_id, id_text, time_in};
 use crate::list::List;
-use crate::rows::{MAX_ROWS, next_row, rows_in};
-use csv::{ByteRecord, Reader};
+use crate::rows::{MadeOfRows, add_rows, rows_in};
+use csv::ByteRecord;
 use std::alloc::Global;
 use std::io::Read;
-use vdcp_value::laws::{
-    a_time_code_has_lawful_bytes, a_time_code_is_one, lawful_bytes_are_a_time_codes,
-};
 use vdcp_value::{Item, Part, Rate};
 
 /// The item of a playlist's row.
@@ -63,9 +57,7 @@ fn part_in(start: &[u8], duration: &[u8], rate: Rate) -> Option<Option<Part>>
     ensures none { IfNone result ((part : Option Part) → CanName rate true part
         → part_fields rate part ≢ start.now ∷ duration.now ∷ []) }
 {
-    a_time_code_has_lawful_bytes();
-    lawful_bytes_are_a_time_codes();
-    a_time_code_is_one();
+    fields_say_values();
     if start.is_empty() && duration.is_empty() {
         return Some(None);
     }
@@ -98,43 +90,45 @@ pub fn read_list<R: Read + Drop>(alloc: Global, reader: R, rate: Rate) -> Result
 {
     let mut rows = rows_in(alloc, reader);
     let mut row = ByteRecord::new(alloc);
-    let mut list = List::new(alloc);
-    match add_rows(&mut rows, &mut row, &mut list, rate) {
-        Ok(()) => Ok(list),
+    let mut playlist = Playlist {
+        list: List::new(alloc),
+        columns: 0,
+    };
+    match add_rows(&mut rows, &mut row, &mut playlist, rate) {
+        Ok(()) => Ok(playlist.list),
         Err(fault) => Err(fault),
     }
 }
 
-/// Adds the items of the rows that are left to a list of none. (Apart from what `read_list` owns, and would let go at each
-/// way out, this is proved much sooner.)
-fn add_rows<R: Read>(
-    rows: &mut Reader<Bounded<R>>,
-    row: &mut ByteRecord,
-    list: &mut List,
-    rate: Rate,
-) -> Result<(), ListFault>
-    requires set { IsSet rows.old }
-    requires empty { items_of list.old ≡ [] }
-    ensures items { (file : FileBytes) → rows_left R.remaining rows.old ≡ option_map rows_of file
-        → OnOk result (IsListOf rate file (items_of list.new)) }
-    ensures refused { (file : FileBytes) → rows_left R.remaining rows.old ≡ option_map rows_of file
-        → IfErr result (IsListFaultOf rate file) }
-{
-    let mut columns = 0;
-    for read in 0..MAX_ROWS {
-        if !next_row(rows, row)? {
-            return Ok(());
+// The list so far, and how many fields its rows have.
+#[derive(Drop)]
+struct Playlist {
+    list: List,
+    columns: usize,
+}
+
+impl MadeOfRows for Playlist {
+    ghost use Rattle.std.specs.Prelude.{◌≡◌};
+    ghost use Rattle.vdcp_list.specs.List.{items_of};
+    ghost use Rattle.vdcp_list.specs.Playlists.{IsNextFault, NameItems, Names, columns_of, has_parts};
+
+    ghost makes = { λ rate rows made. Names rate (has_parts (columns_of rows)) rows (items_of made.list)
+        × (made.columns ≡ columns_of rows) };
+
+    ghost make_some = { NameItems };
+
+    ghost refuses = { IsNextFault };
+
+    fn add_row(&mut self, row: &ByteRecord, rate: Rate, place: usize) -> Result<(), ListFault> {
+        if place == 1 {
+            self.columns = row.len();
         }
-        if read == 0 {
-            columns = row.len();
-        }
-        let item = item_in(row, columns, rate, read + 1)?;
-        if list.push(item, id_text(row)).is_err() {
-            return Err(ListFault::Memory);
+        let item = item_in(row, self.columns, rate, place)?;
+        match self.list.push(item, id_text(row)) {
+            Ok(()) => Ok(()),
+            Err(_) => Err(ListFault::Memory),
         }
     }
-    if next_row(rows, row)? {
-        return Err(ListFault::TooMany(MAX_ROWS + 1));
-    }
-    Ok(())
+
+    ghost makes_some = { λ rate rows made h. (items_of made.list, h.0) };
 }

@@ -1,15 +1,16 @@
 //! How a file's rows are read, one after another.
 ghost use Rattle.csv.specs.Reading.{error_kind};
 ghost use Rattle.csv.specs.Records.{fields_of};
-ghost use Rattle.std.specs.Prelude.{◌≡◌, true, IfErr, IfOk, option_map};
-ghost use Rattle.vdcp_list.specs.Reading.{IsReadFault, IsSet, TakesRow, fault_of_kind, rows_left};
-ghost use Rattle.vdcp_list.specs.Rows.{rows_of};
+ghost use Rattle.std.specs.Prelude.{◌≡◌, ◌≤◌, ◌⊎◌, ◌+◌, ◌++◌, ◌∷◌, [], true, IfErr, IfOk, List, OnOk, length, option_map};
+ghost use Rattle.vdcp_list.specs.Reading.{IsReadFault, IsRowsFault, IsSet, TakesRow, fault_of_kind, rows_left};
+ghost use Rattle.vdcp_list.specs.Rows.{FileBytes, FileRow, HasRows, most_rows, rows_of};
 
 use crate::bounded::{Bounded, LONGEST_ROW};
 use crate::faults::ListFault;
 use csv::{ByteRecord, Error, ErrorKind, Position, Reader, ReaderBuilder};
 use std::alloc::Global;
 use std::io::Read;
+use vdcp_value::Rate;
 
 /// How many rows a file has at most.
 pub const MAX_ROWS: usize = 10_000;
@@ -50,6 +51,59 @@ pub fn next_row<R: Read>(
         Err(_) if reader.get_ref().is_spent() => Err(ListFault::Long(number_after(before))),
         Err(error) => Err(fault_of(error)),
     }
+}
+
+/// What the rows of a file make, one after another.
+pub(crate) trait MadeOfRows {
+    ghost use Rattle.std.specs.Prelude.{List, ℕ};
+    ghost use Rattle.vdcp_list.specs.Rows.{FileRow};
+    ghost use Rattle.vdcp_list.specs.declared.faults.ListFault.{ListFault};
+    ghost use Rattle.vdcp_value.specs.declared.rate.Rate.{Rate};
+
+    /// These rows make this, at a rate.
+    ghost makes: { Rate → List FileRow → Self → Type 0 };
+
+    /// These rows make something.
+    ghost make_some: { Rate → List FileRow → Type 0 };
+
+    /// The row of this number is refused after these ones.
+    ghost refuses: { Rate → List FileRow → FileRow → ℕ → ListFault → Type 0 };
+
+    /// Adds what the row of this number, from 1, makes.
+    fn add_row(&mut self, row: &ByteRecord, rate: Rate, place: usize) -> Result<(), ListFault>
+        ensures made { (before : List FileRow) → makes rate before self.old → place ≡ length before + 1
+            → OnOk result (makes rate (before ++ fields_of row.now ∷ []) self.new) }
+        ensures refused { (before : List FileRow) → makes rate before self.old → place ≡ length before + 1
+            → IfErr result (λ fault. IsReadFault fault ⊎ refuses rate before (fields_of row.now) place fault) };
+
+    ghost makes_some: { (rate : Rate) (rows : List FileRow) (made : Self) → makes rate rows made → make_some rate rows };
+}
+
+/// Adds the rows that are left to what was made of none. (Apart from what its callers own, and would let go at each way
+/// out, this is proved much sooner.)
+pub(crate) fn add_rows<R: Read, M: MadeOfRows>(
+    rows: &mut Reader<Bounded<R>>,
+    row: &mut ByteRecord,
+    made: &mut M,
+    rate: Rate,
+) -> Result<(), ListFault>
+    requires set { IsSet rows.old }
+    requires none { M.makes rate [] made.old }
+    ensures made { (file : FileBytes) → rows_left R.remaining rows.old ≡ option_map rows_of file
+        → OnOk result (HasRows file (λ all. (length all ≤ most_rows) × M.makes rate all made.new)) }
+    ensures refused { (file : FileBytes) → rows_left R.remaining rows.old ≡ option_map rows_of file
+        → IfErr result (λ fault. HasRows file (λ all. IsRowsFault (M.make_some rate) (M.refuses rate) all fault)) }
+{
+    for read in 0..MAX_ROWS {
+        if !next_row(rows, row)? {
+            return Ok(());
+        }
+        made.add_row(row, rate, read + 1)?;
+    }
+    if next_row(rows, row)? {
+        return Err(ListFault::TooMany(MAX_ROWS + 1));
+    }
+    Ok(())
 }
 
 // A row that begins and ends there is longer than it may be.

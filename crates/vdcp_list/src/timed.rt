@@ -1,12 +1,12 @@
 //! How an as-run list with times is written.
 ghost use Rattle.csv.specs.Writing.{default_writer, fields_written, has_written, row_text, text_written, writer_setup};
 ghost use Rattle.std.specs.Io.KnownBytes.{Appends, Keeps};
-ghost use Rattle.std.specs.Prelude.{◌≡◌, ◌≢◌, ◌≤◌, ◌+◌, ◌∷◌, IfErr, IfOk, IsTrue, List, OnOk, drop, false, length, take, ℕ};
+ghost use Rattle.std.specs.Prelude.{◌≡◌, ◌≢◌, ◌≤◌, ◌+◌, ◌∷◌, [], IfErr, IfOk, IsTrue, List, OnOk, Some, drop, false, length, take, ℕ};
 ghost use Rattle.vdcp_list.specs.Asrun.{AppendsBeginning, are_lawful, has_part, is_lawful_event};
 ghost use Rattle.vdcp_list.specs.Timed.{timed_fields, timed_heading, timed_rows, times_of};
 ghost use Rattle.vdcp_list.specs.declared.faults.WriteFault.TheVariants.{Device};
 
-use crate::asrun::{check_parts, has_part, show_number, show_part, write_out};
+use crate::asrun::{check_parts, has_part, show_number, show_part, text_in, write_out};
 use crate::faults::WriteFault;
 use arrayvec::ArrayString;
 use csv::{Error, Writer, WriterBuilder};
@@ -91,13 +91,8 @@ fn heading_text<'a, A: Allocator>(
     ensures memory { IfErr result (λ fault. fault ≡ WriteFault.Memory) }
 {
     let mut rows = WriterBuilder::new().from_writer(Vec::new(alloc));
-    if write_heading(&mut rows, with_parts).is_err() {
-        return Err(WriteFault::Memory);
-    }
-    match rows.into_inner() {
-        Ok(text) => Ok(text),
-        Err(_) => Err(WriteFault::Memory),
-    }
+    let is_written = write_heading(&mut rows, with_parts).is_ok();
+    text_in(rows, is_written)
 }
 
 /// The rows' text. It is written to memory, so that only want of memory can refuse it.
@@ -117,20 +112,48 @@ fn timed_text<'a, S: Source, T: Timed, A: Allocator>(
 {
     let mut rows = WriterBuilder::new().from_writer(Vec::new(alloc));
     let mut number = String::new(alloc);
+    let is_written = write_rows(
+        source,
+        rate,
+        with_parts,
+        from,
+        times,
+        &mut number,
+        &mut rows,
+    );
+    text_in(rows, is_written)
+}
+
+/// Writes the rows of these events, each number in place of a text, unless memory is refused.
+fn write_rows<S: Source, T: Timed, A: Allocator>(
+    source: &S,
+    rate: Rate,
+    with_parts: bool,
+    from: usize,
+    times: &[T],
+    number: &mut String<A>,
+    rows: &mut Writer<Vec<u8, A>>,
+) -> bool
+    requires within { from + length times.now ≤ length (S.items source.now) }
+    requires lawful { IsTrue (are_lawful rate (take (from + length times.now) (S.items source.now))) }
+    requires setup { writer_setup rows.old ≡ default_writer }
+    requires ended { fields_written rows.old ≡ 0 }
+    requires clean { has_written rows.old ≡ false }
+    requires empty { text_written (λ text. Some text.items) rows.old ≡ Some [] }
+    ensures { IsTrue result → text_written (λ text. Some text.items) rows.new ≡ Some
+        (timed_rows (times_of T.played T.known T.ended) rate with_parts from (drop from (S.items source.now)) times.now) }
+{
     for k in 0..times.len() {
-        if show_number(from + k, &mut number).is_err() {
-            return Err(WriteFault::Memory);
+        if show_number(from + k, number).is_err() {
+            return false;
         }
         let item = source.at(from + k);
         let time = &times[k];
-        if write_event(&mut rows, number.as_str(), &item, rate, with_parts, time).is_err() {
-            return Err(WriteFault::Memory);
+        if write_event(rows, number.as_str(), &item, rate, with_parts, time).is_err() {
+            return false;
         }
     }
-    match rows.into_inner() {
-        Ok(text) => Ok(text),
-        Err(_) => Err(WriteFault::Memory),
-    }
+    true
 }
 
 /// Writes what the columns are.

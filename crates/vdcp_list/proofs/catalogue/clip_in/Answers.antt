@@ -4,7 +4,7 @@ use Rattle.std.specs.Prelude.{drop, length}
 use Rattle.vdcp_list.proofs.catalogue.clip_in.Goals as goal
 
 pub returns-in_default-last_length-clause-fault : goal.returns-in_default-last_length-clause-fault
-returns-in_default-last_length-clause-fault c =
+returns-in_default-last_length-clause-fault c before =
     let two : length (fields_of c.args.row.now) ≡ 2 = grind arith in (
       refl,
       two,

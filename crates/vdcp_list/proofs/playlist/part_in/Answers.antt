@@ -11,13 +11,7 @@ returns-in_default-clause-none c =
       | else-is_empty-via-then-is_empty+else-is_empty-2 w ↦ grind (arith, common_steps, ap length s, ap length d)
       | else-is_empty-via-else-is_empty w ↦ grind (arith, common_steps, ap length s, ap length d)
     ] in
-    no_part (record {
-      four = c.a_time_code_has_lawful_bytes.ensures.four;
-      lawful = c.a_time_code_has_lawful_bytes.ensures.lawful;
-      label = c.a_time_code_has_lawful_bytes.ensures.label;
-      number = c.a_time_code_has_lawful_bytes.ensures.number;
-      of_bytes = c.lawful_bytes_are_a_time_codes.ensures;
-    }) c.args.rate c.args.start.now c.args.duration.now some
+    no_part c.fields_say_values.ensures.times c.args.rate c.args.start.now c.args.duration.now some
     (λ s d rs rd ts td f. c.in_default.ensures.none s rs (sym ts))
 
 pub returns-in_default-time_in-clause-none : goal.returns-in_default-time_in-clause-none
@@ -26,13 +20,7 @@ returns-in_default-time_in-clause-none c =
       | else-is_empty-via-then-is_empty+else-is_empty-2 w ↦ grind (arith, common_steps, ap length s, ap length d)
       | else-is_empty-via-else-is_empty w ↦ grind (arith, common_steps, ap length s, ap length d)
     ] in
-    no_part (record {
-      four = c.a_time_code_has_lawful_bytes.ensures.four;
-      lawful = c.a_time_code_has_lawful_bytes.ensures.lawful;
-      label = c.a_time_code_has_lawful_bytes.ensures.label;
-      number = c.a_time_code_has_lawful_bytes.ensures.number;
-      of_bytes = c.lawful_bytes_are_a_time_codes.ensures;
-    }) c.args.rate c.args.start.now c.args.duration.now some
+    no_part c.fields_say_values.ensures.times c.args.rate c.args.start.now c.args.duration.now some
     (λ s d rs rd ts td f. c.in_default-time_in.ensures.none d rd (sym td))
 
 pub returns-then-frames-eq0-clause-none : goal.returns-then-frames-eq0-clause-none
@@ -41,14 +29,8 @@ returns-then-frames-eq0-clause-none c =
       | else-is_empty-via-then-is_empty+else-is_empty-2 w ↦ grind (arith, common_steps, ap length s, ap length d)
       | else-is_empty-via-else-is_empty w ↦ grind (arith, common_steps, ap length s, ap length d)
     ] in
-    no_part (record {
-      four = c.a_time_code_has_lawful_bytes.ensures.four;
-      lawful = c.a_time_code_has_lawful_bytes.ensures.lawful;
-      label = c.a_time_code_has_lawful_bytes.ensures.label;
-      number = c.a_time_code_has_lawful_bytes.ensures.number;
-      of_bytes = c.lawful_bytes_are_a_time_codes.ensures;
-    }) c.args.rate c.args.start.now c.args.duration.now some (λ s d rs rd ts td f.
-    no_frames c.a_time_code_is_one.ensures.by_text c.args.rate c.in-Some-time_in.duration d c.args.duration.now
+    no_part c.fields_say_values.ensures.times c.args.rate c.args.start.now c.args.duration.now some (λ s d rs rd ts td f.
+    no_frames c.fields_say_values.ensures.one_time c.args.rate c.in-Some-time_in.duration d c.args.duration.now
     c.in-Some-time_in.ensures.same_rate
     c.in-Some-time_in.ensures.some
     (sym c.frames.ensures.number ∙ c.if-frames-eq0.true) rd td f)
@@ -57,13 +39,7 @@ pub returns-clause-some : goal.returns-clause-some
 returns-clause-some c =
     let some : 1 ≤ frames_of c.in-Some-time_in.duration =
     grind (arith, c.frames.ensures.number, c.if-frames-eq0.false) in
-    part_read (record {
-      four = c.a_time_code_has_lawful_bytes.ensures.four;
-      lawful = c.a_time_code_has_lawful_bytes.ensures.lawful;
-      label = c.a_time_code_has_lawful_bytes.ensures.label;
-      number = c.a_time_code_has_lawful_bytes.ensures.number;
-      of_bytes = c.lawful_bytes_are_a_time_codes.ensures;
-    }) c.args.rate c.in-Some.start c.in-Some-time_in.duration c.to_bcd.result c.to_bcd-2.result c.args.start.now
+    part_read c.fields_say_values.ensures.times c.args.rate c.in-Some.start c.in-Some-time_in.duration c.to_bcd.result c.to_bcd-2.result c.args.start.now
     c.args.duration.now
     c.to_bcd.ensures c.to_bcd-2.ensures c.in-Some.ensures.same_rate c.in-Some-time_in.ensures.same_rate
     c.in-Some.ensures.some

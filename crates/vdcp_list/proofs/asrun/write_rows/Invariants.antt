@@ -1,7 +1,7 @@
 use Rattle.csv.specs.Writing.{default_writer, fields_written, has_written, text_written, writer_setup}
 use Rattle.std.proofs.Common.{◌≡◌, false, take, drop}
 use Rattle.std.specs.Prelude.{Some}
-use Rattle.vdcp_list.proofs.asrun.events_text.Given as goal
+use Rattle.vdcp_list.proofs.asrun.write_rows.Given as goal
 use Rattle.vdcp_list.specs.Asrun.{events_text}
 
 abbrev pub invariant-loop-k : goal.invariant-loop-k

@@ -1,7 +1,7 @@
 use Rattle.csv.specs.Writing.{default_writer, fields_written, has_written, text_written, writer_setup}
 use Rattle.std.proofs.Common.{◌≡◌, false, take, drop}
 use Rattle.std.specs.Prelude.{Some}
-use Rattle.vdcp_list.proofs.timed.timed_text.Given as goal
+use Rattle.vdcp_list.proofs.timed.write_rows.Given as goal
 use Rattle.vdcp_list.specs.Timed.{timed_rows, times_of}
 
 abbrev pub invariant-loop-k : goal.invariant-loop-k

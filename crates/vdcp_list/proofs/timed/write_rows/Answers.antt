@@ -1,14 +1,16 @@
 use Rattle.csv.specs.Writing.{text_written}
-use Rattle.std.proofs.Common.{◌≡◌, ◌+◌, ◌<◌, false, drop, sym, ◌∙◌, arith}
+use Rattle.std.proofs.Common.{◌≡◌, ◌+◌, ◌<◌, false, drop, length, sym, ◌∙◌, arith}
 use Rattle.std.specs.Prelude.{Some, decimal, is_err}
-use Rattle.vdcp_list.proofs.Events.{at_left, events_step, lawful_at, on_ok}
-use Rattle.vdcp_list.proofs.asrun.events_text.Goals as goal
+use Rattle.vdcp_list.proofs.Events.{at_left, lawful_at, on_ok}
+use Rattle.vdcp_list.proofs.Timings.{timed_step}
+use Rattle.vdcp_list.proofs.timed.write_rows.Goals as goal
+use Rattle.vdcp_list.specs.Timed.{times_of}
 
 pub write_event-requires-clause-lawful : goal.write_event-requires-clause-lawful
 write_event-requires-clause-lawful g c =
-    let below : c.args.from + c.loop-k.k < c.args.from + c.args.count = omega (arith, c.loop-k-test.true) in
-    lawful_at c.args.rate (g.S.Source.items c.args.source.now) (c.args.from + c.loop-k.k) (c.args.from + c.args.count)
-    c.at-item.result c.at-item.ensures below c.requires.lawful
+    let below : c.args.from + c.loop-k.k < c.args.from + length c.args.times.now = omega (arith, c.loop-k-test.true) in
+    lawful_at c.args.rate (g.S.Source.items c.args.source.now) (c.args.from + c.loop-k.k)
+    (c.args.from + length c.args.times.now) c.at-item.result c.at-item.ensures below c.requires.lawful
 
 pub loop-k-preserved : goal.loop-k-preserved
 loop-k-preserved g c =
@@ -19,11 +21,13 @@ loop-k-preserved g c =
     c.as_str.ensures.value ∙ on_ok c.show_number.result shown c.show_number.ensures in
     record {
       text =
-          events_step c.args.rate c.args.with_parts c.args.from (drop c.args.from items) c.loop-k.k c.at-item.result
+          timed_step (times_of g.T.Timed.played g.T.Timed.known g.T.Timed.ended) c.args.rate c.args.with_parts c.args.from
+          (drop c.args.from items) c.args.times.now c.loop-k.k c.at-item.result c.index-times-k.result
           c.as_str.result.now
           (text_written (λ text. Some text.items) c.loop-k.rows)
           (text_written (λ text. Some text.items) c.write_event.new.rows)
-          (at_left items c.args.from c.loop-k.k c.at-item.result c.at-item.ensures) number c.loop-k.invariant.text
+          (at_left items c.args.from c.loop-k.k c.at-item.result c.at-item.ensures) c.loop-k-test.true
+          c.index-times-k.is number c.loop-k.invariant.text
           (on_ok c.write_event.result good c.write_event.ensures.text);
       setup = on_ok c.write_event.result good c.write_event.ensures.setup;
       ended = on_ok c.write_event.result good c.write_event.ensures.ended;

@@ -1,12 +1,11 @@
 -- What the laws of vdcp_value say of IDs, their texts and time codes: the lemmas of this crate take it from a body
 -- that calls them.
-use Rattle.std.proofs.Common.{◌≡◌, ◌<◌, ◌↔◌, ℕ, List, length, All}
-use Rattle.std.specs.Prelude.{IsTrue}
+use Rattle.std.specs.Prelude.{◌≡◌, ◌<◌, ◌↔◌, ℕ, List, length, All, IsTrue}
 use Rattle.vdcp_value.specs.Bcd.{frames_in, is_time, label_of_bcd}
 use Rattle.vdcp_value.specs.Bytes.{AreBytes}
 use Rattle.vdcp_value.specs.IdText.{IsTextOf}
 use Rattle.vdcp_value.specs.Ids.{id_bytes, id_of_text, text_of_id}
-use Rattle.vdcp_value.specs.Timecodes.{bcd_of, frames_of, label_of, rate_of}
+use Rattle.vdcp_value.specs.Timecodes.{bcd_of, frames_of, label_of, rate_of, text_of}
 use Rattle.vdcp_value.specs.declared.clip_id.ClipId.{ClipId}
 use Rattle.vdcp_value.specs.declared.rate.Rate.{Rate}
 use Rattle.vdcp_value.specs.declared.timecode.Timecode.{Timecode}
@@ -27,3 +26,11 @@ pub record TimeLaws : Type 0 where
   pub number : (timecode : Timecode) → frames_in (rate_of timecode) (bcd_of timecode) ≡ frames_of timecode
   pub of_bytes : (rate : Rate) (bytes : List ℕ) → AreBytes 4 bytes → IsTrue (is_time rate bytes)
       → (timecode : Timecode) × (rate_of timecode ≡ rate) × (bcd_of timecode ≡ bytes)
+
+-- what texts say of IDs and of time codes
+pub record FieldLaws : Type 0 where
+  pub ids : TextLaws
+  pub one_id : (a b : ClipId) → text_of_id a ≡ text_of_id b → a ≡ b
+  pub times : TimeLaws
+  pub one_time : (a b : Timecode) → rate_of a ≡ rate_of b → text_of a ≡ text_of b → a ≡ b
+  pub eleven : (time : Timecode) → length (text_of time) ≡ 11
